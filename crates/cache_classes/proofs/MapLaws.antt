@@ -10,15 +10,15 @@ use Rattle.std.proofs.lemmas.Map.{lookup-none}
 use Rattle.std.proofs.lemmas.Map.Entries.{none_past_head}
 use Rattle.cf_types.specs.declared.names.Name16.{Name16}
 use Rattle.cf_types.specs.Name.{same_name, name_before}
-use Rattle.list_laws.specs.Insertions.{insertion}
-use Rattle.list_laws.specs.Pairwise.{pairwise}
-use Rattle.list_laws.proofs.FilterLaws.{filter_absorbed, filter-filter, filter_nothing, filter_swap, list_all_always}
-use Rattle.list_laws.proofs.InsertionLaws.{filter-insertion_out}
-use Rattle.list_laws.proofs.PairwiseLaws.{FindsPlace, pairwise-filter, pairwise-insertion}
-use Rattle.table_entries.specs.Bins.{arranged, in_turn}
-use Rattle.table_entries.proofs.BinLaws.{arranged_in_turn, keyed-arranged}
-use Rattle.list_laws.proofs.TieLaws.{ordered_filters}
-use Rattle.table_entries.proofs.ViewLaws.{length_arranged}
+use Rattle.cf_lists.specs.Insertions.{insertion}
+use Rattle.cf_lists.specs.Pairwise.{pairwise}
+use Rattle.cf_lists.proofs.FilterLaws.{filter_absorbed, filter-filter, filter_nothing, filter_swap, list_all_always}
+use Rattle.cf_lists.proofs.InsertionLaws.{filter-insertion_out}
+use Rattle.cf_lists.proofs.PairwiseLaws.{FindsPlace, pairwise-filter, pairwise-insertion}
+use Rattle.cf_lists.specs.Bins.{arranged, in_turn}
+use Rattle.cf_lists.proofs.BinLaws.{arranged_in_turn, keyed-arranged}
+use Rattle.cf_lists.proofs.TieLaws.{ordered_filters}
+use Rattle.cf_lists.proofs.ViewLaws.{length_arranged}
 use Rattle.cache_classes.specs.declared.changed.Changed.{Changed}
 use Rattle.cache_classes.specs.Castout.{is_named, name_of, names_without, names_with}
 use Rattle.cache_classes.specs.ClassBatch.{Entry, changed_at, entries_in, classes_in, Writes}

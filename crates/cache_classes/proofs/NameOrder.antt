@@ -8,7 +8,7 @@ use Rattle.std.proofs.lemmas.Bool.{false≢true}
 use Rattle.cf_types.specs.declared.names.Name16.{Name16}
 use Rattle.cf_types.specs.Name.{same_name, name_before}
 use Rattle.cf_types.proofs.ResourceLaws.{same_name-eq, same_name-refl}
-use Rattle.table_entries.specs.Bins.{IsKeyOrder}
+use Rattle.cf_lists.specs.Bins.{IsKeyOrder}
 
 less : (o : Ordering) → is_lt o ≡ true → o ≡ Less
 less Less h = refl

@@ -4,11 +4,11 @@ use Rattle.std.specs.List.Sorted.{IsPermutation}
 use Rattle.std.proofs.lemmas.List.{length-map}
 use Rattle.cf_types.specs.declared.names.Name16.{Name16}
 use Rattle.cf_types.specs.Name.{same_name, name_before}
-use Rattle.list_laws.specs.Pairwise.{pairwise}
-use Rattle.list_laws.proofs.FilterLaws.{length-filter-le}
-use Rattle.table_entries.specs.Bins.{in_turn}
-use Rattle.table_entries.proofs.SortLaws.{arranged-filter, sorted_is}
-use Rattle.table_entries.proofs.ViewLaws.{length_arranged}
+use Rattle.cf_lists.specs.Pairwise.{pairwise}
+use Rattle.cf_lists.proofs.FilterLaws.{length-filter-le}
+use Rattle.cf_lists.specs.Bins.{in_turn}
+use Rattle.cf_lists.proofs.SortLaws.{arranged-filter, sorted_is}
+use Rattle.cf_lists.proofs.ViewLaws.{length_arranged}
 use Rattle.cache_classes.specs.declared.changed.Changed.{Changed}
 use Rattle.cache_classes.specs.Castout.{is_of_class, name_of, names_in, names_of, count_of}
 use Rattle.cache_classes.specs.ClassBatch.{Entry, changed_at, entries_in, classes_in}

@@ -2,7 +2,7 @@
 use Rattle.std.specs.Prelude.{ℕ, ◌-◌, Bool, not, ◌==◌, if◌then◌else◌, List, filter, map, length, Option, Some, None, option_map, slice_get}
 use Rattle.cf_types.specs.declared.names.Name16.{Name16}
 use Rattle.cf_types.specs.Name.{same_name, name_before}
-use Rattle.list_laws.specs.Insertions.{insertion}
+use Rattle.cf_lists.specs.Insertions.{insertion}
 use Rattle.cache_classes.specs.declared.changed.Changed.{Changed}
 
 abbrev pub is_named : Name16 → Changed → Bool

@@ -6,7 +6,7 @@ use Rattle.std.specs.Cmp.Lexicographic.{pointwise}
 use Rattle.indexmap.specs.IndexMap.{spare}
 use Rattle.cf_types.specs.declared.names.Name16.{Name16}
 use Rattle.cf_types.specs.Name.{same_name, name_before}
-use Rattle.table_entries.specs.Bins.{arranged}
+use Rattle.cf_lists.specs.Bins.{arranged}
 use Rattle.cache_classes.specs.declared.changed.Changed.{Changed}
 use Rattle.cache_classes.specs.declared.classes.Classes.TheInside.{Inside}
 use Rattle.cache_classes.specs.Castout.{name_of}

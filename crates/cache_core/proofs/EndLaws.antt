@@ -12,11 +12,11 @@ use Rattle.cf_types.specs.Gains.{Gains}
 use Rattle.cf_types.proofs.GainsLaws.{Falls, gains_falls}
 use Rattle.std.proofs.lemmas.Bool.{and_from, eq-eqb}
 use Rattle.std.proofs.lemmas.List.{drop_all}
-use Rattle.list_laws.proofs.FilterLaws.{filter-filter, filter_all, list_all_always, length-filter-le}
-use Rattle.cache_regs.specs.declared.registrations.Registration.{Registration}
-use Rattle.cache_regs.specs.Registrations.{stands, regs_with, ends_with_name, regs_without_name}
-use Rattle.cache_regs.proofs.NameLaws.{same_name-sym}
-use Rattle.cache_regs.proofs.BitLaws.{falls_filter, stands_kept, gains_then_falls}
+use Rattle.cf_lists.proofs.FilterLaws.{filter-filter, filter_all, list_all_always, length-filter-le}
+use Rattle.cache_model.specs.CacheRegs.declared.registrations.Registration.{Registration}
+use Rattle.cache_model.specs.CacheRegs.Registrations.{stands, regs_with, ends_with_name, regs_without_name}
+use Rattle.cache_rows.proofs.CacheRegs.NameLaws.{same_name-sym}
+use Rattle.cache_rows.proofs.CacheRegs.BitLaws.{falls_filter, stands_kept, gains_then_falls}
 use Rattle.cache_model.specs.declared.items.CacheItem.{CacheItem}
 use Rattle.cache_model.specs.Contents.{is_among, regs_spared}
 use Rattle.cache_model.specs.Commands.CoStats.{has_rows, rows_of_class, class_counts}

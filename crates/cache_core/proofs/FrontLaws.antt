@@ -6,9 +6,9 @@ use Rattle.std.proofs.lemmas.List.Elements.{filter-append}
 use Rattle.std.proofs.lemmas.List.Sums.{sum_by-cons, sum_by-append}
 use Rattle.std.proofs.lemmas.List.Filters.{length-filter_both, sum_by-filter_both}
 use Rattle.std.proofs.lemmas.List.Folds.{fold-map}
-use Rattle.list_laws.specs.Prefixes.{shortest_prefix}
-use Rattle.list_laws.proofs.FilterLaws.{filter-filter, filter_swap, sum_by-filter-le, length-filter-le}
-use Rattle.list_laws.proofs.PrefixLaws.{shortest_prefix-nil, shortest_prefix_agree, shortest_prefix-map}
+use Rattle.cf_lists.specs.Prefixes.{shortest_prefix}
+use Rattle.cf_lists.proofs.FilterLaws.{filter-filter, filter_swap, sum_by-filter-le, length-filter-le}
+use Rattle.cf_lists.proofs.PrefixLaws.{shortest_prefix-nil, shortest_prefix_agree, shortest_prefix-map}
 use Rattle.cf_types.specs.declared.forms.Caps.{Caps}
 use Rattle.cf_types.specs.declared.names.Name16.{Name16}
 use Rattle.cache_model.specs.declared.items.CacheItem.{CacheItem}

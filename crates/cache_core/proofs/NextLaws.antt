@@ -5,8 +5,8 @@ use Rattle.std.proofs.lemmas.Bool.{and_parts, and_from}
 use Rattle.std.proofs.lemmas.List.Folds.{list_all-append}
 use Rattle.std.proofs.lemmas.Option.{slice_get-map}
 use Rattle.cf_types.specs.declared.names.Name16.{Name16}
-use Rattle.list_laws.specs.Pairwise.{pairwise}
-use Rattle.cache_regs.specs.declared.registrations.Registration.{Registration}
+use Rattle.cf_lists.specs.Pairwise.{pairwise}
+use Rattle.cache_model.specs.CacheRegs.declared.registrations.Registration.{Registration}
 use Rattle.cache_model.specs.declared.items.CacheItem.{CacheItem}
 use Rattle.cache_model.specs.Contents.{Content, no_content, content_with, regs_without_row, content_without_last}
 

@@ -1,6 +1,6 @@
 -- The numbers that decide whether there is room for a request.
 use Rattle.std.specs.Prelude.{ℕ, ◌-◌, Bool, not, ◌&&◌, ◌||◌, nat_lt, nat_le, if◌then◌else◌, List, Option, Some, None, option_map, slice_get, length, sum_by, map, filter, drop}
-use Rattle.list_laws.specs.Prefixes.{shortest_prefix}
+use Rattle.cf_lists.specs.Prefixes.{shortest_prefix}
 use Rattle.cf_types.specs.declared.forms.Caps.{Caps}
 use Rattle.cache_model.specs.declared.items.CacheItem.{CacheItem}
 use Rattle.cache_model.specs.declared.requests.Request.{Request}

@@ -1,7 +1,7 @@
 //! The commands of a cache structure, a file each: why one is refused, its reply, and what it does.
 ghost use Rattle.std.specs.Prelude.{◌≡◌, ◌+◌, ◌≤◌, length};
 ghost use Rattle.cf_types.specs.Gains.{Gains};
-ghost use Rattle.cache_regs.specs.Registrations.{stands};
+ghost use Rattle.cache_model.specs.CacheRegs.Registrations.{stands};
 ghost use Rattle.cache_model.specs.Contents.{regs_spared};
 
 pub(crate) mod castout;
@@ -16,7 +16,7 @@ pub(crate) mod stg_stats;
 pub(crate) mod unlock;
 pub(crate) mod write;
 
-use cache_regs::Regs;
+use cache_model::registrations::Regs;
 use cf_types::{Effects, Name16};
 
 // The registrations for these names end.

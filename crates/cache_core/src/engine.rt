@@ -2,7 +2,7 @@ ghost use Rattle.std.specs.Prelude.{◌≡◌, ◌<◌, Some, length, slice_get}
 
 use crate::plans::{Plan, act, make_plan};
 use cache_model::CacheItem;
-use cache_regs::Regs;
+use cache_model::registrations::Regs;
 use cache_rows::Rows;
 use cf_types::{CacheCmd, CacheReply, Caps, ConnId, Effects, Name16, NoMemory, Refusal, StrForm};
 use engine_api::{Engine, Shape};

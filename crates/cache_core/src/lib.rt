@@ -8,6 +8,9 @@ mod plans;
 mod refusals;
 mod room;
 
-pub use cache_model::{CacheItem, Holder};
-pub use cache_regs::Registration;
+pub use cache_model::registrations::Registration;
+pub use cache_model::{
+    CacheItem, Holder, dirs as dirs, pools as pools, registrations as registrations,
+};
+pub use cache_rows::{classes as classes, reclaims as reclaims};
 pub use engine::{CacheContent, CacheEngine, RowOrder};

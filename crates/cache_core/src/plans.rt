@@ -3,7 +3,7 @@ ghost use Rattle.std.specs.Prelude.{◌≡◌, ◌+◌, ◌^◌, ◌<◌, ◌≤
 ghost use Rattle.std.specs.Result.{result_err};
 ghost use Rattle.cf_types.specs.Forms.{IsCaller};
 ghost use Rattle.cf_types.specs.Gains.{Gains};
-ghost use Rattle.cache_regs.specs.Registrations.{stands};
+ghost use Rattle.cache_model.specs.CacheRegs.Registrations.{stands};
 ghost use Rattle.cache_model.specs.Rows.{elements_in};
 ghost use Rattle.cache_model.specs.Step.{cause, reply, victims, after};
 
@@ -15,7 +15,7 @@ use crate::commands::{
 };
 use crate::refusals::Judged;
 use crate::room::victims;
-use cache_regs::Regs;
+use cache_model::registrations::Regs;
 use cache_rows::Rows;
 use cf_types::{CacheCmd, CacheReply, Caps, ConnId, Effects, Listing, Name16, NoMemory, Refusal};
 use std::alloc::Global;

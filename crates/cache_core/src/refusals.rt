@@ -5,7 +5,7 @@ ghost use Rattle.cache_model.specs.Rows.{is_held_by, row_of};
 ghost use Rattle.cache_model.specs.Refusals.{gives_up, use_refusal, index_refusal, storage_refusal, class_refusal, castout_refusal, registration_refusal, change_refusal, entry_refusal, holder_refusal, held_refusal, held_by_other_refusal, not_held_refusal, unchanged_refusal};
 
 use cache_model::Holder;
-use cache_regs::Regs;
+use cache_model::registrations::Regs;
 use cache_rows::{Row, Rows};
 use cf_types::limits::{CASTOUT_CLASSES, STORAGE_CLASSES};
 use cf_types::{ConnId, Name16, Refusal};

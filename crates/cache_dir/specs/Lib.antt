@@ -1,2 +1,3 @@
+pub use Rattle.cf_pool.specs as CfPool
 pub mod RowMap
 pub mod Locks

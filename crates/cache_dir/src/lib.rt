@@ -5,6 +5,7 @@
 mod dir;
 mod row;
 
+pub use cf_pool as pools;
 pub use cf_pool::{Chain, NoElements, Pool};
 pub use dir::Dir;
 pub use row::{DirRow, Holder};

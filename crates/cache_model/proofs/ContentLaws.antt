@@ -14,8 +14,8 @@ use Rattle.cf_types.specs.declared.cache_commands.CacheCmd.TheVariants.{Read, Wr
 use Rattle.cf_types.specs.declared.cache_commands.CacheReply.{CacheReply}
 use Rattle.cf_types.specs.Name.{same_name}
 use Rattle.engine_api.specs.Meaning.{Outcome, first_refusal, unless_refused}
-use Rattle.list_laws.proofs.FilterLaws.{list_all-filter, list_all_weaker, list_all_both, list_all-filter_same, length-filter-le, sum_by-filter-le, any_is_found, none-filter, all_found}
-use Rattle.list_laws.proofs.InsertionLaws.{list_all-insertion}
+use Rattle.cf_lists.proofs.FilterLaws.{list_all-filter, list_all_weaker, list_all_both, list_all-filter_same, length-filter-le, sum_by-filter-le, any_is_found, none-filter, all_found}
+use Rattle.cf_lists.proofs.InsertionLaws.{list_all-insertion}
 use Rattle.cache_regs.specs.declared.registrations.Registration.{Registration}
 use Rattle.cache_regs.specs.Registrations.{is_of, is_replaced, stands_before as before, regs_with, regs_without, regs_without_name, ends_with_name, IsRegistry}
 use Rattle.cache_regs.proofs.NameLaws.{same_name-eq, same_name-refl}

@@ -13,9 +13,9 @@ use Rattle.cf_types.specs.declared.cache_commands.CacheCmd.{CacheCmd}
 use Rattle.cf_types.specs.declared.cache_commands.CacheCmd.TheVariants.{Read, Write, CrossInval, RegList, Castout, Unlock, CoClass, CoStats, DirInfo, Delete, StgStats}
 use Rattle.cf_types.specs.Name.{same_name}
 use Rattle.engine_api.specs.Meaning.{unless_refused}
-use Rattle.list_laws.specs.Insertions.{insertion}
-use Rattle.list_laws.proofs.FilterLaws.{find-filter, find_none, none_filtered}
-use Rattle.list_laws.proofs.InsertionLaws.{find-insertion_past, find-insertion_here}
+use Rattle.cf_lists.specs.Insertions.{insertion}
+use Rattle.cf_lists.proofs.FilterLaws.{find-filter, find_none, none_filtered}
+use Rattle.cf_lists.proofs.InsertionLaws.{find-insertion_past, find-insertion_here}
 use Rattle.cache_regs.specs.declared.registrations.Registration.{Registration}
 use Rattle.cache_regs.specs.Registrations.{is_of, is_at, is_for, is_replaced, registered_at, stands_before as before, regs_with, regs_without_name, ends_with_name}
 use Rattle.cache_regs.proofs.NameLaws.{same_name-eq, same_name-refl, same_name-sym}

@@ -4,8 +4,8 @@ use Rattle.std.specs.List.{list_all}
 use Rattle.std.proofs.lemmas.Bool.{and_parts, or_from, or_left, or_cases, not-true, false≢true}
 use Rattle.cf_types.specs.Name.{same_name}
 use Rattle.cf_types.specs.declared.names.Name16.{Name16}
-use Rattle.list_laws.proofs.FilterLaws.{filter_all, list_all_weaker, list_all_both, list_all-filter, list_all-filter_same}
-use Rattle.list_laws.proofs.TakeLaws.{split_next}
+use Rattle.cf_lists.proofs.FilterLaws.{filter_all, list_all_weaker, list_all_both, list_all-filter, list_all-filter_same}
+use Rattle.cf_lists.proofs.TakeLaws.{split_next}
 use Rattle.std.proofs.lemmas.List.{length-map, take_all, take_at, take-append-drop, drop_all}
 use Rattle.std.proofs.lemmas.Option.{slice_get_cases}
 use Rattle.std.proofs.lemmas.List.Folds.{list_all-append, list_any-append}
@@ -18,8 +18,8 @@ use Rattle.cf_types.specs.declared.numbers.ConnId.{ConnId}
 use Rattle.engine_api.specs.declared.shapes.Shape.{Shape}
 use Rattle.engine_api.specs.Items.{Fits, IsNoMore, IsNoMoreOf}
 use Rattle.engine_api.proofs.FrontLaws.{FrontLaws, fronts}
-use Rattle.list_laws.specs.Pairwise.{pairwise}
-use Rattle.list_laws.proofs.PairwiseLaws.{pairwise_front}
+use Rattle.cf_lists.specs.Pairwise.{pairwise}
+use Rattle.cf_lists.proofs.PairwiseLaws.{pairwise_front}
 use Rattle.cache_regs.specs.declared.registrations.Registration.{Registration}
 use Rattle.cache_regs.specs.Registrations.{regs_for_others}
 use Rattle.cache_regs.proofs.NameLaws.{same_name-eq, same_name-sym}

@@ -8,7 +8,7 @@ use Rattle.cf_types.specs.declared.cache_commands.CacheCmd.{CacheCmd}
 use Rattle.cf_types.specs.declared.cache_commands.CacheCmd.TheVariants.{Read, Write, CrossInval, RegList, Castout, Unlock, CoClass, CoStats, DirInfo, Delete, StgStats}
 use Rattle.cf_types.specs.Name.{same_name}
 use Rattle.engine_api.specs.Meaning.{unless_refused}
-use Rattle.list_laws.proofs.FilterLaws.{list_all-filter, all_found}
+use Rattle.cf_lists.proofs.FilterLaws.{list_all-filter, all_found}
 use Rattle.cache_regs.specs.declared.registrations.Registration.{Registration}
 use Rattle.cache_regs.specs.Registrations.{regs_with, regs_without_name, ends_with_name}
 use Rattle.cache_regs.proofs.RegLaws.{registry-with, registry-filter}

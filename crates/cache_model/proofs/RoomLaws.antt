@@ -7,12 +7,12 @@ use Rattle.cf_types.specs.declared.forms.Caps.{Caps}
 use Rattle.cf_types.specs.declared.names.Name16.{Name16}
 use Rattle.cf_types.specs.declared.refusals.Refusal.TheVariants.{DirectoryFull, NoElements}
 use Rattle.cf_types.specs.Name.{same_name}
-use Rattle.list_laws.specs.Pairwise.{pairwise}
-use Rattle.list_laws.specs.Prefixes.{shortest_prefix}
-use Rattle.list_laws.proofs.FilterLaws.{list_any-map, list_all-filter, list_all_weaker, list_all-filter_same, none_from_all, any_is_found, filter-filter}
-use Rattle.list_laws.proofs.PairwiseLaws.{pairwise-filter, pairwise_split}
-use Rattle.list_laws.proofs.PrefixLaws.{list_all-shortest_prefix, pairwise-shortest_prefix, shortest_prefix-enough}
-use Rattle.list_laws.proofs.KeyLaws.{AllFound, found_filter, found_append, found_prefix, sum_by_spared, length_spared, find-spared, apart_sym}
+use Rattle.cf_lists.specs.Pairwise.{pairwise}
+use Rattle.cf_lists.specs.Prefixes.{shortest_prefix}
+use Rattle.cf_lists.proofs.FilterLaws.{list_any-map, list_all-filter, list_all_weaker, list_all-filter_same, none_from_all, any_is_found, filter-filter}
+use Rattle.cf_lists.proofs.PairwiseLaws.{pairwise-filter, pairwise_split}
+use Rattle.cf_lists.proofs.PrefixLaws.{list_all-shortest_prefix, pairwise-shortest_prefix, shortest_prefix-enough}
+use Rattle.cf_lists.proofs.KeyLaws.{AllFound, found_filter, found_append, found_prefix, sum_by_spared, length_spared, find-spared, apart_sym}
 use Rattle.cache_regs.proofs.NameLaws.{same_name-eq, same_name-refl}
 use Rattle.cache_model.specs.declared.items.CacheItem.{CacheItem}
 use Rattle.cache_model.specs.declared.requests.Request.{Request}

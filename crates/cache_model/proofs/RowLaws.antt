@@ -8,12 +8,12 @@ use Rattle.std.proofs.lemmas.Map.Views.{any-filter_same}
 use Rattle.cf_types.specs.declared.names.Name16.{Name16}
 use Rattle.cf_types.specs.declared.numbers.ConnId.{ConnId}
 use Rattle.cf_types.specs.Name.{same_name, name_before}
-use Rattle.list_laws.specs.Pairwise.{pairwise}
-use Rattle.list_laws.specs.Insertions.{insertion}
-use Rattle.list_laws.proofs.FilterLaws.{list_all-filter, list_all_weaker, list_all_always, list_all-filter_same, none_filtered, all_from_none, filter_all, all_found, found_passes}
-use Rattle.list_laws.proofs.InsertionLaws.{list_all-insertion, list_any-insertion, length-insertion, sum_by-insertion}
-use Rattle.list_laws.proofs.PairwiseLaws.{FindsPlace, pairwise-filter, pairwise_push, pairwise-insertion, pairwise-insertion_any, pairwise-map}
-use Rattle.list_laws.proofs.KeyLaws.{sum_by_without, length_without}
+use Rattle.cf_lists.specs.Pairwise.{pairwise}
+use Rattle.cf_lists.specs.Insertions.{insertion}
+use Rattle.cf_lists.proofs.FilterLaws.{list_all-filter, list_all_weaker, list_all_always, list_all-filter_same, none_filtered, all_from_none, filter_all, all_found, found_passes}
+use Rattle.cf_lists.proofs.InsertionLaws.{list_all-insertion, list_any-insertion, length-insertion, sum_by-insertion}
+use Rattle.cf_lists.proofs.PairwiseLaws.{FindsPlace, pairwise-filter, pairwise_push, pairwise-insertion, pairwise-insertion_any, pairwise-map}
+use Rattle.cf_lists.proofs.KeyLaws.{sum_by_without, length_without}
 use Rattle.cache_regs.proofs.NameLaws.{same_name-eq, same_name-refl, same_name-sym, name_before-trans, name_before-else}
 use Rattle.cache_model.specs.declared.items.CacheItem.{CacheItem}
 use Rattle.cache_model.specs.Rows.{is_row_of, is_changed, is_held_by, elements_of, elements_in, row_of, has_row, rows_without, stands_before, rows_with, rows_replaced, new_row, row_or_new, may_precede, names_apart, is_sound, IsDirectory}

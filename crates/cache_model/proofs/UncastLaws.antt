@@ -12,7 +12,7 @@ use Rattle.cf_types.specs.declared.cache_commands.CacheCmd.{CacheCmd}
 use Rattle.cf_types.specs.declared.cache_commands.CacheCmd.TheVariants.{Read, Write, CrossInval, RegList, Castout, Unlock, CoClass, CoStats, DirInfo, Delete, StgStats}
 use Rattle.cf_types.specs.Name.{same_name}
 use Rattle.engine_api.specs.Meaning.{unless_refused, first_refusal}
-use Rattle.list_laws.proofs.FilterLaws.{list_any-map}
+use Rattle.cf_lists.proofs.FilterLaws.{list_any-map}
 use Rattle.cache_regs.proofs.NameLaws.{same_name-eq}
 use Rattle.cache_model.specs.declared.items.CacheItem.{CacheItem}
 use Rattle.cache_dir.specs.declared.row.Holder.{Holder}

@@ -1,3 +1,6 @@
+pub use Rattle.cache_dir.specs as CacheDir
+pub use Rattle.cache_regs.specs as CacheRegs
+pub use Rattle.cache_dir.specs.CfPool as CfPool
 pub mod Rows
 pub mod Contents
 pub mod Room

@@ -4,7 +4,7 @@ use Rattle.cf_types.specs.declared.forms.Caps.{Caps}
 use Rattle.cf_types.specs.declared.names.Name16.{Name16}
 use Rattle.cf_types.specs.declared.refusals.Refusal.{Refusal}
 use Rattle.cf_types.specs.declared.refusals.Refusal.TheVariants.{DirectoryFull, NoElements}
-use Rattle.list_laws.specs.Prefixes.{shortest_prefix}
+use Rattle.cf_lists.specs.Prefixes.{shortest_prefix}
 use Rattle.cache_model.specs.declared.items.CacheItem.{CacheItem}
 use Rattle.cache_model.specs.declared.requests.Request.{Request}
 use Rattle.cache_model.specs.Rows.{is_row_of, is_changed, has_storage, elements_in, has_row, rows_without}

@@ -4,8 +4,8 @@ use Rattle.std.specs.Prelude.{ℕ, Bool, IsTrue, true, false, not, ◌&&◌, ◌
 use Rattle.std.specs.List.{list_any, list_all}
 use Rattle.cf_types.specs.declared.names.Name16.{Name16}
 use Rattle.cf_types.specs.Name.{same_name, name_before}
-use Rattle.list_laws.specs.Pairwise.{pairwise}
-use Rattle.list_laws.specs.Insertions.{insertion}
+use Rattle.cf_lists.specs.Pairwise.{pairwise}
+use Rattle.cf_lists.specs.Insertions.{insertion}
 use Rattle.cache_model.specs.declared.items.CacheItem.{CacheItem}
 pub use Rattle.cf_types.specs.Stored.{elements_of}
 pub use Rattle.cache_dir.specs.RowMap.{is_held_by}

@@ -6,6 +6,8 @@
 mod items;
 mod requests;
 
-pub use cache_dir::Holder;
+pub use cache_dir as dirs;
+pub use cache_dir::{Holder, pools as pools};
+pub use cache_regs as registrations;
 pub use items::CacheItem;
 pub use requests::Request;

@@ -5,11 +5,11 @@ use Rattle.std.specs.Map.{keys_of, lookup}
 use Rattle.std.proofs.lemmas.Bool.{and_parts, false≢true}
 use Rattle.cf_types.specs.declared.names.Name16.{Name16}
 use Rattle.cf_types.specs.declared.numbers.ConnId.{ConnId}
-use Rattle.list_laws.specs.Insertions.{insertion}
-use Rattle.list_laws.specs.Pairwise.{pairwise}
-use Rattle.list_laws.proofs.InsertionLaws.{find-insertion_past, find-insertion_here}
-use Rattle.list_laws.proofs.FilterLaws.{all_from_none, all_found, any_is_found, found_passes}
-use Rattle.list_laws.proofs.PairwiseLaws.{pairwise-insertion}
+use Rattle.cf_lists.specs.Insertions.{insertion}
+use Rattle.cf_lists.specs.Pairwise.{pairwise}
+use Rattle.cf_lists.proofs.InsertionLaws.{find-insertion_past, find-insertion_here}
+use Rattle.cf_lists.proofs.FilterLaws.{all_from_none, all_found, any_is_found, found_passes}
+use Rattle.cf_lists.proofs.PairwiseLaws.{pairwise-insertion}
 use Rattle.cache_regs.specs.declared.registrations.Registration.{Registration}
 use Rattle.cache_regs.specs.Registrations.{is_at, is_for, index_for, stands, stands_before}
 use Rattle.cache_regs.specs.Maps.{place_eq, named_eq, at_place, at_name, regs_in, WritesPlace, WritesName, IsAgreed, IsAloneFor}

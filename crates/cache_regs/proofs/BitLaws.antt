@@ -9,8 +9,8 @@ use Rattle.cf_types.specs.declared.numbers.ConnId.{ConnId}
 use Rattle.cf_types.specs.declared.effects.BitChange.{BitChange}
 use Rattle.cf_types.specs.Gains.{Gains}
 use Rattle.cf_types.proofs.GainsLaws.{Falls, gains_none, gains_one, gains_then}
-use Rattle.list_laws.proofs.FilterLaws.{any-filter}
-use Rattle.list_laws.proofs.InsertionLaws.{list_any-insertion, list_any-insertion_kept}
+use Rattle.cf_lists.proofs.FilterLaws.{any-filter}
+use Rattle.cf_lists.proofs.InsertionLaws.{list_any-insertion, list_any-insertion_kept}
 use Rattle.cache_regs.specs.declared.registrations.Registration.{Registration}
 use Rattle.cache_regs.specs.Registrations.{is_of, is_at, is_for, is_replaced, regs_with, stands, stands_before}
 use Rattle.cache_regs.specs.Places.{with_reg, set_changes}

@@ -10,7 +10,7 @@ use Rattle.cf_types.specs.declared.names.Name16.{Name16}
 use Rattle.cf_types.specs.declared.numbers.ConnId.{ConnId}
 use Rattle.cf_types.specs.Name.{same_name}
 use Rattle.cf_types.proofs.GainsLaws.{Falls, gains_none, gains_falls}
-use Rattle.list_laws.proofs.FilterLaws.{filter-filter, filter_swap, filter_absorbed, filter_all, all_from_none, none_from_all, list_all_weaker, list_all_both, any_is_found, list_all-filter, list_all-filter_same, length-filter-le}
+use Rattle.cf_lists.proofs.FilterLaws.{filter-filter, filter_swap, filter_absorbed, filter_all, all_from_none, none_from_all, list_all_weaker, list_all_both, any_is_found, list_all-filter, list_all-filter_same, length-filter-le}
 use Rattle.cache_regs.specs.declared.registrations.Registration.{Registration}
 use Rattle.cache_regs.specs.Registrations.{is_of, is_at, is_for, index_for, ends_with_name, stands}
 use Rattle.cache_regs.specs.Ends.{is_elsewhere, is_below, spares, ends_of, ends_below, FitsEnds, HasEnded}

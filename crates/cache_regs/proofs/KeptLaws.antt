@@ -4,8 +4,8 @@ use Rattle.std.specs.List.{list_all}
 use Rattle.std.proofs.lemmas.Bool.{and_from}
 use Rattle.cf_types.specs.declared.names.Name16.{Name16}
 use Rattle.cf_types.specs.declared.numbers.ConnId.{ConnId}
-use Rattle.list_laws.proofs.FilterLaws.{list_all-filter}
-use Rattle.list_laws.proofs.InsertionLaws.{list_all-insertion}
+use Rattle.cf_lists.proofs.FilterLaws.{list_all-filter}
+use Rattle.cf_lists.proofs.InsertionLaws.{list_all-insertion}
 use Rattle.cache_regs.specs.declared.registrations.Registration.{Registration}
 use Rattle.cache_regs.specs.Registrations.{is_replaced, regs_with, stands_before}
 

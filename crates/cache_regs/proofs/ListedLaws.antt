@@ -7,8 +7,8 @@ use Rattle.std.proofs.lemmas.List.Elements.{filter_agree}
 use Rattle.std.proofs.lemmas.List.Filters.{length-filter_both}
 use Rattle.cf_types.specs.declared.names.Name16.{Name16}
 use Rattle.cf_types.specs.declared.numbers.ConnId.{ConnId}
-use Rattle.list_laws.specs.Pairwise.{pairwise}
-use Rattle.list_laws.proofs.FilterLaws.{filter-filter, filter_none, filter_nothing, none_from_all, list_all_weaker, all_from_none, any_is_found}
+use Rattle.cf_lists.specs.Pairwise.{pairwise}
+use Rattle.cf_lists.proofs.FilterLaws.{filter-filter, filter_none, filter_nothing, none_from_all, list_all_weaker, all_from_none, any_is_found}
 use Rattle.cache_regs.specs.declared.registrations.Registration.{Registration}
 use Rattle.cache_regs.specs.Registrations.{is_of, is_at, is_for, registered_at, stands_before, names_apart, ends_with_name}
 use Rattle.cache_regs.specs.Places.{named_at}

@@ -10,15 +10,15 @@ use Rattle.std.proofs.lemmas.Map.{lookup-none}
 use Rattle.std.proofs.lemmas.Map.Entries.{none_past_head, option_filter}
 use Rattle.cf_types.specs.declared.names.Name16.{Name16}
 use Rattle.cf_types.specs.declared.numbers.ConnId.{ConnId}
-use Rattle.list_laws.specs.Pairwise.{pairwise}
-use Rattle.list_laws.proofs.InsertionLaws.{length-insertion, find-insertion_past, find-insertion_here}
-use Rattle.list_laws.proofs.FilterLaws.{any_is_found, all_from_none, find_none, none_from_all, list_all_weaker}
-use Rattle.list_laws.proofs.PairwiseLaws.{pairwise-filter, pairwise-insertion}
+use Rattle.cf_lists.specs.Pairwise.{pairwise}
+use Rattle.cf_lists.proofs.InsertionLaws.{length-insertion, find-insertion_past, find-insertion_here}
+use Rattle.cf_lists.proofs.FilterLaws.{any_is_found, all_from_none, find_none, none_from_all, list_all_weaker}
+use Rattle.cf_lists.proofs.PairwiseLaws.{pairwise-filter, pairwise-insertion}
 use Rattle.cache_regs.specs.declared.registrations.Registration.{Registration}
 use Rattle.cache_regs.specs.Registrations.{is_at, registered_at, stands, stands_before}
 use Rattle.cache_regs.specs.Maps.{place_eq, named_eq, at_place, reg_of, regs_in, WritesPlace}
 use Rattle.cache_regs.proofs.RegLaws.{finds_place, places_apart}
-use Rattle.list_laws.proofs.OrderLaws.{ordered_same}
+use Rattle.cf_lists.proofs.OrderLaws.{ordered_same}
 
 pub place_laws : IsEquivalence place_eq
 place_laws = and_equiv (on_equiv (λ (x : ℕ × ℕ). x.0) nat_eq_equiv) (on_equiv (λ (x : ℕ × ℕ). x.1) nat_eq_equiv)

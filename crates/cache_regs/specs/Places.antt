@@ -2,7 +2,7 @@
 use Rattle.std.specs.Prelude.{ℕ, true, not, Option, Some, None, if◌then◌else◌, List, [], ◌∷◌, filter}
 use Rattle.cf_types.specs.declared.effects.BitChange.{BitChange}
 use Rattle.cf_types.specs.declared.names.Name16.{Name16}
-use Rattle.list_laws.specs.Insertions.{insertion}
+use Rattle.cf_lists.specs.Insertions.{insertion}
 use Rattle.cache_regs.specs.declared.registrations.Registration.{Registration}
 use Rattle.cache_regs.specs.Registrations.{is_at, stands, stands_before}
 

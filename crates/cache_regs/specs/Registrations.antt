@@ -5,8 +5,8 @@ use Rattle.std.specs.List.{list_any}
 use Rattle.cf_types.specs.declared.names.Name16.{Name16}
 use Rattle.cf_types.specs.declared.numbers.ConnId.{ConnId}
 use Rattle.cf_types.specs.Name.{same_name}
-use Rattle.list_laws.specs.Pairwise.{pairwise}
-use Rattle.list_laws.specs.Insertions.{insertion}
+use Rattle.cf_lists.specs.Pairwise.{pairwise}
+use Rattle.cf_lists.specs.Insertions.{insertion}
 use Rattle.cache_regs.specs.declared.registrations.Registration.{Registration}
 
 abbrev pub is_of : ConnId → Registration → Bool

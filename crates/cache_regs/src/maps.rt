@@ -3,8 +3,8 @@ ghost use Rattle.std.specs.Prelude.{◌≡◌, ◌+◌, ◌≤◌, ◌<◌, if�
 ghost use Rattle.std.specs.List.{IsDistinct, list_any};
 ghost use Rattle.std.specs.Map.{keys_of};
 ghost use Rattle.indexmap.specs.IndexMap.{spare};
-ghost use Rattle.list_laws.specs.Insertions.{insertion};
-ghost use Rattle.list_laws.specs.Pairwise.{pairwise};
+ghost use Rattle.cf_lists.specs.Insertions.{insertion};
+ghost use Rattle.cf_lists.specs.Pairwise.{pairwise};
 ghost use Rattle.cache_regs.specs.declared.registrations.Registration.{Registration};
 ghost use Rattle.cache_regs.specs.Registrations.{is_at, is_for, registered_at, index_for, stands, stands_before};
 ghost use Rattle.cache_regs.specs.Maps.{place_eq, named_eq, at_place, at_name, regs_in, WritesPlace, WritesName, IsAgreed, IsAloneFor};

@@ -2,7 +2,7 @@ ghost use Rattle.std.specs.Prelude.{◌≡◌, ◌+◌, ◌≤◌, ◌<◌, ◌+
 ghost use Rattle.std.specs.List.{list_any, list_all};
 ghost use Rattle.cf_types.specs.Forms.{IsCaller};
 ghost use Rattle.cf_types.specs.Gains.{Gains};
-ghost use Rattle.list_laws.specs.Pairwise.{pairwise};
+ghost use Rattle.cf_lists.specs.Pairwise.{pairwise};
 ghost use Rattle.cache_regs.specs.Registrations.{is_at, is_for, is_of, registered_at, index_for, stands, stands_before, regs_for, regs_of, regs_with, regs_without, regs_without_name, ends_with_name, names_apart};
 ghost use Rattle.cache_regs.specs.Registry.{is_callers, is_within};
 ghost use Rattle.cache_regs.specs.Ends.{is_elsewhere, ends_of};

@@ -5,7 +5,7 @@ use Rattle.std.proofs.lemmas.List.{drop_more, drop_all}
 use Rattle.std.proofs.lemmas.List.Elements.{filter_agree}
 use Rattle.cf_types.specs.declared.names.Name16.{Name16}
 use Rattle.cf_types.specs.Name.{same_name}
-use Rattle.list_laws.proofs.FilterLaws.{filter-filter, filter_all, find-filter, find_none, list_all_always}
+use Rattle.cf_lists.proofs.FilterLaws.{filter-filter, filter_all, find-filter, find_none, list_all_always}
 use Rattle.cache_regs.proofs.NameLaws.{same_name-eq}
 use Rattle.cache_model.specs.declared.items.CacheItem.{CacheItem}
 use Rattle.cache_model.specs.Rows.{is_row_of, row_of, has_row, rows_without, rows_with, rows_replaced, new_row, row_or_new}

@@ -7,11 +7,11 @@ use Rattle.std.proofs.lemmas.List.Elements.{filter-append}
 use Rattle.cf_types.specs.declared.names.Name16.{Name16}
 use Rattle.cf_types.specs.declared.numbers.ConnId.{ConnId}
 use Rattle.cf_types.specs.Name.{same_name, name_before}
-use Rattle.list_laws.specs.Pairwise.{pairwise}
-use Rattle.list_laws.specs.Insertions.{insertion}
-use Rattle.list_laws.proofs.FilterLaws.{filter_swap, filter_none, none_from_all, list_all_weaker, list_all_always}
-use Rattle.list_laws.proofs.InsertionLaws.{filter-insertion_out}
-use Rattle.list_laws.proofs.PairwiseLaws.{FindsPlace, pairwise-insertion, pairwise_push}
+use Rattle.cf_lists.specs.Pairwise.{pairwise}
+use Rattle.cf_lists.specs.Insertions.{insertion}
+use Rattle.cf_lists.proofs.FilterLaws.{filter_swap, filter_none, none_from_all, list_all_weaker, list_all_always}
+use Rattle.cf_lists.proofs.InsertionLaws.{filter-insertion_out}
+use Rattle.cf_lists.proofs.PairwiseLaws.{FindsPlace, pairwise-insertion, pairwise_push}
 use Rattle.cache_classes.specs.declared.changed.Changed.{Changed}
 use Rattle.cache_classes.specs.Castout as castout
 use Rattle.cache_classes.specs.Castout.{names_without, names_with, names_set, room_taken}

@@ -10,16 +10,16 @@ use Rattle.std.proofs.lemmas.Option.{slice_get-map}
 use Rattle.cf_types.specs.declared.names.Name16.{Name16}
 use Rattle.cf_types.specs.declared.numbers.ConnId.{ConnId}
 use Rattle.cf_types.specs.Name.{same_name}
-use Rattle.list_laws.specs.Pairwise.{pairwise}
-use Rattle.list_laws.specs.Insertions.{insertion}
-use Rattle.list_laws.proofs.FilterLaws.{filter-filter, filter_swap, find-filter, find_none, any_is_found, length-filter-le}
-use Rattle.list_laws.proofs.InsertionLaws.{find-insertion_past, find-insertion_here}
-use Rattle.list_laws.proofs.KeyLaws.{found_filter}
-use Rattle.list_laws.proofs.PairwiseLaws.{pairwise-filter, pairwise-map}
+use Rattle.cf_lists.specs.Pairwise.{pairwise}
+use Rattle.cf_lists.specs.Insertions.{insertion}
+use Rattle.cf_lists.proofs.FilterLaws.{filter-filter, filter_swap, find-filter, find_none, any_is_found, length-filter-le}
+use Rattle.cf_lists.proofs.InsertionLaws.{find-insertion_past, find-insertion_here}
+use Rattle.cf_lists.proofs.KeyLaws.{found_filter}
+use Rattle.cf_lists.proofs.PairwiseLaws.{pairwise-filter, pairwise-map}
 use Rattle.cache_classes.specs.declared.changed.Changed.{Changed}
 use Rattle.cache_classes.specs.Castout.{names_without, names_set}
 use Rattle.cache_classes.specs.Castout as castout
-use Rattle.cache_dir.specs.RowMap.{Writes}
+use Rattle.cache_model.specs.CacheDir.RowMap.{Writes}
 use Rattle.cache_reclaim.specs.declared.used.Used.{Used}
 use Rattle.cache_reclaim.specs.LastUse.{order_without}
 use Rattle.cache_reclaim.specs.LastUse as last_use

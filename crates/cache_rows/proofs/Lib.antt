@@ -1,3 +1,4 @@
+pub use Rattle.cache_regs.proofs as CacheRegs
 pub mod IndexLaws
 pub mod StoreLaws
 pub mod LookupLaws

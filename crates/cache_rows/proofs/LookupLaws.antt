@@ -5,10 +5,10 @@ use Rattle.std.proofs.lemmas.List.Elements.{filter_agree}
 use Rattle.std.proofs.lemmas.Option.{slice_get-map}
 use Rattle.cf_types.specs.declared.names.Name16.{Name16}
 use Rattle.cf_types.specs.Name.{same_name}
-use Rattle.list_laws.specs.Pairwise.{pairwise}
-use Rattle.list_laws.proofs.FilterLaws.{filter-filter, filter_all, list_all_always, any_is_found}
-use Rattle.list_laws.proofs.TakeLaws.{split_next}
-use Rattle.list_laws.proofs.KeyLaws.{AllFound, found_filter, found_append}
+use Rattle.cf_lists.specs.Pairwise.{pairwise}
+use Rattle.cf_lists.proofs.FilterLaws.{filter-filter, filter_all, list_all_always, any_is_found}
+use Rattle.cf_lists.proofs.TakeLaws.{split_next}
+use Rattle.cf_lists.proofs.KeyLaws.{AllFound, found_filter, found_append}
 use Rattle.cache_classes.specs.declared.changed.Changed.{Changed}
 use Rattle.cache_classes.specs.Castout as castout
 use Rattle.cache_reclaim.specs.declared.used.Used.{Used}

@@ -6,11 +6,11 @@ use Rattle.std.proofs.lemmas.Option.{get_or_from_slice_get}
 use Rattle.cf_types.specs.declared.names.Name16.{Name16}
 use Rattle.cf_types.specs.declared.numbers.ConnId.{ConnId}
 use Rattle.cf_types.specs.Name.{same_name}
-use Rattle.cf_pool.specs.declared.chain.Chain.{Chain}
-use Rattle.list_laws.proofs.TableLaws.{get-set_other}
+use Rattle.cache_model.specs.CfPool.declared.chain.Chain.{Chain}
+use Rattle.cf_lists.proofs.TableLaws.{get-set_other}
 use Rattle.cache_regs.proofs.NameLaws.{same_name-eq}
-use Rattle.cache_dir.specs.declared.row.DirRow.{DirRow}
-use Rattle.cache_dir.specs.RowMap.{row_at, let_go, Writes}
+use Rattle.cache_model.specs.CacheDir.declared.row.DirRow.{DirRow}
+use Rattle.cache_model.specs.CacheDir.RowMap.{row_at, let_go, Writes}
 use Rattle.cache_model.specs.declared.items.CacheItem.{CacheItem}
 use Rattle.cache_model.specs.Contents.{without_hold}
 use Rattle.cache_rows.specs.declared.label.Label.{Label}

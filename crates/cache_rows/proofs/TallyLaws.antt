@@ -8,11 +8,11 @@ use Rattle.std.proofs.lemmas.List.Sums.{sum_by-cons, sum_by_push}
 use Rattle.cf_types.specs.declared.names.Name16.{Name16}
 use Rattle.cf_types.specs.declared.numbers.ConnId.{ConnId}
 use Rattle.cf_types.specs.Name.{same_name}
-use Rattle.list_laws.specs.Pairwise.{pairwise}
-use Rattle.list_laws.specs.Insertions.{insertion}
-use Rattle.list_laws.proofs.FilterLaws.{any_is_found, list_all-filter, filter-filter, filter_swap}
-use Rattle.list_laws.proofs.InsertionLaws.{length-insertion, sum_by-insertion, list_all-insertion}
-use Rattle.list_laws.proofs.KeyLaws.{sum_by_without, length_without}
+use Rattle.cf_lists.specs.Pairwise.{pairwise}
+use Rattle.cf_lists.specs.Insertions.{insertion}
+use Rattle.cf_lists.proofs.FilterLaws.{any_is_found, list_all-filter, filter-filter, filter_swap}
+use Rattle.cf_lists.proofs.InsertionLaws.{length-insertion, sum_by-insertion, list_all-insertion}
+use Rattle.cf_lists.proofs.KeyLaws.{sum_by_without, length_without}
 use Rattle.cache_regs.proofs.NameLaws.{same_name-eq, same_name-refl}
 use Rattle.cache_model.specs.declared.items.CacheItem.{CacheItem}
 use Rattle.cache_model.specs.Rows.{is_row_of, is_changed, elements_of, elements_in, row_of, has_row, rows_without, stands_before, rows_with, names_apart}

@@ -1,10 +1,10 @@
 -- Rows that are found by name, in the order that their indexes give.
 use Rattle.std.specs.Prelude.{◌≡◌, ℕ, ◌++◌, ◌||◌, not, IsTrue, List, Option, filter, length, map, min, option_to_list, slice_get, unwrap_or}
-use Rattle.list_laws.specs.Pairwise.{pairwise}
+use Rattle.cf_lists.specs.Pairwise.{pairwise}
 use Rattle.cf_types.specs.declared.names.Name16.{Name16}
 use Rattle.cache_classes.specs.declared.changed.Changed.{Changed}
 use Rattle.cache_reclaim.specs.declared.used.Used.{Used}
-use Rattle.cache_dir.specs.RowMap.{row_at}
+use Rattle.cache_model.specs.CacheDir.RowMap.{row_at}
 use Rattle.cache_model.specs.declared.items.CacheItem.{CacheItem}
 use Rattle.cache_model.specs.Rows.{is_row_of, row_of, new_row, names_apart, has_storage}
 use Rattle.cache_model.specs.Contents.{is_among}

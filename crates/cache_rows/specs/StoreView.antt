@@ -1,6 +1,6 @@
 -- The rows of a directory with their data, as contracts see them.
 use Rattle.std.specs.Prelude.{ℕ, List}
-use Rattle.cache_dir.specs.RowMap.{row_at}
+use Rattle.cache_model.specs.CacheDir.RowMap.{row_at}
 use Rattle.cache_model.specs.declared.items.CacheItem.{CacheItem}
 use Rattle.cache_rows.specs.declared.store.Store.TheInside.{Inside}
 use Rattle.cache_rows.specs.Stored.{entries_in, AreStored}

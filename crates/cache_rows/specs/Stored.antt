@@ -4,9 +4,9 @@ use Rattle.cf_types.specs.declared.limits.TheConstants.{BODY_BYTES}
 use Rattle.cf_types.specs.declared.names.Name16.{Name16}
 use Rattle.cf_types.specs.Name.{same_name}
 use Rattle.cf_types.specs.Stored.{elements_of}
-use Rattle.cf_pool.specs.declared.chain.Chain.{Chain}
-use Rattle.cache_dir.specs.declared.row.DirRow.{DirRow}
-use Rattle.cache_dir.specs.RowMap.{row_at}
+use Rattle.cache_model.specs.CfPool.declared.chain.Chain.{Chain}
+use Rattle.cache_model.specs.CacheDir.declared.row.DirRow.{DirRow}
+use Rattle.cache_model.specs.CacheDir.RowMap.{row_at}
 use Rattle.cache_model.specs.declared.items.CacheItem.{CacheItem}
 use Rattle.cache_model.specs.Commands.Write.{rewrite}
 use Rattle.cache_model.specs.Commands.Unlock.{is_rewritten}

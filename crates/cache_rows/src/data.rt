@@ -1,11 +1,11 @@
 //! Data of rows in a pool of elements.
 ghost use Rattle.std.specs.Prelude.{◌≡◌, ◌+◌, ◌≤◌, None, Some, IfOk, slice_get};
-ghost use Rattle.cf_pool.specs.Pools.{with_chain};
+ghost use Rattle.cache_model.specs.CfPool.Pools.{with_chain};
 ghost use Rattle.cf_types.specs.Stored.{elements_of};
 ghost use Rattle.cache_rows.specs.Stored.{body_in, chain_of, chains_without, HasBytes, HasData};
 
-use cache_dir::DirRow;
-use cf_pool::{Chain, Pool};
+use cache_model::dirs::DirRow;
+use cache_model::pools::{Chain, Pool};
 use cf_types::{Body, NoMemory};
 use std::alloc::Global;
 

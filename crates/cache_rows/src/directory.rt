@@ -1,12 +1,12 @@
 //! Rows by name, with the castout classes of the changed ones and the order of last use of the
 //! others.
 ghost use Rattle.std.specs.Prelude.{◌≡◌, ◌+◌, ◌-◌, ◌^◌, ◌<◌, ◌≤◌, ◌&&◌, [], IsTrue, IfOk, OnOk, Some, None, true, false, filter, length, map, option_map, option_to_list, slice_get};
-ghost use Rattle.list_laws.specs.Pairwise.{pairwise};
+ghost use Rattle.cf_lists.specs.Pairwise.{pairwise};
 ghost use Rattle.cf_types.specs.Stored.{elements_of};
 ghost use Rattle.cache_classes.specs.declared.changed.Changed.{Changed};
 ghost use Rattle.cache_classes.specs.Castout.{names_set, names_without};
 ghost use Rattle.cache_reclaim.specs.LastUse.{order_without};
-ghost use Rattle.cache_dir.specs.RowMap.{row_at};
+ghost use Rattle.cache_model.specs.CacheDir.RowMap.{row_at};
 ghost use Rattle.cache_model.specs.declared.items.CacheItem.{CacheItem};
 ghost use Rattle.cache_model.specs.Rows.{is_changed, row_of, has_row, rows_without, rows_replaced, names_apart, has_class, has_storage};
 ghost use Rattle.cache_model.specs.Contents.{without_hold};

@@ -4,9 +4,9 @@ ghost use Rattle.cache_model.specs.Rows.{new_row};
 ghost use Rattle.cache_model.specs.Commands.Unlock.{is_rewritten};
 ghost use Rattle.cache_rows.specs.Stored.{label_of, row_of_label};
 
-use cache_dir::DirRow;
+use cache_model::dirs::DirRow;
+use cache_model::pools::Chain;
 use cache_model::{CacheItem, Holder};
-use cf_pool::Chain;
 use cf_types::{Adjunct, Name16};
 
 /// A row without its data.

@@ -15,5 +15,7 @@ mod rows;
 mod store;
 mod tally;
 
+pub use cache_classes as classes;
+pub use cache_reclaim as reclaims;
 pub use row::Row;
 pub use rows::Rows;

@@ -6,9 +6,9 @@ ghost use Rattle.cache_rows.specs.Stored.{label_of, item_in, HasData};
 
 use crate::data::{elements_at, read};
 use crate::label::{Label, is_rewritten};
-use cache_dir::DirRow;
+use cache_model::dirs::DirRow;
+use cache_model::pools::Pool;
 use cache_model::{CacheItem, Holder};
-use cf_pool::Pool;
 use cf_types::{Adjunct, Body, Name16, NoMemory};
 use std::alloc::Global;
 use std::marker::Model;

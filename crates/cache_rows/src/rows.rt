@@ -1,7 +1,7 @@
 ghost use Rattle.std.specs.Prelude.{◌≡◌, ◌+◌, ◌-◌, ◌^◌, ◌<◌, ◌≤◌, ◌&&◌, ◌++◌, ◌∷◌, [], IsTrue, IfOk, IfErr, OnOk, OnErr, Some, false, true, if◌then◌else◌, map, filter, length, option_map, slice_get, take};
 ghost use Rattle.std.specs.List.{list_all};
 ghost use Rattle.cache_model.specs.Rows.{is_changed, elements_of, elements_in, row_of, has_row, rows_without, rows_with, rows_replaced, may_precede, names_apart, has_class, has_storage};
-ghost use Rattle.list_laws.specs.Pairwise.{pairwise};
+ghost use Rattle.cf_lists.specs.Pairwise.{pairwise};
 ghost use Rattle.cache_model.specs.Room.{is_reclaimable};
 ghost use Rattle.cache_model.specs.Commands.CoStats.{rows_of_class};
 ghost use Rattle.cache_model.specs.declared.items.CacheItem.{CacheItem};

@@ -2,15 +2,15 @@
 ghost use Rattle.std.specs.Prelude.{◌≡◌, ◌+◌, ◌≤◌, None, Some, IfOk, OnOk, option_map};
 ghost use Rattle.cf_types.specs.declared.names.Name16.{Name16};
 ghost use Rattle.cf_types.specs.Stored.{elements_of};
-ghost use Rattle.cache_dir.specs.RowMap.{row_at, Writes};
+ghost use Rattle.cache_model.specs.CacheDir.RowMap.{row_at, Writes};
 ghost use Rattle.cache_model.specs.Contents.{without_hold};
 ghost use Rattle.cache_rows.specs.Stored.{item_at, item_with, body_of, elements_of_row, row_of_label, chain_of, AreStored};
 
 use crate::data::{data_of, give_back, store};
 use crate::label::Label;
 use crate::row::Row;
-use cache_dir::Dir;
-use cf_pool::Pool;
+use cache_model::dirs::Dir;
+use cache_model::pools::Pool;
 use cf_types::{Body, ConnId, Name16, NoMemory};
 use std::alloc::Global;
 use std::marker::Model;

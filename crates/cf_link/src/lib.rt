@@ -7,6 +7,7 @@ mod links;
 mod list_link;
 mod steady;
 
+pub use cf_io as sources;
 pub use link::{Down, Link};
 pub use links::Links;
 pub use list_link::ListLink;

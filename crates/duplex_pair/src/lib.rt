@@ -10,6 +10,8 @@ mod placed;
 mod reached;
 mod together;
 
+pub use cf_link as links;
+pub use cf_link::sources as sources;
 pub use ended::Ended;
 pub use lost::Lost;
 pub use pair::Pair;

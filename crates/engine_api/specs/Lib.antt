@@ -1,3 +1,5 @@
+pub use Rattle.cf_types.specs as CfTypes
+pub use Rattle.rebuild_core.specs as RebuildCore
 pub mod Shapes
 pub mod Meaning
 pub mod Items

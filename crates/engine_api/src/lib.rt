@@ -11,9 +11,11 @@ mod shapes;
 mod told;
 
 pub use asks::{Ask, Reply, What};
+pub use cf_types as types;
 pub use deeds::{Deeds, Room};
 pub use engine::Engine;
 pub use histories::{Entry, History};
 pub use laws::{legal_by_points, refused_changes_nothing};
+pub use rebuild_core as rebuilds;
 pub use shapes::Shape;
 pub use told::Told;

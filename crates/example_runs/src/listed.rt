@@ -2,7 +2,7 @@
 ghost use Rattle.std.specs.Prelude.{◌≡◌, ◌≤◌, IfOk, length};
 ghost use Rattle.example_runs.specs.declared.listed.TheConstants.{LINKS};
 
-use cf_link::ListLink;
+use plex_run::links::ListLink;
 use std::alloc::{AllocError, Global};
 use std::io;
 

@@ -12,11 +12,11 @@ mod listed;
 ghost use Rattle.std.specs.Prelude.{◌≡◌, IfOk, length};
 ghost use Rattle.example_runs.specs.declared.listed.TheConstants.{LINKS};
 
-use cf_io::{MemSink, MemSource};
-use cf_link::ListLink;
 use listed::listed;
-use plex_agent::OpenGate;
+use plex_run::agents::OpenGate;
+use plex_run::links::ListLink;
 use plex_run::run;
+use plex_run::sources::{MemSink, MemSource};
 use std::alloc::Global;
 use std::io::Write;
 use std::process::ExitCode;

@@ -6,17 +6,17 @@ use Rattle.std.specs.List.{flat_map, range_with_len}
 use Rattle.std.proofs.Math.Seq.{get_or-append_seam}
 use Rattle.std.proofs.lemmas.List.{length-append}
 use Rattle.std.proofs.lemmas.Option.{slice_get_within, slice_get-get_or, slice_get-map, get_or_from_slice_get}
-use Rattle.cf_link.specs.declared.links.Links.{Links}
-use Rattle.cf_link.specs.declared.list_link.ListLink.{ListLink}
-use Rattle.cf_link.specs.Links.{AreAsked, IsAskedAll, IsAsTold, calls_after}
-use Rattle.cf_link.proofs.LinkLaws.{asked_calls, asked_told}
-use Rattle.cf_types.specs.declared.forms.StrForm.{StrForm}
-use Rattle.cf_types.specs.declared.numbers.ConnId.{ConnId}
-use Rattle.plex_script.specs.declared.asks.AnyHistory.{AnyHistory}
-use Rattle.plex_script.specs.declared.asks.AnyHistory.TheVariants as history
-use Rattle.plex_script.specs.declared.scripts.Script.{Script}
-use Rattle.vec_words.specs.declared.logged.Tested.{Tested}
-use Rattle.run_model.specs.Kinds.{any_answers}
+use Rattle.plex_board.specs.CfLink.declared.links.Links.{Links}
+use Rattle.plex_board.specs.CfLink.declared.list_link.ListLink.{ListLink}
+use Rattle.plex_board.specs.CfLink.Links.{AreAsked, IsAskedAll, IsAsTold, calls_after}
+use Rattle.plex_board.proofs.CfLink.LinkLaws.{asked_calls, asked_told}
+use Rattle.plex_board.specs.CfTypes.declared.forms.StrForm.{StrForm}
+use Rattle.plex_board.specs.CfTypes.declared.numbers.ConnId.{ConnId}
+use Rattle.plex_board.specs.PlexScript.declared.asks.AnyHistory.{AnyHistory}
+use Rattle.plex_board.specs.PlexScript.declared.asks.AnyHistory.TheVariants as history
+use Rattle.plex_board.specs.PlexScript.declared.scripts.Script.{Script}
+use Rattle.plex_board.specs.VecWords.declared.logged.Tested.{Tested}
+use Rattle.plex_board.specs.Kinds.{any_answers}
 use Rattle.plex_board.specs.Cells.{CellShown, IsAnyTold}
 use Rattle.plex_board.specs.Desks.{DeskShown, pass_at}
 use Rattle.plex_board.specs.Boards.{BoardShown, IsAccount, AreClosed, AreEachAsked, AreLinksAsked, links_of, four_of, new_desk}

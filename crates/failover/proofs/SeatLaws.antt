@@ -8,14 +8,14 @@ use Rattle.std.proofs.lemmas.Option.{slice_get_within, slice_get_read}
 use Rattle.std.proofs.lemmas.List.FromFn.{length-range_with_len, length-map-range_with_len, get_or-range_with_len}
 use Rattle.std.proofs.lemmas.List.{get_or-map}
 use Rattle.std.proofs.lemmas.List.Elements.{All-nil, All-cons, All-same, All-set}
-use Rattle.cf_types.specs.declared.forms.Kind.{Kind}
-use Rattle.cf_types.specs.declared.forms.Kind.TheVariants as kind
-use Rattle.cf_types.specs.declared.numbers.ConnId.{ConnId}
-use Rattle.plex_script.specs.declared.scripts.Script.{Script}
-use Rattle.plex_script.specs.Scripts.{IsScript}
-use Rattle.plex_script.proofs.FormedLines.{script-formed}
-use Rattle.vec_words.specs.declared.logged.Tested.{Tested}
-use Rattle.run_model.specs.Types.{type_of_kind}
+use Rattle.plex_board.specs.CfTypes.declared.forms.Kind.{Kind}
+use Rattle.plex_board.specs.CfTypes.declared.forms.Kind.TheVariants as kind
+use Rattle.plex_board.specs.CfTypes.declared.numbers.ConnId.{ConnId}
+use Rattle.plex_board.specs.PlexScript.declared.scripts.Script.{Script}
+use Rattle.plex_board.specs.PlexScript.Scripts.{IsScript}
+use Rattle.plex_board.proofs.PlexScript.FormedLines.{script-formed}
+use Rattle.plex_board.specs.VecWords.declared.logged.Tested.{Tested}
+use Rattle.plex_board.specs.Types.{type_of_kind}
 use Rattle.plex_board.specs.Passes.{PassShown}
 use Rattle.plex_board.specs.Cells.{CellShown}
 use Rattle.plex_board.specs.Desks.{DeskShown, pass_at, with_pass}

@@ -1,6 +1,6 @@
 -- Links that are down once.
 use Rattle.std.specs.Prelude.{◌≡◌, ℕ, List, [], ◌∷◌}
-use Rattle.cf_link.specs.declared.list_link.ListLink.{ListLink}
+use Rattle.plex_board.specs.CfLink.declared.list_link.ListLink.{ListLink}
 
 -- a link that wasn't asked yet, and is down at this call alone
 pub record IsDownAt (call : ℕ) (link : ListLink) : Type 0 where

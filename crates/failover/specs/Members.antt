@@ -1,10 +1,10 @@
 -- The members at work: the structure that they share, and their desks.
 use Rattle.std.specs.Prelude.{◌≡◌, ℕ, ◌+◌, ◌<◌, List, [], ◌∷◌, ◌++◌, map, slice_get, Some, All}
 use Rattle.std.specs.List.{range_with_len}
-use Rattle.cf_types.specs.declared.numbers.StrNo.{StrNo}
-use Rattle.vec_words.specs.declared.logged.Sight.{Sight}
-use Rattle.vec_words.specs.declared.logged.Tested.{Tested}
-use Rattle.run_model.specs.Types.{OfCache}
+use Rattle.plex_board.specs.CfTypes.declared.numbers.StrNo.{StrNo}
+use Rattle.plex_board.specs.VecWords.declared.logged.Sight.{Sight}
+use Rattle.plex_board.specs.VecWords.declared.logged.Tested.{Tested}
+use Rattle.plex_board.specs.Types.{OfCache}
 use Rattle.plex_board.specs.Cells.{CellShown}
 use Rattle.plex_board.specs.Desks.{DeskShown, pass_at}
 use Rattle.plex_board.specs.Boards.{BoardShown, IsDeskOf, cell_on}

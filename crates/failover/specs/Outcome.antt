@@ -1,14 +1,14 @@
 -- What is left of the members' work.
 use Rattle.std.specs.Prelude.{◌≡◌, ℕ, List, [], ◌∷◌, map, slice_get, Some, IfSome}
-use Rattle.cf_link.specs.declared.list_link.ListLink.{ListLink}
-use Rattle.cf_link.specs.Links.{Telling, IsAsTold, calls_after}
-use Rattle.cf_types.specs.declared.forms.StrForm.{StrForm}
-use Rattle.cf_types.specs.declared.numbers.CfId.{CfId}
-use Rattle.cf_types.specs.declared.numbers.ConnId.{ConnId}
-use Rattle.plex_script.specs.declared.asks.AnyHistory.{AnyHistory}
-use Rattle.plex_script.specs.declared.scripts.Script.{Script}
-use Rattle.vec_words.specs.declared.logged.Tested.{Tested}
-use Rattle.run_model.specs.Kinds.{IsAnyLegal, any_answers}
+use Rattle.plex_board.specs.CfLink.declared.list_link.ListLink.{ListLink}
+use Rattle.plex_board.specs.CfLink.Links.{Telling, IsAsTold, calls_after}
+use Rattle.plex_board.specs.CfTypes.declared.forms.StrForm.{StrForm}
+use Rattle.plex_board.specs.CfTypes.declared.numbers.CfId.{CfId}
+use Rattle.plex_board.specs.CfTypes.declared.numbers.ConnId.{ConnId}
+use Rattle.plex_board.specs.PlexScript.declared.asks.AnyHistory.{AnyHistory}
+use Rattle.plex_board.specs.PlexScript.declared.scripts.Script.{Script}
+use Rattle.plex_board.specs.VecWords.declared.logged.Tested.{Tested}
+use Rattle.plex_board.specs.Kinds.{IsAnyLegal, any_answers}
 use Rattle.plex_board.specs.Cells.{CellShown, IsAnyTold}
 use Rattle.plex_board.specs.Desks.{DeskShown}
 use Rattle.plex_board.specs.Boards.{BoardShown, links_of}

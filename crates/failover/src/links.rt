@@ -1,10 +1,10 @@
 //! The links to the facilities.
 ghost use Rattle.std.specs.Prelude.{◌≡◌, ◌∷◌, [], IfOk, length};
-ghost use Rattle.cf_types.specs.declared.limits.TheConstants.{LINKS};
+ghost use Rattle.plex_board.specs.CfTypes.declared.limits.TheConstants.{LINKS};
 ghost use Rattle.failover.specs.Failing.{AreDownOnce, IsDownAt};
 
-use cf_link::ListLink;
-use cf_types::limits::LINKS;
+use plex_board::links::ListLink;
+use plex_board::types::limits::LINKS;
 use std::alloc::{AllocError, Global};
 
 /// Of the first structure's links the one to CF1 is down at its third call, and the one to CF2 at

@@ -12,18 +12,18 @@ ghost use Rattle.plex_board.specs.Boards.{IsPolicy};
 ghost use Rattle.failover.specs.Members.{HasPool};
 ghost use Rattle.failover.specs.Outcome.{IsOpened, IsOutcome};
 
-use cf_link::ListLink;
-use cf_types::Kind;
 use fault::Fault;
 use links::links;
 use members::{COPY, GBP, work};
+use plex_board::links::ListLink;
+use plex_board::scripts::{AnyHistory, Script, read};
+use plex_board::types::Kind;
+use plex_board::vectors::Tested;
 use plex_board::{Board, Desk};
 use plex_report::render;
-use plex_script::{AnyHistory, Script, read};
 use std::alloc::Global;
 use std::io::Write;
 use std::sync::Wait;
-use vec_words::Tested;
 
 /// The policy: two facilities, a cache structure that may stand in both, and its two connectors.
 const POLICY: &str = "FACILITY CF1 100\n\

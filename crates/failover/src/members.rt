@@ -1,18 +1,18 @@
 //! What the two members do, one call after another.
 ghost use Rattle.std.specs.Prelude.{◌≡◌, ◌≤◌, IfOk};
-ghost use Rattle.run_model.specs.Kinds.{MayAskAny};
-ghost use Rattle.plex_script.specs.declared.scripts.AnyAsk.TheVariants as any;
+ghost use Rattle.plex_board.specs.Kinds.{MayAskAny};
+ghost use Rattle.plex_board.specs.PlexScript.declared.scripts.AnyAsk.TheVariants as any;
 ghost use Rattle.failover.specs.Members.{AreSeated, HasTested};
 
 use crate::fault::Fault;
-use cf_link::ListLink;
-use cf_types::{CacheCmd, ConnId, Name16, ShellCmd, StrNo, parse_body};
-use engine_api::Ask;
+use plex_board::api::Ask;
+use plex_board::links::ListLink;
+use plex_board::scripts::AnyAsk;
+use plex_board::types::{CacheCmd, ConnId, Name16, ShellCmd, StrNo, parse_body};
+use plex_board::vectors::Tested;
 use plex_board::{Board, Desk};
-use plex_script::AnyAsk;
 use std::alloc::Global;
 use std::sync::Wait;
-use vec_words::Tested;
 
 /// The structure that the members share, the first of the policy.
 pub const GBP: StrNo = StrNo(0);

@@ -3,11 +3,11 @@ use Rattle.std.proofs.Common.{◌≡◌, ℕ, Bool, true, List, Option, Some, No
 use Rattle.std.specs.Prelude.{IfSome}
 use Rattle.std.specs.List.{list_any}
 use Rattle.std.proofs.lemmas.Bool.{false≢true}
-use Rattle.list_laws.proofs.FilterLaws.{any_is_found}
+use Rattle.cf_lists.proofs.FilterLaws.{any_is_found}
 use Rattle.cf_types.specs.declared.list_commands.At.{At}
 use Rattle.cf_types.specs.declared.names.Key16.{Key16}
-use Rattle.list_store.specs.Record.{Record}
-use Rattle.list_store.specs.Lists.{Lists, all_records, is_id, record_of, lists_without}
+use Rattle.list_model.specs.ListStore.Record.{Record}
+use Rattle.list_model.specs.ListStore.Lists.{Lists, all_records, is_id, record_of, lists_without}
 use Rattle.list_model.specs.Lists.{record_at, the_record, no_record, with_record}
 use Rattle.list_model.specs.Commands.Move.{with_new_key}
 use Rattle.list_kept.specs.ContentView.{put_back}

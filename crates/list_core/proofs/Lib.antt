@@ -1,3 +1,4 @@
+pub use Rattle.list_model.proofs as ListModel
 pub mod FoundLaws
 pub mod PlanLaws
 pub mod RowLaws

@@ -10,9 +10,9 @@ use Rattle.cf_types.specs.declared.list_commands.ListCmd.{ListCmd}
 use Rattle.cf_types.specs.declared.list_commands.ListCmd.TheVariants.{Write, Update, Read, Move, Delete, ReadList, LockSet, LockReset, LockTest, LControls, SetLimit, Monitor, Unmonitor}
 use Rattle.cf_types.specs.declared.list_commands.ListReply.{ListReply}
 use Rattle.engine_api.specs.declared.shapes.Shape.{Shape}
-use Rattle.list_laws.specs.Pairwise.{pairwise}
-use Rattle.list_store.specs.Record.{Record}
-use Rattle.list_store.specs.Lists.{Lists, all_records, ids_apart, record_of}
+use Rattle.cf_lists.specs.Pairwise.{pairwise}
+use Rattle.list_model.specs.ListStore.Record.{Record}
+use Rattle.list_model.specs.ListStore.Lists.{Lists, all_records, ids_apart, record_of}
 use Rattle.list_model.specs.Lists.{record_at, no_record}
 use Rattle.list_model.specs.Contents.{Content, IsContent, headers_of, locks_of}
 use Rattle.list_model.specs.Refusals.{record_refusal, lock_refusal, index_refusal}

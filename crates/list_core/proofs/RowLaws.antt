@@ -2,11 +2,11 @@
 use Rattle.std.proofs.Common.{◌≡◌, ℕ, ◌+◌, Bool, true, false, not, cond, List, [], ◌∷◌, map, refl, sym, ap, arith}
 use Rattle.std.specs.List.{list_all}
 use Rattle.std.proofs.lemmas.Bool.{and_from, false≢true}
-use Rattle.list_store.specs.Lists.{Lists}
-use Rattle.list_watch.specs.declared.monitors.Monitor.{Monitor}
-use Rattle.list_watch.specs.declared.monitors.Watched.{Watched}
-use Rattle.list_watch.specs.Rows.{monitors_of}
-use Rattle.list_watch.specs.Ends.{differs}
+use Rattle.list_model.specs.ListStore.Lists.{Lists}
+use Rattle.list_model.specs.ListWatch.declared.monitors.Monitor.{Monitor}
+use Rattle.list_model.specs.ListWatch.declared.monitors.Watched.{Watched}
+use Rattle.list_model.specs.ListWatch.Rows.{monitors_of}
+use Rattle.list_model.specs.ListWatch.Ends.{differs}
 use Rattle.list_model.specs.Contents.{has_records}
 use Rattle.list_model.specs.Items.{Triple, triple_of, monitor_of}
 use Rattle.list_kept.specs.Told.{is_told}

@@ -1,9 +1,9 @@
 -- The bits that stand, where the same headers have records.
 use Rattle.std.proofs.Common.{◌≡◌, ℕ, Bool, ◌&&◌, ◌||◌, List, [], ◌∷◌, refl, ap, ◌∙◌}
 use Rattle.cf_types.specs.declared.numbers.ConnId.{ConnId}
-use Rattle.list_watch.specs.declared.monitors.Monitor.{Monitor}
-use Rattle.list_watch.specs.Monitors.{is_at}
-use Rattle.list_watch.specs.Monitors as watch
+use Rattle.list_model.specs.ListWatch.declared.monitors.Monitor.{Monitor}
+use Rattle.list_model.specs.ListWatch.Monitors.{is_at}
+use Rattle.list_model.specs.ListWatch.Monitors as watch
 
 pub stands-agree : (monitors : List Monitor) (f g : ℕ → Bool) → ((header : ℕ) → f header ≡ g header)
     → (conn : ConnId) (index : ℕ)

@@ -2,8 +2,8 @@
 use Rattle.std.specs.Prelude.{◌≡◌, ℕ, List, Option, true, is_some}
 use Rattle.std.specs.Option.{option_or}
 use Rattle.cf_types.specs.declared.list_commands.At.{At}
-use Rattle.list_store.specs.Record.{Record}
-use Rattle.list_store.specs.Lists.{Lists, record_of}
+use Rattle.list_model.specs.ListStore.Record.{Record}
+use Rattle.list_model.specs.ListStore.Lists.{Lists, record_of}
 use Rattle.list_model.specs.Records.{next_version}
 use Rattle.list_kept.specs.declared.bare.Bare.{Bare}
 use Rattle.list_model.specs.Lists.{record_at, the_record}

@@ -7,7 +7,7 @@ use Rattle.cf_types.specs.declared.refusals.Refusal.{Refusal}
 use Rattle.cf_types.specs.declared.list_commands.ListCmd.{ListCmd}
 use Rattle.cf_types.specs.declared.list_commands.ListCmd.TheVariants.{Write, Update, Read, Move, Delete, ReadList, LockSet, LockReset, LockTest, LControls, SetLimit, Monitor, Unmonitor}
 use Rattle.engine_api.specs.declared.shapes.Shape.{Shape}
-use Rattle.list_store.specs.Lists.{all_records, is_id}
+use Rattle.list_model.specs.ListStore.Lists.{all_records, is_id}
 use Rattle.list_model.specs.Contents.{Content}
 use Rattle.list_model.specs.Commands.Write as write
 use Rattle.list_model.specs.Step.{cause, reply}

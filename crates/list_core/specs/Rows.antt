@@ -1,9 +1,9 @@
 -- Items that are put in, one after another.
 use Rattle.std.specs.Prelude.{◌≡◌, ℕ, ◌<◌, false, length, map}
 use Rattle.std.specs.List.{list_any}
-use Rattle.list_store.specs.Lists.{Lists, all_records, is_id}
-use Rattle.list_watch.specs.declared.monitors.Watched.{Watched}
-use Rattle.list_watch.specs.Monitors.{AreMonitors}
+use Rattle.list_model.specs.ListStore.Lists.{Lists, all_records, is_id}
+use Rattle.list_model.specs.ListWatch.declared.monitors.Watched.{Watched}
+use Rattle.list_model.specs.ListWatch.Monitors.{AreMonitors}
 use Rattle.list_model.specs.declared.items.ListItem.{ListItem}
 use Rattle.list_model.specs.declared.items.ListItem.TheVariants.{Controls, Row}
 use Rattle.list_model.specs.Contents.{Content, has_records}

@@ -1,8 +1,8 @@
 //! The items of a copy: the controls, where they differ from those of an empty structure, and then
 //! the records.
 ghost use Rattle.std.specs.Prelude.{◌≡◌, ◌+◌, ◌<◌, ◌++◌, ◌∷◌, [], IfOk, IfErr, OnOk, OnErr, Some, length, map, option_map, slice_get};
-ghost use Rattle.list_store.specs.Lists.{count_of};
-ghost use Rattle.list_watch.specs.declared.monitors.Watched.{Watched};
+ghost use Rattle.list_model.specs.ListStore.Lists.{count_of};
+ghost use Rattle.list_model.specs.ListWatch.declared.monitors.Watched.{Watched};
 ghost use Rattle.list_model.specs.Items.{has_controls, controls_of, row_of, rows_from, items_of, triple_of, content_with};
 ghost use Rattle.list_core.specs.Rows.{told_row, IsPlaceable};
 
@@ -10,8 +10,8 @@ use cf_types::{Body, ConnId, Listing, NoMemory};
 use engine_api::Shape;
 use list_kept::{Bare, Kept, count};
 use list_model::ListItem;
-use list_store::Rec;
-use list_watch::{Monitor, Watched};
+use list_model::stores::Rec;
+use list_model::watches::{Monitor, Watched};
 use std::alloc::Global;
 
 // Whether a limit isn't the entries.
@@ -225,8 +225,8 @@ fn place_row(kept: &mut Kept, header: u32, bare: Bare, body: Option<Body>) -> Re
 }
 
 ghost use Rattle.std.specs.Prelude.{false};
-ghost use Rattle.list_store.specs.Lists.{all_records, is_id, records_of};
-ghost use Rattle.list_store.specs.Records.{record_in, HasChain};
+ghost use Rattle.list_model.specs.ListStore.Lists.{all_records, is_id, records_of};
+ghost use Rattle.list_model.specs.ListStore.Records.{record_in, HasChain};
 ghost use Rattle.list_kept.specs.Data.{with_data};
 ghost use Rattle.list_kept.specs.Orderly.{IsOrderly};
 

@@ -9,5 +9,6 @@ mod plans;
 mod refusals;
 
 pub use engine::{ListContent, ListEngine};
-pub use list_model::ListItem;
-pub use list_watch::Monitor;
+pub use list_kept::keyed as keyed;
+pub use list_model::watches::Monitor;
+pub use list_model::{ListItem, watches as watches};

@@ -1,7 +1,7 @@
 //! Causes of refusals that commands share.
 ghost use Rattle.std.specs.Prelude.{◌≡◌, ◌<◌, ◌^◌, find};
 ghost use Rattle.std.specs.Result.{result_err};
-ghost use Rattle.list_store.specs.Lists.{all_records, records_without};
+ghost use Rattle.list_model.specs.ListStore.Lists.{all_records, records_without};
 ghost use Rattle.list_model.specs.Records.{elements_in, has_name, is_reference};
 ghost use Rattle.list_model.specs.Lists.{record_at};
 ghost use Rattle.list_model.specs.Contents.{refs_of, is_held_by};
@@ -287,7 +287,7 @@ pub(crate) fn entries_refusal(caps: Caps, kept: &Kept) -> Judged
     }
 }
 
-ghost use Rattle.list_store.specs.Lists.{count_of};
+ghost use Rattle.list_model.specs.ListStore.Lists.{count_of};
 
 /// The data need more elements than records leave free, but for the record with an id.
 pub(crate) fn elements_refusal(caps: Caps, need: u32, kept: &Kept, id: EntryId) -> Judged

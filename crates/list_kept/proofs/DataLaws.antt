@@ -4,9 +4,9 @@ use Rattle.std.specs.Prelude.{IfSome, is_none}
 use Rattle.std.specs.Option.{option_or}
 use Rattle.std.specs.List.{list_all, list_any}
 use Rattle.std.proofs.lemmas.List.Sums.{sum_by-cons}
-use Rattle.cf_pool.specs.Pools.{need_at}
-use Rattle.list_laws.specs.Pairwise.{pairwise}
-use Rattle.list_laws.proofs.FilterLaws.{found_passes}
+use Rattle.list_store.specs.CfPool.Pools.{need_at}
+use Rattle.cf_lists.specs.Pairwise.{pairwise}
+use Rattle.cf_lists.proofs.FilterLaws.{found_passes}
 use Rattle.list_keys.specs.Names.{Named}
 use Rattle.list_store.specs.Record.{Record}
 use Rattle.list_store.specs.Lists.{Lists, is_id, ids_apart, all_records, record_of, lists_replaced}

@@ -5,8 +5,8 @@ use Rattle.std.specs.Cmp.Lexicographic.{bytes_decides, slice_cmp, texts_ties}
 use Rattle.std.specs.List.{list_all, prefix_len}
 use Rattle.std.proofs.lemmas.Bool.{and_parts, not-true, false≢true}
 use Rattle.cf_types.specs.declared.names.Key16.{Key16}
-use Rattle.list_laws.specs.Pairwise.{pairwise}
-use Rattle.list_laws.proofs.FilterLaws.{find_none, none_from_all, list_all_weaker}
+use Rattle.cf_lists.specs.Pairwise.{pairwise}
+use Rattle.cf_lists.proofs.FilterLaws.{find_none, none_from_all, list_all_weaker}
 use Rattle.list_store.specs.Record.{Record}
 use Rattle.list_model.specs.Keys.{key_up_to, key_before, same_key}
 use Rattle.list_model.specs.Records.{has_key, may_precede}

@@ -3,10 +3,10 @@ use Rattle.std.proofs.Common.{◌≡◌, ℕ, ◌-◌, ◌<◌, ◌==◌, ◌++�
 use Rattle.std.proofs.lemmas.Bool.Decides.{nat_tests}
 use Rattle.list_store.specs.Record.{Record}
 use Rattle.list_store.specs.Lists.{Lists, all_records, records_of, with_records, count_of}
-use Rattle.record_lists.specs.Lists.{IsLastFull}
-use Rattle.record_lists.proofs.AllLaws.{all-split}
-use Rattle.record_lists.proofs.AllLaws as store
-use Rattle.record_lists.proofs.AllLaws.{popped}
+use Rattle.cf_lists.specs.Lists.{IsLastFull}
+use Rattle.cf_lists.proofs.AllLaws.{all-split}
+use Rattle.cf_lists.proofs.AllLaws as store
+use Rattle.cf_lists.proofs.AllLaws.{popped}
 use Rattle.list_model.specs.Lists.{first_records}
 
 pub some_test : (n : ℕ) → 0 < n → not (n == 0) ≡ true

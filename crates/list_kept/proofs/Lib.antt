@@ -1,3 +1,4 @@
+pub use Rattle.list_store.proofs as ListStore
 pub mod ToldLaws
 pub mod ReadLaws
 pub mod LastLaws

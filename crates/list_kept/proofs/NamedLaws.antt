@@ -8,13 +8,13 @@ use Rattle.cf_types.specs.declared.names.Name16.{Name16}
 use Rattle.cf_types.specs.declared.numbers.EntryId.{EntryId}
 use Rattle.cf_types.specs.declared.list_commands.At.TheVariants.{Name}
 use Rattle.cf_types.proofs.ResourceLaws.{same_name-eq, same_name-refl}
-use Rattle.list_laws.specs.Pairwise.{pairwise}
-use Rattle.list_laws.proofs.FilterLaws.{none_from_all, list_all_weaker, find_none, found_passes, any_is_found, filter_all, all_from_none}
+use Rattle.cf_lists.specs.Pairwise.{pairwise}
+use Rattle.cf_lists.proofs.FilterLaws.{none_from_all, list_all_weaker, find_none, found_passes, any_is_found, filter_all, all_from_none}
 use Rattle.list_keys.specs.Names.{Named, id_of}
 use Rattle.cf_types.specs.declared.names.Key16.{Key16}
-use Rattle.list_laws.specs.Insertions.{insertion}
-use Rattle.record_lists.proofs.AllLaws.{all-map}
-use Rattle.record_lists.proofs.SplitLaws.{split_found}
+use Rattle.cf_lists.specs.Insertions.{insertion}
+use Rattle.cf_lists.proofs.AllLaws.{all-map}
+use Rattle.cf_lists.proofs.SplitLaws.{split_found}
 use Rattle.list_store.specs.Record.{Record}
 use Rattle.list_store.specs.Lists.{Lists, record_id, is_id, ids_apart, all_records, records_of, with_records, record_of, records_without, lists_without, lists_replaced, replaced_by}
 use Rattle.list_model.specs.Records.{has_name, names_apart, elements_in, elements_of}

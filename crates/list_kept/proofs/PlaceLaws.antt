@@ -5,10 +5,10 @@ use Rattle.std.proofs.lemmas.Bool.{false≢true}
 use Rattle.std.proofs.lemmas.List.{get_or_past}
 use Rattle.cf_types.specs.declared.names.Key16.{Key16}
 use Rattle.cf_types.specs.declared.numbers.EntryId.{EntryId}
-use Rattle.list_laws.specs.Pairwise.{pairwise}
-use Rattle.list_laws.proofs.PairwiseLaws.{pairwise_weaker, pairwise-filter}
-use Rattle.record_lists.specs.Prefixes.{goes_first}
-use Rattle.record_lists.proofs.AllLaws.{list_of-get_or}
+use Rattle.cf_lists.specs.Pairwise.{pairwise}
+use Rattle.cf_lists.proofs.PairwiseLaws.{pairwise_weaker, pairwise-filter}
+use Rattle.cf_lists.specs.RecordPrefixes.{goes_first}
+use Rattle.cf_lists.proofs.AllLaws.{list_of-get_or}
 use Rattle.list_store.specs.Record.{Record}
 use Rattle.list_store.specs.Lists.{Lists, records_of, all_records, is_id, lists_without}
 use Rattle.list_store.proofs.VecLaws.{all-replicate}

@@ -1,11 +1,11 @@
 -- Records counted and looked for, a header at a time.
 use Rattle.std.proofs.Common.{◌≡◌, ℕ, ◌+◌, ◌≤◌, ◌<◌, not, List, [], ◌∷◌, ◌++◌, length, length-append, drop, sym, ap, ◌∙◌}
 use Rattle.std.proofs.lemmas.List.{drop_more}
-use Rattle.list_laws.proofs.FilterLaws.{sum_by-filter-le}
+use Rattle.cf_lists.proofs.FilterLaws.{sum_by-filter-le}
 use Rattle.cf_types.specs.declared.numbers.EntryId.{EntryId}
 use Rattle.list_store.specs.Record.{Record}
 use Rattle.list_store.specs.Lists.{Lists, all_records, records_of, records_without, is_id, count_of}
-use Rattle.record_lists.proofs.AllLaws.{list_of-get_or}
+use Rattle.cf_lists.proofs.AllLaws.{list_of-get_or}
 use Rattle.list_model.specs.Records.{elements_in}
 use Rattle.list_model.proofs.ContentLaws.{size}
 

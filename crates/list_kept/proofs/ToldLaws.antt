@@ -7,7 +7,7 @@ use Rattle.std.proofs.lemmas.List.Folds.{list_all-append}
 use Rattle.cf_types.specs.declared.numbers.ConnId.{ConnId}
 use Rattle.cf_types.specs.declared.effects.BitChange.{BitChange}
 use Rattle.cf_types.specs.Gains.{Bits, Gains, difference}
-use Rattle.list_laws.proofs.FilterLaws.{list_all-filter}
+use Rattle.cf_lists.proofs.FilterLaws.{list_all-filter}
 use Rattle.list_store.specs.Lists.{Lists}
 use Rattle.list_watch.specs.declared.monitors.Monitor.{Monitor}
 use Rattle.list_watch.specs.declared.monitors.Watched.{Watched}
@@ -18,7 +18,7 @@ use Rattle.list_watch.specs.Ends.{differs}
 use Rattle.list_model.specs.Contents.{Content, has_records}
 use Rattle.cf_types.specs.declared.names.Key16.{Key16}
 use Rattle.cf_types.specs.declared.numbers.EntryId.{EntryId}
-use Rattle.list_laws.specs.Pairwise.{pairwise}
+use Rattle.cf_lists.specs.Pairwise.{pairwise}
 use Rattle.list_store.specs.Record.{Record}
 use Rattle.list_store.specs.declared.records.Spot.{Spot}
 use Rattle.list_store.specs.Lists.{all_records, ids_apart, record_of, spot_of, lists_without}

@@ -1,7 +1,7 @@
 -- Records in order.
 use Rattle.std.specs.Prelude.{ℕ, IsTrue, ◌≤◌}
 use Rattle.std.specs.List.{list_all}
-use Rattle.list_laws.specs.Pairwise.{pairwise}
+use Rattle.cf_lists.specs.Pairwise.{pairwise}
 use Rattle.list_store.specs.Lists.{Lists, all_records}
 use Rattle.list_model.specs.Records.{names_apart, may_precede, elements_in}
 

@@ -1,7 +1,7 @@
 //! Copies of records and of their data, in a pool of their own.
 ghost use Rattle.std.specs.Prelude.{◌≡◌, ◌+◌, ◌<◌, ◌++◌, ◌∷◌, [], None, Some, IfOk, OnOk, false, length};
 ghost use Rattle.std.specs.List.{list_any};
-ghost use Rattle.record_lists.specs.Fronts.{front};
+ghost use Rattle.cf_lists.specs.Fronts.{front};
 ghost use Rattle.list_store.specs.Lists.{all_records, records_of, with_records, is_id};
 ghost use Rattle.list_store.specs.Records.{record_in, HasChain};
 ghost use Rattle.list_kept.specs.Data.{AreUsed};

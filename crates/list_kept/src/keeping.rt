@@ -4,7 +4,7 @@ ghost use Rattle.std.specs.Prelude.{IsTrue, IfSome, find};
 ghost use Rattle.std.specs.List.{list_any, prefix_len};
 ghost use Rattle.cf_types.specs.Forms.{IsCaller};
 ghost use Rattle.cf_types.specs.Gains.{Gains};
-ghost use Rattle.list_laws.specs.Pairwise.{pairwise};
+ghost use Rattle.cf_lists.specs.Pairwise.{pairwise};
 ghost use Rattle.list_store.specs.Lists.{all_records, records_of, is_id, record_of, ids_apart, lists_without, lists_replaced, with_records};
 ghost use Rattle.list_store.specs.Records.{record_in, body_in, HasChain};
 ghost use Rattle.list_model.specs.Records.{may_precede, has_name, elements_in, elements_of};

@@ -1,7 +1,7 @@
 //! Records that come to their places in a store, or are taken out, and their names.
 ghost use Rattle.std.specs.Prelude.{◌≡◌, ◌+◌, ◌<◌, ◌≤◌, ◌++◌, ◌∷◌, [], false, true, IsTrue, IfSome, OnOk, OnErr, None, Some, length, nat_lt, not, if◌then◌else◌};
 ghost use Rattle.std.specs.List.{list_any, list_all, prefix_len};
-ghost use Rattle.list_laws.specs.Pairwise.{pairwise};
+ghost use Rattle.cf_lists.specs.Pairwise.{pairwise};
 ghost use Rattle.list_keys.specs.Names.{id_of};
 ghost use Rattle.list_store.specs.Lists.{all_records, records_of, with_records, is_id, record_of, lists_without, lists_replaced, ids_apart};
 ghost use Rattle.list_store.specs.Records.{record_in, HasChain, chains_less};

@@ -1,7 +1,7 @@
 ghost use Rattle.std.specs.Prelude.{◌≡◌, ◌-◌, ◌≤◌, [], IsTrue, IfOk, OnOk, None, Some, length};
 ghost use Rattle.std.specs.List.{prefix_len};
 ghost use Rattle.indexmap.specs.IndexMap.{spare};
-ghost use Rattle.list_laws.specs.Pairwise.{pairwise};
+ghost use Rattle.cf_lists.specs.Pairwise.{pairwise};
 ghost use Rattle.list_keys.specs.Names.{id_of, Writes};
 ghost use Rattle.list_keys.specs.KeyOrder.{keys_up_to, stands_before};
 

@@ -18,10 +18,10 @@ use Rattle.engine_api.specs.declared.shapes.Shape.{Shape}
 use Rattle.engine_api.specs.Items.{Fits, IsNoMore, IsNoMoreOf, IsNextItem, content_of_items}
 use Rattle.engine_api.proofs.FrontLaws as front
 use Rattle.engine_api.proofs.FrontLaws.{FrontLaws}
-use Rattle.list_laws.specs.Pairwise.{pairwise}
-use Rattle.list_laws.proofs.PairwiseLaws.{pairwise_front}
-use Rattle.list_laws.proofs.TakeLaws.{take_next}
-use Rattle.list_laws.proofs.FilterLaws.{none_from_all, list_all_weaker}
+use Rattle.cf_lists.specs.Pairwise.{pairwise}
+use Rattle.cf_lists.proofs.PairwiseLaws.{pairwise_front}
+use Rattle.cf_lists.proofs.TakeLaws.{take_next}
+use Rattle.cf_lists.proofs.FilterLaws.{none_from_all, list_all_weaker}
 use Rattle.list_store.specs.Record.{Record}
 use Rattle.list_store.specs.Lists.{Lists, all_records, count_of, ids_apart, records_of, with_records, is_id}
 use Rattle.list_model.specs.declared.items.ListItem.{ListItem}

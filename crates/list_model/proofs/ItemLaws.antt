@@ -9,7 +9,7 @@ use Rattle.std.proofs.lemmas.Option.{slice_get-map}
 use Rattle.cf_types.specs.declared.forms.Caps.{Caps}
 use Rattle.cf_types.specs.declared.numbers.ConnId.{ConnId}
 use Rattle.engine_api.specs.declared.shapes.Shape.{Shape}
-use Rattle.list_laws.proofs.TakeLaws.{take_next}
+use Rattle.cf_lists.proofs.TakeLaws.{take_next}
 use Rattle.list_store.specs.Record.{Record}
 use Rattle.list_store.specs.Lists.{Lists, records_of, with_records, all_records, count_of}
 use Rattle.list_watch.specs.declared.monitors.Monitor.{Monitor}

@@ -6,9 +6,9 @@ use Rattle.std.proofs.lemmas.List.{map-append}
 use Rattle.std.proofs.lemmas.List.Elements.{filter-append}
 use Rattle.std.proofs.lemmas.List.Sums.{sum_by-cons, sum_by-append}
 use Rattle.cf_types.specs.declared.numbers.EntryId.{EntryId}
-use Rattle.list_laws.specs.Insertions.{insertion}
-use Rattle.list_laws.specs.Pairwise.{pairwise}
-use Rattle.list_laws.proofs.FilterLaws.{list_all_weaker}
+use Rattle.cf_lists.specs.Insertions.{insertion}
+use Rattle.cf_lists.specs.Pairwise.{pairwise}
+use Rattle.cf_lists.proofs.FilterLaws.{list_all_weaker}
 use Rattle.list_store.specs.Record.{Record}
 use Rattle.list_store.specs.Lists.{Lists, records_of, with_records, all_records, is_id, records_without, lists_without}
 

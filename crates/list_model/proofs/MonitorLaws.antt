@@ -4,8 +4,8 @@ use Rattle.std.specs.List.{list_all}
 use Rattle.std.proofs.lemmas.Bool.{and_from, false≢true}
 use Rattle.std.proofs.lemmas.List.Folds.{list_all-append}
 use Rattle.cf_types.specs.declared.numbers.ConnId.{ConnId}
-use Rattle.list_laws.proofs.FilterLaws.{list_all-filter, list_all-filter_same, list_all_weaker}
-use Rattle.list_laws.proofs.PairwiseLaws.{pairwise-filter, pairwise_push}
+use Rattle.cf_lists.proofs.FilterLaws.{list_all-filter, list_all-filter_same, list_all_weaker}
+use Rattle.cf_lists.proofs.PairwiseLaws.{pairwise-filter, pairwise_push}
 use Rattle.list_watch.specs.declared.monitors.Monitor.{Monitor}
 use Rattle.list_watch.specs.Monitors.{is_at, is_for, is_replaced, monitors_with, places_apart, headers_apart, AreMonitors}
 

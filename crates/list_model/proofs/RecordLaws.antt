@@ -9,10 +9,10 @@ use Rattle.cf_types.specs.declared.names.Key16.{Key16}
 use Rattle.cf_types.specs.declared.names.Name16.{Name16}
 use Rattle.cf_types.specs.Name.{same_name}
 use Rattle.cf_types.proofs.ResourceLaws.{same_name-eq, same_name-refl}
-use Rattle.list_laws.specs.Insertions.{insertion}
-use Rattle.list_laws.specs.Pairwise.{pairwise}
-use Rattle.list_laws.proofs.FilterLaws.{list_all_always}
-use Rattle.list_laws.proofs.PairwiseLaws.{FindsPlace, pairwise-insertion}
+use Rattle.cf_lists.specs.Insertions.{insertion}
+use Rattle.cf_lists.specs.Pairwise.{pairwise}
+use Rattle.cf_lists.proofs.FilterLaws.{list_all_always}
+use Rattle.cf_lists.proofs.PairwiseLaws.{FindsPlace, pairwise-insertion}
 use Rattle.list_store.specs.Record.{Record}
 use Rattle.list_store.specs.Lists.{is_id, ids_apart}
 use Rattle.list_model.specs.Keys.{key_before, key_up_to}

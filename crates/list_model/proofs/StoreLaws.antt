@@ -9,16 +9,16 @@ use Rattle.cf_types.specs.declared.forms.Caps.{Caps}
 use Rattle.cf_types.specs.declared.list_commands.At.{At}
 use Rattle.cf_types.specs.declared.numbers.EntryId.{EntryId}
 use Rattle.engine_api.specs.declared.shapes.Shape.{Shape}
-use Rattle.list_laws.specs.Insertions.{insertion}
-use Rattle.list_laws.specs.Pairwise.{pairwise}
-use Rattle.list_laws.proofs.FilterLaws.{none_from_all, list_all_weaker, filter_all, all_from_none}
-use Rattle.list_laws.proofs.KeyLaws.{any_is_placed}
-use Rattle.list_laws.proofs.InsertionLaws.{insert-prefix_len}
+use Rattle.cf_lists.specs.Insertions.{insertion}
+use Rattle.cf_lists.specs.Pairwise.{pairwise}
+use Rattle.cf_lists.proofs.FilterLaws.{none_from_all, list_all_weaker, filter_all, all_from_none}
+use Rattle.cf_lists.proofs.KeyLaws.{any_is_placed}
+use Rattle.cf_lists.proofs.InsertionLaws.{insert-prefix_len}
 use Rattle.list_store.specs.Record.{Record}
 use Rattle.list_store.specs.declared.records.Spot.{Spot}
 use Rattle.list_store.specs.Lists.{record_id, Lists, records_of, with_records, all_records, is_id, has_id, record_of, spot_in, spot_of, records_without, lists_without, lists_with, replaced_by, lists_replaced, ids_apart}
-use Rattle.record_lists.proofs.AllLaws.{none_behind, pairwise_back}
-use Rattle.record_lists.proofs.IdLaws.{once}
+use Rattle.cf_lists.proofs.AllLaws.{none_behind, pairwise_back}
+use Rattle.cf_lists.proofs.IdLaws.{once}
 use Rattle.list_model.specs.Lists.{record_at, stands_before, with_record}
 use Rattle.list_model.specs.Contents.{Content, IsContent, is_given, has_records}
 use Rattle.list_model.specs.Commands.Write as write

@@ -8,7 +8,7 @@ use Rattle.cf_types.specs.declared.forms.Refs.{Refs}
 use Rattle.cf_types.specs.declared.forms.Refs.TheVariants.{Nothing}
 use Rattle.cf_types.specs.declared.numbers.ConnId.{ConnId}
 use Rattle.engine_api.specs.declared.shapes.Shape.{Shape}
-use Rattle.list_laws.specs.Pairwise.{pairwise}
+use Rattle.cf_lists.specs.Pairwise.{pairwise}
 use Rattle.list_store.specs.Record.{Record}
 use Rattle.list_store.specs.Lists.{Lists, AreApart, records_of, all_records, count_of}
 use Rattle.list_watch.specs.declared.monitors.Monitor.{Monitor}

@@ -1,3 +1,5 @@
+pub use Rattle.list_store.specs as ListStore
+pub use Rattle.list_watch.specs as ListWatch
 pub mod Keys
 pub mod Records
 pub mod Lists

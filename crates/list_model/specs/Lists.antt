@@ -3,7 +3,7 @@ use Rattle.std.specs.Prelude.{ℕ, ◌-◌, Bool, not, if◌then◌else◌, List
 use Rattle.cf_types.specs.declared.list_commands.At.{At}
 use Rattle.cf_types.specs.declared.list_commands.At.TheVariants as ref
 use Rattle.cf_types.specs.declared.numbers.EntryId.{EntryId}
-use Rattle.list_laws.specs.Insertions.{insertion}
+use Rattle.cf_lists.specs.Insertions.{insertion}
 use Rattle.list_store.specs.Record.{Record}
 use Rattle.list_store.specs.Lists.{Lists, records_of, with_records, all_records, has_id, record_of}
 use Rattle.list_model.specs.Keys.{key_up_to}

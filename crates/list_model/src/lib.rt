@@ -6,3 +6,5 @@
 mod items;
 
 pub use items::ListItem;
+pub use list_store as stores;
+pub use list_watch as watches;

@@ -3,10 +3,10 @@ use Rattle.std.proofs.Common.{◌≡◌, ℕ, true, false, [], Option, Some, Non
 use Rattle.std.specs.List.{list_any}
 use Rattle.std.proofs.lemmas.Bool.{false≢true}
 use Rattle.std.proofs.lemmas.List.Quantifiers.{position-Some}
-use Rattle.list_laws.proofs.KeyLaws.{none_placed}
-use Rattle.record_lists.proofs.AllLaws.{list_of-get_or}
+use Rattle.cf_lists.proofs.KeyLaws.{none_placed}
+use Rattle.cf_lists.proofs.AllLaws.{list_of-get_or}
 use Rattle.cf_types.specs.declared.numbers.EntryId.{EntryId}
-use Rattle.record_lists.specs.Lists as generic
+use Rattle.cf_lists.specs.Lists as generic
 use Rattle.list_store.specs.declared.records.Spot.{Spot}
 use Rattle.list_store.specs.Lists.{Lists, record_id, is_id, has_id, records_of, spot_of, spot_in}
 use Rattle.list_store.specs.Spots.{as_spot}

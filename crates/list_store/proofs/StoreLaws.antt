@@ -2,13 +2,13 @@
 use Rattle.std.proofs.Common.{◌≡◌, ℕ, zero, suc, ◌+◌, ◌-◌, ◌<◌, true, false, not, List, [], ◌∷◌, ◌++◌, map, set, slice_get, replicate, sum_by, length, Option, None, Some, is_some, option_map, Result, Ok, Err, refl, sym, ap, ◌∙◌, subst, arith, Bor}
 use Rattle.std.specs.Prelude.{IfSome, IfNone, IfOk, OnErr}
 use Rattle.std.proofs.lemmas.List.Sums.{sum_by-cons}
-use Rattle.list_laws.specs.Pairwise.{pairwise}
-use Rattle.record_lists.specs.Lists.{all_records, records_of, is_id, has_id, record_of, lists_with, lists_without, lists_replaced, replaced_by, ids_apart}
+use Rattle.cf_lists.specs.Pairwise.{pairwise}
+use Rattle.cf_lists.specs.Lists.{all_records, records_of, is_id, has_id, record_of, lists_with, lists_without, lists_replaced, replaced_by, ids_apart}
 use Rattle.std.specs.List.{list_any}
-use Rattle.list_laws.proofs.FilterLaws.{any_is_found}
-use Rattle.record_lists.proofs.AllLaws.{any_all, all-filter, all-map}
-use Rattle.record_lists.proofs.IdLaws.{without_absent}
-use Rattle.record_lists.proofs.SplitLaws.{every_at, every_found, all_with, agree_all, IsSplit, split_found}
+use Rattle.cf_lists.proofs.FilterLaws.{any_is_found}
+use Rattle.cf_lists.proofs.AllLaws.{any_all, all-filter, all-map}
+use Rattle.cf_lists.proofs.IdLaws.{without_absent}
+use Rattle.cf_lists.proofs.SplitLaws.{every_at, every_found, all_with, agree_all, IsSplit, split_found}
 use Rattle.cf_pool.specs.declared.chain.Chain.{Chain}
 use Rattle.cf_pool.specs.declared.no_elements.NoElements.{NoElements}
 use Rattle.cf_pool.specs.Chains.{need_of}
@@ -24,7 +24,7 @@ use Rattle.std.specs.Prelude.{nat_le}
 use Rattle.std.proofs.Common.{◌≤◌, get_or}
 use Rattle.std.proofs.lemmas.Bool.{and_from, and_parts, le-leb, leb-true}
 use Rattle.std.proofs.lemmas.Option.{get_or_from_slice_get}
-use Rattle.record_lists.proofs.SpotLaws.{get_within}
+use Rattle.cf_lists.proofs.RecordSpotLaws.{get_within}
 use Rattle.list_store.proofs.VecLaws.{list_all-set, list_all-get_or}
 use Rattle.list_store.proofs.HeldLaws.{less_swap, has_swap, loose_middle, held_middle, loose_sub, each_chain, elsewhere_fresh, elsewhere_loose, loose_change, held_change, record_change, counted, loose_fresh}
 

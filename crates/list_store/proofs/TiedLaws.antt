@@ -6,15 +6,15 @@ use Rattle.std.proofs.lemmas.Bool.{false≢true, eq-eqb, eqb-true, ltb-true}
 use Rattle.std.proofs.lemmas.Bool.Decides.{eqb_tells}
 use Rattle.std.proofs.lemmas.List.{length-map, drop_all, append-nil}
 use Rattle.slab.specs.Slab.{Slab, get, Updates}
-use Rattle.list_laws.specs.Pairwise.{pairwise}
-use Rattle.list_laws.proofs.FilterLaws.{find_none}
-use Rattle.record_lists.specs.Lists.{all_records, records_of, is_id, record_of, spot_of, lists_with, lists_without, lists_replaced, replaced_by, ids_apart}
-use Rattle.record_lists.specs.Orders.{stands}
-use Rattle.record_lists.proofs.AllLaws.{any_all, list_of-get_or}
-use Rattle.record_lists.proofs.IdLaws.{IsPlaced, record_there, taken_there, without_absent, apart-with, apart-without, apart-changed, gone}
-use Rattle.record_lists.proofs.SpotLaws.{placed_at, spot_there, no_spot, header_within}
-use Rattle.record_lists.proofs.MapLaws.{records_of-map, get-map, with-map, removed-map}
-use Rattle.record_lists.proofs.OrderLaws.{stands_new, stands_more, stands_either, stands_at, stands_still, stands_before, place_stands, agree, any_stands, any_key, twice}
+use Rattle.cf_lists.specs.Pairwise.{pairwise}
+use Rattle.cf_lists.proofs.FilterLaws.{find_none}
+use Rattle.cf_lists.specs.Lists.{all_records, records_of, is_id, record_of, spot_of, lists_with, lists_without, lists_replaced, replaced_by, ids_apart}
+use Rattle.cf_lists.specs.Orders.{stands}
+use Rattle.cf_lists.proofs.AllLaws.{any_all, list_of-get_or}
+use Rattle.cf_lists.proofs.IdLaws.{IsPlaced, record_there, taken_there, without_absent, apart-with, apart-without, apart-changed, gone}
+use Rattle.cf_lists.proofs.RecordSpotLaws.{placed_at, spot_there, no_spot, header_within}
+use Rattle.cf_lists.proofs.RecordMapLaws.{records_of-map, get-map, with-map, removed-map}
+use Rattle.cf_lists.proofs.RecordOrderLaws.{stands_new, stands_more, stands_either, stands_at, stands_still, stands_before, place_stands, agree, any_stands, any_key, twice}
 use Rattle.list_store.specs.declared.records.Rec.{Rec}
 use Rattle.list_store.specs.Tied.{rec_id}
 use Rattle.list_store.specs.Orders.{is_few}

@@ -10,9 +10,9 @@ use Rattle.std.proofs.lemmas.List.Edits.{length-remove}
 use Rattle.std.proofs.lemmas.List.Folds.{list_all-append}
 use Rattle.std.proofs.lemmas.List.Quantifiers.{position-Some}
 use Rattle.std.proofs.lemmas.Option.{slice_get-get_or}
-use Rattle.record_lists.specs.Lists.{all_records}
+use Rattle.cf_lists.specs.Lists.{all_records}
 use Rattle.list_store.specs.Orders.{orders_in, has_place, is_few}
-use Rattle.record_lists.proofs.AllLaws.{list_of, list_of-get_or}
+use Rattle.cf_lists.proofs.AllLaws.{list_of, list_of-get_or}
 
 pub list_all-set : {X : Type 0} (p : X → Bool) (xs : List X) (i : ℕ) (y : X) → list_all p xs ≡ true → p y ≡ true
     → list_all p (set xs i y) ≡ true

@@ -1,3 +1,4 @@
+pub use Rattle.cf_pool.specs as CfPool
 pub mod Record
 pub mod Lists
 pub mod Orders

@@ -1,8 +1,8 @@
 -- The records of a list structure: for each header, from 0, the list of its records.
 use Rattle.std.specs.Prelude.{ℕ, Bool, List, Option, Some, None, option_map, position}
 use Rattle.cf_types.specs.declared.numbers.EntryId.{EntryId}
-pub use Rattle.record_lists.specs.Lists.{records_of, with_records, all_records, lists_with, count_of}
-use Rattle.record_lists.specs.Lists as generic
+pub use Rattle.cf_lists.specs.Lists.{records_of, with_records, all_records, lists_with, count_of}
+use Rattle.cf_lists.specs.Lists as generic
 use Rattle.list_store.specs.declared.records.Spot.{Spot}
 use Rattle.list_store.specs.Record.{Record}
 

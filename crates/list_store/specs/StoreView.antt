@@ -1,7 +1,7 @@
 -- Records and their data.
 use Rattle.std.specs.Prelude.{ℕ, IsTrue, List, Option, map}
 use Rattle.std.specs.List.{list_all}
-use Rattle.record_lists.specs.Lists.{all_records}
+use Rattle.cf_lists.specs.Lists.{all_records}
 use Rattle.list_store.specs.declared.store.Store.TheInside.{Inside}
 use Rattle.list_store.specs.Record.{Record}
 use Rattle.list_store.specs.Records.{record_in, loose_in, is_data, AreHeld}

@@ -2,8 +2,8 @@
 use Rattle.std.specs.Prelude.{◌≡◌, ℕ, true, List, map, Option, Some, None, unwrap_or, nat_eq, cond}
 use Rattle.std.specs.Map.{lookup}
 use Rattle.slab.specs.Slab.{Slab, get}
-use Rattle.record_lists.specs.Lists.{AreApart}
-use Rattle.record_lists.specs.Orders.{stands}
+use Rattle.cf_lists.specs.Lists.{AreApart}
+use Rattle.cf_lists.specs.Orders.{stands}
 use Rattle.list_store.specs.declared.records.Rec.{Rec}
 
 -- no record has the id 0

@@ -2,7 +2,7 @@
 ghost use Rattle.std.specs.Prelude.{◌≡◌, ◌+◌, ◌<◌, ◌≤◌, ◌++◌, ◌∷◌, ◌==◌, [], true, IsTrue, IfOk, OnOk, IfSome, IfNone, Some, length, position, slice_get, slice_set, replicate};
 ghost use Rattle.std.specs.List.{list_all, list_any, insert, remove};
 ghost use Rattle.std.specs.Vec.{vec_len, vec_capacity};
-ghost use Rattle.record_lists.specs.Lists.{all_records, records_of, lists_with, IsLastFull};
+ghost use Rattle.cf_lists.specs.Lists.{all_records, records_of, lists_with, IsLastFull};
 ghost use Rattle.list_store.specs.Orders.{orders_in, has_place, is_few};
 
 use cf_types::NoMemory;

@@ -1,10 +1,10 @@
 //! The records of a list structure with their data.
 ghost use Rattle.std.specs.Prelude.{◌≡◌, ◌-◌, ◌+◌, ◌<◌, ◌≤◌, [], true, false, IsTrue, IfOk, IfErr, OnOk, OnErr, IfSome, IfNone, IsErr, ◌↔◌, Some, None, length, take, option_map, slice_get, slice_set, replicate, sum_by};
 ghost use Rattle.std.specs.List.{list_any};
-ghost use Rattle.list_laws.specs.Pairwise.{pairwise};
+ghost use Rattle.cf_lists.specs.Pairwise.{pairwise};
 ghost use Rattle.cf_pool.specs.Chains.{need_of};
 ghost use Rattle.cf_pool.specs.Pools.{IsChain, need_at, need_in};
-ghost use Rattle.record_lists.specs.Lists.{IsLastFull, lists_popped};
+ghost use Rattle.cf_lists.specs.Lists.{IsLastFull, lists_popped};
 ghost use Rattle.list_store.specs.Lists.{all_records, records_of, is_id, record_of, spot_of, lists_without, lists_with, lists_replaced, ids_apart};
 ghost use Rattle.list_store.specs.Records.{record_in, HasChain, chains_less, chain_put, free_put, elements_in};
 

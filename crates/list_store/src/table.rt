@@ -1,8 +1,8 @@
 //! Records by header and place, and by id. Their data lie elsewhere: a record has a chain.
 ghost use Rattle.std.specs.Prelude.{◌≡◌, ◌-◌, ◌<◌, ◌≤◌, [], true, false, IsTrue, IfOk, OnOk, IfSome, IfNone, Some, length, take, option_map, slice_get, replicate};
 ghost use Rattle.std.specs.List.{list_any};
-ghost use Rattle.list_laws.specs.Pairwise.{pairwise};
-ghost use Rattle.record_lists.specs.Lists.{all_records, records_of, is_id, record_of, spot_of, lists_without, lists_with, lists_replaced, lists_popped, ids_apart, IsLastFull};
+ghost use Rattle.cf_lists.specs.Pairwise.{pairwise};
+ghost use Rattle.cf_lists.specs.Lists.{all_records, records_of, is_id, record_of, spot_of, lists_without, lists_with, lists_replaced, lists_popped, ids_apart, IsLastFull};
 ghost use Rattle.list_store.specs.Tied.{rec_id};
 ghost use Rattle.list_store.specs.Spots.{as_spot};
 

@@ -5,7 +5,7 @@ ghost use Rattle.std.specs.List.{list_all, list_any, remove};
 ghost use Rattle.std.specs.Vec.{vec_len};
 ghost use Rattle.slab.specs.Slab.{get as slab_get, slab_len, ContainsKey, HasRoomFor, Updates};
 ghost use Rattle.indexmap.specs.IndexMap.{spare};
-ghost use Rattle.record_lists.specs.Lists.{all_records, records_of, is_id, record_of, spot_of, lists_without, lists_with, lists_less, lists_popped, lists_replaced, IsLastFull};
+ghost use Rattle.cf_lists.specs.Lists.{all_records, records_of, is_id, record_of, spot_of, lists_without, lists_with, lists_less, lists_popped, lists_replaced, IsLastFull};
 ghost use Rattle.list_store.specs.Orders.{orders_in, has_place, is_few};
 ghost use Rattle.list_store.specs.Tied.{rec_id, lists_at, IsTied, Writes, spot_for};
 ghost use Rattle.list_store.specs.Spots.{as_spot};

@@ -10,8 +10,8 @@ use Rattle.cf_types.specs.declared.numbers.ConnId.{ConnId}
 use Rattle.cf_types.specs.declared.effects.BitChange.{BitChange}
 use Rattle.cf_types.specs.Gains.{Gains, bits_told, difference}
 use Rattle.cf_types.proofs.GainsLaws.{gains_none, gains_one, gains_then}
-use Rattle.list_laws.specs.Pairwise.{pairwise}
-use Rattle.list_laws.proofs.FilterLaws.{none_from_all, list_all_weaker}
+use Rattle.cf_lists.specs.Pairwise.{pairwise}
+use Rattle.cf_lists.proofs.FilterLaws.{none_from_all, list_all_weaker}
 use Rattle.list_watch.specs.declared.monitors.Monitor.{Monitor}
 use Rattle.list_watch.specs.declared.monitors.Watched.{Watched}
 use Rattle.list_watch.specs.Monitors.{is_at, is_for, places_apart}

@@ -7,9 +7,9 @@ use Rattle.std.proofs.lemmas.List.{map-append}
 use Rattle.std.proofs.lemmas.List.Folds.{list_all-map}
 use Rattle.std.proofs.lemmas.List.Elements.{filter_agree}
 use Rattle.cf_types.specs.declared.numbers.ConnId.{ConnId}
-use Rattle.list_laws.specs.Pairwise.{pairwise}
-use Rattle.list_laws.proofs.FilterLaws.{filter-filter, list_all_weaker, list_all-filter_same, length-filter-le, filter_none, none_from_all}
-use Rattle.list_laws.proofs.PairwiseLaws.{pairwise-filter, pairwise_push}
+use Rattle.cf_lists.specs.Pairwise.{pairwise}
+use Rattle.cf_lists.proofs.FilterLaws.{filter-filter, list_all_weaker, list_all-filter_same, length-filter-le, filter_none, none_from_all}
+use Rattle.cf_lists.proofs.PairwiseLaws.{pairwise-filter, pairwise_push}
 use Rattle.list_watch.specs.declared.monitors.Monitor.{Monitor}
 use Rattle.list_watch.specs.declared.monitors.Watched.{Watched}
 use Rattle.list_watch.specs.Monitors.{is_at, is_of, is_for, is_replaced, monitors_with, monitors_without, monitors_of_others, places_apart, headers_apart, AreMonitors}

@@ -3,7 +3,7 @@
 use Rattle.std.specs.Prelude.{ℕ, Bool, IsTrue, not, ◌&&◌, ◌||◌, ◌==◌, List, [], ◌∷◌, ◌++◌, filter, find, Option, option_map}
 use Rattle.std.specs.List.{list_any}
 use Rattle.cf_types.specs.declared.numbers.ConnId.{ConnId}
-use Rattle.list_laws.specs.Pairwise.{pairwise}
+use Rattle.cf_lists.specs.Pairwise.{pairwise}
 use Rattle.list_watch.specs.declared.monitors.Monitor.{Monitor}
 
 abbrev pub is_of : ConnId → Monitor → Bool

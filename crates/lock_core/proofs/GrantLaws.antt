@@ -3,8 +3,8 @@ use Rattle.std.proofs.Common.{◌≡◌, ◌+◌, Bool, true, false, cond, ◌�
 use Rattle.cf_types.specs.declared.resources.Resource.{Resource}
 use Rattle.cf_types.specs.Resources.{Part, same_part}
 use Rattle.cf_types.proofs.ResourceLaws.{same_part-eq, same_part-refl}
-use Rattle.list_laws.proofs.KeyLaws as keys
-use Rattle.list_laws.proofs.FilterLaws.{length-filter-le, sum_by-filter-le}
+use Rattle.cf_lists.proofs.KeyLaws as keys
+use Rattle.cf_lists.proofs.FilterLaws.{length-filter-le, sum_by-filter-le}
 use Rattle.std.proofs.Common.{◌≤◌, not}
 use Rattle.cf_types.specs.declared.numbers.ConnId.{ConnId}
 use Rattle.lock_queue.specs.declared.waiters.Waiter.{Waiter}

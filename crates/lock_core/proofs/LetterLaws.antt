@@ -4,7 +4,7 @@ use Rattle.std.proofs.Common.{length, filter, ap, arith}
 use Rattle.cf_types.specs.declared.numbers.ConnId.{ConnId}
 use Rattle.cf_types.specs.declared.resources.Resource.{Resource}
 use Rattle.cf_types.specs.declared.lock_commands.Decision.TheVariants.{Deny}
-use Rattle.list_laws.proofs.FilterLaws.{filter_swap, length-filter-le}
+use Rattle.cf_lists.proofs.FilterLaws.{filter_swap, length-filter-le}
 use Rattle.lock_queue.specs.declared.waiters.Waiter.{Waiter}
 use Rattle.lock_queue.specs.Waiters.{is_on, is_waiter, waiters_of, waiters_without}
 use Rattle.lock_model.specs.Interests.{may_own, manager_of, interests_without}

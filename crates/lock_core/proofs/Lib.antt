@@ -1,3 +1,4 @@
+pub use Rattle.lock_model.proofs as LockModel
 pub mod ReadLaws
 pub mod GrantLaws
 pub mod LetterLaws

@@ -2,7 +2,7 @@
 use Rattle.std.proofs.Common.{◌≡◌, ℕ, ◌+◌, ◌≤◌, Bool, true, false, ◌||◌, cond, if◌then◌else◌, List, [], ◌∷◌, Option, Some, None, is_some, option_map, filter, find, refl, sym, ap, ◌∙◌, arith}
 use Rattle.std.specs.List.{list_any}
 use Rattle.std.proofs.lemmas.List.Sums.{sum_by-cons}
-use Rattle.list_laws.proofs.FilterLaws.{any_is_found}
+use Rattle.cf_lists.proofs.FilterLaws.{any_is_found}
 use Rattle.lock_queue.specs.declared.waiters.Waiter.{Waiter}
 use Rattle.lock_queue.specs.Waiters.{waiter_of, waiters_with, recorded_by, recorded_of, recorded_in, IsQueue}
 use Rattle.lock_queue.proofs.CountLaws.{recorded_less, recorded_more}

@@ -34,7 +34,7 @@ fn insert(list: &mut Vec<Resource>, r: &Resource) -> Result<(), NoMemory>
     Ok(())
 }
 
-ghost use Rattle.list_laws.specs.Insertions.{insertion};
+ghost use Rattle.cf_lists.specs.Insertions.{insertion};
 
 // A resource, in its place, unless it is there.
 fn note(list: &mut Vec<Resource>, r: &Resource) -> Result<(), NoMemory>

@@ -12,7 +12,8 @@ mod plans;
 mod refusals;
 
 pub use engine::{LockContent, LockEngine};
+pub use lock_interests::recorded as recorded;
 pub use lock_model::LockItem;
+pub use lock_model::tables::Held;
 pub use lock_queue::Waiter;
-pub use lock_table::Held;
 pub use locks::ItemOrder;

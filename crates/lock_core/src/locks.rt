@@ -10,8 +10,8 @@ ghost use Rattle.lock_core.specs.Orders.{order_of};
 use cf_types::{Adjunct, Caps, ConnId, Effects, Event, Letter, LockReply, NoMemory, Resource};
 use lock_interests::{Interests, held_by, records_of};
 use lock_model::LockItem;
+use lock_model::tables::Held;
 use lock_queue::{Queue, Waiter};
-use lock_table::Held;
 use std::alloc::Global;
 use std::marker::Model;
 

@@ -3,7 +3,7 @@ ghost use Rattle.std.specs.Prelude.{◌≡◌, ◌<◌, Option, Some, None, if�
 ghost use Rattle.std.specs.Result.{result_err};
 ghost use Rattle.cf_types.specs.declared.refusals.Refusal.{Refusal};
 ghost use Rattle.cf_types.specs.declared.refusals.Refusal.TheVariants.{AlreadyInterested, NotInterested, NoRecord};
-ghost use Rattle.lock_table.specs.declared.holdings.Held.{Held};
+ghost use Rattle.lock_model.specs.LockTable.declared.holdings.Held.{Held};
 ghost use Rattle.lock_queue.specs.Waiters.{waits};
 ghost use Rattle.lock_model.specs.Interests.{interest_of, manager_of};
 ghost use Rattle.lock_model.specs.Refusals.{pending_refusal, interested_refusal, interest_refusal, records_refusal, is_manager, manager_refusal, waiter_refusal};
@@ -12,8 +12,8 @@ ghost use Rattle.lock_model.specs.Requests as requests;
 use crate::locks::Locks;
 use cf_types::{Caps, ConnId, Refusal, Resource};
 use lock_interests::Interests;
+use lock_model::tables::Held;
 use lock_queue::{Queue, Waiter};
-use lock_table::Held;
 
 /// What judging a command comes to: why it is refused, if it is.
 pub(crate) type Judged = Result<(), Refusal>;

@@ -8,14 +8,14 @@ use Rattle.cf_types.specs.declared.numbers.ConnId.{ConnId}
 use Rattle.cf_types.specs.declared.resources.Resource.{Resource}
 use Rattle.cf_types.specs.Resources.{Part, same_part, resource_up_to}
 use Rattle.cf_types.proofs.ResourceLaws.{same_part-eq, same_part-refl, same_part_comm}
-use Rattle.list_laws.specs.Pairwise.{pairwise}
-use Rattle.list_laws.proofs.FilterLaws.{filter_nothing, any_is_found, find-filter, list_any-map, list_all_weaker, list_all-filter}
-use Rattle.list_laws.proofs.InsertionLaws.{list_all-insertion, list_any-insertion, length-insertion}
-use Rattle.list_laws.proofs.KeyLaws.{none_later, length_without}
+use Rattle.cf_lists.specs.Pairwise.{pairwise}
+use Rattle.cf_lists.proofs.FilterLaws.{filter_nothing, any_is_found, find-filter, list_any-map, list_all_weaker, list_all-filter}
+use Rattle.cf_lists.proofs.InsertionLaws.{list_all-insertion, list_any-insertion, length-insertion}
+use Rattle.cf_lists.proofs.KeyLaws.{none_later, length_without}
 use Rattle.lock_table.specs.declared.holdings.Held.{Held}
 use Rattle.lock_table.specs.Holdings.{is_interest, has_interest, owners_with, owners_without, in_state, in_retention_of, IsOwners}
 use Rattle.lock_table.proofs.HoldingLaws.{owners-with, owners-in_state}
-use Rattle.lock_queue.specs.declared.waiters.Waiter.{Waiter}
+use Rattle.lock_model.specs.LockQueue.declared.waiters.Waiter.{Waiter}
 use Rattle.lock_record.specs.declared.recorded.Record.{Record}
 use Rattle.lock_record.specs.Recorded.{stands_before, is_record, is_of, record_of, has_record, records_with, records_without, records_without_conn, AreRecords}
 use Rattle.lock_record.specs.Recorded as book

@@ -6,12 +6,12 @@ use Rattle.cf_types.specs.declared.numbers.ConnId.{ConnId}
 use Rattle.cf_types.specs.declared.resources.Resource.{Resource}
 use Rattle.cf_types.specs.Resources.{Part, same_part, resource_up_to}
 use Rattle.cf_types.proofs.ResourceLaws.{same_part-eq, same_part-refl, same_part_comm}
-use Rattle.list_laws.specs.Insertions.{insertion}
-use Rattle.list_laws.proofs.FilterLaws.{find-filter, find_none, none_filtered}
-use Rattle.list_laws.proofs.InsertionLaws.{find-insertion_past, find-insertion_here}
+use Rattle.cf_lists.specs.Insertions.{insertion}
+use Rattle.cf_lists.proofs.FilterLaws.{find-filter, find_none, none_filtered}
+use Rattle.cf_lists.proofs.InsertionLaws.{find-insertion_past, find-insertion_here}
 use Rattle.lock_table.specs.declared.holdings.Held.{Held}
 use Rattle.lock_table.specs.Holdings.{is_interest, owners_with, owners_without, in_state, in_retention_of}
-use Rattle.lock_queue.specs.declared.waiters.Waiter.{Waiter}
+use Rattle.lock_model.specs.LockQueue.declared.waiters.Waiter.{Waiter}
 use Rattle.lock_record.specs.declared.recorded.Record.{Record}
 use Rattle.lock_record.specs.Recorded.{stands_before, is_record, is_of, record_of, records_with, records_without, records_without_conn}
 use Rattle.lock_model.specs.Interests as interests
@@ -20,7 +20,7 @@ use Rattle.lock_model.specs.Grants.{with_alteration}
 use Rattle.lock_model.specs.Departures.{stays, with_retained, interests_left}
 use Rattle.lock_model.specs.Commands.RtDelete.{without_record}
 use Rattle.lock_interests.specs.InterestsView.{with_record, interests_of, records_put, records_given}
-use Rattle.list_laws.proofs.ImageLaws.{map-filtered, map-insertion, map-either, map-both}
+use Rattle.cf_lists.proofs.ImageLaws.{map-filtered, map-insertion, map-either, map-both}
 
 -- ---- record data of one part, and of others
 

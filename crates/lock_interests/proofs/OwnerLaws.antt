@@ -9,9 +9,9 @@ use Rattle.cf_types.specs.declared.numbers.ConnId.{ConnId}
 use Rattle.cf_types.specs.declared.resources.Resource.{Resource}
 use Rattle.cf_types.specs.Resources.{Part, same_part, same_resource}
 use Rattle.cf_types.proofs.ResourceLaws.{same_part-eq, same_part-refl, same_resource_comm}
-use Rattle.list_laws.specs.Pairwise.{pairwise}
-use Rattle.list_laws.proofs.FilterLaws.{any_is_found, all_found, found_passes, filter_swap, filter_absorbed}
-use Rattle.list_laws.proofs.KeyLaws.{none_later, later_apart, AllFound, found_filter}
+use Rattle.cf_lists.specs.Pairwise.{pairwise}
+use Rattle.cf_lists.proofs.FilterLaws.{any_is_found, all_found, found_passes, filter_swap, filter_absorbed}
+use Rattle.cf_lists.proofs.KeyLaws.{none_later, later_apart, AllFound, found_filter}
 use Rattle.lock_table.specs.declared.holdings.Held.{Held}
 use Rattle.lock_table.specs.Holdings.{is_on, is_by, is_interest, has_interest, owners_of, owners_retained, owners_without_active, in_retention, in_retention_of, are_apart}
 use Rattle.lock_table.specs.Tables.{resource_of}

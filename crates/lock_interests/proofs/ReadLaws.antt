@@ -9,7 +9,7 @@ use Rattle.cf_types.specs.declared.numbers.ConnId.{ConnId}
 use Rattle.cf_types.specs.declared.resources.Resource.{Resource}
 use Rattle.cf_types.specs.Resources.{same_resource}
 use Rattle.cf_types.proofs.ResourceLaws.{same_resource_comm}
-use Rattle.list_laws.proofs.FilterLaws.{list_any-map}
+use Rattle.cf_lists.proofs.FilterLaws.{list_any-map}
 use Rattle.lock_table.specs.declared.holdings.Held.{Held}
 use Rattle.lock_table.specs.Holdings.{is_on, is_interest, owners_of}
 use Rattle.lock_record.specs.declared.recorded.Record.{Record}

@@ -5,7 +5,7 @@ ghost use Rattle.lock_table.specs.EntryView.{owners_left};
 ghost use Rattle.lock_table.specs.declared.holdings.Held.{Held};
 ghost use Rattle.cf_types.specs.declared.resources.Resource.{Resource};
 ghost use Rattle.lock_record.specs.declared.recorded.Record.{Record};
-ghost use Rattle.list_laws.specs.Pairwise.{pairwise};
+ghost use Rattle.cf_lists.specs.Pairwise.{pairwise};
 ghost use Rattle.lock_table.specs.Holdings.{are_apart};
 ghost use Rattle.lock_model.specs.Interests.{are_compatible, may_own, manager_of, interest_of, has_interest, interests_with, interests_without, interests_changed};
 ghost use Rattle.lock_model.specs.Contents.{records_of, records_owned};
@@ -16,7 +16,7 @@ ghost use Rattle.lock_interests.specs.InterestsView.{records_put, records_given}
 
 use cf_types::{Adjunct, ConnId, Effects, Event, Letter, Listing, NoMemory, Resource};
 use lock_model::LockItem;
-use lock_queue::Waiter;
+use lock_model::queues::Waiter;
 use lock_record::Records;
 use lock_table::{Held, Owners, Table};
 use std::alloc::Global;

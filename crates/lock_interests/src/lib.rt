@@ -5,3 +5,4 @@
 mod interests;
 
 pub use interests::{Interests, held_by, records_of};
+pub use lock_record as recorded;

@@ -14,8 +14,8 @@ use Rattle.cf_types.specs.declared.lock_commands.LockCmd.{LockCmd}
 use Rattle.cf_types.specs.declared.lock_commands.LockCmd.TheVariants.{Obtain, Alter, Release, Decide, RtRead, RtDelete}
 use Rattle.cf_types.specs.Resources.{same_part}
 use Rattle.engine_api.specs.Meaning.{first_refusal}
-use Rattle.list_laws.proofs.FilterLaws.{list_all-filter, list_all-filter_same, list_all_always, all_from_none, any_is_found, length-filter-le, sum_by-filter-le}
-use Rattle.list_laws.proofs.InsertionLaws.{list_all-insertion, length-insertion}
+use Rattle.cf_lists.proofs.FilterLaws.{list_all-filter, list_all-filter_same, list_all_always, all_from_none, any_is_found, length-filter-le, sum_by-filter-le}
+use Rattle.cf_lists.proofs.InsertionLaws.{list_all-insertion, length-insertion}
 use Rattle.lock_queue.specs.declared.waiters.Waiter.{Waiter}
 use Rattle.lock_queue.specs.Waiters.{is_waiter, waits, waiters_without, stands_before}
 use Rattle.lock_model.specs.Interests.{Interest, is_of, interest_of, has_interest, interests_with, interests_without, interests_changed, may_own}

@@ -8,10 +8,10 @@ use Rattle.cf_types.specs.declared.events.Letter.{Letter}
 use Rattle.cf_types.specs.declared.resources.Resource.{Resource}
 use Rattle.cf_types.specs.Resources.{same_part}
 use Rattle.cf_types.proofs.ResourceLaws.{same_part-eq, same_part-refl, same_part_comm}
-use Rattle.list_laws.specs.Pairwise.{pairwise}
-use Rattle.list_laws.proofs.FilterLaws.{list_all-filter, list_all-filter_same, list_all_weaker, list_all_both}
-use Rattle.list_laws.proofs.PairwiseLaws.{pairwise-filter}
-use Rattle.list_laws.proofs.KeyLaws as keys
+use Rattle.cf_lists.specs.Pairwise.{pairwise}
+use Rattle.cf_lists.proofs.FilterLaws.{list_all-filter, list_all-filter_same, list_all_weaker, list_all_both}
+use Rattle.cf_lists.proofs.PairwiseLaws.{pairwise-filter}
+use Rattle.cf_lists.proofs.KeyLaws as keys
 use Rattle.lock_queue.specs.declared.waiters.Waiter.{Waiter}
 use Rattle.lock_queue.specs.Waiters.{is_on, is_waiter, waiters_of, waiters_without, are_apart}
 use Rattle.lock_model.specs.Interests.{Interest, AreInterests, has_interest, interests_with, interests_changed, may_own, parts_apart}

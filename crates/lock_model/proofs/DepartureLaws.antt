@@ -6,7 +6,7 @@ use Rattle.std.proofs.lemmas.List.{length-map}
 use Rattle.cf_types.specs.declared.forms.Caps.{Caps}
 use Rattle.cf_types.specs.declared.numbers.ConnId.{ConnId}
 use Rattle.cf_types.specs.Resources.{same_resource}
-use Rattle.list_laws.proofs.FilterLaws.{list_all-filter, list_all-filter_same, list_all_always, sum_by-filter-le, length-filter-le}
+use Rattle.cf_lists.proofs.FilterLaws.{list_all-filter, list_all-filter_same, list_all_always, sum_by-filter-le, length-filter-le}
 use Rattle.lock_queue.specs.declared.waiters.Waiter.{Waiter}
 use Rattle.lock_model.specs.Interests.{Interest, is_of, is_by}
 use Rattle.lock_model.specs.Contents.{Content, IsContent, is_due, records_of, records_in}

@@ -7,8 +7,8 @@ use Rattle.std.proofs.lemmas.List.Sums.{sum_by-cons}
 use Rattle.cf_types.specs.declared.numbers.ConnId.{ConnId}
 use Rattle.cf_types.specs.Resources.{same_resource, Part, same_part}
 use Rattle.cf_types.proofs.ResourceLaws.{same_part-eq, same_part-refl}
-use Rattle.list_laws.specs.Pairwise.{pairwise}
-use Rattle.list_laws.proofs.KeyLaws as keys
+use Rattle.cf_lists.specs.Pairwise.{pairwise}
+use Rattle.cf_lists.proofs.KeyLaws as keys
 use Rattle.lock_table.specs.declared.holdings.Held.{Held}
 use Rattle.lock_queue.specs.declared.waiters.Waiter.{Waiter}
 use Rattle.lock_model.specs.Interests.{Interest, AreInterests, is_of, has_interest, interests_changed, may_coexist, may_own, parts_apart, owners_agree}

@@ -11,10 +11,10 @@ use Rattle.cf_types.specs.declared.numbers.ConnId.{ConnId}
 use Rattle.cf_types.specs.declared.resources.Resource.{Resource}
 use Rattle.cf_types.specs.Resources.{same_resource, resource_up_to, Part, same_part}
 use Rattle.cf_types.proofs.ResourceLaws.{same_part-eq, same_part_comm, same_resource_comm, resource_up_to-either, resource_up_to-trans}
-use Rattle.list_laws.specs.Pairwise.{pairwise}
-use Rattle.list_laws.proofs.FilterLaws.{list_all-filter, list_all-filter_same, list_all_weaker, list_all_both, list_all_always, sum_by-filter-le, length-filter-le}
-use Rattle.list_laws.proofs.InsertionLaws.{list_any-insertion, sum_by-insertion, length-insertion}
-use Rattle.list_laws.proofs.PairwiseLaws.{FindsPlace, pairwise-filter, pairwise-insertion, pairwise-insertion_any, pairwise-map}
+use Rattle.cf_lists.specs.Pairwise.{pairwise}
+use Rattle.cf_lists.proofs.FilterLaws.{list_all-filter, list_all-filter_same, list_all_weaker, list_all_both, list_all_always, sum_by-filter-le, length-filter-le}
+use Rattle.cf_lists.proofs.InsertionLaws.{list_any-insertion, sum_by-insertion, length-insertion}
+use Rattle.cf_lists.proofs.PairwiseLaws.{FindsPlace, pairwise-filter, pairwise-insertion, pairwise-insertion_any, pairwise-map}
 use Rattle.lock_table.specs.declared.holdings.Held.{Held}
 use Rattle.lock_model.specs.Interests.{Interest, AreInterests, is_of, has_interest, interests_without, interests_with, may_coexist, may_own, stands_up_to, parts_apart, owners_agree}
 use Rattle.lock_model.specs.Contents.{records_of, records_owned}

@@ -14,11 +14,11 @@ use Rattle.cf_types.specs.declared.resources.Resource.{Resource}
 use Rattle.cf_types.specs.Resources.{same_part}
 use Rattle.cf_types.proofs.ResourceLaws.{same_part-eq, same_part-refl}
 use Rattle.engine_api.proofs.FrontLaws.{FrontLaws, fronts}
-use Rattle.list_laws.specs.Pairwise.{pairwise}
-use Rattle.list_laws.specs.Insertions.{insertion}
-use Rattle.list_laws.proofs.FilterLaws.{filter_all, filter_swap, all_from_none}
-use Rattle.list_laws.proofs.PairwiseLaws.{pairwise-filter, pairwise_front}
-use Rattle.list_laws.proofs.KeyLaws as keys
+use Rattle.cf_lists.specs.Pairwise.{pairwise}
+use Rattle.cf_lists.specs.Insertions.{insertion}
+use Rattle.cf_lists.proofs.FilterLaws.{filter_all, filter_swap, all_from_none}
+use Rattle.cf_lists.proofs.PairwiseLaws.{pairwise-filter, pairwise_front}
+use Rattle.cf_lists.proofs.KeyLaws as keys
 use Rattle.lock_queue.specs.declared.waiters.Waiter.{Waiter}
 use Rattle.lock_queue.specs.Waiters.{is_on, is_waiter, waiters_of, waiters_without, waiters_with, stands_before, are_apart, IsQueue}
 use Rattle.lock_model.specs.declared.items.LockItem.{LockItem}

@@ -6,8 +6,8 @@ use Rattle.std.proofs.lemmas.List.Elements.{All-contains}
 use Rattle.std.proofs.lemmas.List.Sums.{AllPass-from_list_all}
 use Rattle.cf_types.specs.declared.forms.Caps.{Caps}
 use Rattle.cf_types.specs.Resources.{same_resource}
-use Rattle.list_laws.specs.Pairwise.{pairwise}
-use Rattle.list_laws.proofs.FilterLaws.{list_all_weaker, list_all_both}
+use Rattle.cf_lists.specs.Pairwise.{pairwise}
+use Rattle.cf_lists.proofs.FilterLaws.{list_all_weaker, list_all_both}
 use Rattle.lock_model.specs.Interests.{Interest, are_compatible, owners_agree}
 use Rattle.lock_model.specs.Contents.{Content, IsContent, OwnersAreCompatible}
 use Rattle.lock_model.proofs.InterestLaws.{agree_sym}

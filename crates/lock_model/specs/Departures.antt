@@ -4,7 +4,7 @@ use Rattle.std.specs.List.{list_any}
 use Rattle.cf_types.specs.declared.numbers.ConnId.{ConnId}
 use Rattle.cf_types.specs.declared.resources.Resource.{Resource}
 use Rattle.cf_types.specs.Resources.{same_resource, resource_before}
-use Rattle.list_laws.specs.Insertions.{insertion}
+use Rattle.cf_lists.specs.Insertions.{insertion}
 use Rattle.lock_table.specs.Holdings.{in_retention_of}
 use Rattle.lock_queue.specs.Waiters as queue
 use Rattle.lock_queue.specs.Waiters.{waiters_without_conn}

@@ -5,8 +5,8 @@ use Rattle.std.specs.List.{list_any, list_all}
 use Rattle.cf_types.specs.declared.numbers.ConnId.{ConnId}
 use Rattle.cf_types.specs.declared.resources.Resource.{Resource}
 use Rattle.cf_types.specs.Resources.{same_resource, resource_up_to}
-use Rattle.list_laws.specs.Pairwise.{pairwise}
-use Rattle.list_laws.specs.Insertions.{insertion}
+use Rattle.cf_lists.specs.Pairwise.{pairwise}
+use Rattle.cf_lists.specs.Insertions.{insertion}
 use Rattle.lock_table.specs.declared.holdings.Held.{Held}
 use Rattle.lock_table.specs.Holdings.{is_on, is_interest, in_order, are_apart}
 

@@ -1,3 +1,5 @@
+pub use Rattle.lock_queue.specs as LockQueue
+pub use Rattle.lock_table.specs as LockTable
 pub mod Interests
 pub mod Contents
 pub mod Grants

@@ -6,3 +6,5 @@
 mod items;
 
 pub use items::LockItem;
+pub use lock_queue as queues;
+pub use lock_table as tables;

@@ -7,9 +7,9 @@ use Rattle.std.proofs.lemmas.Bool.{and_from, and_parts, not-true, false≢true}
 use Rattle.cf_types.specs.declared.resources.Resource.{Resource}
 use Rattle.cf_types.specs.Resources.{resource_cmp, same_resource, resource_before, resource_up_to}
 use Rattle.cf_types.proofs.ResourceLaws.{resource_cmp_total, same_part_comm, same_resource-eq}
-use Rattle.list_laws.proofs.FilterLaws.{list_all_weaker, list_all-filter_same, list_all_always}
-use Rattle.list_laws.proofs.PairwiseLaws.{FindsPlace, pairwise-filter, pairwise-insertion, pairwise-insertion_any}
-use Rattle.table_entries.proofs.KeyLaws.{resource_order}
+use Rattle.cf_lists.proofs.FilterLaws.{list_all_weaker, list_all-filter_same, list_all_always}
+use Rattle.cf_lists.proofs.PairwiseLaws.{FindsPlace, pairwise-filter, pairwise-insertion, pairwise-insertion_any}
+use Rattle.cf_lists.proofs.EntryKeyLaws.{resource_order}
 use Rattle.lock_queue.specs.Tables.{is_ahead}
 use Rattle.lock_queue.specs.declared.waiters.Waiter.{Waiter}
 use Rattle.lock_queue.specs.Waiters.{is_on, is_waiter, waiters_with, waiters_without, stands_before, are_apart, IsQueue}

@@ -2,7 +2,7 @@
 use Rattle.std.specs.Prelude.{ℕ, Bool, true, false, map, not, ◌&&◌, List}
 use Rattle.cf_types.specs.declared.resources.Resource.{Resource}
 use Rattle.cf_types.specs.Resources.{Part, same_resource}
-use Rattle.table_entries.specs.Tables.{seen_in, IsTable, resource_by}
+use Rattle.cf_lists.specs.Tables.{seen_in, IsTable, resource_by}
 use Rattle.lock_queue.specs.declared.waiters.Waiter.{Waiter}
 
 abbrev pub part_of : Waiter → Part

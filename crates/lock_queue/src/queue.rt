@@ -1,22 +1,22 @@
 ghost use Rattle.std.specs.Prelude.{◌≡◌, ◌+◌, ◌≤◌, ◌<◌, ◌&&◌, ◌||◌, ◌++◌, ◌^◌, [], map, IfOk, OnOk, IsTrue, not, false, length, filter, position, option_map, slice_get, slice_index_or, replicate};
 ghost use Rattle.std.specs.List.{prefix_len};
 ghost use Rattle.std.specs.LinkedList.{linked_list_len};
-ghost use Rattle.list_laws.specs.Pairwise.{pairwise};
-ghost use Rattle.list_laws.specs.Insertions.{insertion};
-ghost use Rattle.table_entries.specs.Bins.{joined};
+ghost use Rattle.cf_lists.specs.Pairwise.{pairwise};
+ghost use Rattle.cf_lists.specs.Insertions.{insertion};
+ghost use Rattle.cf_lists.specs.Bins.{joined};
 ghost use Rattle.std.specs.Prelude.{◌∷◌, ◌-◌, Some, None, MatchOption, is_some, drop, cond};
 ghost use Rattle.std.specs.List.{list_all};
 ghost use Rattle.cf_types.specs.Resources.{resource_before};
-ghost use Rattle.table_entries.specs.Tables.{slot_in, placed_on, later_of, last_of};
+ghost use Rattle.cf_lists.specs.Tables.{slot_in, placed_on, later_of, last_of};
 ghost use Rattle.lock_queue.specs.Waiters.{is_on, is_waiter, first_of, waiter_of, waiters_of, waits, is_by, recorded_by, recorded_of, recorded_in, waiters_without, waiters_without_conn, stands_before, waiters_with, place_of, are_apart, IsQueue};
 ghost use Rattle.lock_queue.specs.Tables.{part_of, resource_of, waiters_in, is_ahead, AreEntries, one_where};
 
 use crate::waiters::Waiter;
+use cf_lists::{copy_list, cut, fill, insert_copy, roll, start_of};
 use cf_types::{ConnId, Name16, NoMemory, Resource};
 use std::alloc::Global;
 use std::collections::LinkedList;
 use std::marker::Model;
-use table_entries::{copy_list, cut, fill, insert_copy, roll, start_of};
 
 // The waiters of a table entry, and nodes that hold nothing yet.
 type Waiting = LinkedList<Waiter>;

@@ -12,18 +12,18 @@ use Rattle.std.proofs.lemmas.Map.Entries.{none_past_head}
 use Rattle.cf_types.specs.declared.numbers.ConnId.{ConnId}
 use Rattle.cf_types.specs.Resources.{Part, same_part}
 use Rattle.cf_types.proofs.ResourceLaws.{same_part-eq, same_part-refl}
-use Rattle.list_laws.specs.Insertions.{insertion}
-use Rattle.list_laws.specs.Pairwise.{pairwise}
-use Rattle.list_laws.proofs.FilterLaws.{filter_all, filter_absorbed, filter-filter, filter_nothing, filter_swap, any_is_found, all_from_none, list_all_always, list_all_weaker}
-use Rattle.list_laws.proofs.ImageLaws.{map-filtered}
-use Rattle.list_laws.proofs.InsertionLaws.{filter-insertion_out}
-use Rattle.list_laws.proofs.KeyLaws.{length_without}
-use Rattle.list_laws.proofs.PairwiseLaws.{pairwise-filter, pairwise-insertion, pairwise-insertion_any}
-use Rattle.table_entries.specs.Bins.{arranged, in_turn}
-use Rattle.table_entries.proofs.BinLaws.{arranged_in_turn, keyed-arranged}
-use Rattle.table_entries.proofs.SortLaws.{arranged-filter}
-use Rattle.list_laws.proofs.TieLaws.{ordered_filters}
-use Rattle.table_entries.proofs.ViewLaws.{length_arranged}
+use Rattle.cf_lists.specs.Insertions.{insertion}
+use Rattle.cf_lists.specs.Pairwise.{pairwise}
+use Rattle.cf_lists.proofs.FilterLaws.{filter_all, filter_absorbed, filter-filter, filter_nothing, filter_swap, any_is_found, all_from_none, list_all_always, list_all_weaker}
+use Rattle.cf_lists.proofs.ImageLaws.{map-filtered}
+use Rattle.cf_lists.proofs.InsertionLaws.{filter-insertion_out}
+use Rattle.cf_lists.proofs.KeyLaws.{length_without}
+use Rattle.cf_lists.proofs.PairwiseLaws.{pairwise-filter, pairwise-insertion, pairwise-insertion_any}
+use Rattle.cf_lists.specs.Bins.{arranged, in_turn}
+use Rattle.cf_lists.proofs.BinLaws.{arranged_in_turn, keyed-arranged}
+use Rattle.cf_lists.proofs.SortLaws.{arranged-filter}
+use Rattle.cf_lists.proofs.TieLaws.{ordered_filters}
+use Rattle.cf_lists.proofs.ViewLaws.{length_arranged}
 use Rattle.lock_record.specs.declared.recorded.Record.{Record}
 use Rattle.lock_record.specs.Book.{Key, key_eq, key_of, part_at, recorded, records_in, Writes}
 use Rattle.lock_record.specs.Recorded.{is_of, record_of, has_record, part_of, part_before, records_with, records_without, records_without_conn, are_apart, AreRecords}

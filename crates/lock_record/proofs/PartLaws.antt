@@ -4,8 +4,8 @@ use Rattle.std.proofs.lemmas.Bool.{and_from, false≢true}
 use Rattle.std.proofs.lemmas.Bool.Decides.{nat_tests}
 use Rattle.cf_types.specs.Resources.{Part, resource_before, same_part, same_resource}
 use Rattle.cf_types.proofs.ResourceLaws.{same_part-eq, same_part-refl, same_resource-eq, same_resource-refl}
-use Rattle.table_entries.specs.Bins.{IsKeyOrder}
-use Rattle.table_entries.proofs.KeyLaws.{resource_order}
+use Rattle.cf_lists.specs.Bins.{IsKeyOrder}
+use Rattle.cf_lists.proofs.EntryKeyLaws.{resource_order}
 use Rattle.lock_record.specs.Recorded.{part_before}
 
 never : (b s : Bool) (n : ℕ) → b ≡ false → b || (s && nat_lt n n) ≡ false

@@ -8,14 +8,14 @@ use Rattle.std.proofs.lemmas.Bool.Decides.{nat_tests}
 use Rattle.cf_types.specs.declared.numbers.ConnId.{ConnId}
 use Rattle.cf_types.specs.declared.resources.Resource.{Resource}
 use Rattle.cf_types.specs.Resources.{resource_before, same_part, same_resource}
-use Rattle.list_laws.specs.Insertions.{insertion}
-use Rattle.list_laws.specs.Pairwise.{pairwise}
-use Rattle.list_laws.proofs.FilterLaws.{list_all-filter_same}
-use Rattle.list_laws.proofs.InsertionLaws.{list_all-insertion, list_any-insertion}
-use Rattle.table_entries.specs.Bins.{arranged, in_turn}
-use Rattle.table_entries.proofs.KeyLaws.{resource_order}
-use Rattle.table_entries.proofs.PlaceLaws.{insertion_agree}
-use Rattle.table_entries.proofs.SortLaws.{arranged-filter, sorted_is}
+use Rattle.cf_lists.specs.Insertions.{insertion}
+use Rattle.cf_lists.specs.Pairwise.{pairwise}
+use Rattle.cf_lists.proofs.FilterLaws.{list_all-filter_same}
+use Rattle.cf_lists.proofs.InsertionLaws.{list_all-insertion, list_any-insertion}
+use Rattle.cf_lists.specs.Bins.{arranged, in_turn}
+use Rattle.cf_lists.proofs.EntryKeyLaws.{resource_order}
+use Rattle.cf_lists.proofs.EntryPlaceLaws.{insertion_agree}
+use Rattle.cf_lists.proofs.SortLaws.{arranged-filter, sorted_is}
 use Rattle.lock_record.specs.declared.recorded.Record.{Record}
 use Rattle.lock_record.specs.Book.{Key, recorded, records_in}
 use Rattle.lock_record.specs.Recorded.{is_of, is_part_by, part_of, part_before, resource_at, resource_of, resources_by}

@@ -5,7 +5,7 @@ use Rattle.std.specs.Map.{keys_of, lookup}
 use Rattle.std.specs.Cmp.Lexicographic.{pointwise}
 use Rattle.indexmap.specs.IndexMap.{spare}
 use Rattle.cf_types.specs.Resources.{Part}
-use Rattle.table_entries.specs.Bins.{arranged}
+use Rattle.cf_lists.specs.Bins.{arranged}
 use Rattle.lock_record.specs.declared.recorded.Record.{Record}
 use Rattle.lock_record.specs.declared.records.Records.TheInside.{Inside}
 use Rattle.lock_record.specs.Recorded.{part_of, part_before}

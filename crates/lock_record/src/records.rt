@@ -2,7 +2,7 @@ ghost use Rattle.std.specs.Prelude.{Bool, ◌≡◌, ◌+◌, ◌≤◌, ◌<◌
 ghost use Rattle.std.specs.List.{IsDistinct, list_any};
 ghost use Rattle.std.specs.Map.{keys_of};
 ghost use Rattle.indexmap.specs.IndexMap.{spare};
-ghost use Rattle.table_entries.specs.Bins.{arranged};
+ghost use Rattle.cf_lists.specs.Bins.{arranged};
 ghost use Rattle.lock_record.specs.declared.recorded.Record.{Record};
 ghost use Rattle.lock_record.specs.Book.{Writes, key_eq, part_at, records_in};
 ghost use Rattle.lock_record.specs.Recorded.{is_of, is_part_by, record_of, has_record, part_of, part_before, resource_at, resources_by, records_without, records_with, records_of, records_without_conn, AreRecords};

@@ -11,10 +11,10 @@ use Rattle.cf_types.specs.Resources.{same_part, same_resource}
 use Rattle.cf_types.specs.ConnSets.{is_member, with_member, without_member}
 use Rattle.cf_types.proofs.ResourceLaws.{same_part-eq, same_part-refl}
 use Rattle.lock_table.proofs.MaskLaws.{is_member-with_member_same, is_member-with_member_other, is_member-without_member_same, is_member-without_member_other}
-use Rattle.list_laws.specs.Pairwise.{pairwise}
-use Rattle.list_laws.proofs.FilterLaws.{filter_all, filter_none, all_from_none, any-filter, list_any-map, list_all_weaker}
-use Rattle.list_laws.proofs.KeyLaws.{remove_placed}
-use Rattle.table_entries.proofs.SpotLaws.{no_place, any_kept, set_placed, map_placed}
+use Rattle.cf_lists.specs.Pairwise.{pairwise}
+use Rattle.cf_lists.proofs.FilterLaws.{filter_all, filter_none, all_from_none, any-filter, list_any-map, list_all_weaker}
+use Rattle.cf_lists.proofs.KeyLaws.{remove_placed}
+use Rattle.cf_lists.proofs.EntrySpotLaws.{no_place, any_kept, set_placed, map_placed}
 use Rattle.lock_table.specs.declared.holdings.Held.{Held}
 use Rattle.lock_table.specs.Holdings.{is_by, is_interest, are_apart, owners_without, owners_without_active, in_state, in_retention, in_retention_of}
 use Rattle.lock_table.specs.Tables.{part_of}

@@ -5,8 +5,8 @@ use Rattle.cf_types.specs.declared.numbers.ConnId.{ConnId}
 use Rattle.cf_types.specs.declared.resources.Resource.{Resource}
 use Rattle.cf_types.specs.Resources.{resource_up_to}
 use Rattle.cf_types.proofs.ResourceLaws.{resource_up_to-trans, resource_up_to-either, same_part_comm}
-use Rattle.list_laws.proofs.FilterLaws.{list_all_weaker, list_all-filter_same, list_all_always}
-use Rattle.list_laws.proofs.PairwiseLaws.{FindsPlace, pairwise-filter, pairwise-insertion, pairwise-insertion_any, pairwise-map}
+use Rattle.cf_lists.proofs.FilterLaws.{list_all_weaker, list_all-filter_same, list_all_always}
+use Rattle.cf_lists.proofs.PairwiseLaws.{FindsPlace, pairwise-filter, pairwise-insertion, pairwise-insertion_any, pairwise-map}
 use Rattle.lock_table.specs.declared.holdings.Held.{Held}
 use Rattle.lock_table.specs.Holdings.{is_interest, owners_with, owners_without, in_state, in_order, are_apart, IsOwners}
 

@@ -2,7 +2,7 @@
 use Rattle.std.specs.Prelude.{ℕ, Bool, true, false, List, map}
 use Rattle.cf_types.specs.declared.resources.Resource.{Resource}
 use Rattle.cf_types.specs.Resources.{Part}
-use Rattle.table_entries.specs.Tables.{seen_in, IsTable, resource_by}
+use Rattle.cf_lists.specs.Tables.{seen_in, IsTable, resource_by}
 use Rattle.lock_table.specs.declared.holdings.Held.{Held}
 
 abbrev pub part_of : Held → Part

@@ -5,23 +5,23 @@ ghost use Rattle.std.specs.List.{list_any};
 ghost use Rattle.std.specs.LinkedList.{linked_list_len};
 ghost use Rattle.cf_types.specs.ConnSets.{is_member, with_member, without_member};
 ghost use Rattle.std.specs.Iterator.{YieldsFirstRef, item_count};
-ghost use Rattle.list_laws.specs.Pairwise.{pairwise};
+ghost use Rattle.cf_lists.specs.Pairwise.{pairwise};
 ghost use Rattle.lock_table.specs.declared.holdings.Held.{Held};
 ghost use Rattle.lock_table.specs.Holdings.{is_by, is_interest, are_apart, owners_of, owners_without, owners_without_active, owners_in_state, owners_retained, owners_retained_of, in_retention_of, has_interest};
 ghost use Rattle.cf_types.specs.Resources.{resource_before};
 ghost use Rattle.cf_types.specs.declared.limits.TheConstants.{SET_NUMBERS};
 ghost use Rattle.lock_table.specs.Tables.{part_of};
-ghost use Rattle.table_entries.specs.Tables.{later_of, last_of};
+ghost use Rattle.cf_lists.specs.Tables.{later_of, last_of};
 ghost use Rattle.lock_table.specs.EntryView.{owners_left};
 ghost use Rattle.lock_table.specs.Masks.{IsMasked};
 
 use crate::holdings::Held;
+use cf_lists::{copy_list, cut, insert, replace, turn};
 use cf_types::limits::SET_NUMBERS;
 use cf_types::{ConnId, ConnSet, NoMemory, Resource};
 use std::alloc::Global;
 use std::collections::{LinkedList, linked_list};
 use std::marker::Model;
-use table_entries::{copy_list, cut, insert, replace, turn};
 
 /// Nodes of entries that hold nothing yet.
 pub(crate) type Spare = LinkedList<Held>;

@@ -1,23 +1,23 @@
 ghost use Rattle.std.specs.Prelude.{◌≡◌, ◌+◌, ◌≤◌, ◌<◌, ◌++◌, ◌∷◌, [], filter, IfOk, OnOk, length, map, option_map, slice_get, false, slice_index_or, replicate};
 ghost use Rattle.std.specs.LinkedList.{linked_list_len};
 ghost use Rattle.cf_types.specs.Resources.{resource_up_to};
-ghost use Rattle.list_laws.specs.Insertions.{insertion};
+ghost use Rattle.cf_lists.specs.Insertions.{insertion};
 ghost use Rattle.std.specs.Prelude.{Some, None, MatchOption, IsTrue, not, is_some, ◌-◌};
 ghost use Rattle.std.specs.List.{list_all};
 ghost use Rattle.cf_types.specs.Resources.{resource_before};
 ghost use Rattle.lock_table.specs.Holdings.{is_by, owners_without_active, owners_retained_of, owners_of, has_interest, owners_without, owners_with, owners_in_state, owners_retained, IsOwners};
 ghost use Rattle.lock_table.specs.EntryView.{owners_left};
-ghost use Rattle.table_entries.specs.Bins.{joined};
-ghost use Rattle.table_entries.specs.Tables.{slot_in, placed_on, last_of};
+ghost use Rattle.cf_lists.specs.Bins.{joined};
+ghost use Rattle.cf_lists.specs.Tables.{slot_in, placed_on, last_of};
 ghost use Rattle.lock_table.specs.Tables.{part_of, resource_of, owners_in, AreEntries, one_where};
 
 use crate::entry::{Entry, Owners, Spare};
 use crate::holdings::Held;
+use cf_lists::{fill, start_of};
 use cf_types::{ConnId, Name16, NoMemory, Resource};
 use std::alloc::Global;
 use std::collections::LinkedList;
 use std::marker::Model;
-use table_entries::{fill, start_of};
 
 /// The interests of a lock structure. Contracts see them in the order of resources and, of one
 /// resource, in the order in which they came to stand, with how many more there is room for.

@@ -2,19 +2,19 @@
 use Rattle.std.proofs.Common.{◌≡◌, ℕ, ◌≤◌, Bool, true, false, List, [], ◌∷◌, inl, inr, refl, sym, ap, subst, ◌∙◌, arith}
 use Rattle.std.specs.Prelude.{Option, None, Some, Result, Ok, Err, IfOk, filter}
 use Rattle.std.proofs.lemmas.Bool.{cases_lt}
-use Rattle.cf_link.specs.declared.links.Links.{Links}
-use Rattle.cf_link.specs.declared.steady.Steady.{Steady}
-use Rattle.cf_link.specs.Links.{AreAsked, IsAskedAll, link_at}
-use Rattle.cf_link.specs.Tells.{AnswersAsTold}
-use Rattle.cf_types.specs.declared.numbers.CfId.{CfId}
-use Rattle.cf_types.specs.declared.numbers.ConnId.{ConnId}
-use Rattle.cf_types.specs.Forms.{IsFacility}
-use Rattle.engine_api.specs.declared.asks.Ask.{Ask}
-use Rattle.engine_api.specs.declared.asks.Reply.{Reply}
-use Rattle.engine_api.specs.LinkAsks.{Asks, has, reached_in, marks_of, answers_to, links_asked}
-use Rattle.engine_api.specs.Machine.{step}
-use Rattle.engine_api.specs.Meaning.{Meaning}
-use Rattle.engine_api.proofs.AskLaws.{filter_agreed}
+use Rattle.struct_machine.specs.CfLink.declared.links.Links.{Links}
+use Rattle.struct_machine.specs.CfLink.declared.steady.Steady.{Steady}
+use Rattle.struct_machine.specs.CfLink.Links.{AreAsked, IsAskedAll, link_at}
+use Rattle.struct_machine.specs.CfLink.Tells.{AnswersAsTold}
+use Rattle.struct_machine.specs.CfTypes.declared.numbers.CfId.{CfId}
+use Rattle.struct_machine.specs.CfTypes.declared.numbers.ConnId.{ConnId}
+use Rattle.struct_machine.specs.CfTypes.Forms.{IsFacility}
+use Rattle.struct_machine.specs.EngineApi.declared.asks.Ask.{Ask}
+use Rattle.struct_machine.specs.EngineApi.declared.asks.Reply.{Reply}
+use Rattle.struct_machine.specs.EngineApi.LinkAsks.{Asks, has, reached_in, marks_of, answers_to, links_asked}
+use Rattle.struct_machine.specs.EngineApi.Machine.{step}
+use Rattle.struct_machine.specs.EngineApi.Meaning.{Meaning}
+use Rattle.struct_machine.proofs.EngineApi.AskLaws.{filter_agreed}
 use Rattle.struct_machine.specs.declared.marks.Mark.{Mark}
 use Rattle.struct_machine.specs.StructureView.{StructureView}
 use Rattle.struct_machine.specs.Turns.{IsTurn, behind_marks}

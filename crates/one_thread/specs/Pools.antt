@@ -1,8 +1,8 @@
 -- The form of the structure.
 use Rattle.std.specs.Prelude.{◌≡◌}
-use Rattle.cf_types.specs.declared.forms.Kind.TheVariants as kind
-use Rattle.cf_types.specs.declared.forms.StrForm.{StrForm}
-use Rattle.cf_types.specs.Forms.{IsForm}
+use Rattle.struct_machine.specs.CfTypes.declared.forms.Kind.TheVariants as kind
+use Rattle.struct_machine.specs.CfTypes.declared.forms.StrForm.{StrForm}
+use Rattle.struct_machine.specs.CfTypes.Forms.{IsForm}
 
 pub record IsPoolForm (form : StrForm) : Type 0 where
   pub formed : IsForm form

@@ -5,14 +5,14 @@
 mod pool;
 mod shown;
 
-ghost use Rattle.engine_api.specs.Asking.{MayAsk};
+ghost use Rattle.struct_machine.specs.EngineApi.Asking.{MayAsk};
 
-use cf_types::{CacheCmd, ConnId, Name16, NoMemory, ShellCmd, parse_body};
-use engine_api::Ask;
 use pool::{Pool, ask_pool, start_pool};
 use shown::{Fault, print_bits, print_reply};
 use std::alloc::Global;
 use struct_machine::Changed;
+use struct_machine::api::Ask;
+use struct_machine::types::{CacheCmd, ConnId, Name16, NoMemory, ShellCmd, parse_body};
 
 /// The members, by their numbers as connectors.
 const A: ConnId = ConnId(1);

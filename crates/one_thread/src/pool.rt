@@ -1,19 +1,19 @@
 //! The cache structure that the members share.
 ghost use Rattle.std.specs.Prelude.{◌≡◌, IfOk, OnErr, OnOk, IsTrue};
-ghost use Rattle.cache_model.specs.Meaning.{cache_meaning};
-ghost use Rattle.engine_api.specs.Asking.{MayAsk};
-ghost use Rattle.engine_api.specs.Machine.{step};
+ghost use Rattle.cache_core.specs.CacheModel.Meaning.{cache_meaning};
+ghost use Rattle.struct_machine.specs.EngineApi.Asking.{MayAsk};
+ghost use Rattle.struct_machine.specs.EngineApi.Machine.{step};
 ghost use Rattle.struct_machine.specs.Changes.{Names};
 ghost use Rattle.struct_machine.specs.StructureView.{stands_at};
 ghost use Rattle.one_thread.specs.Pools.{IsPoolForm};
 
 use cache_core::CacheEngine;
-use cf_link::{Links, Steady};
-use cf_types::{
+use std::alloc::Global;
+use struct_machine::api::{Ask, Reply};
+use struct_machine::links::{Links, Steady};
+use struct_machine::types::{
     CacheCmd, CacheReply, Caps, CfId, ConnId, Kind, Listing, Name16, NoMemory, Pref, StrForm,
 };
-use engine_api::{Ask, Reply};
-use std::alloc::Global;
 use struct_machine::{Changed, Machine};
 
 /// A cache structure on one thread, over links that are never down.

@@ -1,9 +1,11 @@
 //! What is printed of a call.
-use cf_types::{BitChange, Body, CacheReply, CfId, ConnId, Name16, NoMemory, Refusal, ShellReply};
-use engine_api::Reply;
 use std::io;
 use std::str::from_utf8;
 use struct_machine::Changed;
+use struct_machine::api::Reply;
+use struct_machine::types::{
+    BitChange, Body, CacheReply, CfId, ConnId, Name16, NoMemory, Refusal, ShellReply,
+};
 use thiserror::Error;
 
 /// Why the program ends early.

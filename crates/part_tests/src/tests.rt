@@ -1,8 +1,10 @@
 mod caches;
 mod data;
+mod engines;
 mod lists;
 mod loads;
 mod locks;
+mod machines;
 mod pools;
 mod reading;
 mod scripts;

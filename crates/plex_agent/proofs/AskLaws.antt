@@ -2,17 +2,17 @@
 use Rattle.std.proofs.Common.{◌≡◌, ◌≢◌, ℕ, suc, ◌<◌, ◌≤◌, List, [], ◌∷◌, ◌++◌, length, map, Option, refl, sym, ap, subst, ◌∙◌, append-nil, append_assoc, arith}
 use Rattle.std.specs.Prelude.{IfSome}
 use Rattle.std.proofs.lemmas.List.{set-set}
-use Rattle.cf_types.specs.declared.forms.Kind.{Kind}
-use Rattle.cf_types.specs.declared.numbers.StrNo.{StrNo}
-use Rattle.struct_cell.specs.declared.refused.CallRefused.{CallRefused}
-use Rattle.struct_cell.specs.declared.refused.CallRefused.TheVariants as refused
-use Rattle.plex_script.specs.declared.agents.Step.{Step}
-use Rattle.plex_script.specs.declared.agents.Step.TheVariants as step
-use Rattle.plex_script.specs.declared.scripts.AnyAsk.{AnyAsk}
-use Rattle.plex_script.specs.declared.transcripts.AgentEnd.{AgentEnd}
-use Rattle.plex_script.specs.declared.transcripts.AgentEnd.TheVariants as ended
-use Rattle.plex_script.specs.declared.transcripts.Shown.{Shown}
-use Rattle.plex_script.specs.Agent.{most_asks, step_after, IsReady}
+use Rattle.plex_board.specs.CfTypes.declared.forms.Kind.{Kind}
+use Rattle.plex_board.specs.CfTypes.declared.numbers.StrNo.{StrNo}
+use Rattle.plex_board.specs.StructCell.declared.refused.CallRefused.{CallRefused}
+use Rattle.plex_board.specs.StructCell.declared.refused.CallRefused.TheVariants as refused
+use Rattle.plex_board.specs.PlexScript.declared.agents.Step.{Step}
+use Rattle.plex_board.specs.PlexScript.declared.agents.Step.TheVariants as step
+use Rattle.plex_board.specs.PlexScript.declared.scripts.AnyAsk.{AnyAsk}
+use Rattle.plex_board.specs.PlexScript.declared.transcripts.AgentEnd.{AgentEnd}
+use Rattle.plex_board.specs.PlexScript.declared.transcripts.AgentEnd.TheVariants as ended
+use Rattle.plex_board.specs.PlexScript.declared.transcripts.Shown.{Shown}
+use Rattle.plex_board.specs.PlexScript.Agent.{most_asks, step_after, IsReady}
 use Rattle.plex_board.specs.Passes.{PassShown, with_call}
 use Rattle.plex_board.specs.Cells.{CellShown}
 use Rattle.plex_board.specs.Desks.{DeskShown, pass_at, with_pass, IsLaterOn}
@@ -20,7 +20,7 @@ use Rattle.plex_board.specs.Boards.{BoardShown, IsDeskOf, cell_on}
 use Rattle.plex_board.proofs.DeskLaws.{pass_at-with_pass_same, with_pass-pass_at, desk-length}
 use Rattle.plex_board.specs.Turns.{AtWork, Asks, Steps, EndsAt, Halts, call_item}
 use Rattle.plex_agent.specs.Calls.{IsAsked, at_work, end_of}
-use Rattle.plex_script.proofs.StepLaws.{asks_some, fewer_asks, ready_after}
+use Rattle.plex_board.proofs.PlexScript.StepLaws.{asks_some, fewer_asks, ready_after}
 use Rattle.plex_agent.proofs.CellLaws.{some_is, cell_there}
 
 with_pass_twice : (on : StrNo) (first second : PassShown) (desk : DeskShown)

@@ -4,8 +4,8 @@ use Rattle.std.specs.Prelude.{IfSome, All}
 use Rattle.std.proofs.Math.Seq.{drop-cons}
 use Rattle.std.proofs.lemmas.List.Elements.{All-get_or}
 use Rattle.std.proofs.lemmas.Option.{get_or_from_slice_get}
-use Rattle.cf_types.specs.declared.numbers.ConnId.{ConnId}
-use Rattle.plex_script.specs.declared.scripts.Line.{Line}
+use Rattle.plex_board.specs.CfTypes.declared.numbers.ConnId.{ConnId}
+use Rattle.plex_board.specs.PlexScript.declared.scripts.Line.{Line}
 use Rattle.plex_board.specs.Boards.{BoardShown, cell_on}
 use Rattle.plex_board.specs.Turns.{AtWork, Turns, Departs}
 use Rattle.plex_board.specs.Callers.{IsLineFor, DoesLines, DepartsEach, lines_by}

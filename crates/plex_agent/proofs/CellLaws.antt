@@ -2,14 +2,14 @@
 use Rattle.std.proofs.Common.{◌≡◌, ℕ, ◌<◌, List, [], ◌∷◌, length, get_or, Some, None, Option, refl, sym, subst, ◌∙◌, slice_get, arith}
 use Rattle.std.specs.Prelude.{IfSome}
 use Rattle.std.proofs.lemmas.Option.{slice_get-get_or}
-use Rattle.cf_types.specs.declared.forms.Kind.{Kind}
-use Rattle.cf_types.specs.declared.numbers.ConnId.{ConnId}
-use Rattle.cf_types.specs.declared.numbers.StrNo.{StrNo}
-use Rattle.plex_script.specs.declared.agents.Step.{Step}
-use Rattle.plex_script.specs.declared.scripts.AnyAsk.{AnyAsk}
-use Rattle.plex_script.specs.Agent.{asked_by}
-use Rattle.run_model.specs.Types.{type_of_kind}
-use Rattle.run_model.specs.Kinds.{MayAskAny}
+use Rattle.plex_board.specs.CfTypes.declared.forms.Kind.{Kind}
+use Rattle.plex_board.specs.CfTypes.declared.numbers.ConnId.{ConnId}
+use Rattle.plex_board.specs.CfTypes.declared.numbers.StrNo.{StrNo}
+use Rattle.plex_board.specs.PlexScript.declared.agents.Step.{Step}
+use Rattle.plex_board.specs.PlexScript.declared.scripts.AnyAsk.{AnyAsk}
+use Rattle.plex_board.specs.PlexScript.Agent.{asked_by}
+use Rattle.plex_board.specs.Types.{type_of_kind}
+use Rattle.plex_board.specs.Kinds.{MayAskAny}
 use Rattle.plex_board.specs.Cells.{CellShown, IsAskOf}
 use Rattle.plex_board.specs.Boards.{BoardShown, cell_on}
 use Rattle.plex_agent.specs.Calls.{IsAskable}

@@ -1,19 +1,19 @@
 -- What the calls of a line owe, and what one of them does.
 use Rattle.std.specs.Prelude.{◌≡◌, ◌<◌, List, [], ◌∷◌, ◌++◌, Option, Some, IfSome}
-use Rattle.cf_types.specs.declared.forms.Kind.{Kind}
-use Rattle.cf_types.specs.declared.numbers.ConnId.{ConnId}
-use Rattle.cf_types.specs.declared.numbers.StrNo.{StrNo}
-use Rattle.cf_types.specs.Forms.{IsCaller}
-use Rattle.engine_api.specs.declared.told.Told.{Told}
-use Rattle.struct_cell.specs.declared.refused.CallRefused.{CallRefused}
-use Rattle.struct_cell.specs.declared.refused.CallRefused.TheVariants as refused
-use Rattle.plex_script.specs.declared.agents.Step.{Step}
-use Rattle.plex_script.specs.declared.scripts.AnyAsk.{AnyAsk}
-use Rattle.plex_script.specs.declared.transcripts.AgentEnd.{AgentEnd}
-use Rattle.plex_script.specs.declared.transcripts.AgentEnd.TheVariants as ended
-use Rattle.plex_script.specs.declared.transcripts.Shown.{Shown}
-use Rattle.plex_script.specs.Agent.{step_after, asked_by}
-use Rattle.run_model.specs.Kinds.{MayAskAny}
+use Rattle.plex_board.specs.CfTypes.declared.forms.Kind.{Kind}
+use Rattle.plex_board.specs.CfTypes.declared.numbers.ConnId.{ConnId}
+use Rattle.plex_board.specs.CfTypes.declared.numbers.StrNo.{StrNo}
+use Rattle.plex_board.specs.CfTypes.Forms.{IsCaller}
+use Rattle.plex_board.specs.EngineApi.declared.told.Told.{Told}
+use Rattle.plex_board.specs.StructCell.declared.refused.CallRefused.{CallRefused}
+use Rattle.plex_board.specs.StructCell.declared.refused.CallRefused.TheVariants as refused
+use Rattle.plex_board.specs.PlexScript.declared.agents.Step.{Step}
+use Rattle.plex_board.specs.PlexScript.declared.scripts.AnyAsk.{AnyAsk}
+use Rattle.plex_board.specs.PlexScript.declared.transcripts.AgentEnd.{AgentEnd}
+use Rattle.plex_board.specs.PlexScript.declared.transcripts.AgentEnd.TheVariants as ended
+use Rattle.plex_board.specs.PlexScript.declared.transcripts.Shown.{Shown}
+use Rattle.plex_board.specs.PlexScript.Agent.{step_after, asked_by}
+use Rattle.plex_board.specs.Kinds.{MayAskAny}
 use Rattle.plex_board.specs.declared.any_reply.AnyReply.{AnyReply}
 use Rattle.plex_board.specs.Passes.{with_call}
 use Rattle.plex_board.specs.Cells.{CellShown, IsAskOf}

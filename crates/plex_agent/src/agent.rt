@@ -1,20 +1,19 @@
 //! A caller's turns.
 ghost use Rattle.std.specs.Prelude.{◌≡◌, ◌<◌, IfSome, OnOk, OnErr, All, length};
-ghost use Rattle.cf_types.specs.Forms.{IsCaller, IsConnector};
-ghost use Rattle.plex_script.specs.declared.transcripts.AgentEnd.TheVariants as ended;
+ghost use Rattle.plex_board.specs.CfTypes.Forms.{IsCaller, IsConnector};
+ghost use Rattle.plex_board.specs.PlexScript.declared.transcripts.AgentEnd.TheVariants as ended;
 ghost use Rattle.plex_board.specs.Boards.{IsDeskOf, cell_on};
 ghost use Rattle.plex_board.specs.Turns.{Acts, Turns, Departs};
 ghost use Rattle.plex_agent.specs.Calls.{at_work};
 ghost use Rattle.plex_board.specs.Callers.{IsLineFor, Serves, Closes, no_items};
 
 use crate::calls::{LineCall, ask_all};
-use crate::gate::Gate;
 use crate::items::{is_done, take_items};
 use crate::vectors::{post, take, test, test_word};
-use cf_link::Link;
-use cf_types::{Listing, NoMemory, StrNo};
+use plex_board::links::Link;
+use plex_board::scripts::{Act, AgentEnd, Gate, Line, Shown, Step, Transcript, closing_ask};
+use plex_board::types::{Listing, NoMemory, StrNo};
 use plex_board::{Board, Desk};
-use plex_script::{Act, AgentEnd, Line, Shown, Step, Transcript, closing_ask};
 use std::alloc::Global;
 use std::sync::Wait;
 

@@ -1,23 +1,23 @@
 //! The calls of a line.
 ghost use Rattle.std.specs.Prelude.{◌≡◌, ◌≢◌, ◌<◌, ◌≤◌, ◌↔◌, IsTrue, IfSome, IfOk, IfErr, length};
 ghost use Rattle.std.specs.Option.{option_copied};
-ghost use Rattle.struct_cell.specs.declared.refused.CallRefused.TheVariants as refused;
-ghost use Rattle.plex_script.specs.declared.agents.Step.TheVariants as step;
-ghost use Rattle.plex_script.specs.declared.transcripts.AgentEnd.TheVariants as ended;
+ghost use Rattle.plex_board.specs.StructCell.declared.refused.CallRefused.TheVariants as refused;
+ghost use Rattle.plex_board.specs.PlexScript.declared.agents.Step.TheVariants as step;
+ghost use Rattle.plex_board.specs.PlexScript.declared.transcripts.AgentEnd.TheVariants as ended;
 ghost use Rattle.plex_board.specs.Desks.{pass_at, IsLaterOn};
 ghost use Rattle.plex_board.specs.Boards.{IsDeskOf, cell_on};
 ghost use Rattle.plex_board.specs.Turns.{Asks};
-ghost use Rattle.plex_script.specs.Agent.{IsReady};
+ghost use Rattle.plex_board.specs.PlexScript.Agent.{IsReady};
 ghost use Rattle.plex_agent.specs.Calls.{IsAskable, IsAsked, at_work, end_of};
 
 use crate::items::reserve_item;
-use cf_link::Link;
-use cf_types::StrNo;
+use plex_board::cells::CallRefused;
+use plex_board::links::Link;
+use plex_board::scripts::{AgentEnd, AnyAsk, Shown, Step};
+use plex_board::types::StrNo;
 use plex_board::{Board, Desk};
-use plex_script::{AgentEnd, AnyAsk, Shown, Step};
 use std::alloc::Global;
 use std::sync::Wait;
-use struct_cell::CallRefused;
 
 /// What a line asks of a structure: its call, where it is one.
 #[derive(Clone, Copy)]

@@ -4,8 +4,8 @@ ghost use Rattle.std.specs.Prelude.{◌≡◌, ◌<◌, OnOk, [], length};
 ghost use Rattle.std.specs.Vec.{vec_len, vec_capacity};
 ghost use Rattle.plex_board.specs.Turns.{is_done_as};
 
-use cf_types::{Listing, NoMemory};
-use plex_script::{AgentEnd, Shown, Transcript};
+use plex_board::scripts::{AgentEnd, Shown, Transcript};
+use plex_board::types::{Listing, NoMemory};
 use std::alloc::Global;
 use std::mem::replace;
 

@@ -1,15 +1,15 @@
 //! What a caller does without a call: tests of its own vector, and notes for others.
 ghost use Rattle.std.specs.Prelude.{◌≡◌, ◌<◌, OnOk, OnErr, IfSome, length};
-ghost use Rattle.plex_script.specs.declared.transcripts.AgentEnd.TheVariants as ended;
+ghost use Rattle.plex_board.specs.PlexScript.declared.transcripts.AgentEnd.TheVariants as ended;
 ghost use Rattle.plex_board.specs.Boards.{IsDeskOf, cell_on};
 ghost use Rattle.plex_board.specs.Turns.{Looks, LooksAtWord, Posts, Takes};
 ghost use Rattle.plex_agent.specs.Calls.{at_work};
 
 use crate::items::reserve_item;
-use cf_link::Link;
-use cf_types::{NoMemory, StrNo};
+use plex_board::links::Link;
+use plex_board::scripts::Shown;
+use plex_board::types::{NoMemory, StrNo};
 use plex_board::{Board, Desk};
-use plex_script::Shown;
 use std::sync::Wait;
 
 /// Tests a bit of the caller's own vector, and shows the answer, or that the bit isn't in the

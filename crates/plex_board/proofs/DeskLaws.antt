@@ -4,7 +4,7 @@ use Rattle.std.specs.Prelude.{Some}
 use Rattle.std.proofs.lemmas.List.{length-map, set-get_or, get_or-map}
 use Rattle.std.proofs.lemmas.Option.{slice_get_within, get_or_from_slice_get}
 use Rattle.std.proofs.lemmas.Simd.{map-map}
-use Rattle.cf_types.specs.declared.numbers.StrNo.{StrNo}
+use Rattle.plex_script.specs.CfTypes.declared.numbers.StrNo.{StrNo}
 use Rattle.plex_board.specs.Passes.{PassShown, unused_pass}
 use Rattle.plex_board.specs.Cells.{CellShown, IsPassOf}
 use Rattle.plex_board.specs.Desks.{DeskShown, Fixed, fixed_of, no_pass, pass_at, with_pass}

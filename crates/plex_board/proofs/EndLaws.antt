@@ -2,14 +2,14 @@
 use Rattle.std.proofs.Common.{◌≡◌, ℕ, ◌+◌, ◌≤◌, List, [], ◌∷◌, ◌++◌, length, refl, sym, ap, subst, ◌∙◌, arith, append_assoc}
 use Rattle.std.specs.Prelude.{All, Option, Some, option_to_list}
 use Rattle.std.proofs.lemmas.List.{append-nil}
-use Rattle.cf_link.specs.declared.links.Links.{Links}
+use Rattle.struct_cell.specs.CfLink.declared.links.Links.{Links}
 use Rattle.plex_script.specs.declared.asks.AnyHistory.{AnyHistory}
 use Rattle.plex_script.specs.Heard.{any_calls, any_length, own_calls}
 use Rattle.plex_board.specs.declared.any_pass.AnyPasses.{AnyPasses}
 use Rattle.plex_board.specs.Passes.{PassShown, passes_shown}
 use Rattle.plex_board.specs.Cells.{CellShown, IsAnyTold, own_replies}
-use Rattle.cf_link.specs.Links.{AreAsked}
-use Rattle.run_model.specs.Kinds.{IsAnyPoint, any_answers}
+use Rattle.struct_cell.specs.CfLink.Links.{AreAsked}
+use Rattle.plex_board.specs.Kinds.{IsAnyPoint, any_answers}
 use Rattle.plex_board.specs.Boards.{IsClosed, IsAccount, AreEachAsked, four_of}
 use Rattle.plex_board.specs.Rests.{HomeShown, home_shown, homes_shown, AreHomes, AreEnded}
 use Rattle.plex_board.proofs.OpenLaws.{ended-step}

@@ -4,9 +4,9 @@ use Rattle.std.specs.Prelude.{All, slice_get, Some}
 use Rattle.std.proofs.lemmas.List.{length-append, append-nil}
 use Rattle.std.proofs.lemmas.List.Elements.{All-push, All-nil, All-cons, All-head, All-tail}
 use Rattle.std.proofs.lemmas.Option.{slice_get_within}
-use Rattle.cf_types.specs.declared.numbers.ConnId.{ConnId}
+use Rattle.plex_script.specs.CfTypes.declared.numbers.ConnId.{ConnId}
 use Rattle.plex_script.specs.declared.asks.AnyHistory.{AnyHistory}
-use Rattle.run_model.specs.Types.{OfCache}
+use Rattle.plex_board.specs.Types.{OfCache}
 use Rattle.plex_board.specs.Passes.{PassShown}
 use Rattle.plex_board.specs.Cells.{CellShown, IsPassOf}
 use Rattle.plex_board.specs.Desks.{DeskShown, fixed_of}

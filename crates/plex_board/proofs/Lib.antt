@@ -1,3 +1,13 @@
+pub use Rattle.cache_core.proofs.CacheModel as CacheModel
+pub use Rattle.cache_core.proofs.CacheRegs as CacheRegs
+pub use Rattle.struct_cell.proofs.CfLink as CfLink
+pub use Rattle.cache_core.proofs.CfLists as CfLists
+pub use Rattle.plex_script.proofs.EngineApi as EngineApi
+pub use Rattle.list_core.proofs.ListModel as ListModel
+pub use Rattle.lock_core.proofs.LockModel as LockModel
+pub use Rattle.plex_script.proofs as PlexScript
+pub use Rattle.struct_cell.proofs.ShellLaws as ShellLaws
+pub use Rattle.struct_cell.proofs.VecWords as VecWords
 mod CallLaws
 mod ShownLaws
 pub mod UnusedPassLaws
@@ -15,3 +25,7 @@ pub mod EndLaws
 pub mod DealLaws
 pub mod StartLaws
 pub mod UnusedLaws
+pub mod WordLaws
+pub mod HistoryLaws
+pub mod ToldLaws
+pub mod SeamLaws

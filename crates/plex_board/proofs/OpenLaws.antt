@@ -3,14 +3,14 @@ use Rattle.std.proofs.Common.{◌≡◌, ℕ, ◌≤◌, List, [], ◌∷◌, �
 use Rattle.std.specs.Prelude.{All}
 use Rattle.std.proofs.lemmas.List.{map-append}
 use Rattle.std.proofs.lemmas.List.Elements.{All-push, All-nil, All-map}
-use Rattle.cf_types.specs.declared.forms.StrForm.{StrForm}
-use Rattle.cf_link.specs.declared.links.Links.{Links}
+use Rattle.plex_script.specs.CfTypes.declared.forms.StrForm.{StrForm}
+use Rattle.struct_cell.specs.CfLink.declared.links.Links.{Links}
 use Rattle.plex_script.specs.declared.asks.AnyHistory.{AnyHistory}
 use Rattle.plex_board.specs.declared.any_pass.AnyPasses.{AnyPasses}
-use Rattle.run_model.specs.Types.{StrType, type_of_kind}
+use Rattle.plex_board.specs.Types.{StrType, type_of_kind}
 use Rattle.plex_board.specs.Passes.{PassShown, unused_pass, passes_shown, type_of_passes, room_of}
 use Rattle.plex_board.specs.Cells.{CellShown, IsPassOf}
-use Rattle.vec_words.specs.Tokens.{WordTable}
+use Rattle.struct_cell.specs.VecWords.Tokens.{WordTable}
 use Rattle.plex_board.specs.Desks.{DeskShown}
 use Rattle.plex_board.specs.Boards.{IsClosed, IsAccount, IsStarted}
 use Rattle.plex_board.specs.Rests.{each_with, HomeShown, home_shown, homes_shown, IsHomeOf, AreHomes, AreEmpty, AreEnded}

@@ -4,8 +4,8 @@ use Rattle.std.specs.Prelude.{Some, None, Ok, Err, Option, Result, slice_get, If
 use Rattle.std.proofs.Math.Seq.{map-set_same}
 use Rattle.std.proofs.lemmas.List.{set-get_or}
 use Rattle.std.proofs.lemmas.Option.{slice_get_read, get_or_from_slice_get}
-use Rattle.cf_types.specs.declared.numbers.StrNo.{StrNo}
-use Rattle.engine_api.specs.declared.told.Told.{Told}
+use Rattle.plex_script.specs.CfTypes.declared.numbers.StrNo.{StrNo}
+use Rattle.plex_script.specs.EngineApi.declared.told.Told.{Told}
 use Rattle.plex_script.specs.declared.scripts.AnyAsk.{AnyAsk}
 use Rattle.struct_cell.specs.declared.refused.CallRefused.{CallRefused}
 use Rattle.struct_cell.specs.declared.refused.CallRefused.TheVariants as refused

@@ -7,27 +7,27 @@ use Rattle.std.specs.Prelude.{Option, is_some, option_map}
 use Rattle.std.specs.List.{range_with_len}
 use Rattle.std.proofs.lemmas.List.FromFn.{length-range_with_len}
 use Rattle.std.proofs.lemmas.List.Elements.{All-map, All-weaker}
-use Rattle.cf_link.specs.declared.links.Links.{Links}
-use Rattle.cf_link.specs.Links.{AreAsked}
-use Rattle.cf_types.specs.declared.forms.StrForm.{StrForm}
-use Rattle.cf_types.specs.declared.numbers.CfId.{CfId}
-use Rattle.cf_types.specs.declared.numbers.ConnId.{ConnId}
-use Rattle.engine_api.specs.declared.asks.Ask.{Ask}
-use Rattle.engine_api.specs.declared.asks.Reply.{Reply}
-use Rattle.engine_api.specs.declared.histories.Entry.{Entry}
-use Rattle.engine_api.specs.Meaning.{Meaning}
-use Rattle.engine_api.specs.History.{Call, calls, own}
-use Rattle.list_laws.proofs.ImageLaws.{map-filtered}
+use Rattle.struct_cell.specs.CfLink.declared.links.Links.{Links}
+use Rattle.struct_cell.specs.CfLink.Links.{AreAsked}
+use Rattle.plex_script.specs.CfTypes.declared.forms.StrForm.{StrForm}
+use Rattle.plex_script.specs.CfTypes.declared.numbers.CfId.{CfId}
+use Rattle.plex_script.specs.CfTypes.declared.numbers.ConnId.{ConnId}
+use Rattle.plex_script.specs.EngineApi.declared.asks.Ask.{Ask}
+use Rattle.plex_script.specs.EngineApi.declared.asks.Reply.{Reply}
+use Rattle.plex_script.specs.EngineApi.declared.histories.Entry.{Entry}
+use Rattle.plex_script.specs.EngineApi.Meaning.{Meaning}
+use Rattle.plex_script.specs.EngineApi.History.{Call, calls, own}
+use Rattle.cache_core.proofs.CfLists.ImageLaws.{map-filtered}
 use Rattle.plex_script.specs.declared.scripts.AnyAsk.{AnyAsk}
 use Rattle.plex_script.specs.Heard.{AnyCall, any_call, call_numbered, own_calls}
-use Rattle.vec_words.specs.declared.logged.Sight.{Sight}
-use Rattle.vec_words.specs.Tokens.{WordTable, PassSeen, new_pass}
+use Rattle.struct_cell.specs.VecWords.declared.logged.Sight.{Sight}
+use Rattle.struct_cell.specs.VecWords.Tokens.{WordTable, PassSeen, new_pass}
 use Rattle.struct_cell.specs.declared.inside.CellKey.{CellKey}
 use Rattle.struct_cell.specs.Calls.{reply_to}
 use Rattle.struct_cell.specs.Cells.{About, own_call_of}
 use Rattle.struct_cell.specs.Limits.{AreMadeBelow}
 use Rattle.struct_cell.specs.Telling.{IsTold}
-use Rattle.run_model.specs.Types.{StrType}
+use Rattle.plex_board.specs.Types.{StrType}
 use Rattle.plex_board.specs.declared.any_reply.AnyReply.{AnyReply}
 use Rattle.plex_board.specs.Passes.{PassShown, call_by, heard_by, replies_by, reply_by, reply_numbered, shown_as, unused_pass}
 use Rattle.plex_board.specs.Cells.{CellShown, keyed_as, replied, IsPassOf}

@@ -4,12 +4,12 @@ use Rattle.std.specs.Prelude.{All}
 use Rattle.std.specs.Int.{bit_at}
 use Rattle.std.specs.List.{range_with_len}
 use Rattle.std.proofs.lemmas.List.FromFn.{length-map-range_with_len, get_or-map-range_with_len}
-use Rattle.cf_types.specs.declared.forms.StrForm.{StrForm}
-use Rattle.cf_types.specs.declared.numbers.ConnId.{ConnId}
+use Rattle.plex_script.specs.CfTypes.declared.forms.StrForm.{StrForm}
+use Rattle.plex_script.specs.CfTypes.declared.numbers.ConnId.{ConnId}
 use Rattle.plex_script.specs.declared.asks.AnyHistory.{AnyHistory}
 use Rattle.plex_script.specs.declared.asks.AnyHistory.TheVariants as history
-use Rattle.vec_words.specs.declared.logged.Sight.{Sight}
-use Rattle.vec_words.specs.Logged.{bit_in, sight, indices_of}
+use Rattle.struct_cell.specs.VecWords.declared.logged.Sight.{Sight}
+use Rattle.struct_cell.specs.VecWords.Logged.{bit_in, sight, indices_of}
 use Rattle.plex_board.specs.Cells.{IsAnyTold}
 
 -- past the vector a test shows nothing

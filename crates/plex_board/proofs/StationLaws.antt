@@ -6,11 +6,11 @@ use Rattle.std.proofs.Math.Seq.{get_or-append_seam}
 use Rattle.std.proofs.lemmas.List.{length-append, length-map}
 use Rattle.std.proofs.lemmas.List.FromFn.{length-range_with_len}
 use Rattle.std.proofs.lemmas.List.Elements.{All-get_or, All-map}
-use Rattle.cf_types.specs.declared.forms.StrForm.{StrForm}
-use Rattle.cf_link.specs.declared.links.Links.{Links}
-use Rattle.vec_words.specs.Tokens.{WordTable}
+use Rattle.plex_script.specs.CfTypes.declared.forms.StrForm.{StrForm}
+use Rattle.struct_cell.specs.CfLink.declared.links.Links.{Links}
+use Rattle.struct_cell.specs.VecWords.Tokens.{WordTable}
 use Rattle.plex_board.specs.declared.any_pass.AnyPass.{AnyPass}
-use Rattle.run_model.specs.Types.{StrType, type_of_kind}
+use Rattle.plex_board.specs.Types.{StrType, type_of_kind}
 use Rattle.plex_board.specs.Passes.{PassShown, unused_pass}
 use Rattle.plex_board.specs.Cells.{CellShown, IsPassOf}
 

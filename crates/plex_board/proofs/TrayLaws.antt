@@ -4,7 +4,7 @@ use Rattle.std.specs.Prelude.{Some, None, Option, slice_get, IfSome, option_map}
 use Rattle.std.proofs.lemmas.List.{length-set, length-map, map-set}
 use Rattle.std.proofs.Math.Seq.{map-set_same}
 use Rattle.std.proofs.lemmas.Option.{slice_get_read, slice_get-map, slice_get_within}
-use Rattle.cf_types.specs.declared.numbers.StrNo.{StrNo}
+use Rattle.plex_script.specs.CfTypes.declared.numbers.StrNo.{StrNo}
 use Rattle.plex_board.specs.declared.any_note.AnyNote.{AnyNote}
 use Rattle.plex_board.specs.Passes.{NoteShown, note_shown}
 use Rattle.plex_board.specs.Cells.{CellShown, IsNoteOf}

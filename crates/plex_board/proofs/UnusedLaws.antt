@@ -6,12 +6,12 @@ use Rattle.std.proofs.lemmas.List.{length-map, get_or-map}
 use Rattle.std.proofs.lemmas.List.FromFn.{length-range_with_len, get_or-map-range_with_len}
 use Rattle.std.proofs.lemmas.List.Elements.{All-map, All-weaker}
 use Rattle.std.proofs.lemmas.Option.{slice_get_within, get_or_from_slice_get}
-use Rattle.cf_types.specs.declared.numbers.ConnId.{ConnId}
-use Rattle.cf_link.specs.declared.links.Links.{Links}
-use Rattle.cf_link.specs.Links.{AreAsked}
+use Rattle.plex_script.specs.CfTypes.declared.numbers.ConnId.{ConnId}
+use Rattle.struct_cell.specs.CfLink.declared.links.Links.{Links}
+use Rattle.struct_cell.specs.CfLink.Links.{AreAsked}
 use Rattle.plex_script.specs.declared.asks.AnyHistory.{AnyHistory}
 use Rattle.plex_script.specs.Heard.{any_calls, own_calls}
-use Rattle.run_model.specs.Kinds.{any_answers}
+use Rattle.plex_board.specs.Kinds.{any_answers}
 use Rattle.plex_board.specs.Passes.{PassShown, unused_pass}
 use Rattle.plex_board.specs.Cells.{CellShown}
 use Rattle.plex_board.proofs.UnusedPassLaws.{unused_links}

@@ -5,25 +5,25 @@ use Rattle.std.proofs.lemmas.Bool.{eq-eqb}
 use Rattle.std.specs.List.{range_with_len}
 use Rattle.std.proofs.lemmas.List.Elements.{All-head}
 use Rattle.std.proofs.lemmas.List.FromFn.{length-map-range_with_len, get_or-map-range_with_len}
-use Rattle.cf_types.specs.declared.forms.StrForm.{StrForm}
-use Rattle.cf_types.specs.declared.numbers.CfId.{CfId}
-use Rattle.cf_types.specs.declared.numbers.ConnId.{ConnId}
-use Rattle.cf_link.specs.declared.links.Links.{Links}
-use Rattle.cf_link.specs.Links.{IsAskedAll, AreAsked, link_at}
-use Rattle.engine_api.specs.declared.histories.Entry.{Entry}
-use Rattle.engine_api.specs.Meaning.{Meaning}
-use Rattle.engine_api.specs.History.{calls, IsLegal}
-use Rattle.engine_api.proofs.HistoryLaws.{by_turns, calls-turn, call_added}
-use Rattle.cache_model.specs.Meaning.{cache_meaning}
-use Rattle.list_model.specs.Meaning.{list_meaning}
-use Rattle.lock_model.specs.Meaning.{lock_meaning}
+use Rattle.plex_script.specs.CfTypes.declared.forms.StrForm.{StrForm}
+use Rattle.plex_script.specs.CfTypes.declared.numbers.CfId.{CfId}
+use Rattle.plex_script.specs.CfTypes.declared.numbers.ConnId.{ConnId}
+use Rattle.struct_cell.specs.CfLink.declared.links.Links.{Links}
+use Rattle.struct_cell.specs.CfLink.Links.{IsAskedAll, AreAsked, link_at}
+use Rattle.plex_script.specs.EngineApi.declared.histories.Entry.{Entry}
+use Rattle.plex_script.specs.EngineApi.Meaning.{Meaning}
+use Rattle.plex_script.specs.EngineApi.History.{calls, IsLegal}
+use Rattle.plex_script.proofs.EngineApi.HistoryLaws.{by_turns, calls-turn, call_added}
+use Rattle.cache_core.specs.CacheModel.Meaning.{cache_meaning}
+use Rattle.list_core.specs.ListModel.Meaning.{list_meaning}
+use Rattle.lock_core.specs.LockModel.Meaning.{lock_meaning}
 use Rattle.plex_script.specs.declared.scripts.AnyAsk.TheVariants as ask
 use Rattle.plex_script.specs.declared.asks.AnyHistory.{AnyHistory}
 use Rattle.plex_script.specs.declared.asks.AnyHistory.TheVariants as history
 use Rattle.plex_script.specs.Heard.{AnyCall, any_call, any_calls, own_calls}
-use Rattle.vec_words.specs.Tokens.{WordTable}
-use Rattle.run_model.specs.Types.{StrType}
-use Rattle.run_model.specs.Kinds.{IsAnyLegal, any_answers}
+use Rattle.struct_cell.specs.VecWords.Tokens.{WordTable}
+use Rattle.plex_board.specs.Types.{StrType}
+use Rattle.plex_board.specs.Kinds.{IsAnyLegal, any_answers}
 use Rattle.plex_board.specs.Passes.{PassShown, unused_pass}
 use Rattle.plex_board.specs.Cells.{CellShown}
 

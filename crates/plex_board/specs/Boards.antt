@@ -2,19 +2,19 @@
 -- at the end.
 use Rattle.std.specs.Prelude.{◌≡◌, ℕ, ◌+◌, ◌≤◌, List, [], ◌∷◌, ◌++◌, length, map, replicate, slice_get, slice_index_or, Option, None, Some, All}
 use Rattle.std.specs.List.{flat_map}
-use Rattle.cf_types.specs.declared.limits.TheConstants.{STRUCTURES, CONNECTORS}
-use Rattle.cf_types.specs.declared.numbers.ConnId.{ConnId}
-use Rattle.cf_types.specs.declared.numbers.StrNo.{StrNo}
-use Rattle.cf_types.specs.Forms.{IsForm}
-use Rattle.cf_link.specs.Links.{AreAsked}
-use Rattle.cf_link.specs.declared.links.Links.{Links}
+use Rattle.plex_script.specs.CfTypes.declared.limits.TheConstants.{STRUCTURES, CONNECTORS}
+use Rattle.plex_script.specs.CfTypes.declared.numbers.ConnId.{ConnId}
+use Rattle.plex_script.specs.CfTypes.declared.numbers.StrNo.{StrNo}
+use Rattle.plex_script.specs.CfTypes.Forms.{IsForm}
+use Rattle.struct_cell.specs.CfLink.Links.{AreAsked}
+use Rattle.struct_cell.specs.CfLink.declared.links.Links.{Links}
 use Rattle.plex_script.specs.declared.asks.AnyHistory.{AnyHistory}
 use Rattle.plex_script.specs.declared.scripts.Script.{Script}
 use Rattle.plex_script.specs.Heard.{any_calls, any_length, own_calls}
-use Rattle.run_model.specs.Types.{type_of_kind, type_of_history}
+use Rattle.plex_board.specs.Types.{type_of_kind, type_of_history}
 use Rattle.plex_board.specs.Passes.{PassShown, NoteShown, unused_pass}
 use Rattle.struct_cell.specs.Limits.{AreMadeBelow}
-use Rattle.run_model.specs.Kinds.{IsAnyLegal, IsAnyPoint, any_numbers, any_answers}
+use Rattle.plex_board.specs.Kinds.{IsAnyLegal, IsAnyPoint, any_numbers, any_answers}
 use Rattle.plex_board.specs.Cells.{CellShown, IsNoteOf, IsAnyTold, own_replies}
 use Rattle.plex_board.specs.Desks.{DeskShown, Fixed, fixed_of, pass_at}
 

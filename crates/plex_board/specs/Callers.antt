@@ -1,6 +1,6 @@
 -- What a caller's whole work does: its lines, one after another, and then its departures.
 use Rattle.std.specs.Prelude.{◌≡◌, ℕ, ◌+◌, ◌==◌, MatchBool, List, [], ◌∷◌, filter, Some}
-use Rattle.cf_types.specs.declared.numbers.ConnId.{ConnId}
+use Rattle.plex_script.specs.CfTypes.declared.numbers.ConnId.{ConnId}
 use Rattle.plex_script.specs.declared.scripts.Line.{Line}
 use Rattle.plex_script.specs.declared.transcripts.AgentEnd.TheVariants as ended
 use Rattle.plex_script.specs.declared.transcripts.Transcript.{Transcript}

@@ -1,25 +1,25 @@
 -- What contracts see of a cell, what goes with it, and what its history says of its callers.
 use Rattle.std.specs.Prelude.{◌≡◌, ℕ, List, map}
-use Rattle.cf_types.specs.declared.forms.StrForm.{StrForm}
-use Rattle.cf_types.specs.declared.numbers.ConnId.{ConnId}
-use Rattle.cf_link.specs.declared.links.Links.{Links}
-use Rattle.engine_api.specs.declared.asks.Reply.{Reply}
-use Rattle.engine_api.specs.History.{Call, own}
-use Rattle.cache_model.specs.Meaning.{cache_meaning}
-use Rattle.list_model.specs.Meaning.{list_meaning}
-use Rattle.lock_model.specs.Meaning.{lock_meaning}
+use Rattle.plex_script.specs.CfTypes.declared.forms.StrForm.{StrForm}
+use Rattle.plex_script.specs.CfTypes.declared.numbers.ConnId.{ConnId}
+use Rattle.struct_cell.specs.CfLink.declared.links.Links.{Links}
+use Rattle.plex_script.specs.EngineApi.declared.asks.Reply.{Reply}
+use Rattle.plex_script.specs.EngineApi.History.{Call, own}
+use Rattle.cache_core.specs.CacheModel.Meaning.{cache_meaning}
+use Rattle.list_core.specs.ListModel.Meaning.{list_meaning}
+use Rattle.lock_core.specs.LockModel.Meaning.{lock_meaning}
 use Rattle.plex_script.specs.declared.scripts.AnyAsk.{AnyAsk}
 use Rattle.plex_script.specs.declared.asks.AnyHistory.{AnyHistory}
 use Rattle.plex_script.specs.declared.asks.AnyHistory.TheVariants as history
-use Rattle.vec_words.specs.declared.logged.Sight.{Sight}
-use Rattle.vec_words.specs.Tokens.{WordTable}
+use Rattle.struct_cell.specs.VecWords.declared.logged.Sight.{Sight}
+use Rattle.struct_cell.specs.VecWords.Tokens.{WordTable}
 use Rattle.struct_cell.specs.declared.inside.CellKey.{CellKey}
 use Rattle.struct_cell.specs.Telling.{IsTold}
 use Rattle.plex_board.specs.declared.any_cell.AnyCell.{AnyCell}
 use Rattle.plex_board.specs.declared.any_cell.AnyCell.TheVariants as cell
 use Rattle.plex_board.specs.declared.any_reply.AnyReply.{AnyReply}
 use Rattle.plex_board.specs.declared.any_reply.AnyReply.TheVariants as reply
-use Rattle.run_model.specs.Types.{StrType, OfCache, OfList, OfLock, type_of_ask}
+use Rattle.plex_board.specs.Types.{StrType, OfCache, OfList, OfLock, type_of_ask}
 use Rattle.plex_board.specs.Passes.{PassShown, NoteShown, Replied}
 
 -- a cell: the type of its structure, and what of it never changes

@@ -1,11 +1,11 @@
 -- A caller's desk, as contracts see it: its owner, and its pass to each structure of the board.
 use Rattle.std.specs.Prelude.{◌≡◌, [], List, slice_index_or, slice_set}
 use Rattle.atomic_table.specs.Seated.{TableId}
-use Rattle.cf_types.specs.declared.numbers.ConnId.{ConnId}
-use Rattle.cf_types.specs.declared.numbers.StrNo.{StrNo}
-use Rattle.vec_words.specs.Tokens.{WordTable}
-use Rattle.run_model.specs.Types.{StrType, OfCache}
-use Rattle.engine_api.specs.declared.told.Told.{Told}
+use Rattle.plex_script.specs.CfTypes.declared.numbers.ConnId.{ConnId}
+use Rattle.plex_script.specs.CfTypes.declared.numbers.StrNo.{StrNo}
+use Rattle.struct_cell.specs.VecWords.Tokens.{WordTable}
+use Rattle.plex_board.specs.Types.{StrType, OfCache}
+use Rattle.plex_script.specs.EngineApi.declared.told.Told.{Told}
 use Rattle.plex_script.specs.declared.scripts.AnyAsk.{AnyAsk}
 use Rattle.plex_board.specs.declared.any_reply.AnyReply.{AnyReply}
 use Rattle.plex_board.specs.Passes.{PassShown, IsLater, unused_pass, with_call}

@@ -2,9 +2,9 @@
 -- Before a caller's call or test it is told what the caller before it has seen of the structure.
 use Rattle.std.specs.Prelude.{◌≡◌, ◌+◌, ◌*◌, ◌==◌, nat_lt, Bool, true, false, if◌then◌else◌, MatchBool, List, [], ◌∷◌, length, map, fold, replicate, slice_index_or, slice_set, Option, None, Some}
 use Rattle.std.specs.List.{range_with_len}
-use Rattle.cf_types.specs.declared.forms.StrForm.{StrForm}
-use Rattle.cf_types.specs.declared.numbers.ConnId.{ConnId}
-use Rattle.cf_types.specs.declared.numbers.StrNo.{StrNo}
+use Rattle.plex_script.specs.CfTypes.declared.forms.StrForm.{StrForm}
+use Rattle.plex_script.specs.CfTypes.declared.numbers.ConnId.{ConnId}
+use Rattle.plex_script.specs.CfTypes.declared.numbers.StrNo.{StrNo}
 use Rattle.plex_script.specs.declared.scripts.Act.{Act}
 use Rattle.plex_script.specs.declared.scripts.Act.TheVariants as act
 use Rattle.plex_script.specs.declared.scripts.Line.{Line}

@@ -1,3 +1,19 @@
+pub use Rattle.cache_core.specs.CacheModel as CacheModel
+pub use Rattle.cache_core.specs.CacheRegs as CacheRegs
+pub use Rattle.struct_cell.specs.CfIo as CfIo
+pub use Rattle.struct_cell.specs.CfLink as CfLink
+pub use Rattle.cache_core.specs.CfLists as CfLists
+pub use Rattle.plex_script.specs.CfTypes as CfTypes
+pub use Rattle.plex_script.specs.EngineApi as EngineApi
+pub use Rattle.list_core.specs.ListModel as ListModel
+pub use Rattle.list_core.specs.ListStore as ListStore
+pub use Rattle.lock_core.specs.LockModel as LockModel
+pub use Rattle.lock_core.specs.LockQueue as LockQueue
+pub use Rattle.plex_script.specs as PlexScript
+pub use Rattle.struct_cell.specs.ShellLaws as ShellLaws
+pub use Rattle.struct_cell.specs as StructCell
+pub use Rattle.struct_cell.specs.VecWords as VecWords
+pub use Rattle.struct_cell.specs.VecWorld as VecWorld
 pub mod Passes
 pub mod Cells
 pub mod Notes
@@ -9,3 +25,11 @@ pub mod Floors
 pub mod Stations
 pub mod Rests
 pub mod Openings
+pub mod Types
+pub mod Kinds
+pub mod Told
+pub mod Numbers
+pub mod Serial
+pub mod Headline
+pub mod Runnable
+pub mod RunLinks

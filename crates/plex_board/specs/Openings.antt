@@ -2,7 +2,7 @@
 use Rattle.std.specs.Prelude.{◌≡◌, ℕ, ◌+◌, ◌<◌, ◌≤◌, List, [], ◌∷◌, ◌++◌, length, map, All}
 use Rattle.std.specs.List.{range_with_len}
 use Rattle.std.specs.Vec.{vec_capacity}
-use Rattle.cf_types.specs.declared.limits.TheConstants.{STRUCTURES, LINKS}
+use Rattle.plex_script.specs.CfTypes.declared.limits.TheConstants.{STRUCTURES, LINKS}
 use Rattle.plex_board.specs.Passes.{PassShown}
 use Rattle.plex_board.specs.Cells.{CellShown}
 use Rattle.plex_board.specs.declared.rest.Rest.{Rest}

@@ -1,16 +1,16 @@
 -- What contracts see of a pass and of a note, whatever the type of their structure.
 use Rattle.std.specs.Prelude.{◌≡◌, ℕ, ◌≤◌, ◌==◌, ◌++◌, ◌∷◌, [], List, Option, find, map, option_map}
 use Rattle.std.specs.Vec.{vec_capacity}
-use Rattle.cf_types.specs.declared.numbers.ConnId.{ConnId}
-use Rattle.engine_api.specs.declared.asks.Ask.{Ask}
-use Rattle.engine_api.specs.declared.asks.Reply.{Reply}
-use Rattle.engine_api.specs.declared.told.Told.{Told}
-use Rattle.engine_api.specs.History.{Call}
+use Rattle.plex_script.specs.CfTypes.declared.numbers.ConnId.{ConnId}
+use Rattle.plex_script.specs.EngineApi.declared.asks.Ask.{Ask}
+use Rattle.plex_script.specs.EngineApi.declared.asks.Reply.{Reply}
+use Rattle.plex_script.specs.EngineApi.declared.told.Told.{Told}
+use Rattle.plex_script.specs.EngineApi.History.{Call}
 use Rattle.plex_script.specs.declared.scripts.AnyAsk.{AnyAsk}
 use Rattle.plex_script.specs.declared.scripts.AnyAsk.TheVariants as ask
 use Rattle.plex_script.specs.Heard.{AnyCall, any_call}
-use Rattle.vec_words.specs.declared.logged.Sight.{Sight}
-use Rattle.vec_words.specs.Tokens.{WordTable, PassSeen, NoteSeen}
+use Rattle.struct_cell.specs.VecWords.declared.logged.Sight.{Sight}
+use Rattle.struct_cell.specs.VecWords.Tokens.{WordTable, PassSeen, NoteSeen}
 use Rattle.struct_cell.specs.Cells.{About}
 use Rattle.plex_board.specs.declared.any_pass.AnyPass.{AnyPass}
 use Rattle.plex_board.specs.declared.any_pass.AnyPass.TheVariants as pass
@@ -20,7 +20,7 @@ use Rattle.plex_board.specs.declared.any_reply.AnyReply.{AnyReply}
 use Rattle.plex_board.specs.declared.any_reply.AnyReply.TheVariants as reply
 use Rattle.plex_board.specs.declared.any_note.AnyNote.{AnyNote}
 use Rattle.plex_board.specs.declared.any_note.AnyNote.TheVariants as note
-use Rattle.run_model.specs.Types.{StrType, OfCache, OfList, OfLock}
+use Rattle.plex_board.specs.Types.{StrType, OfCache, OfList, OfLock}
 
 -- the reply to a call, with the call's number
 pub record Replied : Type 0 where

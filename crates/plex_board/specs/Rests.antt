@@ -1,10 +1,10 @@
 -- What a board keeps for its end, and how passes go home.
 use Rattle.std.specs.Prelude.{◌≡◌, ℕ, ◌+◌, ◌*◌, ◌≤◌, ◌<◌, List, [], ◌∷◌, ◌++◌, length, map, All}
 use Rattle.std.specs.Vec.{vec_capacity}
-use Rattle.cf_types.specs.declared.limits.TheConstants.{STRUCTURES, CONNECTORS}
+use Rattle.plex_script.specs.CfTypes.declared.limits.TheConstants.{STRUCTURES, CONNECTORS}
 use Rattle.plex_script.specs.declared.asks.AnyHistory.{AnyHistory}
 use Rattle.plex_board.specs.declared.any_pass.AnyPasses.{AnyPasses}
-use Rattle.run_model.specs.Types.{StrType}
+use Rattle.plex_board.specs.Types.{StrType}
 use Rattle.plex_board.specs.Passes.{PassShown, passes_shown, type_of_passes, room_of}
 use Rattle.plex_board.specs.Cells.{CellShown, IsPassOf}
 use Rattle.plex_board.specs.declared.rest.Rest.{Rest}

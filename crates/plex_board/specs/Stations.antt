@@ -1,7 +1,7 @@
 -- What a station has beside its structure's cell.
 use Rattle.std.specs.Prelude.{◌≡◌, ℕ}
-use Rattle.cf_types.specs.declared.forms.Kind.{Kind}
-use Rattle.run_model.specs.Types.{type_of_kind}
+use Rattle.plex_script.specs.CfTypes.declared.forms.Kind.{Kind}
+use Rattle.plex_board.specs.Types.{type_of_kind}
 use Rattle.plex_board.specs.Passes.{NoteShown}
 use Rattle.plex_board.specs.Cells.{CellShown, IsNoteOf}
 

@@ -1,12 +1,12 @@
 -- What a caller's turn at a structure does to its desk and its transcript: the work of one line of a script, or of
 -- its closing.
 use Rattle.std.specs.Prelude.{◌≡◌, ◌⊎◌, ℕ, ◌*◌, ◌^◌, ◌≤◌, ◌<◌, nat_lt, Bool, true, false, MatchBool, List, [], ◌∷◌, ◌++◌, map, Option, None, Some}
-use Rattle.cf_types.specs.declared.forms.Kind.{Kind}
-use Rattle.cf_types.specs.declared.forms.StrForm.{StrForm}
-use Rattle.cf_types.specs.declared.numbers.ConnId.{ConnId}
-use Rattle.cf_types.specs.declared.numbers.StrNo.{StrNo}
-use Rattle.cf_types.specs.declared.shell_commands.ShellCmd.TheVariants as cmd
-use Rattle.engine_api.specs.declared.told.Told.{Told}
+use Rattle.plex_script.specs.CfTypes.declared.forms.Kind.{Kind}
+use Rattle.plex_script.specs.CfTypes.declared.forms.StrForm.{StrForm}
+use Rattle.plex_script.specs.CfTypes.declared.numbers.ConnId.{ConnId}
+use Rattle.plex_script.specs.CfTypes.declared.numbers.StrNo.{StrNo}
+use Rattle.plex_script.specs.CfTypes.declared.shell_commands.ShellCmd.TheVariants as cmd
+use Rattle.plex_script.specs.EngineApi.declared.told.Told.{Told}
 use Rattle.plex_script.specs.declared.agents.Step.{Step}
 use Rattle.plex_script.specs.declared.agents.Step.TheVariants as step
 use Rattle.plex_script.specs.declared.scripts.AnyAsk.{AnyAsk}
@@ -20,8 +20,8 @@ use Rattle.plex_script.specs.declared.transcripts.Shown.TheVariants as shown
 use Rattle.plex_script.specs.declared.transcripts.Transcript.{Transcript}
 use Rattle.plex_script.specs.Agent.{first_step, step_after, asked_by, shell_ask}
 use Rattle.plex_script.specs.Heard.{is_linked}
-use Rattle.vec_words.specs.Logged.{indices_of, sight}
-use Rattle.run_model.specs.Kinds.{MayAskAny}
+use Rattle.struct_cell.specs.VecWords.Logged.{indices_of, sight}
+use Rattle.plex_board.specs.Kinds.{MayAskAny}
 use Rattle.plex_board.specs.declared.any_reply.AnyReply.{AnyReply}
 use Rattle.plex_board.specs.Passes.{PassShown, with_call}
 use Rattle.plex_board.specs.Cells.{CellShown, IsAskOf}

@@ -1,15 +1,15 @@
 //! A cell of whatever type of structure.
 ghost use Rattle.std.specs.Prelude.{◌≡◌, ◌≢◌, ◌+◌, ◌<◌, ◌≤◌, ◌++◌, ◌∷◌, [], IfOk, IfErr, All, is_some, map, max};
 ghost use Rattle.std.specs.List.{range_with_len};
-ghost use Rattle.cf_types.specs.declared.limits.TheConstants.{CONNECTORS};
-ghost use Rattle.cf_link.specs.Links.{AreAsked};
-ghost use Rattle.cf_types.specs.Forms.{IsForm};
+ghost use Rattle.plex_script.specs.CfTypes.declared.limits.TheConstants.{CONNECTORS};
+ghost use Rattle.struct_cell.specs.CfLink.Links.{AreAsked};
+ghost use Rattle.plex_script.specs.CfTypes.Forms.{IsForm};
 ghost use Rattle.plex_script.specs.Heard.{any_calls, any_length, call_numbered, own_calls};
 ghost use Rattle.struct_cell.specs.declared.refused.CallRefused.TheVariants as refused;
-ghost use Rattle.vec_words.specs.Logged.{words_of, indices_of, sight};
+ghost use Rattle.struct_cell.specs.VecWords.Logged.{words_of, indices_of, sight};
 ghost use Rattle.struct_cell.specs.Limits.{AreMadeBelow};
-ghost use Rattle.run_model.specs.Kinds.{MayAskAny, IsAnyLegal, IsAnyPoint, any_answers, any_numbers};
-ghost use Rattle.run_model.specs.Types.{type_of_kind, type_of_history};
+ghost use Rattle.plex_board.specs.Kinds.{MayAskAny, IsAnyLegal, IsAnyPoint, any_answers, any_numbers};
+ghost use Rattle.plex_board.specs.Types.{type_of_kind, type_of_history};
 ghost use Rattle.plex_board.specs.Passes.{IsAnswered, IsLater, pass_shown, passes_shown, type_of_passes, room_of, note_shown, note_of, unused_pass, reply_numbered};
 ghost use Rattle.plex_board.specs.Cells.{IsPassOf, IsNoteOf, IsAskOf, IsAnyTold, cell_shown, own_replies};
 
@@ -17,16 +17,16 @@ use crate::any_note::AnyNote;
 use crate::any_pass::{AnyPass, AnyPasses};
 use crate::any_reply::{AnyReply, of_cache, of_list, of_lock};
 use cache_core::CacheEngine;
-use cf_link::{Link, Links};
-use cf_types::{Kind, NoMemory, StrForm};
-use engine_api::Told;
 use list_core::ListEngine;
 use lock_core::LockEngine;
+use plex_script::api::Told;
+use plex_script::types::{Kind, NoMemory, StrForm};
 use plex_script::{AnyAsk, AnyHistory};
 use std::alloc::Global;
 use std::sync::Wait;
+use struct_cell::links::{Link, Links};
+use struct_cell::vectors::{Tested, TestedWord};
 use struct_cell::{CallRefused, Cell, Closed};
-use vec_words::{Tested, TestedWord};
 
 /// A structure that threads share by `&`, of whatever type. Contracts see what never changes.
 #[derive(Drop)]

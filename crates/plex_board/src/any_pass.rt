@@ -2,9 +2,9 @@
 ghost use Rattle.std.specs.Prelude.{◌≡◌, ◌<◌, ◌≤◌, ◌++◌, ◌∷◌, [], IfSome, IfNone, length};
 ghost use Rattle.plex_board.specs.Passes.{pass_shown, passes_shown, type_of_passes, room_of};
 
-use cf_types::{CacheCmd, CacheReply, ListCmd, ListReply, LockCmd, LockReply};
-use engine_api::{Ask, Reply};
-use vec_words::Pass;
+use plex_script::api::{Ask, Reply};
+use plex_script::types::{CacheCmd, CacheReply, ListCmd, ListReply, LockCmd, LockReply};
+use struct_cell::vectors::Pass;
 
 /// A caller's pass to a structure. It may go to another thread.
 #[derive(Drop)]

@@ -2,8 +2,8 @@
 ghost use Rattle.std.specs.Prelude.{◌≡◌, option_map};
 ghost use Rattle.plex_board.specs.declared.any_reply.AnyReply.TheVariants as any;
 
-use cf_types::{CacheReply, ListReply, LockReply};
-use engine_api::Reply;
+use plex_script::api::Reply;
+use plex_script::types::{CacheReply, ListReply, LockReply};
 
 /// What was answered to a call of a structure, of whatever type.
 pub enum AnyReply {

@@ -2,12 +2,12 @@
 ghost use Rattle.std.specs.Prelude.{◌≡◌, ◌≢◌, ◌+◌, ◌<◌, ◌≤◌, ◌++◌, ◌∷◌, [], IfOk, IfErr, IfSome, All, is_some, length, map, slice_set, Some};
 ghost use Rattle.std.specs.Vec.{vec_len};
 ghost use Rattle.std.specs.List.{range_with_len};
-ghost use Rattle.cf_types.specs.declared.limits.TheConstants.{LINKS};
+ghost use Rattle.plex_script.specs.CfTypes.declared.limits.TheConstants.{LINKS};
 ghost use Rattle.struct_cell.specs.declared.refused.CallRefused.TheVariants as refused;
-ghost use Rattle.vec_words.specs.Logged.{words_of, indices_of, sight};
+ghost use Rattle.struct_cell.specs.VecWords.Logged.{words_of, indices_of, sight};
 ghost use Rattle.plex_script.specs.Heard.{call_numbered};
-ghost use Rattle.run_model.specs.Types.{type_of_kind};
-ghost use Rattle.run_model.specs.Kinds.{MayAskAny};
+ghost use Rattle.plex_board.specs.Types.{type_of_kind};
+ghost use Rattle.plex_board.specs.Kinds.{MayAskAny};
 ghost use Rattle.plex_board.specs.Passes.{note_of, reply_numbered};
 ghost use Rattle.plex_board.specs.Cells.{IsAskOf};
 ghost use Rattle.plex_board.specs.Notes.{with_note, with_any_note};
@@ -22,16 +22,16 @@ use crate::opening::{Opening, next_four};
 use crate::rest::Rest;
 use crate::station::Station;
 use crate::tray::Tray;
-use cf_link::Link;
-use cf_turn::KeyLock;
-use cf_types::{Kind, NoMemory, StrNo};
-use engine_api::Told;
+use plex_script::api::Told;
+use plex_script::types::{Kind, NoMemory, StrNo};
 use plex_script::{AnyAsk, AnyHistory, Script};
 use std::alloc::Global;
 use std::marker::Model;
 use std::sync::Wait;
 use struct_cell::CallRefused;
-use vec_words::{Tested, TestedWord};
+use struct_cell::links::Link;
+use struct_cell::turns::KeyLock;
+use struct_cell::vectors::{Tested, TestedWord};
 
 /// The structures of a script, which threads share by `&`. Contracts see what of them never
 /// changes.

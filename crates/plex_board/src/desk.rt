@@ -4,7 +4,7 @@ ghost use Rattle.plex_script.specs.Heard.{is_linked};
 ghost use Rattle.plex_board.specs.Desks.{pass_at};
 
 use crate::place::Place;
-use cf_types::{ConnId, StrNo};
+use plex_script::types::{ConnId, StrNo};
 use std::marker::Model;
 
 /// What a caller has to use the structures of a board: a place at each. It may go to another
@@ -17,7 +17,7 @@ pub struct Desk {
 impl Model for Desk {
     ghost use Rattle.std.specs.Prelude.{◌≤◌};
     ghost use Rattle.std.specs.Vec.{vec_capacity};
-    ghost use Rattle.cf_types.specs.declared.limits.TheConstants.{STRUCTURES};
+    ghost use Rattle.plex_script.specs.CfTypes.declared.limits.TheConstants.{STRUCTURES};
     ghost use Rattle.plex_board.specs.Desks.{DeskShown};
 
     ghost Value = { DeskShown };

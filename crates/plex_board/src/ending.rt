@@ -12,10 +12,10 @@ use crate::desk::Desk;
 use crate::place::Place;
 use crate::rest::Rest;
 use crate::station::Station;
-use cf_link::{Link, Links};
 use plex_script::AnyHistory;
 use std::sync::Wait;
 use std::vec::IntoIter;
+use struct_cell::links::{Link, Links};
 
 // The passes of a caller go home.
 fn bring_home(homes: &mut Vec<AnyPasses>, places: Vec<Place>)

@@ -1,5 +1,6 @@
 //! The structures of a script that threads share, of whatever type, and the desks from which their
-//! callers use them.
+//! callers use them. Beside them, with no code, what a caller's next call makes of a history, what a
+//! history leads to, and what the run of a script on one thread is.
 #![tactic(auto)]
 
 mod any_cell;
@@ -18,5 +19,12 @@ mod tray;
 
 pub use any_reply::AnyReply;
 pub use board::Board;
+pub use cache_core as caches;
 pub use desk::Desk;
+pub use plex_script as scripts;
+pub use plex_script::{api as api, types as types};
+pub use struct_cell as cells;
+pub use struct_cell::{
+    links as links, sources as sources, turns as turns, vectors as vectors, worlds as worlds,
+};
 pub use tray::Tray;

@@ -1,6 +1,6 @@
 //! What the lock of a structure's box keeps.
 use crate::any_note::AnyNote;
-use cf_turn::Keeps;
+use struct_cell::turns::Keeps;
 
 /// The fact that the lock of a box keeps: the note in it is one of its structure, as the first was.
 pub(crate) struct NoteBox;

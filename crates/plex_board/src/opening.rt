@@ -3,8 +3,8 @@ ghost use Rattle.std.specs.Prelude.{◌≡◌, ◌+◌, ◌*◌, ◌<◌, ◌≤
 ghost use Rattle.std.specs.List.{flat_map, range_with_len};
 ghost use Rattle.std.specs.Vec.{vec_len};
 ghost use Rattle.std.specs.Vec.Iter.{into_iter_items, into_iter_len};
-ghost use Rattle.cf_types.specs.declared.limits.TheConstants.{CONNECTORS, STRUCTURES, LINKS};
-ghost use Rattle.cf_types.specs.Forms.{IsForm};
+ghost use Rattle.plex_script.specs.CfTypes.declared.limits.TheConstants.{CONNECTORS, STRUCTURES, LINKS};
+ghost use Rattle.plex_script.specs.CfTypes.Forms.{IsForm};
 ghost use Rattle.plex_board.specs.Passes.{pass_shown, passes_shown, type_of_passes, room_of};
 ghost use Rattle.plex_board.specs.Boards.{four_of};
 ghost use Rattle.plex_board.specs.Rests.{each_with};
@@ -17,14 +17,14 @@ use crate::ending::{end_unused, push_four, push_left};
 use crate::place::Place;
 use crate::rest::Rest;
 use crate::station::Station;
-use cf_link::{Link, Links};
-use cf_turn::KeyLock;
-use cf_types::limits::{LINKS, STRUCTURES};
-use cf_types::{ConnId, NoMemory, StrForm};
-use plex_shell::copy_form;
+use plex_script::types::limits::{LINKS, STRUCTURES};
+use plex_script::types::{ConnId, NoMemory, StrForm};
 use std::alloc::Global;
 use std::sync::Wait;
 use std::vec::IntoIter;
+use struct_cell::links::{Link, Links};
+use struct_cell::shells::copy_form;
+use struct_cell::turns::KeyLock;
 
 /// A board as its structures are made, one after the other.
 #[derive(Drop)]

@@ -1,8 +1,8 @@
 //! What a board keeps for its end.
 use crate::any_pass::AnyPasses;
-use cf_link::Link;
-use cf_turn::Keeps;
 use plex_script::AnyHistory;
+use struct_cell::links::Link;
+use struct_cell::turns::Keeps;
 
 /// What a board keeps for its end, so that it ends without memory: for each structure the vector in
 /// which its passes go home, room for the histories and for the links, and the links that no

@@ -1,15 +1,15 @@
 //! A structure's cell with its box.
 ghost use Rattle.std.specs.Prelude.{◌≡◌, ◌≢◌, ◌+◌, ◌<◌, ◌≤◌, ◌++◌, ◌∷◌, [], IfOk, IfErr, IfSome, All, Some, is_some, map, option_map};
 ghost use Rattle.std.specs.List.{range_with_len};
-ghost use Rattle.cf_types.specs.declared.limits.TheConstants.{CONNECTORS};
-ghost use Rattle.cf_link.specs.Links.{AreAsked};
-ghost use Rattle.cf_types.specs.Forms.{IsForm};
+ghost use Rattle.plex_script.specs.CfTypes.declared.limits.TheConstants.{CONNECTORS};
+ghost use Rattle.struct_cell.specs.CfLink.Links.{AreAsked};
+ghost use Rattle.plex_script.specs.CfTypes.Forms.{IsForm};
 ghost use Rattle.plex_script.specs.Heard.{any_calls, any_length, call_numbered, own_calls};
 ghost use Rattle.struct_cell.specs.declared.refused.CallRefused.TheVariants as refused;
-ghost use Rattle.vec_words.specs.Logged.{words_of, indices_of, sight};
-ghost use Rattle.run_model.specs.Types.{type_of_kind, type_of_history};
+ghost use Rattle.struct_cell.specs.VecWords.Logged.{words_of, indices_of, sight};
+ghost use Rattle.plex_board.specs.Types.{type_of_kind, type_of_history};
 ghost use Rattle.struct_cell.specs.Limits.{AreMadeBelow};
-ghost use Rattle.run_model.specs.Kinds.{MayAskAny, IsAnyLegal, IsAnyPoint, any_answers, any_numbers};
+ghost use Rattle.plex_board.specs.Kinds.{MayAskAny, IsAnyLegal, IsAnyPoint, any_answers, any_numbers};
 ghost use Rattle.plex_board.specs.Passes.{IsAnswered, IsLater, passes_shown, type_of_passes, room_of, note_shown, note_of, unused_pass, reply_numbered};
 ghost use Rattle.plex_board.specs.Cells.{IsPassOf, IsNoteOf, IsAskOf, IsAnyTold, cell_shown, own_replies};
 ghost use Rattle.plex_board.specs.Notes.{with_note, with_any_note};
@@ -20,17 +20,17 @@ use crate::any_pass::AnyPasses;
 use crate::any_reply::AnyReply;
 use crate::note_box::NoteBox;
 use crate::place::Place;
-use cf_link::{Link, Links};
-use cf_turn::KeyLock;
-use cf_types::{Kind, NoMemory, StrForm};
-use engine_api::Told;
+use plex_script::api::Told;
+use plex_script::types::{Kind, NoMemory, StrForm};
 use plex_script::{AnyAsk, AnyHistory};
 use std::alloc::Global;
 use std::marker::Model;
 use std::mem::drop;
 use std::sync::Wait;
 use struct_cell::CallRefused;
-use vec_words::{Tested, TestedWord};
+use struct_cell::links::{Link, Links};
+use struct_cell::turns::KeyLock;
+use struct_cell::vectors::{Tested, TestedWord};
 
 /// A structure that threads share by `&`, with the note that was posted last. Contracts see its
 /// cell.

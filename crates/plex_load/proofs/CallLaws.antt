@@ -2,18 +2,18 @@
 use Rattle.std.proofs.Common.{◌≡◌, ℕ, ◌+◌, ◌==◌, ◌&&◌, Bool, true, false, cond, List, [], ◌∷◌, length, map, refl, sym, ap, ◌∙◌, arith, count_by}
 use Rattle.std.specs.List.{cons_option}
 use Rattle.std.proofs.lemmas.List.Sums.{sum_by-cons}
-use Rattle.cf_types.specs.declared.cache_commands.CacheCmd.{CacheCmd}
-use Rattle.cf_types.specs.declared.cache_commands.CacheReply.{CacheReply}
-use Rattle.cf_types.specs.declared.list_commands.ListCmd.{ListCmd}
-use Rattle.cf_types.specs.declared.list_commands.ListReply.{ListReply}
-use Rattle.cf_types.specs.declared.lock_commands.LockCmd.{LockCmd}
-use Rattle.cf_types.specs.declared.lock_commands.LockReply.{LockReply}
-use Rattle.cf_types.specs.declared.numbers.ConnId.{ConnId}
-use Rattle.engine_api.specs.declared.asks.Ask.{Ask}
-use Rattle.engine_api.specs.declared.asks.What.{What}
-use Rattle.engine_api.specs.declared.asks.What.TheVariants as what
-use Rattle.engine_api.specs.declared.histories.Entry.{Entry}
-use Rattle.engine_api.specs.History.{Call, call_told, calls}
+use Rattle.plex_script.specs.CfTypes.declared.cache_commands.CacheCmd.{CacheCmd}
+use Rattle.plex_script.specs.CfTypes.declared.cache_commands.CacheReply.{CacheReply}
+use Rattle.plex_script.specs.CfTypes.declared.list_commands.ListCmd.{ListCmd}
+use Rattle.plex_script.specs.CfTypes.declared.list_commands.ListReply.{ListReply}
+use Rattle.plex_script.specs.CfTypes.declared.lock_commands.LockCmd.{LockCmd}
+use Rattle.plex_script.specs.CfTypes.declared.lock_commands.LockReply.{LockReply}
+use Rattle.plex_script.specs.CfTypes.declared.numbers.ConnId.{ConnId}
+use Rattle.plex_script.specs.EngineApi.declared.asks.Ask.{Ask}
+use Rattle.plex_script.specs.EngineApi.declared.asks.What.{What}
+use Rattle.plex_script.specs.EngineApi.declared.asks.What.TheVariants as what
+use Rattle.plex_script.specs.EngineApi.declared.histories.Entry.{Entry}
+use Rattle.plex_script.specs.EngineApi.History.{Call, call_told, calls}
 use Rattle.plex_script.specs.declared.scripts.AnyAsk.{AnyAsk}
 use Rattle.plex_script.specs.declared.scripts.AnyAsk.TheVariants as ask
 use Rattle.plex_script.specs.Heard.{any_call, own_calls}

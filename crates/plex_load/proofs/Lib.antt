@@ -1,3 +1,4 @@
+pub use Rattle.plex_script.proofs.PlexSpell as PlexSpell
 pub mod NumberLaws
 pub mod TermLaws
 pub mod CallLaws

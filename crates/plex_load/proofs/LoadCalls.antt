@@ -4,7 +4,7 @@ use Rattle.std.specs.List.{range_with_len, sum_by}
 use Rattle.std.proofs.lemmas.Bool.Decides.{nat_tests}
 use Rattle.std.proofs.lemmas.List.FromFn.{sum_by-map-range_with_len_more}
 use Rattle.std.proofs.lemmas.List.Sums.{sum_by-append, sum_by-cons}
-use Rattle.cf_types.specs.declared.numbers.StrNo.{StrNo}
+use Rattle.plex_script.specs.CfTypes.declared.numbers.StrNo.{StrNo}
 use Rattle.plex_script.specs.declared.scripts.Act.TheVariants as act
 use Rattle.plex_script.specs.Agent.{first_step, most_asks}
 use Rattle.plex_load.specs.Generated.{number_after, index_of, lines_each, read, write, work, connect_line, work_line, connector_lines, first_number, own_lines, lines_of_first, load_script}

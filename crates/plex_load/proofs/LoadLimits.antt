@@ -4,15 +4,15 @@ use Rattle.std.specs.Fmt.{decimal}
 use Rattle.std.proofs.lemmas.Bool.Decides.{nat_tests}
 use Rattle.std.proofs.lemmas.List.Elements.{All-nil, All-cons}
 use Rattle.std.proofs.lemmas.List.FromFn.{get_or-map-range_with_len}
-use Rattle.cf_types.specs.declared.forms.Kind.TheVariants as kind
-use Rattle.cf_types.specs.declared.forms.Pref.{Pref}
-use Rattle.cf_types.specs.declared.names.Name16.{Name16}
-use Rattle.cf_types.specs.Forms.{IsForm, IsPref}
-use Rattle.cf_types.specs.Term.{IsPadded}
-use Rattle.plex_spell.specs.Tokens.{Declared, is_term, is_name, is_declared}
-use Rattle.plex_spell.specs.Tokens.Token.{Term, NewName}
-use Rattle.plex_plain.specs.Ranges.{IsNamed, AreNames, AreWithin}
-use Rattle.plex_plain.proofs.Within.{words-within}
+use Rattle.plex_script.specs.CfTypes.declared.forms.Kind.TheVariants as kind
+use Rattle.plex_script.specs.CfTypes.declared.forms.Pref.{Pref}
+use Rattle.plex_script.specs.CfTypes.declared.names.Name16.{Name16}
+use Rattle.plex_script.specs.CfTypes.Forms.{IsForm, IsPref}
+use Rattle.plex_script.specs.CfTypes.Term.{IsPadded}
+use Rattle.plex_script.specs.PlexSpell.Tokens.{Declared, is_term, is_name, is_declared}
+use Rattle.plex_script.specs.PlexSpell.Tokens.Token.{Term, NewName}
+use Rattle.plex_script.specs.PlexPlain.Ranges.{IsNamed, AreNames, AreWithin}
+use Rattle.plex_script.proofs.PlexPlain.Within.{words-within}
 use Rattle.plex_script.specs.declared.scripts.Act.{Act}
 use Rattle.plex_script.specs.declared.scripts.Act.TheVariants as act
 use Rattle.plex_script.specs.LineWords.{MayDo}

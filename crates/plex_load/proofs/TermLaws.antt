@@ -5,9 +5,9 @@ use Rattle.std.specs.Fmt.{decimal}
 use Rattle.std.specs.List.{list_all}
 use Rattle.std.proofs.lemmas.Bool.Decides.{nat_tests}
 use Rattle.std.proofs.lemmas.Fmt.{length-decimal-le, decimal_nonempty, digits_decimal}
-use Rattle.cf_types.specs.Term.{IsTerm, term_byte}
-use Rattle.plex_spell.proofs.NumberLaws.{own}
-use Rattle.plex_plain.proofs.Tests.{all-append, all-weaker}
+use Rattle.plex_script.specs.CfTypes.Term.{IsTerm, term_byte}
+use Rattle.plex_script.proofs.PlexSpell.NumberLaws.{own}
+use Rattle.plex_script.proofs.PlexPlain.Tests.{all-append, all-weaker}
 use Rattle.plex_load.specs.Generated.{letter}
 
 digit-term : (b : ℕ) → is_ascii_digit b ≡ true → term_byte b ≡ true

@@ -1,9 +1,9 @@
 -- The entries that are calls of a connector.
 use Rattle.std.specs.Prelude.{◌==◌, ◌&&◌, Bool, true, false}
-use Rattle.cf_types.specs.declared.numbers.ConnId.{ConnId}
-use Rattle.engine_api.specs.declared.asks.What.{What}
-use Rattle.engine_api.specs.declared.asks.What.TheVariants as what
-use Rattle.engine_api.specs.declared.histories.Entry.{Entry}
+use Rattle.plex_script.specs.CfTypes.declared.numbers.ConnId.{ConnId}
+use Rattle.plex_script.specs.EngineApi.declared.asks.What.{What}
+use Rattle.plex_script.specs.EngineApi.declared.asks.What.TheVariants as what
+use Rattle.plex_script.specs.EngineApi.declared.histories.Entry.{Entry}
 
 abbrev pub is_call : {C : Type 0} → What C → Bool
 is_call (what.Call ask) = true

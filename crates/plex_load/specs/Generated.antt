@@ -2,15 +2,15 @@
 use Rattle.std.specs.Prelude.{ℕ, ◌+◌, ◌*◌, ◌/◌, ◌%◌, ◌==◌, zero, suc, false, if◌then◌else◌, List, [], ◌∷◌, ◌++◌, map, None, Some, codes}
 use Rattle.std.specs.Fmt.{decimal}
 use Rattle.std.specs.List.{flat_map, range_with_len}
-use Rattle.cf_types.specs.declared.cache_commands.CacheCmd.{CacheCmd}
-use Rattle.cf_types.specs.declared.cache_commands.CacheCmd.TheVariants as cache
-use Rattle.cf_types.specs.declared.forms.Kind.TheVariants as kind
-use Rattle.cf_types.specs.declared.forms.Pref.{Pref}
-use Rattle.cf_types.specs.declared.forms.StrForm.{StrForm}
-use Rattle.cf_types.specs.declared.names.Name16.{Name16}
-use Rattle.cf_types.specs.declared.shell_commands.ShellCmd.TheVariants as shell
-use Rattle.cf_types.specs.Term.{block_of}
-use Rattle.engine_api.specs.declared.asks.Ask.TheVariants as ask
+use Rattle.plex_script.specs.CfTypes.declared.cache_commands.CacheCmd.{CacheCmd}
+use Rattle.plex_script.specs.CfTypes.declared.cache_commands.CacheCmd.TheVariants as cache
+use Rattle.plex_script.specs.CfTypes.declared.forms.Kind.TheVariants as kind
+use Rattle.plex_script.specs.CfTypes.declared.forms.Pref.{Pref}
+use Rattle.plex_script.specs.CfTypes.declared.forms.StrForm.{StrForm}
+use Rattle.plex_script.specs.CfTypes.declared.names.Name16.{Name16}
+use Rattle.plex_script.specs.CfTypes.declared.shell_commands.ShellCmd.TheVariants as shell
+use Rattle.plex_script.specs.CfTypes.Term.{block_of}
+use Rattle.plex_script.specs.EngineApi.declared.asks.Ask.TheVariants as ask
 use Rattle.plex_script.specs.declared.scripts.AnyAsk.TheVariants as any
 use Rattle.plex_script.specs.declared.scripts.Act.{Act}
 use Rattle.plex_script.specs.declared.scripts.Act.TheVariants as act

@@ -2,11 +2,11 @@
 use Rattle.std.specs.Prelude.{ℕ, ◌+◌, Bool, true, false, List, [], ◌∷◌, ◌++◌, length, map, count_by, sum_by, codes}
 use Rattle.std.specs.Fmt.{decimal}
 use Rattle.std.specs.List.{flat_map, range_with_len}
-use Rattle.cf_types.specs.declared.numbers.ConnId.{ConnId}
-use Rattle.engine_api.specs.declared.asks.Reply.{Reply}
-use Rattle.engine_api.specs.declared.asks.Reply.TheVariants as reply
-use Rattle.engine_api.specs.declared.histories.Entry.{Entry}
-use Rattle.plex_spell.specs.Words.{line_of, line_text}
+use Rattle.plex_script.specs.CfTypes.declared.numbers.ConnId.{ConnId}
+use Rattle.plex_script.specs.EngineApi.declared.asks.Reply.{Reply}
+use Rattle.plex_script.specs.EngineApi.declared.asks.Reply.TheVariants as reply
+use Rattle.plex_script.specs.EngineApi.declared.histories.Entry.{Entry}
+use Rattle.plex_script.specs.PlexSpell.Words.{line_of, line_text}
 use Rattle.plex_script.specs.declared.asks.AnyHistory.{AnyHistory}
 use Rattle.plex_script.specs.declared.asks.AnyHistory.TheVariants as history
 use Rattle.plex_script.specs.declared.transcripts.Shown.{Shown}

@@ -5,8 +5,8 @@ ghost use Rattle.plex_script.specs.Heard.{any_calls, any_length, own_calls};
 ghost use Rattle.plex_load.specs.Counts.{is_call_by};
 ghost use Rattle.plex_load.specs.Summary.{calls_by, is_refusal, is_test, tests_of, refusals, refusals_of};
 
-use cf_types::{ConnId, NoMemory};
-use engine_api::{Entry, Reply, What};
+use plex_script::api::{Entry, Reply, What};
+use plex_script::types::{ConnId, NoMemory};
 use plex_script::{AnyHistory, Shown, Transcript};
 
 // Two counts together.

@@ -11,4 +11,6 @@ mod texts;
 mod work;
 
 pub use making::make;
+pub use plex_script as scripts;
+pub use plex_script::{spell as spell, types as types};
 pub use summing::summary;

@@ -7,7 +7,7 @@ ghost use Rattle.plex_load.specs.Loads.{IsLoad};
 use crate::numbers::seed;
 use crate::policy::{CALLERS, connectors, facilities, structures};
 use crate::work::put_connector;
-use cf_types::{Listing, NoMemory};
+use plex_script::types::{Listing, NoMemory};
 use plex_script::{Line, Script};
 use std::alloc::Global;
 

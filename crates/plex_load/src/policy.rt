@@ -4,7 +4,7 @@ ghost use Rattle.std.specs.Prelude.{◌≡◌, ◌<◌, ◌∷◌, [], IfOk};
 ghost use Rattle.plex_load.specs.Generated.{letter, load_facility, load_form, load_connectors};
 
 use crate::texts::name;
-use cf_types::{Caps, CfId, Kind, Listing, Name16, NoMemory, Pref, StrForm};
+use plex_script::types::{Caps, CfId, Kind, Listing, Name16, NoMemory, Pref, StrForm};
 use std::alloc::Global;
 
 /// How many connectors there are.

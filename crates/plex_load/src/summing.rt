@@ -2,13 +2,13 @@
 
 ghost use Rattle.std.specs.Prelude.{◌≡◌, ◌<◌, ◌++◌, IfOk, OnOk};
 ghost use Rattle.std.specs.List.{flat_map};
-ghost use Rattle.plex_spell.specs.Words.{line_text};
+ghost use Rattle.plex_script.specs.PlexSpell.Words.{line_text};
 ghost use Rattle.plex_load.specs.Summary.{count_line, calls_line, calls_lines, summary};
 
 use crate::counts::{calls_by, entries, refused, tests};
 use crate::policy::{CALLERS, letter};
-use cf_types::{ConnId, NoMemory};
-use plex_plain::{put_number, put_text, put_word};
+use plex_script::plain::{put_number, put_text, put_word};
+use plex_script::types::{ConnId, NoMemory};
 use plex_script::{AnyHistory, Transcript};
 use std::alloc::Global;
 

@@ -2,12 +2,12 @@
 
 ghost use Rattle.std.specs.Prelude.{◌≡◌, ◌++◌, IfOk};
 ghost use Rattle.std.specs.Fmt.{decimal};
-ghost use Rattle.cf_types.specs.declared.limits.TheConstants.{NAME_BYTES, BODY_BYTES};
-ghost use Rattle.cf_types.specs.Term.{IsTerm};
+ghost use Rattle.plex_script.specs.CfTypes.declared.limits.TheConstants.{NAME_BYTES, BODY_BYTES};
+ghost use Rattle.plex_script.specs.CfTypes.Term.{IsTerm};
 ghost use Rattle.plex_load.specs.Generated.{named};
 
-use cf_types::{Body, BodyFault, Name16, NoMemory, parse_body, parse_name};
-use plex_plain::put_digits;
+use plex_script::plain::put_digits;
+use plex_script::types::{Body, BodyFault, Name16, NoMemory, parse_body, parse_name};
 use std::alloc::Global;
 
 /// The name that is written so.

@@ -7,8 +7,8 @@ ghost use Rattle.plex_load.specs.Generated.{index_of, number_after, lines_each, 
 use crate::numbers::{index_of, next_number};
 use crate::policy::letter;
 use crate::texts::{data, name, numbered};
-use cf_types::{Body, CacheCmd, ConnId, Name16, NoMemory, ShellCmd, StrNo};
-use engine_api::Ask;
+use plex_script::api::Ask;
+use plex_script::types::{Body, CacheCmd, ConnId, Name16, NoMemory, ShellCmd, StrNo};
 use plex_script::{Act, AnyAsk, Line};
 use std::alloc::Global;
 

@@ -9,10 +9,10 @@ use Rattle.std.proofs.lemmas.List.{length-map, map-append, length-replicate}
 use Rattle.std.proofs.lemmas.List.Elements.{All-push, All-nil, All-head, All-contains, All-replicate}
 use Rattle.std.proofs.lemmas.List.FromFn.{get_or-map-range_with_len, length-map-range_with_len, get_or-range_with_len}
 use Rattle.std.proofs.lemmas.Option.{slice_get-map, slice_get_within, slice_get-get_or, get_or_from_slice_get, none-some}
-use Rattle.cf_types.specs.declared.numbers.ConnId.{ConnId}
-use Rattle.cf_types.specs.declared.names.Name16.{Name16}
-use Rattle.cf_types.specs.declared.forms.StrForm.{StrForm}
-use Rattle.cf_types.specs.Forms.{IsForm}
+use Rattle.plex_script.specs.CfTypes.declared.numbers.ConnId.{ConnId}
+use Rattle.plex_script.specs.CfTypes.declared.names.Name16.{Name16}
+use Rattle.plex_script.specs.CfTypes.declared.forms.StrForm.{StrForm}
+use Rattle.plex_script.specs.CfTypes.Forms.{IsForm}
 use Rattle.lock_words.specs.declared.view.Hold.{Hold}
 use Rattle.lock_words.specs.declared.view.Grant.{Grant}
 use Rattle.lock_words.specs.Values.{AreCompatible, says_excl}

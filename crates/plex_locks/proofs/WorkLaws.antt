@@ -5,7 +5,7 @@ use Rattle.std.specs.Option.{MatchOption}
 use Rattle.std.proofs.lemmas.List.{map-append}
 use Rattle.std.proofs.lemmas.Grind.{flat_map-append}
 use Rattle.std.proofs.lemmas.List.Elements.{All-push, All-weaker, Contains-append_left, Contains-push}
-use Rattle.cf_types.specs.declared.resources.Resource.{Resource}
+use Rattle.plex_script.specs.CfTypes.declared.resources.Resource.{Resource}
 use Rattle.lock_words.specs.declared.view.Hold.{Hold}
 use Rattle.lock_words.specs.declared.view.Reading.{Reading}
 use Rattle.lock_words.specs.declared.view.Grant.{Grant}

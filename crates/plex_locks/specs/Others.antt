@@ -1,8 +1,8 @@
 -- Which scripts lock words can do: the first line that asks something else.
 use Rattle.std.specs.Prelude.{◌==◌, ◌+◌, ◌-◌, ℕ, Bool, if◌then◌else◌, List, [], ◌∷◌, Option, None, Some, codes}
-use Rattle.cf_types.specs.declared.forms.StrForm.{StrForm}
-use Rattle.cf_types.specs.Forms.{is_lock}
-use Rattle.plex_spell.specs.Words.{lines_of, words_of, begins_with}
+use Rattle.plex_script.specs.CfTypes.declared.forms.StrForm.{StrForm}
+use Rattle.plex_script.specs.CfTypes.Forms.{is_lock}
+use Rattle.plex_script.specs.PlexSpell.Words.{lines_of, words_of, begins_with}
 use Rattle.plex_script.specs.Scripts.{line_number}
 use Rattle.plex_script.specs.declared.scripts.Script.{Script}
 use Rattle.plex_locks.specs.Requests.{other_line}

@@ -1,7 +1,7 @@
 -- What outcomes say of locks: what a connector holds by its own, and what it was granted.
 use Rattle.std.specs.Prelude.{◌≡◌, ◌≢◌, ◌==◌, ◌%◌, ◌++◌, ℕ, Bool, true, false, not, if◌then◌else◌, List, [], ◌∷◌, Some, Contains, filter, flat_map, slice_get}
 use Rattle.std.specs.Option.{MatchOption}
-use Rattle.cf_types.specs.declared.resources.Resource.{Resource}
+use Rattle.plex_script.specs.CfTypes.declared.resources.Resource.{Resource}
 use Rattle.lock_words.specs.declared.view.Hold.{Hold}
 use Rattle.lock_words.specs.Values.{Admits, held_as, says_excl}
 use Rattle.lock_words.specs.View.{hold}

@@ -1,12 +1,12 @@
 -- The lines that lock words can do.
 use Rattle.std.specs.Prelude.{◌==◌, ℕ, Bool, not, if◌then◌else◌, List, Option, None, Some, option_map, find, is_some}
 use Rattle.std.specs.List.{filter_map}
-use Rattle.cf_types.specs.declared.numbers.ConnId.{ConnId}
-use Rattle.cf_types.specs.declared.adjuncts.Adjunct.{Adjunct}
-use Rattle.cf_types.specs.declared.resources.Resource.{Resource}
-use Rattle.cf_types.specs.declared.lock_commands.LockCmd.{LockCmd}
-use Rattle.cf_types.specs.declared.lock_commands.LockCmd.TheVariants as lock
-use Rattle.engine_api.specs.declared.asks.Ask.TheVariants as ask
+use Rattle.plex_script.specs.CfTypes.declared.numbers.ConnId.{ConnId}
+use Rattle.plex_script.specs.CfTypes.declared.adjuncts.Adjunct.{Adjunct}
+use Rattle.plex_script.specs.CfTypes.declared.resources.Resource.{Resource}
+use Rattle.plex_script.specs.CfTypes.declared.lock_commands.LockCmd.{LockCmd}
+use Rattle.plex_script.specs.CfTypes.declared.lock_commands.LockCmd.TheVariants as lock
+use Rattle.plex_script.specs.EngineApi.declared.asks.Ask.TheVariants as ask
 use Rattle.plex_script.specs.declared.scripts.AnyAsk.{AnyAsk}
 use Rattle.plex_script.specs.declared.scripts.AnyAsk.TheVariants as any
 use Rattle.plex_script.specs.declared.scripts.Act.{Act}

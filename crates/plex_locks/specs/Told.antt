@@ -2,15 +2,15 @@
 use Rattle.std.specs.Prelude.{◌≡◌, ◌==◌, ◌+◌, ◌<◌, ◌++◌, ℕ, if◌then◌else◌, List, [], ◌∷◌, All, AllPairs, map, length, slice_get, slice_index, Some, codes}
 use Rattle.std.specs.List.{flat_map}
 use Rattle.std.specs.Fmt.{decimal}
-use Rattle.cf_types.specs.declared.forms.StrForm.{StrForm}
-use Rattle.cf_types.specs.declared.names.Name16.{Name16}
+use Rattle.plex_script.specs.CfTypes.declared.forms.StrForm.{StrForm}
+use Rattle.plex_script.specs.CfTypes.declared.names.Name16.{Name16}
 use Rattle.lock_words.specs.declared.view.Hold.{Hold}
 use Rattle.lock_words.specs.Values.{says_excl, AreCompatible}
 use Rattle.lock_words.specs.Hands.{HasValue}
-use Rattle.plex_spell.specs.Tokens.{name_word}
-use Rattle.plex_spell.specs.Words.{line_of, line_text}
-use Rattle.plex_plain.specs.Naming.{resource_word}
-use Rattle.plex_plain.specs.PlainWords.{state_word}
+use Rattle.plex_script.specs.PlexSpell.Tokens.{name_word}
+use Rattle.plex_script.specs.PlexSpell.Words.{line_of, line_text}
+use Rattle.plex_script.specs.PlexPlain.Naming.{resource_word}
+use Rattle.plex_script.specs.PlexPlain.PlainWords.{state_word}
 use Rattle.plex_script.specs.declared.scripts.Script.{Script}
 use Rattle.plex_locks.specs.declared.requests.Request.{Request}
 use Rattle.plex_locks.specs.declared.requests.Request.TheVariants.{Obtain, Release}

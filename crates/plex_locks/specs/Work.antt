@@ -1,8 +1,8 @@
 -- A connector at work with its hand.
 use Rattle.std.specs.Prelude.{◌≡◌, ◌<◌, ◌++◌, ℕ, Bool, List, [], Some, Contains, All, map, slice_get, length, drop}
 use Rattle.std.specs.List.{range_with_len}
-use Rattle.cf_types.specs.declared.numbers.ConnId.{ConnId}
-use Rattle.cf_types.specs.declared.names.Name16.{Name16}
+use Rattle.plex_script.specs.CfTypes.declared.numbers.ConnId.{ConnId}
+use Rattle.plex_script.specs.CfTypes.declared.names.Name16.{Name16}
 use Rattle.lock_words.specs.declared.got.Got.TheVariants as got
 use Rattle.lock_words.specs.declared.view.Hold.{Hold}
 use Rattle.lock_words.specs.View.{grant, reading}

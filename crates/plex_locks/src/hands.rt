@@ -8,8 +8,8 @@ ghost use Rattle.plex_locks.specs.Outcomes.{word_of};
 ghost use Rattle.plex_locks.specs.Work.{IsSameHand, IsTried};
 
 use crate::outcomes::Outcome;
-use cf_types::Resource;
 use lock_words::{Got, Hand, LockWords};
+use plex_script::types::Resource;
 
 /// The word of a resource.
 pub(crate) fn word_of(entries: u32, r: Resource) -> u32

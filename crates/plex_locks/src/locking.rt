@@ -1,16 +1,15 @@
 //! The lines of a script, done by lock words.
 ghost use Rattle.std.specs.Prelude.{◌≡◌, ◌≤◌, ◌<◌, [], IfOk, All, Some, map, length, replicate, slice_get};
-ghost use Rattle.cf_types.specs.declared.limits.TheConstants.{CONNECTORS};
+ghost use Rattle.plex_script.specs.CfTypes.declared.limits.TheConstants.{CONNECTORS};
 ghost use Rattle.plex_script.specs.WellFormed.{IsWellFormed};
 ghost use Rattle.plex_locks.specs.Work.{AreIdle, IsReady, HasWorked, HaveWorked};
 ghost use Rattle.plex_locks.specs.Told.{IsLocked, told_of, none_told, entries_of};
 
 use crate::told::{HandTold, Locked};
 use crate::worker::Worker;
-use cf_types::{ConnId, Listing, Name16, NoMemory, StrForm};
 use lock_words::{Hand, LockWords};
-use plex_agent::Gate;
-use plex_script::{Line, Script};
+use plex_script::types::{ConnId, Listing, Name16, NoMemory, StrForm};
+use plex_script::{Gate, Line, Script};
 use std::alloc::Global;
 use std::thread;
 use std::thread::Threads;

@@ -1,13 +1,13 @@
 //! Which scripts lock words can do.
 ghost use Rattle.std.specs.Prelude.{◌≡◌, ◌==◌, ◌<◌, ◌∷◌, length, position};
-ghost use Rattle.cf_types.specs.Forms.{is_lock};
-ghost use Rattle.plex_spell.specs.Words.{lines_of, without_return};
+ghost use Rattle.plex_script.specs.CfTypes.Forms.{is_lock};
+ghost use Rattle.plex_script.specs.PlexSpell.Words.{lines_of, without_return};
 ghost use Rattle.plex_locks.specs.Others.{other_structure, is_declaring, declaring, first_other};
 
 use crate::requests::other_line;
-use cf_types::{Kind, StrForm};
 use plex_script::Script;
-use plex_spell::Words;
+use plex_script::spell::Words;
+use plex_script::types::{Kind, StrForm};
 
 fn is_lock(kind: Kind) -> bool
     ensures { result ≡ is_lock kind }

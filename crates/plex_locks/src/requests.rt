@@ -1,11 +1,11 @@
 //! The lines that lock words can do.
 ghost use Rattle.std.specs.Prelude.{◌≡◌, ◌++◌, OnOk, IfOk, find, option_map};
-ghost use Rattle.cf_types.specs.Forms.{is_lock};
+ghost use Rattle.plex_script.specs.CfTypes.Forms.{is_lock};
 ghost use Rattle.std.specs.List.{filter_map};
 ghost use Rattle.plex_locks.specs.Requests.{request_in, request_of_ask, request_of_act, request_of, task_by, tasks_by, is_other, other_line};
 
-use cf_types::{ConnId, Kind, LockCmd, NoMemory, Resource};
-use engine_api::Ask;
+use plex_script::api::Ask;
+use plex_script::types::{ConnId, Kind, LockCmd, NoMemory, Resource};
 use plex_script::{Act, AnyAsk, Line};
 use std::alloc::Global;
 

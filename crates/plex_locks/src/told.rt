@@ -1,15 +1,15 @@
 //! What is told of a script whose lines were done by lock words.
 ghost use Rattle.std.specs.Prelude.{◌≡◌, ◌++◌, ◌∷◌, [], IfOk, OnOk, map, codes};
 ghost use Rattle.std.specs.List.{flat_map};
-ghost use Rattle.plex_spell.specs.Words.{tail_of, line_of, line_text};
+ghost use Rattle.plex_script.specs.PlexSpell.Words.{tail_of, line_of, line_text};
 ghost use Rattle.plex_locks.specs.Told.{value_words, outcome_words, request_words, done_line, structure_line, heading, hand_lines, word_line, word_lines, locks_text};
 
 use crate::outcomes::{Done, Outcome};
 use crate::requests::Request;
-use cf_types::{Listing, Name16, NoMemory, StrForm};
 use lock_words::EXCL;
-use plex_plain::{put_name, put_number, put_resource, put_text, put_word, state_text};
 use plex_script::Script;
+use plex_script::plain::{put_name, put_number, put_resource, put_text, put_word, state_text};
+use plex_script::types::{Listing, Name16, NoMemory, StrForm};
 use std::alloc::Global;
 
 /// What became of a connector's lines, in their order.

@@ -8,10 +8,9 @@ ghost use Rattle.plex_locks.specs.declared.outcomes.Done.{Done};
 use crate::hands::{obtain, release, word_of};
 use crate::outcomes::{Done, Outcome};
 use crate::requests::{Request, Task, tasks_by};
-use cf_types::{ConnId, Name16, NoMemory};
 use lock_words::{Hand, LockWords};
-use plex_agent::Gate;
-use plex_script::Line;
+use plex_script::types::{ConnId, Name16, NoMemory};
+use plex_script::{Gate, Line};
 use std::alloc::Global;
 use std::marker::Model;
 

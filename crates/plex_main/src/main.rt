@@ -1,10 +1,10 @@
 //! The program plexrun: it runs the script on standard input, and prints the report.
 #![tactic(auto)]
 
-use cf_io::{Sink, StdSink, StdSource, write_all};
-use cf_link::Steady;
-use plex_agent::OpenGate;
+use plex_run::agents::OpenGate;
+use plex_run::links::Steady;
 use plex_run::run;
+use plex_run::sources::{Sink, StdSink, StdSource, write_all};
 use std::process::ExitCode;
 use std::rt::Env;
 use std::{env, io};

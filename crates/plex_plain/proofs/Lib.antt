@@ -1,3 +1,4 @@
+pub use Rattle.plex_spell.proofs as PlexSpell
 pub mod TokenLaws
 pub mod CommandLaws
 pub mod Tests

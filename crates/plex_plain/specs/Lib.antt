@@ -1,3 +1,4 @@
+pub use Rattle.plex_spell.specs as PlexSpell
 pub mod Naming
 pub mod PlainWords
 pub mod PolicyLines

@@ -18,6 +18,7 @@ pub use line_text::{
 };
 pub use list_plain::{put_content, put_label, put_list};
 pub use lock_plain::put_lock;
+pub use plex_spell as spell;
 pub use policy_plain::{put_connector_line, put_facility_line, put_form_line, put_pref_line};
 pub use shell_plain::{put_at, put_shell};
 pub use values::{Worded, put_flag, put_option};

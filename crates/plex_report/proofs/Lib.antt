@@ -1,3 +1,4 @@
+pub use Rattle.plex_script.proofs.PlexSpell as PlexSpell
 pub mod Digits
 pub mod LinesAt
 pub mod Sections

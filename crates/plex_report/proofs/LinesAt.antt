@@ -5,7 +5,7 @@ use Rattle.std.specs.Option.{option_map_or}
 use Rattle.std.proofs.lemmas.List.Sums.{sum_by-cons}
 use Rattle.std.proofs.lemmas.List.{length-map}
 use Rattle.std.proofs.lemmas.Option.{slice_get-map, slice_get-get_or, slice_get_read}
-use Rattle.plex_spell.specs.Words.{line_text}
+use Rattle.plex_script.specs.PlexSpell.Words.{line_text}
 use Rattle.plex_report.specs.Report.{lines_each}
 
 -- ---- lists

@@ -1,12 +1,12 @@
 -- The words of commands, under the names of a script.
 use Rattle.std.specs.Prelude.{ℕ, List}
-use Rattle.cf_types.specs.declared.shell_commands.ShellCmd.{ShellCmd}
-use Rattle.cf_types.specs.declared.cache_commands.CacheCmd.{CacheCmd}
-use Rattle.cf_types.specs.declared.list_commands.ListCmd.{ListCmd}
-use Rattle.cf_types.specs.declared.lock_commands.LockCmd.{LockCmd}
-use Rattle.engine_api.specs.declared.asks.Ask.{Ask}
-use Rattle.engine_api.specs.declared.asks.Ask.TheVariants as ask
-use Rattle.plex_plain.specs.PlainWords as plain
+use Rattle.plex_script.specs.CfTypes.declared.shell_commands.ShellCmd.{ShellCmd}
+use Rattle.plex_script.specs.CfTypes.declared.cache_commands.CacheCmd.{CacheCmd}
+use Rattle.plex_script.specs.CfTypes.declared.list_commands.ListCmd.{ListCmd}
+use Rattle.plex_script.specs.CfTypes.declared.lock_commands.LockCmd.{LockCmd}
+use Rattle.plex_script.specs.EngineApi.declared.asks.Ask.{Ask}
+use Rattle.plex_script.specs.EngineApi.declared.asks.Ask.TheVariants as ask
+use Rattle.plex_script.specs.PlexPlain.PlainWords as plain
 use Rattle.plex_script.specs.declared.scripts.Script.{Script}
 
 abbrev pub shell_words : Script → ShellCmd → List (List ℕ)

@@ -1,20 +1,20 @@
 -- The lines of a report.
 use Rattle.std.specs.Prelude.{ℕ, ◌+◌, ◌/◌, ◌%◌, Bool, true, false, List, [], ◌∷◌, ◌++◌, zero, suc, length, map, codes}
 use Rattle.std.specs.Fmt.{decimal}
-use Rattle.cf_types.specs.declared.numbers.ConnId.{ConnId}
-use Rattle.cf_types.specs.declared.forms.Kind.{Kind}
-use Rattle.cf_types.specs.declared.forms.Kind.TheVariants as kind
-use Rattle.cf_types.specs.declared.shell_commands.ShellCmd.{ShellCmd}
-use Rattle.cf_types.specs.declared.shell_commands.ShellCmd.TheVariants as cmd
-use Rattle.cf_types.specs.declared.shell_commands.ShellReply.{ShellReply}
-use Rattle.cf_types.specs.declared.shell_commands.ShellReply.TheVariants as shell
-use Rattle.engine_api.specs.declared.asks.Ask.TheVariants as ask
-use Rattle.engine_api.specs.declared.asks.Reply.{Reply}
-use Rattle.engine_api.specs.declared.asks.Reply.TheVariants as reply
-use Rattle.engine_api.specs.declared.asks.What.{What}
-use Rattle.engine_api.specs.declared.asks.What.TheVariants as what
-use Rattle.engine_api.specs.declared.histories.Entry.{Entry}
-use Rattle.plex_spell.specs.Words.{line_of}
+use Rattle.plex_script.specs.CfTypes.declared.numbers.ConnId.{ConnId}
+use Rattle.plex_script.specs.CfTypes.declared.forms.Kind.{Kind}
+use Rattle.plex_script.specs.CfTypes.declared.forms.Kind.TheVariants as kind
+use Rattle.plex_script.specs.CfTypes.declared.shell_commands.ShellCmd.{ShellCmd}
+use Rattle.plex_script.specs.CfTypes.declared.shell_commands.ShellCmd.TheVariants as cmd
+use Rattle.plex_script.specs.CfTypes.declared.shell_commands.ShellReply.{ShellReply}
+use Rattle.plex_script.specs.CfTypes.declared.shell_commands.ShellReply.TheVariants as shell
+use Rattle.plex_script.specs.EngineApi.declared.asks.Ask.TheVariants as ask
+use Rattle.plex_script.specs.EngineApi.declared.asks.Reply.{Reply}
+use Rattle.plex_script.specs.EngineApi.declared.asks.Reply.TheVariants as reply
+use Rattle.plex_script.specs.EngineApi.declared.asks.What.{What}
+use Rattle.plex_script.specs.EngineApi.declared.asks.What.TheVariants as what
+use Rattle.plex_script.specs.EngineApi.declared.histories.Entry.{Entry}
+use Rattle.plex_script.specs.PlexSpell.Words.{line_of}
 use Rattle.plex_script.specs.declared.asks.AnyHistory.{AnyHistory}
 use Rattle.plex_script.specs.declared.asks.AnyHistory.TheVariants as any
 use Rattle.plex_script.specs.declared.scripts.Script.{Script}
@@ -22,7 +22,7 @@ use Rattle.plex_script.specs.declared.transcripts.Shown.{Shown}
 use Rattle.plex_script.specs.declared.transcripts.Shown.TheVariants.{Call, Test, Word, BadIndex, Posted, Took}
 use Rattle.plex_script.specs.declared.transcripts.Transcript.{Transcript}
 use Rattle.plex_script.specs.Causes.{kind_of}
-use Rattle.plex_plain.specs.Naming.{facility_word}
+use Rattle.plex_script.specs.PlexPlain.Naming.{facility_word}
 use Rattle.plex_report.specs.Naming.{caller_name, caller_word, structure_name, structure_word}
 use Rattle.plex_report.specs.CommandWords.{ask_words, cache_words, list_words, lock_words}
 use Rattle.plex_report.specs.RefusalWords.{refusal_words}

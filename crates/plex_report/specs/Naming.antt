@@ -1,8 +1,8 @@
 -- The words for callers and structures of a script.
 use Rattle.std.specs.Prelude.{ℕ, List}
-use Rattle.cf_types.specs.declared.numbers.ConnId.{ConnId}
-use Rattle.cf_types.specs.declared.numbers.StrNo.{StrNo}
-use Rattle.plex_plain.specs.Naming as plain
+use Rattle.plex_script.specs.CfTypes.declared.numbers.ConnId.{ConnId}
+use Rattle.plex_script.specs.CfTypes.declared.numbers.StrNo.{StrNo}
+use Rattle.plex_script.specs.PlexPlain.Naming as plain
 use Rattle.plex_script.specs.declared.scripts.Script.{Script}
 
 abbrev pub caller_name : Script → ℕ → List ℕ

@@ -1,17 +1,17 @@
 -- The words of refusals.
 use Rattle.std.specs.Prelude.{ℕ, List, [], ◌∷◌, Option, None, Some, codes}
 use Rattle.std.specs.Fmt.{decimal}
-use Rattle.cf_types.specs.declared.numbers.ConnId.{ConnId}
-use Rattle.cf_types.specs.declared.events.Stage.{Stage}
-use Rattle.cf_types.specs.declared.events.Stage.TheVariants as stage
-use Rattle.cf_types.specs.declared.refusals.StateWord.{StateWord}
-use Rattle.cf_types.specs.declared.refusals.StateWord.TheVariants.{Active, Leaving, Gone}
-use Rattle.cf_types.specs.declared.refusals.Refusal.{Refusal}
-use Rattle.cf_types.specs.declared.refusals.Refusal.TheVariants.{NotRegistered, IndexInUse, BadIndex, IsChanged, NotChanged, CastoutHeld, NotHeld, NoEntry, DirectoryFull, NoElements, BadClass, NoRecordThere, NameTaken, BadHeader, ListFull, EntriesFull, NoListElements, LockHeld, LockNotHeldBy, WrongReference, HeaderInUse, BadLock, VersionDiffers, AlreadyInterested, NotInterested, RecordsFull, NotManager, NoWaiter, NoRecord, StillPending, NotConnected, NameActive, TooManyConns, NotFailed, HasConnections, NoSpace, NothingOwed, RebuildInProgress, NoRebuild, WrongStage, ItemsLeft, TooSmall, Quiesced, LostConn, LostFacility, StructureFailed, NoFacility, AlreadyDuplexed, NoEvent, NotAllocated}
-use Rattle.plex_spell.specs.Tokens.{name_word}
+use Rattle.plex_script.specs.CfTypes.declared.numbers.ConnId.{ConnId}
+use Rattle.plex_script.specs.CfTypes.declared.events.Stage.{Stage}
+use Rattle.plex_script.specs.CfTypes.declared.events.Stage.TheVariants as stage
+use Rattle.plex_script.specs.CfTypes.declared.refusals.StateWord.{StateWord}
+use Rattle.plex_script.specs.CfTypes.declared.refusals.StateWord.TheVariants.{Active, Leaving, Gone}
+use Rattle.plex_script.specs.CfTypes.declared.refusals.Refusal.{Refusal}
+use Rattle.plex_script.specs.CfTypes.declared.refusals.Refusal.TheVariants.{NotRegistered, IndexInUse, BadIndex, IsChanged, NotChanged, CastoutHeld, NotHeld, NoEntry, DirectoryFull, NoElements, BadClass, NoRecordThere, NameTaken, BadHeader, ListFull, EntriesFull, NoListElements, LockHeld, LockNotHeldBy, WrongReference, HeaderInUse, BadLock, VersionDiffers, AlreadyInterested, NotInterested, RecordsFull, NotManager, NoWaiter, NoRecord, StillPending, NotConnected, NameActive, TooManyConns, NotFailed, HasConnections, NoSpace, NothingOwed, RebuildInProgress, NoRebuild, WrongStage, ItemsLeft, TooSmall, Quiesced, LostConn, LostFacility, StructureFailed, NoFacility, AlreadyDuplexed, NoEvent, NotAllocated}
+use Rattle.plex_script.specs.PlexSpell.Tokens.{name_word}
 use Rattle.plex_script.specs.declared.scripts.Script.{Script}
-use Rattle.plex_plain.specs.Naming.{facility_word, record_word}
-use Rattle.plex_plain.specs.PlainWords.{refs_word, state_word}
+use Rattle.plex_script.specs.PlexPlain.Naming.{facility_word, record_word}
+use Rattle.plex_script.specs.PlexPlain.PlainWords.{refs_word, state_word}
 use Rattle.plex_report.specs.Naming.{caller_word}
 
 abbrev pub connection_word : StateWord → List ℕ

@@ -1,22 +1,22 @@
 -- The words of events and replies.
 use Rattle.std.specs.Prelude.{ℕ, Bool, true, false, List, [], ◌∷◌, ◌++◌, length, map, Option, None, Some, codes}
 use Rattle.std.specs.Fmt.{decimal}
-use Rattle.cf_types.specs.declared.names.Name16.{Name16}
-use Rattle.cf_types.specs.declared.resources.Resource.{Resource}
-use Rattle.cf_types.specs.declared.events.Event.{Event}
-use Rattle.cf_types.specs.declared.events.Event.TheVariants as event
-use Rattle.cf_types.specs.declared.shell_commands.ShellReply.{ShellReply}
-use Rattle.cf_types.specs.declared.shell_commands.ShellReply.TheVariants as shell
-use Rattle.cf_types.specs.declared.cache_commands.CacheReply.{CacheReply}
-use Rattle.cf_types.specs.declared.cache_commands.CacheReply.TheVariants as cache
-use Rattle.cf_types.specs.declared.list_commands.ListReply.{ListReply}
-use Rattle.cf_types.specs.declared.list_commands.ListReply.TheVariants as list
-use Rattle.cf_types.specs.declared.lock_commands.LockReply.{LockReply}
-use Rattle.cf_types.specs.declared.lock_commands.LockReply.TheVariants as lock
-use Rattle.plex_spell.specs.Tokens.{name_word}
+use Rattle.plex_script.specs.CfTypes.declared.names.Name16.{Name16}
+use Rattle.plex_script.specs.CfTypes.declared.resources.Resource.{Resource}
+use Rattle.plex_script.specs.CfTypes.declared.events.Event.{Event}
+use Rattle.plex_script.specs.CfTypes.declared.events.Event.TheVariants as event
+use Rattle.plex_script.specs.CfTypes.declared.shell_commands.ShellReply.{ShellReply}
+use Rattle.plex_script.specs.CfTypes.declared.shell_commands.ShellReply.TheVariants as shell
+use Rattle.plex_script.specs.CfTypes.declared.cache_commands.CacheReply.{CacheReply}
+use Rattle.plex_script.specs.CfTypes.declared.cache_commands.CacheReply.TheVariants as cache
+use Rattle.plex_script.specs.CfTypes.declared.list_commands.ListReply.{ListReply}
+use Rattle.plex_script.specs.CfTypes.declared.list_commands.ListReply.TheVariants as list
+use Rattle.plex_script.specs.CfTypes.declared.lock_commands.LockReply.{LockReply}
+use Rattle.plex_script.specs.CfTypes.declared.lock_commands.LockReply.TheVariants as lock
+use Rattle.plex_script.specs.PlexSpell.Tokens.{name_word}
 use Rattle.plex_script.specs.declared.scripts.Script.{Script}
-use Rattle.plex_plain.specs.Naming.{facility_word, record_word, resource_word}
-use Rattle.plex_plain.specs.PlainWords.{told_words, text_words, name_words, key_words, state_word}
+use Rattle.plex_script.specs.PlexPlain.Naming.{facility_word, record_word, resource_word}
+use Rattle.plex_script.specs.PlexPlain.PlainWords.{told_words, text_words, name_words, key_words, state_word}
 use Rattle.plex_report.specs.Naming.{caller_word}
 use Rattle.plex_report.specs.RefusalWords.{holder_word}
 

@@ -4,12 +4,12 @@ use Rattle.std.specs.List.{flat_map, sum_by}
 use Rattle.std.specs.Option.{option_map_or}
 use Rattle.plex_report.specs.declared.spots.Spot.{Spot}
 use Rattle.plex_report.specs.declared.spots.Spot.TheVariants.{Within, Past}
-use Rattle.cf_types.specs.declared.forms.Pref.{Pref}
+use Rattle.plex_script.specs.CfTypes.declared.forms.Pref.{Pref}
 use Rattle.plex_script.specs.declared.asks.AnyHistory.{AnyHistory}
 use Rattle.plex_script.specs.declared.scripts.Script.{Script}
 use Rattle.plex_script.specs.declared.transcripts.Transcript.{Transcript}
-use Rattle.plex_spell.specs.Words.{line_text}
-use Rattle.plex_plain.specs.PolicyLines.{facility_line, structure_lines, connector_line}
+use Rattle.plex_script.specs.PlexSpell.Words.{line_text}
+use Rattle.plex_script.specs.PlexPlain.PolicyLines.{facility_line, structure_lines, connector_line}
 use Rattle.plex_report.specs.Lines.{history_lines, transcript_lines}
 
 -- the facilities CF1 to CF4 by number

@@ -2,8 +2,8 @@
 
 ghost use Rattle.std.specs.Prelude.{◌≡◌, ◌∷◌, ◌++◌, [], codes, OnOk};
 ghost use Rattle.std.specs.Fmt.{decimal};
-ghost use Rattle.plex_spell.specs.Words.{tail_of};
-ghost use Rattle.plex_plain.specs.PlainWords.{told_words, text_words};
+ghost use Rattle.plex_script.specs.PlexSpell.Words.{tail_of};
+ghost use Rattle.plex_script.specs.PlexPlain.PlainWords.{told_words, text_words};
 ghost use Rattle.plex_report.specs.CommandWords.{cache_words};
 ghost use Rattle.plex_report.specs.ReplyWords.{cache_reply_words, changed_word, class_words};
 ghost use Rattle.plex_report.specs.RefusalWords.{holder_word};
@@ -11,9 +11,9 @@ ghost use Rattle.plex_report.specs.RefusalWords.{holder_word};
 use crate::items::put_counted;
 use crate::line_text::put_holder;
 use crate::spelled::Spelled;
-use cf_types::{Adjunct, Body, CacheCmd, CacheReply, ConnId, NoMemory};
-use plex_plain::{put_cache, put_numbers, put_of, put_option, put_word};
 use plex_script::Script;
+use plex_script::plain::{put_cache, put_numbers, put_of, put_option, put_word};
+use plex_script::types::{Adjunct, Body, CacheCmd, CacheReply, ConnId, NoMemory};
 
 impl Spelled for CacheCmd {
     ghost words = { cache_words };

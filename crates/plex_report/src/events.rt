@@ -1,15 +1,15 @@
 //! The words of events.
 
 ghost use Rattle.std.specs.Prelude.{◌≡◌, ◌∷◌, ◌++◌, [], OnOk};
-ghost use Rattle.plex_spell.specs.Words.{tail_of};
-ghost use Rattle.plex_plain.specs.Naming.{resource_word};
+ghost use Rattle.plex_script.specs.PlexSpell.Words.{tail_of};
+ghost use Rattle.plex_script.specs.PlexPlain.Naming.{resource_word};
 ghost use Rattle.plex_report.specs.Naming.{caller_word};
 ghost use Rattle.plex_report.specs.ReplyWords.{event_words};
 
 use crate::line_text::put_caller;
-use cf_types::{ConnId, Event, NoMemory, Resource};
-use plex_plain::{put_at, put_of, put_resource, put_word, state_text};
 use plex_script::Script;
+use plex_script::plain::{put_at, put_of, put_resource, put_word, state_text};
+use plex_script::types::{ConnId, Event, NoMemory, Resource};
 
 // A word and a connector.
 fn put_about(line: &mut Vec<u8>, script: &Script, word: &[u8], conn: ConnId) -> Result<(), NoMemory>

@@ -2,16 +2,16 @@
 
 ghost use Rattle.std.specs.Prelude.{◌≡◌, ℕ, List, ◌∷◌, ◌++◌, [], codes, map, OnOk};
 ghost use Rattle.std.specs.Fmt.{decimal};
-ghost use Rattle.plex_spell.specs.Tokens.{name_word};
-ghost use Rattle.plex_spell.specs.Words.{tail_of};
-ghost use Rattle.plex_plain.specs.Naming.{record_word};
+ghost use Rattle.plex_script.specs.PlexSpell.Tokens.{name_word};
+ghost use Rattle.plex_script.specs.PlexSpell.Words.{tail_of};
+ghost use Rattle.plex_script.specs.PlexPlain.Naming.{record_word};
 ghost use Rattle.plex_report.specs.ReplyWords.{index_word, count_word, held_word, counted_words};
 
-use cf_types::{Adjunct, EntryId, Name16, NoMemory, Resource};
-use plex_plain::{
+use plex_script::plain::{
     put_digits, put_name, put_number, put_record, put_resource, put_text, put_word, state_text,
 };
-use plex_spell::name_text;
+use plex_script::spell::name_text;
+use plex_script::types::{Adjunct, EntryId, Name16, NoMemory, Resource};
 
 /// An item of a reply.
 pub(crate) trait Item {

@@ -15,5 +15,6 @@ mod shell_text;
 mod spelled;
 mod spots;
 
+pub use plex_script::spell as spell;
 pub use replies::{put_cache_reply, put_list_reply, put_lock_reply};
 pub use report::{Report, line, render};

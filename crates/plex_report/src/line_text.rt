@@ -3,13 +3,13 @@
 
 ghost use Rattle.std.specs.Prelude.{◌≡◌, ◌∷◌, ◌++◌, [], OnOk, IfOk};
 ghost use Rattle.std.specs.Fmt.{decimal};
-ghost use Rattle.plex_spell.specs.Words.{tail_of};
+ghost use Rattle.plex_script.specs.PlexSpell.Words.{tail_of};
 ghost use Rattle.plex_report.specs.Naming.{caller_word, caller_name, structure_name, structure_word};
 ghost use Rattle.plex_report.specs.RefusalWords.{holder_word};
 
-use cf_types::{ConnId, NoMemory, StrNo};
-use plex_plain::{put_digits, put_word};
 use plex_script::Script;
+use plex_script::plain::{put_digits, put_word};
+use plex_script::types::{ConnId, NoMemory, StrNo};
 use std::alloc::Global;
 
 /// Puts a blank and the name of the caller with this number to a line.
@@ -21,7 +21,7 @@ pub(crate) fn put_caller_name(
     ensures { OnOk result (line.new.items ≡ line.old.items
         ++ tail_of (caller_name script.now number ∷ [])) }
 {
-    plex_plain::put_caller(line, script.connectors.items(), number)
+    plex_script::plain::put_caller(line, script.connectors.items(), number)
 }
 
 /// Puts a blank and a caller to a line.
@@ -55,7 +55,7 @@ pub(crate) fn put_structure_name(
 ) -> Result<(), NoMemory>
     ensures { OnOk result (line.new.items ≡ line.old.items ++ structure_name script.now number) }
 {
-    plex_plain::put_structure_name(line, script.structures.items(), number)
+    plex_script::plain::put_structure_name(line, script.structures.items(), number)
 }
 
 /// A line that begins with a structure.

@@ -2,8 +2,8 @@
 
 ghost use Rattle.std.specs.Prelude.{◌≡◌, ◌∷◌, ◌++◌, [], codes, length, IfOk, OnOk};
 ghost use Rattle.std.specs.Fmt.{decimal};
-ghost use Rattle.plex_spell.specs.Words.{tail_of};
-ghost use Rattle.plex_plain.specs.PolicyLines.{facility_line, form_line, pref_line, connector_line};
+ghost use Rattle.plex_script.specs.PlexSpell.Words.{tail_of};
+ghost use Rattle.plex_script.specs.PlexPlain.PolicyLines.{facility_line, form_line, pref_line, connector_line};
 ghost use Rattle.plex_script.specs.Causes.{kind_of};
 ghost use Rattle.plex_report.specs.Naming.{caller_name, structure_name};
 ghost use Rattle.plex_report.specs.CommandWords.{ask_words};
@@ -15,11 +15,13 @@ use crate::line_text::{
 };
 use crate::refusals::put_refusal;
 use crate::spelled::Spelled;
-use cf_types::{ConnId, Kind, Name16, NoMemory, Pref, ShellCmd, ShellReply, StrForm, StrNo};
-use engine_api::{Ask, Entry, Reply, What};
-use plex_plain::{
+use plex_script::api::{Ask, Entry, Reply, What};
+use plex_script::plain::{
     put_connector_line, put_facility, put_facility_line, put_form_line, put_number, put_of,
     put_pref_line, put_word,
+};
+use plex_script::types::{
+    ConnId, Kind, Name16, NoMemory, Pref, ShellCmd, ShellReply, StrForm, StrNo,
 };
 use plex_script::{Script, Shown};
 use std::alloc::Global;

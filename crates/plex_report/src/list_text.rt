@@ -2,19 +2,19 @@
 
 ghost use Rattle.std.specs.Prelude.{◌≡◌, ◌∷◌, ◌++◌, [], codes, OnOk};
 ghost use Rattle.std.specs.Fmt.{decimal};
-ghost use Rattle.plex_spell.specs.Words.{tail_of};
-ghost use Rattle.plex_plain.specs.Naming.{record_word};
+ghost use Rattle.plex_script.specs.PlexSpell.Words.{tail_of};
+ghost use Rattle.plex_script.specs.PlexPlain.Naming.{record_word};
 ghost use Rattle.plex_report.specs.CommandWords.{list_words};
 ghost use Rattle.plex_report.specs.ReplyWords.{list_reply_words};
 
 use crate::items::put_counted;
 use crate::line_text::put_holder;
 use crate::spelled::Spelled;
-use cf_types::{EntryId, ListCmd, ListReply, NoMemory};
-use plex_plain::{
+use plex_script::Script;
+use plex_script::plain::{
     put_content, put_label, put_list, put_number, put_numbers, put_of, put_record, put_word,
 };
-use plex_script::Script;
+use plex_script::types::{EntryId, ListCmd, ListReply, NoMemory};
 
 impl Spelled for ListCmd {
     ghost words = { list_words };

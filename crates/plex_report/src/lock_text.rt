@@ -5,9 +5,9 @@ ghost use Rattle.plex_report.specs.ReplyWords.{lock_reply_words};
 
 use crate::items::put_counted;
 use crate::spelled::Spelled;
-use cf_types::{LockCmd, LockReply, NoMemory};
-use plex_plain::{put_lock, put_of, put_word};
 use plex_script::Script;
+use plex_script::plain::{put_lock, put_of, put_word};
+use plex_script::types::{LockCmd, LockReply, NoMemory};
 
 impl Spelled for LockCmd {
     ghost words = { lock_words };

@@ -1,15 +1,15 @@
 //! The words of refusals.
 
 ghost use Rattle.std.specs.Prelude.{◌≡◌, ◌∷◌, ◌++◌, [], OnOk};
-ghost use Rattle.plex_spell.specs.Words.{tail_of};
+ghost use Rattle.plex_script.specs.PlexSpell.Words.{tail_of};
 ghost use Rattle.plex_report.specs.RefusalWords.{connection_word, stage_word, refusal_number, refusal_word, refusal_fields, refusal_words};
 
 use crate::line_text::{put_caller, put_holder};
-use cf_types::{NoMemory, Refusal, Stage, StateWord};
-use plex_plain::{
+use plex_script::Script;
+use plex_script::plain::{
     put_facility, put_name, put_number, put_numbers, put_record, put_word, refs_text, state_text,
 };
-use plex_script::Script;
+use plex_script::types::{NoMemory, Refusal, Stage, StateWord};
 
 // The word for the state of a connection.
 fn connection_text(state: StateWord) -> &'static [u8]

@@ -2,14 +2,14 @@
 //! lacks the `OK` that an entry has before what became of the structure.
 
 ghost use Rattle.std.specs.Prelude.{◌≡◌, ◌++◌, OnOk, false};
-ghost use Rattle.plex_spell.specs.Words.{tail_of};
+ghost use Rattle.plex_script.specs.PlexSpell.Words.{tail_of};
 ghost use Rattle.plex_report.specs.Lines.{reply_words};
 ghost use Rattle.plex_report.specs.ReplyWords.{cache_reply_words, list_reply_words, lock_reply_words};
 
 use crate::lines::put_reply;
-use cf_types::{CacheReply, ListReply, LockReply, NoMemory};
-use engine_api::Reply;
 use plex_script::Script;
+use plex_script::api::Reply;
+use plex_script::types::{CacheReply, ListReply, LockReply, NoMemory};
 
 /// Puts the words of a reply of a cache structure to a line, with a blank before each. Where there is
 /// no memory for a word, the line is left in the middle of it.

@@ -1,8 +1,8 @@
 //! The report, line by line and whole.
 
 ghost use Rattle.std.specs.Prelude.{◌≡◌, ℕ, ◌∷◌, ◌++◌, [], ◌==◌, codes, map, option_map, slice_get, IfOk, OnOk};
-ghost use Rattle.plex_spell.specs.Words.{line_text};
-ghost use Rattle.plex_plain.specs.PolicyLines.{connector_line, structure_lines};
+ghost use Rattle.plex_script.specs.PlexSpell.Words.{line_text};
+ghost use Rattle.plex_script.specs.PlexPlain.PolicyLines.{connector_line, structure_lines};
 ghost use Rattle.plex_report.specs.Lines.{entry_lines, history_lines, transcript_lines};
 ghost use Rattle.plex_report.specs.Report.{with_number, by_number, structures_lines, histories_lines, transcripts_lines, lines_behind, report_lines, report};
 
@@ -12,8 +12,8 @@ use crate::lines::{
 };
 use crate::spelled::Spelled;
 use crate::spots::{Spot, spot_of};
-use cf_types::{NoMemory, Pref, StrForm};
-use engine_api::Entry;
+use plex_script::api::Entry;
+use plex_script::types::{NoMemory, Pref, StrForm};
 use plex_script::{AnyHistory, Script, Transcript};
 use std::alloc::Global;
 use std::marker::Model;
@@ -258,7 +258,7 @@ pub struct Report<'a> {
 
 impl<'a> Model for Report<'a> {
     ghost use Rattle.std.specs.Prelude.{◌≡◌, ℕ, List, map};
-    ghost use Rattle.plex_spell.specs.Words.{line_text};
+    ghost use Rattle.plex_script.specs.PlexSpell.Words.{line_text};
     ghost use Rattle.plex_report.specs.Report.{by_number, report_lines};
 
     ghost Value = { List (List ℕ) };

@@ -5,9 +5,9 @@ ghost use Rattle.plex_report.specs.ReplyWords.{shell_reply_words};
 
 use crate::events::put_event;
 use crate::spelled::Spelled;
-use cf_types::{NoMemory, ShellCmd, ShellReply};
-use plex_plain::{put_at, put_numbers, put_of, put_shell, put_word};
 use plex_script::Script;
+use plex_script::plain::{put_at, put_numbers, put_of, put_shell, put_word};
+use plex_script::types::{NoMemory, ShellCmd, ShellReply};
 
 impl Spelled for ShellCmd {
     ghost words = { shell_words };

@@ -1,11 +1,11 @@
 //! What is spelled by words of a line: commands and replies.
 
 ghost use Rattle.std.specs.Prelude.{◌≡◌, ℕ, List, ◌++◌, OnOk};
-ghost use Rattle.plex_spell.specs.Words.{tail_of};
+ghost use Rattle.plex_script.specs.PlexSpell.Words.{tail_of};
 ghost use Rattle.plex_script.specs.declared.scripts.Script.{Script};
 
-use cf_types::NoMemory;
 use plex_script::Script;
+use plex_script::types::NoMemory;
 
 /// A command or a reply, and its words in a script's report.
 pub(crate) trait Spelled {

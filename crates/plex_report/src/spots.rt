@@ -4,7 +4,7 @@ ghost use Rattle.std.specs.Prelude.{◌≡◌, ℕ, ◌<◌, length};
 ghost use Rattle.plex_report.specs.Report.{IsSpot};
 ghost use Rattle.plex_report.specs.Lines.{any_length};
 
-use cf_types::StrForm;
+use plex_script::types::StrForm;
 use plex_script::{AnyHistory, Transcript};
 
 /// A heading, and lines for so many items behind it.

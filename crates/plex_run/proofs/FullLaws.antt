@@ -7,17 +7,17 @@ use Rattle.std.proofs.lemmas.List.Folds.{Any-from_list_any, find_at}
 use Rattle.std.proofs.lemmas.List.FromFn.{get_or-enumerate_from, length-enumerate_from}
 use Rattle.std.proofs.lemmas.List.Sums.{passes_at_first}
 use Rattle.std.proofs.lemmas.Option.{get_or_from_slice_get, slice_get-get_or, slice_get_read, slice_get_within}
-use Rattle.cf_types.specs.declared.forms.StrForm.{StrForm}
-use Rattle.cf_types.specs.declared.numbers.ConnId.{ConnId}
-use Rattle.cf_types.specs.declared.numbers.StrNo.{StrNo}
-use Rattle.plex_script.specs.declared.asks.AnyHistory.{AnyHistory}
-use Rattle.plex_script.specs.declared.scripts.Script.{Script}
-use Rattle.plex_script.specs.declared.transcripts.AgentEnd.{AgentEnd}
-use Rattle.plex_script.specs.declared.transcripts.AgentEnd.TheVariants as ended
-use Rattle.plex_script.specs.declared.transcripts.Shown.{Shown}
-use Rattle.plex_script.specs.declared.transcripts.Transcript.{Transcript}
-use Rattle.plex_script.specs.Heard.{length_on}
-use Rattle.run_model.specs.Headline.{EndsRight, ShowsHistories}
+use Rattle.plex_load.specs.CfTypes.declared.forms.StrForm.{StrForm}
+use Rattle.plex_load.specs.CfTypes.declared.numbers.ConnId.{ConnId}
+use Rattle.plex_load.specs.CfTypes.declared.numbers.StrNo.{StrNo}
+use Rattle.plex_load.specs.PlexScript.declared.asks.AnyHistory.{AnyHistory}
+use Rattle.plex_load.specs.PlexScript.declared.scripts.Script.{Script}
+use Rattle.plex_load.specs.PlexScript.declared.transcripts.AgentEnd.{AgentEnd}
+use Rattle.plex_load.specs.PlexScript.declared.transcripts.AgentEnd.TheVariants as ended
+use Rattle.plex_load.specs.PlexScript.declared.transcripts.Shown.{Shown}
+use Rattle.plex_load.specs.PlexScript.declared.transcripts.Transcript.{Transcript}
+use Rattle.plex_load.specs.PlexScript.Heard.{length_on}
+use Rattle.plex_agent.specs.PlexBoard.Headline.{EndsRight, ShowsHistories}
 use Rattle.run_laws.specs.Bounds.{IsWithinScript, most_entries}
 use Rattle.run_laws.specs.Readings.{Reading}
 use Rattle.plex_run.specs.Full.{ends_full_at, is_full_at}

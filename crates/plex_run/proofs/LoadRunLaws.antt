@@ -1,10 +1,10 @@
 -- The run of a load: its script can be run, and fills no journal.
 use Rattle.std.proofs.Common.{◌≡◌, ℕ, ◌≤◌, ◌⊎◌, inr, Option, Some, None, refl, subst, arith}
 use Rattle.std.specs.Prelude.{Result, Ok, Err, IfOk}
-use Rattle.cf_types.specs.declared.names.Name16.{Name16}
-use Rattle.plex_script.specs.declared.scripts.Script.{Script}
-use Rattle.plex_script.specs.Printed.{script_text}
-use Rattle.run_model.specs.Runnable.{IsRunnable}
+use Rattle.plex_load.specs.CfTypes.declared.names.Name16.{Name16}
+use Rattle.plex_load.specs.PlexScript.declared.scripts.Script.{Script}
+use Rattle.plex_load.specs.PlexScript.Printed.{script_text}
+use Rattle.plex_agent.specs.PlexBoard.Runnable.{IsRunnable}
 use Rattle.run_laws.specs.Bounds.{most_calls}
 use Rattle.run_laws.specs.Readings.{Reading}
 use Rattle.plex_load.specs.Generated.{load_script}

@@ -1,10 +1,10 @@
 -- Which texts are taken for lock words, and what their status tells.
 use Rattle.std.proofs.Common.{◌≡◌, ◌≢◌, ℕ, ◌≤◌, ◌⊎◌, inl, inr, List, length, Some, None, refl, sym, ◌∙◌, subst, arith}
 use Rattle.std.specs.Prelude.{codes}
-use Rattle.plex_script.specs.declared.faults.Why.{Why}
-use Rattle.plex_script.specs.declared.scripts.Script.{Script}
-use Rattle.plex_script.specs.Scripts.{IsScript}
-use Rattle.plex_script.specs.Laws.{SaysOne, IsExclusive}
+use Rattle.plex_load.specs.PlexScript.declared.faults.Why.{Why}
+use Rattle.plex_load.specs.PlexScript.declared.scripts.Script.{Script}
+use Rattle.plex_load.specs.PlexScript.Scripts.{IsScript}
+use Rattle.plex_load.specs.PlexScript.Laws.{SaysOne, IsExclusive}
 use Rattle.plex_locks.specs.declared.told.Locked.{Locked}
 use Rattle.plex_locks.specs.Others.{first_other}
 use Rattle.plex_locks.specs.Told.{IsLocked, locks_text}

@@ -1,18 +1,18 @@
 -- Which texts are scripts, and what their status tells.
 use Rattle.std.proofs.Common.{◌≡◌, ◌≢◌, ℕ, ◌≤◌, ◌<◌, ◌⊎◌, inl, inr, true, false, List, length, Option, Some, None, refl, sym, ◌∙◌, subst, arith}
 use Rattle.std.specs.Prelude.{is_some}
-use Rattle.cf_types.specs.declared.numbers.CfId.{CfId}
-use Rattle.cf_link.specs.Links.{Telling}
-use Rattle.plex_script.specs.declared.faults.Why.{Why}
-use Rattle.plex_script.specs.declared.faults.ReadFault.{ReadFault}
-use Rattle.plex_script.specs.declared.faults.ReadFault.TheVariants as faults
-use Rattle.plex_script.specs.Reading.{TellsFault}
-use Rattle.plex_script.specs.declared.scripts.Script.{Script}
-use Rattle.plex_script.specs.Scripts.{IsScript}
-use Rattle.plex_script.specs.Laws.{SaysOne, IsExclusive}
-use Rattle.plex_script.specs.declared.asks.AnyHistory.{AnyHistory}
-use Rattle.plex_script.specs.declared.transcripts.Transcript.{Transcript}
-use Rattle.run_model.specs.Headline.{ShowsHistories}
+use Rattle.plex_load.specs.CfTypes.declared.numbers.CfId.{CfId}
+use Rattle.plex_agent.specs.CfLink.Links.{Telling}
+use Rattle.plex_load.specs.PlexScript.declared.faults.Why.{Why}
+use Rattle.plex_load.specs.PlexScript.declared.faults.ReadFault.{ReadFault}
+use Rattle.plex_load.specs.PlexScript.declared.faults.ReadFault.TheVariants as faults
+use Rattle.plex_load.specs.PlexScript.Reading.{TellsFault}
+use Rattle.plex_load.specs.PlexScript.declared.scripts.Script.{Script}
+use Rattle.plex_load.specs.PlexScript.Scripts.{IsScript}
+use Rattle.plex_load.specs.PlexScript.Laws.{SaysOne, IsExclusive}
+use Rattle.plex_load.specs.PlexScript.declared.asks.AnyHistory.{AnyHistory}
+use Rattle.plex_load.specs.PlexScript.declared.transcripts.Transcript.{Transcript}
+use Rattle.plex_agent.specs.PlexBoard.Headline.{ShowsHistories}
 use Rattle.run_laws.specs.Valid.{ShowsFresh}
 use Rattle.run_laws.specs.Readings.{Reading, IsOnlyReading}
 use Rattle.plex_run.specs.declared.way.Way.{Way}

@@ -5,15 +5,15 @@ use Rattle.std.specs.List.{enumerate_from}
 use Rattle.std.proofs.lemmas.Bool.Decides.{nat_tests}
 use Rattle.std.proofs.lemmas.List.Folds.{list_any_at}
 use Rattle.std.proofs.lemmas.Option.{get_or_from_slice_get, slice_get_within}
-use Rattle.cf_types.specs.declared.forms.StrForm.{StrForm}
-use Rattle.plex_script.specs.declared.asks.AnyHistory.{AnyHistory}
-use Rattle.plex_script.specs.declared.scripts.Script.{Script}
-use Rattle.plex_script.specs.declared.transcripts.AgentEnd.{AgentEnd}
-use Rattle.plex_script.specs.declared.transcripts.AgentEnd.TheVariants as ended
-use Rattle.plex_script.specs.declared.transcripts.Transcript.{Transcript}
-use Rattle.plex_script.specs.Heard.{length_on}
-use Rattle.plex_script.specs.Scripts.{IsScript}
-use Rattle.run_model.specs.Headline.{ShowsHistories, EndsRight}
+use Rattle.plex_load.specs.CfTypes.declared.forms.StrForm.{StrForm}
+use Rattle.plex_load.specs.PlexScript.declared.asks.AnyHistory.{AnyHistory}
+use Rattle.plex_load.specs.PlexScript.declared.scripts.Script.{Script}
+use Rattle.plex_load.specs.PlexScript.declared.transcripts.AgentEnd.{AgentEnd}
+use Rattle.plex_load.specs.PlexScript.declared.transcripts.AgentEnd.TheVariants as ended
+use Rattle.plex_load.specs.PlexScript.declared.transcripts.Transcript.{Transcript}
+use Rattle.plex_load.specs.PlexScript.Heard.{length_on}
+use Rattle.plex_load.specs.PlexScript.Scripts.{IsScript}
+use Rattle.plex_agent.specs.PlexBoard.Headline.{ShowsHistories, EndsRight}
 use Rattle.run_laws.specs.Readings.{Reading, IsReading, IsTheReading, IsOnlyReading, report_of}
 use Rattle.run_laws.proofs.Tests.{is_reading}
 use Rattle.plex_run.specs.Full.{ends_full_at, is_full_at, full_structure}

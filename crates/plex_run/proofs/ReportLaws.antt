@@ -4,7 +4,7 @@ use Rattle.std.specs.List.{concat, flat_map, slice_get}
 use Rattle.std.specs.Io.KnownBytes.{Appends}
 use Rattle.std.proofs.lemmas.List.Folds.{concat-append}
 use Rattle.std.proofs.lemmas.List.{take-append-drop}
-use Rattle.plex_spell.specs.Words.{line_text}
+use Rattle.plex_load.specs.PlexSpell.Words.{line_text}
 use Rattle.plex_run.specs.Written.{GainsPrefix}
 use Rattle.plex_run.specs.Pieces.{PassesOn}
 use Rattle.plex_run.proofs.Written.{GainsPrefix-before}

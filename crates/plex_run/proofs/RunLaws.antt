@@ -1,17 +1,17 @@
 -- What the runs on one thread and on many leave is what a run leaves.
 use Rattle.std.proofs.Common.{◌≡◌, ℕ, List, length, Option, Result, Ok, Err, IfOk, sym, ap, ◌∙◌, arith}
 use Rattle.std.proofs.lemmas.Option.{slice_get_within}
-use Rattle.list_laws.proofs.TableLaws.{get_within}
-use Rattle.cf_types.specs.declared.memory.NoMemory.{NoMemory}
-use Rattle.cf_types.specs.declared.numbers.CfId.{CfId}
-use Rattle.cf_link.specs.Links.{Telling}
-use Rattle.plex_script.specs.declared.asks.AnyHistory.{AnyHistory}
-use Rattle.plex_script.specs.declared.scripts.Script.{Script}
-use Rattle.plex_script.specs.declared.transcripts.Transcript.{Transcript}
-use Rattle.run_model.specs.Headline.{ShowsHistories}
-use Rattle.run_model.specs.RunLinks.{AreTelling, AreRunLinks}
-use Rattle.run_model.specs.Serial.{serial_run}
-use Rattle.plex_work.specs.declared.in_turn.Finished.{Finished}
+use Rattle.plex_agent.proofs.CfLists.TableLaws.{get_within}
+use Rattle.plex_load.specs.CfTypes.declared.memory.NoMemory.{NoMemory}
+use Rattle.plex_load.specs.CfTypes.declared.numbers.CfId.{CfId}
+use Rattle.plex_agent.specs.CfLink.Links.{Telling}
+use Rattle.plex_load.specs.PlexScript.declared.asks.AnyHistory.{AnyHistory}
+use Rattle.plex_load.specs.PlexScript.declared.scripts.Script.{Script}
+use Rattle.plex_load.specs.PlexScript.declared.transcripts.Transcript.{Transcript}
+use Rattle.plex_agent.specs.PlexBoard.Headline.{ShowsHistories}
+use Rattle.plex_agent.specs.PlexBoard.RunLinks.{AreTelling, AreRunLinks}
+use Rattle.plex_agent.specs.PlexBoard.Serial.{serial_run}
+use Rattle.plex_agent.specs.declared.in_turn.Finished.{Finished}
 use Rattle.run_laws.specs.Readings.{Reading}
 use Rattle.run_laws.proofs.MarkLaws.{marks_facilities}
 use Rattle.plex_run.specs.declared.way.Way.{Way}

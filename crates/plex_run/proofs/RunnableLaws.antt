@@ -1,21 +1,21 @@
 -- A script can be run.
 use Rattle.std.proofs.Common.{◌≡◌, Option, Some, None, option_map, refl}
 use Rattle.std.specs.Prelude.{IsTrue}
-use Rattle.cf_types.specs.declared.forms.Kind.{Kind}
-use Rattle.cf_types.specs.declared.forms.Kind.TheVariants as kind
-use Rattle.cf_types.specs.declared.forms.StrForm.{StrForm}
-use Rattle.cf_types.specs.declared.numbers.ConnId.{ConnId}
-use Rattle.plex_script.specs.declared.scripts.AnyAsk.{AnyAsk}
-use Rattle.plex_script.specs.declared.scripts.AnyAsk.TheVariants as any
-use Rattle.plex_script.specs.declared.scripts.Act.{Act}
-use Rattle.plex_script.specs.declared.scripts.Act.TheVariants as act
-use Rattle.plex_script.specs.declared.scripts.Line.{Line}
-use Rattle.plex_script.specs.declared.scripts.Script.{Script}
-use Rattle.plex_script.specs.LineWords.{is_ask_of}
-use Rattle.plex_script.specs.WellFormed.{IsWellFormed, IsLineOf, IsActOf, MayAskAny}
-use Rattle.run_model.specs.Kinds.{IsAskOf}
-use Rattle.run_model.specs.Runnable.{IsRunnable, IsRunnableLine, IsRunnableAct}
-use Rattle.run_model.specs.Kinds as kinds
+use Rattle.plex_load.specs.CfTypes.declared.forms.Kind.{Kind}
+use Rattle.plex_load.specs.CfTypes.declared.forms.Kind.TheVariants as kind
+use Rattle.plex_load.specs.CfTypes.declared.forms.StrForm.{StrForm}
+use Rattle.plex_load.specs.CfTypes.declared.numbers.ConnId.{ConnId}
+use Rattle.plex_load.specs.PlexScript.declared.scripts.AnyAsk.{AnyAsk}
+use Rattle.plex_load.specs.PlexScript.declared.scripts.AnyAsk.TheVariants as any
+use Rattle.plex_load.specs.PlexScript.declared.scripts.Act.{Act}
+use Rattle.plex_load.specs.PlexScript.declared.scripts.Act.TheVariants as act
+use Rattle.plex_load.specs.PlexScript.declared.scripts.Line.{Line}
+use Rattle.plex_load.specs.PlexScript.declared.scripts.Script.{Script}
+use Rattle.plex_load.specs.PlexScript.LineWords.{is_ask_of}
+use Rattle.plex_load.specs.PlexScript.WellFormed.{IsWellFormed, IsLineOf, IsActOf, MayAskAny}
+use Rattle.plex_agent.specs.PlexBoard.Kinds.{IsAskOf}
+use Rattle.plex_agent.specs.PlexBoard.Runnable.{IsRunnable, IsRunnableLine, IsRunnableAct}
+use Rattle.plex_agent.specs.PlexBoard.Kinds as kinds
 
 -- ---- lists
 

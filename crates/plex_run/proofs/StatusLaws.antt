@@ -1,7 +1,7 @@
 -- The lines that tell how a run ended, as they are spelled.
 use Rattle.std.proofs.Common.{◌≡◌, ◌++◌, ◌∷◌, [], refl, ap, arith}
 use Rattle.std.specs.Prelude.{codes}
-use Rattle.plex_spell.proofs.NumberLaws.{decimal-numeral}
+use Rattle.plex_load.proofs.PlexSpell.NumberLaws.{decimal-numeral}
 use Rattle.plex_run.specs.StatusLines.{too_long_line}
 
 pub too_long-spelled : codes "TOOLONG 1048576\n" ≡ too_long_line

@@ -2,9 +2,9 @@
 use Rattle.std.proofs.Common.{◌≡◌, ℕ, ◌+◌, List, length, Option, arith}
 use Rattle.std.specs.Prelude.{◌<◌, IfSome, replicate}
 use Rattle.std.proofs.lemmas.List.{length-replicate}
-use Rattle.cf_io.specs.ReadEnd.{HasCause}
-use Rattle.cf_io.specs.declared.read_end.ReadEnd.{ReadEnd}
-use Rattle.cf_io.specs.declared.read_end.ReadEnd.TheVariants as ends
+use Rattle.plex_agent.specs.CfIo.ReadEnd.{HasCause}
+use Rattle.plex_agent.specs.CfIo.declared.read_end.ReadEnd.{ReadEnd}
+use Rattle.plex_agent.specs.CfIo.declared.read_end.ReadEnd.TheVariants as ends
 use Rattle.plex_run.specs.Outcome.{read_status}
 
 -- more bytes were left than the limit allows

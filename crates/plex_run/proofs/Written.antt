@@ -6,7 +6,7 @@ use Rattle.std.proofs.KnownBytes.{Appends-trans}
 use Rattle.std.proofs.lemmas.Bool.{cases_lt}
 use Rattle.std.specs.Io.KnownBytes.{Appends}
 use Rattle.std.specs.Prelude.{Result, Ok, Err, OnOk, OnErr}
-use Rattle.cf_io.specs.Count.{Rises}
+use Rattle.plex_agent.specs.CfIo.Count.{Rises}
 use Rattle.plex_run.specs.Written.{Output, GainsPrefix, Gains, BreaksOff}
 
 -- a part that a text begins with is a prefix of it

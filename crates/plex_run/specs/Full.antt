@@ -1,11 +1,11 @@
 -- Which structure's journal got full.
 use Rattle.std.specs.Prelude.{ℕ, ◌==◌, Bool, false, List, Option, option_map, find}
 use Rattle.std.specs.List.{list_any, enumerate_from}
-use Rattle.cf_types.specs.declared.names.Name16.{Name16}
-use Rattle.cf_types.specs.declared.forms.StrForm.{StrForm}
-use Rattle.plex_script.specs.declared.transcripts.AgentEnd.{AgentEnd}
-use Rattle.plex_script.specs.declared.transcripts.AgentEnd.TheVariants.{Done, JournalFull, NoMemory}
-use Rattle.plex_script.specs.declared.transcripts.Transcript.{Transcript}
+use Rattle.plex_load.specs.CfTypes.declared.names.Name16.{Name16}
+use Rattle.plex_load.specs.CfTypes.declared.forms.StrForm.{StrForm}
+use Rattle.plex_load.specs.PlexScript.declared.transcripts.AgentEnd.{AgentEnd}
+use Rattle.plex_load.specs.PlexScript.declared.transcripts.AgentEnd.TheVariants.{Done, JournalFull, NoMemory}
+use Rattle.plex_load.specs.PlexScript.declared.transcripts.Transcript.{Transcript}
 
 -- a caller's work ended at the full journal of this structure
 abbrev pub ends_full_at : ℕ → AgentEnd → Bool

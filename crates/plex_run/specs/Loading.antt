@@ -1,6 +1,6 @@
 -- What a load means: what its run is, and what each status says of it.
 use Rattle.std.specs.Prelude.{◌≡◌, ◌⊎◌, ℕ, List, None, false}
-use Rattle.plex_script.specs.Printed.{script_text}
+use Rattle.plex_load.specs.PlexScript.Printed.{script_text}
 use Rattle.run_laws.specs.Readings.{Reading}
 use Rattle.plex_load.specs.Generated.{load_script}
 use Rattle.plex_load.specs.Summary.{summary}

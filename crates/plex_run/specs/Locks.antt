@@ -1,9 +1,9 @@
 -- What doing a script's locks in words means: which scripts are taken, what is told of one, and what each status
 -- says.
 use Rattle.std.specs.Prelude.{◌≡◌, ◌⊎◌, ℕ, List, Some, None, codes, false}
-use Rattle.plex_script.specs.declared.faults.Why.{Why}
-use Rattle.plex_script.specs.declared.scripts.Script.{Script}
-use Rattle.plex_script.specs.Scripts.{IsScript, IsFault}
+use Rattle.plex_load.specs.PlexScript.declared.faults.Why.{Why}
+use Rattle.plex_load.specs.PlexScript.declared.scripts.Script.{Script}
+use Rattle.plex_load.specs.PlexScript.Scripts.{IsScript, IsFault}
 use Rattle.plex_locks.specs.declared.told.Locked.{Locked}
 use Rattle.plex_locks.specs.Others.{first_other}
 use Rattle.plex_locks.specs.Told.{IsLocked, locks_text}

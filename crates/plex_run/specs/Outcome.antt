@@ -1,22 +1,22 @@
 -- What a run of the program means: which script came in, what goes out, and what each status says.
 use Rattle.std.specs.Prelude.{◌≡◌, ◌⊎◌, ℕ, ◌≤◌, ◌<◌, ◌==◌, if◌then◌else◌, List, [], ◌∷◌, ◌++◌, ◌^◌, length, slice_get, Option, None, Some, IfSome, is_some, codes, nat_eq, true, false, IsTrue}
 use Rattle.std.specs.List.{list_any}
-use Rattle.cf_io.specs.declared.read_end.ReadEnd.{ReadEnd}
-use Rattle.cf_io.specs.declared.read_end.ReadEnd.TheVariants as ends
-use Rattle.cf_types.specs.declared.forms.StrForm.{StrForm}
-use Rattle.cf_types.specs.declared.names.Name16.{Name16}
-use Rattle.cf_types.specs.declared.numbers.CfId.{CfId}
-use Rattle.cf_types.specs.declared.numbers.StrNo.{StrNo}
-use Rattle.cf_link.specs.Links.{Telling}
-use Rattle.plex_script.specs.declared.faults.Why.{Why}
-use Rattle.plex_script.specs.declared.asks.AnyHistory.{AnyHistory}
-use Rattle.plex_script.specs.declared.scripts.Script.{Script}
-use Rattle.plex_script.specs.Scripts.{IsScript, IsFault}
-use Rattle.run_model.specs.Serial.{serial_run}
-use Rattle.run_model.specs.Headline.{ShowsHistories}
+use Rattle.plex_agent.specs.CfIo.declared.read_end.ReadEnd.{ReadEnd}
+use Rattle.plex_agent.specs.CfIo.declared.read_end.ReadEnd.TheVariants as ends
+use Rattle.plex_load.specs.CfTypes.declared.forms.StrForm.{StrForm}
+use Rattle.plex_load.specs.CfTypes.declared.names.Name16.{Name16}
+use Rattle.plex_load.specs.CfTypes.declared.numbers.CfId.{CfId}
+use Rattle.plex_load.specs.CfTypes.declared.numbers.StrNo.{StrNo}
+use Rattle.plex_agent.specs.CfLink.Links.{Telling}
+use Rattle.plex_load.specs.PlexScript.declared.faults.Why.{Why}
+use Rattle.plex_load.specs.PlexScript.declared.asks.AnyHistory.{AnyHistory}
+use Rattle.plex_load.specs.PlexScript.declared.scripts.Script.{Script}
+use Rattle.plex_load.specs.PlexScript.Scripts.{IsScript, IsFault}
+use Rattle.plex_agent.specs.PlexBoard.Serial.{serial_run}
+use Rattle.plex_agent.specs.PlexBoard.Headline.{ShowsHistories}
 use Rattle.run_laws.specs.Valid.{ShowsFresh}
 use Rattle.run_laws.specs.Bounds.{most_entries}
-use Rattle.plex_work.specs.declared.in_turn.Finished.{Finished}
+use Rattle.plex_agent.specs.declared.in_turn.Finished.{Finished}
 use Rattle.run_laws.specs.Readings.{Reading, IsReading, IsTheReading, MarksFacilities, report_of}
 use Rattle.plex_run.specs.declared.program.TheConstants.{SCRIPT_LIMIT, JOURNAL_LIMIT}
 use Rattle.plex_run.specs.declared.way.Way.{Way}

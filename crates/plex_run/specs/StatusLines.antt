@@ -2,10 +2,10 @@
 use Rattle.std.specs.Prelude.{ℕ, List, [], ◌∷◌, ◌++◌, Option, None, Some, codes}
 use Rattle.std.specs.Fmt.{decimal}
 use Rattle.plex_run.specs.declared.program.TheConstants.{SCRIPT_LIMIT, JOURNAL_LIMIT}
-use Rattle.cf_types.specs.declared.names.Name16.{Name16}
-use Rattle.plex_spell.specs.Tokens.{name_word}
-use Rattle.plex_script.specs.declared.faults.Why.{Why}
-use Rattle.plex_script.specs.declared.faults.Why.TheVariants.{Late, Syntax, Limit, Unknown, Twice, Space}
+use Rattle.plex_load.specs.CfTypes.declared.names.Name16.{Name16}
+use Rattle.plex_load.specs.PlexSpell.Tokens.{name_word}
+use Rattle.plex_load.specs.PlexScript.declared.faults.Why.{Why}
+use Rattle.plex_load.specs.PlexScript.declared.faults.Why.TheVariants.{Late, Syntax, Limit, Unknown, Twice, Space}
 
 abbrev pub why_word : Why → List ℕ
 why_word Late = codes "LATE"

@@ -1,10 +1,10 @@
 -- What is said of the links of a run: what they may tell before it, and what became of them.
 use Rattle.std.specs.Prelude.{ℕ, List, Option}
-use Rattle.cf_types.specs.declared.forms.StrForm.{StrForm}
-use Rattle.cf_types.specs.declared.numbers.CfId.{CfId}
-use Rattle.cf_link.specs.Links.{Telling}
-use Rattle.plex_script.specs.declared.asks.AnyHistory.{AnyHistory}
-use Rattle.run_model.specs.RunLinks.{AreTelling, AreRunLinks}
+use Rattle.plex_load.specs.CfTypes.declared.forms.StrForm.{StrForm}
+use Rattle.plex_load.specs.CfTypes.declared.numbers.CfId.{CfId}
+use Rattle.plex_agent.specs.CfLink.Links.{Telling}
+use Rattle.plex_load.specs.PlexScript.declared.asks.AnyHistory.{AnyHistory}
+use Rattle.plex_agent.specs.PlexBoard.RunLinks.{AreTelling, AreRunLinks}
 
 -- whether the links of so many structures tell this, and whether they were asked as the histories of structures of these
 -- forms tell

@@ -1,7 +1,7 @@
 -- Which words of the command line ask for which work.
 use Rattle.std.specs.Prelude.{◌≡◌, ℕ, List, [], ◌∷◌, map, Option, Some, codes, String, string_bytes}
-use Rattle.plex_spell.specs.declared.rigour.Rigour.TheVariants.{Limits}
-use Rattle.plex_spell.specs.Places.{number_of}
+use Rattle.plex_load.specs.PlexSpell.declared.rigour.Rigour.TheVariants.{Limits}
+use Rattle.plex_load.specs.PlexSpell.Places.{number_of}
 use Rattle.plex_run.specs.declared.way.Way.TheVariants as ways
 use Rattle.plex_run.specs.declared.way.Work.{Work}
 use Rattle.plex_run.specs.declared.way.Work.TheVariants as works

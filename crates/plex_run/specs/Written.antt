@@ -1,7 +1,7 @@
 -- What a sink gained, where it tells its bytes. A sink that tells none may have gained anything.
 use Rattle.std.specs.Prelude.{ℕ, ◌⊎◌, List, ◌++◌, Option, take}
 use Rattle.std.specs.Io.KnownBytes.{Appends}
-use Rattle.cf_io.specs.Count.{Rises}
+use Rattle.plex_agent.specs.CfIo.Count.{Rises}
 
 -- what a sink held and holds, and its counts of faults
 pub record Output : Type 0 where

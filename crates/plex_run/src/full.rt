@@ -1,8 +1,8 @@
 ghost use Rattle.std.specs.Prelude.{◌≡◌};
 ghost use Rattle.plex_run.specs.Full.{ends_full_at, is_full_at, full_structure};
 
-use cf_types::{Name16, StrForm};
-use plex_script::{AgentEnd, Transcript};
+use plex_load::scripts::{AgentEnd, Transcript};
+use plex_load::types::{Name16, StrForm};
 
 // Whether a caller's work ended at the full journal of the structure with this number.
 fn ends_full_at(end: AgentEnd, place: usize) -> bool

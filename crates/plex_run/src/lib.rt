@@ -12,4 +12,7 @@ mod status_lines;
 mod way;
 mod writing;
 
+pub use plex_agent as agents;
+pub use plex_agent::{links as links, sources as sources};
+pub use plex_load::types as types;
 pub use program::run;

@@ -1,7 +1,7 @@
 //! Loads: the run of a script that is made from a number, and what is told of it.
 ghost use Rattle.std.specs.Prelude.{◌≡◌, ◌⊎◌, ◌≤◌, IfOk, length};
 ghost use Rattle.std.specs.Vec.{vec_len};
-ghost use Rattle.cf_types.specs.declared.limits.TheConstants.{LINKS};
+ghost use Rattle.plex_load.specs.CfTypes.declared.limits.TheConstants.{LINKS};
 ghost use Rattle.plex_run.specs.Wires.{wires};
 ghost use Rattle.plex_run.specs.StatusLines.{memory_line};
 ghost use Rattle.plex_run.specs.Written.{output, HasFailed, Writes, WritesFront, Gains};
@@ -11,12 +11,11 @@ ghost use Rattle.plex_run.specs.Loading.{summary_of, IsLoadRun, EndsLoad};
 use crate::running::run_over;
 use crate::way::Way;
 use crate::writing::say_no_memory;
-use cf_io::{Sink, write_all};
-use cf_link::Link;
-use cf_types::NoMemory;
-use plex_agent::Gate;
+use plex_agent::links::Link;
+use plex_agent::sources::{Sink, write_all};
+use plex_agent::{Finished, Gate};
+use plex_load::types::NoMemory;
 use plex_load::{make, summary};
-use plex_work::Finished;
 use run_laws::{valid_is_fresh, within_script};
 use std::alloc::Global;
 use std::sync::Wait;

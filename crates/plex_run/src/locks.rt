@@ -1,7 +1,7 @@
 //! Locks: a script's lock requests, done in words, and what is told of them.
 ghost use Rattle.std.specs.Prelude.{◌≡◌, ◌⊎◌, ◌≤◌, ◌<◌, length, IfOk, IfErr, IfSome};
 ghost use Rattle.std.specs.Io.KnownBytes.{IsAtEnd};
-ghost use Rattle.cf_io.specs.Count.{Rises};
+ghost use Rattle.plex_agent.specs.CfIo.Count.{Rises};
 ghost use Rattle.plex_locks.specs.Told.{locks_text};
 ghost use Rattle.plex_run.specs.StatusLines.{memory_line};
 ghost use Rattle.plex_run.specs.Written.{output, HasFailed, Writes, WritesFront, Gains};
@@ -12,10 +12,10 @@ ghost use Rattle.plex_run.specs.Locks.{IsTaken, TellsUntaken, EndsLocks};
 use crate::program::{SCRIPT_LIMIT, refused};
 use crate::status_lines::why_text;
 use crate::writing::{say_no_memory, say_unread};
-use cf_io::{Sink, Source, read_all, write_all};
 use plex_agent::Gate;
+use plex_agent::sources::{Sink, Source, read_all, write_all};
+use plex_load::scripts::{ReadFault, Script, Why, never_both, one_script, read, well_formed};
 use plex_locks::{Locked, first_other, locked, locks_text};
-use plex_script::{ReadFault, Script, Why, never_both, one_script, read, well_formed};
 use std::alloc::Global;
 use std::thread::Threads;
 

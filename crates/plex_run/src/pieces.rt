@@ -7,8 +7,8 @@ ghost use Rattle.plex_run.specs.Written.{output, HasFailed, Writes, WritesFront}
 ghost use Rattle.plex_run.specs.Pieces.{PassesOn};
 
 use crate::writing::{Unwritten, write_text};
-use cf_io::Sink;
-use cf_types::NoMemory;
+use plex_agent::sources::Sink;
+use plex_load::types::NoMemory;
 use std::alloc::Global;
 
 /// How many bytes a piece has room for.

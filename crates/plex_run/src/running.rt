@@ -1,8 +1,8 @@
 //! The run of a script, and what is written of it.
 ghost use Rattle.std.specs.Prelude.{◌≡◌, ◌⊎◌, true, false, is_some, ◌≤◌, ◌<◌, ◌^◌, length, IfOk};
 ghost use Rattle.std.specs.Vec.{vec_len};
-ghost use Rattle.cf_types.specs.declared.limits.TheConstants.{LINKS};
-ghost use Rattle.run_model.specs.Runnable.{IsRunnable};
+ghost use Rattle.plex_load.specs.CfTypes.declared.limits.TheConstants.{LINKS};
+ghost use Rattle.plex_agent.specs.PlexBoard.Runnable.{IsRunnable};
 ghost use Rattle.run_laws.specs.Readings.{report_of};
 ghost use Rattle.plex_run.specs.Wires.{wires};
 ghost use Rattle.plex_run.specs.StatusLines.{memory_line};
@@ -13,12 +13,11 @@ use crate::full::full_structure;
 use crate::program::JOURNAL_LIMIT;
 use crate::way::Way;
 use crate::writing::{Unwritten, say_no_memory, write_run};
-use cf_io::Sink;
-use cf_link::Link;
-use cf_types::NoMemory;
-use plex_agent::Gate;
-use plex_script::Script;
-use plex_work::{Finished, serial, threads};
+use plex_agent::links::Link;
+use plex_agent::sources::Sink;
+use plex_agent::{Finished, Gate, serial, threads};
+use plex_load::scripts::Script;
+use plex_load::types::NoMemory;
 use std::alloc::Global;
 use std::mem;
 use std::sync::Wait;

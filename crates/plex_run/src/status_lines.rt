@@ -3,10 +3,10 @@ ghost use Rattle.std.specs.Fmt.{decimal};
 ghost use Rattle.plex_run.specs.StatusLines.{why_word, script_line, full_line};
 
 use crate::program::JOURNAL_LIMIT;
-use cf_types::{Name16, NoMemory};
 use itoa::Buffer;
-use plex_script::Why;
-use plex_spell::name_text;
+use plex_load::scripts::Why;
+use plex_load::spell::name_text;
+use plex_load::types::{Name16, NoMemory};
 use std::alloc::Global;
 
 /// The word of a cause.

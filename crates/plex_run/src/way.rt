@@ -5,7 +5,7 @@ ghost use Rattle.plex_run.specs.declared.way.Way.{Way};
 ghost use Rattle.plex_run.specs.declared.way.Way.TheVariants as ways;
 ghost use Rattle.plex_run.specs.declared.way.Work.TheVariants as works;
 
-use plex_spell::{Rigour, number};
+use plex_load::spell::{Rigour, number};
 
 /// How a script is run.
 #[derive(Clone, Copy, Debug, PartialEq, Eq)]

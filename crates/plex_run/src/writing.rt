@@ -9,11 +9,11 @@ ghost use Rattle.plex_run.specs.Outcome.{reading_of, read_status, status_line};
 
 use crate::pieces::Piece;
 use crate::status_lines::full_line;
-use cf_io::{ReadEnd, Sink, write_all};
-use cf_types::{Name16, NoMemory};
-use plex_report::Report;
-use plex_script::Script;
-use plex_work::Finished;
+use plex_agent::Finished;
+use plex_agent::sources::{ReadEnd, Sink, write_all};
+use plex_load::scripts::Script;
+use plex_load::types::{Name16, NoMemory};
+use run_laws::reports::Report;
 use std::alloc::Global;
 
 /// Why a text was not written whole.

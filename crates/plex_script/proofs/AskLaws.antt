@@ -9,20 +9,20 @@ use Rattle.cf_types.specs.declared.list_commands.ListCmd.{ListCmd}
 use Rattle.cf_types.specs.declared.lock_commands.LockCmd.{LockCmd}
 use Rattle.engine_api.specs.declared.asks.Ask.{Ask}
 use Rattle.engine_api.specs.declared.asks.Ask.TheVariants.{Shell, Content}
-use Rattle.plex_spell.specs.declared.rigour.Rigour.{Rigour}
-use Rattle.plex_spell.specs.Tokens.{Declared, Spells}
-use Rattle.plex_spell.specs.ShellWords.{shell_tokens, may_give, is_operator}
-use Rattle.plex_spell.specs.ShellReading.{shell_at}
-use Rattle.plex_spell.specs.CacheReading.{cache_at}
-use Rattle.plex_spell.specs.ListReading.{list_at}
-use Rattle.plex_spell.specs.LockReading.{lock_at}
-use Rattle.plex_spell.proofs.Choices.{pick, not_some, mapped}
-use Rattle.plex_spell.proofs.PlaceLaws.{Words, FindsAll}
-use Rattle.plex_spell.proofs.VerbLaws.{is_tail}
-use Rattle.plex_spell.proofs.ShellLaws.{shell-sound, shell-complete}
-use Rattle.plex_spell.proofs.CacheLaws.{cache-sound, cache-complete}
-use Rattle.plex_spell.proofs.ListLaws.{list-sound, list-complete}
-use Rattle.plex_spell.proofs.LockLaws.{lock-sound, lock-complete}
+use Rattle.plex_plain.specs.PlexSpell.declared.rigour.Rigour.{Rigour}
+use Rattle.plex_plain.specs.PlexSpell.Tokens.{Declared, Spells}
+use Rattle.plex_plain.specs.PlexSpell.ShellWords.{shell_tokens, may_give, is_operator}
+use Rattle.plex_plain.specs.PlexSpell.ShellReading.{shell_at}
+use Rattle.plex_plain.specs.PlexSpell.CacheReading.{cache_at}
+use Rattle.plex_plain.specs.PlexSpell.ListReading.{list_at}
+use Rattle.plex_plain.specs.PlexSpell.LockReading.{lock_at}
+use Rattle.plex_plain.proofs.PlexSpell.Choices.{pick, not_some, mapped}
+use Rattle.plex_plain.proofs.PlexSpell.PlaceLaws.{Words, FindsAll}
+use Rattle.plex_plain.proofs.PlexSpell.VerbLaws.{is_tail}
+use Rattle.plex_plain.proofs.PlexSpell.ShellLaws.{shell-sound, shell-complete}
+use Rattle.plex_plain.proofs.PlexSpell.CacheLaws.{cache-sound, cache-complete}
+use Rattle.plex_plain.proofs.PlexSpell.ListLaws.{list-sound, list-complete}
+use Rattle.plex_plain.proofs.PlexSpell.LockLaws.{lock-sound, lock-complete}
 use Rattle.plex_script.specs.LineReading.{is_own}
 use Rattle.plex_script.specs.declared.scripts.AnyAsk.{AnyAsk}
 use Rattle.plex_script.specs.declared.scripts.AnyAsk.TheVariants as any

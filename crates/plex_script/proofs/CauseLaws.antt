@@ -4,11 +4,11 @@ use Rattle.std.specs.Option.{is_some}
 use Rattle.cf_types.specs.declared.limits.TheConstants.{CONNECTORS}
 use Rattle.cf_types.specs.declared.numbers.ConnId.{ConnId}
 use Rattle.cf_types.specs.declared.forms.Kind.{Kind}
-use Rattle.plex_spell.specs.declared.rigour.Rigour.{Rigour}
-use Rattle.plex_spell.specs.declared.rigour.Rigour.TheVariants.{Form, Limits, Names}
-use Rattle.plex_spell.specs.Tokens.{Declared, structure_of}
-use Rattle.plex_spell.proofs.PlaceLaws.{Words}
-use Rattle.plex_spell.proofs.RigourLaws.{Spells-limits, Spells-form}
+use Rattle.plex_plain.specs.PlexSpell.declared.rigour.Rigour.{Rigour}
+use Rattle.plex_plain.specs.PlexSpell.declared.rigour.Rigour.TheVariants.{Form, Limits, Names}
+use Rattle.plex_plain.specs.PlexSpell.Tokens.{Declared, structure_of}
+use Rattle.plex_plain.proofs.PlexSpell.PlaceLaws.{Words}
+use Rattle.plex_plain.proofs.PlexSpell.RigourLaws.{Spells-limits, Spells-form}
 use Rattle.plex_script.specs.declared.declarations.Declaration.{Declaration}
 use Rattle.plex_script.specs.declared.faults.Why.{Why}
 use Rattle.plex_script.specs.declared.faults.Why.TheVariants.{Late, Syntax, Limit, Unknown, Twice, Space}

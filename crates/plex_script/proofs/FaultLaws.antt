@@ -2,7 +2,7 @@
 use Rattle.std.proofs.Common.{◌≡◌, ℕ, suc, ◌+◌, ◌<◌, ◌==◌, Bool, true, false, nat_lt, List, [], ◌∷◌, ◌++◌, drop, length, refl, sym, ap, subst, ◌∙◌, arith}
 use Rattle.std.specs.Prelude.{if◌then◌else◌}
 use Rattle.std.proofs.lemmas.Bool.Decides.{nat_tests}
-use Rattle.plex_spell.specs.Words.{lines_of}
+use Rattle.plex_plain.specs.PlexSpell.Words.{lines_of}
 use Rattle.plex_script.specs.declared.faults.Why.{Why}
 use Rattle.plex_script.specs.declared.faults.Why.TheVariants.{Late, Syntax, Limit, Unknown, Twice, Space}
 use Rattle.plex_script.specs.declared.scripts.Script.{Script}

@@ -9,16 +9,16 @@ use Rattle.cf_types.specs.declared.list_commands.ListCmd.{ListCmd}
 use Rattle.cf_types.specs.declared.list_commands.ListCmd.TheVariants as list
 use Rattle.cf_types.specs.declared.lock_commands.LockCmd.{LockCmd}
 use Rattle.cf_types.specs.declared.lock_commands.LockCmd.TheVariants as lock
-use Rattle.plex_spell.specs.declared.rigour.Rigour.{Rigour}
-use Rattle.plex_spell.specs.Words.{begins_with, words_behind}
-use Rattle.plex_spell.specs.Tokens.{Declared, Token, Spells}
-use Rattle.plex_spell.specs.Tokens.Token.{Literal}
-use Rattle.plex_spell.specs.ShellWords.{shell_tokens, may_give, is_operator}
-use Rattle.plex_spell.specs.CacheWords.{cache_tokens}
-use Rattle.plex_spell.specs.ListWords.{list_tokens}
-use Rattle.plex_spell.specs.LockWords.{lock_tokens}
-use Rattle.plex_spell.specs.ShellReading.{shell_at}
-use Rattle.plex_spell.proofs.PlaceLaws.{Words}
+use Rattle.plex_plain.specs.PlexSpell.declared.rigour.Rigour.{Rigour}
+use Rattle.plex_plain.specs.PlexSpell.Words.{begins_with, words_behind}
+use Rattle.plex_plain.specs.PlexSpell.Tokens.{Declared, Token, Spells}
+use Rattle.plex_plain.specs.PlexSpell.Tokens.Token.{Literal}
+use Rattle.plex_plain.specs.PlexSpell.ShellWords.{shell_tokens, may_give, is_operator}
+use Rattle.plex_plain.specs.PlexSpell.CacheWords.{cache_tokens}
+use Rattle.plex_plain.specs.PlexSpell.ListWords.{list_tokens}
+use Rattle.plex_plain.specs.PlexSpell.LockWords.{lock_tokens}
+use Rattle.plex_plain.specs.PlexSpell.ShellReading.{shell_at}
+use Rattle.plex_plain.proofs.PlexSpell.PlaceLaws.{Words}
 use Rattle.plex_script.specs.LineReading.{is_own}
 
 -- ---- first words

@@ -14,14 +14,14 @@ use Rattle.cf_types.specs.declared.forms.Kind.TheVariants as kind
 use Rattle.cf_types.specs.declared.forms.Pref.{Pref as Set}
 use Rattle.cf_types.specs.declared.forms.StrForm.{StrForm}
 use Rattle.cf_types.specs.Forms.{IsPref, IsKind, IsVectorOf, IsForm}
-use Rattle.plex_spell.specs.declared.rigour.Rigour.TheVariants.{Names}
-use Rattle.plex_spell.specs.Tokens.{Declared, is_declared}
-use Rattle.plex_spell.proofs.PlaceLaws.{Words}
+use Rattle.plex_plain.specs.PlexSpell.declared.rigour.Rigour.TheVariants.{Names}
+use Rattle.plex_plain.specs.PlexSpell.Tokens.{Declared, is_declared}
+use Rattle.plex_plain.proofs.PlexSpell.PlaceLaws.{Words}
 use Rattle.plex_script.specs.declared.declarations.Declaration.{Declaration}
 use Rattle.plex_script.specs.declared.declarations.Declaration.TheVariants.{Facility, Structure, Pref, Connector}
 use Rattle.plex_script.specs.declared.scripts.Line.{Line}
 use Rattle.plex_script.specs.declared.scripts.Script.{Script}
-use Rattle.plex_spell.specs.FormWords.{form_tokens}
+use Rattle.plex_plain.specs.PlexSpell.FormWords.{form_tokens}
 use Rattle.plex_script.specs.PolicyWords.{declaration_tokens, IsVectorTold, Declares}
 use Rattle.plex_script.specs.Causes.{declared_in, has_lines, is_full, is_twice, has_pref}
 use Rattle.plex_script.specs.Scripts.{with_pref, with_declaration, AddsDeclaration}

@@ -13,10 +13,10 @@ use Rattle.cf_types.specs.declared.shell_commands.ShellCmd.TheVariants as cmd
 use Rattle.cf_types.specs.Forms.{IsForm, IsConnector}
 use Rattle.engine_api.specs.declared.asks.Ask.TheVariants.{Shell, Content}
 use Rattle.engine_api.specs.Asking.{IsOperator, MayCommand}
-use Rattle.plex_spell.specs.Tokens.{Declared}
-use Rattle.plex_spell.specs.Tokens.Token.{Literal, Number}
-use Rattle.plex_spell.specs.ShellWords.{shell_tokens, may_give, is_operator}
-use Rattle.plex_spell.proofs.PlaceLaws.{Words}
+use Rattle.plex_plain.specs.PlexSpell.Tokens.{Declared}
+use Rattle.plex_plain.specs.PlexSpell.Tokens.Token.{Literal, Number}
+use Rattle.plex_plain.specs.PlexSpell.ShellWords.{shell_tokens, may_give, is_operator}
+use Rattle.plex_plain.proofs.PlexSpell.PlaceLaws.{Words}
 use Rattle.plex_script.specs.declared.scripts.AnyAsk.{AnyAsk}
 use Rattle.plex_script.specs.declared.scripts.AnyAsk.TheVariants as any
 use Rattle.plex_script.specs.declared.scripts.Act.{Act}

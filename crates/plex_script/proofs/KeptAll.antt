@@ -10,10 +10,10 @@ use Rattle.cf_types.specs.declared.numbers.ConnId.{ConnId}
 use Rattle.cf_types.specs.declared.numbers.StrNo.{StrNo}
 use Rattle.cf_types.specs.declared.forms.Kind.TheVariants as kind
 use Rattle.cf_types.specs.declared.forms.StrForm.{StrForm}
-use Rattle.plex_spell.specs.Words.{same_word, words_of, lines_of}
-use Rattle.plex_spell.specs.Tokens.{connector_of, structure_of, name_word}
-use Rattle.plex_spell.proofs.Choices.{mapped}
-use Rattle.plex_spell.proofs.PlaceLaws.{Words}
+use Rattle.plex_plain.specs.PlexSpell.Words.{same_word, words_of, lines_of}
+use Rattle.plex_plain.specs.PlexSpell.Tokens.{connector_of, structure_of, name_word}
+use Rattle.plex_plain.proofs.PlexSpell.Choices.{mapped}
+use Rattle.plex_plain.proofs.PlexSpell.PlaceLaws.{Words}
 use Rattle.plex_plain.proofs.Within.{connector-bounds}
 use Rattle.plex_script.specs.declared.scripts.Script.{Script}
 use Rattle.plex_script.specs.Causes.{caller_of, is_comment, is_policy_word}

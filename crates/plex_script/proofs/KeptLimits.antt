@@ -18,11 +18,11 @@ use Rattle.cf_types.specs.declared.forms.Kind.{Kind}
 use Rattle.cf_types.specs.declared.forms.Pref.{Pref as Set}
 use Rattle.cf_types.specs.declared.forms.StrForm.{StrForm}
 use Rattle.cf_types.specs.Forms.{IsPref, IsForm}
-use Rattle.plex_spell.specs.declared.rigour.Rigour.TheVariants.{Names}
-use Rattle.plex_spell.specs.Words.{same_word}
-use Rattle.plex_spell.specs.Tokens.{is_declared, name_word}
-use Rattle.plex_spell.proofs.Choices.{same_word-of}
-use Rattle.plex_spell.proofs.PlaceLaws.{Words}
+use Rattle.plex_plain.specs.PlexSpell.declared.rigour.Rigour.TheVariants.{Names}
+use Rattle.plex_plain.specs.PlexSpell.Words.{same_word}
+use Rattle.plex_plain.specs.PlexSpell.Tokens.{is_declared, name_word}
+use Rattle.plex_plain.proofs.PlexSpell.Choices.{same_word-of}
+use Rattle.plex_plain.proofs.PlexSpell.PlaceLaws.{Words}
 use Rattle.plex_plain.specs.Ranges.{IsNamed, AreNames, AreWithin}
 use Rattle.plex_plain.proofs.Within.{words-within, within-front, within-back, within-append}
 use Rattle.plex_script.specs.declared.declarations.Declaration.{Declaration}

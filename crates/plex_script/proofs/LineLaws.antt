@@ -5,10 +5,10 @@ use Rattle.std.specs.Option.{MatchOption}
 use Rattle.cf_types.specs.declared.numbers.ConnId.{ConnId}
 use Rattle.cf_types.specs.declared.numbers.StrNo.{StrNo}
 use Rattle.cf_types.specs.declared.forms.Kind.{Kind}
-use Rattle.plex_spell.specs.declared.rigour.Rigour.TheVariants.{Names}
-use Rattle.plex_spell.specs.Words.{words_of}
-use Rattle.plex_spell.specs.Tokens.{Declared, structure_of}
-use Rattle.plex_spell.proofs.PlaceLaws.{Words}
+use Rattle.plex_plain.specs.PlexSpell.declared.rigour.Rigour.TheVariants.{Names}
+use Rattle.plex_plain.specs.PlexSpell.Words.{words_of}
+use Rattle.plex_plain.specs.PlexSpell.Tokens.{Declared, structure_of}
+use Rattle.plex_plain.proofs.PlexSpell.PlaceLaws.{Words}
 use Rattle.plex_script.specs.declared.faults.Why.{Why}
 use Rattle.plex_script.specs.declared.faults.Why.TheVariants.{Late, Syntax, Limit, Unknown, Twice, Space}
 use Rattle.plex_script.specs.declared.scripts.Act.{Act}

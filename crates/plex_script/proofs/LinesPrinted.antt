@@ -14,9 +14,9 @@ use Rattle.cf_types.specs.declared.forms.Kind.{Kind}
 use Rattle.cf_types.specs.declared.forms.StrForm.{StrForm}
 use Rattle.cf_types.specs.Term.{IsPadded}
 use Rattle.engine_api.specs.declared.asks.Ask.TheVariants.{Shell, Content}
-use Rattle.plex_spell.specs.Words.{same_word, line_of, tail_of}
-use Rattle.plex_spell.specs.Tokens.{name_word, is_name, is_capital, reserved_words, connector_of, structure_of}
-use Rattle.plex_spell.specs.Tokens.Token.{Literal, Number}
+use Rattle.plex_plain.specs.PlexSpell.Words.{same_word, line_of, tail_of}
+use Rattle.plex_plain.specs.PlexSpell.Tokens.{name_word, is_name, is_capital, reserved_words, connector_of, structure_of}
+use Rattle.plex_plain.specs.PlexSpell.Tokens.Token.{Literal, Number}
 use Rattle.plex_plain.specs.Naming.{caller_name, structure_name}
 use Rattle.plex_plain.specs.PlainWords.{plain_words}
 use Rattle.plex_plain.specs.Ranges.{AreNames}

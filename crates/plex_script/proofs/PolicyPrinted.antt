@@ -20,13 +20,13 @@ use Rattle.cf_types.specs.declared.forms.Refs.TheVariants as refs
 use Rattle.cf_types.specs.declared.forms.Pref.{Pref as Set}
 use Rattle.cf_types.specs.declared.forms.StrForm.{StrForm}
 use Rattle.cf_types.specs.Forms.{IsForm, IsPref, IsKind, IsVectorOf}
-use Rattle.plex_spell.specs.declared.rigour.Rigour.TheVariants.{Names}
-use Rattle.plex_spell.specs.Words.{same_word, line_of, tail_of}
-use Rattle.plex_spell.specs.FormWords.{form_tokens}
-use Rattle.plex_spell.specs.Fields.{disposition, references}
-use Rattle.plex_spell.specs.Tokens.{Declared, Token, Spells, name_word, is_declared, structure_of}
-use Rattle.plex_spell.specs.Tokens.Token.{Literal, Number}
-use Rattle.plex_spell.proofs.Choices.{same_word-refl}
+use Rattle.plex_plain.specs.PlexSpell.declared.rigour.Rigour.TheVariants.{Names}
+use Rattle.plex_plain.specs.PlexSpell.Words.{same_word, line_of, tail_of}
+use Rattle.plex_plain.specs.PlexSpell.FormWords.{form_tokens}
+use Rattle.plex_plain.specs.PlexSpell.Fields.{disposition, references}
+use Rattle.plex_plain.specs.PlexSpell.Tokens.{Declared, Token, Spells, name_word, is_declared, structure_of}
+use Rattle.plex_plain.specs.PlexSpell.Tokens.Token.{Literal, Number}
+use Rattle.plex_plain.proofs.PlexSpell.Choices.{same_word-refl}
 use Rattle.plex_plain.specs.Naming.{facility_word}
 use Rattle.plex_plain.specs.PlainWords.{plain_words}
 use Rattle.plex_plain.specs.PolicyLines.{facility_line, form_line, pref_line, connector_line, structure_lines}

@@ -4,8 +4,8 @@ use Rattle.std.specs.List.{slice_split, list_any, position_or_len, before_first,
 use Rattle.std.proofs.lemmas.Bool.Decides.{nat_tests}
 use Rattle.std.proofs.lemmas.List.{append-nil}
 use Rattle.std.proofs.lemmas.List.Splits.{slice_split_first}
-use Rattle.plex_spell.specs.Words.{is_nonempty, without_return, lines_in, lines_of}
-use Rattle.plex_spell.proofs.TextLaws.{any-some, any-none, any-place}
+use Rattle.plex_plain.specs.PlexSpell.Words.{is_nonempty, without_return, lines_in, lines_of}
+use Rattle.plex_plain.proofs.PlexSpell.TextLaws.{any-some, any-none, any-place}
 use Rattle.plex_script.specs.declared.scripts.Script.{Script}
 use Rattle.plex_script.specs.declared.line_faults.LineFault.{LineFault}
 use Rattle.plex_script.specs.declared.line_faults.LineFault.TheVariants.{Wrong, NoMemory}

@@ -3,7 +3,7 @@ use Rattle.std.proofs.Common.{◌≡◌, ℕ, ◌+◌, suc, arith, ◌<◌, leng
 use Rattle.std.specs.List.{flat_map}
 use Rattle.std.proofs.lemmas.Grind.{flat_map-append}
 use Rattle.std.proofs.lemmas.List.{map-append}
-use Rattle.plex_spell.specs.Words.{tail_of, line_text}
+use Rattle.plex_plain.specs.PlexSpell.Words.{tail_of, line_text}
 use Rattle.plex_plain.specs.Naming.{caller_name, structure_name}
 use Rattle.plex_plain.specs.PlainWords.{plain_word, plain_words}
 use Rattle.plex_script.specs.declared.scripts.Line.{Line}

@@ -6,9 +6,9 @@ use Rattle.cf_types.specs.declared.forms.Kind.{Kind}
 use Rattle.cf_types.specs.declared.cache_commands.CacheCmd.{CacheCmd}
 use Rattle.cf_types.specs.declared.cache_commands.CacheCmd.TheVariants as cache
 use Rattle.engine_api.specs.declared.asks.Ask.TheVariants.{Shell, Content}
-use Rattle.plex_spell.specs.Tokens.{Declared, Token}
-use Rattle.plex_spell.specs.Fields.{option_tokens, flag_tokens, name_tokens, number_tokens, short_tokens}
-use Rattle.plex_spell.specs.CacheWords.{class_tokens, cache_tokens, IsGiven}
+use Rattle.plex_plain.specs.PlexSpell.Tokens.{Declared, Token}
+use Rattle.plex_plain.specs.PlexSpell.Fields.{option_tokens, flag_tokens, name_tokens, number_tokens, short_tokens}
+use Rattle.plex_plain.specs.PlexSpell.CacheWords.{class_tokens, cache_tokens, IsGiven}
 use Rattle.plex_plain.specs.PlainWords.{class_told, storage_told}
 use Rattle.plex_plain.specs.Ranges.{AreWithin}
 use Rattle.plex_plain.proofs.Within.{within-front, within-back, within-append}

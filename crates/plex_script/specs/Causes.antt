@@ -11,9 +11,9 @@ use Rattle.cf_types.specs.declared.forms.Kind.{Kind}
 use Rattle.cf_types.specs.declared.forms.Kind.TheVariants as kind
 use Rattle.cf_types.specs.declared.forms.Pref.{Pref}
 use Rattle.cf_types.specs.declared.forms.StrForm.{StrForm}
-use Rattle.plex_spell.specs.declared.rigour.Rigour.TheVariants.{Form, Limits, Names}
-use Rattle.plex_spell.specs.Words.{same_word, words_of}
-use Rattle.plex_spell.specs.Tokens.{Declared, is_name, name_word, connector_of, structure_of, is_declared}
+use Rattle.plex_plain.specs.PlexSpell.declared.rigour.Rigour.TheVariants.{Form, Limits, Names}
+use Rattle.plex_plain.specs.PlexSpell.Words.{same_word, words_of}
+use Rattle.plex_plain.specs.PlexSpell.Tokens.{Declared, is_name, name_word, connector_of, structure_of, is_declared}
 use Rattle.plex_script.specs.declared.declarations.Declaration.{Declaration}
 use Rattle.plex_script.specs.declared.declarations.Declaration.TheVariants as declaration
 use Rattle.plex_script.specs.declared.faults.Why.{Why}

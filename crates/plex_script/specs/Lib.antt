@@ -1,3 +1,7 @@
+pub use Rattle.cf_types.specs as CfTypes
+pub use Rattle.engine_api.specs as EngineApi
+pub use Rattle.plex_plain.specs as PlexPlain
+pub use Rattle.plex_plain.specs.PlexSpell as PlexSpell
 pub mod LineWords
 pub mod PolicyWords
 pub mod LineReading

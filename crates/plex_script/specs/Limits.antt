@@ -5,7 +5,7 @@ use Rattle.cf_types.specs.declared.numbers.CfId.{CfId}
 use Rattle.cf_types.specs.declared.forms.Pref.{Pref}
 use Rattle.cf_types.specs.declared.forms.StrForm.{StrForm}
 use Rattle.cf_types.specs.Forms.{IsForm, IsPref}
-use Rattle.plex_spell.specs.Tokens.{is_declared}
+use Rattle.plex_plain.specs.PlexSpell.Tokens.{is_declared}
 use Rattle.plex_plain.specs.Ranges.{AreNames, AreWithin}
 use Rattle.plex_script.specs.declared.scripts.Line.{Line}
 use Rattle.plex_script.specs.declared.scripts.Script.{Script}

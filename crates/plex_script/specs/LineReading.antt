@@ -10,16 +10,16 @@ use Rattle.cf_types.specs.declared.list_commands.ListCmd.{ListCmd}
 use Rattle.cf_types.specs.declared.lock_commands.LockCmd.{LockCmd}
 use Rattle.engine_api.specs.declared.asks.Ask.{Ask}
 use Rattle.engine_api.specs.declared.asks.Ask.TheVariants.{Shell, Content}
-use Rattle.plex_spell.specs.declared.rigour.Rigour.{Rigour}
-use Rattle.plex_spell.specs.Words.{begins_with, words_behind}
-use Rattle.plex_spell.specs.Tokens.{Declared}
-use Rattle.plex_spell.specs.Places.{◌>>=◌, on_first, number_of}
-use Rattle.plex_spell.specs.Patterns.{option_at, number_at}
-use Rattle.plex_spell.specs.ShellWords.{may_give, is_operator}
-use Rattle.plex_spell.specs.ShellReading.{shell_at}
-use Rattle.plex_spell.specs.CacheReading.{cache_at}
-use Rattle.plex_spell.specs.ListReading.{list_at}
-use Rattle.plex_spell.specs.LockReading.{lock_at}
+use Rattle.plex_plain.specs.PlexSpell.declared.rigour.Rigour.{Rigour}
+use Rattle.plex_plain.specs.PlexSpell.Words.{begins_with, words_behind}
+use Rattle.plex_plain.specs.PlexSpell.Tokens.{Declared}
+use Rattle.plex_plain.specs.PlexSpell.Places.{◌>>=◌, on_first, number_of}
+use Rattle.plex_plain.specs.PlexSpell.Patterns.{option_at, number_at}
+use Rattle.plex_plain.specs.PlexSpell.ShellWords.{may_give, is_operator}
+use Rattle.plex_plain.specs.PlexSpell.ShellReading.{shell_at}
+use Rattle.plex_plain.specs.PlexSpell.CacheReading.{cache_at}
+use Rattle.plex_plain.specs.PlexSpell.ListReading.{list_at}
+use Rattle.plex_plain.specs.PlexSpell.LockReading.{lock_at}
 use Rattle.plex_script.specs.declared.scripts.AnyAsk.{AnyAsk}
 use Rattle.plex_script.specs.declared.scripts.AnyAsk.TheVariants as any
 use Rattle.plex_script.specs.declared.scripts.Act.{Act}

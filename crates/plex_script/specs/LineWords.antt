@@ -5,14 +5,14 @@ use Rattle.cf_types.specs.declared.numbers.ConnId.{ConnId}
 use Rattle.cf_types.specs.declared.forms.Kind.{Kind}
 use Rattle.cf_types.specs.declared.forms.Kind.TheVariants as kind
 use Rattle.engine_api.specs.declared.asks.Ask.TheVariants.{Shell, Content}
-use Rattle.plex_spell.specs.declared.rigour.Rigour.{Rigour}
-use Rattle.plex_spell.specs.Tokens.{Declared, Token, Spells}
-use Rattle.plex_spell.specs.Tokens.Token.{Literal, Number}
-use Rattle.plex_spell.specs.Fields.{number}
-use Rattle.plex_spell.specs.ShellWords.{shell_tokens, may_give, is_operator}
-use Rattle.plex_spell.specs.CacheWords.{cache_tokens, IsGiven}
-use Rattle.plex_spell.specs.ListWords.{list_tokens, IsListLine}
-use Rattle.plex_spell.specs.LockWords.{lock_tokens}
+use Rattle.plex_plain.specs.PlexSpell.declared.rigour.Rigour.{Rigour}
+use Rattle.plex_plain.specs.PlexSpell.Tokens.{Declared, Token, Spells}
+use Rattle.plex_plain.specs.PlexSpell.Tokens.Token.{Literal, Number}
+use Rattle.plex_plain.specs.PlexSpell.Fields.{number}
+use Rattle.plex_plain.specs.PlexSpell.ShellWords.{shell_tokens, may_give, is_operator}
+use Rattle.plex_plain.specs.PlexSpell.CacheWords.{cache_tokens, IsGiven}
+use Rattle.plex_plain.specs.PlexSpell.ListWords.{list_tokens, IsListLine}
+use Rattle.plex_plain.specs.PlexSpell.LockWords.{lock_tokens}
 use Rattle.plex_script.specs.declared.scripts.AnyAsk.{AnyAsk}
 use Rattle.plex_script.specs.declared.scripts.AnyAsk.TheVariants as any
 use Rattle.plex_script.specs.declared.scripts.Act.{Act}

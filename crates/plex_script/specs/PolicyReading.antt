@@ -3,12 +3,12 @@ use Rattle.std.specs.Prelude.{ℕ, if◌then◌else◌, List, [], ◌∷◌, Opt
 use Rattle.cf_types.specs.declared.limits.TheConstants.{CAPACITY, CONNECTORS, VECTOR_BITS, HEADERS, LIST_LOCKS, UNITS}
 use Rattle.cf_types.specs.declared.names.Name16.{Name16}
 use Rattle.cf_types.specs.declared.forms.Kind.TheVariants as kind
-use Rattle.plex_spell.specs.declared.rigour.Rigour.{Rigour}
-use Rattle.plex_spell.specs.Words.{same_word, begins_with, words_behind}
-use Rattle.plex_spell.specs.Tokens.{Declared}
-use Rattle.plex_spell.specs.Places.{◌>>=◌, on_first, new_name_of}
-use Rattle.plex_spell.specs.Patterns.{Place, Values, values_at}
-use Rattle.plex_spell.specs.Patterns.Place.{Amount, ANewFacility, AFacility, AStructure, ANewName, Either, SomeRefs}
+use Rattle.plex_plain.specs.PlexSpell.declared.rigour.Rigour.{Rigour}
+use Rattle.plex_plain.specs.PlexSpell.Words.{same_word, begins_with, words_behind}
+use Rattle.plex_plain.specs.PlexSpell.Tokens.{Declared}
+use Rattle.plex_plain.specs.PlexSpell.Places.{◌>>=◌, on_first, new_name_of}
+use Rattle.plex_plain.specs.PlexSpell.Patterns.{Place, Values, values_at}
+use Rattle.plex_plain.specs.PlexSpell.Patterns.Place.{Amount, ANewFacility, AFacility, AStructure, ANewName, Either, SomeRefs}
 use Rattle.plex_script.specs.declared.declarations.Declaration.{Declaration}
 use Rattle.plex_script.specs.declared.declarations.Declaration.TheVariants.{Facility, Structure, Pref, Connector}
 use Rattle.plex_script.specs.LineReading.{whole_read}

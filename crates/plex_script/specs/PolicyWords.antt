@@ -3,10 +3,10 @@ use Rattle.std.specs.Prelude.{◌≡◌, ℕ, List, [], ◌∷◌, codes}
 use Rattle.cf_types.specs.declared.limits.TheConstants.{UNITS}
 use Rattle.cf_types.specs.declared.forms.Kind.{Kind}
 use Rattle.cf_types.specs.declared.forms.Kind.TheVariants as kind
-use Rattle.plex_spell.specs.declared.rigour.Rigour.{Rigour}
-use Rattle.plex_spell.specs.Tokens.{Declared, Token, Spells}
-use Rattle.plex_spell.specs.Tokens.Token.{Literal, NewFacility, NewName, Number, OfFacility, OfStructure}
-use Rattle.plex_spell.specs.FormWords.{form_tokens}
+use Rattle.plex_plain.specs.PlexSpell.declared.rigour.Rigour.{Rigour}
+use Rattle.plex_plain.specs.PlexSpell.Tokens.{Declared, Token, Spells}
+use Rattle.plex_plain.specs.PlexSpell.Tokens.Token.{Literal, NewFacility, NewName, Number, OfFacility, OfStructure}
+use Rattle.plex_plain.specs.PlexSpell.FormWords.{form_tokens}
 use Rattle.plex_script.specs.declared.declarations.Declaration.{Declaration}
 use Rattle.plex_script.specs.declared.declarations.Declaration.TheVariants.{Facility, Structure, Pref, Connector}
 

@@ -2,8 +2,8 @@
 use Rattle.std.specs.Prelude.{ℕ, ◌+◌, List, [], ◌∷◌, ◌++◌, length, map, Option, None}
 use Rattle.std.specs.List.{flat_map}
 use Rattle.engine_api.specs.declared.asks.Ask.TheVariants.{Shell, Content}
-use Rattle.plex_spell.specs.Words.{line_of, line_text}
-use Rattle.plex_spell.specs.Tokens.{Token}
+use Rattle.plex_plain.specs.PlexSpell.Words.{line_of, line_text}
+use Rattle.plex_plain.specs.PlexSpell.Tokens.{Token}
 use Rattle.plex_plain.specs.Naming.{caller_name, structure_name}
 use Rattle.plex_plain.specs.PlainWords.{plain_words, storage_told}
 use Rattle.plex_plain.specs.PolicyLines.{facility_line, structure_lines, connector_line}

@@ -5,9 +5,9 @@ use Rattle.cf_types.specs.declared.numbers.ConnId.{ConnId}
 use Rattle.cf_types.specs.declared.numbers.StrNo.{StrNo}
 use Rattle.cf_types.specs.declared.forms.Pref.{Pref}
 use Rattle.cf_types.specs.declared.forms.StrForm.{StrForm}
-use Rattle.plex_spell.specs.declared.rigour.Rigour.TheVariants.{Names}
-use Rattle.plex_spell.specs.Words.{lines_of, words_of}
-use Rattle.plex_spell.specs.Tokens.{structure_of}
+use Rattle.plex_plain.specs.PlexSpell.declared.rigour.Rigour.TheVariants.{Names}
+use Rattle.plex_plain.specs.PlexSpell.Words.{lines_of, words_of}
+use Rattle.plex_plain.specs.PlexSpell.Tokens.{structure_of}
 use Rattle.plex_script.specs.declared.declarations.Declaration.{Declaration}
 use Rattle.plex_script.specs.declared.declarations.Declaration.TheVariants as declaration
 use Rattle.plex_script.specs.declared.faults.Why.{Why}

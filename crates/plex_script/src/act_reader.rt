@@ -1,13 +1,13 @@
 ghost use Rattle.std.specs.Prelude.{◌≡◌};
-ghost use Rattle.plex_spell.specs.Places.{Gives, Reads, names_of};
-ghost use Rattle.plex_spell.specs.ShellWords.{may_give, is_operator};
+ghost use Rattle.plex_plain.specs.PlexSpell.Places.{Gives, Reads, names_of};
+ghost use Rattle.plex_plain.specs.PlexSpell.ShellWords.{may_give, is_operator};
 ghost use Rattle.plex_script.specs.LineWords.{has_vectors};
 ghost use Rattle.plex_script.specs.LineReading.{cache_ask_at, list_ask_at, lock_ask_at, any_ask_at, retry_at, call_at, own_at, is_own, done_at, act_at};
 
 use crate::scripts::{Act, AnyAsk};
 use cf_types::{CacheCmd, ConnId, Kind, ListCmd, LockCmd, ShellCmd};
 use engine_api::Ask;
-use plex_spell::{Judge, Miss, Words, cache, fields, list, lock, shell};
+use plex_plain::spell::{Judge, Miss, Words, cache, fields, list, lock, shell};
 use std::alloc::Global;
 
 /// Whether the caller is the operator.

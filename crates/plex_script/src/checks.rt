@@ -1,7 +1,7 @@
 ghost use Rattle.std.specs.Prelude.{◌≡◌, length, nat_lt, Some, None, if◌then◌else◌, nat_le, ◌-◌};
 ghost use Rattle.std.specs.List.{list_any};
-ghost use Rattle.plex_spell.specs.Words.{same_word};
-ghost use Rattle.plex_spell.specs.Tokens.{name_word};
+ghost use Rattle.plex_plain.specs.PlexSpell.Words.{same_word};
+ghost use Rattle.plex_plain.specs.PlexSpell.Tokens.{name_word};
 ghost use Rattle.plex_script.specs.Causes.{is_full, has_pref, is_twice, facility_units, units_of, all_prefs, is_too_much, kind_of, is_comment, is_policy_word, caller_of, is_long, is_long_name};
 ghost use Rattle.plex_script.specs.Reading.{script_of, remainder};
 
@@ -9,7 +9,7 @@ use crate::declarations::Declaration;
 use crate::draft::Draft;
 use cf_types::limits::{CONNECTORS, LINE_BYTES, NAME_BYTES, STRUCTURES};
 use cf_types::{CfId, ConnId, Kind, Name16, Pref, StrForm, StrNo};
-use plex_spell::{connector_number, is, is_about, name_text};
+use plex_plain::spell::{connector_number, is, is_about, name_text};
 
 /// Whether a line is too long.
 pub(crate) fn is_long(line: &[u8]) -> bool

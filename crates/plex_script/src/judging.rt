@@ -1,8 +1,8 @@
 ghost use Rattle.std.specs.Prelude.{◌≡◌};
 ghost use Rattle.std.specs.Option.{is_some};
-ghost use Rattle.plex_spell.specs.declared.rigour.Rigour.TheVariants.{Form, Limits, Names};
-ghost use Rattle.plex_spell.specs.Places.{Reads, names_of};
-ghost use Rattle.plex_spell.specs.Words.{words_of};
+ghost use Rattle.plex_plain.specs.PlexSpell.declared.rigour.Rigour.TheVariants.{Form, Limits, Names};
+ghost use Rattle.plex_plain.specs.PlexSpell.Places.{Reads, names_of};
+ghost use Rattle.plex_plain.specs.PlexSpell.Words.{words_of};
 ghost use Rattle.plex_script.specs.Causes.{declared_in};
 ghost use Rattle.plex_script.specs.LineReading.{act_at};
 ghost use Rattle.plex_script.specs.PolicyReading.{declaration_at};
@@ -16,7 +16,7 @@ use crate::line_faults::LineFault;
 use crate::policy_reader::declaration;
 use crate::scripts::Act;
 use cf_types::{ConnId, Kind};
-use plex_spell::{Judge, Miss, Rigour, Words};
+use plex_plain::spell::{Judge, Miss, Rigour, Words};
 use std::alloc::Global;
 
 // What words are judged by behind what is read already.

@@ -9,6 +9,7 @@ mod copies;
 mod declarations;
 mod draft;
 mod faults;
+mod gate;
 mod judging;
 mod laws;
 mod line_faults;
@@ -21,12 +22,17 @@ mod transcripts;
 
 pub use agents::{ROUND, Step, closing_ask};
 pub use asks::AnyHistory;
+pub use cf_types as types;
 pub use copies::copy_ask;
 pub use declarations::Declaration;
+pub use engine_api as api;
 pub use faults::{ReadFault, Why};
+pub use gate::{Gate, OpenGate};
 pub use laws::{
     keeps_limits, never_both, one_fault, one_script, read_back, script_or_fault, well_formed,
 };
+pub use plex_plain as plain;
+pub use plex_plain::spell as spell;
 pub use printer::print;
 pub use reader::read;
 pub use scripts::{Act, AnyAsk, Line, Script};

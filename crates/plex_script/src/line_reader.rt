@@ -1,5 +1,5 @@
 ghost use Rattle.std.specs.Prelude.{◌≡◌, ◌||◌, ◌<◌, ◌∷◌, List, ℕ, IsTrue, not, OnOk, IfErr, length, true, false, nat_lt};
-ghost use Rattle.plex_spell.specs.Words.{words_of};
+ghost use Rattle.plex_plain.specs.PlexSpell.Words.{words_of};
 ghost use Rattle.plex_script.specs.Causes.{has_lines, is_full, PolicyCause, StrangeCause, CallerCause, EmptyCause, LineCause, strange_why};
 ghost use Rattle.plex_script.specs.Scripts.{with_pref, with_declaration, AddsDeclaration, AddsLine, AddsOfCaller, AddsWords, Adds};
 ghost use Rattle.plex_script.specs.Reading.{script_of, IsFaultBy, HasRoom};
@@ -15,7 +15,7 @@ use crate::judging::{judged_act, judged_declaration};
 use crate::line_faults::LineFault;
 use crate::scripts::Line;
 use cf_types::{ConnId, Listing, Pref, StrForm, StrNo};
-use plex_spell::{Words, is_name, structure_number};
+use plex_plain::spell::{Words, is_name, structure_number};
 use std::alloc::Global;
 use std::mem;
 

@@ -1,12 +1,12 @@
 ghost use Rattle.std.specs.Prelude.{◌≡◌};
-ghost use Rattle.plex_spell.specs.Patterns.{values_at};
-ghost use Rattle.plex_spell.specs.Places.{Gives, Reads, names_of};
+ghost use Rattle.plex_plain.specs.PlexSpell.Patterns.{values_at};
+ghost use Rattle.plex_plain.specs.PlexSpell.Places.{Gives, Reads, names_of};
 ghost use Rattle.plex_script.specs.PolicyReading.{cache_places, cache_from, list_places, list_from, lock_places, lock_from, form_at, structure_at, declared_at, declaration_at};
 
 use crate::declarations::Declaration;
 use cf_types::limits::{CAPACITY, CONNECTORS, HEADERS, LIST_LOCKS, UNITS, VECTOR_BITS};
 use cf_types::{Caps, Kind, Listing, Name16, Pref, StrForm};
-use plex_spell::{Judge, Miss, Words, fields, is};
+use plex_plain::spell::{Judge, Miss, Words, fields, is};
 use std::alloc::Global;
 
 // What stands behind CACHE.

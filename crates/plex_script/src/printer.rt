@@ -2,7 +2,7 @@
 
 ghost use Rattle.std.specs.Prelude.{◌≡◌, ◌∷◌, ◌++◌, [], IfOk, OnOk, map};
 ghost use Rattle.std.specs.List.{flat_map};
-ghost use Rattle.plex_spell.specs.Words.{tail_of, line_text};
+ghost use Rattle.plex_plain.specs.PlexSpell.Words.{tail_of, line_text};
 ghost use Rattle.plex_plain.specs.Naming.{caller_name, structure_name};
 ghost use Rattle.plex_plain.specs.PlainWords.{plain_words};
 ghost use Rattle.plex_plain.specs.PolicyLines.{facility_line, pref_line, structure_lines, connector_line};

@@ -1,5 +1,5 @@
 ghost use Rattle.std.specs.Prelude.{◌≡◌, ◌==◌, ◌<◌, ◌∷◌, length, position, IfOk, IfErr};
-ghost use Rattle.plex_spell.specs.Words.{lines_of, without_return};
+ghost use Rattle.plex_plain.specs.PlexSpell.Words.{lines_of, without_return};
 ghost use Rattle.plex_script.specs.Scripts.{IsScript, empty_script};
 ghost use Rattle.plex_script.specs.Reading.{TellsFault, script_of, fault_at};
 

@@ -2,8 +2,8 @@
 use Rattle.std.proofs.Common.{◌≡◌, ℕ, ◌<◌, ◌++◌, List, [], ◌∷◌, length, get_or, refl, sym, ap, subst, ◌∙◌, arith}
 use Rattle.std.proofs.Math.Seq.{get_or-append_seam}
 use Rattle.std.proofs.lemmas.List.{length-append, set-set}
-use Rattle.cf_types.specs.declared.numbers.StrNo.{StrNo}
-use Rattle.cf_types.specs.Forms.{IsConnector}
+use Rattle.plex_board.specs.CfTypes.declared.numbers.StrNo.{StrNo}
+use Rattle.plex_board.specs.CfTypes.Forms.{IsConnector}
 use Rattle.plex_board.specs.Passes.{PassShown, IsLater}
 use Rattle.plex_board.specs.Desks.{DeskShown, pass_at, with_pass, IsLaterOn}
 use Rattle.plex_board.specs.Boards.{BoardShown}

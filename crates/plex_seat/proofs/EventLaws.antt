@@ -4,11 +4,11 @@ use Rattle.std.specs.Prelude.{All, slice_index_or, slice_set}
 use Rattle.std.specs.Option.{option_map_or}
 use Rattle.std.proofs.lemmas.List.{length-append, set-set}
 use Rattle.std.proofs.lemmas.List.Elements.{All-push}
-use Rattle.cf_types.specs.declared.numbers.StrNo.{StrNo}
-use Rattle.cf_types.specs.declared.shell_commands.ShellCmd.TheVariants as cmd
-use Rattle.plex_script.specs.declared.scripts.AnyAsk.{AnyAsk}
-use Rattle.plex_script.specs.Heard.{AnyCall}
-use Rattle.run_model.specs.Types.{StrType, OfCache}
+use Rattle.plex_board.specs.CfTypes.declared.numbers.StrNo.{StrNo}
+use Rattle.plex_board.specs.CfTypes.declared.shell_commands.ShellCmd.TheVariants as cmd
+use Rattle.plex_board.specs.PlexScript.declared.scripts.AnyAsk.{AnyAsk}
+use Rattle.plex_board.specs.PlexScript.Heard.{AnyCall}
+use Rattle.plex_board.specs.Types.{StrType, OfCache}
 use Rattle.plex_board.specs.Passes.{PassShown, with_call}
 use Rattle.plex_board.specs.Cells.{CellShown}
 use Rattle.plex_board.specs.Desks.{DeskShown, IsLaterOn, no_pass, pass_at, with_pass}

@@ -4,10 +4,10 @@ use Rattle.std.specs.Prelude.{is_some, find}
 use Rattle.std.specs.Bool.{if◌then◌else◌}
 use Rattle.std.proofs.lemmas.Bool.{false≢true}
 use Rattle.std.proofs.lemmas.Bool.Decides.{nat_tests}
-use Rattle.cf_types.specs.declared.numbers.StrNo.{StrNo}
-use Rattle.engine_api.specs.declared.told.Told.{Told}
-use Rattle.plex_script.specs.declared.scripts.AnyAsk.{AnyAsk}
-use Rattle.plex_script.specs.Heard.{AnyCall, call_numbered}
+use Rattle.plex_board.specs.CfTypes.declared.numbers.StrNo.{StrNo}
+use Rattle.plex_board.specs.EngineApi.declared.told.Told.{Told}
+use Rattle.plex_board.specs.PlexScript.declared.scripts.AnyAsk.{AnyAsk}
+use Rattle.plex_board.specs.PlexScript.Heard.{AnyCall, call_numbered}
 use Rattle.plex_board.specs.declared.any_reply.AnyReply.{AnyReply}
 use Rattle.plex_board.specs.Passes.{PassShown, with_call}
 use Rattle.plex_board.specs.Desks.{DeskShown, pass_at, IsAnsweredOn}

@@ -1,18 +1,18 @@
 -- What a member asks and is answered.
 use Rattle.std.specs.Prelude.{◌≡◌, ◌≢◌, ℕ, ◌<◌, ◌≤◌, ◌++◌, ◌∷◌, [], Bool, true, false, List, length, Some, IfSome, All}
-use Rattle.cf_types.specs.declared.shell_commands.ShellCmd.{ShellCmd}
-use Rattle.cf_types.specs.declared.shell_commands.ShellCmd.TheVariants as cmd
-use Rattle.engine_api.specs.declared.asks.Ask.TheVariants as ask
-use Rattle.engine_api.specs.declared.told.Told.{Told}
-use Rattle.plex_script.specs.declared.scripts.AnyAsk.{AnyAsk}
-use Rattle.plex_script.specs.declared.scripts.AnyAsk.TheVariants as any
-use Rattle.plex_script.specs.declared.scripts.Script.{Script}
-use Rattle.plex_script.specs.Heard.{AnyCall}
+use Rattle.plex_board.specs.CfTypes.declared.shell_commands.ShellCmd.{ShellCmd}
+use Rattle.plex_board.specs.CfTypes.declared.shell_commands.ShellCmd.TheVariants as cmd
+use Rattle.plex_board.specs.EngineApi.declared.asks.Ask.TheVariants as ask
+use Rattle.plex_board.specs.EngineApi.declared.told.Told.{Told}
+use Rattle.plex_board.specs.PlexScript.declared.scripts.AnyAsk.{AnyAsk}
+use Rattle.plex_board.specs.PlexScript.declared.scripts.AnyAsk.TheVariants as any
+use Rattle.plex_board.specs.PlexScript.declared.scripts.Script.{Script}
+use Rattle.plex_board.specs.PlexScript.Heard.{AnyCall}
 use Rattle.plex_report.specs.Lines.{reply_words}
 use Rattle.plex_report.specs.ReplyWords.{cache_reply_words, list_reply_words, lock_reply_words}
-use Rattle.struct_cell.specs.declared.refused.CallRefused.{CallRefused}
-use Rattle.struct_cell.specs.declared.refused.CallRefused.TheVariants.{JournalFull, NoMemory}
-use Rattle.run_model.specs.Types.{StrType, OfCache, OfList, OfLock, type_of_ask}
+use Rattle.plex_board.specs.StructCell.declared.refused.CallRefused.{CallRefused}
+use Rattle.plex_board.specs.StructCell.declared.refused.CallRefused.TheVariants.{JournalFull, NoMemory}
+use Rattle.plex_board.specs.Types.{StrType, OfCache, OfList, OfLock, type_of_ask}
 use Rattle.plex_board.specs.declared.any_reply.AnyReply.{AnyReply}
 use Rattle.plex_board.specs.declared.any_reply.AnyReply.TheVariants as reply
 use Rattle.plex_board.specs.Passes.{with_call, reply_numbered}

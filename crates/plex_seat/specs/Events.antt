@@ -1,10 +1,10 @@
 -- The event that a reply tells.
 use Rattle.std.specs.Prelude.{Option, None, Some}
-use Rattle.cf_types.specs.declared.events.Event.{Event}
-use Rattle.cf_types.specs.declared.shell_commands.ShellReply.{ShellReply}
-use Rattle.cf_types.specs.declared.shell_commands.ShellReply.TheVariants as shell
-use Rattle.engine_api.specs.declared.asks.Reply.{Reply}
-use Rattle.engine_api.specs.declared.asks.Reply.TheVariants as replied
+use Rattle.plex_board.specs.CfTypes.declared.events.Event.{Event}
+use Rattle.plex_board.specs.CfTypes.declared.shell_commands.ShellReply.{ShellReply}
+use Rattle.plex_board.specs.CfTypes.declared.shell_commands.ShellReply.TheVariants as shell
+use Rattle.plex_board.specs.EngineApi.declared.asks.Reply.{Reply}
+use Rattle.plex_board.specs.EngineApi.declared.asks.Reply.TheVariants as replied
 use Rattle.plex_board.specs.declared.any_reply.AnyReply.{AnyReply}
 use Rattle.plex_board.specs.declared.any_reply.AnyReply.TheVariants as any
 

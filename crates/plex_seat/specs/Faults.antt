@@ -1,8 +1,8 @@
 -- What a text that can't be read is to a member's work.
-use Rattle.plex_script.specs.declared.faults.ReadFault.{ReadFault}
-use Rattle.plex_script.specs.declared.faults.ReadFault.TheVariants as unread
-use Rattle.plex_spell.specs.declared.misses.Miss.{Miss}
-use Rattle.plex_spell.specs.declared.misses.Miss.TheVariants as miss
+use Rattle.plex_board.specs.PlexScript.declared.faults.ReadFault.{ReadFault}
+use Rattle.plex_board.specs.PlexScript.declared.faults.ReadFault.TheVariants as unread
+use Rattle.plex_report.specs.PlexSpell.declared.misses.Miss.{Miss}
+use Rattle.plex_report.specs.PlexSpell.declared.misses.Miss.TheVariants as miss
 use Rattle.plex_seat.specs.declared.faults.Fault.{Fault}
 use Rattle.plex_seat.specs.declared.faults.Fault.TheVariants.{Policy, Command, NoMemory}
 

@@ -1,11 +1,11 @@
 -- What is left of a member's work once the structures are closed.
 use Rattle.std.specs.Prelude.{◌≡◌, List, slice_get, Some}
-use Rattle.cf_types.specs.declared.forms.StrForm.{StrForm}
-use Rattle.cf_types.specs.declared.numbers.ConnId.{ConnId}
-use Rattle.cf_types.specs.declared.numbers.StrNo.{StrNo}
-use Rattle.plex_script.specs.declared.asks.AnyHistory.{AnyHistory}
-use Rattle.plex_script.specs.declared.scripts.Script.{Script}
-use Rattle.run_model.specs.Kinds.{IsAnyLegal}
+use Rattle.plex_board.specs.CfTypes.declared.forms.StrForm.{StrForm}
+use Rattle.plex_board.specs.CfTypes.declared.numbers.ConnId.{ConnId}
+use Rattle.plex_board.specs.CfTypes.declared.numbers.StrNo.{StrNo}
+use Rattle.plex_board.specs.PlexScript.declared.asks.AnyHistory.{AnyHistory}
+use Rattle.plex_board.specs.PlexScript.declared.scripts.Script.{Script}
+use Rattle.plex_board.specs.Kinds.{IsAnyLegal}
 use Rattle.plex_board.specs.Passes.{reply_numbered}
 use Rattle.plex_board.specs.Cells.{own_replies}
 use Rattle.plex_seat.specs.declared.answers.Answer.{Answer}

@@ -1,10 +1,10 @@
 -- A member's seat at a structure, as contracts see it.
 use Rattle.std.specs.Prelude.{◌≡◌, ℕ, ◌<◌, ◌≤◌, ◌++◌, ◌∷◌, [], List, length, IfSome}
 use Rattle.std.specs.Option.{option_map_or}
-use Rattle.cf_types.specs.declared.numbers.StrNo.{StrNo}
-use Rattle.cf_types.specs.Forms.{IsConnector}
-use Rattle.run_model.specs.Types.{StrType, OfCache}
-use Rattle.vec_words.specs.declared.logged.Tested.{Tested}
+use Rattle.plex_board.specs.CfTypes.declared.numbers.StrNo.{StrNo}
+use Rattle.plex_board.specs.CfTypes.Forms.{IsConnector}
+use Rattle.plex_board.specs.Types.{StrType, OfCache}
+use Rattle.plex_board.specs.VecWords.declared.logged.Tested.{Tested}
 use Rattle.plex_board.specs.Passes.{PassShown}
 use Rattle.plex_board.specs.Cells.{CellShown}
 use Rattle.plex_board.specs.Desks.{DeskShown, pass_at, with_pass}

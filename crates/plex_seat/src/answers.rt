@@ -2,10 +2,10 @@
 ghost use Rattle.std.specs.Prelude.{◌≡◌};
 ghost use Rattle.plex_seat.specs.Events.{event_in};
 
-use cf_types::{Event, ShellReply};
-use engine_api::Reply;
 use plex_board::AnyReply;
-use struct_cell::CallRefused;
+use plex_board::api::Reply;
+use plex_board::cells::CallRefused;
+use plex_board::types::{Event, ShellReply};
 use thiserror::Error;
 
 /// A call that was made: its number in the structure's history, and the reply.

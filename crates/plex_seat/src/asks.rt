@@ -1,11 +1,11 @@
 //! Commands that structures of every kind share, as asks of one kind.
 ghost use Rattle.std.specs.Prelude.{◌≡◌};
-ghost use Rattle.run_model.specs.Types.{type_of_ask, type_of_kind};
+ghost use Rattle.plex_board.specs.Types.{type_of_ask, type_of_kind};
 ghost use Rattle.plex_seat.specs.Answers.{common_ask, is_same_type};
 
-use cf_types::{Kind, ShellCmd};
-use engine_api::Ask;
-use plex_script::AnyAsk;
+use plex_board::api::Ask;
+use plex_board::scripts::AnyAsk;
+use plex_board::types::{Kind, ShellCmd};
 
 /// A common command, as it is asked of a structure of this kind.
 pub(crate) fn common_ask(kind: Kind, cmd: ShellCmd) -> AnyAsk

@@ -1,14 +1,14 @@
 //! Commands from text, as a script's line has them behind who and structure.
 ghost use Rattle.std.specs.Prelude.{◌≡◌};
-ghost use Rattle.plex_spell.specs.declared.rigour.Rigour.TheVariants.{Names};
-ghost use Rattle.plex_spell.specs.Places.{Reads, names_of};
-ghost use Rattle.plex_script.specs.Causes.{declared_in};
+ghost use Rattle.plex_report.specs.PlexSpell.declared.rigour.Rigour.TheVariants.{Names};
+ghost use Rattle.plex_report.specs.PlexSpell.Places.{Reads, names_of};
+ghost use Rattle.plex_board.specs.PlexScript.Causes.{declared_in};
 ghost use Rattle.plex_board.specs.Boards.{IsPolicy};
 ghost use Rattle.plex_seat.specs.Commands.{cache_said, list_said, lock_said};
 
-use cf_types::{CacheCmd, ListCmd, LockCmd};
-use plex_script::Script;
-use plex_spell::{Judge, Miss, Rigour, Words, cache, list, lock};
+use plex_board::scripts::Script;
+use plex_board::types::{CacheCmd, ListCmd, LockCmd};
+use plex_report::spell::{Judge, Miss, Rigour, Words, cache, list, lock};
 use std::alloc::Global;
 
 // What words are judged by: the limits, and what the policy declares.

@@ -1,8 +1,8 @@
 //! Why a member's work ends before it is done.
 use crate::answers::Unanswered;
-use cf_types::NoMemory;
-use plex_script::ReadFault;
-use plex_spell::Miss;
+use plex_board::scripts::ReadFault;
+use plex_board::types::NoMemory;
+use plex_report::spell::Miss;
 use std::io;
 use thiserror::Error;
 

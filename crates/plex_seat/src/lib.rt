@@ -11,21 +11,21 @@ mod seat;
 mod words;
 
 pub use answers::{Answer, Unanswered};
-pub use cf_link::Steady;
-pub use cf_types::{
+pub use commands::{cache_command, list_command, lock_command};
+pub use faults::Fault;
+pub use plex::{Plex, policy};
+pub use plex_board::api::{Ask, Reply, Told};
+pub use plex_board::cells::CallRefused;
+pub use plex_board::links::Steady;
+pub use plex_board::scripts::{AnyAsk, AnyHistory, ReadFault, Script};
+pub use plex_board::types::{
     Adjunct, CacheCmd, CacheReply, Caps, CfId, ConnId, Event, ListCmd, ListReply, LockCmd,
     LockReply, Name16, NoMemory, Refusal, Resource, ShellCmd, ShellReply, StrNo, parse_adjunct,
     parse_body, parse_name,
 };
-pub use commands::{cache_command, list_command, lock_command};
-pub use engine_api::{Ask, Reply, Told};
-pub use faults::Fault;
-pub use plex::{Plex, policy};
+pub use plex_board::vectors::Tested;
 pub use plex_board::{AnyReply, Board, Desk};
 pub use plex_report::render;
-pub use plex_script::{AnyAsk, AnyHistory, ReadFault, Script};
-pub use plex_spell::Miss;
+pub use plex_report::spell::Miss;
 pub use seat::Seat;
-pub use struct_cell::CallRefused;
-pub use vec_words::Tested;
 pub use words::put_reply;

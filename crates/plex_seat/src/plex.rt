@@ -1,14 +1,14 @@
 //! The structures of a policy.
 ghost use Rattle.std.specs.Prelude.{◌≡◌, ◌↔◌, ◌+◌, ◌≤◌, IfOk, IfErr, IfSome, IsSome, IsTrue, All, length, map};
 ghost use Rattle.std.specs.List.{range_with_len};
-ghost use Rattle.plex_script.specs.Scripts.{IsScript};
-ghost use Rattle.plex_script.specs.Reading.{TellsFault};
+ghost use Rattle.plex_board.specs.PlexScript.Scripts.{IsScript};
+ghost use Rattle.plex_board.specs.PlexScript.Reading.{TellsFault};
 ghost use Rattle.plex_board.specs.Boards.{IsPolicy, IsStarted, IsDeskOf, AreClosed, new_desk};
 
-use cf_link::Steady;
-use cf_types::NoMemory;
+use plex_board::links::Steady;
+use plex_board::scripts::{AnyHistory, ReadFault, Script, read, well_formed};
+use plex_board::types::NoMemory;
 use plex_board::{Board, Desk};
-use plex_script::{AnyHistory, ReadFault, Script, read, well_formed};
 use std::alloc::Global;
 use std::marker::Model;
 use std::sync::Wait;
@@ -41,7 +41,7 @@ pub struct Plex {
 
 impl Model for Plex {
     ghost use Rattle.std.specs.Prelude.{◌≡◌, ◌+◌};
-    ghost use Rattle.cf_link.specs.declared.steady.Steady.{Steady};
+    ghost use Rattle.plex_board.specs.CfLink.declared.steady.Steady.{Steady};
     ghost use Rattle.plex_board.specs.Boards.{BoardShown};
 
     ghost Value = { BoardShown Steady };

@@ -1,14 +1,14 @@
 //! A member's seat at a structure.
 ghost use Rattle.std.specs.Prelude.{◌≡◌, ◌≢◌, ◌↔◌, ◌⊎◌, ◌+◌, ◌<◌, ◌≤◌, ◌++◌, ◌∷◌, [], IfOk, IfErr, IfSome, IfNone, IsSome, IsTrue, All, Some, is_some, length};
 ghost use Rattle.std.specs.Vec.{vec_len, vec_capacity};
-ghost use Rattle.run_model.specs.Kinds.{MayAskAny};
-ghost use Rattle.run_model.specs.Types.{OfCache, OfList, OfLock, type_of_ask};
-ghost use Rattle.plex_script.specs.declared.scripts.AnyAsk.TheVariants as any;
-ghost use Rattle.engine_api.specs.declared.asks.Ask.TheVariants as ask;
-ghost use Rattle.engine_api.specs.Asking.{MayCommand};
-ghost use Rattle.cf_types.specs.Forms.{IsConnector};
-ghost use Rattle.cf_types.specs.declared.shell_commands.ShellCmd.TheVariants as cmd;
-ghost use Rattle.plex_script.specs.Heard.{call_numbered};
+ghost use Rattle.plex_board.specs.Kinds.{MayAskAny};
+ghost use Rattle.plex_board.specs.Types.{OfCache, OfList, OfLock, type_of_ask};
+ghost use Rattle.plex_board.specs.PlexScript.declared.scripts.AnyAsk.TheVariants as any;
+ghost use Rattle.plex_board.specs.EngineApi.declared.asks.Ask.TheVariants as ask;
+ghost use Rattle.plex_board.specs.EngineApi.Asking.{MayCommand};
+ghost use Rattle.plex_board.specs.CfTypes.Forms.{IsConnector};
+ghost use Rattle.plex_board.specs.CfTypes.declared.shell_commands.ShellCmd.TheVariants as cmd;
+ghost use Rattle.plex_board.specs.PlexScript.Heard.{call_numbered};
 ghost use Rattle.plex_board.specs.Passes.{reply_numbered};
 ghost use Rattle.plex_board.specs.Desks.{IsLaterOn};
 ghost use Rattle.plex_board.specs.Boards.{IsDeskOf, cell_on};
@@ -24,17 +24,17 @@ use crate::answers::{Answer, Unanswered};
 use crate::asks::{common_ask, is_of_kind};
 use crate::faults::Fault;
 use crate::plex::Plex;
-use cf_link::Steady;
-use cf_types::limits::CONNECTORS;
-use cf_types::{CacheCmd, ConnId, Event, ListCmd, LockCmd, NoMemory, ShellCmd, StrNo};
-use engine_api::Ask;
+use plex_board::api::Ask;
+use plex_board::links::Steady;
+use plex_board::scripts::AnyAsk;
+use plex_board::types::limits::CONNECTORS;
+use plex_board::types::{CacheCmd, ConnId, Event, ListCmd, LockCmd, NoMemory, ShellCmd, StrNo};
+use plex_board::vectors::Tested;
 use plex_board::{AnyReply, Board, Desk};
-use plex_script::AnyAsk;
 use std::alloc::Global;
 use std::marker::Model;
 use std::sync::Wait;
 use std::thread::yield_now;
-use vec_words::Tested;
 
 /// A connector's desk at one structure. It may go to another thread. Contracts see the board, the
 /// desk, and which structure it is.
@@ -45,7 +45,7 @@ pub struct Seat<'p> {
 }
 
 impl<'p> Model for Seat<'p> {
-    ghost use Rattle.cf_link.specs.declared.steady.Steady.{Steady};
+    ghost use Rattle.plex_board.specs.CfLink.declared.steady.Steady.{Steady};
     ghost use Rattle.plex_seat.specs.Seats.{SeatShown, IsSeat};
 
     ghost Value = { SeatShown Steady };

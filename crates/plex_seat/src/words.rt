@@ -1,12 +1,12 @@
 //! The words of what is answered.
 ghost use Rattle.std.specs.Prelude.{◌≡◌, ◌++◌, OnOk};
-ghost use Rattle.plex_spell.specs.Words.{tail_of};
+ghost use Rattle.plex_report.specs.PlexSpell.Words.{tail_of};
 ghost use Rattle.plex_seat.specs.Answers.{any_reply_words};
 
-use cf_types::NoMemory;
 use plex_board::AnyReply;
+use plex_board::scripts::Script;
+use plex_board::types::NoMemory;
 use plex_report::{put_cache_reply, put_list_reply, put_lock_reply};
-use plex_script::Script;
 
 /// Puts the words of a reply to a line, with a blank before each, as an entry of a history has them
 /// behind `->`, but for the OK that a history has before a loss by VARY: refusals and events too.

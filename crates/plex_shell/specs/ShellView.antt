@@ -3,7 +3,7 @@ use Rattle.std.specs.Prelude.{ℕ, ◌-◌, min, Option, None, Some}
 use Rattle.cf_types.specs.declared.forms.StrForm.{StrForm}
 use Rattle.cf_types.specs.Forms.{IsForm, IsCapacity}
 use Rattle.engine_api.specs.Shell.{Shell}
-use Rattle.rebuild_core.specs.declared.rebuild.Rebuild.{Rebuild}
+use Rattle.engine_api.specs.RebuildCore.declared.rebuild.Rebuild.{Rebuild}
 use Rattle.plex_shell.specs.declared.shell.Shell.TheInside.{Inside}
 use Rattle.plex_shell.specs.Callers.{AreCallers}
 

@@ -14,7 +14,9 @@ mod shell;
 mod varied;
 mod verdicts;
 
+pub use conn_core as connections;
 pub use engine_api::{Deeds, Room};
+pub use event_mail as mail;
 pub use lost_as::LostAs;
 pub use shell::{ACT_LETTERS, Shell, copy_form};
 pub use verdicts::Verdict;

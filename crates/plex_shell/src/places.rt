@@ -9,7 +9,7 @@ ghost use Rattle.engine_api.specs.Shell.{stands_at, is_severed, is_candidate, ca
 use crate::shell::Shell;
 use crate::verdicts::Judged;
 use cf_types::{Caps, CfId, ConnId, Pref, Refusal};
-use rebuild_core::Rebuild;
+use engine_api::rebuilds::Rebuild;
 
 impl Shell {
     // Whether an instance stands in the facility.

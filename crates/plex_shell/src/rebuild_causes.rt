@@ -12,7 +12,7 @@ use crate::shell::Shell;
 use crate::verdicts::Judged;
 use cf_types::{ConnId, ConnSet, Kind, Refusal, Stage};
 use engine_api::Room;
-use rebuild_core::Rebuild;
+use engine_api::rebuilds::Rebuild;
 
 impl Shell {
     /// Why REBUILD START is refused, if it is.

@@ -18,9 +18,9 @@ use cf_types::{
     StrForm,
 };
 use conn_core::Conns;
+use engine_api::rebuilds::Rebuild;
 use engine_api::{Ask, Deeds, Room};
 use event_mail::Mail;
-use rebuild_core::Rebuild;
 use std::alloc::Global;
 use std::marker::Model;
 

@@ -10,7 +10,7 @@ use Rattle.cf_types.specs.declared.forms.Kind.TheVariants as kind
 use Rattle.engine_api.specs.declared.shapes.Shape.{Shape}
 use Rattle.engine_api.specs.Meaning.{Meaning, Held, new_held, items_of, with_item, without_last_item}
 use Rattle.engine_api.specs.Items.{Fits, IsNoMore, IsNextItem, content_of_items}
-use Rattle.list_laws.proofs.TakeLaws.{take_next, split_next}
+use Rattle.cf_lists.proofs.TakeLaws.{take_next, split_next}
 use Rattle.rebuild_copy.specs.Copies.{Copy, copy_in, IsFilled, IsCopyOf, with_next}
 
 -- what needs no more fits as well

@@ -8,24 +8,24 @@ use Rattle.std.proofs.lemmas.Bool.Decides.{nat_tests}
 use Rattle.std.proofs.lemmas.List.Folds.{list_any_at}
 use Rattle.std.proofs.lemmas.List.Sums.{take_while-cons}
 use Rattle.std.proofs.lemmas.Option.{slice_get-get_or, slice_get_within, get_or_from_slice_get}
-use Rattle.cf_types.specs.declared.names.Name16.{Name16}
-use Rattle.cf_types.specs.declared.numbers.ConnId.{ConnId}
-use Rattle.cf_types.specs.declared.numbers.StrNo.{StrNo}
-use Rattle.cf_types.specs.Term.{block_of, text_in_block, term_byte}
-use Rattle.engine_api.proofs.Pushed.{pushed_cases}
-use Rattle.plex_spell.specs.declared.rigour.Rigour.TheVariants.{Names}
-use Rattle.plex_spell.specs.Words.{same_word, words_of, lines_of}
-use Rattle.plex_spell.specs.Tokens.{is_name, is_capital, reserved_words, name_word, structure_of}
-use Rattle.plex_spell.proofs.Choices.{same_word-of}
-use Rattle.plex_spell.proofs.PlaceLaws.{Words}
-use Rattle.plex_spell.proofs.TextLaws.{characters-term}
-use Rattle.plex_spell.proofs.WordLaws.{term-name}
-use Rattle.plex_script.specs.declared.declarations.Declaration.{Declaration}
-use Rattle.plex_script.specs.declared.declarations.Declaration.TheVariants as declaration
-use Rattle.plex_script.specs.declared.scripts.Script.{Script}
-use Rattle.plex_script.specs.Causes.{declared_in, caller_of, is_comment, is_policy_word, is_twice}
-use Rattle.plex_script.specs.PolicyWords.{Declares}
-use Rattle.plex_script.specs.Scripts.{AddsDeclaration, AddsLine, AddsOfCaller, AddsWords, AddsAll, IsScript, empty_script, line_number, with_declaration}
+use Rattle.plex_board.specs.CfTypes.declared.names.Name16.{Name16}
+use Rattle.plex_board.specs.CfTypes.declared.numbers.ConnId.{ConnId}
+use Rattle.plex_board.specs.CfTypes.declared.numbers.StrNo.{StrNo}
+use Rattle.plex_board.specs.CfTypes.Term.{block_of, text_in_block, term_byte}
+use Rattle.plex_board.proofs.EngineApi.Pushed.{pushed_cases}
+use Rattle.plex_report.specs.PlexSpell.declared.rigour.Rigour.TheVariants.{Names}
+use Rattle.plex_report.specs.PlexSpell.Words.{same_word, words_of, lines_of}
+use Rattle.plex_report.specs.PlexSpell.Tokens.{is_name, is_capital, reserved_words, name_word, structure_of}
+use Rattle.plex_report.proofs.PlexSpell.Choices.{same_word-of}
+use Rattle.plex_report.proofs.PlexSpell.PlaceLaws.{Words}
+use Rattle.plex_report.proofs.PlexSpell.TextLaws.{characters-term}
+use Rattle.plex_report.proofs.PlexSpell.WordLaws.{term-name}
+use Rattle.plex_board.specs.PlexScript.declared.declarations.Declaration.{Declaration}
+use Rattle.plex_board.specs.PlexScript.declared.declarations.Declaration.TheVariants as declaration
+use Rattle.plex_board.specs.PlexScript.declared.scripts.Script.{Script}
+use Rattle.plex_board.specs.PlexScript.Causes.{declared_in, caller_of, is_comment, is_policy_word, is_twice}
+use Rattle.plex_board.specs.PlexScript.PolicyWords.{Declares}
+use Rattle.plex_board.specs.PlexScript.Scripts.{AddsDeclaration, AddsLine, AddsOfCaller, AddsWords, AddsAll, IsScript, empty_script, line_number, with_declaration}
 use Rattle.plex_report.specs.Naming.{caller_name}
 use Rattle.run_laws.proofs.Cuts.{is_free}
 

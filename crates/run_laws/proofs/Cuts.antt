@@ -8,10 +8,10 @@ use Rattle.std.proofs.lemmas.Bool.Decides.{nat_tests}
 use Rattle.std.proofs.lemmas.Fmt.{decimal_injective}
 use Rattle.std.proofs.lemmas.Grind.{flat_map-append}
 use Rattle.std.proofs.lemmas.List.{append_cancel_left}
-use Rattle.plex_spell.specs.Tokens.{is_numeral}
-use Rattle.plex_spell.proofs.NumberLaws.{numeral-decimal}
+use Rattle.plex_report.specs.PlexSpell.Tokens.{is_numeral}
+use Rattle.plex_report.proofs.PlexSpell.NumberLaws.{numeral-decimal}
 use Rattle.plex_report.specs.Lines.{heading}
-use Rattle.plex_spell.specs.Words.{line_text}
+use Rattle.plex_report.specs.PlexSpell.Words.{line_text}
 
 -- the byte doesn't stand in the text
 abbrev pub is_free : ℕ → List ℕ → Bool

@@ -4,20 +4,20 @@ use Rattle.std.specs.Fmt.{decimal}
 use Rattle.std.proofs.lemmas.Bool.{and_parts, and_from}
 use Rattle.std.proofs.lemmas.Fmt.{decimal_injective}
 use Rattle.std.proofs.lemmas.List.{append_cancel_left}
-use Rattle.cf_types.specs.Forms.{IsFacility}
-use Rattle.cf_types.specs.declared.numbers.CfId.{CfId}
-use Rattle.cf_types.specs.declared.forms.StrForm.{StrForm}
-use Rattle.cf_types.specs.declared.numbers.ConnId.{ConnId}
-use Rattle.engine_api.specs.declared.asks.Ask.{Ask}
-use Rattle.engine_api.specs.declared.asks.What.{What}
-use Rattle.engine_api.specs.declared.asks.What.TheVariants as what
-use Rattle.engine_api.specs.declared.histories.Entry.{Entry}
-use Rattle.engine_api.specs.Meaning.{Meaning}
-use Rattle.engine_api.specs.History.{next_entry, next_mark, IsNextAs, Continues}
-use Rattle.plex_spell.specs.Words.{tail_of, line_of}
-use Rattle.plex_script.specs.declared.scripts.AnyAsk.{AnyAsk}
-use Rattle.plex_script.specs.declared.scripts.Script.{Script}
-use Rattle.plex_plain.specs.Naming.{facility_word}
+use Rattle.plex_board.specs.CfTypes.Forms.{IsFacility}
+use Rattle.plex_board.specs.CfTypes.declared.numbers.CfId.{CfId}
+use Rattle.plex_board.specs.CfTypes.declared.forms.StrForm.{StrForm}
+use Rattle.plex_board.specs.CfTypes.declared.numbers.ConnId.{ConnId}
+use Rattle.plex_board.specs.EngineApi.declared.asks.Ask.{Ask}
+use Rattle.plex_board.specs.EngineApi.declared.asks.What.{What}
+use Rattle.plex_board.specs.EngineApi.declared.asks.What.TheVariants as what
+use Rattle.plex_board.specs.EngineApi.declared.histories.Entry.{Entry}
+use Rattle.plex_board.specs.EngineApi.Meaning.{Meaning}
+use Rattle.plex_board.specs.EngineApi.History.{next_entry, next_mark, IsNextAs, Continues}
+use Rattle.plex_report.specs.PlexSpell.Words.{tail_of, line_of}
+use Rattle.plex_board.specs.PlexScript.declared.scripts.AnyAsk.{AnyAsk}
+use Rattle.plex_board.specs.PlexScript.declared.scripts.Script.{Script}
+use Rattle.plex_report.specs.PlexPlain.Naming.{facility_word}
 use Rattle.plex_report.specs.Naming.{caller_word}
 use Rattle.plex_report.specs.CommandWords.{ask_words}
 use Rattle.plex_report.specs.Lines.{entry_line, what_words, reply_words, is_of_vary}

@@ -2,16 +2,16 @@
 use Rattle.std.proofs.Common.{◌≡◌, ℕ, suc, ◌≤◌, ◌<◌, ◌==◌, inr, Bool, true, false, List, [], ◌∷◌, ◌++◌, length, filter, cond, Some, refl, sym, subst, arith, append_assoc}
 use Rattle.std.specs.Prelude.{Contains, if◌then◌else◌}
 use Rattle.std.proofs.lemmas.Bool.Decides.{nat_tests}
-use Rattle.cf_types.specs.declared.forms.StrForm.{StrForm}
-use Rattle.engine_api.proofs.NumberLaws.{numbered_legal}
-use Rattle.cache_model.specs.Meaning.{cache_meaning}
-use Rattle.list_model.specs.Meaning.{list_meaning}
-use Rattle.lock_model.specs.Meaning.{lock_meaning}
-use Rattle.plex_script.specs.declared.asks.AnyHistory.{AnyHistory}
-use Rattle.plex_script.specs.declared.asks.AnyHistory.TheVariants as history
-use Rattle.plex_script.specs.Heard.{AnyCall, any_calls, any_length, call_numbered}
-use Rattle.run_model.specs.Kinds.{IsAnyLegal, IsAnyPoint, Rising, any_numbers}
-use Rattle.run_model.proofs.SeamLaws.{numbers_of, numbers_any}
+use Rattle.plex_board.specs.CfTypes.declared.forms.StrForm.{StrForm}
+use Rattle.plex_board.proofs.EngineApi.NumberLaws.{numbered_legal}
+use Rattle.plex_board.specs.CacheModel.Meaning.{cache_meaning}
+use Rattle.plex_board.specs.ListModel.Meaning.{list_meaning}
+use Rattle.plex_board.specs.LockModel.Meaning.{lock_meaning}
+use Rattle.plex_board.specs.PlexScript.declared.asks.AnyHistory.{AnyHistory}
+use Rattle.plex_board.specs.PlexScript.declared.asks.AnyHistory.TheVariants as history
+use Rattle.plex_board.specs.PlexScript.Heard.{AnyCall, any_calls, any_length, call_numbered}
+use Rattle.plex_board.specs.Kinds.{IsAnyLegal, IsAnyPoint, Rising, any_numbers}
+use Rattle.plex_board.proofs.SeamLaws.{numbers_of, numbers_any}
 
 -- each of these is the call with its number
 abbrev pub AreHeard : List AnyCall → List AnyCall → Type 0

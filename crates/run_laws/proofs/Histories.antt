@@ -5,34 +5,34 @@ use Rattle.std.specs.Prelude.{All}
 use Rattle.std.proofs.lemmas.Bool.Decides.{nat_tests}
 use Rattle.std.proofs.lemmas.List.{map-append}
 use Rattle.std.proofs.lemmas.List.Elements.{filter-append, recursion_from_All}
-use Rattle.cf_types.specs.declared.forms.Kind.{Kind}
-use Rattle.cf_types.specs.declared.forms.Kind.TheVariants as kind
-use Rattle.cf_types.specs.declared.forms.StrForm.{StrForm}
-use Rattle.cf_types.specs.declared.numbers.ConnId.{ConnId}
-use Rattle.cf_types.specs.declared.numbers.StrNo.{StrNo}
-use Rattle.engine_api.specs.declared.asks.Ask.{Ask}
-use Rattle.engine_api.specs.declared.asks.What.{What}
-use Rattle.engine_api.specs.declared.asks.What.TheVariants as what
-use Rattle.engine_api.specs.declared.histories.Entry.{Entry}
-use Rattle.engine_api.specs.Meaning.{Meaning}
-use Rattle.engine_api.specs.History.{Call, calls, IsLegal}
-use Rattle.engine_api.specs.Told.{told_of}
-use Rattle.engine_api.proofs.HistoryLaws.{calls-append, continues_legal}
-use Rattle.cache_model.specs.Meaning.{cache_meaning}
-use Rattle.list_model.specs.Meaning.{list_meaning}
-use Rattle.lock_model.specs.Meaning.{lock_meaning}
-use Rattle.cf_types.specs.declared.cache_commands.CacheCmd.{CacheCmd}
-use Rattle.cf_types.specs.declared.list_commands.ListCmd.{ListCmd}
-use Rattle.cf_types.specs.declared.lock_commands.LockCmd.{LockCmd}
-use Rattle.plex_script.specs.declared.asks.AnyHistory.{AnyHistory}
-use Rattle.plex_script.specs.declared.asks.AnyHistory.TheVariants as history
-use Rattle.plex_script.specs.declared.scripts.AnyAsk.{AnyAsk}
-use Rattle.plex_script.specs.declared.scripts.AnyAsk.TheVariants as ask
-use Rattle.plex_script.specs.declared.scripts.Script.{Script}
-use Rattle.plex_script.specs.Heard.{AnyCall, any_call, any_calls, any_length, own_calls}
-use Rattle.plex_script.specs.Follows.{lines_of}
-use Rattle.run_model.specs.Headline.{IsHistoryOf}
-use Rattle.run_model.specs.Kinds.{IsOfKind, IsAnyLegal, IsAnyPoint, AnyTells}
+use Rattle.plex_board.specs.CfTypes.declared.forms.Kind.{Kind}
+use Rattle.plex_board.specs.CfTypes.declared.forms.Kind.TheVariants as kind
+use Rattle.plex_board.specs.CfTypes.declared.forms.StrForm.{StrForm}
+use Rattle.plex_board.specs.CfTypes.declared.numbers.ConnId.{ConnId}
+use Rattle.plex_board.specs.CfTypes.declared.numbers.StrNo.{StrNo}
+use Rattle.plex_board.specs.EngineApi.declared.asks.Ask.{Ask}
+use Rattle.plex_board.specs.EngineApi.declared.asks.What.{What}
+use Rattle.plex_board.specs.EngineApi.declared.asks.What.TheVariants as what
+use Rattle.plex_board.specs.EngineApi.declared.histories.Entry.{Entry}
+use Rattle.plex_board.specs.EngineApi.Meaning.{Meaning}
+use Rattle.plex_board.specs.EngineApi.History.{Call, calls, IsLegal}
+use Rattle.plex_board.specs.EngineApi.Told.{told_of}
+use Rattle.plex_board.proofs.EngineApi.HistoryLaws.{calls-append, continues_legal}
+use Rattle.plex_board.specs.CacheModel.Meaning.{cache_meaning}
+use Rattle.plex_board.specs.ListModel.Meaning.{list_meaning}
+use Rattle.plex_board.specs.LockModel.Meaning.{lock_meaning}
+use Rattle.plex_board.specs.CfTypes.declared.cache_commands.CacheCmd.{CacheCmd}
+use Rattle.plex_board.specs.CfTypes.declared.list_commands.ListCmd.{ListCmd}
+use Rattle.plex_board.specs.CfTypes.declared.lock_commands.LockCmd.{LockCmd}
+use Rattle.plex_board.specs.PlexScript.declared.asks.AnyHistory.{AnyHistory}
+use Rattle.plex_board.specs.PlexScript.declared.asks.AnyHistory.TheVariants as history
+use Rattle.plex_board.specs.PlexScript.declared.scripts.AnyAsk.{AnyAsk}
+use Rattle.plex_board.specs.PlexScript.declared.scripts.AnyAsk.TheVariants as ask
+use Rattle.plex_board.specs.PlexScript.declared.scripts.Script.{Script}
+use Rattle.plex_board.specs.PlexScript.Heard.{AnyCall, any_call, any_calls, any_length, own_calls}
+use Rattle.plex_board.specs.PlexScript.Follows.{lines_of}
+use Rattle.plex_board.specs.Headline.{IsHistoryOf}
+use Rattle.plex_board.specs.Kinds.{IsOfKind, IsAnyLegal, IsAnyPoint, AnyTells}
 use Rattle.plex_report.specs.Naming.{structure_name}
 use Rattle.plex_report.specs.CommandWords.{cache_words, list_words, lock_words}
 use Rattle.plex_report.specs.ReplyWords.{cache_reply_words, list_reply_words, lock_reply_words}

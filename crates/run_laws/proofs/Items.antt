@@ -6,27 +6,27 @@ use Rattle.std.proofs.Math.Nat.{pow-suc}
 use Rattle.std.proofs.lemmas.Bool.{and_from}
 use Rattle.std.proofs.lemmas.Bool.Decides.{nat_tests}
 use Rattle.std.proofs.lemmas.List.{append_cancel_left, map-append}
-use Rattle.cf_types.specs.declared.forms.Kind.{Kind}
-use Rattle.cf_types.specs.declared.forms.Kind.TheVariants as kind
-use Rattle.cf_types.specs.declared.forms.StrForm.{StrForm}
-use Rattle.cf_types.specs.declared.numbers.ConnId.{ConnId}
-use Rattle.cf_types.specs.declared.numbers.StrNo.{StrNo}
-use Rattle.cf_types.specs.declared.shell_commands.ShellCmd.TheVariants as cmd
-use Rattle.engine_api.specs.declared.told.Told.{Told}
-use Rattle.plex_script.specs.declared.agents.Step.{Step}
-use Rattle.plex_script.specs.declared.agents.Step.TheVariants as step
-use Rattle.plex_script.specs.declared.asks.AnyHistory.{AnyHistory}
-use Rattle.plex_script.specs.declared.scripts.AnyAsk.{AnyAsk}
-use Rattle.plex_script.specs.declared.scripts.Act.{Act}
-use Rattle.plex_script.specs.declared.scripts.Act.TheVariants as act
-use Rattle.plex_script.specs.declared.scripts.Line.{Line}
-use Rattle.plex_script.specs.declared.scripts.Script.{Script}
-use Rattle.plex_script.specs.declared.transcripts.Shown.{Shown}
-use Rattle.plex_script.specs.declared.transcripts.Shown.TheVariants as shown
-use Rattle.plex_script.specs.Agent.{first_step, step_after, asked_by, shell_ask}
-use Rattle.plex_script.specs.Causes.{kind_of}
-use Rattle.plex_script.specs.Heard.{AnyCall, call_numbered, calls_on, length_on}
-use Rattle.plex_script.specs.Follows.{IsHeard, Runs, ShowsTest, ShowsWord, ShowsAct, ShowsLines, ShowsClosing, ShowsClosings, Follows, lines_of, is_linked_by}
+use Rattle.plex_board.specs.CfTypes.declared.forms.Kind.{Kind}
+use Rattle.plex_board.specs.CfTypes.declared.forms.Kind.TheVariants as kind
+use Rattle.plex_board.specs.CfTypes.declared.forms.StrForm.{StrForm}
+use Rattle.plex_board.specs.CfTypes.declared.numbers.ConnId.{ConnId}
+use Rattle.plex_board.specs.CfTypes.declared.numbers.StrNo.{StrNo}
+use Rattle.plex_board.specs.CfTypes.declared.shell_commands.ShellCmd.TheVariants as cmd
+use Rattle.plex_board.specs.EngineApi.declared.told.Told.{Told}
+use Rattle.plex_board.specs.PlexScript.declared.agents.Step.{Step}
+use Rattle.plex_board.specs.PlexScript.declared.agents.Step.TheVariants as step
+use Rattle.plex_board.specs.PlexScript.declared.asks.AnyHistory.{AnyHistory}
+use Rattle.plex_board.specs.PlexScript.declared.scripts.AnyAsk.{AnyAsk}
+use Rattle.plex_board.specs.PlexScript.declared.scripts.Act.{Act}
+use Rattle.plex_board.specs.PlexScript.declared.scripts.Act.TheVariants as act
+use Rattle.plex_board.specs.PlexScript.declared.scripts.Line.{Line}
+use Rattle.plex_board.specs.PlexScript.declared.scripts.Script.{Script}
+use Rattle.plex_board.specs.PlexScript.declared.transcripts.Shown.{Shown}
+use Rattle.plex_board.specs.PlexScript.declared.transcripts.Shown.TheVariants as shown
+use Rattle.plex_board.specs.PlexScript.Agent.{first_step, step_after, asked_by, shell_ask}
+use Rattle.plex_board.specs.PlexScript.Causes.{kind_of}
+use Rattle.plex_board.specs.PlexScript.Heard.{AnyCall, call_numbered, calls_on, length_on}
+use Rattle.plex_board.specs.PlexScript.Follows.{IsHeard, Runs, ShowsTest, ShowsWord, ShowsAct, ShowsLines, ShowsClosing, ShowsClosings, Follows, lines_of, is_linked_by}
 use Rattle.plex_report.specs.Naming.{structure_word}
 use Rattle.plex_report.specs.Lines.{shown_line, bit_word, binary_digits}
 use Rattle.plex_report.proofs.Digits.{digits_end, digits_next}

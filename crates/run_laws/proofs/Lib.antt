@@ -14,3 +14,15 @@ pub mod ValidLaws
 pub mod ShareLaws
 pub mod CountLaws
 pub mod BoundLaws
+pub mod UniqueLaws
+pub mod CacheCapacityLaws
+pub mod CacheTraces
+pub mod CacheReplies
+pub mod FreshLaws
+pub mod Allocated
+pub mod Pages
+pub mod CacheApplyLaws
+mod CacheChecks
+pub mod VersionReplay
+pub mod OwnerReplay
+pub mod EntryLaws

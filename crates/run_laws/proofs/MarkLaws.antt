@@ -3,20 +3,20 @@ use Rattle.std.proofs.Common.{◌≡◌, ℕ, ◌+◌, ◌≤◌, ◌<◌, ◌==
 use Rattle.std.specs.Prelude.{filter, if◌then◌else◌}
 use Rattle.std.proofs.lemmas.Bool.{cases_lt}
 use Rattle.std.proofs.lemmas.Bool.Decides.{nat_tests}
-use Rattle.cf_types.specs.Forms.{IsFacility}
-use Rattle.cf_types.specs.declared.forms.StrForm.{StrForm}
-use Rattle.cf_types.specs.declared.numbers.CfId.{CfId}
-use Rattle.engine_api.specs.declared.asks.What.{What}
-use Rattle.engine_api.specs.declared.asks.What.TheVariants as what
-use Rattle.engine_api.specs.declared.histories.Entry.{Entry}
-use Rattle.engine_api.specs.Answers.{is_mark_as, marks_at, trues}
-use Rattle.engine_api.proofs.AnswerLaws.{marks_counted}
-use Rattle.cache_model.specs.Meaning.{cache_meaning}
-use Rattle.list_model.specs.Meaning.{list_meaning}
-use Rattle.lock_model.specs.Meaning.{lock_meaning}
-use Rattle.plex_script.specs.declared.asks.AnyHistory.{AnyHistory}
-use Rattle.plex_script.specs.declared.asks.AnyHistory.TheVariants as history
-use Rattle.run_model.specs.Kinds.{IsAnyLegal, any_answers}
+use Rattle.plex_board.specs.CfTypes.Forms.{IsFacility}
+use Rattle.plex_board.specs.CfTypes.declared.forms.StrForm.{StrForm}
+use Rattle.plex_board.specs.CfTypes.declared.numbers.CfId.{CfId}
+use Rattle.plex_board.specs.EngineApi.declared.asks.What.{What}
+use Rattle.plex_board.specs.EngineApi.declared.asks.What.TheVariants as what
+use Rattle.plex_board.specs.EngineApi.declared.histories.Entry.{Entry}
+use Rattle.plex_board.specs.EngineApi.Answers.{is_mark_as, marks_at, trues}
+use Rattle.plex_board.proofs.EngineApi.AnswerLaws.{marks_counted}
+use Rattle.plex_board.specs.CacheModel.Meaning.{cache_meaning}
+use Rattle.plex_board.specs.ListModel.Meaning.{list_meaning}
+use Rattle.plex_board.specs.LockModel.Meaning.{lock_meaning}
+use Rattle.plex_board.specs.PlexScript.declared.asks.AnyHistory.{AnyHistory}
+use Rattle.plex_board.specs.PlexScript.declared.asks.AnyHistory.TheVariants as history
+use Rattle.plex_board.specs.Kinds.{IsAnyLegal, any_answers}
 use Rattle.run_laws.specs.Readings.{NamesFacility, NamesFacilities, MarksFacilities}
 
 facility_or : (cf : CfId) → IsFacility cf ⊎ (¬ IsFacility cf)

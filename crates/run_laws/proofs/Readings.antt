@@ -2,21 +2,21 @@
 use Rattle.std.proofs.Common.{◌≡◌, ℕ, zero, suc, ◌+◌, ◌≤◌, ◌<◌, ◌==◌, ◌^◌, List, [], ◌∷◌, ◌++◌, length, map, Option, Some, None, slice_get, get_or, refl, sym, ap, subst, ◌∙◌, arith, append_assoc}
 use Rattle.std.specs.Prelude.{codes}
 use Rattle.std.proofs.lemmas.Option.{slice_get-get_or, slice_get_within}
-use Rattle.cf_types.specs.declared.forms.StrForm.{StrForm}
-use Rattle.cf_types.specs.declared.numbers.StrNo.{StrNo}
-use Rattle.plex_script.specs.declared.asks.AnyHistory.{AnyHistory}
-use Rattle.plex_script.specs.declared.scripts.Script.{Script}
-use Rattle.plex_script.specs.declared.transcripts.AgentEnd.{AgentEnd}
-use Rattle.plex_script.specs.declared.transcripts.AgentEnd.TheVariants as ended
-use Rattle.plex_script.specs.declared.transcripts.Shown.{Shown}
-use Rattle.plex_script.specs.declared.transcripts.Shown.TheVariants as shown
-use Rattle.plex_script.specs.declared.transcripts.Transcript.{Transcript}
-use Rattle.plex_script.specs.Heard.{AnyCall, any_calls, call_numbered, own_calls, calls_of, calls_on, length_on}
-use Rattle.plex_script.specs.Follows.{Follows, numbers_on}
-use Rattle.run_model.specs.Kinds.{Rising}
-use Rattle.run_model.proofs.HistoryLaws.{calls_rise}
+use Rattle.plex_board.specs.CfTypes.declared.forms.StrForm.{StrForm}
+use Rattle.plex_board.specs.CfTypes.declared.numbers.StrNo.{StrNo}
+use Rattle.plex_board.specs.PlexScript.declared.asks.AnyHistory.{AnyHistory}
+use Rattle.plex_board.specs.PlexScript.declared.scripts.Script.{Script}
+use Rattle.plex_board.specs.PlexScript.declared.transcripts.AgentEnd.{AgentEnd}
+use Rattle.plex_board.specs.PlexScript.declared.transcripts.AgentEnd.TheVariants as ended
+use Rattle.plex_board.specs.PlexScript.declared.transcripts.Shown.{Shown}
+use Rattle.plex_board.specs.PlexScript.declared.transcripts.Shown.TheVariants as shown
+use Rattle.plex_board.specs.PlexScript.declared.transcripts.Transcript.{Transcript}
+use Rattle.plex_board.specs.PlexScript.Heard.{AnyCall, any_calls, call_numbered, own_calls, calls_of, calls_on, length_on}
+use Rattle.plex_board.specs.PlexScript.Follows.{Follows, numbers_on}
+use Rattle.plex_board.specs.Kinds.{Rising}
+use Rattle.plex_board.proofs.HistoryLaws.{calls_rise}
 use Rattle.plex_report.specs.Naming.{caller_name}
-use Rattle.plex_plain.specs.PolicyLines.{facility_line, connector_line}
+use Rattle.plex_report.specs.PlexPlain.PolicyLines.{facility_line, connector_line}
 use Rattle.plex_report.specs.Lines.{transcript_lines, shown_line}
 use Rattle.plex_report.specs.Report.{by_number, lines_each, structures_lines, histories_lines, transcripts_lines}
 use Rattle.run_laws.specs.Readings.{Reading, IsReading, IsOnlyReading, report_of}

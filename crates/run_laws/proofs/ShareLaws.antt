@@ -4,7 +4,7 @@ use Rattle.std.specs.Prelude.{All, not}
 use Rattle.std.proofs.lemmas.Bool.Decides.{nat_tests}
 use Rattle.std.proofs.lemmas.List.Elements.{All-filter, filter_passes}
 use Rattle.std.proofs.lemmas.List.Filters.{length-filter_both, sum_by-filter_both}
-use Rattle.list_laws.proofs.FilterLaws.{filter_swap, filter_absorbed}
+use Rattle.plex_board.proofs.CfLists.FilterLaws.{filter_swap, filter_absorbed}
 
 -- the elements with this key
 abbrev pub share : {X : Type 0} → (X → ℕ) → ℕ → List X → List X

@@ -1,20 +1,20 @@
 -- A test of a run that shows a valid copy tells a fresh one.
 use Rattle.std.proofs.Common.{ℕ, Bool, List, take, subst}
-use Rattle.cf_types.specs.declared.forms.StrForm.{StrForm}
-use Rattle.cf_types.specs.declared.numbers.ConnId.{ConnId}
-use Rattle.cf_types.specs.declared.numbers.StrNo.{StrNo}
-use Rattle.cache_model.specs.Meaning.{cache_meaning}
-use Rattle.engine_api.specs.History.{Tells}
-use Rattle.cache_laws.specs.Histories.{CacheHistory, IsLegalCache}
-use Rattle.cache_laws.proofs.FreshLaws.{fresh-test}
-use Rattle.plex_script.specs.declared.asks.AnyHistory.{AnyHistory}
-use Rattle.plex_script.specs.declared.asks.AnyHistory.TheVariants as history
-use Rattle.plex_script.specs.declared.scripts.Script.{Script}
-use Rattle.plex_script.specs.declared.transcripts.Shown.{Shown}
-use Rattle.plex_script.specs.declared.transcripts.Shown.TheVariants as shown
-use Rattle.plex_script.specs.declared.transcripts.Transcript.{Transcript}
-use Rattle.plex_script.specs.Follows.{surest_on}
-use Rattle.run_model.specs.Headline.{ShowsHistories, TellsBit, TellsOf, place_of}
+use Rattle.plex_board.specs.CfTypes.declared.forms.StrForm.{StrForm}
+use Rattle.plex_board.specs.CfTypes.declared.numbers.ConnId.{ConnId}
+use Rattle.plex_board.specs.CfTypes.declared.numbers.StrNo.{StrNo}
+use Rattle.plex_board.specs.CacheModel.Meaning.{cache_meaning}
+use Rattle.plex_board.specs.EngineApi.History.{Tells}
+use Rattle.run_laws.specs.CacheHistories.{CacheHistory, IsLegalCache}
+use Rattle.run_laws.proofs.FreshLaws.{fresh-test}
+use Rattle.plex_board.specs.PlexScript.declared.asks.AnyHistory.{AnyHistory}
+use Rattle.plex_board.specs.PlexScript.declared.asks.AnyHistory.TheVariants as history
+use Rattle.plex_board.specs.PlexScript.declared.scripts.Script.{Script}
+use Rattle.plex_board.specs.PlexScript.declared.transcripts.Shown.{Shown}
+use Rattle.plex_board.specs.PlexScript.declared.transcripts.Shown.TheVariants as shown
+use Rattle.plex_board.specs.PlexScript.declared.transcripts.Transcript.{Transcript}
+use Rattle.plex_board.specs.PlexScript.Follows.{surest_on}
+use Rattle.plex_board.specs.Headline.{ShowsHistories, TellsBit, TellsOf, place_of}
 use Rattle.run_laws.specs.Valid.{BitTellsFresh, TellsFreshBy, ShowsFresh}
 
 bit_fresh : (form : StrForm) (entries : CacheHistory) (conn : ConnId) (on : StrNo) (before : List Shown)

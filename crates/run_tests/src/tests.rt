@@ -9,8 +9,8 @@ mod reports;
 mod runs;
 mod statuses;
 
-use cf_types::ConnId;
 use gates::{Hold, LineOf, at_once};
+use plex_run::types::ConnId;
 use reports::{entries, rises};
 use runs::{Given, Ran};
 use std::alloc::{AllocError, Global};

@@ -22,10 +22,10 @@ use Rattle.engine_api.specs.Meaning.{Meaning, unless_refused}
 use Rattle.engine_api.specs.Rebuilds.{fresh_of, is_held_up, is_switch}
 use Rattle.engine_api.specs.Shapes.{shape_of}
 use Rattle.engine_api.specs.Shell.{Leaver, Shell, content_cause, emptied}
-use Rattle.rebuild_core.specs.declared.passed.Passed.{Passed}
-use Rattle.rebuild_core.specs.declared.passed.Passed.TheVariants.{No, Into, Ended}
-use Rattle.rebuild_core.specs.declared.rebuild.Rebuild.{Rebuild}
-use Rattle.rebuild_core.specs.Stages.{outcome_of, rebuild_emptied, rebuild_in, rebuild_left, rebuild_without, with_place, without_owing}
+use Rattle.engine_api.specs.RebuildCore.declared.passed.Passed.{Passed}
+use Rattle.engine_api.specs.RebuildCore.declared.passed.Passed.TheVariants.{No, Into, Ended}
+use Rattle.engine_api.specs.RebuildCore.declared.rebuild.Rebuild.{Rebuild}
+use Rattle.engine_api.specs.RebuildCore.Stages.{outcome_of, rebuild_emptied, rebuild_in, rebuild_left, rebuild_without, with_place, without_owing}
 use Rattle.shell_laws.specs.Capacities.{HasRoom, IsHeld}
 use Rattle.shell_laws.specs.Members.{HasPlace, IsManned, IsPlaced}
 use Rattle.shell_laws.proofs.MemberLaws.{content_waits, kept-manned, rebuild_in_it, sound_of}

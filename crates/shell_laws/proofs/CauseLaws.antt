@@ -12,7 +12,7 @@ use Rattle.engine_api.specs.declared.deeds.Room.{Room}
 use Rattle.engine_api.specs.Items.{Fits}
 use Rattle.engine_api.specs.Meaning.{first_refusal}
 use Rattle.engine_api.specs.Shell.{Shell, if_rebuilding, if_too_small, refusal_when, unless_copied_to}
-use Rattle.rebuild_core.specs.declared.rebuild.Rebuild.{Rebuild}
+use Rattle.engine_api.specs.RebuildCore.declared.rebuild.Rebuild.{Rebuild}
 
 -- none of these holds
 abbrev pub NoneHolds : List (Option Refusal) → Type 0

@@ -20,7 +20,7 @@ use Rattle.engine_api.specs.Meaning.{Meaning, unless_refused}
 use Rattle.engine_api.specs.Rebuilds.{is_switch}
 use Rattle.engine_api.specs.Shapes.{shape_of}
 use Rattle.engine_api.specs.Shell.{Leaver, Shell, ShellOutcome, candidates, content_cause, leaver, made_at, shell_cause, with_posted}
-use Rattle.rebuild_core.specs.Stages.{outcome_of, with_place, without_owing}
+use Rattle.engine_api.specs.RebuildCore.Stages.{outcome_of, with_place, without_owing}
 use Rattle.shell_laws.proofs.Answered.{reply_for}
 use Rattle.shell_laws.proofs.LossLaws.{loss-cases}
 use Rattle.shell_laws.proofs.Moves.{stands_in, Move, Change}

@@ -17,8 +17,8 @@ use Rattle.engine_api.specs.Machine.{Machine, items_of, room_of}
 use Rattle.engine_api.specs.Meaning.{Meaning}
 use Rattle.engine_api.specs.Rebuilds.{fresh_of, is_switch}
 use Rattle.engine_api.specs.Shell.{Shell, caps_in, emptied, is_drop, mark_outcome, shell_cause}
-use Rattle.rebuild_core.specs.declared.rebuild.Rebuild.{Rebuild}
-use Rattle.rebuild_core.specs.Stages.{outcome, outcome_of, rebuild_emptied, rebuild_left, rebuild_without, with_place, without_owing}
+use Rattle.engine_api.specs.RebuildCore.declared.rebuild.Rebuild.{Rebuild}
+use Rattle.engine_api.specs.RebuildCore.Stages.{outcome, outcome_of, rebuild_emptied, rebuild_left, rebuild_without, with_place, without_owing}
 use Rattle.shell_laws.specs.Capacities.{AreFitting, caps_behind, fresh_behind, fresh_caps}
 use Rattle.shell_laws.specs.Members.{HasMembers, IsManned, IsPlaced, Somebody}
 use Rattle.shell_laws.proofs.LossLaws.{loss-cases}

@@ -18,8 +18,8 @@ use Rattle.engine_api.specs.Meaning.{Meaning}
 use Rattle.engine_api.specs.Rebuilds.{is_switch}
 use Rattle.engine_api.specs.Shapes.{shape_of}
 use Rattle.engine_api.specs.Shell.{ShellOutcome, content_cause, is_drop, is_restart}
-use Rattle.rebuild_core.specs.declared.rebuild.Rebuild.{Rebuild}
-use Rattle.rebuild_core.specs.Stages.{outcome, outcome_of, rebuild_onward, without_owing}
+use Rattle.engine_api.specs.RebuildCore.declared.rebuild.Rebuild.{Rebuild}
+use Rattle.engine_api.specs.RebuildCore.Stages.{outcome, outcome_of, rebuild_onward, without_owing}
 use Rattle.shell_laws.specs.Filling.{IsFilled, IsFilling}
 use Rattle.shell_laws.specs.Members.{IsManned, Somebody}
 use Rattle.shell_laws.proofs.LossLaws.{loss-cases}

@@ -12,7 +12,7 @@ use Rattle.engine_api.specs.History.{after_what, machine_after, replay, IsLegal}
 use Rattle.engine_api.specs.Machine.{Machine}
 use Rattle.engine_api.specs.Meaning.{Meaning}
 use Rattle.engine_api.proofs.HistoryLaws.{replay-push, continues_legal}
-use Rattle.rebuild_core.specs.declared.rebuild.Rebuild.{Rebuild}
+use Rattle.engine_api.specs.RebuildCore.declared.rebuild.Rebuild.{Rebuild}
 use Rattle.shell_laws.specs.History.{actives_after}
 use Rattle.shell_laws.specs.Members.{HasMembers}
 use Rattle.shell_laws.specs.Readings.{Reading, read_from, read_next, rebuild_of, rebuild_told}

@@ -16,7 +16,7 @@ use Rattle.engine_api.specs.Machine.{Machine, content_after, loss_step, step}
 use Rattle.engine_api.specs.Meaning.{Meaning}
 use Rattle.engine_api.specs.Rebuilds.{fresh_of}
 use Rattle.engine_api.specs.Shell.{Shell, ShellOutcome, facility_of, failed_outcome, fresh_loss, idle_outcome, loss_outcome, primary_loss, simplex_outcome, stopped_outcome, vary_outcome, with_off, with_posted}
-use Rattle.rebuild_core.specs.declared.rebuild.Rebuild.{Rebuild}
+use Rattle.engine_api.specs.RebuildCore.declared.rebuild.Rebuild.{Rebuild}
 
 -- what holds in each case
 pub record InEachCase (form : StrForm) (cf : CfId) (shell : Shell) (Holds : ShellOutcome → Type 0) : Type 0 where

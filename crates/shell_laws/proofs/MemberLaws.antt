@@ -25,8 +25,8 @@ use Rattle.engine_api.specs.Meaning.{Meaning}
 use Rattle.engine_api.specs.Rebuilds.{is_held_up, is_switch}
 use Rattle.engine_api.specs.Shell.{Shell, content_cause, emptied, if_failed, if_lost, if_quiesced, unless_active, with_primary}
 use Rattle.engine_api.proofs.ShellLaws.{length-conns-step, length-conns-replay, conns-loss}
-use Rattle.rebuild_core.specs.declared.rebuild.Rebuild.{Rebuild}
-use Rattle.rebuild_core.specs.Stages.{outcome_of, rebuild_in, rebuild_onward, with_place, without_owing}
+use Rattle.engine_api.specs.RebuildCore.declared.rebuild.Rebuild.{Rebuild}
+use Rattle.engine_api.specs.RebuildCore.Stages.{outcome_of, rebuild_in, rebuild_onward, with_place, without_owing}
 use Rattle.shell_laws.specs.Members.{HasMembers, HasPlace, IsManned, Somebody}
 use Rattle.shell_laws.proofs.CauseLaws.{fourth_none}
 use Rattle.shell_laws.proofs.MoveLaws.{kept-call, kept-mark}

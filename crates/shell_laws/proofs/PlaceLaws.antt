@@ -18,8 +18,8 @@ use Rattle.engine_api.specs.Instances.{Instances, is_at, place_for, units_of}
 use Rattle.engine_api.specs.Meaning.{first_refusal}
 use Rattle.engine_api.specs.Rebuilds.{fresh_of, is_copy, is_switch}
 use Rattle.engine_api.specs.Shell.{Shell, candidates, emptied, if_no_place, is_candidate, is_connect, is_off, is_severed, refusal_when, with_primary}
-use Rattle.rebuild_core.specs.declared.rebuild.Rebuild.{Rebuild}
-use Rattle.rebuild_core.specs.Stages.{outcome, outcome_of, owing_after, rebuild_emptied, rebuild_left, rebuild_onward, rebuild_without, without_owing}
+use Rattle.engine_api.specs.RebuildCore.declared.rebuild.Rebuild.{Rebuild}
+use Rattle.engine_api.specs.RebuildCore.Stages.{outcome, outcome_of, owing_after, rebuild_emptied, rebuild_left, rebuild_onward, rebuild_without, without_owing}
 use Rattle.shell_laws.specs.Members.{HasMembers, HasPlace, IsPlaced, Somebody}
 use Rattle.shell_laws.proofs.ShellMoves.{left_by}
 

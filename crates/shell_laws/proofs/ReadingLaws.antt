@@ -7,10 +7,10 @@ use Rattle.cf_types.specs.declared.events.Stage.TheVariants.{Quiesce, Connect, C
 use Rattle.cf_types.specs.declared.numbers.ConnId.{ConnId}
 use Rattle.cf_types.specs.ConnSets.{without_member}
 use Rattle.engine_api.specs.Rebuilds.{is_copy}
-use Rattle.list_laws.proofs.FilterLaws.{filter-filter, filter_swap}
-use Rattle.rebuild_core.specs.declared.passed.Passed.{Passed}
-use Rattle.rebuild_core.specs.declared.passed.Passed.TheVariants.{No}
-use Rattle.rebuild_core.specs.Stages.{next_stage, outcome, owing_after, rebuild_emptied, rebuild_in, rebuild_left, rebuild_onward}
+use Rattle.cf_lists.proofs.FilterLaws.{filter-filter, filter_swap}
+use Rattle.engine_api.specs.RebuildCore.declared.passed.Passed.{Passed}
+use Rattle.engine_api.specs.RebuildCore.declared.passed.Passed.TheVariants.{No}
+use Rattle.engine_api.specs.RebuildCore.Stages.{next_stage, outcome, owing_after, rebuild_emptied, rebuild_in, rebuild_left, rebuild_onward}
 use Rattle.shell_laws.specs.Members.{HasMembers, Somebody}
 use Rattle.shell_laws.specs.Readings.{Reading, awaited, begun, has_given, passed, read_behind, read_next, read_past, rebuild_of, with_entry, with_stage, with_told}
 use Rattle.shell_laws.specs.Steps.{rebuild_given, rebuild_next}

@@ -14,8 +14,8 @@ use Rattle.engine_api.specs.Instances.{Instances, no_instance}
 use Rattle.engine_api.specs.Items.{Fits}
 use Rattle.engine_api.specs.Rebuilds.{is_copy, is_switch}
 use Rattle.engine_api.specs.Shell.{Leaver, Shell, ShellOutcome, emptied, is_connect, is_drop, is_restart, no_deeds, with_primary}
-use Rattle.rebuild_core.specs.declared.rebuild.Rebuild.{Rebuild}
-use Rattle.rebuild_core.specs.Stages.{new_rebuild, outcome_of, rebuild_in, rebuild_onward, with_place, without_owing}
+use Rattle.engine_api.specs.RebuildCore.declared.rebuild.Rebuild.{Rebuild}
+use Rattle.engine_api.specs.RebuildCore.Stages.{new_rebuild, outcome_of, rebuild_in, rebuild_onward, with_place, without_owing}
 use Rattle.shell_laws.specs.Filling.{IsFilling}
 use Rattle.shell_laws.specs.Members.{HasMembers, HasPlace, Somebody}
 use Rattle.shell_laws.specs.Steps.{rebuild_next}

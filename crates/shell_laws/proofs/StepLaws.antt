@@ -34,8 +34,8 @@ use Rattle.engine_api.specs.Machine.{Machine, CallOutcome, command_done, content
 use Rattle.engine_api.specs.Meaning.{Meaning, first_refusal}
 use Rattle.engine_api.specs.Rebuilds.{is_copy}
 use Rattle.engine_api.specs.Shell.{Leaver, Shell, ShellOutcome, can_stop, candidates, complete_outcome, conns_answered, content_cause, departure_outcome, emptied, facility_of, fresh_made, given_outcome, goes, idle_outcome, if_connected, if_failed, if_rebuilding, if_severed, if_too_many, if_too_small, is_connect, is_drop, is_empty, is_kept, is_operator, is_restart, leaver, loss_outcome, made_at, no_deeds, rebuild_connect_outcome, refusal_when, responded, response_outcome, shell_cause, shell_causes, shell_done, shell_without, simplex_again, stop_outcome, take_event, unless_active, unless_copied_to, unless_failed, unless_owed, unless_reached, unless_rebuilding, vary_outcome, with_off, with_posted}
-use Rattle.rebuild_core.specs.declared.rebuild.Rebuild.{Rebuild}
-use Rattle.rebuild_core.specs.Stages.{is_response, rebuild_onward, rebuild_without, without_owing}
+use Rattle.engine_api.specs.RebuildCore.declared.rebuild.Rebuild.{Rebuild}
+use Rattle.engine_api.specs.RebuildCore.Stages.{is_response, rebuild_onward, rebuild_without, without_owing}
 use Rattle.shell_laws.specs.Members.{HasPlace, IsPlaced, Somebody}
 use Rattle.shell_laws.specs.Steps.{IsEarly, IsInStage, MayBeTold, rebuild_next}
 use Rattle.shell_laws.specs.Tellings.{Telling, mark_telling, telling, telling_of}

@@ -10,7 +10,7 @@ use Rattle.engine_api.specs.Meaning.{Meaning}
 use Rattle.engine_api.specs.Rebuilds.{fresh_of}
 use Rattle.engine_api.specs.Shapes.{shape_of}
 use Rattle.engine_api.specs.Shell.{Shell, caps_made}
-use Rattle.rebuild_core.specs.declared.rebuild.Rebuild.{Rebuild}
+use Rattle.engine_api.specs.RebuildCore.declared.rebuild.Rebuild.{Rebuild}
 
 -- a rebuild's new instance, where it stands, has room for the content
 abbrev pub HasRoom : {C R I S : Type 0} → Meaning C R I S → StrForm → Option Rebuild → S → Type 0

@@ -3,7 +3,7 @@ use Rattle.std.specs.Prelude.{◌≡◌, ◌≤◌, ◌⊎◌, true, is_some, le
 use Rattle.cf_types.specs.declared.events.Stage.TheVariants.{Copy}
 use Rattle.cf_types.specs.declared.forms.StrForm.{StrForm}
 use Rattle.engine_api.specs.Meaning.{Meaning}
-use Rattle.rebuild_core.specs.declared.rebuild.Rebuild.{Rebuild}
+use Rattle.engine_api.specs.RebuildCore.declared.rebuild.Rebuild.{Rebuild}
 use Rattle.engine_api.specs.Machine.{Machine, items_of}
 
 -- a rebuild is in COPY, and its new instance stands

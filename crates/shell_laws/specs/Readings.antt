@@ -9,8 +9,8 @@ use Rattle.cf_types.specs.declared.numbers.ConnId.{ConnId}
 use Rattle.cf_types.specs.ConnSets.{without_member}
 use Rattle.engine_api.specs.declared.histories.Entry.{Entry}
 use Rattle.engine_api.specs.Rebuilds.{is_copy}
-use Rattle.rebuild_core.specs.declared.rebuild.Rebuild.{Rebuild}
-use Rattle.rebuild_core.specs.Stages.{fresh_in}
+use Rattle.engine_api.specs.RebuildCore.declared.rebuild.Rebuild.{Rebuild}
+use Rattle.engine_api.specs.RebuildCore.Stages.{fresh_in}
 use Rattle.shell_laws.specs.Tellings.{Telling, TellingEntry, is_awaited, is_emptying, telling_entry}
 use Rattle.shell_laws.specs.Tellings.Telling.{Starts, Places, Stops, Departs, Fails}
 

@@ -3,8 +3,8 @@ use Rattle.std.specs.Prelude.{◌≡◌, Bool, true, false, List, ◌∷◌, Opt
 use Rattle.cf_types.specs.declared.events.Stage.{Stage}
 use Rattle.cf_types.specs.declared.events.Stage.TheVariants.{Quiesce, Connect, Copy, Stopping}
 use Rattle.cf_types.specs.declared.numbers.ConnId.{ConnId}
-use Rattle.rebuild_core.specs.declared.rebuild.Rebuild.{Rebuild}
-use Rattle.rebuild_core.specs.Stages.{new_rebuild, rebuild_in, without_owing, rebuild_without, rebuild_onward, rebuild_emptied, with_place}
+use Rattle.engine_api.specs.RebuildCore.declared.rebuild.Rebuild.{Rebuild}
+use Rattle.engine_api.specs.RebuildCore.Stages.{new_rebuild, rebuild_in, without_owing, rebuild_without, rebuild_onward, rebuild_emptied, with_place}
 use Rattle.shell_laws.specs.Tellings.{Telling, is_awaited}
 use Rattle.shell_laws.specs.Tellings.Telling.{Starts, Places, Completes, Responds, Stops, Departs, Forces, Fails, Nothing}
 

@@ -16,7 +16,7 @@ use Rattle.engine_api.specs.declared.asks.Reply.TheVariants as reply
 use Rattle.engine_api.specs.declared.asks.What.{What}
 use Rattle.engine_api.specs.declared.asks.What.TheVariants as what
 use Rattle.engine_api.specs.declared.histories.Entry.{Entry}
-use Rattle.rebuild_core.specs.Stages.{is_response}
+use Rattle.engine_api.specs.RebuildCore.Stages.{is_response}
 
 -- what an accepted command tells: that a rebuild starts, with its number and capacity; where the new instance is; that
 -- a caller completed its part, or responded to an event; that the rebuild is stopped, the caller departs, a failed

@@ -7,7 +7,7 @@ ghost use Rattle.engine_api.specs.declared.asks.Ask.{Ask};
 ghost use Rattle.engine_api.specs.declared.asks.Ask.TheVariants as ask;
 ghost use Rattle.engine_api.specs.declared.asks.Reply.TheVariants as reply;
 ghost use Rattle.shell_laws.specs.Readings.{rebuild_told};
-ghost use Rattle.rebuild_core.specs.declared.rebuild.Rebuild.{Rebuild};
+ghost use Rattle.engine_api.specs.RebuildCore.declared.rebuild.Rebuild.{Rebuild};
 ghost use Rattle.engine_api.specs.Rebuilds.{is_held_up};
 ghost use Rattle.engine_api.specs.Shell.{content_cause};
 ghost use Rattle.shell_laws.specs.Members.{HasMembers};

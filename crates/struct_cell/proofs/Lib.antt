@@ -1,3 +1,6 @@
+pub use Rattle.struct_machine.proofs.CfLink as CfLink
+pub use Rattle.struct_machine.proofs.ShellLaws as ShellLaws
+pub use Rattle.vec_words.proofs as VecWords
 pub mod PlaceLaws
 pub mod SpotLaws
 pub mod Binary

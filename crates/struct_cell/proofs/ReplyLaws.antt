@@ -14,7 +14,7 @@ use Rattle.struct_machine.specs.StructureView.{StructureView}
 use Rattle.vec_words.specs.Logged.{calls_in, calls_of}
 use Rattle.vec_words.specs.Tokens.{SeatSeen}
 use Rattle.struct_cell.specs.declared.inside.CellKey.{CellKey}
-use Rattle.reply_copy.specs.Journals.{reply_for, reply_at}
+use Rattle.struct_cell.specs.Journals.{reply_for, reply_at}
 use Rattle.struct_cell.specs.Calls.{reply_to}
 use Rattle.struct_cell.specs.Cells.{About, own_call_of, IsCell}
 use Rattle.struct_cell.specs.Touches.{VectorWords}

@@ -11,7 +11,7 @@ use Rattle.engine_api.specs.Machine.{Machine}
 use Rattle.engine_api.specs.History.{Turn, replay, after_turn, last_call_below, IsNumbered}
 use Rattle.engine_api.proofs.HistoryLaws.{added_turn}
 use Rattle.engine_api.proofs.NumberLaws.{number_added, number_past, last_below-turn, last_below-past, length-turn}
-use Rattle.vec_world.specs.Log.{bits_at}
+use Rattle.vec_words.specs.VecWorld.Log.{bits_at}
 use Rattle.vec_words.specs.declared.logged.Logged.{Logged}
 use Rattle.vec_words.specs.declared.logged.Logged.TheVariants.{Committed}
 use Rattle.vec_words.specs.declared.stores.Place.{Place}

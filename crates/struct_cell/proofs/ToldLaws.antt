@@ -5,14 +5,14 @@ use Rattle.std.proofs.lemmas.Bool.Decides.{nat_tests}
 use Rattle.std.proofs.lemmas.List.{length-map, get_or-map}
 use Rattle.std.proofs.lemmas.List.Elements.{All-map, All-weaker}
 use Rattle.cf_types.specs.declared.numbers.ConnId.{ConnId}
-use Rattle.cf_link.specs.declared.links.Links.{Links}
-use Rattle.cf_link.specs.Links.{AreAsked}
+use Rattle.struct_machine.specs.CfLink.declared.links.Links.{Links}
+use Rattle.struct_machine.specs.CfLink.Links.{AreAsked}
 use Rattle.engine_api.specs.declared.histories.Entry.{Entry}
 use Rattle.engine_api.specs.Meaning.{Meaning}
 use Rattle.engine_api.specs.Answers.{answers}
 use Rattle.engine_api.specs.History.{Call, calls, numbers, own, IsPoint, stands_after, last_call_below}
 use Rattle.struct_machine.specs.StructureView.{StructureView}
-use Rattle.vec_world.specs.Log.{bits_at}
+use Rattle.vec_words.specs.VecWorld.Log.{bits_at}
 use Rattle.vec_words.specs.declared.logged.Sight.{Sight}
 use Rattle.vec_words.specs.Logged.{steps_of, calls_in, word_number, words_of, bit_in, IsIssued, IsHonest}
 use Rattle.vec_words.specs.Tokens.{WordTable, SeatSeen, PassSeen, IsShown}

@@ -3,9 +3,9 @@ use Rattle.std.proofs.Common.{◌≡◌, ℕ, suc, ◌+◌, ◌<◌, ◌≤◌, 
 use Rattle.std.specs.Prelude.{Option}
 use Rattle.std.proofs.lemmas.List.{map-append, take_more}
 use Rattle.std.proofs.lemmas.List.Sums.{fold_push}
-use Rattle.cf_link.specs.declared.links.Links.{Links}
-use Rattle.cf_link.specs.Links.{IsAskedAll, AreAsked, link_at}
-use Rattle.cf_link.proofs.LinkLaws.{asked-append}
+use Rattle.struct_machine.specs.CfLink.declared.links.Links.{Links}
+use Rattle.struct_machine.specs.CfLink.Links.{IsAskedAll, AreAsked, link_at}
+use Rattle.struct_machine.proofs.CfLink.LinkLaws.{asked-append}
 use Rattle.cf_types.specs.declared.forms.StrForm.{StrForm}
 use Rattle.cf_types.specs.declared.numbers.CfId.{CfId}
 use Rattle.cf_types.specs.declared.numbers.ConnId.{ConnId}
@@ -25,7 +25,7 @@ use Rattle.engine_api.proofs.AskLaws.{marks_few, two_asked}
 use Rattle.engine_api.proofs.AnswerLaws.{answers-turn, legal_group}
 use Rattle.engine_api.proofs.HistoryLaws.{replay-push, by_turns, calls-turn, call_added}
 use Rattle.engine_api.proofs.NumberLaws.{number_added, length-turn}
-use Rattle.plex_shell.specs.Losses.{reply_as}
+use Rattle.struct_machine.specs.PlexShell.Losses.{reply_as}
 use Rattle.struct_machine.specs.declared.marks.Mark.{Mark}
 use Rattle.struct_machine.specs.StructureView.{StructureView}
 use Rattle.struct_machine.specs.Turns.{lost_at, lost_by, behind_marks, AreTold, IsTurn}

@@ -2,7 +2,7 @@
 use Rattle.std.specs.Prelude.{◌≡◌, ℕ, ◌+◌, ◌/◌, ◌<◌, ◌≤◌, Bool, List, Option, length, map, take, All}
 use Rattle.cf_types.specs.declared.forms.StrForm.{StrForm}
 use Rattle.cf_types.specs.declared.numbers.ConnId.{ConnId}
-use Rattle.cf_link.specs.Links.{AreAsked}
+use Rattle.struct_machine.specs.CfLink.Links.{AreAsked}
 use Rattle.engine_api.specs.declared.asks.Ask.{Ask}
 use Rattle.engine_api.specs.declared.asks.Reply.{Reply}
 use Rattle.engine_api.specs.declared.histories.Entry.{Entry}
@@ -10,7 +10,7 @@ use Rattle.engine_api.specs.Answers.{answers}
 use Rattle.engine_api.specs.Meaning.{Meaning}
 use Rattle.engine_api.specs.History.{Call, calls, replay, numbers, last_call_below, IsLegal}
 use Rattle.struct_machine.specs.StructureView.{StructureView}
-use Rattle.vec_world.specs.Log.{bits_at}
+use Rattle.vec_words.specs.VecWorld.Log.{bits_at}
 use Rattle.vec_words.specs.declared.logged.Logged.{Logged}
 use Rattle.vec_words.specs.Logged.{CallRecord, steps_of, commits_of, count_of, words_of, word_number, bit_in}
 use Rattle.vec_words.specs.Tokens.{SeatSeen}

@@ -4,7 +4,7 @@ use Rattle.engine_api.specs.declared.asks.Reply.TheVariants as reply
 use Rattle.engine_api.specs.declared.asks.What.TheVariants as what
 use Rattle.engine_api.specs.declared.histories.Entry.{Entry}
 use Rattle.engine_api.specs.LinkAsks.{operator}
-use Rattle.plex_shell.specs.Losses.{reply_as}
+use Rattle.struct_machine.specs.PlexShell.Losses.{reply_as}
 use Rattle.struct_machine.specs.declared.marks.Mark.{Mark}
 
 module _ {C R : Type 0} where

@@ -2,7 +2,7 @@
 ghost use Rattle.std.specs.Prelude.{◌≡◌, ◌+◌, ◌<◌, ◌≤◌, ◌++◌, ◌≢◌, ℕ, [], ◌∷◌, IsTrue, IfOk, IfErr, IfSome, Err, Some, All, length, map, max, option_map, is_some, true, false};
 ghost use Rattle.std.specs.List.{range_with_len};
 ghost use Rattle.cf_types.specs.declared.limits.TheConstants.{CONNECTORS};
-ghost use Rattle.cf_link.specs.Links.{AreAsked};
+ghost use Rattle.struct_machine.specs.CfLink.Links.{AreAsked};
 ghost use Rattle.cf_types.specs.Forms.{IsForm};
 ghost use Rattle.engine_api.specs.Asking.{MayAsk};
 ghost use Rattle.engine_api.specs.Answers.{answers};
@@ -10,7 +10,7 @@ ghost use Rattle.engine_api.specs.History.{calls, numbers, own, replay, IsLegal,
 ghost use Rattle.engine_api.specs.Meaning.{items_of};
 ghost use Rattle.engine_api.specs.Rebuilds.{fresh_of};
 ghost use Rattle.engine_api.specs.Shapes.{shape_of};
-ghost use Rattle.shell_laws.specs.Capacities.{fresh_caps};
+ghost use Rattle.struct_machine.specs.ShellLaws.Capacities.{fresh_caps};
 ghost use Rattle.vec_words.specs.Logged.{count_of};
 ghost use Rattle.vec_words.specs.Tokens.{new_pass, learned_pass};
 ghost use Rattle.struct_cell.specs.Cells.{own_call_of, IsCell};
@@ -21,18 +21,18 @@ ghost use Rattle.struct_machine.specs.StructureView.{copied_items};
 ghost use Rattle.struct_cell.specs.declared.refused.CallRefused.TheVariants as refused;
 
 use crate::closed::Closed;
+use crate::copies::{TryClone, own_reply};
 use crate::inside::{CellFact, Inside, enter_marks, reserve_entries};
 use crate::refused::CallRefused;
 use crate::touched::Touched;
 use crate::words::store_words;
-use cf_link::{Link, Links};
 use cf_turn::{Boxed, KeyLock};
 use cf_types::{NoMemory, StrForm};
 use engine_api::{Ask, Engine, Entry, History, Reply, Told, What};
-use reply_copy::{TryClone, own_reply};
 use std::alloc::Global;
 use std::marker::Model;
 use std::sync::Wait;
+use struct_machine::links::{Link, Links};
 use struct_machine::{Changed, Machine};
 use vec_words::{EngineSeat, Pass, Vectors};
 

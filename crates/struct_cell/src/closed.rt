@@ -1,5 +1,5 @@
-use cf_link::Links;
 use engine_api::{Engine, History};
+use struct_machine::links::Links;
 
 /// What is left of a cell that is closed.
 #[derive(Drop)]

@@ -4,11 +4,11 @@ ghost use Rattle.struct_cell.specs.Cells.{IsCell};
 ghost use Rattle.struct_cell.specs.Marks.{entered};
 
 use crate::touched::Touched;
-use cf_link::{Link, Links};
 use cf_turn::Keeps;
 use cf_types::{ConnId, NoMemory, StrForm};
 use engine_api::{Ask, Engine, Entry, Reply, What};
 use std::marker::{Model, PhantomData};
+use struct_machine::links::{Link, Links};
 use struct_machine::{Changed, Machine, Mark};
 use vec_words::{EngineSeat, Vectors};
 

@@ -12,6 +12,10 @@ mod touched;
 mod words;
 
 pub use cell::Cell;
+pub use cf_turn as turns;
 pub use closed::Closed;
 pub use inside::{CellFact, CellKey, Inside};
 pub use refused::CallRefused;
+pub use struct_machine::{links as links, shells as shells, sources as sources};
+pub use vec_words as vectors;
+pub use vec_words::worlds as worlds;

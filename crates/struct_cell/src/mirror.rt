@@ -9,12 +9,12 @@ ghost use Rattle.struct_cell.specs.Touches.{AreWordsOf, AreMirrorsOf, with_told,
 ghost use Rattle.struct_cell.specs.Words.{whole_word, shown_in, words_in};
 
 use crate::place_set::number_of;
-use cf_link::Link;
 use cf_types::{BitChange, ConnId, NoMemory};
 use engine_api::Engine;
 use std::alloc::Global;
 use std::marker::Model;
 use struct_machine::Machine;
+use struct_machine::links::Link;
 use vec_words::Place;
 
 /// The words of all vectors, each at its number, as a call leaves them.

@@ -10,11 +10,11 @@ ghost use Rattle.vec_words.specs.Stores.{IsWithin, IsSpared, AreDistinct};
 
 use crate::mirror::Mirror;
 use crate::place_set::PlaceSet;
-use cf_link::Link;
 use cf_types::{BitChange, ConnId, NoMemory};
 use engine_api::Engine;
 use std::alloc::Global;
 use std::marker::Model;
+use struct_machine::links::Link;
 use struct_machine::{Changed, Machine};
 use vec_words::Place;
 

@@ -1,5 +1,5 @@
 ghost use Rattle.std.specs.Prelude.{◌≡◌, ◌<◌, ◌≤◌, ◌++◌, ◌∷◌, [], ℕ};
-ghost use Rattle.vec_world.specs.Log.{HasStore};
+ghost use Rattle.vec_words.specs.VecWorld.Log.{HasStore};
 ghost use Rattle.vec_words.specs.Logged.{steps_of, word_number};
 ghost use Rattle.vec_words.specs.Stores.{IsWithin, StoresEach, store_of};
 ghost use Rattle.struct_cell.specs.Touches.{word_at};

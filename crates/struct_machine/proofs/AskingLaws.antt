@@ -3,16 +3,16 @@ use Rattle.std.proofs.Common.{◌≡◌, ℕ, ◌==◌, Bool, true, false, not, 
 use Rattle.std.specs.Prelude.{Option, None, Some, IfSome, All, filter, is_some, if◌then◌else◌}
 use Rattle.std.proofs.lemmas.List.Elements.{All-from_recursion}
 use Rattle.std.specs.List.{AllByRecursion}
-use Rattle.cf_link.specs.declared.links.Links.{Links}
-use Rattle.cf_link.specs.Links.{IsAskedAll, AreAsked, link_at}
-use Rattle.cf_link.proofs.LinkLaws.{asked-append}
+use Rattle.duplex_pair.specs.CfLink.declared.links.Links.{Links}
+use Rattle.duplex_pair.specs.CfLink.Links.{IsAskedAll, AreAsked, link_at}
+use Rattle.duplex_pair.proofs.CfLink.LinkLaws.{asked-append}
 use Rattle.cf_types.specs.declared.numbers.CfId.{CfId}
 use Rattle.cf_types.specs.Forms.{IsFacility}
 use Rattle.engine_api.specs.LinkAsks.{Asks, AreDistinct, apart, has, reached, marks_of, answers_to, listed}
 use Rattle.engine_api.proofs.AskLaws.{filter_agreed, has_other, same_cf, itself}
 use Rattle.std.proofs.lemmas.Bool.{both_ways, eq-eqb}
 use Rattle.std.proofs.lemmas.List.Elements.{filter-append}
-use Rattle.cf_link.specs.Asks.{IsAsked}
+use Rattle.duplex_pair.specs.CfLink.Asks.{IsAsked}
 use Rattle.struct_machine.specs.declared.asking.Asked.{Asked}
 use Rattle.struct_machine.specs.Asking.{unless_same}
 use Rattle.struct_machine.specs.Turns.{asks_in}

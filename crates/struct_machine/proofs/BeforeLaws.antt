@@ -17,7 +17,7 @@ use Rattle.engine_api.specs.Rebuilds.{fresh_of}
 use Rattle.engine_api.specs.Shell.{Shell, Leaver, shell_done, leaver, with_posted, caps_made, caps_in, rebuild_connect_outcome}
 use Rattle.rebuild_copy.specs.Filling.{Fresh, caps_or, emptied, with_copied}
 use Rattle.struct_machine.specs.Content.{lacking_in}
-use Rattle.rebuild_core.specs.declared.rebuild.Rebuild.{Rebuild}
+use Rattle.engine_api.specs.RebuildCore.declared.rebuild.Rebuild.{Rebuild}
 use Rattle.shell_laws.specs.Capacities.{fresh_caps}
 use Rattle.struct_machine.specs.Deeds.{fresh_left, fresh_before, makes_empty, makes_second}
 use Rattle.struct_machine.specs.Kept.{copied_in, caps_of}

@@ -23,7 +23,7 @@ use Rattle.engine_api.specs.Rebuilds.{fresh_of}
 use Rattle.engine_api.specs.Shell.{Shell, ShellOutcome, facility_of, failed_outcome, fresh_loss, idle_outcome, if_failed, if_lost, mark_outcome, primary_loss, shell_cause, shell_done, simplex_outcome, stopped_outcome, unless_active, unless_rebuilding}
 use Rattle.engine_api.proofs.AskLaws.{itself}
 use Rattle.plex_shell.specs.ShellView.{ShellView}
-use Rattle.rebuild_core.specs.declared.rebuild.Rebuild.{Rebuild}
+use Rattle.engine_api.specs.RebuildCore.declared.rebuild.Rebuild.{Rebuild}
 use Rattle.shell_laws.specs.Members.{IsManned}
 use Rattle.shell_laws.proofs.CauseLaws.{fourth_none}
 use Rattle.cf_types.specs.Forms.{IsFacility}

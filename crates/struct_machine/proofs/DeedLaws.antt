@@ -19,8 +19,8 @@ use Rattle.engine_api.specs.Meaning.{Meaning, Held, new_held}
 use Rattle.engine_api.specs.Machine.{content_after, copied_after, with_back_of}
 use Rattle.cf_types.specs.declared.shell_commands.ShellReply.TheVariants as shown
 use Rattle.engine_api.specs.Shell.{Shell, caps_in, caps_made, given_outcome, no_deeds, shell_done, take_event, responded, response_outcome, stop_outcome, rebuild_connect_outcome, complete_outcome, vary_outcome, simplex_again}
-use Rattle.rebuild_core.specs.declared.rebuild.Rebuild.{Rebuild}
-use Rattle.rebuild_core.specs.Stages.{is_response}
+use Rattle.engine_api.specs.RebuildCore.declared.rebuild.Rebuild.{Rebuild}
+use Rattle.engine_api.specs.RebuildCore.Stages.{is_response}
 use Rattle.rebuild_copy.specs.Filling.{Fresh, caps_or, emptied}
 use Rattle.shell_laws.specs.Capacities.{caps_behind, fresh_behind, fresh_caps}
 use Rattle.struct_machine.specs.Deeds.{fresh_made, fresh_past, held_back, held_made, held_switched, held_past}

@@ -13,10 +13,10 @@ use Rattle.cf_types.specs.Forms.{IsFacility, IsPref, IsForm}
 use Rattle.engine_api.specs.Instances.{place_for}
 use Rattle.engine_api.specs.Rebuilds.{fresh_of}
 use Rattle.engine_api.specs.Shell.{Shell, candidates, is_candidate}
-use Rattle.rebuild_core.specs.declared.passed.Passed.{Passed}
-use Rattle.rebuild_core.specs.declared.passed.Passed.TheVariants.{No, Into}
-use Rattle.rebuild_core.specs.declared.rebuild.Rebuild.{Rebuild}
-use Rattle.rebuild_core.specs.Stages.{outcome_of, rebuild_emptied, rebuild_left, rebuild_without, with_place, without_owing}
+use Rattle.engine_api.specs.RebuildCore.declared.passed.Passed.{Passed}
+use Rattle.engine_api.specs.RebuildCore.declared.passed.Passed.TheVariants.{No, Into}
+use Rattle.engine_api.specs.RebuildCore.declared.rebuild.Rebuild.{Rebuild}
+use Rattle.engine_api.specs.RebuildCore.Stages.{outcome_of, rebuild_emptied, rebuild_left, rebuild_without, with_place, without_owing}
 use Rattle.shell_laws.specs.Steps.{rebuild_next, rebuild_given}
 use Rattle.shell_laws.specs.Tellings.{Telling, is_awaited}
 use Rattle.shell_laws.specs.Tellings.Telling.{Starts, Places, Completes, Responds, Stops, Departs, Forces, Fails, Nothing}

@@ -22,8 +22,8 @@ use Rattle.engine_api.specs.Machine.{Machine, room_of}
 use Rattle.engine_api.specs.Meaning.{Meaning, first_refusal}
 use Rattle.engine_api.specs.Rebuilds.{fresh_of, is_switch}
 use Rattle.engine_api.specs.Shell.{Shell, ShellOutcome, candidates, complete_outcome, conns_answered, departure_outcome, facility_of, failed_outcome, fresh_loss, fresh_made, given_outcome, goes, idle_outcome, if_connected, if_duplexed, if_failed, if_too_many, if_no_place, if_rebuilding, if_too_small, is_connect, is_kept, loss_outcome, made_at, no_deeds, primary_loss, rebuild_connect_outcome, refusal_when, responded, response_outcome, shell_cause, shell_without, simplex_again, simplex_outcome, stop_outcome, stopped_outcome, take_event, unless_active, unless_allocated, unless_copied_to, unless_owed, unless_reached, unless_rebuilding, vary_outcome, with_off, with_primary}
-use Rattle.rebuild_core.specs.declared.rebuild.Rebuild.{Rebuild}
-use Rattle.rebuild_core.specs.Stages.{is_response, outcome_of, with_place, without_owing}
+use Rattle.engine_api.specs.RebuildCore.declared.rebuild.Rebuild.{Rebuild}
+use Rattle.engine_api.specs.RebuildCore.Stages.{is_response, outcome_of, with_place, without_owing}
 use Rattle.shell_laws.specs.Members.{IsManned, IsPaired}
 use Rattle.shell_laws.proofs.CauseLaws.{idle_rebuild, past_first, past_second, third_none}
 use Rattle.shell_laws.proofs.PairLaws.{change-command, paired-change}

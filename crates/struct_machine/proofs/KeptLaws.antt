@@ -17,7 +17,7 @@ use Rattle.duplex_pair.specs.Pairs.{facility_of, letters_by}
 use Rattle.duplex_pair.specs.declared.placed.Placed.{Placed}
 use Rattle.plex_shell.specs.ShellView.{ShellView}
 use Rattle.rebuild_copy.specs.Filling.{Fresh, lacking}
-use Rattle.rebuild_core.specs.declared.rebuild.Rebuild.{Rebuild}
+use Rattle.engine_api.specs.RebuildCore.declared.rebuild.Rebuild.{Rebuild}
 use Rattle.cf_types.specs.Connections.{actives, is_active}
 use Rattle.cf_types.specs.Forms.{IsForm, IsFacility}
 use Rattle.cf_types.specs.Mailboxes.{with_letters}

@@ -1,3 +1,6 @@
+pub use Rattle.duplex_pair.proofs.CfLink as CfLink
+pub use Rattle.engine_api.proofs as EngineApi
+pub use Rattle.shell_laws.proofs as ShellLaws
 mod RoomLaws
 mod ToldLaws
 mod RefusalLaws

@@ -17,7 +17,7 @@ use Rattle.plex_shell.specs.Losses.{reply_as}
 use Rattle.plex_shell.specs.ShellView.{ShellView}
 use Rattle.plex_shell.specs.declared.lost_as.LostAs.{LostAs}
 use Rattle.plex_shell.specs.declared.lost_as.LostAs.TheVariants as told
-use Rattle.rebuild_core.specs.declared.rebuild.Rebuild.{Rebuild}
+use Rattle.engine_api.specs.RebuildCore.declared.rebuild.Rebuild.{Rebuild}
 use Rattle.shell_laws.specs.Capacities.{fresh_caps}
 use Rattle.shell_laws.specs.Filling.{IsFilled}
 use Rattle.shell_laws.specs.Members.{IsManned}

@@ -2,8 +2,8 @@
 use Rattle.std.proofs.Common.{◌≡◌, ℕ, Bool, true, false, List, [], ◌∷◌, ◌++◌, Option, None, Some, refl, sym, ap, ◌∙◌, subst, subst₂}
 use Rattle.std.specs.Prelude.{if◌then◌else◌, filter, Result, Ok, Err, IfOk}
 use Rattle.std.proofs.lemmas.List.Sums.{fold-append}
-use Rattle.cf_link.specs.declared.links.Links.{Links}
-use Rattle.cf_link.specs.Links.{AreAsked, IsAskedAll, link_at}
+use Rattle.duplex_pair.specs.CfLink.declared.links.Links.{Links}
+use Rattle.duplex_pair.specs.CfLink.Links.{AreAsked, IsAskedAll, link_at}
 use Rattle.cf_types.specs.declared.forms.StrForm.{StrForm}
 use Rattle.cf_types.specs.declared.numbers.CfId.{CfId}
 use Rattle.cf_types.specs.declared.numbers.ConnId.{ConnId}

@@ -1,3 +1,9 @@
+pub use Rattle.duplex_pair.specs.CfIo as CfIo
+pub use Rattle.duplex_pair.specs.CfLink as CfLink
+pub use Rattle.cf_types.specs as CfTypes
+pub use Rattle.engine_api.specs as EngineApi
+pub use Rattle.plex_shell.specs as PlexShell
+pub use Rattle.shell_laws.specs as ShellLaws
 pub mod Asking
 pub mod Changes
 pub mod Content

@@ -1,6 +1,6 @@
 -- A structure as its machine keeps it: its form, its shell and its content, and the links to the facilities.
 use Rattle.std.specs.Prelude.{ℕ, Bool, List, take}
-use Rattle.cf_link.specs.declared.links.Links.{Links}
+use Rattle.duplex_pair.specs.CfLink.declared.links.Links.{Links}
 use Rattle.cf_types.specs.declared.forms.StrForm.{StrForm}
 use Rattle.cf_types.specs.declared.numbers.ConnId.{ConnId}
 use Rattle.engine_api.specs.Meaning.{Meaning}

@@ -1,7 +1,7 @@
 -- A call with the links that it asks: what it leaves, and what it tells.
 use Rattle.std.specs.Prelude.{◌≡◌, ℕ, Bool, List, [], ◌∷◌, ◌++◌, fold, Option, true, false}
-use Rattle.cf_link.specs.declared.links.Links.{Links}
-use Rattle.cf_link.specs.Links.{AreAsked}
+use Rattle.duplex_pair.specs.CfLink.declared.links.Links.{Links}
+use Rattle.duplex_pair.specs.CfLink.Links.{AreAsked}
 use Rattle.cf_types.specs.declared.forms.StrForm.{StrForm}
 use Rattle.cf_types.specs.declared.numbers.CfId.{CfId}
 use Rattle.cf_types.specs.declared.numbers.ConnId.{ConnId}

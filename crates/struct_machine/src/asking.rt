@@ -1,6 +1,6 @@
 //! The links that a call asks.
 ghost use Rattle.std.specs.Prelude.{◌≡◌, ◌++◌, ◌∷◌, [], All, if◌then◌else◌, IfSome, None, Some, true, false, is_some};
-ghost use Rattle.cf_link.specs.Links.{AreAsked};
+ghost use Rattle.duplex_pair.specs.CfLink.Links.{AreAsked};
 ghost use Rattle.cf_types.specs.Forms.{IsFacility};
 ghost use Rattle.cf_types.specs.declared.effects.Effects.{Effects};
 ghost use Rattle.duplex_pair.specs.Pairs.{AreReady};
@@ -10,9 +10,9 @@ ghost use Rattle.struct_machine.specs.Turns.{asks_in, marks_in};
 ghost use Rattle.struct_machine.specs.Asking.{unless_same};
 
 use crate::content::Content;
-use cf_link::Link;
 use cf_types::CfId;
 use duplex_pair::Lost;
+use duplex_pair::links::Link;
 use engine_api::Engine;
 
 /// The facilities whose links a call asks: `first` before `second`, each once.

@@ -10,8 +10,8 @@ ghost use Rattle.struct_machine.specs.Turns.{asks_in};
 use crate::asking::Asked;
 use crate::content::Content;
 use crate::doing::{cause_of, is_copying, looks_at_need, room_of};
-use cf_link::Link;
 use cf_types::{ConnId, StrForm};
+use duplex_pair::links::Link;
 use engine_api::{Ask, Engine};
 use plex_shell::Shell;
 

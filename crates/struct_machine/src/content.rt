@@ -1,8 +1,8 @@
 //! A structure's instances.
 ghost use Rattle.std.specs.Prelude.{◌≡◌, ◌≢◌, ◌≤◌, ◌++◌, ◌||◌, IsTrue, IfSome, IfOk, OnOk, OnErr, None, Some, true, false, is_some, option_map, length, min};
-ghost use Rattle.cf_link.specs.declared.links.Links.{Links};
-ghost use Rattle.cf_link.specs.Asks.{IsAsked};
-ghost use Rattle.cf_link.specs.Links.{link_at};
+ghost use Rattle.duplex_pair.specs.CfLink.declared.links.Links.{Links};
+ghost use Rattle.duplex_pair.specs.CfLink.Asks.{IsAsked};
+ghost use Rattle.duplex_pair.specs.CfLink.Links.{link_at};
 ghost use Rattle.cf_types.specs.declared.effects.Effects.{Effects};
 ghost use Rattle.cf_types.specs.declared.numbers.CfId.{CfId};
 ghost use Rattle.cf_types.specs.Forms.{IsFacility, IsCaller};
@@ -16,9 +16,9 @@ ghost use Rattle.rebuild_copy.specs.Filling.{emptied, with_copied, switched};
 ghost use Rattle.struct_machine.specs.Content.{begun_anew, lacking_in, front_in, new_fresh};
 ghost use Rattle.struct_machine.specs.Deeds.{at_left};
 
-use cf_link::{Link, Links};
 use cf_types::{Caps, CfId, ConnId, Effects, NoMemory, Refusal};
 use duplex_pair::Pair;
+use duplex_pair::links::{Link, Links};
 use engine_api::Engine;
 use rebuild_copy::Filling;
 use std::alloc::Global;

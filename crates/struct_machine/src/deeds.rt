@@ -9,8 +9,8 @@ ghost use Rattle.engine_api.specs.Shapes.{shape_of};
 ghost use Rattle.engine_api.specs.Shell.{caps_made};
 
 use crate::content::Content;
-use cf_link::Link;
 use cf_types::{CfId, ConnId, NoMemory, ShellCmd, StrForm};
+use duplex_pair::links::Link;
 use engine_api::{Deeds, Engine};
 use plex_shell::Shell;
 use std::alloc::Global;

@@ -12,8 +12,8 @@ ghost use Rattle.struct_machine.specs.Deeds.{fresh_left, fresh_before};
 ghost use Rattle.struct_machine.specs.Kept.{AreOf, gone_by, state_in, left_in};
 
 use crate::content::Content;
-use cf_link::Link;
 use cf_types::{Batch, ConnId, Effects, Letter, NoMemory, ShellCmd, StrForm};
+use duplex_pair::links::Link;
 use engine_api::Engine;
 use plex_shell::{ACT_LETTERS, Shell};
 use std::alloc::Global;

@@ -1,6 +1,6 @@
 //! What a call does to a shell and to a structure's instances.
 ghost use Rattle.std.specs.Prelude.{◌≡◌, ◌≤◌, ◌+◌, ◌++◌, ◌||◌, [], is_some, true, false, IfSome, IfOk, OnOk, OnErr, IsTrue, None, Some};
-ghost use Rattle.cf_link.specs.Links.{AreAsked};
+ghost use Rattle.duplex_pair.specs.CfLink.Links.{AreAsked};
 ghost use Rattle.cf_types.specs.Forms.{IsConnector, IsFacility};
 ghost use Rattle.cf_types.specs.declared.effects.Effects.{Effects};
 ghost use Rattle.cf_types.specs.Gains.{Gains};
@@ -25,9 +25,9 @@ use crate::deeds::{do_deeds, make_engines};
 use crate::departing::{READY_LETTERS, fresh_mail, letter_count, post_all, prepare};
 use crate::losing::mark;
 use crate::marks::Marks;
-use cf_link::Link;
 use cf_types::{Caps, ConnId, Effects, NoMemory, Refusal, ShellCmd, StrForm};
 use duplex_pair::Lost;
+use duplex_pair::links::Link;
 use engine_api::{Ask, Engine, Reply, Room};
 use plex_shell::{ACT_LETTERS, Shell, Verdict};
 use std::alloc::Global;

@@ -21,8 +21,8 @@ ghost use Rattle.struct_machine.specs.declared.marks.TheConstants.{MARKS};
 use crate::content::Content;
 use crate::departing::READY_LETTERS;
 use crate::marks::{Marks, is_failure};
-use cf_link::Link;
 use cf_types::{CfId, NoMemory, StrForm};
+use duplex_pair::links::Link;
 use engine_api::Engine;
 use plex_shell::{ACT_LETTERS, LostAs, Shell};
 

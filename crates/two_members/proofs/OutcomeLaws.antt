@@ -5,10 +5,10 @@ use Rattle.std.specs.Option.{option_map}
 use Rattle.std.proofs.Math.Seq.{get_or-append_seam}
 use Rattle.std.proofs.lemmas.List.{length-append}
 use Rattle.std.proofs.lemmas.Option.{slice_get_within, slice_get-get_or, slice_get-map}
-use Rattle.cf_types.specs.declared.forms.StrForm.{StrForm}
-use Rattle.plex_script.specs.declared.asks.AnyHistory.{AnyHistory}
-use Rattle.plex_script.specs.declared.asks.AnyHistory.TheVariants as history
-use Rattle.plex_script.specs.declared.scripts.Script.{Script}
+use Rattle.plex_board.specs.CfTypes.declared.forms.StrForm.{StrForm}
+use Rattle.plex_board.specs.PlexScript.declared.asks.AnyHistory.{AnyHistory}
+use Rattle.plex_board.specs.PlexScript.declared.asks.AnyHistory.TheVariants as history
+use Rattle.plex_board.specs.PlexScript.declared.scripts.Script.{Script}
 use Rattle.plex_board.specs.Passes.{reply_numbered}
 use Rattle.plex_board.specs.Cells.{CellShown, IsAnyTold, own_replies}
 use Rattle.plex_board.specs.Desks.{DeskShown, pass_at}

@@ -1,15 +1,15 @@
 -- The members at work: the structure that they share, a member's desk, and what is left of their work.
 use Rattle.std.specs.Prelude.{◌≡◌, ℕ, ◌<◌, List, [], ◌∷◌, ◌++◌, slice_get, Option, Some}
-use Rattle.cf_types.specs.declared.forms.StrForm.{StrForm}
-use Rattle.cf_types.specs.declared.numbers.ConnId.{ConnId}
-use Rattle.cf_types.specs.declared.numbers.StrNo.{StrNo}
-use Rattle.cf_types.specs.Forms.{IsConnector}
-use Rattle.plex_script.specs.declared.asks.AnyHistory.{AnyHistory}
-use Rattle.plex_script.specs.declared.scripts.Script.{Script}
-use Rattle.vec_words.specs.declared.logged.Sight.{Sight}
-use Rattle.vec_words.specs.declared.logged.Tested.{Tested}
-use Rattle.run_model.specs.Types.{OfCache}
-use Rattle.run_model.specs.Kinds.{IsAnyLegal}
+use Rattle.plex_board.specs.CfTypes.declared.forms.StrForm.{StrForm}
+use Rattle.plex_board.specs.CfTypes.declared.numbers.ConnId.{ConnId}
+use Rattle.plex_board.specs.CfTypes.declared.numbers.StrNo.{StrNo}
+use Rattle.plex_board.specs.CfTypes.Forms.{IsConnector}
+use Rattle.plex_board.specs.PlexScript.declared.asks.AnyHistory.{AnyHistory}
+use Rattle.plex_board.specs.PlexScript.declared.scripts.Script.{Script}
+use Rattle.plex_board.specs.VecWords.declared.logged.Sight.{Sight}
+use Rattle.plex_board.specs.VecWords.declared.logged.Tested.{Tested}
+use Rattle.plex_board.specs.Types.{OfCache}
+use Rattle.plex_board.specs.Kinds.{IsAnyLegal}
 use Rattle.plex_board.specs.declared.any_reply.AnyReply.{AnyReply}
 use Rattle.plex_board.specs.Passes.{Replied, reply_numbered}
 use Rattle.plex_board.specs.Cells.{CellShown, IsAnyTold, own_replies}

@@ -1,8 +1,8 @@
 //! Faults of the program.
-use cf_types::NoMemory;
-use plex_script::ReadFault;
+use plex_board::cells::CallRefused;
+use plex_board::scripts::ReadFault;
+use plex_board::types::NoMemory;
 use std::io;
-use struct_cell::CallRefused;
 use thiserror::Error;
 
 /// Why there is nothing to show.

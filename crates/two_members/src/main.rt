@@ -10,12 +10,12 @@ ghost use Rattle.std.specs.Prelude.{◌≡◌, IsTrue, IfOk, false};
 ghost use Rattle.plex_board.specs.Boards.{IsPolicy};
 ghost use Rattle.two_members.specs.Members.{HasPool, IsMember, Stays, HasRead, HasTested, IsOutcome};
 
-use cf_link::Steady;
-use cf_types::Kind;
 use fault::Fault;
+use plex_board::links::Steady;
+use plex_board::scripts::{AnyHistory, Script, read};
+use plex_board::types::Kind;
 use plex_board::{Board, Desk};
 use plex_report::render;
-use plex_script::{AnyHistory, Script, read};
 use roles::{COPY, GBP, reader, writer};
 use seen::Seen;
 use std::alloc::Global;

@@ -1,20 +1,20 @@
 //! What each member does at its desk.
 ghost use Rattle.std.specs.Prelude.{◌≡◌, IfOk, false};
-ghost use Rattle.run_model.specs.Kinds.{MayAskAny};
-ghost use Rattle.plex_script.specs.declared.scripts.AnyAsk.TheVariants as any;
+ghost use Rattle.plex_board.specs.Kinds.{MayAskAny};
+ghost use Rattle.plex_board.specs.PlexScript.declared.scripts.AnyAsk.TheVariants as any;
 ghost use Rattle.two_members.specs.Members.{IsMember, Stays, HasRead, HasTested, replies_at};
 
 use crate::fault::Fault;
 use crate::seen::Seen;
-use cf_link::Steady;
-use cf_types::{CacheCmd, Name16, ShellCmd, StrNo, parse_body};
-use engine_api::Ask;
+use plex_board::api::Ask;
+use plex_board::links::Steady;
+use plex_board::scripts::AnyAsk;
+use plex_board::types::{CacheCmd, Name16, ShellCmd, StrNo, parse_body};
+use plex_board::vectors::Tested;
 use plex_board::{Board, Desk};
-use plex_script::AnyAsk;
 use std::alloc::Global;
 use std::sync::Wait;
 use std::thread::yield_now;
-use vec_words::Tested;
 
 /// The structure that the members share, the first of the policy.
 pub const GBP: StrNo = StrNo(0);

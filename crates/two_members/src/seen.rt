@@ -1,8 +1,8 @@
 //! What the reader saw of the page.
-use cf_types::CacheReply;
-use engine_api::Reply;
 use plex_board::AnyReply;
-use vec_words::Tested;
+use plex_board::api::Reply;
+use plex_board::types::CacheReply;
+use plex_board::vectors::Tested;
 
 /// What the reader saw: the reply to its READ, by the call's number, and its last test.
 #[derive(Drop)]

@@ -1,3 +1,4 @@
+pub use Rattle.vec_world.specs as VecWorld
 pub mod Logged
 pub mod Tokens
 pub mod View

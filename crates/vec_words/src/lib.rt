@@ -23,4 +23,5 @@ pub use note::Note;
 pub use pass::Pass;
 pub use seat::EngineSeat;
 pub use stores::{Changes, Place};
+pub use vec_world as worlds;
 pub use vectors::Vectors;

@@ -3,11 +3,11 @@ ghost use Rattle.std.specs.Prelude.{◌≡◌, ◌≤◌, Some, length};
 ghost use Rattle.std.specs.Result.{result_err};
 ghost use Rattle.cf_types.specs.Gains.{Gains};
 ghost use Rattle.engine_api.specs.Meaning.{first_refusal};
-ghost use Rattle.cache_regs.specs.Registrations.{stands, regs_without_name};
+ghost use Rattle.cache_model.specs.CacheRegs.Registrations.{stands, regs_without_name};
 ghost use Rattle.cache_model.specs.Commands.CrossInval as cross_inval;
 
 use crate::refusals::{Judged, entry_refusal};
-use cache_regs::Regs;
+use cache_model::registrations::Regs;
 use cache_rows::Rows;
 use cf_types::{CacheReply, ConnId, Effects, Name16};
 

@@ -3,11 +3,11 @@ ghost use Rattle.std.specs.Prelude.{◌≡◌, ◌≤◌, None, length};
 ghost use Rattle.std.specs.Result.{result_err};
 ghost use Rattle.cf_types.specs.Gains.{Gains};
 ghost use Rattle.engine_api.specs.Meaning.{first_refusal};
-ghost use Rattle.cache_regs.specs.Registrations.{stands};
+ghost use Rattle.cache_model.specs.CacheRegs.Registrations.{stands};
 ghost use Rattle.cache_model.specs.Commands.Delete as delete;
 
 use crate::refusals::{Judged, entry_refusal, held_by_other_refusal};
-use cache_regs::Regs;
+use cache_model::registrations::Regs;
 use cache_rows::Rows;
 use cf_types::{ConnId, Effects, Name16};
 

@@ -5,7 +5,7 @@ ghost use Rattle.engine_api.specs.Meaning.{first_refusal};
 ghost use Rattle.cache_model.specs.Commands.DirInfo as dir_info;
 
 use crate::refusals::{Judged, entry_refusal};
-use cache_regs::Regs;
+use cache_model::registrations::Regs;
 use cache_rows::Rows;
 use cf_types::{CacheReply, Name16};
 

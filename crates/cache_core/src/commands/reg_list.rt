@@ -2,7 +2,7 @@
 ghost use Rattle.std.specs.Prelude.{◌≡◌, IfOk};
 ghost use Rattle.cache_model.specs.Commands.RegList as reg_list;
 
-use cache_regs::Regs;
+use cache_model::registrations::Regs;
 use cf_types::{CacheReply, ConnId, Listing, NoMemory};
 use std::alloc::Global;
 

@@ -5,7 +5,7 @@ ghost use Rattle.std.specs.Result.{result_err};
 ghost use Rattle.cf_types.specs.Forms.{IsCaller};
 ghost use Rattle.cf_types.specs.Gains.{Gains};
 ghost use Rattle.engine_api.specs.Meaning.{first_refusal};
-ghost use Rattle.cache_regs.specs.Registrations.{stands, regs_with, regs_without_name};
+ghost use Rattle.cache_model.specs.CacheRegs.Registrations.{stands, regs_with, regs_without_name};
 ghost use Rattle.cache_model.specs.Rows.{elements_in};
 ghost use Rattle.cache_model.specs.Contents.{is_among, regs_spared};
 ghost use Rattle.cache_model.specs.Commands.Write as write;
@@ -16,7 +16,7 @@ use crate::refusals::{
 };
 use crate::room::room_refusal;
 use cache_model::Request;
-use cache_regs::Regs;
+use cache_model::registrations::Regs;
 use cache_rows::Rows;
 use cf_types::{Adjunct, Body, Caps, ConnId, Effects, Name16};
 

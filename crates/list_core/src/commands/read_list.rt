@@ -2,8 +2,8 @@
 ghost use Rattle.std.specs.Prelude.{◌≡◌, ◌++◌, ◌∷◌, [], OnOk, IfOk, map};
 ghost use Rattle.std.specs.Result.{result_err};
 ghost use Rattle.engine_api.specs.Meaning.{first_refusal};
-ghost use Rattle.list_store.specs.Record.{Record};
-ghost use Rattle.list_store.specs.Lists.{records_of};
+ghost use Rattle.list_model.specs.ListStore.Record.{Record};
+ghost use Rattle.list_model.specs.ListStore.Lists.{records_of};
 ghost use Rattle.list_model.specs.Commands.ReadList as read_list;
 
 use crate::refusals::{Judged, header_refusal};

@@ -3,7 +3,7 @@
 ghost use Rattle.std.specs.Prelude.{◌≡◌, ◌<◌, ◌^◌};
 ghost use Rattle.std.specs.Result.{result_err};
 ghost use Rattle.engine_api.specs.Meaning.{first_refusal};
-ghost use Rattle.list_store.specs.Lists.{all_records};
+ghost use Rattle.list_model.specs.ListStore.Lists.{all_records};
 ghost use Rattle.list_model.specs.Records.{elements_in};
 ghost use Rattle.list_model.specs.Lists.{the_record};
 ghost use Rattle.list_model.specs.Commands.Update as update;

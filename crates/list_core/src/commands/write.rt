@@ -4,7 +4,7 @@ ghost use Rattle.std.specs.Result.{result_err};
 ghost use Rattle.std.specs.List.{list_any};
 ghost use Rattle.cf_types.specs.Gains.{Gains};
 ghost use Rattle.engine_api.specs.Meaning.{first_refusal};
-ghost use Rattle.list_store.specs.Lists.{all_records, count_of, is_id};
+ghost use Rattle.list_model.specs.ListStore.Lists.{all_records, count_of, is_id};
 ghost use Rattle.list_model.specs.Records.{elements_in};
 ghost use Rattle.list_model.specs.Contents.{stands};
 ghost use Rattle.list_model.specs.Commands.Write as write;

@@ -1,11 +1,11 @@
 ghost use Rattle.std.specs.Prelude.{◌≡◌, ◌≤◌, ◌<◌, [], None};
-ghost use Rattle.cache_dir.specs.RowMap.{row_at};
+ghost use Rattle.cache_core.specs.CacheDir.RowMap.{row_at};
 
-use cache_classes::Classes;
-use cache_dir::{Dir, DirRow, Holder};
-use cache_reclaim::Order;
-use cache_regs::Regs;
-use cf_types::{ConnId, Effects, Name16, NoMemory};
+use cache_core::classes::Classes;
+use cache_core::dirs::{Dir, DirRow, Holder};
+use cache_core::reclaims::Order;
+use cache_core::registrations::Regs;
+use engine_api::types::{ConnId, Effects, Name16, NoMemory};
 use std::alloc::Global;
 use std::test::Fail;
 

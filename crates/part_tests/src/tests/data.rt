@@ -1,7 +1,7 @@
-use cf_link::{Link, ListLink, Steady};
-use cf_types::{Body, NoMemory, copy_body, parse_body};
+use engine_api::types::{Body, NoMemory, copy_body, parse_body};
 use std::alloc::Global;
 use std::test::Fail;
+use struct_machine::links::{Link, ListLink, Steady};
 
 // Whether data and a copy of them have these bytes.
 fn are_copied(alloc: Global, body: &Body, bytes: &[u8]) -> Result<bool, NoMemory> {

@@ -1,8 +1,8 @@
 ghost use Rattle.std.specs.Prelude.{◌≡◌, ◌<◌, []};
 
-use cf_types::{ConnId, Effects, EntryId, Key16, Name16, NoMemory};
-use list_keys::Keys;
-use list_watch::Watch;
+use engine_api::types::{ConnId, Effects, EntryId, Key16, Name16, NoMemory};
+use list_core::keyed::Keys;
+use list_core::watches::Watch;
 use std::alloc::Global;
 use std::test::Fail;
 

@@ -1,5 +1,5 @@
+use plex_load::scripts::Act;
 use plex_load::{make, summary};
-use plex_script::Act;
 use std::test::Fail;
 
 #[test]

@@ -1,5 +1,5 @@
-use cf_types::{Adjunct, ConnId, Name16, NoMemory, Resource, parse_adjunct};
-use lock_record::Records;
+use engine_api::types::{Adjunct, ConnId, Name16, NoMemory, Resource, parse_adjunct};
+use lock_core::recorded::Records;
 use std::alloc::Global;
 use std::test::Fail;
 

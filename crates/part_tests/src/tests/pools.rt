@@ -1,7 +1,7 @@
 ghost use Rattle.std.specs.Prelude.{IfSome};
-ghost use Rattle.cf_pool.specs.Pools.{IsChain};
+ghost use Rattle.cache_core.specs.CfPool.Pools.{IsChain};
 
-use cf_pool::{Chain, NoElements, NoMemory, Pool};
+use cache_core::pools::{Chain, NoElements, NoMemory, Pool};
 use std::alloc::Global;
 use std::test::Fail;
 

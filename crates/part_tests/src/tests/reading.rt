@@ -1,6 +1,6 @@
-use cf_io::{MemSource, ReadEnd, StdSource, read_all};
 use std::alloc::{AllocError, Global};
 use std::test::Fail;
+use struct_machine::sources::{MemSource, ReadEnd, StdSource, read_all};
 
 // A source of these bytes, of which none was read.
 fn source_of(alloc: Global, bytes: &[u8], fails: &[u64]) -> Result<MemSource, AllocError> {

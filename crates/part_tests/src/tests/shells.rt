@@ -1,17 +1,17 @@
 ghost use Rattle.std.specs.Prelude.{◌≡◌, IfOk};
-ghost use Rattle.cf_types.specs.Forms.{IsForm};
+ghost use Rattle.engine_api.specs.CfTypes.Forms.{IsForm};
 ghost use Rattle.engine_api.specs.Asking.{MayCommand};
 
-use cf_types::{
+use engine_api::Ask;
+use engine_api::types::{
     Caps, CfId, ConnId, ConnState, Event, Kind, Letter, Listing, Name16, NoMemory, Pref, ShellCmd,
     ShellReply, StrForm,
 };
-use conn_core::Conns;
-use engine_api::Ask;
-use event_mail::Mail;
-use plex_shell::{ACT_LETTERS, Deeds, Room, Shell, Verdict};
 use std::alloc::Global;
 use std::test::Fail;
+use struct_machine::connections::Conns;
+use struct_machine::mail::Mail;
+use struct_machine::shells::{ACT_LETTERS, Deeds, Room, Shell, Verdict};
 
 // Whether a connection failed, by what is shown of it.
 fn is_failed(state: Option<ConnState>) -> bool {

@@ -1,6 +1,6 @@
-use cf_io::{MemSink, NoMemory, StdSink, WriteFault, write_all};
 use std::alloc::Global;
 use std::test::Fail;
+use struct_machine::sources::{MemSink, NoMemory, StdSink, WriteFault, write_all};
 
 // Whether a writing went through, or stopped behind so many bytes.
 fn is_end(got: &Result<(), WriteFault>, stopped: Option<usize>) -> bool {

@@ -9,7 +9,7 @@ use crate::rebuild_causes::is_copy;
 use crate::shell::{Shell, no_deeds};
 use cf_types::{ConnId, Event, ShellReply};
 use engine_api::Deeds;
-use rebuild_core::Rebuild;
+use engine_api::rebuilds::Rebuild;
 
 impl Shell {
     /// DISCONNECT and FAIL: the caller departs. Its events end, nobody awaits it any more, and

@@ -5,7 +5,7 @@ ghost use Rattle.cf_types.specs.Forms.{IsCapacity, IsCaller};
 ghost use Rattle.cf_types.specs.declared.shell_commands.ShellReply.TheVariants as replies;
 ghost use Rattle.engine_api.specs.Rebuilds.{event_past, beginning_of, end_of, is_switch, is_copy};
 ghost use Rattle.engine_api.specs.Shell.{no_deeds, shell_onward, shell_without, emptied, responded, unless_owed, start_outcome, stopped_shell, stop_outcome, rebuild_connect_outcome, complete_outcome, is_connect};
-ghost use Rattle.rebuild_core.specs.Stages.{outcome_of, next_rebuild, without_owing, rebuild_without, with_place, is_response};
+ghost use Rattle.engine_api.specs.RebuildCore.Stages.{outcome_of, next_rebuild, without_owing, rebuild_without, with_place, is_response};
 ghost use Rattle.plex_shell.specs.ShellView.{IsKeptRebuild};
 
 use crate::commands::connect::facility_of;
@@ -14,7 +14,7 @@ use crate::rebuild_causes::is_copy;
 use crate::shell::{Shell, no_deeds};
 use cf_types::{Caps, CfId, ConnId, Event, ShellReply, Stage};
 use engine_api::Deeds;
-use rebuild_core::{Passed, Rebuild};
+use engine_api::rebuilds::{Passed, Rebuild};
 
 impl Shell {
     /// REBUILD START: the active connectors are its members, and are told.

@@ -1,7 +1,7 @@
 //! A gate at which callers wait for one another, and which counts lines. No caller waits for ever: the
 //! gate tells how many waits ended well.
-use cf_types::ConnId;
-use plex_agent::Gate;
+use plex_run::agents::Gate;
+use plex_run::types::ConnId;
 use std::alloc::{AllocError, Global};
 use std::hint::spin_loop;
 use std::sync::atomic::AtomicU64;

@@ -2,10 +2,10 @@
 ghost use Rattle.std.specs.Prelude.{◌<◌};
 
 use super::gates::{Hold, Turns};
-use cf_io::{MemSink, MemSource};
-use cf_link::ListLink;
-use cf_types::limits::LINKS;
+use plex_run::links::ListLink;
 use plex_run::run;
+use plex_run::sources::{MemSink, MemSource};
+use plex_run::types::limits::LINKS;
 use std::alloc::{AllocError, Global};
 use std::sync::Wait;
 use std::thread::Threads;

@@ -4,7 +4,7 @@ ghost use Rattle.std.specs.Prelude.{◌<◌};
 use super::loads::USAGE;
 use super::runs::{Given, run_into, sink_of, source_of};
 use super::{MEMBERS, POLICY, policy_of};
-use cf_io::MemSource;
+use plex_run::sources::MemSource;
 use std::alloc::{AllocError, Global};
 use std::sync::Wait;
 use std::test::Fail;

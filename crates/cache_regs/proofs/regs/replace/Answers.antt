@@ -1,6 +1,6 @@
 use Rattle.std.proofs.Common.{not, length, ap, ◌∙◌, arith}
-use Rattle.list_laws.proofs.FilterLaws.{none_filtered, length-filter-le}
-use Rattle.list_laws.proofs.InsertionLaws.{length-insertion}
+use Rattle.cf_lists.proofs.FilterLaws.{none_filtered, length-filter-le}
+use Rattle.cf_lists.proofs.InsertionLaws.{length-insertion}
 use Rattle.cache_regs.specs.declared.registrations.Registration.{Registration}
 use Rattle.cache_regs.specs.Registrations.{is_at, stands_before}
 use Rattle.cache_regs.proofs.EndLaws.{unnamed}

@@ -1,5 +1,5 @@
 use Rattle.std.proofs.Common.{arith}
-use Rattle.cache_dir.specs.RowMap.{row_at}
+use Rattle.cache_model.specs.CacheDir.RowMap.{row_at}
 use Rattle.cache_rows.proofs.IndexedLaws.{counted_more, count_fits}
 use Rattle.cache_rows.proofs.directory.count_changed.Goals as goal
 

@@ -1,5 +1,5 @@
 use Rattle.std.proofs.Common.{ap}
-use Rattle.cf_pool.specs.Pools.{Chains}
+use Rattle.cache_model.specs.CfPool.Pools.{Chains}
 use Rattle.cache_rows.proofs.StoreLaws.{written_stored, written_items}
 use Rattle.cache_rows.proofs.store.write_in.Goals as goal
 

@@ -1,5 +1,5 @@
 use Rattle.std.proofs.Common.{◌≡◌, List, map, ap, ◌∙◌}
-use Rattle.list_watch.specs.declared.monitors.Monitor.{Monitor}
+use Rattle.list_model.specs.ListWatch.declared.monitors.Monitor.{Monitor}
 use Rattle.list_model.specs.declared.items.ListItem.TheVariants.{Controls}
 use Rattle.list_model.specs.Items.{triple_of}
 use Rattle.list_core.proofs.RowLaws.{map-triples}

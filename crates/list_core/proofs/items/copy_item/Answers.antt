@@ -1,5 +1,5 @@
 use Rattle.std.proofs.Common.{◌≡◌, true, false, sym, ◌∙◌, arith}
-use Rattle.list_store.specs.Lists.{count_of}
+use Rattle.list_model.specs.ListStore.Lists.{count_of}
 use Rattle.list_model.specs.Items.{has_controls}
 use Rattle.list_model.proofs.ItemLaws.{length-items}
 use Rattle.list_core.proofs.RowLaws.{one_more, no_more}

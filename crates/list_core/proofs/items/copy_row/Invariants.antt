@@ -1,5 +1,5 @@
 use Rattle.std.proofs.Common.{◌≡◌, ◌<◌, drop, slice_get}
-use Rattle.list_store.specs.Lists.{count_of}
+use Rattle.list_model.specs.ListStore.Lists.{count_of}
 use Rattle.list_model.specs.Items.{rows_from}
 use Rattle.list_core.proofs.items.copy_row.Given as goal
 

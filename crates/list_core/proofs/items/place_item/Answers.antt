@@ -1,10 +1,10 @@
 use Rattle.std.proofs.Common.{◌≡◌, ℕ, List, Option, map, sym, ap, ◌∙◌, subst}
 use Rattle.std.specs.List.{list_all}
 use Rattle.cf_types.specs.declared.numbers.ConnId.{ConnId}
-use Rattle.list_watch.specs.declared.monitors.Monitor.{Monitor}
-use Rattle.list_watch.specs.declared.monitors.Watched.{Watched}
-use Rattle.list_watch.specs.Monitors.{AreMonitors}
-use Rattle.list_watch.specs.Rows.{monitors_of}
+use Rattle.list_model.specs.ListWatch.declared.monitors.Monitor.{Monitor}
+use Rattle.list_model.specs.ListWatch.declared.monitors.Watched.{Watched}
+use Rattle.list_model.specs.ListWatch.Monitors.{AreMonitors}
+use Rattle.list_model.specs.ListWatch.Rows.{monitors_of}
 use Rattle.list_model.specs.Contents.{Content}
 use Rattle.list_model.specs.Items.{Triple, monitor_of}
 use Rattle.list_kept.specs.Told.{is_told}

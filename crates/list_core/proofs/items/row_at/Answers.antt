@@ -1,10 +1,10 @@
 use Rattle.std.proofs.Common.{◌≡◌, Some, Bor, option_map, slice_get, sym, ap, ◌∙◌}
 use Rattle.std.proofs.lemmas.Result.{IfOk-weaker}
-use Rattle.list_store.specs.declared.records.Rec.{Rec}
-use Rattle.list_store.specs.Lists.{records_of}
-use Rattle.list_store.specs.Records.{record_in}
-use Rattle.list_store.proofs.TiedLaws.{none_within}
-use Rattle.list_store.proofs.StoreLaws.{none_shown}
+use Rattle.list_model.specs.ListStore.declared.records.Rec.{Rec}
+use Rattle.list_model.specs.ListStore.Lists.{records_of}
+use Rattle.list_model.specs.ListStore.Records.{record_in}
+use Rattle.list_kept.proofs.ListStore.TiedLaws.{none_within}
+use Rattle.list_kept.proofs.ListStore.StoreLaws.{none_shown}
 use Rattle.list_model.specs.declared.items.ListItem.{ListItem}
 use Rattle.list_model.specs.Items.{row_of}
 use Rattle.list_core.proofs.items.row_at.Goals as goal

@@ -1,5 +1,5 @@
 use Rattle.std.proofs.Common.{◌≡◌, ◌++◌, drop, map}
-use Rattle.list_watch.specs.declared.monitors.Watched.{Watched}
+use Rattle.list_model.specs.ListWatch.declared.monitors.Watched.{Watched}
 use Rattle.list_model.specs.Items.{triple_of}
 use Rattle.list_core.proofs.items.watches_of.Given as goal
 

@@ -1,6 +1,6 @@
 use Rattle.std.proofs.Common.{ap, ◌∙◌}
 use Rattle.cf_types.proofs.GainsLaws.{gains_none}
-use Rattle.list_store.specs.Lists.{lists_replaced}
+use Rattle.list_model.specs.ListStore.Lists.{lists_replaced}
 use Rattle.list_model.specs.Lists.{the_record}
 use Rattle.list_model.specs.Contents.{Content, stands, has_records}
 use Rattle.list_model.specs.Commands.Update.{with_new_data}

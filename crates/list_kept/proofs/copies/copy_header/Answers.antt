@@ -1,6 +1,6 @@
 use Rattle.std.proofs.Common.{◌≡◌, ◌++◌, ◌∷◌, [], ℕ, Option, Some, List, Bor, length, slice_get, set, option_map, sym, ap, ◌∙◌, arith}
 use Rattle.std.specs.List.{list_any}
-use Rattle.record_lists.proofs.FrontLaws.{front_next, front_whole, front_long, front_alone}
+use Rattle.cf_lists.proofs.FrontLaws.{front_next, front_whole, front_long, front_alone}
 use Rattle.list_store.specs.declared.records.Rec.{Rec}
 use Rattle.list_store.specs.Record.{Record}
 use Rattle.list_store.specs.Records.{record_in}

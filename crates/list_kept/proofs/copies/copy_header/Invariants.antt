@@ -1,5 +1,5 @@
 use Rattle.std.proofs.Common.{◌≡◌, length}
-use Rattle.record_lists.specs.Fronts.{front}
+use Rattle.cf_lists.specs.Fronts.{front}
 use Rattle.list_kept.proofs.copies.copy_header.Given as goal
 
 abbrev pub invariant-loop-place : goal.invariant-loop-place

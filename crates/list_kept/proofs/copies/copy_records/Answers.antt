@@ -1,7 +1,7 @@
 use Rattle.std.proofs.Common.{◌≡◌, ℕ, [], List, Option, None, length, replicate, sym, ap, ◌∙◌, subst, arith}
 use Rattle.std.proofs.lemmas.List.{length-replicate}
-use Rattle.record_lists.specs.Fronts.{front}
-use Rattle.record_lists.proofs.FrontLaws.{front_none, front_all}
+use Rattle.cf_lists.specs.Fronts.{front}
+use Rattle.cf_lists.proofs.FrontLaws.{front_none, front_all}
 use Rattle.list_store.specs.Record.{Record}
 use Rattle.list_kept.specs.Data.{AreUsed}
 use Rattle.list_kept.proofs.DataLaws.{no_chains}

@@ -1,5 +1,5 @@
 use Rattle.std.proofs.Common.{◌≡◌, length}
-use Rattle.record_lists.specs.Fronts.{front}
+use Rattle.cf_lists.specs.Fronts.{front}
 use Rattle.list_kept.specs.Data.{AreUsed}
 use Rattle.list_kept.proofs.copies.copy_records.Given as goal
 

@@ -1,5 +1,5 @@
 use Rattle.std.proofs.Common.{◌∙◌, None, ap, set}
-use Rattle.list_laws.proofs.TableLaws.{set_same}
+use Rattle.cf_lists.proofs.TableLaws.{set_same}
 use Rattle.list_store.specs.StoreView.{StoreView}
 use Rattle.list_store.proofs.HeldLaws.{set_twice}
 use Rattle.list_kept.proofs.data.try_data.Goals as goal

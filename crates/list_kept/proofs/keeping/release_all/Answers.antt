@@ -1,5 +1,5 @@
 use Rattle.std.proofs.Common.{arith}
-use Rattle.list_laws.proofs.MapLaws.{mapped_more}
+use Rattle.cf_lists.proofs.MapLaws.{mapped_more}
 use Rattle.list_model.specs.Contents.{holder_without}
 use Rattle.list_kept.proofs.keeping.release_all.Goals as goal
 

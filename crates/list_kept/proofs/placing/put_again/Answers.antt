@@ -1,8 +1,8 @@
 use Rattle.std.proofs.Common.{ap, ◌∙◌}
 use Rattle.std.specs.List.{list_any, list_all}
-use Rattle.list_laws.specs.Pairwise.{pairwise}
-use Rattle.list_laws.proofs.FilterLaws.{found_passes}
-use Rattle.record_lists.proofs.IdLaws.{gone}
+use Rattle.cf_lists.specs.Pairwise.{pairwise}
+use Rattle.cf_lists.proofs.FilterLaws.{found_passes}
+use Rattle.cf_lists.proofs.IdLaws.{gone}
 use Rattle.list_store.specs.Lists.{record_id, Lists, all_records, is_id}
 use Rattle.list_store.specs.Records.{record_in}
 use Rattle.list_model.specs.Records.{may_precede}

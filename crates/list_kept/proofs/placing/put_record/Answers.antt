@@ -1,7 +1,7 @@
 use Rattle.std.proofs.Common.{ℕ, refl, ap, ◌∙◌}
 use Rattle.list_store.specs.Lists.{lists_with}
 use Rattle.list_store.specs.Records.{record_in}
-use Rattle.list_laws.specs.Pairwise.{pairwise}
+use Rattle.cf_lists.specs.Pairwise.{pairwise}
 use Rattle.list_model.specs.Records.{may_precede}
 use Rattle.list_model.proofs.ListLaws.{one-records}
 use Rattle.list_model.proofs.StoreLaws.{placed-with}

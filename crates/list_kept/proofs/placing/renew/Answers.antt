@@ -1,7 +1,7 @@
 use Rattle.std.proofs.Common.{◌≤◌, ◌+◌, ◌∙◌, ℕ, List, Option, None, ap, sym, refl, subst, length}
 use Rattle.std.specs.List.{list_any}
 use Rattle.std.specs.Option.{option_or}
-use Rattle.record_lists.proofs.IdLaws.{any-replaced, replaced_twice}
+use Rattle.cf_lists.proofs.IdLaws.{any-replaced, replaced_twice}
 use Rattle.list_store.specs.declared.records.Rec.{Rec}
 use Rattle.list_store.specs.Record.{Record}
 use Rattle.list_store.specs.Lists.{Lists, record_id, all_records, is_id, lists_replaced}

@@ -4,7 +4,7 @@ use Rattle.list_store.specs.Lists.{records_of}
 use Rattle.list_store.specs.Records.{record_in}
 use Rattle.list_store.proofs.TiedLaws.{none_within}
 use Rattle.list_store.proofs.StoreLaws.{none_shown}
-use Rattle.record_lists.proofs.PrefixLaws.{passes_first}
+use Rattle.cf_lists.proofs.RecordPrefixLaws.{passes_first}
 use Rattle.list_kept.specs.ContentView.{comes_behind}
 use Rattle.list_kept.proofs.PlaceLaws.{ordered_first}
 use Rattle.list_kept.proofs.placing.stands_at.Goals as goal

@@ -1,5 +1,5 @@
 use Rattle.std.proofs.Common.{◌≡◌, ◌≤◌, [], length, drop}
-use Rattle.record_lists.specs.Lists.{all_records}
+use Rattle.cf_lists.specs.Lists.{all_records}
 use Rattle.list_store.specs.Orders.{orders_in}
 use Rattle.list_store.proofs.orders.last_header.Given as goal
 

@@ -3,12 +3,12 @@ use Rattle.std.proofs.lemmas.List.{length-map}
 use Rattle.std.specs.declared.vec.Vec.{Vec}
 use Rattle.std.specs.declared.alloc.Global.{Global}
 use Rattle.list_store.specs.Orders.{orders_in}
-use Rattle.record_lists.specs.Lists.{IsLastFull, all_records}
+use Rattle.cf_lists.specs.Lists.{IsLastFull, all_records}
 use Rattle.list_store.specs.Tied.{lists_at}
 use Rattle.std.proofs.Common.{[], ◌<◌}
 use Rattle.list_store.proofs.TiedLaws.{weaker_some, weaker_none}
 use Rattle.list_store.specs.Tied.{rec_at}
-use Rattle.record_lists.proofs.MapLaws.{last-map, none-map}
+use Rattle.cf_lists.proofs.RecordMapLaws.{last-map, none-map}
 use Rattle.list_store.proofs.ties.last_of.Goals as goal
 
 pub returns-clause-found : goal.returns-clause-found

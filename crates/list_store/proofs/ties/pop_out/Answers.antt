@@ -2,7 +2,7 @@ use Rattle.std.proofs.Common.{◌∙◌, ap, ℕ, arith, List, length, set}
 use Rattle.std.specs.declared.vec.Vec.{Vec}
 use Rattle.std.specs.declared.alloc.Global.{Global}
 use Rattle.list_store.specs.declared.records.Rec.{Rec}
-use Rattle.record_lists.specs.Lists.{records_of}
+use Rattle.cf_lists.specs.Lists.{records_of}
 use Rattle.list_store.specs.Orders.{orders_in}
 use Rattle.list_store.specs.Tied.{lists_at}
 use Rattle.list_store.proofs.TiedLaws.{length-at, remove_last}

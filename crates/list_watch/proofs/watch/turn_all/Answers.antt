@@ -1,5 +1,5 @@
 use Rattle.std.proofs.Common.{arith}
-use Rattle.list_laws.proofs.MapLaws.{mapped_more}
+use Rattle.cf_lists.proofs.MapLaws.{mapped_more}
 use Rattle.list_watch.specs.Rows.{row_turned}
 use Rattle.list_watch.proofs.watch.turn_all.Goals as goal
 

@@ -1,8 +1,8 @@
 use Rattle.std.proofs.Common.{◌∙◌, map, []}
 use Rattle.std.proofs.lemmas.List.{get_or_default}
-use Rattle.table_entries.specs.Tables.{resource_by}
-use Rattle.table_entries.proofs.TableLaws.{found}
-use Rattle.table_entries.proofs.RankLaws.{placed_none, placed_some}
+use Rattle.cf_lists.specs.Tables.{resource_by}
+use Rattle.cf_lists.proofs.EntryTableLaws.{found}
+use Rattle.cf_lists.proofs.RankLaws.{placed_none, placed_some}
 use Rattle.lock_queue.specs.Tables.{part_of, waiters_in}
 use Rattle.lock_queue.proofs.queue.at_on.Goals as goal
 

@@ -1,6 +1,6 @@
 use Rattle.std.proofs.Common.{◌∙◌, sym, []}
 use Rattle.std.proofs.lemmas.List.{get_or_default}
-use Rattle.table_entries.proofs.TableLaws.{ordered, at_is, none_past}
+use Rattle.cf_lists.proofs.EntryTableLaws.{ordered, at_is, none_past}
 use Rattle.lock_queue.specs.Tables.{part_of}
 use Rattle.lock_queue.proofs.queue.at_place.Goals as goal
 

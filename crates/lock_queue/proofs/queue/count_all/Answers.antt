@@ -1,6 +1,6 @@
 use Rattle.std.proofs.Common.{length, refl, arith, List}
 use Rattle.std.proofs.lemmas.List.{length-append}
-use Rattle.table_entries.proofs.PassLaws.{counted_next, counted_past}
+use Rattle.cf_lists.proofs.PassLaws.{counted_next, counted_past}
 use Rattle.lock_queue.specs.declared.waiters.Waiter.{Waiter}
 use Rattle.lock_queue.proofs.queue.count_all.Goals as goal
 

@@ -1,6 +1,6 @@
 use Rattle.std.proofs.Common.{◌≡◌, ◌+◌, length, filter, drop}
 use Rattle.cf_types.specs.Resources.{resource_before}
-use Rattle.table_entries.specs.Bins.{joined}
+use Rattle.cf_lists.specs.Bins.{joined}
 use Rattle.lock_queue.specs.declared.waiters.Waiter.{Waiter}
 use Rattle.lock_queue.proofs.queue.count_all_ahead.Given as goal
 

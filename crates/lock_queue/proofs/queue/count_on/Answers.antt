@@ -1,6 +1,6 @@
 use Rattle.std.proofs.Common.{◌∙◌, ap, List, length, map}
-use Rattle.table_entries.specs.Tables.{resource_by}
-use Rattle.table_entries.proofs.TableLaws.{kept_in}
+use Rattle.cf_lists.specs.Tables.{resource_by}
+use Rattle.cf_lists.proofs.EntryTableLaws.{kept_in}
 use Rattle.lock_queue.specs.declared.waiters.Waiter.{Waiter}
 use Rattle.lock_queue.specs.Waiters.{is_on, waiters_of}
 use Rattle.lock_queue.specs.Tables.{part_of, waiters_in}

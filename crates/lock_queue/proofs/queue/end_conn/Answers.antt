@@ -1,10 +1,10 @@
 use Rattle.std.proofs.Common.{◌≡◌, ◌≤◌, List, map, not, length, ap, arith, ◌∙◌}
 use Rattle.cf_types.specs.declared.numbers.ConnId.{ConnId}
-use Rattle.list_laws.proofs.FilterLaws.{length-filter-le}
-use Rattle.table_entries.specs.Tables.{resource_by}
-use Rattle.table_entries.specs.Bins.{joined}
-use Rattle.table_entries.proofs.PassLaws.{left_seen, left_table}
-use Rattle.table_entries.proofs.RankLaws.{length_seen}
+use Rattle.cf_lists.proofs.FilterLaws.{length-filter-le}
+use Rattle.cf_lists.specs.Tables.{resource_by}
+use Rattle.cf_lists.specs.Bins.{joined}
+use Rattle.cf_lists.proofs.PassLaws.{left_seen, left_table}
+use Rattle.cf_lists.proofs.RankLaws.{length_seen}
 use Rattle.lock_queue.specs.declared.waiters.Waiter.{Waiter}
 use Rattle.lock_queue.specs.Waiters.{is_by, waiters_without_conn}
 use Rattle.lock_queue.specs.Tables.{part_of, waiters_in, AreEntries}

@@ -1,8 +1,8 @@
 use Rattle.std.proofs.Common.{◌∙◌, ◌==◌, ap, map}
 use Rattle.std.proofs.lemmas.Bool.{and_parts}
 use Rattle.cf_types.specs.Resources.{same_resource}
-use Rattle.table_entries.specs.Tables.{resource_by}
-use Rattle.table_entries.proofs.TableLaws.{found_in}
+use Rattle.cf_lists.specs.Tables.{resource_by}
+use Rattle.cf_lists.proofs.EntryTableLaws.{found_in}
 use Rattle.lock_queue.specs.Waiters.{is_waiter, waiter_of}
 use Rattle.lock_queue.specs.Tables.{part_of, waiters_in}
 use Rattle.lock_queue.proofs.queue.find_on.Goals as goal

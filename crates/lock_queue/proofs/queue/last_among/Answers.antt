@@ -1,6 +1,6 @@
 use Rattle.std.proofs.Common.{List, option_map, ap, sym, ◌∙◌}
-use Rattle.table_entries.specs.Tables.{later_of, last_of}
-use Rattle.table_entries.proofs.RankLaws.{last_more}
+use Rattle.cf_lists.specs.Tables.{later_of, last_of}
+use Rattle.cf_lists.proofs.RankLaws.{last_more}
 use Rattle.lock_queue.specs.declared.waiters.Waiter.{Waiter}
 use Rattle.lock_queue.specs.Tables.{part_of}
 use Rattle.lock_queue.proofs.queue.last_among.Goals as goal

@@ -1,6 +1,6 @@
 use Rattle.std.proofs.Common.{◌≡◌, option_map, drop}
-use Rattle.table_entries.specs.Bins.{joined}
-use Rattle.table_entries.specs.Tables.{later_of, last_of}
+use Rattle.cf_lists.specs.Bins.{joined}
+use Rattle.cf_lists.specs.Tables.{later_of, last_of}
 use Rattle.lock_queue.specs.Tables.{part_of}
 use Rattle.lock_queue.proofs.queue.last_in.Given as goal
 

@@ -1,8 +1,8 @@
 use Rattle.std.proofs.Common.{◌≡◌, ◌+◌, ◌≤◌, ◌&&◌, ◌||◌, not, length, map, filter, ap, ◌∙◌, arith}
 use Rattle.std.proofs.lemmas.List.{length-map}
-use Rattle.table_entries.specs.Tables.{resource_by}
-use Rattle.list_laws.proofs.FilterLaws.{length-filter-le}
-use Rattle.table_entries.proofs.TableLaws.{of_seen, few_in, kept_in, put_seen, put_table}
+use Rattle.cf_lists.specs.Tables.{resource_by}
+use Rattle.cf_lists.proofs.FilterLaws.{length-filter-le}
+use Rattle.cf_lists.proofs.EntryTableLaws.{of_seen, few_in, kept_in, put_seen, put_table}
 use Rattle.lock_queue.specs.declared.waiters.Waiter.{Waiter}
 use Rattle.lock_queue.specs.Waiters.{is_on, stands_before}
 use Rattle.lock_queue.specs.Tables.{part_of, waiters_in, is_ahead}

@@ -1,6 +1,6 @@
 use Rattle.std.proofs.Common.{◌≡◌, ◌+◌, drop}
 use Rattle.lock_queue.specs.Waiters.{recorded_in}
-use Rattle.table_entries.specs.Bins.{joined}
+use Rattle.cf_lists.specs.Bins.{joined}
 use Rattle.lock_queue.proofs.queue.recorded_all.Given as goal
 
 abbrev pub invariant-loop-waiters : goal.invariant-loop-waiters

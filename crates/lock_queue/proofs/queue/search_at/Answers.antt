@@ -1,7 +1,7 @@
 use Rattle.std.proofs.Common.{not, is_some, sym, refl, ◌∙◌}
-use Rattle.table_entries.specs.Tables.{placed_on}
-use Rattle.table_entries.proofs.PassLaws.{all_next, joined_past}
-use Rattle.table_entries.proofs.RankLaws.{none_placed_on}
+use Rattle.cf_lists.specs.Tables.{placed_on}
+use Rattle.cf_lists.proofs.PassLaws.{all_next, joined_past}
+use Rattle.cf_lists.proofs.RankLaws.{none_placed_on}
 use Rattle.lock_queue.specs.declared.waiters.Waiter.{Waiter}
 use Rattle.lock_queue.specs.Tables.{part_of, waiters_in}
 use Rattle.lock_queue.proofs.queue.search_at.Goals as goal

@@ -1,7 +1,7 @@
 use Rattle.std.proofs.Common.{◌≡◌, not, is_some, drop}
 use Rattle.std.specs.List.{list_all}
-use Rattle.table_entries.specs.Bins.{joined}
-use Rattle.table_entries.specs.Tables.{placed_on}
+use Rattle.cf_lists.specs.Bins.{joined}
+use Rattle.cf_lists.specs.Tables.{placed_on}
 use Rattle.lock_queue.specs.declared.waiters.Waiter.{Waiter}
 use Rattle.lock_queue.specs.Tables.{part_of, waiters_in}
 use Rattle.lock_queue.proofs.queue.search_at.Given as goal

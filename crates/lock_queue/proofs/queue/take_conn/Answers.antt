@@ -1,5 +1,5 @@
 use Rattle.std.proofs.Common.{◌≡◌, ◌<◌, ◌≤◌, not, cond, false, length, [], ◌∷◌, None, refl, arith}
-use Rattle.table_entries.proofs.PassLaws.{filtered_step, pass_begins, pass_goes, pass_fits, pass_ends}
+use Rattle.cf_lists.proofs.PassLaws.{filtered_step, pass_begins, pass_goes, pass_fits, pass_ends}
 use Rattle.lock_queue.specs.declared.waiters.Waiter.{Waiter}
 use Rattle.lock_queue.specs.Waiters.{is_by, waiters_without_conn}
 use Rattle.lock_queue.proofs.queue.take_conn.Goals as goal

@@ -1,7 +1,7 @@
 use Rattle.std.proofs.Common.{sym, ◌∙◌}
-use Rattle.list_laws.proofs.KeyLaws.{none_placed}
-use Rattle.table_entries.proofs.SpotLaws.{some_place}
-use Rattle.table_entries.proofs.TableLaws.{cut_out, none_out}
+use Rattle.cf_lists.proofs.KeyLaws.{none_placed}
+use Rattle.cf_lists.proofs.EntrySpotLaws.{some_place}
+use Rattle.cf_lists.proofs.EntryTableLaws.{cut_out, none_out}
 use Rattle.lock_queue.specs.Waiters.{is_waiter}
 use Rattle.lock_queue.specs.Tables.{part_of}
 use Rattle.lock_queue.proofs.queue.take_from.Goals as goal

@@ -1,9 +1,9 @@
 use Rattle.std.proofs.Common.{map, not, ◌∙◌}
-use Rattle.table_entries.specs.Tables.{resource_by}
+use Rattle.cf_lists.specs.Tables.{resource_by}
 use Rattle.lock_queue.specs.declared.waiters.Waiter.{Waiter}
 use Rattle.lock_queue.specs.Waiters.{is_waiter}
 use Rattle.lock_queue.specs.Tables.{part_of, waiters_in}
-use Rattle.table_entries.proofs.TableLaws.{entry_apart, there_in, taken_seen, taken_bins}
+use Rattle.cf_lists.proofs.EntryTableLaws.{entry_apart, there_in, taken_seen, taken_bins}
 use Rattle.lock_queue.proofs.WaiterLaws.{queue-filter}
 use Rattle.lock_queue.proofs.CountLaws.{less_one}
 use Rattle.lock_queue.proofs.queue.take_out.Goals as goal

@@ -1,6 +1,6 @@
 use Rattle.std.proofs.Common.{arith}
-use Rattle.list_laws.proofs.MapLaws.{mapped_more}
-use Rattle.table_entries.proofs.PassLaws.{mapped_whole}
+use Rattle.cf_lists.proofs.MapLaws.{mapped_more}
+use Rattle.cf_lists.proofs.PassLaws.{mapped_whole}
 use Rattle.lock_queue.specs.Waiters.{waiters_without_conn}
 use Rattle.lock_queue.proofs.queue.take_out_conn.Goals as goal
 

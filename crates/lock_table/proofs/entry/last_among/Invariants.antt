@@ -1,5 +1,5 @@
 use Rattle.std.proofs.Common.{◌≡◌, option_map}
-use Rattle.table_entries.specs.Tables.{later_of, last_of}
+use Rattle.cf_lists.specs.Tables.{later_of, last_of}
 use Rattle.lock_table.specs.Tables.{part_of}
 use Rattle.lock_table.proofs.entry.last_among.Given as goal
 

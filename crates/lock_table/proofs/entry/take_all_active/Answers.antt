@@ -1,5 +1,5 @@
 use Rattle.std.proofs.Common.{◌≡◌, ◌<◌, ◌≤◌, ◌&&◌, not, cond, false, length, [], ◌∷◌, refl, arith}
-use Rattle.table_entries.proofs.PassLaws.{filtered_step, pass_begins, pass_goes, pass_fits, pass_ends}
+use Rattle.cf_lists.proofs.PassLaws.{filtered_step, pass_begins, pass_goes, pass_fits, pass_ends}
 use Rattle.lock_table.specs.declared.holdings.Held.{Held}
 use Rattle.lock_table.specs.Holdings.{is_by, owners_without_active}
 use Rattle.lock_table.proofs.entry.take_all_active.Goals as goal

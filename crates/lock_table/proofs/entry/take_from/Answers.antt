@@ -1,6 +1,6 @@
 use Rattle.std.proofs.Common.{sym, ◌∙◌}
-use Rattle.list_laws.proofs.KeyLaws.{none_placed}
-use Rattle.table_entries.proofs.SpotLaws.{some_place}
+use Rattle.cf_lists.proofs.KeyLaws.{none_placed}
+use Rattle.cf_lists.proofs.EntrySpotLaws.{some_place}
 use Rattle.lock_table.specs.Holdings.{is_interest}
 use Rattle.lock_table.proofs.EntryLaws.{masked_less, cut_out, none_out}
 use Rattle.lock_table.proofs.entry.take_from.Goals as goal

@@ -1,7 +1,7 @@
 use Rattle.std.proofs.Common.{◌≡◌, true, not, is_some, sym, refl, ◌∙◌}
-use Rattle.table_entries.specs.Tables.{placed_on}
-use Rattle.table_entries.proofs.TableLaws.{in_order}
-use Rattle.table_entries.proofs.RankLaws.{placed_here}
+use Rattle.cf_lists.specs.Tables.{placed_on}
+use Rattle.cf_lists.proofs.EntryTableLaws.{in_order}
+use Rattle.cf_lists.proofs.RankLaws.{placed_here}
 use Rattle.lock_table.specs.Tables.{part_of, owners_in}
 use Rattle.lock_table.proofs.table.at_in.Goals as goal
 

@@ -1,6 +1,6 @@
 use Rattle.std.proofs.Common.{◌≡◌, not, is_some}
 use Rattle.std.specs.List.{list_all}
-use Rattle.table_entries.specs.Tables.{placed_on}
+use Rattle.cf_lists.specs.Tables.{placed_on}
 use Rattle.lock_table.specs.declared.holdings.Held.{Held}
 use Rattle.lock_table.specs.Tables.{part_of, owners_in}
 use Rattle.lock_table.proofs.table.at_in.Given as goal

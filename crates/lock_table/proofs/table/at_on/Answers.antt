@@ -1,8 +1,8 @@
 use Rattle.std.proofs.Common.{◌∙◌, map}
 use Rattle.std.proofs.lemmas.Iterator.Consumers.{nth_from_yields_List, YieldsList-from_first}
-use Rattle.table_entries.specs.Tables.{resource_by}
-use Rattle.table_entries.proofs.TableLaws.{found}
-use Rattle.table_entries.proofs.RankLaws.{placed_none, placed_some}
+use Rattle.cf_lists.specs.Tables.{resource_by}
+use Rattle.cf_lists.proofs.EntryTableLaws.{found}
+use Rattle.cf_lists.proofs.RankLaws.{placed_none, placed_some}
 use Rattle.lock_table.specs.EntryView.{owners_left}
 use Rattle.lock_table.specs.Tables.{part_of, owners_in}
 use Rattle.lock_table.proofs.table.at_on.Goals as goal

@@ -1,6 +1,6 @@
 use Rattle.std.proofs.Common.{◌∙◌, sym}
 use Rattle.std.proofs.lemmas.Iterator.Consumers.{nth_from_yields_List, YieldsList-from_first}
-use Rattle.table_entries.proofs.TableLaws.{ordered, at_is, none_past}
+use Rattle.cf_lists.proofs.EntryTableLaws.{ordered, at_is, none_past}
 use Rattle.lock_table.specs.EntryView.{owners_left}
 use Rattle.lock_table.specs.Tables.{part_of}
 use Rattle.lock_table.proofs.table.at_place.Goals as goal

@@ -1,6 +1,6 @@
 use Rattle.std.proofs.Common.{length, refl, arith, List}
 use Rattle.std.proofs.lemmas.List.{length-append}
-use Rattle.table_entries.proofs.PassLaws.{counted_next, counted_past}
+use Rattle.cf_lists.proofs.PassLaws.{counted_next, counted_past}
 use Rattle.lock_table.specs.declared.holdings.Held.{Held}
 use Rattle.lock_table.proofs.table.count_all.Goals as goal
 

@@ -1,8 +1,8 @@
 use Rattle.std.proofs.Common.{length, filter, refl, arith, List}
-use Rattle.table_entries.proofs.PassLaws.{counted_next, counted_past, length-kept_append}
+use Rattle.cf_lists.proofs.PassLaws.{counted_next, counted_past, length-kept_append}
 use Rattle.cf_types.specs.Resources.{resource_before}
-use Rattle.list_laws.proofs.FilterLaws.{length-filter-le}
-use Rattle.table_entries.specs.Bins.{joined}
+use Rattle.cf_lists.proofs.FilterLaws.{length-filter-le}
+use Rattle.cf_lists.specs.Bins.{joined}
 use Rattle.lock_table.specs.declared.holdings.Held.{Held}
 use Rattle.lock_table.proofs.table.count_before.Goals as goal
 

@@ -1,6 +1,6 @@
 use Rattle.std.proofs.Common.{◌≡◌, ◌+◌, length, filter, drop}
 use Rattle.cf_types.specs.Resources.{resource_before}
-use Rattle.table_entries.specs.Bins.{joined}
+use Rattle.cf_lists.specs.Bins.{joined}
 use Rattle.lock_table.specs.declared.holdings.Held.{Held}
 use Rattle.lock_table.proofs.table.count_before.Given as goal
 

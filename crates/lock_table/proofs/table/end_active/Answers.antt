@@ -1,10 +1,10 @@
 use Rattle.std.proofs.Common.{◌≡◌, ◌≤◌, ◌&&◌, List, map, not, length, ap, arith, ◌∙◌}
 use Rattle.cf_types.specs.declared.numbers.ConnId.{ConnId}
-use Rattle.list_laws.proofs.FilterLaws.{length-filter-le}
-use Rattle.table_entries.specs.Tables.{resource_by}
-use Rattle.table_entries.specs.Bins.{joined}
-use Rattle.table_entries.proofs.PassLaws.{left_seen, left_table}
-use Rattle.table_entries.proofs.RankLaws.{length_seen}
+use Rattle.cf_lists.proofs.FilterLaws.{length-filter-le}
+use Rattle.cf_lists.specs.Tables.{resource_by}
+use Rattle.cf_lists.specs.Bins.{joined}
+use Rattle.cf_lists.proofs.PassLaws.{left_seen, left_table}
+use Rattle.cf_lists.proofs.RankLaws.{length_seen}
 use Rattle.lock_table.specs.declared.holdings.Held.{Held}
 use Rattle.lock_table.specs.Holdings.{is_by, owners_without_active}
 use Rattle.lock_table.specs.Tables.{part_of, owners_in, AreEntries}

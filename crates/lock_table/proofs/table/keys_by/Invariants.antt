@@ -1,5 +1,5 @@
 use Rattle.std.proofs.Common.{◌≡◌, ◌++◌, map, filter, drop}
-use Rattle.table_entries.specs.Bins.{joined}
+use Rattle.cf_lists.specs.Bins.{joined}
 use Rattle.lock_table.specs.Holdings.{is_by}
 use Rattle.lock_table.specs.Tables.{resource_of}
 use Rattle.lock_table.proofs.table.keys_by.Given as goal

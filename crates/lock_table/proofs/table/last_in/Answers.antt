@@ -1,4 +1,4 @@
-use Rattle.table_entries.proofs.RankLaws.{last_next, last_past}
+use Rattle.cf_lists.proofs.RankLaws.{last_next, last_past}
 use Rattle.lock_table.specs.Tables.{part_of}
 use Rattle.lock_table.proofs.table.last_in.Goals as goal
 

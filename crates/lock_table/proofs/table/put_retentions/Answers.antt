@@ -1,6 +1,6 @@
 use Rattle.std.proofs.Common.{arith}
-use Rattle.list_laws.proofs.MapLaws.{mapped_more}
-use Rattle.table_entries.proofs.PassLaws.{mapped_whole}
+use Rattle.cf_lists.proofs.MapLaws.{mapped_more}
+use Rattle.cf_lists.proofs.PassLaws.{mapped_whole}
 use Rattle.lock_table.specs.Holdings.{owners_retained_of}
 use Rattle.lock_table.proofs.table.put_retentions.Goals as goal
 

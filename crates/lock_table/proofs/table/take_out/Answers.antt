@@ -1,7 +1,7 @@
 use Rattle.std.proofs.Common.{map, ◌∙◌}
-use Rattle.table_entries.specs.Tables.{resource_by}
+use Rattle.cf_lists.specs.Tables.{resource_by}
 use Rattle.lock_table.specs.Tables.{part_of, owners_in}
-use Rattle.table_entries.proofs.TableLaws.{entry_apart, there_in, taken_seen, taken_bins}
+use Rattle.cf_lists.proofs.EntryTableLaws.{entry_apart, there_in, taken_seen, taken_bins}
 use Rattle.lock_table.proofs.CountLaws.{less_one}
 use Rattle.lock_table.proofs.table.take_out.Goals as goal
 

@@ -1,5 +1,5 @@
 -- Steady links make no marks.
-use Rattle.cache_model.specs.Meaning.{cache_meaning}
+use Rattle.cache_core.specs.CacheModel.Meaning.{cache_meaning}
 use Rattle.one_thread.proofs.SteadyLaws.{steady_steps}
 use Rattle.one_thread.proofs.pool.ask_pool.Goals as goal
 

@@ -1,6 +1,6 @@
 use super::printing::{PLAIN, is_plain};
-use cf_types::{Listing, NoMemory};
-use plex_script::{Act, Line, copy_ask, read};
+use engine_api::types::{Listing, NoMemory};
+use plex_load::scripts::{Act, Line, copy_ask, read};
 use std::alloc::Global;
 use std::test::Fail;
 

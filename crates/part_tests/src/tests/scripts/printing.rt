@@ -1,5 +1,5 @@
-use cf_types::NoMemory;
-use plex_script::{Line, Script, print, read};
+use engine_api::types::NoMemory;
+use plex_load::scripts::{Line, Script, print, read};
 use std::alloc::Global;
 use std::test::Fail;
 

@@ -1,4 +1,4 @@
-use plex_script::{ReadFault, Script, Why, read};
+use plex_load::scripts::{ReadFault, Script, Why, read};
 use std::alloc::{AllocError, Global};
 use std::test::Fail;
 

@@ -1,7 +1,9 @@
-use cf_types::{CacheCmd, CacheReply, ConnId, Listing, Name16, NoMemory, StrNo, parse_name};
+use engine_api::types::{
+    CacheCmd, CacheReply, ConnId, Listing, Name16, NoMemory, StrNo, parse_name,
+};
 use engine_api::{Ask, Entry, History, Reply, What};
+use plex_load::scripts::{AgentEnd, AnyHistory, Script, Shown, Transcript, read};
 use plex_report::{line, render};
-use plex_script::{AgentEnd, AnyHistory, Script, Shown, Transcript, read};
 use std::alloc::{AllocError, Global};
 use std::test::Fail;
 

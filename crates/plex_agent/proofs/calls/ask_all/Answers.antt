@@ -1,6 +1,6 @@
 use Rattle.std.proofs.Common.{rules, ◌≤◌, ◌∙◌}
 use Rattle.std.specs.Option.{option_copied}
-use Rattle.plex_script.specs.declared.transcripts.AgentEnd.TheVariants as ended
+use Rattle.plex_board.specs.PlexScript.declared.transcripts.AgentEnd.TheVariants as ended
 use Rattle.plex_board.specs.Cells.{CellShown}
 use Rattle.plex_board.specs.Desks.{pass_at}
 use Rattle.plex_board.specs.Boards.{cell_on}

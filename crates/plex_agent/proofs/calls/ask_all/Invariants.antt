@@ -1,7 +1,7 @@
 use Rattle.std.proofs.Common.{◌≡◌, Some}
 use Rattle.std.specs.Option.{option_copied}
-use Rattle.plex_script.specs.declared.transcripts.AgentEnd.TheVariants as ended
-use Rattle.plex_script.specs.Agent.{most_asks, IsReady}
+use Rattle.plex_board.specs.PlexScript.declared.transcripts.AgentEnd.TheVariants as ended
+use Rattle.plex_board.specs.PlexScript.Agent.{most_asks, IsReady}
 use Rattle.plex_board.specs.Cells.{CellShown}
 use Rattle.plex_board.specs.Boards.{IsDeskOf, cell_on}
 use Rattle.plex_board.specs.Turns.{AtWork, Asks}

@@ -1,6 +1,6 @@
 use Rattle.std.proofs.Common.{◌≡◌, ◌<◌, ◌≤◌, ℕ, [], length, get_or}
 use Rattle.std.specs.Prelude.{All}
-use Rattle.cf_types.specs.declared.limits.TheConstants.{STRUCTURES}
+use Rattle.plex_script.specs.CfTypes.declared.limits.TheConstants.{STRUCTURES}
 use Rattle.plex_board.specs.Passes.{passes_shown, type_of_passes, room_of}
 use Rattle.plex_board.specs.Desks.{DeskShown}
 use Rattle.plex_board.specs.Rests.{each_with}

@@ -1,6 +1,6 @@
 use Rattle.std.proofs.Common.{arith, ◌≡◌, ◌<◌, ℕ, map, length, sym, ap, ◌∙◌, subst, All, List}
 use Rattle.std.proofs.lemmas.List.FromFn.{length-map-range_with_len}
-use Rattle.cf_types.specs.declared.names.Name16.{Name16}
+use Rattle.plex_script.specs.CfTypes.declared.names.Name16.{Name16}
 use Rattle.std.specs.Prelude.{AllPairs, slice_index}
 use Rattle.lock_words.specs.Values.{AreCompatible}
 use Rattle.lock_words.specs.Hands.{HandSeen, new_hand, AreAll, HasValue, all_held, IsOthers}

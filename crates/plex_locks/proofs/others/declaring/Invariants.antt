@@ -1,5 +1,5 @@
 use Rattle.std.proofs.Common.{◌≡◌, ℕ, length}
-use Rattle.plex_spell.specs.Words.{lines_of}
+use Rattle.plex_script.specs.PlexSpell.Words.{lines_of}
 use Rattle.plex_script.specs.Scripts.{line_number}
 use Rattle.plex_locks.specs.Others.{declaring}
 use Rattle.plex_locks.proofs.others.declaring.Given as goal

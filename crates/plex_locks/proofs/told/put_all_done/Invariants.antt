@@ -1,6 +1,6 @@
 use Rattle.std.proofs.Common.{◌≡◌, ◌++◌, drop, map}
 use Rattle.std.specs.List.{flat_map}
-use Rattle.plex_spell.specs.Words.{line_text}
+use Rattle.plex_script.specs.PlexSpell.Words.{line_text}
 use Rattle.plex_locks.specs.Told.{done_line}
 use Rattle.plex_locks.proofs.told.put_all_done.Given as goal
 

@@ -1,6 +1,6 @@
 use Rattle.std.proofs.Common.{◌≡◌, ◌++◌, drop}
 use Rattle.std.specs.List.{flat_map}
-use Rattle.plex_spell.specs.Words.{line_text}
+use Rattle.plex_script.specs.PlexSpell.Words.{line_text}
 use Rattle.plex_locks.specs.Told.{word_lines}
 use Rattle.plex_locks.proofs.told.put_words.Given as goal
 

@@ -1,5 +1,5 @@
 use Rattle.std.proofs.Common.{◌≡◌, ◌++◌, Option, subst}
-use Rattle.cf_types.specs.declared.names.Name16.{Name16}
+use Rattle.plex_load.specs.CfTypes.declared.names.Name16.{Name16}
 use Rattle.run_laws.specs.Readings.{report_of}
 use Rattle.plex_run.specs.StatusLines.{full_line, memory_line}
 use Rattle.plex_run.specs.Outcome.{reading_of, full_of, run_text}

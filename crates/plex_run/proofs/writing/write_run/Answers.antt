@@ -1,7 +1,7 @@
 use Rattle.std.proofs.Common.{◌≡◌, ◌++◌, ◌<◌, ◌^◌, length, ℕ, List, map, ◌∙◌, subst}
 use Rattle.std.specs.List.{concat}
-use Rattle.plex_spell.specs.Words.{line_text}
-use Rattle.plex_report.specs.Report.{report_lines}
+use Rattle.plex_load.specs.PlexSpell.Words.{line_text}
+use Rattle.run_laws.specs.PlexReport.Report.{report_lines}
 use Rattle.run_laws.specs.Readings.{report_of}
 use Rattle.plex_run.specs.StatusLines.{full_line}
 use Rattle.plex_run.specs.Outcome.{reading_of}

@@ -1,7 +1,7 @@
 use Rattle.std.proofs.Common.{◌≡◌, ◌∙◌, sym, ap, Some, List}
 use Rattle.std.proofs.lemmas.Result.{err_from_is_err_and}
 use Rattle.cf_types.specs.declared.forms.StrForm.{StrForm}
-use Rattle.plex_spell.specs.Tokens.{structure_of}
+use Rattle.plex_plain.specs.PlexSpell.Tokens.{structure_of}
 use Rattle.plex_script.specs.declared.scripts.Line.{Line}
 use Rattle.plex_script.specs.declared.scripts.Script.{Script}
 use Rattle.plex_script.specs.Causes.{kind_of}

@@ -1,6 +1,6 @@
 use Rattle.std.proofs.Common.{◌≡◌, ◌++◌, drop, map}
 use Rattle.std.specs.List.{flat_map}
-use Rattle.plex_spell.specs.Words.{line_text}
+use Rattle.plex_plain.specs.PlexSpell.Words.{line_text}
 use Rattle.plex_plain.specs.PolicyLines.{facility_line}
 use Rattle.plex_script.proofs.printer.put_facilities.Given as goal
 

@@ -1,6 +1,6 @@
 use Rattle.std.proofs.Common.{◌≡◌, ◌++◌, drop, map}
 use Rattle.std.specs.List.{flat_map}
-use Rattle.plex_spell.specs.Words.{line_text}
+use Rattle.plex_plain.specs.PlexSpell.Words.{line_text}
 use Rattle.plex_script.specs.Printed.{body_line}
 use Rattle.plex_script.proofs.printer.put_lines.Given as goal
 

@@ -1,7 +1,7 @@
 -- The links of a command on the content are asked, and each that is down makes a mark.
 use Rattle.std.proofs.Common.{◌≡◌, [], sym, ap, ◌∙◌, subst, List}
-use Rattle.cf_link.specs.declared.links.Links.{Links}
-use Rattle.cf_link.specs.Links.{AreAsked}
+use Rattle.duplex_pair.specs.CfLink.declared.links.Links.{Links}
+use Rattle.duplex_pair.specs.CfLink.Links.{AreAsked}
 use Rattle.engine_api.specs.Instances.{Instances}
 use Rattle.engine_api.specs.LinkAsks.{answers_to, has, listed}
 use Rattle.engine_api.specs.Machine.{Machine}

@@ -5,8 +5,8 @@ use Rattle.std.specs.Prelude.{Option, Some, false, refl, min}
 use Rattle.cf_types.specs.declared.numbers.CfId.{CfId}
 use Rattle.cf_types.specs.declared.shell_commands.ShellCmd.{ShellCmd}
 use Rattle.cf_types.specs.declared.shell_commands.ShellCmd.TheVariants as cmd
-use Rattle.cf_link.specs.declared.links.Links.{Links}
-use Rattle.cf_link.specs.Links.{AreAsked}
+use Rattle.duplex_pair.specs.CfLink.declared.links.Links.{Links}
+use Rattle.duplex_pair.specs.CfLink.Links.{AreAsked}
 use Rattle.duplex_pair.specs.Pairs.{PairView, content_of, instances_of}
 use Rattle.engine_api.specs.declared.asks.Ask.{Ask}
 use Rattle.engine_api.specs.declared.asks.Ask.TheVariants as ask

@@ -2,7 +2,7 @@ use Rattle.std.proofs.Common.{List, ap, subst, arith, ◌∙◌}
 use Rattle.std.specs.List.Sorted.{IsPermutation}
 use Rattle.cf_types.specs.declared.names.Name16.{Name16}
 use Rattle.cf_types.specs.Name.{same_name, name_before}
-use Rattle.table_entries.proofs.SortLaws.{neighbours}
+use Rattle.cf_lists.proofs.SortLaws.{neighbours}
 use Rattle.cache_classes.specs.Castout.{names_in}
 use Rattle.cache_classes.specs.ClassBatch.{ClassBatch}
 use Rattle.cache_classes.proofs.NameOrder.{name_order}

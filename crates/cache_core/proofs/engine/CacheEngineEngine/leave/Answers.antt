@@ -1,6 +1,6 @@
 use Rattle.std.proofs.Common.{◌≤◌, ◌∙◌, length, sym, subst, arith}
-use Rattle.list_laws.proofs.FilterLaws.{length-filter-le}
-use Rattle.cache_regs.specs.Registrations.{is_of}
+use Rattle.cf_lists.proofs.FilterLaws.{length-filter-le}
+use Rattle.cache_model.specs.CacheRegs.Registrations.{is_of}
 use Rattle.cache_model.proofs.ContentLaws.{content-without}
 use Rattle.cache_core.specs.EngineView.{EngineView, content_of}
 use Rattle.cache_core.proofs.engine.CacheEngineEngine.leave.Goals as goal

@@ -1,7 +1,7 @@
 use Rattle.std.proofs.Common.{◌≡◌, ◌∙◌, ◌++◌, ◌∷◌, [], IsTrue, List, sym, subst, true}
 use Rattle.cf_types.specs.Forms.{is_cache}
 use Rattle.engine_api.proofs.FrontLaws.{content-placed}
-use Rattle.list_laws.specs.Pairwise.{pairwise}
+use Rattle.cf_lists.specs.Pairwise.{pairwise}
 use Rattle.cache_model.specs.declared.items.CacheItem.{CacheItem}
 use Rattle.cache_model.specs.Rows.{may_precede, names_apart}
 use Rattle.cache_model.specs.Contents.{IsContent, content_with}

@@ -1,5 +1,5 @@
 use Rattle.std.proofs.Common.{◌≤◌, ◌-◌, min, not, length, filter, sym, subst, arith}
-use Rattle.list_laws.proofs.FilterLaws.{list_all-filter}
+use Rattle.cf_lists.proofs.FilterLaws.{list_all-filter}
 use Rattle.cache_regs.specs.declared.registrations.Registration.{Registration}
 use Rattle.cache_regs.specs.Registrations.{is_of}
 use Rattle.cache_regs.specs.Registry.{Registry, is_callers, is_within}

@@ -1,5 +1,5 @@
 use Rattle.std.proofs.Common.{◌∙◌, ◌+◌, ap, Option}
-use Rattle.cache_dir.specs.RowMap.{row_at}
+use Rattle.cache_model.specs.CacheDir.RowMap.{row_at}
 use Rattle.cache_model.specs.declared.items.CacheItem.{CacheItem}
 use Rattle.cache_model.specs.Rows.{rows_without}
 use Rattle.cache_rows.specs.Stored.{elements_of_row}

@@ -1,5 +1,5 @@
 use Rattle.std.proofs.Common.{◌∙◌, ap, map}
-use Rattle.cache_dir.specs.RowMap.{row_at}
+use Rattle.cache_model.specs.CacheDir.RowMap.{row_at}
 use Rattle.cache_model.specs.Contents.{without_hold}
 use Rattle.cache_rows.specs.Listed.{Listed, IsIndexed, listed_of}
 use Rattle.cache_rows.proofs.IndexedLaws.{released, listed, listed_is}

@@ -1,5 +1,5 @@
 use Rattle.std.proofs.Common.{◌∙◌, ◌<◌, ap, length, subst, sym, arith}
-use Rattle.cache_dir.specs.RowMap.{row_at}
+use Rattle.cache_model.specs.CacheDir.RowMap.{row_at}
 use Rattle.cache_model.specs.Rows.{rows_replaced}
 use Rattle.cache_rows.specs.Listed.{Listed, IsIndexed, listed_of, relabeled}
 use Rattle.cache_rows.proofs.IndexedLaws.{relabeled_in, fewer_unchanged, listed, listed_is}

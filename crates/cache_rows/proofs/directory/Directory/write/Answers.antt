@@ -1,6 +1,6 @@
 use Rattle.std.proofs.Common.{◌∙◌, ◌+◌, ◌≤◌, ◌<◌, Option, Some, ap, length, subst, sym, arith}
 use Rattle.cf_types.specs.Stored.{elements_of}
-use Rattle.cache_dir.specs.RowMap.{row_at}
+use Rattle.cache_model.specs.CacheDir.RowMap.{row_at}
 use Rattle.cache_model.specs.declared.items.CacheItem.{CacheItem}
 use Rattle.cache_model.specs.Rows.{row_of, rows_replaced}
 use Rattle.cache_rows.specs.Stored.{item_with, elements_of_row}

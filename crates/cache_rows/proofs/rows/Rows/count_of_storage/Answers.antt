@@ -1,5 +1,5 @@
 use Rattle.std.proofs.Common.{◌<◌, ◌^◌, sym, subst, length, arith}
-use Rattle.list_laws.proofs.FilterLaws.{length-filter-le}
+use Rattle.cf_lists.proofs.FilterLaws.{length-filter-le}
 use Rattle.cache_model.specs.Rows.{has_storage}
 use Rattle.cache_rows.specs.RowBatch.{RowBatch}
 use Rattle.cache_rows.proofs.rows.Rows.count_of_storage.Goals as goal

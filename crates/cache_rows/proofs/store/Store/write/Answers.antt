@@ -1,6 +1,6 @@
 use Rattle.std.proofs.Common.{◌+◌, ◌≤◌, Some, Option, ◌∙◌, ap, sym, subst, arith}
 use Rattle.cf_types.specs.Stored.{elements_of}
-use Rattle.cache_dir.specs.RowMap.{row_at}
+use Rattle.cache_model.specs.CacheDir.RowMap.{row_at}
 use Rattle.cache_model.specs.declared.items.CacheItem.{CacheItem}
 use Rattle.cache_rows.specs.Stored.{item_at, item_with, elements_of_row}
 use Rattle.cache_rows.specs.StoreView.{StoreView}

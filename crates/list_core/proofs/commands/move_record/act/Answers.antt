@@ -1,6 +1,6 @@
 use Rattle.std.proofs.Common.{sym, ap, ◌∙◌, subst}
 use Rattle.cf_types.specs.declared.numbers.EntryId.{EntryId}
-use Rattle.list_store.specs.Lists.{Lists, record_of, lists_without}
+use Rattle.list_model.specs.ListStore.Lists.{Lists, record_of, lists_without}
 use Rattle.list_kept.specs.ContentView.{put_back}
 use Rattle.list_kept.specs.Orderly.{IsOrderly}
 use Rattle.list_kept.proofs.ToldLaws.{content_at}

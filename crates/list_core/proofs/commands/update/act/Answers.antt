@@ -1,7 +1,7 @@
 use Rattle.std.proofs.Common.{◌≡◌, ◌∙◌, ap, sym, subst}
 use Rattle.std.specs.Prelude.{IfSome}
-use Rattle.list_store.specs.Record.{Record}
-use Rattle.list_store.specs.Lists.{record_of, lists_replaced}
+use Rattle.list_model.specs.ListStore.Record.{Record}
+use Rattle.list_model.specs.ListStore.Lists.{record_of, lists_replaced}
 use Rattle.list_kept.specs.declared.bare.Bare.{Bare}
 use Rattle.list_kept.specs.Data.{renewed}
 use Rattle.list_kept.specs.Orderly.{IsOrderly}

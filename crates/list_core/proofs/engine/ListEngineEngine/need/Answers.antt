@@ -1,8 +1,8 @@
 use Rattle.std.proofs.Common.{◌≡◌, ℕ, not, List, sym, ap, ◌∙◌}
 use Rattle.cf_types.specs.declared.forms.Caps.{Caps}
-use Rattle.list_laws.proofs.FilterLaws.{filter_all, all_from_none}
-use Rattle.list_store.specs.Record.{Record}
-use Rattle.list_store.specs.Lists.{all_records, records_without, is_id, count_of}
+use Rattle.cf_lists.proofs.FilterLaws.{filter_all, all_from_none}
+use Rattle.list_model.specs.ListStore.Record.{Record}
+use Rattle.list_model.specs.ListStore.Lists.{all_records, records_without, is_id, count_of}
 use Rattle.list_model.specs.Records.{elements_in}
 use Rattle.list_model.specs.Commands.Write.{new_id}
 use Rattle.list_model.proofs.StoreLaws.{new-alone}

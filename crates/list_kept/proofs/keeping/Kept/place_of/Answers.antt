@@ -1,6 +1,6 @@
 use Rattle.std.proofs.Common.{◌≡◌, Some, [], List, refl, sym, ap, arith}
 use Rattle.std.specs.List.{prefix_len}
-use Rattle.list_laws.specs.Pairwise.{pairwise}
+use Rattle.cf_lists.specs.Pairwise.{pairwise}
 use Rattle.list_store.specs.Record.{Record}
 use Rattle.list_store.specs.Lists.{records_of}
 use Rattle.list_model.specs.Records.{may_precede}

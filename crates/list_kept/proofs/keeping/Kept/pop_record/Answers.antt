@@ -4,7 +4,7 @@ use Rattle.list_store.specs.Record.{Record}
 use Rattle.list_store.specs.StoreView.{StoreView}
 use Rattle.list_store.specs.Lists.{Lists, all_records, records_of, lists_without, count_of}
 use Rattle.std.proofs.Common.{Option, ℕ}
-use Rattle.record_lists.specs.Lists.{lists_popped}
+use Rattle.cf_lists.specs.Lists.{lists_popped}
 use Rattle.list_store.specs.Records.{record_in}
 use Rattle.list_kept.specs.Data.{AreUsed}
 use Rattle.list_kept.specs.Named.{AreNamed}

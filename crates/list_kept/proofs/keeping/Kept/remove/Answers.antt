@@ -7,7 +7,7 @@ use Rattle.list_store.specs.Records.{record_in}
 use Rattle.list_kept.specs.Data.{AreUsed}
 use Rattle.list_kept.specs.Named.{AreNamed}
 use Rattle.list_kept.proofs.NamedLaws.{named_less, taken}
-use Rattle.record_lists.proofs.AllLaws.{any_all}
+use Rattle.cf_lists.proofs.AllLaws.{any_all}
 use Rattle.list_store.proofs.SpotLaws.{unplaced, spot_with}
 use Rattle.list_watch.specs.declared.monitors.Monitor.{Monitor}
 use Rattle.list_watch.specs.declared.monitors.Watched.{Watched}

@@ -2,7 +2,7 @@ use Rattle.std.proofs.Common.{◌≡◌, ℕ, ◌<◌, ◌==◌, true, List, len
 use Rattle.std.specs.List.{list_any, list_all}
 use Rattle.std.proofs.lemmas.Bool.{false≢true, eqb-true}
 use Rattle.list_store.specs.Lists.{Lists, all_records, is_id, record_of, lists_without}
-use Rattle.record_lists.proofs.AllLaws.{any_all}
+use Rattle.cf_lists.proofs.AllLaws.{any_all}
 use Rattle.list_store.proofs.SpotLaws.{unplaced, spot_with}
 use Rattle.list_watch.specs.declared.monitors.Monitor.{Monitor}
 use Rattle.list_watch.specs.declared.monitors.Watched.{Watched}

@@ -1,7 +1,7 @@
 use Rattle.std.proofs.Common.{rules, Bool}
 use Rattle.std.proofs.lemmas.List.Sorted.{IsPartitionPoint-from_clause}
 use Rattle.cf_types.specs.declared.names.Key16.{Key16}
-use Rattle.list_laws.proofs.PlaceLaws.{partitioned, partition_is}
+use Rattle.cf_lists.proofs.PlaceLaws.{partitioned, partition_is}
 use Rattle.list_keys.specs.KeyOrder.{keys_up_to, stands_before}
 use Rattle.list_keys.proofs.KeyLaws.{front_of}
 use Rattle.list_keys.proofs.keys.Keys.place.Goals as goal

@@ -1,7 +1,7 @@
 use Rattle.std.proofs.Common.{◌≡◌, ◌∙◌, ◌<◌, ap, sym, subst, arith, refl, false, List, length, map}
 use Rattle.std.specs.List.{list_any}
 use Rattle.std.proofs.lemmas.List.{length-map}
-use Rattle.record_lists.proofs.MapLaws.{with-map, any-map}
+use Rattle.cf_lists.proofs.RecordMapLaws.{with-map, any-map}
 use Rattle.list_store.specs.declared.records.Rec.{Rec}
 use Rattle.list_store.specs.StoreView.{StoreView}
 use Rattle.list_store.specs.Tied.{rec_id}

@@ -1,6 +1,6 @@
 use Rattle.std.proofs.Common.{◌∙◌, ap, sym, refl, option_map}
-use Rattle.record_lists.specs.Lists.{records_of}
-use Rattle.record_lists.proofs.MapLaws.{records_of-map, get-map, apart-map}
+use Rattle.cf_lists.specs.Lists.{records_of}
+use Rattle.cf_lists.proofs.RecordMapLaws.{records_of-map, get-map, apart-map}
 use Rattle.list_store.specs.Record.{Record}
 use Rattle.list_store.specs.Lists.{record_id}
 use Rattle.list_store.specs.Records.{record_in}

@@ -1,5 +1,5 @@
 use Rattle.std.proofs.Common.{◌∙◌, ap, sym, refl, option_map}
-use Rattle.record_lists.proofs.MapLaws.{record-map, apart-map}
+use Rattle.cf_lists.proofs.RecordMapLaws.{record-map, apart-map}
 use Rattle.list_store.specs.Tied.{rec_id}
 use Rattle.list_store.specs.Lists.{record_id}
 use Rattle.list_store.specs.Records.{record_in}

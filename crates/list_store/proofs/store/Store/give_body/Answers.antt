@@ -1,6 +1,6 @@
 use Rattle.std.proofs.Common.{sym, subst}
 use Rattle.cf_pool.specs.Pools.{IsChain}
-use Rattle.record_lists.specs.Lists.{all_records}
+use Rattle.cf_lists.specs.Lists.{all_records}
 use Rattle.list_store.specs.Records.{loose_in}
 use Rattle.list_store.specs.StoreView.{StoreView}
 use Rattle.list_store.proofs.StoreLaws.{loose_chain, given_held, given_view, given_whole}

@@ -1,6 +1,6 @@
 use Rattle.std.proofs.Common.{◌≡◌, []}
-use Rattle.record_lists.specs.Lists.{IsLastFull, all_records}
-use Rattle.record_lists.proofs.MapLaws.{last-map, none-map}
+use Rattle.cf_lists.specs.Lists.{IsLastFull, all_records}
+use Rattle.cf_lists.proofs.RecordMapLaws.{last-map, none-map}
 use Rattle.list_store.specs.Records.{record_in}
 use Rattle.list_store.proofs.TiedLaws.{weaker_some, weaker_none}
 use Rattle.list_store.proofs.StoreLaws.{shown}

@@ -1,7 +1,7 @@
 use Rattle.std.proofs.Common.{◌≡◌, ◌∙◌, ◌-◌, [], Some, refl, ap, List, take, length, option_map}
-use Rattle.record_lists.specs.Lists.{IsLastFull}
-use Rattle.record_lists.specs.Lists as generic
-use Rattle.record_lists.proofs.MapLaws.{last-map, none-map, popped-map, record-map, without-map, apart-map}
+use Rattle.cf_lists.specs.Lists.{IsLastFull}
+use Rattle.cf_lists.specs.Lists as generic
+use Rattle.cf_lists.proofs.RecordMapLaws.{last-map, none-map, popped-map, record-map, without-map, apart-map}
 use Rattle.list_store.specs.declared.records.Rec.{Rec}
 use Rattle.list_store.specs.Tied.{rec_id}
 use Rattle.list_store.specs.Lists.{record_id, all_records, records_of, with_records, record_of, lists_without}

@@ -1,5 +1,5 @@
 use Rattle.std.proofs.Common.{List, sym, subst}
-use Rattle.record_lists.specs.Lists.{all_records}
+use Rattle.cf_lists.specs.Lists.{all_records}
 use Rattle.list_store.specs.declared.records.Rec.{Rec}
 use Rattle.list_store.specs.Records.{AreHeld}
 use Rattle.list_store.proofs.store.Store.room.Goals as goal

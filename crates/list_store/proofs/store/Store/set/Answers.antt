@@ -1,7 +1,7 @@
 use Rattle.std.proofs.Common.{◌≡◌, ◌∙◌, ap, sym, subst, refl, ℕ, true, List, Some, map, option_map}
 use Rattle.std.specs.List.{list_any}
-use Rattle.record_lists.specs.Lists as generic
-use Rattle.record_lists.proofs.MapLaws.{replaced-map, record-map, any-map, apart-map}
+use Rattle.cf_lists.specs.Lists as generic
+use Rattle.cf_lists.proofs.RecordMapLaws.{replaced-map, record-map, any-map, apart-map}
 use Rattle.list_store.specs.declared.records.Rec.{Rec}
 use Rattle.list_store.specs.StoreView.{StoreView}
 use Rattle.list_store.specs.Tied.{rec_id}

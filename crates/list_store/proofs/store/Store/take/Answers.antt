@@ -1,5 +1,5 @@
 use Rattle.std.proofs.Common.{◌∙◌, ap, sym, refl, List, map, option_map}
-use Rattle.record_lists.proofs.MapLaws.{without-map, record-map, apart-map}
+use Rattle.cf_lists.proofs.RecordMapLaws.{without-map, record-map, apart-map}
 use Rattle.list_store.specs.declared.records.Rec.{Rec}
 use Rattle.list_store.specs.Tied.{rec_id}
 use Rattle.list_store.specs.Lists.{record_id}

@@ -1,5 +1,5 @@
 use Rattle.std.proofs.Common.{◌∙◌, ap, sym, refl, option_map}
-use Rattle.record_lists.proofs.MapLaws.{spot-map, apart-map}
+use Rattle.cf_lists.proofs.RecordMapLaws.{spot-map, apart-map}
 use Rattle.list_store.specs.Tied.{rec_id}
 use Rattle.list_store.specs.Spots.{as_spot}
 use Rattle.list_store.specs.Lists.{record_id}

@@ -1,5 +1,5 @@
 use Rattle.std.proofs.Common.{◌≤◌, List, length, sym, subst, arith}
-use Rattle.list_laws.proofs.FilterLaws.{length-filter-le}
+use Rattle.cf_lists.proofs.FilterLaws.{length-filter-le}
 use Rattle.list_watch.specs.declared.monitors.Watched.{Watched}
 use Rattle.list_watch.specs.Monitors.{AreMonitors}
 use Rattle.list_watch.specs.Rows.{monitors_of}

@@ -1,6 +1,6 @@
 use Rattle.std.proofs.Common.{List, length, ap, ◌∙◌, arith}
 use Rattle.cf_types.specs.declared.events.Letter.{Letter}
-use Rattle.list_laws.proofs.FilterLaws.{length-filter-le}
+use Rattle.cf_lists.proofs.FilterLaws.{length-filter-le}
 use Rattle.lock_table.specs.declared.holdings.Held.{Held}
 use Rattle.lock_table.specs.Holdings.{is_on}
 use Rattle.lock_interests.proofs.OwnerLaws.{told_left}

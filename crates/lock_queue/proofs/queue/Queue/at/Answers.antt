@@ -1,5 +1,5 @@
 use Rattle.std.proofs.Common.{◌≡◌, length, ap, sym, ◌∙◌, arith}
-use Rattle.table_entries.proofs.RankLaws.{length_seen}
+use Rattle.cf_lists.proofs.RankLaws.{length_seen}
 use Rattle.lock_queue.specs.QueueView.{QueueView}
 use Rattle.lock_queue.specs.Tables.{part_of, waiters_in}
 use Rattle.lock_queue.proofs.queue.Queue.at.Goals as goal

@@ -1,5 +1,5 @@
 use Rattle.std.proofs.Common.{◌≡◌, List, length, ap, sym, ◌∙◌, arith}
-use Rattle.list_laws.proofs.FilterLaws.{length-filter-le}
+use Rattle.cf_lists.proofs.FilterLaws.{length-filter-le}
 use Rattle.lock_queue.specs.declared.waiters.Waiter.{Waiter}
 use Rattle.lock_queue.specs.Waiters.{is_on, waiters_of}
 use Rattle.lock_queue.specs.QueueView.{QueueView}

@@ -1,5 +1,5 @@
 use Rattle.std.proofs.Common.{◌∙◌, ap, arith, refl}
-use Rattle.table_entries.proofs.TableLaws.{seen_none, table_none, of_seen}
+use Rattle.cf_lists.proofs.EntryTableLaws.{seen_none, table_none, of_seen}
 use Rattle.lock_queue.specs.Tables.{part_of, waiters_in}
 use Rattle.lock_queue.proofs.queue.Queue.new.Goals as goal
 

@@ -2,8 +2,8 @@ use Rattle.std.proofs.Common.{List, sym, ap, subst, arith, ◌∙◌}
 use Rattle.std.specs.List.Sorted.{IsPermutation}
 use Rattle.cf_types.specs.declared.resources.Resource.{Resource}
 use Rattle.cf_types.specs.Resources.{same_resource, resource_before}
-use Rattle.table_entries.proofs.KeyLaws.{resource_order}
-use Rattle.table_entries.proofs.SortLaws.{neighbours}
+use Rattle.cf_lists.proofs.EntryKeyLaws.{resource_order}
+use Rattle.cf_lists.proofs.SortLaws.{neighbours}
 use Rattle.lock_record.specs.declared.recorded.Record.{Record}
 use Rattle.lock_record.specs.Recorded.{resources_by}
 use Rattle.lock_record.proofs.WalkLaws.{sorted_resources}

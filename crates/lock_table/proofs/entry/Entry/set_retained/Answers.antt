@@ -1,5 +1,5 @@
 use Rattle.std.proofs.Common.{◌≡◌, map, false, refl, sym, ◌∙◌}
-use Rattle.list_laws.proofs.KeyLaws.{none_placed}
+use Rattle.cf_lists.proofs.KeyLaws.{none_placed}
 use Rattle.lock_table.specs.declared.holdings.Held.{Held}
 use Rattle.lock_table.specs.Holdings.{is_interest, in_retention}
 use Rattle.lock_table.proofs.EntryLaws.{masked_same, retention_put, retention_none}

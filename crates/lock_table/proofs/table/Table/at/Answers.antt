@@ -1,5 +1,5 @@
 use Rattle.std.proofs.Common.{◌≡◌, length, ap, sym, ◌∙◌, arith}
-use Rattle.table_entries.proofs.RankLaws.{length_seen}
+use Rattle.cf_lists.proofs.RankLaws.{length_seen}
 use Rattle.lock_table.specs.TableView.{TableView}
 use Rattle.lock_table.specs.Tables.{part_of, owners_in}
 use Rattle.lock_table.proofs.table.Table.at.Goals as goal

@@ -1,5 +1,5 @@
 use Rattle.std.proofs.Common.{◌∙◌}
-use Rattle.table_entries.proofs.RankLaws.{last_seen}
+use Rattle.cf_lists.proofs.RankLaws.{last_seen}
 use Rattle.lock_table.specs.Tables.{part_of}
 use Rattle.lock_table.proofs.table.Table.last.Goals as goal
 

@@ -1,5 +1,5 @@
 use Rattle.lock_table.specs.Tables.{part_of}
-use Rattle.table_entries.proofs.TableLaws.{in_order}
+use Rattle.cf_lists.proofs.EntryTableLaws.{in_order}
 use Rattle.lock_table.proofs.table.Table.len.Goals as goal
 
 pub returns-clause-owners : goal.returns-clause-owners

@@ -1,5 +1,5 @@
 use Rattle.std.proofs.Common.{◌∙◌, ap, arith, refl}
-use Rattle.table_entries.proofs.TableLaws.{seen_none, table_none, of_seen}
+use Rattle.cf_lists.proofs.EntryTableLaws.{seen_none, table_none, of_seen}
 use Rattle.lock_table.specs.Tables.{part_of, owners_in}
 use Rattle.lock_table.proofs.table.Table.new.Goals as goal
 

@@ -1,6 +1,6 @@
 use Rattle.std.proofs.Common.{◌∙◌, map}
-use Rattle.table_entries.specs.Tables.{resource_by}
-use Rattle.table_entries.proofs.TableLaws.{found}
+use Rattle.cf_lists.specs.Tables.{resource_by}
+use Rattle.cf_lists.proofs.EntryTableLaws.{found}
 use Rattle.lock_table.specs.Tables.{part_of, owners_in}
 use Rattle.lock_table.proofs.table.Table.owners.Goals as goal
 

@@ -1,5 +1,5 @@
 use Rattle.std.proofs.Common.{refl}
-use Rattle.cf_types.specs.Connections.{no_connections}
+use Rattle.engine_api.specs.CfTypes.Connections.{no_connections}
 use Rattle.part_tests.proofs.tests.shells.departure_finishes_once_it_is_answered.Goals as goal
 
 pub connect-requires-clause-idle : goal.connect-requires-clause-idle

@@ -1,6 +1,6 @@
 use Rattle.std.proofs.Common.{ap, refl}
 use Rattle.plex_script.specs.declared.scripts.AnyAsk.TheVariants as ask
-use Rattle.run_model.specs.Types.{OfCache, OfList, OfLock}
+use Rattle.plex_board.specs.Types.{OfCache, OfList, OfLock}
 use Rattle.plex_board.specs.declared.any_pass.AnyPass.TheVariants as pass
 use Rattle.plex_board.specs.declared.any_reply.AnyReply.TheVariants as reply
 use Rattle.plex_board.specs.Passes.{pass_shown}

@@ -1,12 +1,12 @@
 use Rattle.std.proofs.Common.{◌≤◌, ap, length}
-use Rattle.cache_model.specs.Meaning.{cache_meaning}
-use Rattle.list_model.specs.Meaning.{list_meaning}
-use Rattle.lock_model.specs.Meaning.{lock_meaning}
-use Rattle.engine_api.specs.History.{calls, numbers, IsPoint}
+use Rattle.cache_core.specs.CacheModel.Meaning.{cache_meaning}
+use Rattle.list_core.specs.ListModel.Meaning.{list_meaning}
+use Rattle.lock_core.specs.LockModel.Meaning.{lock_meaning}
+use Rattle.plex_script.specs.EngineApi.History.{calls, numbers, IsPoint}
 use Rattle.plex_script.specs.declared.scripts.AnyAsk.TheVariants as ask
 use Rattle.plex_script.specs.declared.asks.AnyHistory.TheVariants as history
-use Rattle.run_model.specs.Kinds.{any_answers}
-use Rattle.run_model.specs.Types.{OfCache, OfList, OfLock}
+use Rattle.plex_board.specs.Kinds.{any_answers}
+use Rattle.plex_board.specs.Types.{OfCache, OfList, OfLock}
 use Rattle.plex_board.specs.declared.any_reply.AnyReply.TheVariants as reply
 use Rattle.plex_board.specs.Passes.{passes_shown}
 use Rattle.plex_board.specs.Cells.{cell_shown}

@@ -1,6 +1,6 @@
 use Rattle.std.proofs.Common.{ap}
 use Rattle.plex_script.specs.declared.scripts.AnyAsk.TheVariants as ask
-use Rattle.run_model.specs.Types.{OfCache, OfList, OfLock}
+use Rattle.plex_board.specs.Types.{OfCache, OfList, OfLock}
 use Rattle.plex_board.specs.declared.any_reply.AnyReply.TheVariants as reply
 use Rattle.plex_board.specs.Passes.{pass_shown}
 use Rattle.plex_board.proofs.ShownLaws.{told_reply, told_own}

@@ -1,7 +1,7 @@
 use Rattle.std.proofs.Common.{◌≡◌, ◌+◌, ◌*◌, ◌++◌, length, map, take}
 use Rattle.std.specs.List.{flat_map}
 use Rattle.std.specs.Vec.Iter.{into_iter_items, into_iter_len}
-use Rattle.cf_types.specs.declared.limits.TheConstants.{LINKS}
+use Rattle.plex_script.specs.CfTypes.declared.limits.TheConstants.{LINKS}
 use Rattle.plex_board.specs.Boards.{four_of}
 use Rattle.plex_board.specs.Openings.{IsOpening}
 use Rattle.plex_board.proofs.board.Board.start.Given as goal

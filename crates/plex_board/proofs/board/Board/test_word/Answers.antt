@@ -1,5 +1,5 @@
 use Rattle.std.proofs.Common.{◌<◌, sym, subst, ap}
-use Rattle.vec_words.specs.Logged.{words_of}
+use Rattle.struct_cell.specs.VecWords.Logged.{words_of}
 use Rattle.plex_board.specs.Desks.{fixed_of}
 use Rattle.plex_board.proofs.PlaceLaws.{place-is, cell-is, cell-some, changed-of_board}
 use Rattle.plex_board.proofs.board.Board.test_word.Goals as goal

@@ -1,2 +1,0 @@
-pub mod LastLaws
-pub mod SeatLaws

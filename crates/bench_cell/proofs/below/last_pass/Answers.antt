@@ -1,7 +1,0 @@
-use Rattle.bench_cell.proofs.LastLaws.{last-passes}
-use Rattle.bench_cell.proofs.below.last_pass.Goals as goal
-
-pub returns : goal.returns
-returns c =
-    last-passes c.args.vectors.now c.args.passes.items c.pop.new.self.items c.pop.result c.requires
-    c.pop.ensures.items

@@ -1,5 +1,0 @@
-use Rattle.bench_cell.specs.Seats.{IsSeated}
-use Rattle.bench_cell.proofs.boards.fill.Given as goal
-
-abbrev pub invariant-loop-k : goal.invariant-loop-k
-invariant-loop-k g l = IsSeated l.board l.desk

@@ -1,5 +1,0 @@
-use Rattle.bench_cell.specs.Seats.{IsSeated}
-use Rattle.bench_cell.proofs.boards.test_bits.Given as goal
-
-abbrev pub invariant-loop-k : goal.invariant-loop-k
-invariant-loop-k l = IsSeated l.board l.desk

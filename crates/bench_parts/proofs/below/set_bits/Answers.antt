@@ -1,0 +1,5 @@
+use Rattle.plex_board.specs.VecWords.Logged.{word_number}
+use Rattle.bench_parts.proofs.below.set_bits.Goals as goal
+
+pub store_word-requires-clause-once : goal.store_word-requires-clause-once
+store_word-requires-clause-once c = c.begin.ensures.fresh (word_number c.args.vectors.now.len 1 0)

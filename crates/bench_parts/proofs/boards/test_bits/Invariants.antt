@@ -1,0 +1,5 @@
+use Rattle.bench_parts.specs.Seats.{IsSeated}
+use Rattle.bench_parts.proofs.boards.test_bits.Given as goal
+
+abbrev pub invariant-loop-k : goal.invariant-loop-k
+invariant-loop-k l = IsSeated l.board l.desk

@@ -1,0 +1,3 @@
+pub mod Seats
+pub mod CacheForms
+pub mod Rounds

@@ -1,5 +1,0 @@
-use Rattle.std.proofs.Common.{◌≡◌, ◌<◌}
-use Rattle.bench_sync.proofs.words.count_set.Given as goal
-
-abbrev pub invariant-loop-k : goal.invariant-loop-k
-invariant-loop-k l = (l.pass.table ≡ l.vectors) × (0 < l.pass.owner)

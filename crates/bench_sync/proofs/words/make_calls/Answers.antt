@@ -1,5 +1,0 @@
-use Rattle.vec_words.specs.Logged.{word_number}
-use Rattle.bench_sync.proofs.words.make_calls.Goals as goal
-
-pub store_word-requires-clause-once : goal.store_word-requires-clause-once
-store_word-requires-clause-once c = c.begin.ensures.fresh (word_number c.args.vectors.now.len 1 0)

@@ -1,6 +1,0 @@
-use Rattle.bench_words.specs.Rounds.{IsFree}
-use Rattle.bench_words.proofs.rounds.run.Given as goal
-
--- the hand holds nothing between rounds
-abbrev pub invariant-loop : goal.invariant-loop
-invariant-loop l = IsFree l.locks l.hand

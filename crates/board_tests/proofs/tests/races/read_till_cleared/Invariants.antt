@@ -1,5 +1,0 @@
-use Rattle.board_tests.specs.Seats.{IsSeat}
-use Rattle.board_tests.proofs.tests.races.read_till_cleared.Given as goal
-
-abbrev pub invariant-loop : goal.invariant-loop
-invariant-loop g l = IsSeat l.board l.desk

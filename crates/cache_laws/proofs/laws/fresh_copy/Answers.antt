@@ -1,8 +1,0 @@
-use Rattle.cache_laws.proofs.FreshLaws.{fresh-copy, copy-as-read}
-use Rattle.cache_laws.proofs.laws.fresh_copy.Goals as goal
-
-pub returns-clause-fresh : goal.returns-clause-fresh
-returns-clause-fresh c = fresh-copy c.args.form.now c.args.history.now c.requires
-
-pub returns-clause-as_read : goal.returns-clause-as_read
-returns-clause-as_read c = copy-as-read c.args.form.now c.args.history.now c.requires

@@ -1,0 +1,141 @@
+-- What is kept in table entries is seen in order, and a change of one entry is a change of what is seen.
+use Rattle.std.proofs.Common.{◌≡◌, ◌≢◌, ℕ, zero, suc, ◌<◌, ◌==◌, Bool, true, false, not, cond, List, [], ◌∷◌, ◌++◌, filter, length, get_or, set, refl, sym, ap, ◌∙◌, subst, arith}
+use Rattle.std.specs.List.{list_all}
+use Rattle.std.proofs.lemmas.Bool.{eqb-true, eq-eqb, not-true, false≢true}
+use Rattle.std.proofs.lemmas.List.{append-nil, get_or-set_same, get_or-set_other}
+use Rattle.std.proofs.lemmas.List.Elements.{filter-append}
+use Rattle.cf_lists.specs.Insertions.{insertion}
+use Rattle.cf_lists.specs.Pairwise.{pairwise}
+use Rattle.cf_lists.proofs.FilterLaws.{filter_none, none_from_all, list_all_weaker, list_all_always}
+use Rattle.cf_lists.proofs.PairwiseLaws.{FindsPlace, pairwise-insertion}
+use Rattle.cf_lists.proofs.InsertionLaws.{filter-insertion_out}
+use Rattle.cf_lists.specs.Bins.{is_keyed, in_turn, arranged, joined, AreAtHome, IsKeyOrder}
+use Rattle.cf_lists.proofs.EntryPlaceLaws.{filter-insertion_ahead}
+use Rattle.cf_lists.proofs.TieLaws.{ordered_filters}
+
+-- ---- one entry of all
+
+joined_out : {X : Type 0} (p : X → Bool) (bins : List (List X))
+    → ((j : ℕ) → list_all (λ x. not (p x)) (get_or bins j []) ≡ true) → filter p (joined bins) ≡ []
+unfolding joined
+joined_out p [] h = refl
+joined_out p (bin ∷ bins) h =
+    filter-append p bin (joined bins)
+    ∙ rw (filter_none p bin (none_from_all p bin (h 0)), joined_out p bins (λ j. h (suc j))) refl
+
+-- what passes lies in one entry
+joined_home : {X : Type 0} (p : X → Bool) (at : ℕ → X → Bool) (i : ℕ) (bins : List (List X))
+    → ((j : ℕ) → list_all (at j) (get_or bins j []) ≡ true)
+    → ((j : ℕ) (x : X) → j ≢ i → at j x ≡ true → p x ≡ false)
+    → filter p (joined bins) ≡ filter p (get_or bins i [])
+unfolding joined
+joined_home p at i [] h out = refl
+joined_home p at zero (bin ∷ bins) h out =
+    filter-append p bin (joined bins)
+    ∙ ap (λ l. filter p bin ++ l) (joined_out p bins
+    (λ j. list_all_weaker (at (suc j)) (λ x. not (p x)) (λ x e. ap not (out (suc j) x (λ z. cc) e)) (get_or bins j [])
+    (h (suc j))))
+    ∙ append-nil (filter p bin)
+joined_home p at (suc i) (bin ∷ bins) h out =
+    filter-append p bin (joined bins)
+    ∙ ap (λ l. l ++ filter p (joined bins)) (filter_none p bin (none_from_all p bin
+    (list_all_weaker (at 0) (λ x. not (p x)) (λ x e. ap not (out 0 x (λ z. cc) e)) bin (h 0))))
+    ∙ joined_home p (λ j. at (suc j)) i bins (λ j. h (suc j)) (λ j x n. out (suc j) x (λ z. n (omega (arith, z))))
+
+module _ {X K : Type 0} (key : X → K) (same before : K → K → Bool) (slot : K → ℕ) (is : IsKeyOrder same before) where
+  -- ---- the order
+
+  finds_place : (x : X) → FindsPlace (in_turn key before) (λ y. before (key y) (key x)) (λ y. true) x
+  finds_place x =
+      record {
+        front = λ y h. ap not (is.asym (key y) (key x) h);
+        stop = λ y h e. ap not e;
+        follows = λ y z h e. ap not (is.follows (key x) (key y) (key z) (not-true (before (key y) (key x)) h)
+            (not-true (before (key z) (key y)) e));
+      }
+
+  pub arranged_in_turn : (xs : List X) → pairwise (in_turn key before) (arranged key before xs) ≡ true
+  unfolding arranged
+  arranged_in_turn [] = refl
+  arranged_in_turn (x ∷ xs) =
+      pairwise-insertion (in_turn key before) (λ y. before (key y) (key x)) (λ y. true) x (arranged key before xs)
+      (finds_place x) (list_all_always (λ y. true) (λ y. refl) (arranged key before xs)) (arranged_in_turn xs)
+
+  -- of one key none stands before another
+  alike : (k : K) (x y : X) → same (key x) k ≡ true → same (key y) k ≡ true → before (key y) (key x) ≡ false
+  alike k x y e f =
+      let here : key y ≡ key x = is.equal (key y) k f ∙ sym (is.equal (key x) k e) in
+      subst (λ z. before z (key x) ≡ false) (sym here) (is.once (key x))
+
+  keyed_step : (k : K) (b : Bool) (x : X) (xs ys : List X) → same (key x) k ≡ b
+      → filter (is_keyed key same k) ys ≡ filter (is_keyed key same k) xs
+      → filter (is_keyed key same k) (insertion (λ y. before (key y) (key x)) x ys)
+      ≡ cond b (x ∷ filter (is_keyed key same k) xs) (filter (is_keyed key same k) xs)
+  keyed_step k true x xs ys e ih =
+      filter-insertion_ahead (is_keyed key same k) (λ y. before (key y) (key x)) x ys e (λ y f. alike k x y e f)
+      ∙ ap (λ l. x ∷ l) ih
+  keyed_step k false x xs ys e ih =
+      filter-insertion_out (is_keyed key same k) (λ y. before (key y) (key x)) x ys e ∙ ih
+
+  pub keyed-arranged : (k : K) (xs : List X)
+      → filter (is_keyed key same k) (arranged key before xs) ≡ filter (is_keyed key same k) xs
+  unfolding arranged
+  keyed-arranged k [] = refl
+  keyed-arranged k (x ∷ xs) =
+      keyed_step k (same (key x) k) x xs (arranged key before xs) refl (keyed-arranged k xs)
+
+  -- ---- what is seen of a key lies in its entry
+
+  elsewhere : (k : K) (j : ℕ) (x : X) (b : Bool) → j ≢ slot k → (slot (key x) == j) ≡ true → same (key x) k ≡ b
+      → b ≡ false
+  elsewhere k j x true n h e =
+      absurd (n (sym (eqb-true (slot (key x)) j h) ∙ ap slot (is.equal (key x) k e)))
+  elsewhere k j x false n h e = refl
+
+  pub keyed_home : (k : K) (bins : List (List X)) → AreAtHome key slot bins
+      → filter (is_keyed key same k) (arranged key before (joined bins))
+      ≡ filter (is_keyed key same k) (get_or bins (slot k) [])
+  keyed_home k bins h =
+      keyed-arranged k (joined bins)
+      ∙ joined_home (is_keyed key same k) (λ j x. slot (key x) == j) (slot k) bins h
+      (λ j x n e. elsewhere k j x (same (key x) k) n e refl)
+
+  -- ---- one entry changes
+
+  pub home_kept : (i : ℕ) (bins : List (List X)) (bin : List X) → AreAtHome key slot bins → i < length bins
+      → list_all (λ x. slot (key x) == i) bin ≡ true → AreAtHome key slot (set bins i bin)
+  home_kept i bins bin h within there j = go (j == i) refl
+    where
+      go : (b : Bool) → (j == i) ≡ b → list_all (λ x. slot (key x) == j) (get_or (set bins i bin) j []) ≡ true
+      go true e =
+          let at : j ≡ i = eqb-true j i e in
+          rw at (rw (get_or-set_same bins i bin [] within) there)
+      go false e =
+          rw (get_or-set_other bins i j bin [] (λ z. absurd (false≢true (sym e ∙ eq-eqb j i z)))) (h j)
+
+  -- it is enough that the entry agrees of each of its keys, and that nothing changes of others
+  pub changed : (i : ℕ) (bins : List (List X)) (bin ys : List X) → AreAtHome key slot bins → i < length bins
+      → list_all (λ x. slot (key x) == i) bin ≡ true
+      → ((k : K) → slot k ≡ i → filter (is_keyed key same k) bin ≡ filter (is_keyed key same k) ys)
+      → ((k : K) → slot k ≢ i → filter (is_keyed key same k) (arranged key before (joined bins))
+      ≡ filter (is_keyed key same k) ys)
+      → pairwise (in_turn key before) ys ≡ true
+      → arranged key before (joined (set bins i bin)) ≡ ys
+  changed i bins bin ys h within there here others turn =
+      ordered_filters key same (λ x y. before (key x) (key y)) is.itself (λ x y. is.ties (key x) (key y))
+      (arranged key before (joined (set bins i bin))) ys (arranged_in_turn (joined (set bins i bin))) turn
+      (λ k. keyed_home k (set bins i bin) (home_kept i bins bin h within there) ∙ go k (slot k == i) refl)
+    where
+      go : (k : K) (b : Bool) → (slot k == i) ≡ b
+          → filter (is_keyed key same k) (get_or (set bins i bin) (slot k) []) ≡ filter (is_keyed key same k) ys
+      go k true e =
+          let at : slot k ≡ i = eqb-true (slot k) i e in
+          rw at (rw (get_or-set_same bins i bin [] within) (here k at))
+      go k false e =
+          let off : slot k ≢ i = λ z. absurd (false≢true (sym e ∙ eq-eqb (slot k) i z)) in
+          rw (get_or-set_other bins i (slot k) bin [] off) (sym (keyed_home k bins h) ∙ others k off)
+
+  -- what is seen of a key of this entry
+  pub seen : (k : K) (i : ℕ) (bins : List (List X)) → AreAtHome key slot bins → slot k ≡ i
+      → filter (is_keyed key same k) (get_or bins i []) ≡ filter (is_keyed key same k) (arranged key before (joined bins))
+  seen k i bins h at = rw (← at) (sym (keyed_home k bins h))

@@ -1,0 +1,57 @@
+-- Resources in order.
+use Rattle.std.proofs.Common.{◌≡◌, Bool, true, false, not, refl, sym, ap, ◌∙◌}
+use Rattle.std.specs.declared.cmp.Ordering.{Ordering}
+use Rattle.std.specs.declared.cmp.Ordering.TheVariants.{Less, Equal, Greater}
+use Rattle.std.specs.Ordering.{is_lt, is_eq, ordering_reverse}
+use Rattle.std.proofs.lemmas.Bool.{not-true, not_from_false, false≢true}
+use Rattle.cf_types.specs.declared.resources.Resource.{Resource}
+use Rattle.cf_types.specs.Resources.{same_resource, resource_cmp, resource_before, resource_up_to}
+use Rattle.cf_types.proofs.ResourceLaws.{same_resource-eq, same_resource-refl, resource_cmp_total, resource_up_to-trans, resource_up_to-either, same_resource-is}
+use Rattle.cf_lists.specs.Bins.{IsKeyOrder}
+
+equal_from : (o : Ordering) → is_lt o ≡ false → is_lt (ordering_reverse o) ≡ false → is_eq o ≡ true
+equal_from Less h e = absurd (false≢true (sym h))
+equal_from Equal h e = refl
+equal_from Greater h e = absurd (false≢true (sym e))
+
+not_equal : (o : Ordering) → is_lt o ≡ true → is_eq o ≡ false
+not_equal Less h = refl
+not_equal Equal h = absurd (false≢true h)
+not_equal Greater h = refl
+
+-- of two resources neither of which is before the other
+tied : (a b : Resource) → resource_before a b ≡ false → resource_before b a ≡ false → same_resource b a ≡ true
+tied a b h e =
+    same_resource-is b a
+    ∙ equal_from (resource_cmp b a) e (sym (ap is_lt (resource_cmp_total.antisymm a b)) ∙ h)
+
+once : (a : Resource) (t : Bool) → resource_before a a ≡ t → t ≡ false
+once a false e = refl
+once a true e =
+    absurd (false≢true (sym (not_equal (resource_cmp a a) e) ∙ sym (same_resource-is a a) ∙ same_resource-refl a))
+
+pub resource_order : IsKeyOrder same_resource resource_before
+resource_order =
+    record {
+      itself = same_resource-refl;
+      equal = same_resource-eq;
+      once = λ a. once a (resource_before a a) refl;
+      asym = λ a b h. not-true (resource_before b a) (resource_up_to-either b a (ap not h));
+      follows = λ a b c h e. not-true (resource_before c a)
+          (resource_up_to-trans a b c (not_from_false (resource_before b a) h) (not_from_false (resource_before c b) e));
+      ties = tied;
+    }
+
+-- ---- what stands in front of a resource
+
+before_step : (a b r : Resource) (t : Bool) → resource_up_to a b ≡ true → resource_before b r ≡ true
+    → resource_before a r ≡ t → t ≡ true
+before_step a b r true h e f = refl
+before_step a b r false h e f =
+    let back : resource_before b r ≡ false = not-true (resource_before b r)
+    (resource_up_to-trans r a b (not_from_false (resource_before a r) f) h) in
+    sym back ∙ e
+
+pub before_front : (r a b : Resource) → resource_up_to a b ≡ true → resource_before b r ≡ true
+    → resource_before a r ≡ true
+before_front r a b h e = before_step a b r (resource_before a r) h e refl

@@ -1,0 +1,49 @@
+-- Maps of lists that are filtered, or have one more element in its place.
+use Rattle.std.proofs.Common.{◌≡◌, Bool, true, false, cond, List, [], ◌∷◌, filter, map, refl, sym, ap, ◌∙◌}
+use Rattle.cf_lists.specs.Insertions.{insertion}
+
+filtered_step : {Y : Type 0} (b : Bool) (x y : Y) (xs ys : List Y) → (b ≡ true → x ≡ y) → xs ≡ ys
+    → cond b (x ∷ xs) xs ≡ cond b (y ∷ ys) ys
+filtered_step true x y xs ys h e = rw (h refl, e) refl
+filtered_step false x y xs ys h e = e
+
+kept_step : {X Y : Type 0} (f : X → Y) (b : Bool) (x : X) (xs : List X) → map f (cond b (x ∷ xs) xs) ≡ cond b
+    (f x ∷ map f xs) (map f xs)
+kept_step f true x xs = refl
+kept_step f false x xs = refl
+
+-- what a filter leaves, where the two maps agree on it
+pub map-filtered : {X Y : Type 0} (f g : X → Y) (q : X → Bool) (s : Y → Bool) → ((x : X) → q x ≡ true → f x ≡ g x)
+    → ((x : X) → s (g x) ≡ q x)
+    → (xs : List X) → map f (filter q xs) ≡ filter s (map g xs)
+map-filtered f g q s h e [] = refl
+map-filtered f g q s h e (x ∷ xs) =
+    kept_step f (q x) x (filter q xs)
+    ∙ filtered_step (q x) (f x) (g x) (map f (filter q xs)) (filter s (map g xs)) (h x) (map-filtered f g q s h e xs)
+    ∙ ap (λ b. cond b (g x ∷ filter s (map g xs)) (filter s (map g xs))) (sym (e x))
+
+put_step : {X Y : Type 0} (f : X → Y) (b : Bool) (x y : X) (ys zs : List X) (ws : List Y) → map f zs ≡ ws
+    → map f (cond b (y ∷ zs) (x ∷ y ∷ ys)) ≡ cond b (f y ∷ ws) (f x ∷ f y ∷ map f ys)
+put_step f true x y ys zs ws e = ap (λ l. f y ∷ l) e
+put_step f false x y ys zs ws e = refl
+
+-- one element more
+pub map-insertion : {X Y : Type 0} (f : X → Y) (before : X → Bool) (ahead : Y → Bool) (x : X)
+    → ((y : X) → ahead (f y) ≡ before y)
+    → (xs : List X) → map f (insertion before x xs) ≡ insertion ahead (f x) (map f xs)
+map-insertion f before ahead x e [] = refl
+map-insertion f before ahead x e (y ∷ ys) =
+    put_step f (before y) x y ys (insertion before x ys) (insertion ahead (f x) (map f ys))
+    (map-insertion f before ahead x e ys)
+    ∙ ap (λ b. cond b (f y ∷ insertion ahead (f x) (map f ys)) (f x ∷ f y ∷ map f ys)) (sym (e y))
+
+-- a map in two ways
+pub map-either : {X Y : Type 0} (f g : X → Y) (h : X → X) (k : Y → Y) → ((x : X) → f (h x) ≡ k (g x)) → (xs : List X)
+    → map f (map h xs) ≡ map k (map g xs)
+map-either f g h k e [] = refl
+map-either f g h k e (x ∷ xs) = ap (λ y. y ∷ map f (map h xs)) (e x) ∙ ap (λ l. k (g x) ∷ l) (map-either f g h k e xs)
+
+pub map-both : {X Y : Type 0} (f g : X → Y) (k : Y → Y) → ((x : X) → f x ≡ k (g x)) → (xs : List X)
+    → map f xs ≡ map k (map g xs)
+map-both f g k e [] = refl
+map-both f g k e (x ∷ xs) = ap (λ y. y ∷ map f xs) (e x) ∙ ap (λ l. k (g x) ∷ l) (map-both f g k e xs)

@@ -1,0 +1,157 @@
+-- What an entry loses, gets or changes is lost, got or changed in what is seen.
+use Rattle.std.proofs.Common.{◌≡◌, ◌≢◌, ℕ, ◌<◌, ◌==◌, Bool, true, false, not, List, [], ◌∷◌, filter, map, length, get_or, set, refl, sym, ap, ◌∙◌, subst}
+use Rattle.std.specs.List.{list_all}
+use Rattle.std.proofs.lemmas.Bool.{and_parts, and_from, eq-eqb, not-true, false≢true}
+use Rattle.std.proofs.lemmas.List.Folds.{list_all-map}
+use Rattle.cf_lists.specs.Insertions.{insertion}
+use Rattle.cf_lists.specs.Pairwise.{pairwise}
+use Rattle.cf_lists.proofs.FilterLaws.{list_all_weaker, list_all_always, list_all-filter, filter_swap, filter_absorbed, list_all-filter_same}
+use Rattle.cf_lists.proofs.ImageLaws.{map-filtered}
+use Rattle.cf_lists.proofs.PairwiseLaws.{FindsPlace, pairwise-insertion, pairwise-filter, pairwise-map}
+use Rattle.cf_lists.proofs.InsertionLaws.{filter-insertion_out, list_all-insertion}
+use Rattle.cf_lists.specs.Bins.{is_keyed, in_turn, arranged, joined, AreAtHome, IsKeyOrder}
+use Rattle.cf_lists.proofs.EntryPlaceLaws.{filter-insertion_in, insertion_agree}
+use Rattle.cf_lists.proofs.BinLaws.{arranged_in_turn, changed, seen}
+
+map_same : {X : Type 0} (p : X → Bool) (f : X → X) (xs : List X) → list_all p xs ≡ true
+    → ((x : X) → p x ≡ true → f x ≡ x) → map f xs ≡ xs
+map_same p f [] h same = refl
+map_same p f (x ∷ xs) h same =
+    let parts = and_parts (p x) (list_all p xs) h in
+    ap (λ y. y ∷ map f xs) (same x parts.0) ∙ ap (λ l. x ∷ l) (map_same p f xs parts.1 same)
+
+module _ {X K : Type 0} (key : X → K) (same before : K → K → Bool) (slot : K → ℕ) (is : IsKeyOrder same before)
+    (i : ℕ) (bins : List (List X)) (h : AreAtHome key slot bins) (within : i < length bins) where
+  -- ---- elements of the entry leave
+
+  stays : (q : X → Bool) (k : K) (x : X) (b : Bool) → (q x ≡ false → slot (key x) ≡ i) → slot k ≢ i
+      → same (key x) k ≡ true
+      → q x ≡ b → b ≡ true
+  stays q k x true near off e f = refl
+  stays q k x false near off e f = absurd (off (sym (ap slot (is.equal (key x) k e)) ∙ near f))
+
+  pub filtered : (q : X → Bool) → ((x : X) → q x ≡ false → slot (key x) ≡ i)
+      → arranged key before (joined (set bins i (filter q (get_or bins i []))))
+      ≡ filter q (arranged key before (joined bins))
+  filtered q near =
+      let view = arranged key before (joined bins) in
+      let bin = get_or bins i [] in
+      changed key same before slot is i bins (filter q bin) (filter q view) h within
+      (list_all-filter (λ x. slot (key x) == i) q bin (h i))
+      (λ k at. filter_swap (is_keyed key same k) q bin ∙ ap (filter q) (seen key same before slot is k i bins h at)
+      ∙ filter_swap q (is_keyed key same k) view)
+      (λ k off. sym (filter_swap (is_keyed key same k) q view
+      ∙ filter_absorbed q (is_keyed key same k) (λ x e. stays q k x (q x) (near x) off e refl) view))
+      (pairwise-filter (in_turn key before) q view (arranged_in_turn key same before slot is (joined bins)))
+
+  -- ---- elements of the entry change, and their keys don't
+
+  keyed-map : (f : X → X) → ((x : X) → key (f x) ≡ key x) → (k : K) (xs : List X)
+      → filter (is_keyed key same k) (map f xs) ≡ map f (filter (is_keyed key same k) xs)
+  keyed-map f kept k xs =
+      sym (map-filtered f f (is_keyed key same k) (is_keyed key same k) (λ x e. refl) (λ x. rw (kept x) refl) xs)
+
+  moved : (k : K) (x : X) → slot k ≢ i → same (key x) k ≡ true → slot (key x) ≢ i
+  moved k x off e z = off (sym (ap slot (is.equal (key x) k e)) ∙ z)
+
+  pub mapped : (f : X → X) → ((x : X) → key (f x) ≡ key x) → ((x : X) → slot (key x) ≢ i → f x ≡ x)
+      → arranged key before (joined (set bins i (map f (get_or bins i []))))
+      ≡ map f (arranged key before (joined bins))
+  mapped f kept same_else =
+      let view = arranged key before (joined bins) in
+      let bin = get_or bins i [] in
+      changed key same before slot is i bins (map f bin) (map f view) h within
+      (list_all-map (λ x. slot (key x) == i) f bin
+      ∙ list_all_weaker (λ x. slot (key x) == i) (λ x. slot (key (f x)) == i) (λ x e. rw (kept x) e) bin (h i))
+      (λ k at. keyed-map f kept k bin ∙ ap (map f) (seen key same before slot is k i bins h at)
+      ∙ sym (keyed-map f kept k view))
+      (λ k off. sym (keyed-map f kept k view
+      ∙ map_same (is_keyed key same k) f (filter (is_keyed key same k) view)
+      (list_all-filter_same (is_keyed key same k) view)
+      (λ x e. same_else x (moved k x off e))))
+      (pairwise-map (in_turn key before) f (λ x y. rw (kept x, kept y) refl) view
+      ∙ arranged_in_turn key same before slot is (joined bins))
+
+  -- ---- an element comes
+
+  finds_place : (b : X → Bool) (x : X) → ((y : X) → b y ≡ true → before (key x) (key y) ≡ false)
+      → ((y : X) → b y ≡ false → before (key y) (key x) ≡ false)
+      → FindsPlace (in_turn key before) b (λ y. true) x
+  finds_place b x front stop =
+      record {
+        front = λ y e. ap not (front y e);
+        stop = λ y a e. ap not (stop y e);
+        follows = λ y z e f. ap not (is.follows (key x) (key y) (key z) (not-true (before (key y) (key x)) e)
+            (not-true (before (key z) (key y)) f));
+      }
+
+  past : (b : X → Bool) (x y z : X) (t : Bool) → ((y : X) → b y ≡ false → before (key y) (key x) ≡ false)
+      → b y ≡ false
+      → same (key y) (key x) ≡ false → before (key z) (key y) ≡ false → same (key z) (key x) ≡ t → t ≡ false
+  past b x y z false stop e f g s = refl
+  past b x y z true stop e f g s =
+      let behind : before (key x) (key y) ≡ false = subst (λ k. before k (key y) ≡ false) (is.equal (key z) (key x) s) g
+      in
+      sym (is.ties (key x) (key y) behind (stop y e)) ∙ f
+
+  come_here : (b c : X → Bool) (x : X) → slot (key x) ≡ i
+      → ((y : X) → b y ≡ false → before (key y) (key x) ≡ false)
+      → ((y : X) → same (key y) (key x) ≡ true → b y ≡ c y)
+      → ((y : X) → same (key y) (key x) ≡ false → c y ≡ true)
+      → filter (is_keyed key same (key x)) (insertion c x (get_or bins i []))
+      ≡ filter (is_keyed key same (key x)) (insertion b x (arranged key before (joined bins)))
+  come_here b c x at stop agree others =
+      let view = arranged key before (joined bins) in
+      let bin = get_or bins i [] in
+      let p = is_keyed key same (key x) in
+      filter-insertion_in (λ y z. true) p c x bin (is.itself (key x))
+      (λ y z e f r. absurd (false≢true (sym e ∙ others y f)))
+      (every bin)
+      ∙ sym (insertion_agree p b c x (filter p bin) (list_all-filter_same p bin) agree)
+      ∙ ap (insertion b x) (seen key same before slot is (key x) i bins h at)
+      ∙ sym (filter-insertion_in (in_turn key before) p b x view (is.itself (key x))
+      (λ y z e f r. past b x y z (same (key z) (key x)) stop e f (not-true (before (key z) (key y)) r) refl)
+      (arranged_in_turn key same before slot is (joined bins)))
+    where
+      every : (ys : List X) → pairwise (λ y z. true) ys ≡ true
+      every [] = refl
+      every (y ∷ ys) = and_from (list_all (λ z. true) ys) (pairwise (λ y z. true) ys)
+          (list_all_always (λ z. true) (λ z. refl) ys) (every ys)
+
+  come_step : (b c : X → Bool) (x : X) (k : K) (t : Bool) → same (key x) k ≡ t
+      → filter (is_keyed key same (key x)) (insertion c x (get_or bins i []))
+      ≡ filter (is_keyed key same (key x)) (insertion b x (arranged key before (joined bins)))
+      → filter (is_keyed key same k) (get_or bins i []) ≡ filter (is_keyed key same k) (arranged key before (joined bins))
+      → filter (is_keyed key same k) (insertion c x (get_or bins i []))
+      ≡ filter (is_keyed key same k) (insertion b x (arranged key before (joined bins)))
+  come_step b c x k true e here same_as =
+      subst (λ k. filter (is_keyed key same k) (insertion c x (get_or bins i []))
+      ≡ filter (is_keyed key same k) (insertion b x (arranged key before (joined bins)))) (is.equal (key x) k e) here
+  come_step b c x k false e here same_as =
+      filter-insertion_out (is_keyed key same k) c x (get_or bins i []) e ∙ same_as
+      ∙ sym (filter-insertion_out (is_keyed key same k) b x (arranged key before (joined bins)) e)
+
+  apart_step : (x : X) (k : K) (t : Bool) → slot (key x) ≡ i → slot k ≢ i → same (key x) k ≡ t → t ≡ false
+  apart_step x k true at off e = absurd (off (sym (ap slot (is.equal (key x) k e)) ∙ at))
+  apart_step x k false at off e = refl
+
+  -- in the entry it is put behind all of other keys, and among those of its own as in what is seen
+  pub inserted : (b c : X → Bool) (x : X) → slot (key x) ≡ i
+      → ((y : X) → b y ≡ true → before (key x) (key y) ≡ false)
+      → ((y : X) → b y ≡ false → before (key y) (key x) ≡ false)
+      → ((y : X) → same (key y) (key x) ≡ true → b y ≡ c y)
+      → ((y : X) → same (key y) (key x) ≡ false → c y ≡ true)
+      → arranged key before (joined (set bins i (insertion c x (get_or bins i []))))
+      ≡ insertion b x (arranged key before (joined bins))
+  inserted b c x at front stop agree others =
+      let view = arranged key before (joined bins) in
+      let bin = get_or bins i [] in
+      changed key same before slot is i bins (insertion c x bin) (insertion b x view) h within
+      (list_all-insertion (λ y. slot (key y) == i) c x bin
+      ∙ and_from (slot (key x) == i) (list_all (λ y. slot (key y) == i) bin) (eq-eqb (slot (key x)) i at) (h i))
+      (λ k here. come_step b c x k (same (key x) k) refl (come_here b c x at stop agree others)
+      (seen key same before slot is k i bins h here))
+      (λ k off. sym (filter-insertion_out (is_keyed key same k) b x view
+      (apart_step x k (same (key x) k) at off refl)))
+      (pairwise-insertion (in_turn key before) b (λ y. true) x view (finds_place b x front stop)
+      (list_all_always (λ y. true) (λ y. refl) view) (arranged_in_turn key same before slot is (joined bins)))

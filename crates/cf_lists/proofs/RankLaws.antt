@@ -1,0 +1,357 @@
+-- The element at a place, found by its resource; and the last of all.
+use Rattle.std.proofs.Common.{◌≡◌, ℕ, zero, suc, ◌+◌, ◌-◌, ◌<◌, ◌≤◌, nat_lt, Bool, true, false, not, ◌&&◌, cond, if◌then◌else◌, drop, get_or, List, [], ◌∷◌, ◌++◌, Option, Some, None, is_some, filter, length, slice_get, refl, sym, ap, ◌∙◌, subst, arith}
+use Rattle.std.specs.List.{list_all}
+use Rattle.std.proofs.lemmas.Bool.{and_parts, not-true, false≢true, lt-ltb}
+use Rattle.std.proofs.lemmas.Bool.Decides.{nat_tests}
+use Rattle.cf_types.specs.declared.resources.Resource.{Resource}
+use Rattle.cf_types.specs.Resources.{Part, same_resource, resource_before}
+use Rattle.cf_types.proofs.ResourceLaws.{same_resource-eq, same_resource-refl}
+use Rattle.cf_lists.specs.Insertions.{insertion}
+use Rattle.cf_lists.specs.Pairwise.{pairwise}
+use Rattle.cf_lists.proofs.FilterLaws.{filter_none, none_from_all, list_all_weaker}
+use Rattle.cf_lists.proofs.InsertionLaws.{list_all-insertion}
+use Rattle.cf_lists.specs.Bins.{in_turn, arranged, joined}
+use Rattle.cf_lists.specs.Tables.{is_on, placed_on, later_of, last_of, seen_in}
+use Rattle.cf_lists.proofs.EntryKeyLaws.{resource_order}
+use Rattle.cf_lists.proofs.SortLaws.{arranged-filter}
+use Rattle.cf_lists.proofs.ViewLaws.{length_arranged}
+use Rattle.cf_lists.proofs.BinLaws.{arranged_in_turn}
+use Rattle.cf_lists.proofs.PassLaws.{joined_next, joined_past}
+
+module _ {X : Type 0} (part_of : X → Part) where
+  abbrev key : X → Resource
+  key x = (part_of x).0
+
+  abbrev is_before : Resource → X → Bool
+  is_before r x = resource_before (key x) r
+
+  abbrev count_before : Resource → List X → ℕ
+  count_before r xs = length (filter (is_before r) xs)
+
+  abbrev follows : X → X → Bool
+  follows = in_turn key resource_before
+
+  -- none of these is before a resource
+  none_before : (r : Resource) (xs : List X) → list_all (λ x. not (is_before r x)) xs ≡ true → count_before r xs ≡ 0
+  none_before r xs h = ap length (filter_none (is_before r) xs (none_from_all (is_before r) xs h))
+
+  -- behind an element that isn't before a resource none is
+  behind : (r : Resource) (y : X) (ys : List X) → is_before r y ≡ false → list_all (follows y) ys ≡ true
+      → list_all (λ x. not (is_before r x)) ys ≡ true
+  behind r y ys e h =
+      list_all_weaker (follows y) (λ x. not (is_before r x))
+      (λ z f. ap not (resource_order.follows r (key y) (key z) e (not-true (resource_before (key z) (key y)) f))) ys h
+
+  -- one that is before a resource isn't on it
+  off : (r : Resource) (y : X) (t : Bool) → is_before r y ≡ true → is_on part_of r y ≡ t → t ≡ false
+  off r y false e f = refl
+  off r y true e f =
+      absurd (false≢true (sym (resource_order.once r)
+      ∙ subst (λ a. resource_before a r ≡ true) (same_resource-eq (key y) r f) e))
+
+  -- behind one that is behind a resource none is on it
+  past : (r : Resource) (y z : X) (t : Bool) → is_before r y ≡ false → is_on part_of r y ≡ false → follows y z ≡ true
+      → is_on part_of r z ≡ t → t ≡ false
+  past r y z false e f g h = refl
+  past r y z true e f g h =
+      let ahead : resource_before r (key y) ≡ false = subst (λ a. resource_before a (key y) ≡ false)
+      (same_resource-eq (key z) r h) (not-true (resource_before (key z) (key y)) g) in
+      absurd (false≢true (sym f ∙ resource_order.ties r (key y) ahead e))
+
+  none_past : (r : Resource) (y : X) (ys : List X) → is_before r y ≡ false → is_on part_of r y ≡ false
+      → list_all (follows y) ys ≡ true → filter (is_on part_of r) ys ≡ []
+  none_past r y ys e f h =
+      filter_none (is_on part_of r) ys (none_from_all (is_on part_of r) ys
+      (list_all_weaker (follows y) (λ z. not (is_on part_of r z))
+      (λ z g. ap not (past r y z (is_on part_of r z) e f g refl)) ys h))
+
+  -- ---- an element found by its resource stands at the place
+
+  here_step : (r : Resource) (k : ℕ) (x y : X) (ys : List X) (s t : Bool) → is_before r y ≡ s → is_on part_of r y ≡ t
+      → list_all (follows y) ys ≡ true
+      → ((i : ℕ) → count_before r ys ≤ i → slice_get (filter (is_on part_of r) ys) (i - count_before r ys) ≡ Some x
+      → slice_get ys i ≡ Some x)
+      → length (cond s (y ∷ filter (is_before r) ys) (filter (is_before r) ys)) ≤ k
+      → slice_get (cond t (y ∷ filter (is_on part_of r) ys) (filter (is_on part_of r) ys))
+      (k - length (cond s (y ∷ filter (is_before r) ys) (filter (is_before r) ys))) ≡ Some x
+      → slice_get (y ∷ ys) k ≡ Some x
+  here_step r k x y ys true true e f turn ih most h = absurd (false≢true (sym (off r y true e f)))
+  here_step r zero x y ys true false e f turn ih most h = absurd (omega (arith, most))
+  here_step r (suc i) x y ys true false e f turn ih most h =
+      let n = count_before r ys in
+      let less : suc i - suc n ≡ i - n = omega arith in
+      ih i (omega (arith, most)) (subst (λ j. slice_get (filter (is_on part_of r) ys) j ≡ Some x) less h)
+  here_step r k x y ys false false e f turn ih most h =
+      let none : filter (is_on part_of r) ys ≡ [] = none_past r y ys e f turn in
+      absurd (let gone : None ≡ Some x = rw none at h in cc)
+  here_step r zero x y ys false true e f turn ih most h =
+      let n = count_before r ys in
+      let zero_is : 0 - n ≡ 0 = omega arith in
+      subst (λ j. slice_get (y ∷ filter (is_on part_of r) ys) j ≡ Some x) zero_is h
+  here_step r (suc i) x y ys false true e f turn ih most h =
+      let n = count_before r ys in
+      let none : n ≡ 0 = none_before r ys (behind r y ys e turn) in
+      let all : suc i - n ≡ suc (i - n) = omega (arith, none) in
+      ih i (omega (arith, none)) (subst (λ j. slice_get (y ∷ filter (is_on part_of r) ys) j ≡ Some x) all h)
+
+  here : (r : Resource) (xs : List X) (k : ℕ) (x : X) → pairwise follows xs ≡ true → count_before r xs ≤ k
+      → slice_get (filter (is_on part_of r) xs) (k - count_before r xs) ≡ Some x → slice_get xs k ≡ Some x
+  here r [] k x turn most h = absurd (let gone : None ≡ Some x = h in cc)
+  here r (y ∷ ys) k x turn most h =
+      let parts = and_parts (list_all (follows y) ys) (pairwise follows ys) turn in
+      here_step r k x y ys (is_before r y) (is_on part_of r y) refl refl parts.0
+      (λ i m g. here r ys i x parts.1 m g) most h
+
+  placed_cases : (r : Resource) (xs : List X) (k : ℕ) (x : X) (b : Bool) → nat_lt k (count_before r xs) ≡ b
+      → pairwise follows xs ≡ true
+      → (if b then None else slice_get (filter (is_on part_of r) xs) (k - count_before r xs)) ≡ Some x
+      → slice_get xs k ≡ Some x
+  placed_cases r xs k x true e turn h = absurd (let gone : None ≡ Some x = h in cc)
+  placed_cases r xs k x false e turn h = here r xs k x turn (grind (arith, nat_tests)) h
+
+  pub placed_here : (r : Resource) (xs : List X) (k : ℕ) (x : X) → pairwise follows xs ≡ true
+      → placed_on part_of r k xs ≡ Some x → slice_get xs k ≡ Some x
+  placed_here r xs k x turn h = placed_cases r xs k x (nat_lt k (count_before r xs)) refl turn h
+
+  -- ---- the element at a place is found by its resource
+
+  got : (p : X → Bool) (xs : List X) (k : ℕ) (x : X) → list_all p xs ≡ true → slice_get xs k ≡ Some x → p x ≡ true
+  got p [] k x h e = absurd (let gone : None ≡ Some x = e in cc)
+  got p (y ∷ ys) zero x h e =
+      let same : y ≡ x = cc in subst (λ z. p z ≡ true) same (and_parts (p y) (list_all p ys) h).0
+  got p (y ∷ ys) (suc k) x h e = got p ys k x (and_parts (p y) (list_all p ys) h).1 e
+
+  pub record IsFound (xs : List X) (k : ℕ) (x : X) : Type 0 where
+    most : count_before (key x) xs ≤ k
+    found : slice_get (filter (is_on part_of (key x)) xs) (k - count_before (key x) xs) ≡ Some x
+
+  found_step : (x y : X) (ys : List X) (k : ℕ) (s t : Bool) → is_before (key x) y ≡ s → is_on part_of (key x) y ≡ t
+      → follows y x ≡ true → list_all (follows y) ys ≡ true → IsFound ys k x
+      → (length (cond s (y ∷ filter (is_before (key x)) ys) (filter (is_before (key x)) ys)) ≤ suc k)
+      × (slice_get (cond t (y ∷ filter (is_on part_of (key x)) ys) (filter (is_on part_of (key x)) ys))
+      (suc k - length (cond s (y ∷ filter (is_before (key x)) ys) (filter (is_before (key x)) ys))) ≡ Some x)
+  found_step x y ys k true true e f ahead turn is = absurd (false≢true (sym (off (key x) y true e f)))
+  found_step x y ys k true false e f ahead turn is =
+      let n = count_before (key x) ys in
+      let less : suc k - suc n ≡ k - n = omega arith in (
+        omega (arith, is.most),
+        subst (λ j. slice_get (filter (is_on part_of (key x)) ys) j ≡ Some x) (sym less) is.found,
+      )
+  found_step x y ys k false false e f ahead turn is =
+      absurd (false≢true (sym f ∙ resource_order.ties (key x) (key y)
+      (not-true (resource_before (key x) (key y)) ahead) e))
+  found_step x y ys k false true e f ahead turn is =
+      let n = count_before (key x) ys in
+      let none : n ≡ 0 = none_before (key x) ys (behind (key x) y ys e turn) in
+      let all : suc k - n ≡ suc (k - n) = omega (arith, none) in (
+        omega (arith, none),
+        subst (λ j. slice_get (y ∷ filter (is_on part_of (key x)) ys) j ≡ Some x) (sym all) is.found,
+      )
+
+  found_at : (xs : List X) (k : ℕ) (x : X) → pairwise follows xs ≡ true → slice_get xs k ≡ Some x → IsFound xs k x
+  found_at [] k x turn e = absurd (let gone : None ≡ Some x = e in cc)
+  found_at (y ∷ ys) zero x turn e =
+      let same : y ≡ x = cc in
+      let parts = and_parts (list_all (follows y) ys) (pairwise follows ys) turn in
+      subst (λ z. IsFound (y ∷ ys) 0 z) same (first (resource_order.once (key y)) parts.0)
+    where
+      first : is_before (key y) y ≡ false → list_all (follows y) ys ≡ true → IsFound (y ∷ ys) 0 y
+      first once turns =
+          let none : count_before (key y) ys ≡ 0 = none_before (key y) ys (behind (key y) y ys once turns) in
+          record {
+            most = rw once (omega (arith, none));
+            found = rw (once, none, same_resource-refl (key y)) refl;
+          }
+  found_at (y ∷ ys) (suc k) x turn e =
+      let parts = and_parts (list_all (follows y) ys) (pairwise follows ys) turn in
+      let both = found_step x y ys k (is_before (key x) y) (is_on part_of (key x) y) refl refl
+      (got (follows y) ys k x parts.0 e) parts.0 (found_at ys k x parts.1 e) in
+      record { most = both.0; found = both.1 }
+
+  placed_own : (xs : List X) (k : ℕ) (x : X) (b : Bool) → nat_lt k (count_before (key x) xs) ≡ b → IsFound xs k x
+      → (if b then None else slice_get (filter (is_on part_of (key x)) xs) (k - count_before (key x) xs)) ≡ Some x
+  placed_own xs k x true e is = absurd (let most = is.most in grind (arith, nat_tests))
+  placed_own xs k x false e is = is.found
+
+  all_arranged : (p : X → Bool) (xs : List X) → list_all p (arranged key resource_before xs) ≡ list_all p xs
+  unfolding arranged
+  all_arranged p [] = refl
+  all_arranged p (x ∷ xs) =
+      list_all-insertion p (λ y. resource_before (key y) (key x)) x (arranged key resource_before xs)
+      ∙ ap (λ b. p x && b) (all_arranged p xs)
+
+  -- what none of all is placed at, is past the end
+  pub none_placed_on : (bins : List (List X)) (k : ℕ)
+      → list_all (λ x. not (is_some (placed_on part_of (key x) k (seen_in part_of bins)))) (joined bins) ≡ true
+      → None ≡ slice_get (seen_in part_of bins) k
+  none_placed_on bins k h = go (slice_get (seen_in part_of bins) k) refl
+    where
+      turn : pairwise follows (seen_in part_of bins) ≡ true
+      turn = arranged_in_turn key same_resource resource_before (λ r. 0) resource_order (joined bins)
+
+      go : (o : Option X) → slice_get (seen_in part_of bins) k ≡ o → None ≡ o
+      go None e = refl
+      go (Some x) e =
+          let there = placed_own (seen_in part_of bins) k x (nat_lt k (count_before (key x) (seen_in part_of bins))) refl
+          (found_at (seen_in part_of bins) k x turn e) in
+          let none = got (λ z. not (is_some (placed_on part_of (key z) k (seen_in part_of bins)))) (seen_in part_of bins)
+          k x (all_arranged (λ z. not (is_some (placed_on part_of (key z) k (seen_in part_of bins)))) (joined bins) ∙ h) e in
+          absurd (false≢true (sym (ap (λ o. not (is_some o)) there) ∙ none))
+
+  -- as many of all are before a resource
+  pub counted_before : (r : Resource) (bins : List (List X))
+      → length (filter (is_before r) (joined bins)) ≡ count_before r (seen_in part_of bins)
+  counted_before r bins =
+      sym (length_arranged key resource_before (filter (is_before r) (joined bins)))
+      ∙ ap length (arranged-filter key same_resource resource_before resource_order (is_before r) (joined bins))
+
+  pub length_seen : (bins : List (List X)) → length (joined bins) ≡ length (seen_in part_of bins)
+  length_seen bins = sym (length_arranged key resource_before (joined bins))
+
+  pub placed_none : (r : Resource) (bins : List (List X)) (k n : ℕ) → n ≡ length (filter (is_before r) (joined bins))
+      → k < n → None ≡ placed_on part_of r k (seen_in part_of bins)
+  placed_none r bins k n e less =
+      let same : n ≡ count_before r (seen_in part_of bins) = e ∙ counted_before r bins in
+      subst (λ m. None ≡ (if nat_lt k m then None else slice_get (filter (is_on part_of r) (seen_in part_of bins))
+      (k - m))) same (rw (lt-ltb k n less) refl)
+
+  pub placed_some : (r : Resource) (bins : List (List X)) (k n : ℕ) (xs : List X)
+      → n ≡ length (filter (is_before r) (joined bins)) → n ≤ k → xs ≡ filter (is_on part_of r) (seen_in part_of bins)
+      → slice_get xs (k - n) ≡ placed_on part_of r k (seen_in part_of bins)
+  placed_some r bins k n xs e most f =
+      let same : n ≡ count_before r (seen_in part_of bins) = e ∙ counted_before r bins in
+      let none : nat_lt k n ≡ false = grind (arith, nat_tests) in
+      ap (λ l. slice_get l (k - n)) f
+      ∙ subst (λ m. slice_get (filter (is_on part_of r) (seen_in part_of bins)) (k - n)
+      ≡ (if nat_lt k m then None else slice_get (filter (is_on part_of r) (seen_in part_of bins)) (k - m))) same
+      (rw none refl)
+
+  -- ---- the last
+
+  pub later_assoc : (a b c : Option X)
+      → later_of part_of (later_of part_of a b) c ≡ later_of part_of a (later_of part_of b c)
+  later_assoc None b c = refl
+  later_assoc (Some x) None c = refl
+  later_assoc (Some x) (Some y) None = none (resource_before (key y) (key x))
+    where
+      none : (s : Bool) → later_of part_of (if s then Some x else Some y) None ≡ (if s then Some x else Some y)
+      none true = refl
+      none false = refl
+  later_assoc (Some x) (Some y) (Some z) =
+      go (resource_before (key y) (key x)) (resource_before (key z) (key y)) (resource_before (key z) (key x)) refl refl
+      refl
+    where
+      go : (s t u : Bool) → resource_before (key y) (key x) ≡ s → resource_before (key z) (key y) ≡ t
+          → resource_before (key z) (key x) ≡ u
+          → later_of part_of (if s then Some x else Some y) (Some z)
+          ≡ later_of part_of (Some x) (if t then Some y else Some z)
+      go true true true e f g = rw (e, g) refl
+      go true true false e f g =
+          absurd (false≢true (sym (resource_order.follows (key x) (key z) (key y) g
+          (resource_order.asym (key z) (key y) f)) ∙ e))
+      go true false u e f g = refl
+      go false true u e f g = rw (e, f) refl
+      go false false true e f g = absurd (false≢true (sym (resource_order.follows (key x) (key y) (key z) e f) ∙ g))
+      go false false false e f g = rw (f, g) refl
+
+  pub last_append : (xs ys : List X)
+      → last_of part_of (xs ++ ys) ≡ later_of part_of (last_of part_of xs) (last_of part_of ys)
+  last_append [] ys = refl
+  last_append (x ∷ xs) ys =
+      ap (later_of part_of (Some x)) (last_append xs ys)
+      ∙ sym (later_assoc (Some x) (last_of part_of xs) (last_of part_of ys))
+
+  -- the last of a list in order is the last of all
+  abbrev end_of : List X → Option X
+  end_of [] = None
+  end_of (x ∷ []) = Some x
+  end_of (x ∷ y ∷ ys) = end_of (y ∷ ys)
+
+  end_step : (b : X → Bool) (x y : X) (ys : List X) (s : Bool) → b y ≡ s → list_all (follows y) ys ≡ true
+      → ((z : X) → b z ≡ resource_before (key z) (key x))
+      → end_of (insertion b x ys) ≡ later_of part_of (Some x) (end_of ys)
+      → end_of (cond s (y ∷ insertion b x ys) (x ∷ y ∷ ys)) ≡ later_of part_of (Some x) (end_of (y ∷ ys))
+  end_step b x y [] true e turn is ih = rw (sym (is y) ∙ e) refl
+  end_step b x y [] false e turn is ih = rw (sym (is y) ∙ e) refl
+  end_step b x y (z ∷ zs) true e turn is ih = longer (b z) ih
+    where
+      longer : (t : Bool) → end_of (cond t (z ∷ insertion b x zs) (x ∷ z ∷ zs)) ≡ later_of part_of (Some x) (end_of (z ∷ zs))
+          → end_of (y ∷ cond t (z ∷ insertion b x zs) (x ∷ z ∷ zs)) ≡ later_of part_of (Some x) (end_of (z ∷ zs))
+      longer true h = h
+      longer false h = h
+  end_step b x y (z ∷ zs) false e turn is ih = sym (stays (z ∷ zs) (behind (key x) y (z ∷ zs) (sym (is y) ∙ e) turn) some)
+    where
+      some : (o : X) × (end_of (z ∷ zs) ≡ Some o)
+      some = ends z zs
+        where
+          ends : (z : X) (zs : List X) → (o : X) × (end_of (z ∷ zs) ≡ Some o)
+          ends z [] = (z, refl)
+          ends z (w ∷ ws) = ends w ws
+
+      passes : (p : X → Bool) (ws : List X) (o : X) → list_all p ws ≡ true → end_of ws ≡ Some o → p o ≡ true
+      passes p [] o h g = absurd (let gone : None ≡ Some o = g in cc)
+      passes p (w ∷ []) o h g =
+          let same : w ≡ o = cc in subst (λ v. p v ≡ true) same (and_parts (p w) true h).0
+      passes p (w ∷ v ∷ vs) o h g = passes p (v ∷ vs) o (and_parts (p w) (list_all p (v ∷ vs)) h).1 g
+
+      stays : (ws : List X) → list_all (λ w. not (is_before (key x) w)) ws ≡ true
+          → (o : X) × (end_of ws ≡ Some o) → later_of part_of (Some x) (end_of ws) ≡ end_of ws
+      stays ws h o =
+          let last = not-true (is_before (key x) o.0) (passes (λ w. not (is_before (key x) w)) ws o.0 h o.1) in
+          rw (o.1, last) refl
+
+  end_insertion : (x : X) (ys : List X) → pairwise follows ys ≡ true
+      → end_of (insertion (λ y. resource_before (key y) (key x)) x ys) ≡ later_of part_of (Some x) (end_of ys)
+  end_insertion x [] turn = refl
+  end_insertion x (y ∷ ys) turn =
+      let parts = and_parts (list_all (follows y) ys) (pairwise follows ys) turn in
+      end_step (λ z. resource_before (key z) (key x)) x y ys (resource_before (key y) (key x)) refl parts.0 (λ z. refl)
+      (end_insertion x ys parts.1)
+
+  end_arranged : (xs : List X) → last_of part_of xs ≡ end_of (arranged key resource_before xs)
+  unfolding arranged
+  end_arranged [] = refl
+  end_arranged (x ∷ xs) =
+      ap (later_of part_of (Some x)) (end_arranged xs)
+      ∙ sym (end_insertion x (arranged key resource_before xs)
+      (arranged_in_turn key same_resource resource_before (λ r. 0) resource_order xs))
+
+  end_at : (xs : List X) → end_of xs ≡ slice_get xs (length xs - 1)
+  end_at [] = refl
+  end_at (x ∷ []) = refl
+  end_at (x ∷ y ∷ ys) =
+      let n : length (y ∷ ys) ≡ suc (length ys) = refl in
+      let less : suc (suc (length ys)) - 1 ≡ suc (suc (length ys) - 1) = omega arith in
+      end_at (y ∷ ys) ∙ sym (ap (λ i. slice_get (x ∷ y ∷ ys) i) less)
+
+  pub last_seen : (bins : List (List X))
+      → last_of part_of (joined bins) ≡ slice_get (seen_in part_of bins) (length (seen_in part_of bins) - 1)
+  last_seen bins = end_arranged (joined bins) ∙ end_at (seen_in part_of bins)
+
+  -- ---- entry after entry
+
+  pub last_next : (bins : List (List X)) (i : ℕ) (bin : List X) (a new all : Option X) → i < length bins
+      → bin ≡ get_or bins i bin → new ≡ later_of part_of a (last_of part_of bin)
+      → later_of part_of a (last_of part_of (joined (drop i bins))) ≡ all
+      → later_of part_of new (last_of part_of (joined (drop (i + 1) bins))) ≡ all
+  last_next bins i bin a new all within is put h =
+      let rest = joined (drop (i + 1) bins) in
+      ap (λ o. later_of part_of o (last_of part_of rest)) put
+      ∙ later_assoc a (last_of part_of bin) (last_of part_of rest)
+      ∙ ap (later_of part_of a) (sym (last_append bin rest))
+      ∙ ap (λ b. later_of part_of a (last_of part_of (b ++ rest))) is
+      ∙ ap (λ l. later_of part_of a (last_of part_of l)) (sym (joined_next bins i bin within)) ∙ h
+
+  pub last_past : (bins : List (List X)) (i : ℕ) (a all : Option X) → length bins ≤ i
+      → later_of part_of a (last_of part_of (joined (drop i bins))) ≡ all → a ≡ all
+  last_past bins i a all past h =
+      sym (alone a) ∙ ap (λ l. later_of part_of a (last_of part_of l)) (sym (joined_past bins i past)) ∙ h
+    where
+      alone : (a : Option X) → later_of part_of a None ≡ a
+      alone None = refl
+      alone (Some x) = refl
+
+  pub last_more : (a new all : Option X) (x : X) (xs : List X) → new ≡ later_of part_of a (Some x)
+      → later_of part_of a (last_of part_of (x ∷ xs)) ≡ all → later_of part_of new (last_of part_of xs) ≡ all
+  last_more a new all x xs put h =
+      ap (λ o. later_of part_of o (last_of part_of xs)) put ∙ later_assoc a (Some x) (last_of part_of xs) ∙ h

@@ -1,0 +1,245 @@
+-- Keys that stand in the orders of headers.
+use Rattle.std.proofs.Common.{◌≡◌, ◌≢◌, ◌⊎◌, inl, inr, ℕ, ◌+◌, ◌<◌, Bool, true, false, ◌||◌, ◌==◌, List, [], ◌∷◌, ◌++◌, length, map, take, drop, set, slice_get, get_or, Some, refl, sym, ap, ◌∙◌, subst, arith, suc, zero, get_or-set_same, get_or-set_other}
+use Rattle.std.specs.List.{list_any, insert, remove}
+use Rattle.std.proofs.lemmas.Bool.{or_right, false≢true, eq-eqb, eqb-true}
+use Rattle.std.proofs.lemmas.Bool.Decides.{eqb_tells}
+use Rattle.std.proofs.lemmas.List.{take-append-drop}
+use Rattle.std.proofs.lemmas.List.Folds.{list_any-append}
+use Rattle.cf_lists.proofs.TakeLaws.{split_next}
+use Rattle.cf_lists.specs.Lists.{records_of, all_records}
+use Rattle.cf_lists.specs.Orders.{stands}
+use Rattle.cf_lists.proofs.AllLaws.{list_of-get_or}
+use Rattle.cf_lists.proofs.RecordSpotLaws.{any_at, header_within}
+
+-- ---- one list
+
+or_cases : (a b : Bool) → a || b ≡ true → (a ≡ true) ⊎ (b ≡ true)
+or_cases true b h = inl refl
+or_cases false b h = inr h
+
+or_left : (a b : Bool) → a ≡ true → a || b ≡ true
+or_left a b h = rw h refl
+
+-- a passing element is at some place
+pub place_any : {X : Type 0} (q : X → Bool) (xs : List X) → list_any q xs ≡ true
+    → (p : ℕ) × (x : X) × (slice_get xs p ≡ Some x) × (q x ≡ true)
+place_any q [] h = absurd (false≢true h)
+place_any {X} q (x ∷ xs) h = elim (or_cases (q x) (list_any q xs) h) [
+  | inl e ↦ (zero, x, refl, e)
+  | inr e ↦ let later = place_any q xs e in (suc later.0, later.1, later.2, later.3)
+]
+
+inserted_new : (xs : List ℕ) (p key : ℕ) → list_any (λ k. k == key) (insert xs p key) ≡ true
+inserted_new xs p key =
+    let here : (key == key) ≡ true = eq-eqb key key refl in
+    list_any-append (λ k. k == key) (take p xs) (key ∷ drop p xs)
+    ∙ or_right (list_any (λ k. k == key) (take p xs)) ((key == key) || list_any (λ k. k == key) (drop p xs))
+    (or_left (key == key) _ here)
+
+inserted_old : (xs : List ℕ) (p key other : ℕ) → list_any (λ k. k == other) xs ≡ true
+    → list_any (λ k. k == other) (insert xs p key) ≡ true
+inserted_old xs p key other h =
+    let q : ℕ → Bool = λ k. k == other in
+    let halves = sym (list_any-append q (take p xs) (drop p xs)) ∙ ap (list_any q) (take-append-drop p xs) ∙ h in
+    list_any-append q (take p xs) (key ∷ drop p xs)
+    ∙ elim (or_cases (list_any q (take p xs)) (list_any q (drop p xs)) halves) [
+      | inl e ↦ or_left (list_any q (take p xs)) _ e
+      | inr e ↦ or_right (list_any q (take p xs)) _ (or_right (q key) (list_any q (drop p xs)) e)
+    ]
+
+inserted_either : (xs : List ℕ) (p key other : ℕ) → list_any (λ k. k == other) (insert xs p key) ≡ true
+    → (other ≡ key) ⊎ (list_any (λ k. k == other) xs ≡ true)
+inserted_either xs p key other h =
+    let q : ℕ → Bool = λ k. k == other in
+    let back = sym (ap (list_any q) (take-append-drop p xs)) ∙ list_any-append q (take p xs) (drop p xs) in
+    elim (or_cases (list_any q (take p xs)) ((key == other) || list_any q (drop p xs))
+    (sym (list_any-append q (take p xs) (key ∷ drop p xs)) ∙ h)) [
+      | inl e ↦ inr (back ∙ or_left (list_any q (take p xs)) _ e)
+      | inr f ↦ elim (or_cases (key == other) (list_any q (drop p xs)) f) [
+        | inl e ↦ inl (sym (eqb-true key other e))
+        | inr e ↦ inr (back ∙ or_right (list_any q (take p xs)) _ e)
+      ]
+    ]
+
+drop_next : (p : ℕ) (xs : List ℕ) → drop (p + 1) xs ≡ drop (suc p) xs
+drop_next p xs = let e : p + 1 ≡ suc p = omega arith in rw e refl
+
+removed_old : (xs : List ℕ) (p key other : ℕ) → slice_get xs p ≡ Some key → other ≢ key
+    → list_any (λ k. k == other) xs ≡ true
+    → list_any (λ k. k == other) (remove xs p) ≡ true
+removed_old xs p key other at ne h =
+    let q : ℕ → Bool = λ k. k == other in
+    let split : xs ≡ take p xs ++ key ∷ drop (suc p) xs = split_next xs p key at
+    ∙ ap (λ l. take p xs ++ key ∷ l) (drop_next p xs) in
+    let halves = sym (list_any-append q (take p xs) (key ∷ drop (suc p) xs)) ∙ sym (ap (list_any q) split) ∙ h in
+    list_any-append q (take p xs) (drop (suc p) xs)
+    ∙ elim (or_cases (list_any q (take p xs)) ((key == other) || list_any q (drop (suc p) xs)) halves) [
+      | inl e ↦ or_left (list_any q (take p xs)) _ e
+      | inr f ↦ elim (or_cases (key == other) (list_any q (drop (suc p) xs)) f) [
+        | inl e ↦ absurd (ne (sym (eqb-true key other e)))
+        | inr e ↦ or_right (list_any q (take p xs)) _ e
+      ]
+    ]
+
+removed_back : (xs : List ℕ) (p key other : ℕ) → slice_get xs p ≡ Some key
+    → list_any (λ k. k == other) (remove xs p) ≡ true
+    → list_any (λ k. k == other) xs ≡ true
+removed_back xs p key other at h =
+    let q : ℕ → Bool = λ k. k == other in
+    let split : xs ≡ take p xs ++ key ∷ drop (suc p) xs = split_next xs p key at
+    ∙ ap (λ l. take p xs ++ key ∷ l) (drop_next p xs) in
+    ap (list_any q) split ∙ list_any-append q (take p xs) (key ∷ drop (suc p) xs)
+    ∙ elim (or_cases (list_any q (take p xs)) (list_any q (drop (suc p) xs))
+    (sym (list_any-append q (take p xs) (drop (suc p) xs)) ∙ h)) [
+      | inl e ↦ or_left (list_any q (take p xs)) _ e
+      | inr e ↦ or_right (list_any q (take p xs)) _ (or_right (key == other) (list_any q (drop (suc p) xs)) e)
+    ]
+
+-- ---- all orders
+
+-- the order of a header, changed where that keeps a key
+changed : (orders : List (List ℕ)) (h : ℕ) (new : List ℕ) (h' key : ℕ) → h < length orders
+    → (list_any (λ k. k == key) (get_or orders h []) ≡ true → list_any (λ k. k == key) new ≡ true)
+    → stands orders h' key ≡ true → stands (set orders h new) h' key ≡ true
+changed orders h new h' key lt keeps st = elim (eqb_tells h' h) [
+  | inl e ↦ subst (λ j. stands (set orders h new) j key ≡ true) (sym e.1)
+      (ap (list_any (λ k. k == key)) (get_or-set_same orders h new [] lt)
+      ∙ keeps (subst (λ j. stands orders j key ≡ true) e.1 st))
+  | inr e ↦ ap (list_any (λ k. k == key)) (get_or-set_other orders h h' new [] e.1) ∙ st
+]
+
+unchanged : (orders : List (List ℕ)) (h : ℕ) (new : List ℕ) (h' key : ℕ) → h < length orders
+    → stands (set orders h new) h' key ≡ true
+    → ((h' ≡ h) × (list_any (λ k. k == key) new ≡ true)) ⊎ (stands orders h' key ≡ true)
+unchanged orders h new h' key lt st = elim (eqb_tells h' h) [
+  | inl e ↦ inl (
+    e.1,
+    sym (ap (list_any (λ k. k == key)) (get_or-set_same orders h new [] lt))
+        ∙ subst (λ j. stands (set orders h new) j key ≡ true) e.1 st,
+  )
+  | inr e ↦ inr (sym (ap (list_any (λ k. k == key)) (get_or-set_other orders h h' new [] e.1)) ∙ st)
+]
+
+module _ (orders : List (List ℕ)) (h p key : ℕ) (lt : h < length orders) where
+  pub stands_new : stands (set orders h (insert (records_of orders h) p key)) h key ≡ true
+  stands_new = ap (list_any (λ k. k == key)) (get_or-set_same orders h _ [] lt)
+      ∙ inserted_new (records_of orders h) p key
+
+  pub stands_more : (h' other : ℕ) → stands orders h' other ≡ true
+      → stands (set orders h (insert (records_of orders h) p key)) h' other ≡ true
+  stands_more h' other =
+      changed orders h (insert (records_of orders h) p key) h' other lt
+      (λ e. inserted_old (records_of orders h) p key other (ap (list_any (λ k. k == other)) (list_of-get_or orders h)
+      ∙ e))
+
+  pub stands_either : (h' other : ℕ) → stands (set orders h (insert (records_of orders h) p key)) h' other ≡ true
+      → ((h' ≡ h) × (other ≡ key)) ⊎ (stands orders h' other ≡ true)
+  stands_either h' other st = elim (unchanged orders h (insert (records_of orders h) p key) h' other lt st) [
+    | inl e ↦ elim (inserted_either (records_of orders h) p key other e.1) [
+      | inl f ↦ inl (e.0, f)
+      | inr f ↦ inr (subst (λ j. stands orders j other
+          ≡ true) (sym e.0) (sym (ap (list_any (λ k. k == other)) (list_of-get_or orders h)) ∙ f))
+    ]
+    | inr e ↦ inr e
+  ]
+
+module _ (orders : List (List ℕ)) (h p key : ℕ) (at : slice_get (records_of orders h) p ≡ Some key) where
+  within : h < length orders
+  within = header_within orders h p key at
+
+  pub stands_at : stands orders h key ≡ true
+  stands_at =
+      sym (ap (list_any (λ k. k == key)) (list_of-get_or orders h))
+      ∙ any_at (λ k. k == key) (records_of orders h) p key at (eq-eqb key key refl)
+
+  pub stands_still : (h' other : ℕ) → other ≢ key → stands orders h' other ≡ true
+      → stands (set orders h (remove (records_of orders h) p)) h' other ≡ true
+  stands_still h' other ne =
+      changed orders h (remove (records_of orders h) p) h' other within
+      (λ e. removed_old (records_of orders h) p key other at ne
+      (ap (list_any (λ k. k == other)) (list_of-get_or orders h) ∙ e))
+
+  pub stands_before : (h' other : ℕ) → stands (set orders h (remove (records_of orders h) p)) h' other ≡ true
+      → stands orders h' other ≡ true
+  stands_before h' other st = elim (unchanged orders h (remove (records_of orders h) p) h' other within st) [
+    | inl e ↦ subst (λ j. stands orders j other ≡ true) (sym e.0)
+        (sym (ap (list_any (λ k. k == other)) (list_of-get_or orders h))
+        ∙ removed_back (records_of orders h) p key other at e.1)
+    | inr e ↦ e
+  ]
+
+-- a key that stands has a place
+pub place_stands : (orders : List (List ℕ)) (h key : ℕ) → stands orders h key ≡ true
+    → (p : ℕ) × (slice_get (records_of orders h) p ≡ Some key)
+place_stands orders h key st =
+    let one = place_any (λ k. k == key) (records_of orders h) (ap (list_any (λ k. k == key)) (list_of-get_or orders h)
+    ∙ st) in
+    (one.0, one.2 ∙ ap (λ k. Some k) (eqb-true one.1 key one.3))
+
+-- maps that agree on all keys that stand
+agree_one : {X : Type 0} (f g : ℕ → X) (xs : List ℕ) → ((k : ℕ) → list_any (λ j. j == k) xs ≡ true → f k ≡ g k)
+    → map f xs ≡ map g xs
+agree_one f g [] h = refl
+agree_one {X} f g (x ∷ xs) h =
+    ap (λ (y : X). y ∷ map f xs) (h x (or_left (x == x) (list_any (λ j. j == x) xs) (eq-eqb x x refl)))
+    ∙ ap (λ (l : List X). g x ∷ l) (agree_one f g xs (λ k e. h k (or_right (x == k) (list_any (λ j. j == k) xs) e)))
+
+pub agree : {X : Type 0} (f g : ℕ → X) (orders : List (List ℕ)) → ((h k : ℕ) → stands orders h k ≡ true → f k ≡ g k)
+    → map (map f) orders ≡ map (map g) orders
+agree f g [] h = refl
+agree {X} f g (o ∷ os) h =
+    ap (λ (l : List X). l ∷ map (map f) os) (agree_one f g o (λ k e. h zero k e))
+    ∙ ap (λ (l : List (List X)). map g o ∷ l) (agree f g os (λ i k e. h (suc i) k e))
+
+one_stands : {X : Type 0} (f : ℕ → X) (q : X → Bool) (xs : List ℕ) (key : ℕ) → list_any (λ j. j == key) xs ≡ true
+    → q (f key) ≡ true
+    → list_any q (map f xs) ≡ true
+one_stands f q [] key e t = absurd (false≢true e)
+one_stands f q (x ∷ xs) key e t = elim (or_cases (x == key) (list_any (λ j. j == key) xs) e) [
+  | inl i ↦ or_left (q (f x)) (list_any q (map f xs)) (ap (λ k. q (f k)) (eqb-true x key i) ∙ t)
+  | inr i ↦ or_right (q (f x)) (list_any q (map f xs)) (one_stands f q xs key i t)
+]
+
+-- what passes for a key that stands, passes among all records
+pub any_stands : {X : Type 0} (f : ℕ → X) (q : X → Bool) (orders : List (List ℕ)) (h key : ℕ)
+    → stands orders h key ≡ true → q (f key) ≡ true
+    → list_any q (all_records (map (map f) orders)) ≡ true
+any_stands f q [] h key st t = absurd (false≢true st)
+any_stands f q (o ∷ os) zero key st t =
+    list_any-append q (map f o) (all_records (map (map f) os))
+    ∙ or_left (list_any q (map f o)) _ (one_stands f q o key st t)
+any_stands f q (o ∷ os) (suc h) key st t =
+    list_any-append q (map f o) (all_records (map (map f) os))
+    ∙ or_right (list_any q (map f o)) _ (any_stands f q os h key st t)
+
+-- where one passes among all records, its key stands
+any_one : {X : Type 0} (f : ℕ → X) (q : X → Bool) (xs : List ℕ) → list_any q (map f xs) ≡ true
+    → (k : ℕ) × (list_any (λ j. j == k) xs ≡ true) × (q (f k) ≡ true)
+any_one f q [] e = absurd (false≢true e)
+any_one f q (x ∷ xs) e = elim (or_cases (q (f x)) (list_any q (map f xs)) e) [
+  | inl i ↦ (x, or_left (x == x) (list_any (λ j. j == x) xs) (eq-eqb x x refl), i)
+  | inr i ↦ let later = any_one f q xs i in
+      (later.0, or_right (x == later.0) (list_any (λ j. j == later.0) xs) later.1, later.2)
+]
+
+pub any_key : {X : Type 0} (f : ℕ → X) (q : X → Bool) (orders : List (List ℕ))
+    → list_any q (all_records (map (map f) orders)) ≡ true
+    → (h : ℕ) × (k : ℕ) × (stands orders h k ≡ true) × (q (f k) ≡ true)
+any_key f q [] e = absurd (false≢true e)
+any_key {X} f q (o ∷ os) e =
+    elim (or_cases (list_any q (map f o)) (list_any q (all_records (map (map f) os)))
+    (sym (list_any-append q (map f o) (all_records (map (map f) os))) ∙ e)) [
+      | inl i ↦ let one = any_one f q o i in (zero, one.0, one.1, one.2)
+      | inr i ↦ let later = any_key f q os i in (suc later.0, later.1, later.2, later.3)
+    ]
+
+twice_one : {X Y : Type 0} (f : ℕ → X) (g : X → Y) (xs : List ℕ) → map (λ k. g (f k)) xs ≡ map g (map f xs)
+twice_one f g [] = refl
+twice_one {Y = Y} f g (x ∷ xs) = ap (λ (l : List Y). g (f x) ∷ l) (twice_one f g xs)
+
+pub twice : {X Y : Type 0} (f : ℕ → X) (g : X → Y) (orders : List (List ℕ))
+    → map (map (λ k. g (f k))) orders ≡ map (map g) (map (map f) orders)
+twice f g [] = refl
+twice {Y = Y} f g (o ∷ os) =
+    ap (λ (l : List Y). l ∷ map (map (λ k. g (f k))) os) (twice_one f g o)
+    ∙ ap (λ (l : List (List Y)). map g (map f o) ∷ l) (twice f g os)

@@ -1,0 +1,123 @@
+-- A record with an id that stands somewhere: that is where it is found.
+use Rattle.std.proofs.Common.{◌≡◌, ℕ, ◌+◌, ◌<◌, Bool, true, false, not, ◌==◌, nat_lt, cond, List, [], ◌∷◌, ◌++◌, length, slice_get, position, Option, Some, None, option_map, refl, sym, ap, ◌∙◌, subst, arith, suc, zero}
+use Rattle.std.specs.List.{list_any, list_all, position_or_len}
+use Rattle.std.proofs.lemmas.Bool.{and_parts, or_right, false≢true, eq-eqb, eqb-true}
+use Rattle.cf_lists.specs.Pairwise.{pairwise}
+use Rattle.cf_lists.proofs.KeyLaws.{any_is_placed}
+use Rattle.cf_lists.specs.Lists.{all_records, is_id, has_id, spot_of, spot_in, ids_apart}
+use Rattle.cf_lists.proofs.AllLaws.{list_of, none_behind, any_all}
+use Rattle.cf_lists.proofs.IdLaws.{IsPlaced, once, apart-list}
+
+module _ {X : Type 0} where
+  pub all_at : (p : X → Bool) (xs : List X) (k : ℕ) (x : X) → list_all p xs ≡ true → slice_get xs k ≡ Some x
+      → p x ≡ true
+  all_at p [] k x h e = absurd (cc)
+  all_at p (y ∷ ys) zero x h e =
+      let same : y ≡ x = cc in subst (λ z. p z ≡ true) same (and_parts (p y) (list_all p ys) h).0
+  all_at p (y ∷ ys) (suc k) x h e = all_at p ys k x (and_parts (p y) (list_all p ys) h).1 e
+
+  pub any_at : (p : X → Bool) (xs : List X) (k : ℕ) (x : X) → slice_get xs k ≡ Some x → p x ≡ true
+      → list_any p xs ≡ true
+  any_at p [] k x e t = absurd (cc)
+  any_at p (y ∷ ys) zero x e t =
+      let same : y ≡ x = cc in let here : p y ≡ true = ap p same ∙ t in rw here refl
+  any_at p (y ∷ ys) (suc k) x e t = or_right (p y) (list_any p ys) (any_at p ys k x e t)
+
+  pub get_within : (xs : List X) (k : ℕ) (x : X) → slice_get xs k ≡ Some x → k < length xs
+  get_within [] k x e = absurd (cc)
+  get_within (y ∷ ys) zero x e = omega arith
+  get_within (y ∷ ys) (suc k) x e = omega (arith, get_within ys k x e)
+
+  pub header_within : (lists : List (List X)) (h k : ℕ) (x : X) → slice_get (list_of h lists) k ≡ Some x
+      → h < length lists
+  header_within [] h k x e = absurd (cc)
+  header_within (l ∷ ls) zero k x e = omega arith
+  header_within (l ∷ ls) (suc h) k x e = omega (arith, header_within ls h k x e)
+
+  pub any_there : (p : X → Bool) (lists : List (List X)) (h k : ℕ) (x : X) → slice_get (list_of h lists) k ≡ Some x
+      → p x ≡ true → list_any (λ recs. list_any p recs) lists ≡ true
+  any_there p [] h k x e t = absurd (cc)
+  any_there p (l ∷ ls) zero k x e t = let here = any_at p l k x e t in rw here refl
+  any_there p (l ∷ ls) (suc h) k x e t =
+      or_right (list_any p l) (list_any (λ recs. list_any p recs) ls) (any_there p ls h k x e t)
+
+module _ {X : Type 0} (id_of : X → ℕ) where
+  first_is : (id : ℕ) (xs : List X) (p : ℕ) (x : X) → pairwise (ids_apart id_of) xs ≡ true → slice_get xs p ≡ Some x
+      → id_of x ≡ id → position_or_len (is_id id_of id) xs ≡ p
+  first_is id [] p x h e i = absurd (cc)
+  first_is id (y ∷ ys) zero x h e i =
+      let same : y ≡ x = cc in
+      let here : (id_of y == id) ≡ true = eq-eqb (id_of y) id (ap id_of same ∙ i) in rw here refl
+  first_is id (y ∷ ys) (suc p) x h e i =
+      let parts = and_parts (list_all (ids_apart id_of y) ys) (pairwise (ids_apart id_of) ys) h in
+      let rest = first_is id ys p x parts.1 e i in
+      go (id_of y == id) refl (all_at (ids_apart id_of y) ys p x parts.0 e) rest
+    where
+      go : (b : Bool) → (id_of y == id) ≡ b → ids_apart id_of y x ≡ true → position_or_len (is_id id_of id) ys ≡ p
+          → cond (not b) (1 + position_or_len (is_id id_of id) ys) 0 ≡ suc p
+      go true t a r =
+          let eq = eq-eqb (id_of x) (id_of y) (i ∙ sym (eqb-true (id_of y) id t)) in
+          absurd (false≢true (sym (ap not eq) ∙ a))
+      go false t a r = omega (arith, r)
+
+  header_is : (id : ℕ) (lists : List (List X)) (h p : ℕ) (x : X) → pairwise (ids_apart id_of) (all_records lists) ≡ true
+      → slice_get (list_of h lists) p ≡ Some x → id_of x ≡ id → position_or_len (has_id id_of id) lists ≡ h
+  header_is id [] h p x a e i = absurd (cc)
+  header_is id (l ∷ ls) zero p x a e i =
+      let here = any_at (is_id id_of id) l p x e (eq-eqb (id_of x) id i) in rw here refl
+  header_is id (l ∷ ls) (suc h) p x a e i =
+      go (has_id id_of id l) refl a (any_there (is_id id_of id) ls h p x e (eq-eqb (id_of x) id i))
+      (header_is id ls h p x (behind l a) e i)
+    where
+      behind : (xs : List X) → pairwise (ids_apart id_of) (xs ++ all_records ls) ≡ true
+          → pairwise (ids_apart id_of) (all_records ls) ≡ true
+      behind [] k = k
+      behind (y ∷ xs) k =
+          behind xs (and_parts (list_all (ids_apart id_of y) (xs ++ all_records ls))
+          (pairwise (ids_apart id_of) (xs ++ all_records ls)) k).1
+
+      go : (b : Bool) → has_id id_of id l ≡ b → pairwise (ids_apart id_of) (l ++ all_records ls) ≡ true
+          → list_any (has_id id_of id) ls ≡ true → position_or_len (has_id id_of id) ls ≡ h
+          → cond (not b) (1 + position_or_len (has_id id_of id) ls) 0 ≡ suc h
+      go true t k any r =
+          absurd (false≢true (sym (none_behind (ids_apart id_of) (is_id id_of id) (once id_of id) l
+          (all_records ls) k t)
+          ∙ any_all (is_id id_of id) ls ∙ any))
+      go false t k any r = omega (arith, r)
+
+  -- where records are apart, one that stands somewhere is the first with its id
+  pub placed_at : (id : ℕ) (lists : List (List X)) (h p : ℕ) (x : X)
+      → pairwise (ids_apart id_of) (all_records lists) ≡ true
+      → slice_get (list_of h lists) p ≡ Some x → id_of x ≡ id → IsPlaced id_of id lists h p
+  placed_at id lists h p x a e i =
+      let within = header_within lists h p x e in
+      let test = eq-eqb (id_of x) id i in
+      record {
+        any = any_there (is_id id_of id) lists h p x e test;
+        header_is = header_is id lists h p x a e i;
+        header_in = within;
+        here = any_at (is_id id_of id) (list_of h lists) p x e test;
+        place_is = first_is id (list_of h lists) p x (apart-list id_of lists h within a) e i;
+        place_in = get_within (list_of h lists) p x e;
+      }
+
+  pub spot_there : (id : ℕ) (lists : List (List X)) (h p : ℕ) → IsPlaced id_of id lists h p
+      → spot_of id_of id lists ≡ Some (h, p)
+  spot_there id lists h p is =
+      ap (λ (o : Option ℕ). spot_in id_of id lists o) (some (has_id id_of id) lists h is.any is.header_is)
+      ∙ ap (λ (o : Option ℕ). option_map {U = ℕ × ℕ} (λ (place : ℕ). (h, place)) o)
+      (some (is_id id_of id) (list_of h lists) p is.here is.place_is)
+    where
+      some : {Y : Type 0} (q : Y → Bool) (ys : List Y) (k : ℕ) → list_any q ys ≡ true → position_or_len q ys ≡ k
+          → position q ys ≡ Some k
+      some q ys k a e =
+          let within : nat_lt (position_or_len q ys) (length ys) ≡ true = sym (any_is_placed q ys) ∙ a in
+          rw within (ap (λ (n : ℕ). Some n) e)
+
+  pub no_spot : (id : ℕ) (lists : List (List X)) → list_any (has_id id_of id) lists ≡ false
+      → spot_of id_of id lists ≡ None
+  no_spot id lists a =
+      let within : nat_lt (position_or_len (has_id id_of id) lists) (length lists)
+      ≡ false = sym (any_is_placed (has_id id_of id) lists) ∙ a in
+      let none : position (has_id id_of id) lists ≡ None = rw within refl in
+      ap (λ (o : Option ℕ). spot_in id_of id lists o) none

@@ -1,0 +1,118 @@
+-- All records with one more, one less, or one in place of another: the records before it and behind it.
+use Rattle.std.proofs.Common.{◌≡◌, ℕ, ◌<◌, Bool, true, false, not, ◌==◌, cond, List, [], ◌∷◌, ◌++◌, length, map, find, take, drop, slice_get, Some, refl, sym, ap, ◌∙◌, subst, suc, zero}
+use Rattle.std.specs.List.{list_all, insert}
+use Rattle.std.proofs.lemmas.Bool.{and_parts}
+use Rattle.std.proofs.lemmas.List.{append_assoc, take-append-drop}
+use Rattle.cf_lists.specs.Pairwise.{pairwise}
+use Rattle.cf_lists.proofs.FilterLaws.{none_from_all, list_all_weaker, filter_all}
+use Rattle.cf_lists.specs.Lists.{all_records, records_of, lists_with, records_without, is_id, has_id, replaced_by, ids_apart}
+use Rattle.cf_lists.proofs.AllLaws.{all-split, all-set}
+use Rattle.cf_lists.proofs.IdLaws.{once, unchanged}
+
+module _ {X : Type 0} where
+  -- each of them
+  abbrev pub Every : (X → Type 0) → List X → Type 0
+  Every P [] = Unit {0}
+  Every P (x ∷ xs) = P x × Every P xs
+
+  pub every_front : (P : X → Type 0) (xs ys : List X) → Every P (xs ++ ys) → Every P xs
+  every_front P [] ys h = tt
+  every_front P (x ∷ xs) ys h = (h.0, every_front P xs ys h.1)
+
+  pub every_back : (P : X → Type 0) (xs ys : List X) → Every P (xs ++ ys) → Every P ys
+  every_back P [] ys h = h
+  every_back P (x ∷ xs) ys h = every_back P xs ys h.1
+
+  pub every_one : (P : X → Type 0) (xs : List X) (k : ℕ) (x : X) → Every P xs → slice_get xs k ≡ Some x → P x
+  every_one P [] k x h e = absurd (cc)
+  every_one P (y ∷ ys) zero x h e = let same : y ≡ x = cc in subst P same h.0
+  every_one P (y ∷ ys) (suc k) x h e = every_one P ys k x h.1 e
+
+  pub every_at : (P : X → Type 0) (lists : List (List X)) (h k : ℕ) (x : X) → Every P (all_records lists)
+      → slice_get (records_of lists h) k ≡ Some x → P x
+  every_at P [] h k x all e = absurd (cc)
+  every_at P (l ∷ ls) zero k x all e = every_one P l k x (every_front P l (all_records ls) all) e
+  every_at P (l ∷ ls) (suc h) k x all e = every_at P ls h k x (every_back P l (all_records ls) all) e
+
+  pub every_found : (P : X → Type 0) (q : X → Bool) (xs : List X) (x : X) → Every P xs → find q xs ≡ Some x → P x
+  every_found P q [] x h e = absurd (cc)
+  every_found P q (y ∷ ys) x h e = go (q y) e (every_found P q ys x h.1)
+    where
+      go : (b : Bool) → cond b (Some y) (find q ys) ≡ Some x → (find q ys ≡ Some x → P x) → P x
+      go true e rest = let same : y ≡ x = cc in subst P same h.0
+      go false e rest = rest e
+
+  -- one record more
+  pub all_with : (h p : ℕ) (rec : X) (lists : List (List X)) → h < length lists
+      → (front : List X) × (back : List X) × (all_records lists ≡ front ++ back)
+      × (all_records (lists_with h p rec lists) ≡ front ++ rec ∷ back)
+  all_with h p rec lists lt =
+      let recs = records_of lists h in
+      let front = all_records (take h lists) in
+      let back = all_records (drop (suc h) lists) in (
+        front ++ take p recs,
+        drop p recs ++ back,
+        all-split lists h lt
+            ∙ ap (λ (l : List X). front ++ (l ++ back)) (sym (take-append-drop p recs))
+            ∙ ap (λ (l : List X). front ++ l) (append_assoc (take p recs) (drop p recs) back)
+            ∙ sym (append_assoc front (take p recs) (drop p recs ++ back)),
+        all-set lists h (insert recs p rec) lt
+            ∙ ap (λ (l : List X). front ++ l) (append_assoc (take p recs) (rec ∷ drop p recs) back)
+            ∙ sym (append_assoc front (take p recs) (rec ∷ (drop p recs ++ back))),
+      )
+
+module _ {X Y : Type 0} (f g : X → Y) where
+  agree_each : (xs : List X) → Every (λ x. f x ≡ g x) xs → map f xs ≡ map g xs
+  agree_each [] h = refl
+  agree_each (x ∷ xs) h = ap (λ (y : Y). y ∷ map f xs) h.0 ∙ ap (λ (l : List Y). g x ∷ l) (agree_each xs h.1)
+
+  -- maps that agree on all records
+  pub agree_all : (lists : List (List X)) → Every (λ x. f x ≡ g x) (all_records lists)
+      → map (map f) lists ≡ map (map g) lists
+  agree_all [] h = refl
+  agree_all (l ∷ ls) h =
+      ap (λ (r : List Y). r ∷ map (map f) ls) (agree_each l (every_front (λ x. f x ≡ g x) l (all_records ls) h))
+      ∙ ap (λ (r : List (List Y)). map g l ∷ r) (agree_all ls (every_back (λ x. f x ≡ g x) l (all_records ls) h))
+
+module _ {X : Type 0} (id_of : X → ℕ) where
+  pub record IsSplit (id : ℕ) (xs : List X) (x : X) : Type 0 where
+    pub front : List X
+    pub back : List X
+    pub whole : xs ≡ front ++ x ∷ back
+    pub less : records_without id_of id xs ≡ front ++ back
+    pub other : (new : X) → id_of new ≡ id → map (replaced_by id_of new) xs ≡ front ++ new ∷ back
+
+  pub split_found : (id : ℕ) (xs : List X) (x : X) → pairwise (ids_apart id_of) xs ≡ true
+      → find (is_id id_of id) xs ≡ Some x → IsSplit id xs x
+  split_found id [] x h e = absurd (cc)
+  split_found id (y ∷ ys) x h e =
+      let parts = and_parts (list_all (ids_apart id_of y) ys) (pairwise (ids_apart id_of) ys) h in
+      go (is_id id_of id y) refl e parts.0 (split_found id ys x parts.1)
+    where
+      go : (b : Bool) → is_id id_of id y ≡ b → cond b (Some y) (find (is_id id_of id) ys) ≡ Some x
+          → list_all (ids_apart id_of y) ys ≡ true
+          → (find (is_id id_of id) ys ≡ Some x → IsSplit id ys x) → IsSplit id (y ∷ ys) x
+      go true t e apart rest =
+          let same : y ≡ x = cc in
+          let others =
+          list_all_weaker (ids_apart id_of y) (λ z. not (is_id id_of id z)) (λ z. once id_of id y z t) ys apart in
+          let none = none_from_all (is_id id_of id) ys others in
+          record {
+            front = [];
+            back = ys;
+            whole = ap (λ (z : X). z ∷ ys) same;
+            less = rw t (filter_all (λ z. not (is_id id_of id z)) ys others);
+            other = λ new i. (let k : is_id id_of (id_of new) y ≡ true = ap (λ n. id_of y == n) i ∙ t in
+                ap (λ b. cond b new y ∷ map (replaced_by id_of new) ys) k
+                ∙ ap (λ (l : List X). new ∷ l) (unchanged id_of new ys (ap (λ n. has_id id_of n ys) i ∙ none)));
+          }
+      go false t e apart rest =
+          let r = rest e in
+          record {
+            front = y ∷ r.front;
+            back = r.back;
+            whole = ap (λ (l : List X). y ∷ l) r.whole;
+            less = rw t (ap (λ (l : List X). y ∷ l) r.less);
+            other = λ new i. (let k : is_id id_of (id_of new) y ≡ false = ap (λ n. id_of y == n) i ∙ t in
+                ap (λ b. cond b new y ∷ map (replaced_by id_of new) ys) k ∙ ap (λ (l : List X). y ∷ l) (r.other new i));
+          }

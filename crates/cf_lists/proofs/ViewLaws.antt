@@ -1,0 +1,75 @@
+-- What is seen of table entries, and lists by key.
+use Rattle.std.proofs.Common.{◌≡◌, ℕ, zero, suc, ◌+◌, ◌≤◌, Bool, true, false, ◌&&◌, cond, List, [], ◌∷◌, filter, map, length, get_or, refl, ap, ◌∙◌, arith}
+use Rattle.std.specs.List.{list_all}
+use Rattle.std.proofs.lemmas.Bool.{and_parts, and_from}
+use Rattle.std.proofs.lemmas.List.{length-append, length-map}
+use Rattle.cf_lists.specs.Pairwise.{pairwise}
+use Rattle.cf_lists.proofs.InsertionLaws.{length-insertion}
+use Rattle.cf_lists.specs.Bins.{is_keyed, arranged, joined}
+
+pub length_arranged : {X K : Type 0} (key : X → K) (before : K → K → Bool) (xs : List X)
+    → length (arranged key before xs) ≡ length xs
+unfolding arranged
+length_arranged key before [] = refl
+length_arranged key before (x ∷ xs) =
+    length-insertion (λ y. before (key y) (key x)) x (arranged key before xs)
+    ∙ ap (λ n. n + 1) (length_arranged key before xs) ∙ omega arith
+
+length_joined : {X : Type 0} (i : ℕ) (bins : List (List X)) → length (get_or bins i []) ≤ length (joined bins)
+unfolding joined
+length_joined i [] = omega arith
+length_joined zero (bin ∷ bins) = omega (arith, length-append bin (joined bins))
+length_joined (suc i) (bin ∷ bins) = omega (arith, length-append bin (joined bins), length_joined i bins)
+
+pub length_in : {X K : Type 0} (key : X → K) (before : K → K → Bool) (i : ℕ) (bins : List (List X))
+    → length (get_or bins i []) ≤ length (map key (arranged key before (joined bins)))
+length_in key before i bins =
+    rw (length-map (arranged key before (joined bins)) key, length_arranged key before (joined bins))
+    (length_joined i bins)
+
+all_mapped : {X Y : Type 0} (f : X → Y) (p : Y → Bool) (xs : List X) → list_all p (map f xs) ≡ list_all (λ x. p (f x)) xs
+all_mapped f p [] = refl
+all_mapped f p (x ∷ xs) = ap (λ b. p (f x) && b) (all_mapped f p xs)
+
+pub mapped_pairs : {X Y : Type 0} (f : X → Y) (relation : Y → Y → Bool) (xs : List X)
+    → pairwise relation (map f xs) ≡ pairwise (λ x y. relation (f x) (f y)) xs
+mapped_pairs f relation [] = refl
+mapped_pairs f relation (x ∷ xs) = rw (all_mapped f (relation (f x)) xs, mapped_pairs f relation xs) refl
+
+-- a relation of those of one key alone holds of all pairs where it holds of all pairs of each key
+pub by_key : {X K : Type 0} (key : X → K) (same : K → K → Bool) (relation : X → X → Bool) → ((k : K) → same k k ≡ true)
+    → ((x y : X) → same (key y) (key x) ≡ false → relation x y ≡ true) → (xs : List X)
+    → ((k : K) → pairwise relation (filter (is_keyed key same k) xs) ≡ true) → pairwise relation xs ≡ true
+by_key key same relation itself apart [] h = refl
+by_key key same relation itself apart (x ∷ xs) h =
+    and_from (list_all (relation x) xs) (pairwise relation xs)
+    (each xs (and_parts (list_all (relation x) (filter (is_keyed key same (key x)) xs))
+    (pairwise relation (filter (is_keyed key same (key x)) xs)) mine).0)
+    (by_key key same relation itself apart xs (λ k. later (same (key x) k) k refl (h k)))
+  where
+    mine : pairwise relation (x ∷ filter (is_keyed key same (key x)) xs) ≡ true
+    mine = rw (itself (key x)) at (h (key x))
+
+    later : (b : Bool) (k : _) → same (key x) k ≡ b
+        → pairwise relation (cond (same (key x) k) (x ∷ filter (is_keyed key same k) xs) (filter (is_keyed key same k) xs))
+        ≡ true
+        → pairwise relation (filter (is_keyed key same k) xs) ≡ true
+    later true k e g =
+        (and_parts (list_all (relation x) (filter (is_keyed key same k) xs))
+        (pairwise relation (filter (is_keyed key same k) xs)) (rw e at g)).1
+    later false k e g = rw e at g
+
+    step : (b : Bool) (y : _) (ys : _) → same (key y) (key x) ≡ b
+        → list_all (relation x) (cond b (y ∷ filter (is_keyed key same (key x)) ys) (filter (is_keyed key same (key x)) ys))
+        ≡ true
+        → (list_all (relation x) (filter (is_keyed key same (key x)) ys) ≡ true → list_all (relation x) ys ≡ true)
+        → list_all (relation x) (y ∷ ys) ≡ true
+    step true y ys e g ih =
+        let parts = and_parts (relation x y) (list_all (relation x) (filter (is_keyed key same (key x)) ys)) g in
+        and_from (relation x y) (list_all (relation x) ys) parts.0 (ih parts.1)
+    step false y ys e g ih = and_from (relation x y) (list_all (relation x) ys) (apart x y e) (ih g)
+
+    each : (ys : _) → list_all (relation x) (filter (is_keyed key same (key x)) ys) ≡ true
+        → list_all (relation x) ys ≡ true
+    each [] g = refl
+    each (y ∷ ys) g = step (same (key y) (key x)) y ys refl g (each ys)

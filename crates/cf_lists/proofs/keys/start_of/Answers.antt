@@ -1,0 +1,14 @@
+use Rattle.std.proofs.Common.{rules, Bool}
+use Rattle.std.proofs.lemmas.List.Sorted.{IsPartitionPoint-from_clause}
+use Rattle.cf_types.specs.declared.resources.Resource.{Resource}
+use Rattle.cf_types.specs.Resources.{resource_before, resource_up_to}
+use Rattle.cf_lists.proofs.PlaceLaws.{partitioned, partition_is}
+use Rattle.cf_lists.proofs.EntryKeyLaws.{before_front}
+use Rattle.cf_lists.proofs.keys.start_of.Goals as goal
+
+pub returns : goal.returns
+returns c =
+    let p : Resource → Bool = λ (other : Resource). resource_before other c.args.r.now in
+    partition_is p c.args.keys.now c.partition_point.result c.args.r.now c.partition_point.ensures.bound
+    (IsPartitionPoint-from_clause p c.args.keys.now c.partition_point.result c.partition_point.ensures.partitioned
+    (partitioned resource_up_to p c.args.keys.now (before_front c.args.r.now) c.requires) (λ a r f h. search rules))

@@ -1,0 +1,9 @@
+pub mod Pairwise
+pub mod Insertions
+pub mod Prefixes
+pub mod Lists
+pub mod Orders
+pub mod RecordPrefixes
+pub mod Fronts
+pub mod Bins
+pub mod Tables

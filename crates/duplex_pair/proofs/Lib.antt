@@ -1,0 +1,1 @@
+pub use Rattle.cf_link.proofs as CfLink

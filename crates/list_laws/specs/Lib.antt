@@ -1,3 +1,0 @@
-pub mod Pairwise
-pub mod Insertions
-pub mod Prefixes

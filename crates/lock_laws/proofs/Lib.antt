@@ -1,2 +1,0 @@
-pub mod OwnerReplay
-pub mod EntryLaws

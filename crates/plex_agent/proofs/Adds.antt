@@ -1,0 +1,272 @@
+-- What each kind of item does to a pass: calls, tests, posts and takes.
+use Rattle.std.proofs.Common.{◌≡◌, ℕ, ◌+◌, ◌*◌, ◌^◌, ◌≤◌, ◌<◌, ◌==◌, ◌&&◌, nat_lt, inl, inr, Bool, true, false, List, [], ◌∷◌, ◌++◌, map, Some, None, refl, sym, ap, ◌∙◌, arith, append-nil, slice_get, cond}
+use Rattle.std.specs.Prelude.{All}
+use Rattle.std.specs.Int.{bit_at}
+use Rattle.std.proofs.lemmas.Bool.{ltb-false}
+use Rattle.std.proofs.lemmas.List.{map-append}
+use Rattle.std.proofs.lemmas.List.Elements.{All-head, All-tail}
+use Rattle.plex_board.specs.CfTypes.declared.forms.StrForm.{StrForm}
+use Rattle.plex_board.specs.CfTypes.declared.numbers.ConnId.{ConnId}
+use Rattle.plex_board.specs.CfTypes.declared.numbers.StrNo.{StrNo}
+use Rattle.plex_board.specs.EngineApi.declared.histories.Entry.{Entry}
+use Rattle.plex_board.specs.EngineApi.declared.told.Told.{Told}
+use Rattle.plex_board.specs.EngineApi.Meaning.{Meaning}
+use Rattle.plex_board.specs.EngineApi.History.{Tells}
+use Rattle.plex_board.specs.CacheModel.Meaning.{cache_meaning}
+use Rattle.plex_board.specs.ListModel.Meaning.{list_meaning}
+use Rattle.plex_board.specs.LockModel.Meaning.{lock_meaning}
+use Rattle.plex_board.specs.PlexScript.declared.scripts.AnyAsk.{AnyAsk}
+use Rattle.plex_board.specs.PlexScript.declared.asks.AnyHistory.{AnyHistory}
+use Rattle.plex_board.specs.PlexScript.declared.asks.AnyHistory.TheVariants as history
+use Rattle.plex_board.specs.PlexScript.declared.transcripts.Shown.{Shown}
+use Rattle.plex_board.specs.PlexScript.declared.transcripts.Shown.TheVariants as shown
+use Rattle.plex_board.specs.PlexScript.Heard.{AnyCall}
+use Rattle.plex_board.specs.PlexScript.Follows.{numbers_on, surest_on}
+use Rattle.plex_board.specs.Numbers.{seen_on}
+use Rattle.plex_board.specs.Headline.{TellsBit, TellsWord, place_of}
+use Rattle.plex_board.specs.VecWords.declared.logged.Sight.{Sight}
+use Rattle.plex_board.specs.VecWords.Logged.{bit_in, sight, indices_of}
+use Rattle.plex_board.specs.StructCell.Telling.{IsTold}
+use Rattle.plex_board.specs.declared.any_reply.AnyReply.{AnyReply}
+use Rattle.plex_board.specs.Passes.{PassShown, IsLater, with_call}
+use Rattle.plex_board.specs.Cells.{IsAnyTold}
+use Rattle.plex_board.proofs.SightLaws.{told_past, each_sight, bit_in_word}
+use Rattle.plex_board.specs.Kinds.{AnyTells}
+use Rattle.plex_board.proofs.WordLaws.{all_bits}
+use Rattle.plex_agent.proofs.Fronts.{itself, front_same, front_more}
+use Rattle.plex_agent.proofs.Passes.{Caller, IsOf, IsShown, IsWithin, Adds}
+
+-- ---- readings
+
+of_item : (item : Shown) → IsOf (place_of item) item
+of_item (shown.Call place number) =
+    record {
+      numbers = λ other apart. rw apart refl;
+      seen = λ other apart. rw apart refl;
+      sure = λ other apart. rw apart refl;
+    }
+of_item (shown.Test place index bit at) =
+    record { numbers = λ other apart. refl; seen = λ other apart. rw apart refl; sure = λ other apart. refl }
+of_item (shown.Word place word bits at) =
+    record { numbers = λ other apart. refl; seen = λ other apart. rw apart refl; sure = λ other apart. refl }
+of_item (shown.BadIndex place index word len) =
+    record { numbers = λ other apart. refl; seen = λ other apart. refl; sure = λ other apart. refl }
+of_item (shown.Posted place sure) =
+    record { numbers = λ other apart. refl; seen = λ other apart. rw apart refl; sure = λ other apart. rw apart refl }
+of_item (shown.Took place sure) =
+    record { numbers = λ other apart. refl; seen = λ other apart. rw apart refl; sure = λ other apart. rw apart refl }
+
+-- a number that is read of an item of this structure is the one that the item shows
+number_read : (place number n most : ℕ) → cond (place == place) (Some number) None ≡ Some n → number ≤ most → n ≤ most
+number_read place number n most read small =
+    let there : Some number ≡ Some n = rw (itself place) at read in
+    let is : number ≡ n = cc in
+    omega (arith, is, small)
+
+-- ---- the end of a list
+
+all_behind : {X : Type 0} (P : X → Type 0) (xs ys : List X) → All P (xs ++ ys) → All P ys
+all_behind P [] ys all = all
+all_behind P (x ∷ xs) ys all = all_behind P xs ys (All-tail P x (xs ++ ys) all)
+
+-- ---- tests
+
+module _ {C R I S : Type 0} (meaning : Meaning C R I S) (form : StrForm) (entries : List (Entry C R)) (conn : ConnId)
+    (test : Sight) (sure : ℕ) where
+  tells_less : IsTold meaning form entries conn.0 test → test.index < form.vector → sure ≤ test.sure
+      → Tells meaning form entries test.at sure conn test.index test.bit
+  tells_less told inside less =
+      let tells : Tells meaning form entries test.at test.sure conn test.index test.bit = told.tells inside in
+      record {
+        point = tells.point;
+        seen = omega (arith, tells.seen, less);
+        stood = elim tells.stood [ inl now ↦ inl now | inr below ↦ inr (omega (arith, below.0, less), below.1) ];
+      }
+
+-- a test tells what stood at a point that isn't before less, either
+told_tells : (form : StrForm) (entries : AnyHistory) (conn : ConnId) (test : Sight) (sure : ℕ)
+    → IsAnyTold form entries conn test
+    → test.index < form.vector → sure ≤ test.sure → AnyTells form entries test.at sure conn test.index test.bit
+told_tells form (history.Cache entries) conn test sure = tells_less cache_meaning form entries conn test sure
+told_tells form (history.List entries) conn test sure = tells_less list_meaning form entries conn test sure
+told_tells form (history.Lock entries) conn test sure = tells_less lock_meaning form entries conn test sure
+
+-- ---- words
+
+module _ (form : StrForm) (entries : AnyHistory) (conn : ConnId) (on : StrNo) (before : List Shown)
+    (word bits at sure : ℕ)
+    (told : All (IsAnyTold form entries conn) (map (sight bits at sure) (indices_of word))) (small : bits < 2 ^ 32)
+    (seen : seen_on on before ≤ at) (less : surest_on on before ≤ sure) where
+  bit_told : (k : ℕ) → k < 32 → IsAnyTold form entries conn (sight bits at sure (32 * word + k))
+  bit_told k within = each_sight (IsAnyTold form entries conn) word bits at sure k told within
+
+  bit_shown : (k : ℕ) → k < 32
+      → (nat_lt (32 * word + k) form.vector && bit_in bits (32 * word + k)) ≡ (bit_at bits k == 1)
+  bit_shown k within = by_place (nat_lt (32 * word + k) form.vector) refl
+    where
+      by_place : (b : Bool) → nat_lt (32 * word + k) form.vector ≡ b
+          → (nat_lt (32 * word + k) form.vector && bit_in bits (32 * word + k)) ≡ (bit_at bits k == 1)
+      by_place true inside = rw inside (bit_in_word bits word k within)
+      by_place false past =
+          rw past (sym (told_past form entries conn (sight bits at sure (32 * word + k)) (bit_told k within)
+          (ltb-false (32 * word + k) form.vector past)) ∙ bit_in_word bits word k within)
+
+  -- the tests of a word's indices tell what the word shows
+  word_tells : TellsWord form entries conn on before at word bits
+  word_tells =
+      record {
+        bits = λ k. bit_in bits (32 * word + k);
+        made = sym
+            (all_bits bits 32 (λ k. nat_lt (32 * word + k) form.vector && bit_in bits (32 * word + k)) small
+            bit_shown);
+        each = λ k within inside. record {
+          seen = seen;
+          tells = told_tells form entries conn (sight bits at sure (32 * word + k)) (surest_on on before)
+              (bit_told k within) inside less;
+        };
+      }
+
+-- ---- items
+
+module _ (me : Caller) (on : StrNo) (pass : PassShown) where
+  pub call_adds : (asked : AnyAsk) (told : Told) (reply : AnyReply) → pass.known < told.no
+      → Adds me on pass (with_call asked told reply pass) (shown.Call on told.no)
+  call_adds asked told reply above =
+      let one : numbers_on on (shown.Call on told.no ∷ []) ≡ told.no ∷ [] = rw (itself on.0) refl in
+      record {
+        of = of_item (shown.Call on told.no);
+        owner = refl;
+        calls = front_more pass.calls _;
+        tests = front_same pass.tests;
+        numbers = map-append (λ (call : AnyCall). call.no) pass.calls _
+            ∙ ap (λ (t : List ℕ). map (λ (call : AnyCall). call.no) pass.calls ++ t) (sym one);
+        known = omega (arith, above);
+        sure = λ n less small. omega (arith, small, above);
+        seen_now = λ n read. number_read on.0 told.no n told.no read (omega arith);
+        sure_now = λ n read. number_read on.0 told.no n told.no read (omega arith);
+        reached_now = λ n read. number_read on.0 told.no n told.no read (omega arith);
+        good = λ within before is. (tt, λ form entries known there. tt);
+      }
+
+  abbrev pub with_test : ℕ → Bool → ℕ → PassShown
+  with_test index bit at =
+      record pass {
+        known = at;
+        tests = pass.tests ++ record { index = index; bit = bit; at = at; sure = pass.sure } ∷ [];
+      }
+
+  pub test_adds : (index : ℕ) (bit : Bool) (at : ℕ) → pass.known ≤ at
+      → ((form : StrForm) → slice_get me.forms on.0 ≡ Some form → index < form.vector)
+      → Adds me on pass (with_test index bit at) (shown.Test on index bit at)
+  test_adds index bit at later inside =
+      record {
+        of = of_item (shown.Test on index bit at);
+        owner = refl;
+        calls = front_same pass.calls;
+        tests = front_more pass.tests _;
+        numbers = sym (append-nil (map (λ (call : AnyCall). call.no) pass.calls));
+        known = later;
+        sure = λ n less small. less;
+        seen_now = λ n read. number_read on.0 at n at read (omega arith);
+        sure_now = λ n read. absurd (cc read);
+        reached_now = λ n read. absurd (cc read);
+        good = λ within before is. (tt, λ form entries known there. tells within before is form entries known there);
+      }
+    where
+      tells : IsWithin me on (with_test index bit at) → (before : List Shown) → IsShown on pass before
+          → (form : StrForm) (entries : AnyHistory) → slice_get me.forms on.0 ≡ Some form
+          → slice_get me.histories on.0 ≡ Some entries
+          → TellsBit form entries me.conn on before at index bit
+      tells within before is form entries known there =
+          let test : Sight = record { index = index; bit = bit; at = at; sure = pass.sure } in
+          let told : IsAnyTold form entries me.conn test =
+          All-head (IsAnyTold form entries me.conn) test []
+          (all_behind (IsAnyTold form entries me.conn) pass.tests (test ∷ [])
+          (within.tests form entries known there)) in
+          record {
+            seen = omega (arith, is.seen, later);
+            tells = told_tells form entries me.conn test (surest_on on before) told (inside form known) is.sure;
+          }
+
+  abbrev pub with_word : ℕ → ℕ → ℕ → PassShown
+  with_word word bits at =
+      record pass { known = at; tests = pass.tests ++ map (sight bits at pass.sure) (indices_of word) }
+
+  pub word_adds : (word bits at : ℕ) → bits < 2 ^ 32 → pass.known ≤ at
+      → Adds me on pass (with_word word bits at) (shown.Word on word bits at)
+  word_adds word bits at small later =
+      record {
+        of = of_item (shown.Word on word bits at);
+        owner = refl;
+        calls = front_same pass.calls;
+        tests = front_more pass.tests _;
+        numbers = sym (append-nil (map (λ (call : AnyCall). call.no) pass.calls));
+        known = later;
+        sure = λ n less small. less;
+        seen_now = λ n read. number_read on.0 at n at read (omega arith);
+        sure_now = λ n read. absurd (cc read);
+        reached_now = λ n read. absurd (cc read);
+        good = λ within before is. (
+          tt,
+          λ form entries known there. word_tells form entries me.conn on before word bits at pass.sure
+              (all_behind (IsAnyTold form entries me.conn) pass.tests (map (sight bits at pass.sure)
+              (indices_of word))
+              (within.tests form entries known there))
+              small (omega (arith, is.seen, later)) is.sure,
+        );
+      }
+
+  pub bad_adds : (index : ℕ) (word : Bool) (len : ℕ) → Adds me on pass pass (shown.BadIndex on index word len)
+  bad_adds index word len =
+      record {
+        of = of_item (shown.BadIndex on index word len);
+        owner = refl;
+        calls = front_same pass.calls;
+        tests = front_same pass.tests;
+        numbers = sym (append-nil (map (λ (call : AnyCall). call.no) pass.calls));
+        known = omega arith;
+        sure = λ n less small. less;
+        seen_now = λ n read. absurd (cc read);
+        sure_now = λ n read. absurd (cc read);
+        reached_now = λ n read. absurd (cc read);
+        good = λ within before is. (tt, λ form entries known there. tt);
+      }
+
+  pub post_adds : pass.sure ≤ pass.known → Adds me on pass pass (shown.Posted on pass.sure)
+  post_adds ordered =
+      record {
+        of = of_item (shown.Posted on pass.sure);
+        owner = refl;
+        calls = front_same pass.calls;
+        tests = front_same pass.tests;
+        numbers = sym (append-nil (map (λ (call : AnyCall). call.no) pass.calls));
+        known = omega arith;
+        sure = λ n less small. less;
+        seen_now = λ n read. number_read on.0 pass.sure n pass.known read ordered;
+        sure_now = λ n read. number_read on.0 pass.sure n pass.sure read (omega arith);
+        reached_now = λ n read. number_read on.0 pass.sure n pass.known read ordered;
+        good = λ within before is. ((is.sure, omega (arith, ordered, within.known)), λ form entries known there. tt);
+      }
+
+  pub take_adds : (pass' : PassShown) → IsLater pass pass' → pass'.sure ≤ pass'.known
+      → Adds me on pass pass' (shown.Took on pass'.sure)
+  take_adds pass' later ordered =
+      let same_calls : pass'.calls ≡ pass.calls = ap (λ (p : PassShown). p.calls) later.same in
+      let same_tests : pass'.tests ≡ pass.tests = ap (λ (p : PassShown). p.tests) later.same in
+      record {
+        of = of_item (shown.Took on pass'.sure);
+        owner = ap (λ (p : PassShown). p.owner) later.same;
+        calls = record { more = []; behind = same_calls ∙ sym (append-nil pass.calls) };
+        tests = record { more = []; behind = same_tests ∙ sym (append-nil pass.tests) };
+        numbers = ap (map (λ (call : AnyCall). call.no)) same_calls
+            ∙ sym (append-nil (map (λ (call : AnyCall). call.no) pass.calls));
+        known = later.known;
+        sure = λ n less small. omega (arith, less, later.sure);
+        seen_now = λ n read. number_read on.0 pass'.sure n pass'.known read ordered;
+        sure_now = λ n read. number_read on.0 pass'.sure n pass'.sure read (omega arith);
+        reached_now = λ n read. number_read on.0 pass'.sure n pass'.known read ordered;
+        good = λ within before is. (
+          (omega (arith, is.sure, later.sure), omega (arith, ordered, within.known)),
+          λ form entries known there. tt,
+        );
+      }

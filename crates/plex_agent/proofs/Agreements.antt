@@ -1,0 +1,134 @@
+-- What the run by the machine alone has to do with what was done at a structure.
+use Rattle.std.proofs.Common.{◌≡◌, ◌≢◌, ℕ, ◌≤◌, ◌==◌, max, fold, Bool, true, false, cond, List, [], ◌∷◌, ◌++◌, Option, None, Some, refl, sym, ap, subst, ◌∙◌, arith}
+use Rattle.std.specs.Prelude.{unwrap_or}
+use Rattle.std.specs.List.{filter_map, cons_option}
+use Rattle.std.proofs.lemmas.List.Elements.{filter_map-append}
+use Rattle.std.proofs.lemmas.List.Sums.{fold-append}
+use Rattle.plex_board.specs.CfTypes.declared.numbers.ConnId.{ConnId}
+use Rattle.plex_board.specs.CfTypes.declared.numbers.StrNo.{StrNo}
+use Rattle.plex_board.specs.PlexScript.declared.asks.AnyHistory.{AnyHistory}
+use Rattle.plex_board.specs.PlexScript.declared.transcripts.AgentEnd.TheVariants as ended
+use Rattle.plex_board.specs.PlexScript.declared.transcripts.Shown.{Shown}
+use Rattle.plex_board.specs.PlexScript.declared.transcripts.Transcript.{Transcript}
+use Rattle.plex_board.specs.PlexScript.Heard.{AnyCall}
+use Rattle.plex_board.specs.Kinds.{any_take, end_of}
+use Rattle.plex_board.specs.Numbers.{shown_on, seen_on}
+use Rattle.plex_board.specs.Passes.{PassShown, NoteShown}
+use Rattle.plex_agent.proofs.Spots.{conn, str, put, put_all, same_number, other_number, Spot}
+
+-- ---- what items show
+
+pub seen_push : (on : StrNo) (items : List Shown) (item : Shown) (n : ℕ) → shown_on on item ≡ Some n
+    → seen_on on (items ++ item ∷ []) ≡ max (seen_on on items) n
+seen_push on items item n e =
+    ap (fold max 0) (filter_map-append (shown_on on) items (item ∷ []))
+    ∙ fold-append max 0 (filter_map (shown_on on) items) (filter_map (shown_on on) (item ∷ []))
+    ∙ ap (λ (o : Option ℕ). fold max (seen_on on items) (cons_option o [])) e
+
+pub seen_none : (on : StrNo) (items : List Shown) (item : Shown) → shown_on on item ≡ None
+    → seen_on on (items ++ item ∷ []) ≡ seen_on on items
+seen_none on items item e =
+    ap (fold max 0) (filter_map-append (shown_on on) items (item ∷ []))
+    ∙ fold-append max 0 (filter_map (shown_on on) items) (filter_map (shown_on on) (item ∷ []))
+    ∙ ap (λ (o : Option ℕ). fold max (seen_on on items) (cons_option o [])) e
+
+-- ---- agreement
+
+-- The caller has seen complete all that it knows of the structure. It was shown no more; and just as much,
+-- where this is said of it
+pub record IsSeen (on : StrNo) (pass : PassShown) (items : List Shown) (shows : Type 0) : Type 0 where
+  pub complete : pass.sure ≡ pass.known
+  pub most : seen_on on items ≤ pass.sure
+  pub seen : shows → seen_on on items ≡ pass.sure
+
+abbrev pub sure_in : Option NoteShown → ℕ
+sure_in None = 0
+sure_in (Some note) = note.sure
+
+abbrev pub known_in : Option NoteShown → ℕ
+known_in None = 0
+known_in (Some note) = note.known
+
+pub record AgreesAt (callers : ℕ) (entries : AnyHistory) (x : ℕ) (shows : ℕ → Type 0) (spot : Spot)
+    (transcripts : ℕ → Transcript)
+    (history : Option AnyHistory) (number : Option ℕ) : Type 0 where
+  pub history_is : history ≡ Some (any_take (end_of spot.events) entries)
+  pub front_is : spot.front ≡ end_of spot.events
+  pub seen : (c : ℕ) → c ≤ callers → (transcripts c).end ≡ ended.Done
+      → IsSeen (str x) (spot.passes c) (transcripts c).items (shows c)
+  pub lasts : (c : ConnId) → spot.last ≡ Some c → (spot.passes c.0).sure ≡ spot.front
+  pub number_is : number ≡ Some (sure_in spot.note)
+  pub noted : known_in spot.note ≡ sure_in spot.note
+
+put_both : {X Y : Type 0} (P : ℕ → X → Y → Type 0) (at : ℕ) (x : X) (xs : ℕ → X) (y : Y) (ys : ℕ → Y) → P at x y
+    → ((other : ℕ) → other ≢ at → P other (xs other) (ys other)) → (other : ℕ)
+    → P other (put at x xs other) (put at y ys other)
+put_both {X} {Y} P at x xs y ys here rest other = go (other == at) refl
+  where
+    go : (b : Bool) → other == at ≡ b → P other (cond b x (xs other)) (cond b y (ys other))
+    go true same = subst (λ n. P n x y) (sym (same_number other at same)) here
+    go false apart = rest other (other_number other at apart)
+
+-- the caller's pass and transcript changed
+pub agrees_put : (callers : ℕ) (entries : AnyHistory) (x : ℕ) (shows shows' : ℕ → Type 0) (by : ℕ) (spot : Spot)
+    (transcripts : ℕ → Transcript) (history history' : Option AnyHistory) (number number' : Option ℕ)
+    (pass : PassShown) (last : Option ConnId) (events : List AnyCall) (front : ℕ) (transcript : Transcript)
+    → AgreesAt callers entries x shows spot transcripts history number
+    → history' ≡ Some (any_take (end_of events) entries)
+    → number' ≡ Some (sure_in spot.note)
+    → front ≡ end_of events
+    → (transcript.end ≡ ended.Done → IsSeen (str x) pass transcript.items (shows' by))
+    → ((c : ℕ) → c ≢ by → shows' c → shows c)
+    → ((c : ConnId) → last ≡ Some c → (put by pass spot.passes c.0).sure ≡ front)
+    → AgreesAt callers entries x shows'
+    (record { passes = put by pass spot.passes; note = spot.note; last = last; events = events; front = front })
+    (put by transcript transcripts) history' number'
+agrees_put callers entries x shows shows' by spot transcripts history history' number number' pass last events front
+    transcript
+    agrees history_is number_is front_is seen less lasts =
+    record {
+      history_is = history_is;
+      front_is = front_is;
+      seen = put_both (λ c pass' transcript'. c ≤ callers → transcript'.end ≡ ended.Done
+          → IsSeen (str x) pass' transcript'.items (shows' c)) by pass spot.passes transcript transcripts
+          (λ within works. seen works)
+          (λ c apart within works.
+          let before = agrees.seen c within works in
+          record { complete = before.complete; most = before.most; seen = λ is. before.seen (less c apart is) });
+      lasts = lasts;
+      number_is = number_is;
+      noted = agrees.noted;
+    }
+
+-- the same at another structure: nothing happened there
+pub agrees_elsewhere : (callers : ℕ) (entries : AnyHistory) (x : ℕ) (shows shows' : ℕ → Type 0) (by : ℕ) (spot : Spot)
+    (transcripts : ℕ → Transcript) (history : Option AnyHistory) (number : Option ℕ) (transcript : Transcript)
+    → by ≤ callers → AgreesAt callers entries x shows spot transcripts history number
+    → (transcript.end ≡ ended.Done → (transcripts by).end ≡ ended.Done)
+    → seen_on (str x) transcript.items ≡ seen_on (str x) (transcripts by).items
+    → ((c : ℕ) → shows' c → shows c)
+    → AgreesAt callers entries x shows' spot (put by transcript transcripts) history number
+agrees_elsewhere callers entries x shows shows' by spot transcripts history number transcript caller agrees works same
+    less =
+    record {
+      history_is = agrees.history_is;
+      front_is = agrees.front_is;
+      seen = λ c. put_all (λ c transcript'. c ≤ callers → transcript'.end ≡ ended.Done
+          → IsSeen (str x) (spot.passes c) transcript'.items (shows' c)) by transcript transcripts
+          (λ within working.
+          let before = agrees.seen by within (works working) in
+          record {
+            complete = before.complete;
+            most = omega (arith, same, before.most);
+            seen = λ is. same ∙ before.seen (less by is);
+          })
+          (λ c apart within working.
+          let before = agrees.seen c within working in
+          record { complete = before.complete; most = before.most; seen = λ is. before.seen (less c is) }) c;
+      lasts = agrees.lasts;
+      number_is = agrees.number_is;
+      noted = agrees.noted;
+    }
+
+pub last_is : (by : ℕ) (c : ConnId) → Some (conn by) ≡ Some c → c.0 ≡ by
+last_is by c e = sym (ap (λ (o : Option ConnId). (unwrap_or o (conn 0)).0) e)

@@ -1,0 +1,89 @@
+-- The callers of a board, each at work on its own: as they begin, and what their work shows.
+use Rattle.std.proofs.Common.{◌≡◌, ℕ, ◌+◌, ◌≤◌, ◌<◌, List, length, Some, slice_get, get_or, sym, ap, subst, ◌∙◌, arith}
+use Rattle.std.specs.Prelude.{All}
+use Rattle.std.specs.List.{range_with_len}
+use Rattle.std.proofs.lemmas.List.Elements.{All-map, All-same, All-weaker}
+use Rattle.std.proofs.lemmas.List.FromFn.{length-range_with_len, get_or-range_with_len}
+use Rattle.plex_board.specs.CfTypes.declared.limits.TheConstants.{CONNECTORS}
+use Rattle.plex_board.specs.PlexScript.declared.asks.AnyHistory.{AnyHistory}
+use Rattle.plex_board.specs.PlexScript.declared.scripts.Line.{Line}
+use Rattle.plex_board.specs.PlexScript.declared.scripts.Script.{Script}
+use Rattle.plex_board.specs.PlexScript.declared.transcripts.Transcript.{Transcript}
+use Rattle.plex_board.specs.Headline.{ShowsHistories}
+use Rattle.plex_board.specs.Desks.{DeskShown}
+use Rattle.plex_board.specs.Boards.{BoardShown, AreClosed, new_desk}
+use Rattle.plex_board.specs.Turns.{AtWork}
+use Rattle.plex_board.specs.Callers.{IsLineFor, Serves, no_items}
+use Rattle.plex_board.proofs.DeskLaws.{new_desk-of_board}
+use Rattle.plex_agent.proofs.ServeLaw.{serves_right}
+use Rattle.plex_agent.proofs.Alone.{alone_serves}
+use Rattle.plex_agent.specs.Standing.{AreCallersOf, IsPlayable}
+use Rattle.plex_agent.specs.Played.{IsBoardOf}
+use Rattle.plex_agent.specs.Crews.{IsIdle, IsServed, WorkEach, idle_worker, crew_of}
+use Rattle.plex_agent.proofs.SeatedLaws.{crew_at, new_callers}
+use Rattle.plex_agent.proofs.RunLaws.{HadMemory, had_memory}
+
+-- the callers have desks of the board
+pub crew_is_idle : {L : Type 0} (board : BoardShown L) (crew : List AtWork) → crew ≡ crew_of board
+    → board.callers ≤ CONNECTORS → All (IsIdle board) crew
+crew_is_idle board crew new few =
+    let n = board.callers + 1 in
+    All-same (IsIdle board) crew (crew_of board) new
+    (All-map (IsIdle board) (λ owner. idle_worker (new_desk board owner)) (range_with_len 0 n)
+    (λ k d lt. (new_desk-of_board board (get_or (range_with_len 0 n) k d), within k d lt)))
+  where
+    within : (k d : ℕ) → k < length (range_with_len 0 (board.callers + 1))
+        → get_or (range_with_len 0 (board.callers + 1)) k d ≤ CONNECTORS
+    within k d lt =
+        let n = board.callers + 1 in
+        let inside : k < n = omega (arith, lt, length-range_with_len 0 n) in
+        omega (arith, get_or-range_with_len 0 n k d inside, inside, few)
+
+-- a line that a caller may play is a line for the board
+pub lines_fit : {L : Type 0} (board : BoardShown L) (lines played : List Line) → lines ≡ played
+    → All (IsPlayable board) played → All (IsLineFor board) lines
+lines_fit board lines played same playable =
+    All-same (IsLineFor board) lines played same
+    (All-weaker (IsPlayable board) (IsLineFor board) (λ line playable. playable.right) played playable)
+
+-- the callers that came to the board worked
+pub work_each : {L : Type 0} (board : BoardShown L) (lines all : List Line) (crew workers : List AtWork)
+    → lines ≡ all → crew ≡ crew_of board → WorkEach board lines crew workers
+    → WorkEach board all (crew_of board) workers
+work_each board lines all crew workers lines_are new worked =
+    subst (λ (it : List AtWork). WorkEach board all it workers) new
+    (subst (λ (it : List Line). WorkEach board it crew workers) lines_are worked)
+
+module _ {L : Type 0} (board : BoardShown L) (lines : List Line) (workers : List AtWork)
+    (worked : WorkEach board lines (crew_of board) workers) where
+  -- each is at its own desk still
+  pub worked-callers : AreCallersOf board workers
+  worked-callers = record {
+    callers = worked.callers ∙ (new_callers board).callers;
+    each = λ c worker there.
+        let (idler, at, works) = worked.each c worker there in (
+          works.of_board,
+          ap (λ owner. owner.0) works.owner ∙ ap (λ (it : AtWork). it.desk.owner.0) (crew_at board c idler at),
+        );
+  }
+
+  serves : (c : ℕ) (worker : AtWork) → slice_get workers c ≡ Some worker
+      → Serves board lines (record { desk = new_desk board c; shown = no_items }) worker
+  serves c worker there =
+      let (idler, at, works) = worked.each c worker there in
+      subst (λ (it : AtWork). Serves board lines (idle_worker it.desk) worker) (crew_at board c idler at) works.serves
+
+-- whatever the schedule was, what the callers were shown goes with the histories of the closed board
+pub served_shows : {L : Type 0} (limit : ℕ) (script : Script) (board : BoardShown L) (histories : List AnyHistory)
+    (desks : List DeskShown) (shown : List Transcript) → IsBoardOf limit script board
+    → IsServed board script.lines desks shown → AreClosed board desks histories → HadMemory shown
+    → ShowsHistories limit script histories shown
+served_shows limit script board histories desks shown is served closed had =
+    let lines = script.lines in
+    subst (ShowsHistories limit script histories) (sym served.shown_are)
+    (serves_right limit script board histories served.workers is.forms is.cells
+    ((worked-callers board lines served.workers served.work).callers ∙ ap (λ n. n + 1) is.callers)
+    (λ c worker there. alone_serves board lines (record { desk = new_desk board c; shown = no_items }) worker
+    (serves board lines served.workers served.work c worker there))
+    (had_memory served.workers (subst HadMemory served.shown_are had))
+    (subst (λ (desks : List DeskShown). AreClosed board desks histories) served.desks_are closed))

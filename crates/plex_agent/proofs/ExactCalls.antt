@@ -1,0 +1,361 @@
+-- The calls of one line: what they keep, and the steps of the run by the machine alone that go with them.
+use Rattle.std.proofs.Common.{◌≡◌, ◌≢◌, ℕ, zero, suc, ◌≤◌, ◌<◌, nat_le, true, false, List, [], ◌∷◌, ◌++◌, map, slice_get, Option, Some, refl, sym, ap, subst, ◌∙◌, arith, append-nil, append_assoc}
+use Rattle.std.proofs.lemmas.Bool.Decides.{nat_tests}
+use Rattle.plex_board.specs.CfTypes.declared.forms.StrForm.{StrForm}
+use Rattle.plex_board.specs.CfTypes.declared.forms.Kind.{Kind}
+use Rattle.plex_board.specs.CfTypes.declared.numbers.CfId.{CfId}
+use Rattle.plex_board.specs.CfTypes.declared.numbers.ConnId.{ConnId}
+use Rattle.plex_board.specs.CfLink.Links.{Telling}
+use Rattle.plex_board.specs.CfTypes.declared.numbers.StrNo.{StrNo}
+use Rattle.plex_board.specs.EngineApi.declared.told.Told.{Told}
+use Rattle.plex_board.specs.PlexScript.declared.agents.Step.{Step}
+use Rattle.plex_board.specs.PlexScript.declared.agents.Step.TheVariants as step
+use Rattle.plex_board.specs.PlexScript.declared.scripts.AnyAsk.{AnyAsk}
+use Rattle.plex_board.specs.PlexScript.declared.asks.AnyHistory.{AnyHistory}
+use Rattle.plex_board.specs.PlexScript.declared.transcripts.AgentEnd.{AgentEnd}
+use Rattle.plex_board.specs.PlexScript.declared.transcripts.AgentEnd.TheVariants as ended
+use Rattle.plex_board.specs.PlexScript.declared.transcripts.Shown.{Shown}
+use Rattle.plex_board.specs.PlexScript.declared.transcripts.Shown.TheVariants as shown
+use Rattle.plex_board.specs.PlexScript.declared.transcripts.Transcript.{Transcript}
+use Rattle.plex_board.specs.PlexScript.Agent.{step_after, most_asks, asked_by}
+use Rattle.plex_board.proofs.PlexScript.StepLaws.{rests, fewer_asks, some_goes}
+use Rattle.plex_board.specs.PlexScript.Heard.{any_length}
+use Rattle.plex_board.specs.Kinds.{any_take, any_told, end_of}
+use Rattle.plex_board.specs.Serial.{Run, stopped_at, steps_made}
+use Rattle.plex_board.specs.declared.any_reply.AnyReply.{AnyReply}
+use Rattle.plex_board.specs.Passes.{PassShown, IsLater, with_call}
+use Rattle.plex_board.specs.Turns.{Steps, call_item}
+use Rattle.plex_agent.proofs.Spots.{conn, str, put, put_same, put_other, Spot, moved, called}
+use Rattle.plex_agent.proofs.Fits.{IsNextCall}
+use Rattle.plex_agent.proofs.Stages.{Stage, IsStage, State, Known, Fits, Shows, Agrees, Goes, goes_not, goes_same}
+use Rattle.plex_agent.proofs.ExactMoves.{SaysLess, called_state, known_call, back_call, run_called, next_here, agrees_call, stopped_state, known_stop, back_stop, stop_point, full_here, agrees_stop}
+
+-- ---- how many calls
+
+-- a step that rests asks nothing more
+resting : (limit : ℕ) (told : ℕ → CfId → Telling) (most : ℕ) (form : StrForm) (line : Option AnyAsk) (by : ConnId) (on : StrNo) (run : Run)
+    → steps_made limit told most form line by on step.Rest run ≡ run
+resting limit told zero form line by on run = refl
+resting limit told (suc most) form line by on run = resting limit told most form line by on run
+
+some_left : (kind : Kind) (line : Option AnyAsk) (now : Step) (asked : AnyAsk) (most : ℕ)
+    → asked_by kind line now ≡ Some asked
+    → most_asks now ≤ most → (less : ℕ) × (most ≡ suc less)
+some_left kind line now asked zero asks enough = absurd (some_goes kind line now asked asks (rests now enough))
+some_left kind line now asked (suc less) asks enough = (less, refl)
+
+-- ---- where the calls of a line lead
+
+-- the caller's pass and transcript became these; nothing else changed that is told to others
+pub record IsMoved (on by : ℕ) (pass : PassShown) (transcript : Transcript) (before after : State) : Type 0 where
+  pub here : (after.spots on).passes by ≡ pass
+  pub others : (c : ℕ) → c ≢ by → (after.spots on).passes c ≡ (before.spots on).passes c
+  pub note : (after.spots on).note ≡ (before.spots on).note
+  pub last : (after.spots on).last ≡ (before.spots on).last
+  pub elsewhere : (x : ℕ) → x ≢ on → after.spots x ≡ before.spots x
+  pub shown : after.shown by ≡ transcript
+  pub others_shown : (c : ℕ) → c ≢ by → after.shown c ≡ before.shown c
+
+-- a caller came to a next call, which wasn't made
+pub record IsHalted (kind : Kind) (line : Option AnyAsk) (last : Step) (before after : PassShown) : Type 0 where
+  pub asked : AnyAsk
+  pub next : asked_by kind line last ≡ Some asked
+  pub later : IsLater before after
+  pub ordered : after.sure ≤ after.known
+
+abbrev pub IsEnded : ℕ → Kind → Option AnyAsk → ℕ → Step → PassShown → PassShown → AgentEnd → Type 0
+IsEnded limit kind line on last before after ended.Done = (last ≡ step.Rest) × (after ≡ before)
+IsEnded limit kind line on last before after (ended.JournalFull place) =
+    (place ≡ str on) × IsHalted kind line last before after × (limit ≤ after.known)
+IsEnded limit kind line on last before after ended.NoMemory = IsHalted kind line last before after
+
+pub says_same : (shows : Shows) (on by : ℕ) → SaysLess shows shows on by
+says_same shows on by = record { others = λ c apart is. is; elsewhere = λ x c apart is. is }
+
+module _ (stage : Stage) (is : IsStage stage) (line : Option AnyAsk) (on by : ℕ) (within : on < stage.cells)
+    (caller : by ≤ stage.callers) where
+  abbrev pub kind_here : Kind
+  kind_here = (stage.form on).kind
+
+  abbrev steps_here : ℕ → Step → Run → Run
+  steps_here most now = steps_made stage.limit stage.told most (stage.form on) line (conn by) (str on) now
+
+  pub record StepsGo (shows shows' : Shows) (most : ℕ) (now : Step) (pass : PassShown) (transcript : Transcript)
+      (before : State) : Type 1 where
+    pub after : State
+    pub is_moved : IsMoved on by pass transcript before after
+    pub goes : Goes stage shows shows' before after
+        (steps_made stage.limit stage.told most (stage.form on) line (conn by) (str on) now)
+
+  -- the next call isn't made
+  full_made : (less : ℕ) (now : Step) (asked : AnyAsk) (entries : AnyHistory) (run : Run)
+      → asked_by kind_here line now ≡ Some asked
+      → slice_get run.histories on ≡ Some entries → stage.limit ≤ any_length entries
+      → steps_here (suc less) now run ≡ stopped_at (conn by) (str on) run
+  full_made less now asked entries run asks there full =
+      let test : nat_le stage.limit (any_length entries) ≡ true = grind (arith, nat_tests) in
+      rw (asks, there, test) (resting stage.limit stage.told less (stage.form on) line (conn by) (str on)
+      (stopped_at (conn by) (str on) run))
+
+  stop_moved : (pass : PassShown) (end : AgentEnd) (before : State) → (before.spots on).last ≡ Some (conn by)
+      → IsMoved on by pass (record { items = (before.shown by).items ++ []; end = end }) before
+      (stopped_state on by pass end before)
+  stop_moved pass end before last =
+      let spot : Spot = moved by pass (before.spots on) in
+      let now : put on spot before.spots on ≡ spot = put_same on spot before.spots in
+      record {
+        here = ap (λ (s : Spot). s.passes by) now ∙ put_same by pass (before.spots on).passes;
+        others = λ c apart. ap (λ (s : Spot). s.passes c) now ∙ put_other by pass (before.spots on).passes c apart;
+        note = ap (λ (s : Spot). s.note) now;
+        last = ap (λ (s : Spot). s.last) now ∙ sym last;
+        elsewhere = λ x apart. put_other on spot before.spots x apart;
+        shown = put_same by (record (before.shown by) { end = end }) before.shown
+            ∙ ap (λ (t : List Shown). (let it : Transcript = record { items = t; end = end } in it))
+            (sym (append-nil (before.shown by).items));
+        others_shown = λ c apart. put_other by (record (before.shown by) { end = end }) before.shown c apart;
+      }
+
+  full_go : (shows shows' : Shows) (most : ℕ) (now : Step) (pass : PassShown) (before : State)
+      → SaysLess shows shows' on by
+      → (before.shown by).end ≡ ended.Done → (before.spots on).last ≡ Some (conn by)
+      → most_asks now ≤ most → IsHalted kind_here line now ((before.spots on).passes by) pass
+      → stage.limit ≤ pass.known
+      → StepsGo shows shows' most now pass
+      (record { items = (before.shown by).items ++ []; end = ended.JournalFull (str on) }) before
+  full_go shows shows' most now pass before less works last enough halted full =
+      let left : (less : ℕ) × (most ≡ suc less) = some_left kind_here line now halted.asked most halted.next enough in
+      let end : AgentEnd = ended.JournalFull (str on) in
+      record {
+        after = stopped_state on by pass end before;
+        is_moved = stop_moved pass end before last;
+        goes = record {
+          known = known_stop stage on by pass end before within caller last halted.later halted.ordered;
+          back = back_stop stage on by pass end before within caller last halted.later works;
+          agrees = λ known fits run agrees.
+              let transcript : Transcript = record (before.shown by) { end = end } in
+              subst (Agrees stage shows' (stopped_state on by pass end before))
+              (sym (ap (λ (m : ℕ). steps_here m now run) left.1
+              ∙ full_made left.0 now halted.asked (any_take (end_of (before.spots on).events) (stage.entries on)) run
+              halted.next
+              (agrees.at on within).history_is
+              (full_here stage is on by pass transcript before within last halted.later.known full known fits
+              (stop_point stage on by pass end before within caller (λ ends. absurd cc) fits)
+              (agrees.at on within).front_is)))
+              (agrees_stop stage is shows shows' on by pass before run within caller last halted.later halted.ordered
+              works less known fits agrees);
+        };
+      }
+
+  none_go : (shows shows' : Shows) (most : ℕ) (now : Step) (pass : PassShown) (before : State)
+      → (before.shown by).end ≡ ended.Done → (before.spots on).last ≡ Some (conn by)
+      → IsHalted kind_here line now ((before.spots on).passes by) pass
+      → StepsGo shows shows' most now pass (record { items = (before.shown by).items ++ []; end = ended.NoMemory })
+      before
+  none_go shows shows' most now pass before works last halted =
+      let end : AgentEnd = ended.NoMemory in
+      record {
+        after = stopped_state on by pass end before;
+        is_moved = stop_moved pass end before last;
+        goes = record {
+          known = known_stop stage on by pass end before within caller last halted.later halted.ordered;
+          back = back_stop stage on by pass end before within caller last halted.later works;
+          agrees = λ known fits run agrees.
+              absurd (fits.memory by caller (ap (λ (t : Transcript). t.end)
+              (put_same by (record (before.shown by) { end = end }) before.shown)));
+        };
+      }
+
+  -- nothing is asked
+  rest_go : (shows : Shows) (most : ℕ) (now : Step) (pass : PassShown) (before : State)
+      → (before.shown by).end ≡ ended.Done → now ≡ step.Rest → pass ≡ (before.spots on).passes by
+      → StepsGo shows shows most now pass (record { items = (before.shown by).items ++ []; end = ended.Done }) before
+  rest_go shows most now pass before works rest same =
+      record {
+        after = before;
+        is_moved = record {
+          here = sym same;
+          others = λ c apart. refl;
+          note = refl;
+          last = refl;
+          elsewhere = λ x apart. refl;
+          shown = ap (λ (t : List Shown).
+              (let it : Transcript = record { items = t; end = (before.shown by).end } in it))
+              (sym (append-nil (before.shown by).items))
+              ∙ ap (λ (e : AgentEnd). (let it : Transcript =
+              record { items = (before.shown by).items ++ []; end = e } in it)) works;
+          others_shown = λ c apart. refl;
+        };
+        goes = goes_same stage shows shows before before (λ run. run) (steps_here most now)
+            (λ run. sym (ap (λ (s : Step). steps_here most s run) rest
+            ∙ resting stage.limit stage.told most (stage.form on) line (conn by) (str on) run))
+            (goes_not stage shows before);
+      }
+
+  -- ---- a call, and the steps behind it
+
+  call_moved : (asked : AnyAsk) (told : Told) (reply : AnyReply) (before : State)
+      → IsMoved on by (with_call asked told reply ((before.spots on).passes by))
+      (record (before.shown by) { items = (before.shown by).items ++ shown.Call (str on) told.no ∷ [] }) before
+      (called_state on by asked told reply before)
+  call_moved asked told reply before =
+      let spot : Spot = called by asked told reply (before.spots on) in
+      let pass : PassShown = with_call asked told reply ((before.spots on).passes by) in
+      let transcript : Transcript = record (before.shown by)
+      { items = (before.shown by).items ++ shown.Call (str on) told.no ∷ [] } in
+      let now : put on spot before.spots on ≡ spot = put_same on spot before.spots in
+      record {
+        here = ap (λ (s : Spot). s.passes by) now ∙ put_same by pass (before.spots on).passes;
+        others = λ c apart. ap (λ (s : Spot). s.passes c) now ∙ put_other by pass (before.spots on).passes c apart;
+        note = ap (λ (s : Spot). s.note) now;
+        last = ap (λ (s : Spot). s.last) now;
+        elsewhere = λ x apart. put_other on spot before.spots x apart;
+        shown = put_same by transcript before.shown;
+        others_shown = λ c apart. put_other by transcript before.shown c apart;
+      }
+
+  pub moved_then : (pass pass' : PassShown) (transcript transcript' : Transcript) (first second third : State)
+      → IsMoved on by pass transcript first second → IsMoved on by pass' transcript' second third
+      → IsMoved on by pass' transcript' first third
+  moved_then pass pass' transcript transcript' first second third one two =
+      record {
+        here = two.here;
+        others = λ c apart. two.others c apart ∙ one.others c apart;
+        note = two.note ∙ one.note;
+        last = two.last ∙ one.last;
+        elsewhere = λ x apart. two.elsewhere x apart ∙ one.elsewhere x apart;
+        shown = two.shown;
+        others_shown = λ c apart. two.others_shown c apart ∙ one.others_shown c apart;
+      }
+
+  call_made_here : (less : ℕ) (now : Step) (asked : AnyAsk) (told : Told) (entries : AnyHistory) (run : Run)
+      → asked_by kind_here line now ≡ Some asked → slice_get run.histories on ≡ Some entries
+      → any_length entries < stage.limit
+      → told ≡ any_told (stage.form on) (stage.told on) entries (conn by) asked
+      → steps_here (suc less) now run ≡ steps_here less (step_after now told)
+      (run_called (stage.form on) (stage.told on) on by asked entries run)
+  call_made_here less now asked told entries run asks there room answer =
+      let test : nat_le stage.limit (any_length entries) ≡ false = grind (arith, nat_tests) in
+      rw (asks, there, test, answer) refl
+
+  call_go : (shows shows' : Shows) (most : ℕ) (now : Step) (asked : AnyAsk) (told : Told) (reply : AnyReply)
+      (pass : PassShown) (end : AgentEnd) (items : List Shown)
+      (before : State)
+      → SaysLess shows shows' on by → (before.shown by).end ≡ ended.Done → (before.spots on).last ≡ Some (conn by)
+      → most_asks now ≤ most → asked_by kind_here line now ≡ Some asked → ((before.spots on).passes by).known <
+      told.no
+      → ((less : ℕ) → most_asks (step_after now told) ≤ less
+      → StepsGo shows' shows' less (step_after now told) pass
+      (record { items = ((before.shown by).items ++ shown.Call (str on) told.no ∷ []) ++ items; end = end })
+      (called_state on by asked told reply before))
+      → StepsGo shows shows' most now pass
+      (record { items = (before.shown by).items ++ shown.Call (str on) told.no ∷ items; end = end }) before
+  call_go shows shows' most now asked told reply pass end items before says works last enough asks above rest =
+      let left : (less : ℕ) × (most ≡ suc less) = some_left kind_here line now asked most asks enough in
+      let fewer : suc (most_asks (step_after now told)) ≤ most_asks now =
+      fewer_asks now told (some_goes kind_here line now asked asks) in
+      let then = rest left.0 (omega (arith, left.1)) in
+      let between : State = called_state on by asked told reply before in
+      record {
+        after = then.after;
+        is_moved = subst (λ (t : List Shown). IsMoved on by pass (record { items = t; end = end }) before then.after)
+            (append_assoc (before.shown by).items (shown.Call (str on) told.no ∷ []) items)
+            (moved_then (with_call asked told reply ((before.spots on).passes by)) pass
+            (record (before.shown by) { items = (before.shown by).items ++ shown.Call (str on) told.no ∷ [] })
+            (record { items = ((before.shown by).items ++ shown.Call (str on) told.no ∷ []) ++ items; end = end })
+            before between then.after (call_moved asked told reply before) then.is_moved);
+        goes = record {
+          known = λ known. then.goes.known (known_call stage on by asked told reply before within caller last above known);
+          back = λ known fits.
+              let known' : Known stage between =
+              known_call stage on by asked told reply before within caller last above known in
+              back_call stage is on by asked told reply before within caller last works above known (then.goes.back known' fits);
+          agrees = λ known fits run agrees.
+              let known' : Known stage between =
+              known_call stage on by asked told reply before within caller last above known in
+              let fits' : Fits stage between = then.goes.back known' fits in
+              let entries : AnyHistory = any_take (end_of (before.spots on).events) (stage.entries on) in
+              let next : IsNextCall stage.limit (stage.form on) (stage.told on) (stage.entries on) by
+              (end_of (before.spots on).events) asked told =
+              next_here stage is on by asked told reply before within fits' in
+              subst (Agrees stage shows' then.after)
+              (sym (ap (λ (m : ℕ). steps_here m now run) left.1
+              ∙ call_made_here left.0 now asked told entries run asks (agrees.at on within).history_is
+              (omega (arith, next.size, next.room)) next.answer))
+              (then.goes.agrees known' fits (run_called (stage.form on) (stage.told on) on by asked entries run)
+              (agrees_call stage is shows shows' on by asked told reply before run within caller last above works says known
+              fits' agrees));
+        };
+      }
+
+  -- all steps of a line; where the first isn't at rest, the caller was shown at least one number, or its work ended
+  pub steps_go : (shows : Shows) (tolds : List Told) (most : ℕ) (now last : Step) (pass pass' : PassShown)
+      (end : AgentEnd) (before : State)
+      → (before.shown by).end ≡ ended.Done → (before.spots on).last ≡ Some (conn by) → most_asks now ≤ most
+      → Steps kind_here line now ((before.spots on).passes by) tolds last pass
+      → IsEnded stage.limit kind_here line on last pass pass' end
+      → StepsGo shows shows most now pass'
+      (record { items = (before.shown by).items ++ map (call_item (str on)) tolds; end = end }) before
+  steps_go shows [] most now last pass pass' ended.Done before works lasts enough steps ends =
+      rest_go shows most now pass' before works (sym steps.0 ∙ ends.0) (ends.1 ∙ steps.1)
+  steps_go shows [] most now last pass pass' (ended.JournalFull place) before works lasts enough steps ends =
+      rw ends.0
+      (full_go shows shows most now pass' before (says_same shows on by) works lasts enough
+      (subst (λ (p : PassShown). IsHalted kind_here line now p pass') steps.1
+      (subst (λ (s : Step). IsHalted kind_here line s pass pass') steps.0 ends.1)) ends.2)
+  steps_go shows [] most now last pass pass' ended.NoMemory before works lasts enough steps ends =
+      none_go shows shows most now pass' before works lasts
+      (subst (λ (p : PassShown). IsHalted kind_here line now p pass') steps.1
+      (subst (λ (s : Step). IsHalted kind_here line s pass pass') steps.0 ends))
+  steps_go shows (told ∷ tolds) most now last pass pass' end before works lasts enough steps ends =
+      let between : State = called_state on by steps.0 told steps.3 before in
+      let step_moved : IsMoved on by (with_call steps.0 told steps.3 ((before.spots on).passes by))
+      (record (before.shown by) { items = (before.shown by).items ++ shown.Call (str on) told.no ∷ [] }) before
+      between =
+      call_moved steps.0 told steps.3 before in
+      call_go shows shows most now steps.0 told steps.3 pass' end (map (call_item (str on)) tolds) before
+      (says_same shows on by) works lasts
+      enough steps.1 steps.2
+      (λ less enough'.
+      subst (λ (t : Transcript). StepsGo shows shows less (step_after now told) pass'
+      (record { items = t.items ++ map (call_item (str on)) tolds; end = end }) between) step_moved.shown
+      (steps_go shows tolds less (step_after now told) last pass pass' end between
+      (ap (λ (t : Transcript). t.end) step_moved.shown ∙ works) (step_moved.last ∙ lasts) enough'
+      (subst (λ (p : PassShown). Steps kind_here line (step_after now told) p tolds last pass) (sym step_moved.here)
+      steps.4) ends))
+
+  pub steps_first : (shows shows' : Shows) (tolds : List Told) (most : ℕ) (now last : Step) (pass pass' : PassShown)
+      (end : AgentEnd) (before : State)
+      → now ≢ step.Rest → SaysLess shows shows' on by
+      → (before.shown by).end ≡ ended.Done → (before.spots on).last ≡ Some (conn by) → most_asks now ≤ most
+      → Steps kind_here line now ((before.spots on).passes by) tolds last pass
+      → IsEnded stage.limit kind_here line on last pass pass' end
+      → StepsGo shows shows' most now pass'
+      (record { items = (before.shown by).items ++ map (call_item (str on)) tolds; end = end }) before
+  steps_first shows shows' [] most now last pass pass' ended.Done before goes says works lasts enough steps ends =
+      absurd (goes (sym steps.0 ∙ ends.0))
+  steps_first shows shows' [] most now last pass pass' (ended.JournalFull place) before goes says works lasts enough
+      steps ends =
+      rw ends.0
+      (full_go shows shows' most now pass' before says works lasts enough
+      (subst (λ (p : PassShown). IsHalted kind_here line now p pass') steps.1
+      (subst (λ (s : Step). IsHalted kind_here line s pass pass') steps.0 ends.1)) ends.2)
+  steps_first shows shows' [] most now last pass pass' ended.NoMemory before goes says works lasts enough steps ends =
+      none_go shows shows' most now pass' before works lasts
+      (subst (λ (p : PassShown). IsHalted kind_here line now p pass') steps.1
+      (subst (λ (s : Step). IsHalted kind_here line s pass pass') steps.0 ends))
+  steps_first shows shows' (told ∷ tolds) most now last pass pass' end before goes says works lasts enough steps ends
+      =
+      let between : State = called_state on by steps.0 told steps.3 before in
+      let step_moved : IsMoved on by (with_call steps.0 told steps.3 ((before.spots on).passes by))
+      (record (before.shown by) { items = (before.shown by).items ++ shown.Call (str on) told.no ∷ [] }) before
+      between =
+      call_moved steps.0 told steps.3 before in
+      call_go shows shows' most now steps.0 told steps.3 pass' end (map (call_item (str on)) tolds) before says works lasts
+      enough steps.1 steps.2
+      (λ less enough'.
+      subst (λ (t : Transcript). StepsGo shows' shows' less (step_after now told) pass'
+      (record { items = t.items ++ map (call_item (str on)) tolds; end = end }) between) step_moved.shown
+      (steps_go shows' tolds less (step_after now told) last pass pass' end between
+      (ap (λ (t : Transcript). t.end) step_moved.shown ∙ works) (step_moved.last ∙ lasts) enough'
+      (subst (λ (p : PassShown). Steps kind_here line (step_after now told) p tolds last pass) (sym step_moved.here)
+      steps.4) ends))

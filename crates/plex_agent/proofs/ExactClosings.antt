@@ -1,0 +1,492 @@
+-- The closings of a script at a board, against the run by the machine alone.
+use Rattle.std.proofs.Common.{inl, inr, ◌≡◌, ◌≢◌, ℕ, zero, suc, ◌+◌, ◌≤◌, ◌<◌, Bool, true, false, List, [], ◌∷◌, ◌++◌, length, map, fold, slice_get, replicate, Option, None, Some, MatchBool, refl, sym, ap, subst, ◌∙◌, arith, length-set, append_assoc, length-append}
+use Rattle.std.specs.Prelude.{All, slice_index_or}
+use Rattle.std.specs.List.{range_with_len, enumerate_from}
+use Rattle.std.proofs.lemmas.List.{get_or-replicate, length-replicate}
+use Rattle.std.proofs.lemmas.List.Elements.{All-head, All-tail}
+use Rattle.plex_board.specs.CfTypes.declared.forms.StrForm.{StrForm}
+use Rattle.plex_board.specs.CfTypes.declared.numbers.ConnId.{ConnId}
+use Rattle.plex_board.specs.CfTypes.declared.shell_commands.ShellCmd.TheVariants as cmd
+use Rattle.plex_board.specs.PlexScript.declared.agents.Step.TheVariants as step
+use Rattle.plex_board.specs.PlexScript.declared.scripts.AnyAsk.{AnyAsk}
+use Rattle.plex_board.specs.PlexScript.declared.scripts.Script.{Script}
+use Rattle.plex_board.specs.PlexScript.declared.transcripts.AgentEnd.{AgentEnd}
+use Rattle.plex_board.specs.PlexScript.declared.transcripts.AgentEnd.TheVariants as ended
+use Rattle.plex_board.specs.PlexScript.declared.transcripts.Transcript.{Transcript}
+use Rattle.plex_board.specs.PlexScript.Agent.{shell_ask}
+use Rattle.plex_board.specs.PlexScript.Heard.{AnyCall, any_calls, own_calls, is_linked}
+use Rattle.std.proofs.lemmas.Bool.{cases_eq}
+use Rattle.plex_board.specs.Kinds.{IsAnyPoint, any_take, end_of}
+use Rattle.plex_board.proofs.SeamLaws.{IsFrontOf}
+use Rattle.plex_board.specs.Serial as serial
+use Rattle.plex_board.specs.Serial.{Run, is_done, after_departure, after_closing, all_steps_made}
+use Rattle.plex_board.specs.Passes.{PassShown}
+use Rattle.plex_board.specs.Cells.{CellShown, IsAnyTold}
+use Rattle.plex_board.specs.Desks.{pass_at, with_pass}
+use Rattle.plex_board.specs.Boards.{BoardShown, note_in}
+use Rattle.plex_board.specs.Turns.{AtWork, Asks, Departs, is_done_as}
+use Rattle.plex_board.specs.Callers.{DepartsEach}
+use Rattle.plex_board.specs.Floors.{Floor, worker_of, with_worker, heard_from_last, heard_all, ClosesAll}
+use Rattle.plex_agent.proofs.Spots.{conn, str, put, put_all, put_same, put_other, Spot, moved, known_moved}
+use Rattle.plex_agent.proofs.Fits.{put_back, FitsAt, events_front, fits_put, heard_pass, IsHeardPass, heard_is, heard_complete}
+use Rattle.plex_agent.proofs.Agreements.{AgreesAt, agrees_put, last_is}
+use Rattle.plex_agent.proofs.Stages.{Stage, IsStage, State, Known, Fits, Shows, Agrees, Goes, goes_then, goes_not}
+use Rattle.plex_agent.proofs.ExactMoves.{transcript_is}
+use Rattle.plex_agent.proofs.ExactCalls.{says_same}
+use Rattle.plex_agent.proofs.Workers.{by_place, pass_same, pass_other, IsWorker, OthersSame, NotesSame, LastsSame, others_then, AsksGo, asks_go, IsFloor, floor_after}
+use Rattle.plex_agent.proofs.Turned.{heard_desk}
+use Rattle.plex_agent.proofs.LineTurns.{of_none, TurnGoes}
+use Rattle.plex_agent.proofs.LineRuns.{IsStageOf, goes_as}
+
+-- the run goes in another way, which is the same wherever the two agree, and the histories fit
+pub goes_where : (stage : Stage) (shows shows' : Shows) (before after : State) (goes goes' : Run → Run)
+    → (Known stage before → Fits stage before → (run : Run) → Agrees stage shows before run → goes' run ≡ goes run)
+    → Goes stage shows shows' before after goes → Goes stage shows shows' before after goes'
+goes_where stage shows shows' before after goes goes' same one =
+    record {
+      known = one.known;
+      back = one.back;
+      agrees = λ known fits run agrees.
+          subst (Agrees stage shows' after) (sym (same known (one.back known fits) run agrees))
+          (one.agrees known fits run agrees);
+    }
+
+-- ---- hearings at all structures
+
+abbrev pub heard_state_all : ℕ → State → State
+heard_state_all by state = record {
+  spots = λ x. moved by (heard_pass by (state.spots x)) (state.spots x);
+  shown = put by (state.shown by) state.shown;
+}
+
+pub goes_heard_all : (stage : Stage) (by : ℕ) (state : State) → by ≤ stage.callers → (state.shown by).end ≡ ended.Done
+    → Goes stage of_none of_none state (heard_state_all by state) (λ run. run)
+goes_heard_all stage by state caller works =
+    record {
+      known = λ known x within.
+          let heeded : IsHeardPass by (state.spots x) (heard_pass by (state.spots x)) =
+          heard_is stage.callers by (state.spots x) caller (known x within) in
+          known_moved stage.callers by (state.spots x) (heard_pass by (state.spots x)) caller (known x within)
+          (omega (arith, heeded.known))
+          heeded.sure heeded.owner heeded.calls;
+      back = λ known fits. record {
+        at = λ x within.
+            let pass : PassShown = heard_pass by (state.spots x) in
+            let heeded : IsHeardPass by (state.spots x) pass =
+            heard_is stage.callers by (state.spots x) caller (known x within) in
+            fits_put (stage.form x) (stage.entries x) stage.callers by (state.spots x) pass (Some (conn by))
+            pass.known
+            (omega (arith, heeded.known))
+            (λ told. subst (All (IsAnyTold (stage.form x) (stage.entries x) (conn by))) heeded.tests told)
+            (fits.at x within);
+        memory = λ c.
+            put_back (λ c transcript'. c ≤ stage.callers → transcript'.end ≢ ended.NoMemory) by (state.shown by)
+            state.shown
+            (λ is. is) c (fits.memory c);
+        stopped = λ x c within inside stops. elim (cases_eq c by) [
+          | inl mine ↦ absurd (stops (ap (λ (n : ℕ). (state.shown n).end) mine ∙ works))
+          | inr other ↦
+              subst (λ (p : PassShown). IsAnyPoint (stage.entries x) p.known)
+              (put_other by (heard_pass by (state.spots x)) (state.spots x).passes c other)
+              (fits.stopped x c within inside (λ ends. stops (ap (λ (t : Transcript). t.end)
+              (sym (put_other by (state.shown by) state.shown c other)) ∙ ends)))
+        ];
+      };
+      agrees = λ known fits run agrees. record {
+        histories = agrees.histories;
+        transcripts = agrees.transcripts;
+        numbers = agrees.numbers;
+        shown = put_all (λ c transcript'. c ≤ stage.callers → slice_get run.transcripts c ≡ Some transcript') by
+            (state.shown by) state.shown
+            (agrees.shown by) (λ c apart. agrees.shown c);
+        at = λ x within.
+            let spot : Spot = state.spots x in
+            let pass : PassShown = heard_pass by spot in
+            let at : AgreesAt stage.callers (stage.entries x) x (of_none x) spot state.shown
+            (slice_get run.histories x) (slice_get run.posted x) = agrees.at x within in
+            let heeded : IsHeardPass by spot pass = heard_is stage.callers by spot caller (known x within) in
+            let complete : pass.sure ≡ pass.known =
+            heard_complete stage.callers by spot caller (known x within) at.lasts in
+            agrees_put stage.callers (stage.entries x) x (of_none x) (of_none x) by spot state.shown
+            (slice_get run.histories x) (slice_get run.histories x) (slice_get run.posted x) (slice_get run.posted x)
+            pass (Some (conn by))
+            spot.events pass.known (state.shown by) at at.history_is at.number_is (heeded.known ∙ at.front_is)
+            (λ works. record {
+              complete = complete;
+              most = omega (arith, (at.seen by caller works).most, heeded.more);
+              seen = λ said. absurd said;
+            })
+            (λ c apart said. said)
+            (λ c last. ap (λ (n : ℕ). (put by pass spot.passes n).sure) (last_is by c last)
+            ∙ ap (λ (p : PassShown). p.sure) (put_same by pass spot.passes) ∙ complete);
+      };
+    }
+
+pub heard_others : (by : ℕ) (state : State) → OthersSame by state (heard_state_all by state)
+heard_others by state =
+    record {
+      passes = λ x c apart. put_other by (heard_pass by (state.spots x)) (state.spots x).passes c apart;
+      shown = λ c apart. put_other by (state.shown by) state.shown c apart;
+    }
+
+-- a worker that has heard of the first structures, so many
+record IsHearing (cells by n : ℕ) (worker : AtWork) (state : State) : Type 0 where
+  size : length worker.desk.passes ≡ cells
+  before : (x : ℕ) → x < n → x < cells → pass_at worker.desk (str x) ≡ heard_pass by (state.spots x)
+  behind : (x : ℕ) → n ≤ x → x < cells → pass_at worker.desk (str x) ≡ (state.spots x).passes by
+  shown : worker.shown ≡ state.shown by
+
+hearing_next : (stage : Stage) (by n : ℕ) (worker : AtWork) (floor : Floor) (state : State) → n < stage.cells
+    → IsFloor stage floor state → Known stage state → IsHearing stage.cells by n worker state
+    → IsHearing stage.cells by (n + 1) (heard_from_last floor (conn by) worker (str n)) state
+hearing_next stage by n worker floor state within is known hearing =
+    let pass : PassShown = heard_pass by (state.spots n) in
+    let heard_is : heard_from_last floor (conn by) worker (str n)
+    ≡ record worker { desk = with_pass (str n) pass worker.desk }
+    =
+    heard_desk stage n by worker floor state within is known hearing.size (hearing.behind n (omega arith) within) in
+    subst (λ (w : AtWork). IsHearing stage.cells by (n + 1) w state) (sym heard_is)
+    (record {
+      size = length-set worker.desk.passes n pass ∙ hearing.size;
+      before = λ x below inside.
+          by_place (λ x. x < n + 1 → x < stage.cells
+          → pass_at (with_pass (str n) pass worker.desk) (str x) ≡ heard_pass by (state.spots x)) n
+          (λ below inside. pass_same worker.desk n pass (omega (arith, hearing.size)))
+          (λ x apart below inside. pass_other worker.desk n x pass apart ∙ hearing.before x (grind arith) inside) x
+          below inside;
+      behind = λ x past inside. pass_other worker.desk n x pass (λ e. absurd (omega (arith, e)))
+          ∙ hearing.behind x (omega arith) inside;
+      shown = hearing.shown;
+    })
+
+hearing_all : (stage : Stage) (by n left : ℕ) (worker : AtWork) (floor : Floor) (state : State)
+    → n + left ≡ stage.cells
+    → IsFloor stage floor state → Known stage state → IsHearing stage.cells by n worker state
+    → IsHearing stage.cells by stage.cells
+    (fold (λ worker place. heard_from_last floor (conn by) worker (str place)) worker (range_with_len n left)) state
+hearing_all stage by n zero worker floor state all is known hearing =
+    let whole : n ≡ stage.cells = omega arith in
+    subst (λ (m : ℕ). IsHearing stage.cells by m worker state) whole hearing
+hearing_all stage by n (suc left) worker floor state all is known hearing =
+    hearing_all stage by (n + 1) left (heard_from_last floor (conn by) worker (str n)) floor state
+    (omega arith) is known
+    (hearing_next stage by n worker floor state (omega arith) is known hearing)
+
+pub heard_all_worker : {L : Type 0} (board : BoardShown L) (stage : Stage) (by : ℕ) (floor : Floor) (state : State)
+    → length board.cells ≡ stage.cells → by ≤ stage.callers → IsFloor stage floor state → Known stage state
+    → IsWorker stage.cells by (heard_all board floor (conn by)) (heard_state_all by state)
+heard_all_worker board stage by floor state cells caller is known =
+    let at : IsWorker stage.cells by (worker_of floor (conn by)) state = is.worker by caller in
+    let all : IsHearing stage.cells by stage.cells (heard_all board floor (conn by)) state =
+    hearing_all stage by 0 (length board.cells) (worker_of floor (conn by)) floor state (omega (arith, cells)) is
+    known
+    (record {
+      size = at.size;
+      before = λ x below inside. absurd (omega arith);
+      behind = λ x past inside. at.passes x inside;
+      shown = at.shown;
+    }) in
+    record {
+      size = all.size;
+      passes = λ x inside. all.before x inside inside
+          ∙ sym (put_same by (heard_pass by (state.spots x)) (state.spots x).passes);
+      shown = all.shown ∙ sym (put_same by (state.shown by) state.shown);
+    }
+
+-- ---- departures
+
+-- where departures lead
+pub record DepartsGo (stage : Stage) (by : ℕ) (worker : AtWork) (before : State) (goes : Run → Run) : Type 1 where
+  pub after : State
+  pub is_worker : IsWorker stage.cells by worker after
+  pub others : OthersSame by before after
+  pub notes : NotesSame before after
+  pub lasts : LastsSame before after
+  pub goes_on : Goes stage of_none of_none before after goes
+
+departs_not : (stage : Stage) (by : ℕ) (worker worker' : AtWork) (before : State) (goes : Run → Run)
+    → IsWorker stage.cells by worker before → worker' ≡ worker
+    → (Known stage before → Fits stage before → (run : Run) → Agrees stage of_none before run → goes run ≡ run)
+    → DepartsGo stage by worker' before goes
+departs_not stage by worker worker' before goes at same still =
+    record {
+      after = before;
+      is_worker = subst (λ (w : AtWork). IsWorker stage.cells by w before) (sym same) at;
+      others = record { passes = λ x c apart. refl; shown = λ c apart. refl };
+      notes = λ x. refl;
+      lasts = λ x. refl;
+      goes_on = goes_where stage of_none of_none before before (λ run. run) goes still
+          (goes_not stage of_none before);
+    }
+
+-- a connector is active by its own calls, as the run has it
+linked_is : (stage : Stage) (is : IsStage stage) (on by : ℕ) (worker : AtWork) (before : State) → on < stage.cells
+    → by ≤ stage.callers
+    → IsWorker stage.cells by worker before → Known stage before → Fits stage before
+    → is_linked (own_calls (any_calls (any_take (end_of (before.spots on).events) (stage.entries on))) (conn by))
+    ≡ is_linked (pass_at worker.desk (str on)).calls
+linked_is stage is on by worker before within caller at known fits =
+    let spot : Spot = before.spots on in
+    let here : FitsAt (stage.form on) (stage.entries on) stage.callers spot = fits.at on within in
+    let front : IsFrontOf (stage.entries on) spot.events =
+    events_front (stage.form on) (stage.entries on) stage.callers spot (is.legal on within) here in
+    ap (λ (t : List AnyCall). is_linked (own_calls t (conn by))) front.calls_are
+    ∙ sym (ap is_linked ((known on within).pass by caller).calls)
+    ∙ sym (ap (λ (p : PassShown). is_linked p.calls) (at.passes on within))
+
+module _ (stage : Stage) (is : IsStage stage) (on by : ℕ) (worker worker' : AtWork) (before : State)
+    (within : on < stage.cells)
+    (caller : by ≤ stage.callers) (at : IsWorker stage.cells by worker before) where
+  done_run : (end : AgentEnd) → (before.shown by).end ≡ end → (run : Run) → Agrees stage of_none before run
+      → is_done run (conn by) ≡ serial.is_done_as end
+  done_run end ends run agrees =
+      ap (λ (t : Transcript). serial.is_done_as t.end) (transcript_is stage of_none by before run caller agrees)
+      ∙ ap serial.is_done_as ends
+
+  departs_case : (b : Bool) → is_linked (pass_at worker.desk (str on)).calls ≡ b → (before.shown by).end ≡ ended.Done
+      → (before.spots on).last ≡ Some (conn by)
+      → MatchBool b (Asks stage.limit (stage.form on).kind (Some (shell_ask (stage.form on).kind cmd.Disconnect))
+      (str on) (step.Call 0) worker worker')
+      (worker' ≡ worker)
+      → DepartsGo stage by worker' before (λ run. after_departure stage.limit stage.told (conn by) run (on, stage.form on))
+  departs_case true linked works last asks =
+      let line : Option AnyAsk = Some (shell_ask (stage.form on).kind cmd.Disconnect) in
+      let go : AsksGo stage of_none of_none line on by (step.Call 0) worker' before =
+      asks_go stage is of_none of_none line on by (step.Call 0) worker worker' before within caller (λ e. cc)
+      (says_same of_none on by) at
+      works last asks in
+      record {
+        after = go.after;
+        is_worker = go.is_worker;
+        others = go.others;
+        notes = go.notes;
+        lasts = go.lasts;
+        goes_on = goes_where stage of_none of_none before go.after
+            (all_steps_made stage.limit stage.told (stage.form on) line (conn by) (str on) (step.Call 0))
+            (λ run. after_departure stage.limit stage.told (conn by) run (on, stage.form on))
+            (λ known fits run agrees.
+            rw (
+              done_run ended.Done works run agrees,
+              (agrees.at on within).history_is,
+              linked_is stage is on by worker before within caller at known fits,
+              linked,
+            ) refl) go.goes;
+      }
+  departs_case false linked works last same =
+      departs_not stage by worker worker' before
+      (λ run. after_departure stage.limit stage.told (conn by) run (on, stage.form on)) at same
+      (λ known fits run agrees.
+      rw (
+        done_run ended.Done works run agrees,
+        (agrees.at on within).history_is,
+        linked_is stage is on by worker before within caller at known fits,
+        linked,
+      ) refl)
+
+  departs_end : (end : AgentEnd) → (before.shown by).end ≡ end → (before.spots on).last ≡ Some (conn by)
+      → MatchBool (is_done_as end)
+      (MatchBool (is_linked (pass_at worker.desk (str on)).calls)
+      (Asks stage.limit (stage.form on).kind (Some (shell_ask (stage.form on).kind cmd.Disconnect)) (str on)
+      (step.Call 0) worker worker')
+      (worker' ≡ worker))
+      (worker' ≡ worker)
+      → DepartsGo stage by worker' before (λ run. after_departure stage.limit stage.told (conn by) run (on, stage.form on))
+  departs_end ended.Done ends last departs =
+      departs_case (is_linked (pass_at worker.desk (str on)).calls) refl ends last departs
+  departs_end (ended.JournalFull place) ends last same =
+      departs_not stage by worker worker' before
+      (λ run. after_departure stage.limit stage.told (conn by) run (on, stage.form on)) at same
+      (λ known fits run agrees. rw (done_run (ended.JournalFull place) ends run agrees) refl)
+  departs_end ended.NoMemory ends last same =
+      departs_not stage by worker worker' before
+      (λ run. after_departure stage.limit stage.told (conn by) run (on, stage.form on)) at same
+      (λ known fits run agrees. rw (done_run ended.NoMemory ends run agrees) refl)
+
+  pub departs_go : (before.spots on).last ≡ Some (conn by) → Departs stage.limit (stage.form on) (str on) worker
+      worker'
+      → DepartsGo stage by worker' before (λ run. after_departure stage.limit stage.told (conn by) run (on, stage.form on))
+  departs_go last departs =
+      departs_end (before.shown by).end refl last
+      (subst (λ (t : Transcript). MatchBool (is_done_as t.end)
+      (MatchBool (is_linked (pass_at worker.desk (str on)).calls)
+      (Asks stage.limit (stage.form on).kind (Some (shell_ask (stage.form on).kind cmd.Disconnect)) (str on)
+      (step.Call 0) worker worker')
+      (worker' ≡ worker))
+      (worker' ≡ worker)) at.shown departs)
+
+lasts_kept : (stage : Stage) (by : ℕ) (before after : State) → LastsSame before after
+    → ((x : ℕ) → x < stage.cells → (before.spots x).last ≡ Some (conn by))
+    → (x : ℕ) → x < stage.cells → (after.spots x).last ≡ Some (conn by)
+lasts_kept stage by before after same last x within = same x ∙ last x within
+
+split_next : {X : Type 0} (xs front others : List X) (x : X) → xs ≡ front ++ x ∷ others
+    → xs ≡ (front ++ x ∷ []) ++ others
+split_next xs front others x split = split ∙ sym (append_assoc front (x ∷ []) others)
+
+next_place : {X : Type 0} (front : List X) (x : X) (n : ℕ) → n ≡ length front → n + 1 ≡ length (front ++ x ∷ [])
+next_place front x n place = omega (arith, place, length-append front (x ∷ []))
+
+get_behind : {X : Type 0} (front : List X) (x : X) (others : List X)
+    → slice_get (front ++ x ∷ others) (length front) ≡ Some x
+get_behind [] x others = refl
+get_behind (y ∷ front) x others = get_behind front x others
+
+module _ {L : Type 0} (board : BoardShown L) (script : Script) (stage : Stage) (is : IsStage stage)
+    (of : IsStageOf board script stage) where
+  -- a departure, and those behind it
+  departs_then : (by : ℕ) (cell : CellShown L) (left : List (CellShown L)) (n : ℕ) (worker worker' : AtWork)
+      (before : State)
+      → slice_get board.cells n ≡ Some cell
+      → (one : DepartsGo stage by worker before (λ run. after_departure stage.limit stage.told (conn by) run (n, stage.form n)))
+      → DepartsGo stage by worker' one.after
+      (λ run. fold (after_departure stage.limit stage.told (conn by)) run
+      (enumerate_from (n + 1) (map (λ cell. cell.form) left)))
+      → DepartsGo stage by worker' before
+      (λ run. fold (after_departure stage.limit stage.told (conn by)) run
+      (enumerate_from n (map (λ cell. cell.form) (cell ∷ left))))
+  departs_then by cell left n worker worker' before there one rest =
+      let behind : Run → Run =
+      λ run. fold (after_departure stage.limit stage.told (conn by)) run (enumerate_from (n + 1) (map (λ cell. cell.form) left))
+      in
+      record {
+        after = rest.after;
+        is_worker = rest.is_worker;
+        others = others_then by before one.after rest.after one.others rest.others;
+        notes = λ x. rest.notes x ∙ one.notes x;
+        lasts = λ x. rest.lasts x ∙ one.lasts x;
+        goes_on = goes_where stage of_none of_none before rest.after
+            (λ run. behind (after_departure stage.limit stage.told (conn by) run (n, stage.form n)))
+            (λ run. behind (after_departure stage.limit stage.told (conn by) run (n, cell.form)))
+            (λ known fits run agrees.
+            ap (λ (f : StrForm). behind (after_departure stage.limit stage.told (conn by) run (n, f))) (of.form n cell there))
+            (goes_then stage of_none of_none of_none before one.after rest.after
+            (λ run. after_departure stage.limit stage.told (conn by) run (n, stage.form n)) behind one.goes_on rest.goes_on);
+      }
+
+  -- the structures that are left, one after another
+  departs_each : (by : ℕ) (front left : List (CellShown L)) (n : ℕ) (worker worker' : AtWork) (before : State)
+      → n ≡ length front
+      → board.cells ≡ front ++ left → by ≤ stage.callers → IsWorker stage.cells by worker before
+      → ((x : ℕ) → x < stage.cells → (before.spots x).last ≡ Some (conn by))
+      → DepartsEach n left worker worker'
+      → DepartsGo stage by worker' before
+      (λ run. fold (after_departure stage.limit stage.told (conn by)) run (enumerate_from n (map (λ cell. cell.form) left)))
+  departs_each by front [] n worker worker' before place split caller at last departs =
+      departs_not stage by worker worker' before (λ run. run) at departs (λ known fits run agrees. refl)
+  departs_each by front (cell ∷ left) n worker worker' before place split caller at last departs =
+      let there : slice_get board.cells n ≡ Some cell = rw (split, place) (get_behind front cell left) in
+      let within : n < stage.cells =
+      omega (arith, of.cells, place, ap length split, length-append front (cell ∷ left)) in
+      let one : DepartsGo stage by departs.0 before
+      (λ run. after_departure stage.limit stage.told (conn by) run (n, stage.form n)) =
+      departs_go stage is n by worker departs.0 before within caller at (last n within)
+      (subst (λ (f : StrForm). Departs stage.limit f (str n) worker departs.0) (of.form n cell there)
+      (subst (λ (m : ℕ). Departs m cell.form (str n) worker departs.0) (of.limit n cell there) departs.1)) in
+      let rest : DepartsGo stage by worker' one.after
+      (λ run. fold (after_departure stage.limit stage.told (conn by)) run
+      (enumerate_from (n + 1) (map (λ cell. cell.form) left))) =
+      departs_each by (front ++ cell ∷ []) left (n + 1) departs.0 worker' one.after
+      (next_place front cell n place) (split_next board.cells front left cell split) caller one.is_worker
+      (lasts_kept stage by before one.after one.lasts last) departs.2 in
+      departs_then by cell left n departs.0 worker' before there one rest
+
+  -- a caller that stopped doesn't depart
+  idle_places : (conn : ConnId) (places : List (ℕ × StrForm)) (run : Run) → is_done run conn ≡ false
+      → fold (after_departure stage.limit stage.told conn) run places ≡ run
+  idle_places conn [] run stopped = refl
+  idle_places conn (place ∷ places) run stopped =
+      ap (λ (r : Run). fold (after_departure stage.limit stage.told conn) r places)
+      (let still : after_departure stage.limit stage.told conn run place ≡ run = rw stopped refl in still)
+      ∙ idle_places conn places run stopped
+
+  closes_case : (by : ℕ) (floor floor' : Floor) (before : State) → by ≤ stage.callers → IsFloor stage floor before
+      → Known stage before
+      → map (λ cell. cell.form) board.cells ≡ script.structures
+      → (end : AgentEnd) → (before.shown by).end ≡ end
+      → MatchBool (is_done_as end)
+      ((worker : AtWork) × DepartsEach 0 board.cells (heard_all board floor (conn by)) worker
+      × (floor' ≡ record (with_worker (conn by) worker floor)
+      { last = replicate (length board.cells) (Some (conn by)) }))
+      (floor' ≡ floor)
+      → TurnGoes stage of_none of_none before floor' (λ run. after_closing stage.limit stage.told script run (conn by))
+  closes_case by floor floor' before caller at known forms ended.Done ends closes =
+      let heard_now : State = heard_state_all by before in
+      let go : DepartsGo stage by closes.0 heard_now
+      (λ run. fold (after_departure stage.limit stage.told (conn by)) run
+      (enumerate_from 0 (map (λ cell. cell.form) board.cells))) =
+      departs_each by [] board.cells 0 (heard_all board floor (conn by)) closes.0 heard_now refl refl caller
+      (heard_all_worker board stage by floor before of.cells caller at known) (λ x inside. refl) closes.1 in
+      record {
+        after = go.after;
+        is_floor = floor_after stage by closes.0 floor floor' before go.after caller at
+            (ap (λ (f : Floor). f.workers) closes.2)
+            (ap (λ (f : Floor). length f.tray) closes.2 ∙ at.tray)
+            (ap (λ (f : Floor). length f.last) closes.2 ∙ length-replicate (length board.cells) (Some (conn by))
+            ∙ of.cells)
+            (λ x inside. ap (λ (f : Floor). note_in f.tray (str x)) closes.2 ∙ at.note x inside ∙ sym (go.notes x))
+            (λ x inside. ap (λ (f : Floor). slice_index_or f.last x None) closes.2
+            ∙ get_or-replicate (length board.cells) x (Some (conn by)) None (omega (arith, of.cells))
+            ∙ sym (go.lasts x))
+            go.is_worker
+            (others_then by before heard_now go.after (heard_others by before) go.others);
+        goes_on = goes_as stage of_none of_none before go.after
+            (λ run. fold (after_departure stage.limit stage.told (conn by)) run
+            (enumerate_from 0 (map (λ cell. cell.form) board.cells)))
+            (λ run. after_closing stage.limit stage.told script run (conn by))
+            (λ run agrees. ap (λ (f : List StrForm). fold (after_departure stage.limit stage.told (conn by)) run
+            (enumerate_from 0 f)) (sym forms))
+            (goes_then stage of_none of_none of_none before heard_now go.after (λ run. run)
+            (λ run. fold (after_departure stage.limit stage.told (conn by)) run
+            (enumerate_from 0 (map (λ cell. cell.form) board.cells)))
+            (goes_heard_all stage by before caller ends) go.goes_on);
+      }
+  closes_case by floor floor' before caller at known forms (ended.JournalFull place) ends same = record {
+    after = before;
+    is_floor = subst (λ (f : Floor). IsFloor stage f before) (sym same) at;
+    goes_on = goes_as stage of_none of_none before before (λ run. run)
+        (λ run. after_closing stage.limit stage.told script run (conn by))
+        (λ run agrees. idle_places (conn by) (enumerate_from 0 script.structures) run
+        (ap (λ (t : Transcript). serial.is_done_as t.end) (transcript_is stage of_none by before run caller agrees)
+        ∙ ap serial.is_done_as ends))
+        (goes_not stage of_none before);
+  }
+  closes_case by floor floor' before caller at known forms ended.NoMemory ends same = record {
+    after = before;
+    is_floor = subst (λ (f : Floor). IsFloor stage f before) (sym same) at;
+    goes_on = goes_as stage of_none of_none before before (λ run. run)
+        (λ run. after_closing stage.limit stage.told script run (conn by))
+        (λ run agrees. idle_places (conn by) (enumerate_from 0 script.structures) run
+        (ap (λ (t : Transcript). serial.is_done_as t.end) (transcript_is stage of_none by before run caller agrees)
+        ∙ ap serial.is_done_as ends))
+        (goes_not stage of_none before);
+  }
+
+  pub closes_all : (conns : List ConnId) → All (λ conn. conn.0 ≤ stage.callers) conns
+      → map (λ cell. cell.form) board.cells ≡ script.structures
+      → (floor floor' : Floor) (before : State) → IsFloor stage floor before → Known stage before
+      → ClosesAll board conns floor floor'
+      → TurnGoes stage of_none of_none before floor' (λ run. fold (after_closing stage.limit stage.told script) run conns)
+  closes_all [] callers forms floor floor' before at known closes =
+      record {
+        after = before;
+        is_floor = subst (λ (f : Floor). IsFloor stage f before) (sym closes) at;
+        goes_on = goes_not stage of_none before;
+      }
+  closes_all (conn ∷ conns) callers forms floor floor' before at known closes =
+      let caller : conn.0 ≤ stage.callers = All-head (λ (conn : ConnId). conn.0 ≤ stage.callers) conn conns callers in
+      let first : TurnGoes stage of_none of_none before closes.0 (λ run. after_closing stage.limit stage.told script run conn) =
+      closes_case conn.0 floor closes.0 before caller at known forms (before.shown conn.0).end refl
+      (subst (λ (t : Transcript). MatchBool (is_done_as t.end)
+      ((worker : AtWork) × DepartsEach 0 board.cells (heard_all board floor conn) worker
+      × (closes.0 ≡ record (with_worker conn worker floor) { last = replicate (length board.cells) (Some conn) }))
+      (closes.0 ≡ floor)) (at.worker conn.0 caller).shown closes.1) in
+      let rest = closes_all conns (All-tail (λ (conn : ConnId). conn.0 ≤ stage.callers) conn conns callers) forms
+      closes.0 floor' first.after
+      first.is_floor (first.goes_on.known known) closes.2 in
+      record {
+        after = rest.after;
+        is_floor = rest.is_floor;
+        goes_on = goes_then stage of_none of_none of_none before first.after rest.after
+            (λ run. after_closing stage.limit stage.told script run conn)
+            (λ run. fold (after_closing stage.limit stage.told script) run conns) first.goes_on rest.goes_on;
+      }

@@ -1,0 +1,198 @@
+-- What the histories that are left at the end have to do with what was done at a structure so far.
+use Rattle.std.proofs.Common.{◌≡◌, ℕ, ◌≤◌, ◌<◌, ◌==◌, Bool, true, false, cond, List, [], ◌∷◌, ◌++◌, fold, Option, None, Some, refl, sym, ap, subst, ◌∙◌, arith, append_assoc}
+use Rattle.std.specs.Prelude.{All, if◌then◌else◌}
+use Rattle.plex_board.specs.CfTypes.declared.forms.StrForm.{StrForm}
+use Rattle.plex_board.specs.CfTypes.declared.numbers.ConnId.{ConnId}
+use Rattle.plex_board.specs.CfTypes.declared.numbers.CfId.{CfId}
+use Rattle.plex_board.specs.CfLink.Links.{Telling}
+use Rattle.plex_board.specs.EngineApi.declared.told.Told.{Told}
+use Rattle.plex_board.specs.PlexScript.declared.scripts.AnyAsk.{AnyAsk}
+use Rattle.plex_board.specs.PlexScript.declared.asks.AnyHistory.{AnyHistory}
+use Rattle.plex_board.specs.PlexScript.Heard.{AnyCall, any_calls, any_length}
+use Rattle.plex_board.specs.Kinds.{IsAnyLegal, AreAnyAsTold, any_take, any_next, any_told, any_numbers, end_of, last_number}
+use Rattle.plex_board.proofs.SeamLaws.{IsNextOf, next_call, IsFrontOf, front_of, numbers_of, numbers_any, IsBefore}
+use Rattle.plex_board.specs.StructCell.Limits.{AreMadeBelow}
+use Rattle.plex_board.specs.declared.any_reply.AnyReply.{AnyReply}
+use Rattle.plex_board.specs.Passes.{PassShown, with_call, note_of}
+use Rattle.plex_board.specs.Cells.{IsAnyTold}
+use Rattle.plex_board.specs.Notes.{with_note}
+use Rattle.plex_agent.proofs.Spots.{conn, put, same_number, Spot, IsKnown, LastKnows, event, called}
+
+pub put_back : {X : Type 0} (P : ℕ → X → Type 0) (at : ℕ) (x : X) (xs : ℕ → X) → (P at x → P at (xs at))
+    → (other : ℕ) → P other (put at x xs other) → P other (xs other)
+put_back {X} P at x xs back other is = go (other == at) refl is
+  where
+    go : (b : Bool) → other == at ≡ b → P other (cond b x (xs other)) → P other (xs other)
+    go true same is =
+        let e : other ≡ at = same_number other at same in
+        subst (λ n. P n (xs n)) (sym e) (back (subst (λ n. P n x) e is))
+    go false apart is = is
+
+-- the calls so far are a beginning of the history's, no pass knows the number of a later one, and the history tells
+-- all tests
+pub record FitsAt (form : StrForm) (entries : AnyHistory) (callers : ℕ) (spot : Spot) : Type 0 where
+  pub more : List AnyCall
+  pub calls : any_calls entries ≡ spot.events ++ more
+  pub before : IsBefore spot.front more
+  pub tests : (c : ℕ) → c ≤ callers → All (IsAnyTold form entries (conn c)) (spot.passes c).tests
+
+-- the entries of those calls
+pub events_front : (form : StrForm) (entries : AnyHistory) (callers : ℕ) (spot : Spot) → IsAnyLegal form entries
+    → FitsAt form entries callers spot → IsFrontOf entries spot.events
+events_front form entries callers spot legal fits = front_of form entries legal spot.events fits.more fits.calls
+
+before_less : (low high : ℕ) (more : List AnyCall) → low ≤ high → IsBefore high more → IsBefore low more
+before_less low high [] least before = tt
+before_less low high (call ∷ more) least before = omega (arith, before)
+
+-- a pass changed, and the front didn't fall
+pub fits_put : (form : StrForm) (entries : AnyHistory) (callers by : ℕ) (spot : Spot) (pass : PassShown)
+    (last : Option ConnId)
+    (front : ℕ) → spot.front ≤ front
+    → (All (IsAnyTold form entries (conn by)) pass.tests
+    → All (IsAnyTold form entries (conn by)) (spot.passes by).tests)
+    → FitsAt form entries callers
+    (record { passes = put by pass spot.passes; note = spot.note; last = last; events = spot.events; front = front })
+    → FitsAt form entries callers spot
+fits_put form entries callers by spot pass last front later tests fits =
+    record {
+      more = fits.more;
+      calls = fits.calls;
+      before = before_less spot.front front fits.more later fits.before;
+      tests = λ c within.
+          put_back (λ c pass. All (IsAnyTold form entries (conn c)) pass.tests) by pass spot.passes tests c
+          (fits.tests c within);
+    }
+
+pub fits_called : (form : StrForm) (entries : AnyHistory) (callers by : ℕ) (spot : Spot) (asked : AnyAsk)
+    (told : Told) (reply : AnyReply)
+    → spot.front < told.no → FitsAt form entries callers (called by asked told reply spot)
+    → FitsAt form entries callers spot
+fits_called form entries callers by spot asked told reply above fits =
+    record {
+      more = event by asked told ∷ fits.more;
+      calls = fits.calls ∙ append_assoc spot.events (event by asked told ∷ []) fits.more;
+      before = above;
+      tests = λ c within.
+          put_back (λ c pass. All (IsAnyTold form entries (conn c)) pass.tests) by
+          (with_call asked told reply (spot.passes by))
+          spot.passes (λ is. is) c (fits.tests c within);
+    }
+
+-- a call came to a journal with room
+made_at : (limit last : ℕ) (front : List AnyCall) (call : AnyCall) (more : List AnyCall)
+    → AreMadeBelow limit last (numbers_of (front ++ call ∷ more)) → fold last_number last front < limit
+made_at limit last [] call more made = made.0
+made_at limit last (first ∷ front) call more made = made_at limit first.no front call more made.1
+
+-- a call of the history is its machine's next behind the entries up to n, told as it tells it; and the journal had room
+pub record IsNextCall (limit : ℕ) (form : StrForm) (tells : CfId → Telling) (entries : AnyHistory) (by : ℕ) (n : ℕ)
+    (asked : AnyAsk) (told : Told) : Type 0 where
+  pub size : any_length (any_take n entries) ≡ n
+  pub room : n < limit
+  pub next : any_take told.no entries ≡ any_next form tells (any_take n entries) (conn by) asked
+  pub number : told.no ≡ any_length (any_next form tells (any_take n entries) (conn by) asked)
+  pub answer : told ≡ any_told form tells (any_take n entries) (conn by) asked
+
+pub is_next_call : (limit : ℕ) (form : StrForm) (tells : CfId → Telling) (entries : AnyHistory) (callers by : ℕ)
+    (spot : Spot) (asked : AnyAsk) (told : Told) (reply : AnyReply)
+    → IsAnyLegal form entries → AreAnyAsTold form tells entries → AreMadeBelow limit 0 (any_numbers entries)
+    → FitsAt form entries callers (called by asked told reply spot)
+    → IsNextCall limit form tells entries by (end_of spot.events) asked told
+is_next_call limit form tells entries callers by spot asked told reply legal as_told made fits =
+    let calls : any_calls entries ≡ spot.events ++ event by asked told ∷ fits.more =
+    fits.calls ∙ append_assoc spot.events (event by asked told ∷ []) fits.more in
+    let next : IsNextOf form tells entries (any_take (end_of spot.events) entries) (event by asked told) =
+    next_call form tells entries legal as_told spot.events (event by asked told) fits.more calls in
+    let numbers : any_numbers entries ≡ numbers_of (spot.events ++ event by asked told ∷ fits.more) =
+    sym (numbers_any entries) ∙ ap numbers_of calls in
+    let front : IsFrontOf entries spot.events =
+    front_of form entries legal spot.events (event by asked told ∷ fits.more) calls in
+    record {
+      size = front.size;
+      room = made_at limit 0 spot.events (event by asked told) fits.more
+          (subst (AreMadeBelow limit 0) numbers made);
+      next = next.next;
+      number = next.number;
+      answer = next.answer;
+    }
+
+-- ---- hearings
+
+-- the pass once it was told what the one who acted last knows
+abbrev pub heard_as : ℕ → Spot → Option ConnId → PassShown
+heard_as by spot None = spot.passes by
+heard_as by spot (Some other) =
+    if other.0 == by then spot.passes by else with_note (note_of (spot.passes other.0)) (spot.passes by)
+
+abbrev pub heard_pass : ℕ → Spot → PassShown
+heard_pass by spot = heard_as by spot spot.last
+
+pub record IsHeardPass (by : ℕ) (spot : Spot) (pass : PassShown) : Type 0 where
+  pub known : pass.known ≡ spot.front
+  pub sure : pass.sure ≤ pass.known
+  pub more : (spot.passes by).sure ≤ pass.sure
+  pub owner : pass.owner ≡ (spot.passes by).owner
+  pub calls : pass.calls ≡ (spot.passes by).calls
+  pub tests : pass.tests ≡ (spot.passes by).tests
+
+pub heard_is : (callers by : ℕ) (spot : Spot) → by ≤ callers → IsKnown callers spot
+    → IsHeardPass by spot (heard_pass by spot)
+heard_is callers by spot caller known = by_last spot.last known.lasts
+  where
+    by_other : (other : ConnId) → (other.0 ≤ callers) × ((spot.passes other.0).known ≡ spot.front) → (b : Bool)
+        → other.0 == by ≡ b
+        → IsHeardPass by spot (if b then spot.passes by else with_note (note_of (spot.passes other.0))
+        (spot.passes by))
+    by_other other lasts true same =
+        let e : other.0 ≡ by = same_number other.0 by same in
+        record {
+          known = ap (λ (n : ℕ). (spot.passes n).known) (sym e) ∙ lasts.1;
+          sure = (known.pass by caller).sure;
+          more = omega arith;
+          owner = refl;
+          calls = refl;
+          tests = refl;
+        }
+    by_other other lasts false apart =
+        record {
+          known = omega (arith, lasts.1, (known.pass by caller).within);
+          sure = omega (arith, lasts.1, (known.pass by caller).sure, (known.pass other.0 lasts.0).sure);
+          more = omega arith;
+          owner = refl;
+          calls = refl;
+          tests = refl;
+        }
+
+    by_last : (last : Option ConnId) → LastKnows callers spot last → IsHeardPass by spot (heard_as by spot last)
+    by_last None lasts = record {
+      known = omega (arith, lasts.0, (known.pass by caller).within);
+      sure = (known.pass by caller).sure;
+      more = omega arith;
+      owner = refl;
+      calls = refl;
+      tests = refl;
+    }
+    by_last (Some other) lasts = by_other other lasts (other.0 == by) refl
+
+-- who hears of complete calls alone has seen all of them complete
+pub heard_complete : (callers by : ℕ) (spot : Spot) → by ≤ callers → IsKnown callers spot
+    → ((c : ConnId) → spot.last ≡ Some c → (spot.passes c.0).sure ≡ spot.front)
+    → (heard_pass by spot).sure ≡ (heard_pass by spot).known
+heard_complete callers by spot caller known complete = by_last spot.last refl known.lasts
+  where
+    by_other : (other : ConnId) → spot.last ≡ Some other
+        → (other.0 ≤ callers) × ((spot.passes other.0).known ≡ spot.front)
+        → (b : Bool) → other.0 == by ≡ b
+        → (if b then spot.passes by else with_note (note_of (spot.passes other.0)) (spot.passes by)).sure
+        ≡ (if b then spot.passes by else with_note (note_of (spot.passes other.0)) (spot.passes by)).known
+    by_other other last lasts true same =
+        let e : other.0 ≡ by = same_number other.0 by same in
+        subst (λ (n : ℕ). (spot.passes n).sure ≡ (spot.passes n).known) e (complete other last ∙ sym lasts.1)
+    by_other other last lasts false apart =
+        omega (arith, lasts.1, complete other last, (known.pass by caller).within, (known.pass by caller).sure)
+
+    by_last : (last : Option ConnId) → spot.last ≡ last → LastKnows callers spot last
+        → (heard_as by spot last).sure ≡ (heard_as by spot last).known
+    by_last None last lasts = omega (arith, lasts.0, (known.pass by caller).within, (known.pass by caller).sure)
+    by_last (Some other) last lasts = by_other other last lasts (other.0 == by) refl

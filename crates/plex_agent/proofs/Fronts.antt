@@ -1,0 +1,102 @@
+-- Lists that another list begins with; and a caller's own calls, heard by their numbers.
+use Rattle.std.proofs.Common.{◌≡◌, ℕ, ◌<◌, ◌==◌, Bool, true, false, List, [], ◌∷◌, ◌++◌, length, take, Some, refl, sym, ap, subst, ◌∙◌, arith, append-nil, append_assoc}
+use Rattle.std.proofs.Math.Seq.{take-append_seam}
+use Rattle.std.proofs.lemmas.Bool.Decides.{nat_tests}
+use Rattle.plex_board.specs.CfTypes.declared.numbers.ConnId.{ConnId}
+use Rattle.plex_board.specs.PlexScript.Heard.{AnyCall, call_numbered, own_calls}
+use Rattle.plex_board.specs.Kinds.{Rising}
+
+-- a list, and one that begins with it
+pub record IsFront {X : Type 0} (xs ys : List X) : Type 0 where
+  pub more : List X
+  pub behind : ys ≡ xs ++ more
+
+pub front_same : {X : Type 0} (xs : List X) → IsFront xs xs
+front_same xs = record { more = []; behind = sym (append-nil xs) }
+
+pub front_more : {X : Type 0} (xs ys : List X) → IsFront xs (xs ++ ys)
+front_more xs ys = record { more = ys; behind = refl }
+
+pub front_then : {X : Type 0} (xs ys zs : List X) → IsFront xs ys → IsFront ys zs → IsFront xs zs
+front_then {X} xs ys zs first second =
+    record {
+      more = first.more ++ second.more;
+      behind = second.behind ∙ ap (λ (t : List X). t ++ second.more) first.behind
+          ∙ append_assoc xs first.more second.more;
+    }
+
+pub take_front : {X : Type 0} (n : ℕ) (xs ys : List X) → n ≡ length xs → IsFront xs ys → take n ys ≡ xs
+take_front n xs ys is front =
+    ap (λ (k : ℕ). take k ys) is ∙ ap (take (length xs)) front.behind ∙ take-append_seam xs front.more
+
+-- ---- a caller's own calls
+
+own_first : (first : AnyCall) (calls : List AnyCall) (conn : ConnId) → first.by.0 == conn.0 ≡ true
+    → own_calls (first ∷ calls) conn ≡ first ∷ own_calls calls conn
+own_first first calls conn same = rw same refl
+
+own_skip : (first : AnyCall) (calls : List AnyCall) (conn : ConnId) → first.by.0 == conn.0 ≡ false
+    → own_calls (first ∷ calls) conn ≡ own_calls calls conn
+own_skip first calls conn apart = rw apart refl
+
+-- where numbers rise, each own call's is above the number that they rise from
+pub own_above : (low : ℕ) (calls : List AnyCall) (conn : ConnId) (front : List AnyCall) (call : AnyCall)
+    (more : List AnyCall)
+    → Rising low calls → own_calls calls conn ≡ front ++ call ∷ more → low < call.no
+own_above low [] conn [] call more rise own = absurd cc
+own_above low [] conn (x ∷ front) call more rise own = absurd cc
+own_above low (first ∷ calls) conn front call more rise own =
+    by_test (first.by.0 == conn.0) refl front own
+    (λ (front : List AnyCall) (own : own_calls calls conn ≡ front ++ call ∷ more).
+    own_above first.no calls conn front call more rise.1 own)
+  where
+    by_test : (b : Bool) → first.by.0 == conn.0 ≡ b → (front : List AnyCall)
+        → own_calls (first ∷ calls) conn ≡ front ++ call ∷ more
+        → ((front : List AnyCall) → own_calls calls conn ≡ front ++ call ∷ more → first.no < call.no) → low < call.no
+    by_test true same [] own rest =
+        let both : first ∷ own_calls calls conn ≡ call ∷ more = sym (own_first first calls conn same) ∙ own in
+        let is : first ≡ call = cc in
+        subst (λ (c : AnyCall). low < c.no) is rise.0
+    by_test true same (x ∷ front) own rest =
+        let both : first ∷ own_calls calls conn ≡ x ∷ (front ++ call ∷ more) = sym (own_first first calls conn same)
+        ∙ own in
+        let others : own_calls calls conn ≡ front ++ call ∷ more = cc in
+        omega (arith, rise.0, rest front others)
+    by_test false apart front own rest =
+        omega (arith, rise.0, rest front (sym (own_skip first calls conn apart) ∙ own))
+
+pub itself : (n : ℕ) → n == n ≡ true
+itself n = grind (arith, nat_tests)
+
+-- and each is heard by its number
+pub own_heard : (low : ℕ) (calls : List AnyCall) (conn : ConnId) (front : List AnyCall) (call : AnyCall)
+    (more : List AnyCall)
+    → Rising low calls → own_calls calls conn ≡ front ++ call ∷ more → call_numbered call.no calls ≡ Some call
+own_heard low [] conn [] call more rise own = absurd cc
+own_heard low [] conn (x ∷ front) call more rise own = absurd cc
+own_heard low (first ∷ calls) conn front call more rise own =
+    by_test (first.by.0 == conn.0) refl front own
+    (λ (front : List AnyCall) (own : own_calls calls conn ≡ front ++ call ∷ more).
+    own_heard first.no calls conn front call more rise.1 own)
+  where
+    past : first.no < call.no → call_numbered call.no calls ≡ Some call
+        → call_numbered call.no (first ∷ calls) ≡ Some call
+    past above found = let apart : first.no == call.no ≡ false = grind (arith, nat_tests) in rw apart found
+
+    by_test : (b : Bool) → first.by.0 == conn.0 ≡ b → (front : List AnyCall)
+        → own_calls (first ∷ calls) conn ≡ front ++ call ∷ more
+        → ((front : List AnyCall) → own_calls calls conn ≡ front ++ call ∷ more
+        → call_numbered call.no calls ≡ Some call)
+        → call_numbered call.no (first ∷ calls) ≡ Some call
+    by_test true same [] own rest =
+        let both : first ∷ own_calls calls conn ≡ call ∷ more = sym (own_first first calls conn same) ∙ own in
+        let is : first ≡ call = cc in
+        subst (λ (c : AnyCall). call_numbered c.no (first ∷ calls) ≡ Some c) is (rw (itself first.no) refl)
+    by_test true same (x ∷ front) own rest =
+        let both : first ∷ own_calls calls conn ≡ x ∷ (front ++ call ∷ more) = sym (own_first first calls conn same)
+        ∙ own in
+        let others : own_calls calls conn ≡ front ++ call ∷ more = cc in
+        past (own_above first.no calls conn front call more rise.1 others) (rest front others)
+    by_test false apart front own rest =
+        let others : own_calls calls conn ≡ front ++ call ∷ more = sym (own_skip first calls conn apart) ∙ own in
+        past (own_above first.no calls conn front call more rise.1 others) (rest front others)

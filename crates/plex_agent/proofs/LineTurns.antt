@@ -1,0 +1,352 @@
+-- A line of a script at a board, and all lines, against the run by the machine alone.
+use Rattle.std.proofs.Common.{◌≡◌, ◌≢◌, ℕ, ◌*◌, ◌≤◌, ◌<◌, nat_lt, true, List, [], ◌∷◌, length, map, set, slice_get, Option, None, Some, refl, sym, ap, subst, ◌∙◌, arith, length-set}
+use Rattle.std.specs.Prelude.{slice_index_or}
+use Rattle.std.proofs.lemmas.Bool.Decides.{nat_tests}
+use Rattle.std.proofs.lemmas.List.{set-get_or}
+use Rattle.plex_board.specs.CfTypes.declared.numbers.ConnId.{ConnId}
+use Rattle.plex_board.specs.PlexScript.declared.agents.Step.{Step}
+use Rattle.plex_board.specs.PlexScript.declared.agents.Step.TheVariants as step
+use Rattle.plex_board.specs.PlexScript.declared.scripts.AnyAsk.{AnyAsk}
+use Rattle.plex_board.specs.PlexScript.declared.scripts.Act.TheVariants as act
+use Rattle.plex_board.specs.PlexScript.declared.transcripts.AgentEnd.TheVariants as ended
+use Rattle.plex_board.specs.PlexScript.declared.transcripts.Shown.{Shown}
+use Rattle.plex_board.specs.PlexScript.declared.transcripts.Shown.TheVariants as shown
+use Rattle.plex_board.specs.PlexScript.declared.transcripts.Transcript.{Transcript}
+use Rattle.plex_board.specs.PlexScript.declared.asks.AnyHistory.{AnyHistory}
+use Rattle.plex_board.specs.VecWords.Logged.{sight, indices_of}
+use Rattle.plex_board.specs.Numbers.{shown_on}
+use Rattle.plex_board.specs.Serial.{Run, act_made, all_steps_made, with_shown, post_made, take_made}
+use Rattle.plex_board.specs.Passes.{PassShown, NoteShown, note_of}
+use Rattle.plex_board.specs.Notes.{with_any_note}
+use Rattle.plex_board.specs.Desks.{DeskShown, pass_at, with_pass, no_pass}
+use Rattle.plex_board.specs.Boards.{note_in}
+use Rattle.plex_board.specs.Turns.{AtWork, Asks, Tests, TestsWord, ShowsOnly, RunsOut, Posts, with_item}
+use Rattle.plex_board.specs.Floors.{Floor, worker_of, heard_from_last, worker_after_take}
+use Rattle.plex_agent.proofs.Spots.{conn, str, put_same, put_other, Spot, moved, noticed}
+use Rattle.plex_agent.proofs.Fits.{heard_pass}
+use Rattle.plex_agent.proofs.Stages.{Stage, IsStage, State, Known, Shows, Goes, goes_then, acted}
+use Rattle.plex_agent.proofs.ExactMoves.{SaysLess, heard_state, goes_heard}
+use Rattle.plex_agent.proofs.ExactActs.{tested_pass, goes_bit, goes_word, goes_bad, goes_take, goes_post}
+use Rattle.plex_agent.proofs.Workers.{IsWorker, OthersSame, NotesSame, LastsSame, others_then, by_place, AsksGo, asks_go, IsFloor, floor_after}
+use Rattle.plex_agent.proofs.Turned.{turned, turned_others, turned_worker, turned_note, turned_last, turned_floor, tray_again, last_again, heard_worker, out_state, goes_out}
+
+-- ---- what is said of callers
+
+-- of all callers at all structures; of all but one at one; of none
+abbrev pub of_all : Shows
+of_all x c = Unit {0}
+
+abbrev pub of_others : ℕ → ℕ → Shows
+of_others on by x c = x ≡ on → c ≡ by → ⊥
+
+abbrev pub of_none : Shows
+of_none x c = ⊥
+
+less_heard : (on by : ℕ) → SaysLess of_all (of_others on by) on by
+less_heard on by = record { others = λ c apart is. tt; elsewhere = λ x c apart is. tt }
+
+more_done : (on by : ℕ) → SaysLess (of_others on by) of_all on by
+more_done on by = record {
+  others = λ c apart is same self. apart self;
+  elsewhere = λ x c apart is same self. apart same;
+}
+
+silent : (on by : ℕ) → of_others on by on by → ⊥
+silent on by said = said refl refl
+
+-- ---- where a turn leads
+
+pub record TurnGoes (stage : Stage) (shows shows' : Shows) (before : State) (floor : Floor)
+    (goes : Run → Run) : Type 1 where
+  pub after : State
+  pub is_floor : IsFloor stage floor after
+  pub goes_on : Goes stage shows shows' before after goes
+
+module _ (stage : Stage) (is : IsStage stage) (on by : ℕ) (within : on < stage.cells) (caller : by ≤ stage.callers)
+    (floor floor' : Floor) (before : State) (at : IsFloor stage floor before) (known : Known stage before)
+    (works : (before.shown by).end ≡ ended.Done) where
+  abbrev self : AtWork
+  self = worker_of floor (conn by)
+
+  abbrev ready_self : AtWork
+  ready_self = heard_from_last floor (conn by) self (str on)
+
+  abbrev heard_now : State
+  heard_now = heard_state on by before
+
+  mine : IsWorker stage.cells by self before
+  mine = at.worker by caller
+
+  mine_heard : IsWorker stage.cells by ready_self heard_now
+  mine_heard = heard_worker stage on by floor before within caller at known
+
+  hears : Goes stage of_all (of_others on by) before heard_now (λ run. run)
+  hears = goes_heard stage of_all (of_others on by) on by before within caller works (less_heard on by) (silent on by)
+
+  heard_works : (heard_now.shown by).end ≡ ended.Done
+  heard_works = ap (λ (t : Transcript). t.end) (put_same by (before.shown by) before.shown) ∙ works
+
+  heard_last : (heard_now.spots on).last ≡ Some (conn by)
+  heard_last = ap (λ (s : Spot). s.last)
+      (put_same on (moved by (heard_pass by (before.spots on)) (before.spots on)) before.spots)
+
+  -- the floor that a heard turn leaves
+  abbrev counted_floor : AtWork → Floor
+  counted_floor worker = record {
+    workers = set floor.workers by worker;
+    tray = floor.tray;
+    last = set floor.last on (Some (conn by));
+  }
+
+  -- after the hearing nothing happened to notes, and who acted last is the caller
+  heard_floor : (worker : AtWork) (after : State) → floor' ≡ counted_floor worker → IsWorker stage.cells by worker
+      after
+      → OthersSame by heard_now after → NotesSame heard_now after → LastsSame heard_now after
+      → IsFloor stage floor' after
+  heard_floor worker after floor_is mine' others notes lasts =
+      let pass : PassShown = heard_pass by (before.spots on) in
+      let note : Option NoteShown = (before.spots on).note in
+      floor_after stage by worker floor floor' before after caller at (ap (λ (f : Floor). f.workers) floor_is)
+      (ap (λ (f : Floor). length f.tray) floor_is ∙ at.tray)
+      (ap (λ (f : Floor). length f.last) floor_is ∙ length-set floor.last on (Some (conn by)) ∙ at.lasts)
+      (λ x inside. ap (λ (f : Floor). note_in f.tray (str x)) floor_is
+      ∙ sym (ap (λ (t : List (Option NoteShown)). note_in t (str x)) (tray_again stage on floor before within at))
+      ∙ turned_note on by pass note (Some (conn by)) pass.known (before.shown by) before stage.cells floor.tray
+      at.tray at.note x inside
+      ∙ sym (notes x))
+      (λ x inside. ap (λ (f : Floor). slice_index_or f.last x None) floor_is
+      ∙ turned_last on by pass note (Some (conn by)) pass.known (before.shown by) before stage.cells floor.last
+      at.lasts at.last x inside
+      ∙ sym (lasts x))
+      mine'
+      (others_then by before heard_now after
+      (turned_others on by pass note (Some (conn by)) pass.known (before.shown by) before) others)
+
+  pub calls_turn : (line : Option AnyAsk) (first : Step) (worker : AtWork) → first ≢ step.Rest
+      → Asks stage.limit (stage.form on).kind line (str on) first ready_self worker → floor' ≡ counted_floor worker
+      → TurnGoes stage of_all of_all before floor'
+      (all_steps_made stage.limit stage.told (stage.form on) line (conn by) (str on) first)
+  calls_turn line first worker goes asks floor_is =
+      let go : AsksGo stage (of_others on by) of_all line on by first worker heard_now =
+      asks_go stage is (of_others on by) of_all line on by first ready_self worker heard_now within caller goes
+      (more_done on by)
+      mine_heard heard_works heard_last asks in
+      record {
+        after = go.after;
+        is_floor = heard_floor worker go.after floor_is go.is_worker go.others go.notes go.lasts;
+        goes_on = goes_then stage of_all (of_others on by) of_all before heard_now go.after (λ run. run)
+            (all_steps_made stage.limit stage.told (stage.form on) line (conn by) (str on) first) hears go.goes;
+      }
+
+  -- a heard turn at the structure that leaves this pass and transcript
+  heard_turn : (pass : PassShown) (transcript : Transcript) (worker : AtWork) (goes : Run → Run)
+      → worker.desk ≡ with_pass (str on) pass ready_self.desk → worker.shown ≡ transcript
+      → floor' ≡ counted_floor worker
+      → Goes stage (of_others on by) of_all heard_now
+      (acted on by (moved by pass (heard_now.spots on)) transcript heard_now) goes
+      → TurnGoes stage of_all of_all before floor' goes
+  heard_turn pass transcript worker goes desk shown_is floor_is goes_on =
+      let note : Option NoteShown = (heard_now.spots on).note in
+      let after : State = acted on by (moved by pass (heard_now.spots on)) transcript heard_now in
+      let spot_is : after.spots on ≡ moved by pass (heard_now.spots on) =
+      put_same on (moved by pass (heard_now.spots on)) heard_now.spots in
+      record {
+        after = after;
+        is_floor = heard_floor worker after floor_is
+            (turned_worker on by pass note (Some (conn by)) pass.known transcript heard_now stage.cells ready_self
+            worker within mine_heard desk shown_is)
+            (turned_others on by pass note (Some (conn by)) pass.known transcript heard_now)
+            (by_place (λ x. (after.spots x).note ≡ (heard_now.spots x).note) on (ap (λ (s : Spot). s.note) spot_is)
+            (λ x apart. ap (λ (s : Spot). s.note)
+            (put_other on (moved by pass (heard_now.spots on)) heard_now.spots x apart)))
+            (by_place (λ x. (after.spots x).last ≡ (heard_now.spots x).last) on
+            (ap (λ (s : Spot). s.last) spot_is ∙ sym heard_last)
+            (λ x apart. ap (λ (s : Spot). s.last)
+            (put_other on (moved by pass (heard_now.spots on)) heard_now.spots x apart)));
+        goes_on = goes_then stage of_all (of_others on by) of_all before heard_now after (λ run. run) goes hears
+            goes_on;
+      }
+
+  -- a turn without a hearing, that leaves this
+  plain_turn : (pass : PassShown) (note : Option NoteShown) (transcript : Transcript) (worker : AtWork)
+      (goes : Run → Run)
+      → worker.desk ≡ with_pass (str on) pass self.desk → worker.shown ≡ transcript
+      → floor' ≡ record { workers = set floor.workers by worker; tray = set floor.tray on note; last = floor.last }
+      → Goes stage of_all of_all before
+      (turned on by pass note (before.spots on).last (before.spots on).front transcript before) goes
+      → TurnGoes stage of_all of_all before floor' goes
+  plain_turn pass note transcript worker goes desk shown_is floor_is goes_on =
+      let last : Option ConnId = (before.spots on).last in
+      let front : ℕ = (before.spots on).front in
+      record {
+        after = turned on by pass note last front transcript before;
+        is_floor = turned_floor on by pass note last front transcript before stage worker floor floor' within caller
+            at
+            (turned_worker on by pass note last front transcript before stage.cells self worker within mine desk
+            shown_is)
+            (floor_is ∙ ap (λ (l : List (Option ConnId)). (let it : Floor = record {
+              workers = set floor.workers by worker;
+              tray = set floor.tray on note;
+              last = l;
+            } in it)) (sym (last_again stage on floor before within at)));
+        goes_on = goes_on;
+      }
+
+  -- the worker's pass, put there again
+  again : (worker : AtWork) (pass : PassShown) → pass_at worker.desk (str on) ≡ pass
+      → with_pass (str on) pass worker.desk ≡ worker.desk
+  again worker pass e =
+      ap (λ (p : PassShown). with_pass (str on) p worker.desk) (sym e)
+      ∙ ap (λ (t : List PassShown). (let it : DeskShown = record { owner = worker.desk.owner; passes = t } in it))
+      (set-get_or worker.desk.passes on no_pass)
+
+  same_tray : (worker : AtWork) → floor' ≡ record
+      { workers = set floor.workers by worker; tray = floor.tray; last = floor.last }
+      → floor' ≡ record {
+        workers = set floor.workers by worker;
+        tray = set floor.tray on (before.spots on).note;
+        last = floor.last;
+      }
+  same_tray worker floor_is =
+      floor_is ∙ ap (λ (t : List (Option NoteShown)). (let it : Floor = record {
+        workers = set floor.workers by worker;
+        tray = t;
+        last = floor.last;
+      } in it)) (sym (tray_again stage on floor before within at))
+
+  -- ---- tests
+
+  pub bit_turn : (index : ℕ) (worker : AtWork) → nat_lt index (stage.form on).vector ≡ true
+      → Tests (str on) index ready_self worker → floor' ≡ counted_floor worker
+      → TurnGoes stage of_all of_all before floor'
+      (act_made stage.limit stage.told (stage.form on)
+      (record { at = 0; by = conn by; on = str on; act = act.Test index; retry = 0 }) (act.Test index))
+  bit_turn index worker inside tests floor_is =
+      let pass_is : pass_at ready_self.desk (str on) ≡ (heard_now.spots on).passes by = mine_heard.passes on within in
+      let pass_of : PassShown → PassShown = λ p. tested_pass tests.at
+      (record { index = index; bit = tests.bit; at = tests.at; sure = p.sure } ∷ []) p in
+      heard_turn (pass_of ((heard_now.spots on).passes by))
+      (with_item (shown.Test (str on) index tests.bit tests.at) (heard_now.shown by)) worker _
+      (tests.desk ∙ ap (λ (p : PassShown). with_pass (str on) (pass_of p) ready_self.desk) pass_is)
+      (tests.shown ∙ ap (with_item (shown.Test (str on) index tests.bit tests.at)) mine_heard.shown)
+      floor_is
+      (goes_bit stage is (of_others on by) of_all on by index tests.bit tests.at heard_now within caller heard_last
+      heard_works (more_done on by)
+      (subst (λ (p : PassShown). p.known ≤ tests.at) pass_is tests.later) (grind (arith, nat_tests)) inside)
+
+  pub word_turn : (word : ℕ) (worker : AtWork) → nat_lt (32 * word) (stage.form on).vector ≡ true
+      → TestsWord (str on) word ready_self worker → floor' ≡ counted_floor worker
+      → TurnGoes stage of_all of_all before floor'
+      (act_made stage.limit stage.told (stage.form on)
+      (record { at = 0; by = conn by; on = str on; act = act.TestWord word; retry = 0 }) (act.TestWord word))
+  word_turn word worker inside tests floor_is =
+      let pass_is : pass_at ready_self.desk (str on) ≡ (heard_now.spots on).passes by = mine_heard.passes on within in
+      let pass_of : PassShown → PassShown =
+      λ p. tested_pass tests.at (map (sight tests.bits tests.at p.sure) (indices_of word)) p in
+      heard_turn (pass_of ((heard_now.spots on).passes by))
+      (with_item (shown.Word (str on) word tests.bits tests.at) (heard_now.shown by)) worker _
+      (tests.desk ∙ ap (λ (p : PassShown). with_pass (str on) (pass_of p) ready_self.desk) pass_is)
+      (tests.shown ∙ ap (with_item (shown.Word (str on) word tests.bits tests.at)) mine_heard.shown)
+      floor_is
+      (goes_word stage is (of_others on by) of_all on by word tests.bits tests.at heard_now within caller heard_last
+      heard_works (more_done on by)
+      (subst (λ (p : PassShown). p.known ≤ tests.at) pass_is tests.later) tests.fits inside)
+
+  pub bad_turn : (item : Shown) (item_of : AnyHistory → Shown) (worker : AtWork) → ShowsOnly item self worker
+      → ((x : ℕ) → shown_on (str x) item ≡ None) → ((entries : AnyHistory) → item_of entries ≡ item)
+      → floor' ≡ record { workers = set floor.workers by worker; tray = floor.tray; last = floor.last }
+      → TurnGoes stage of_all of_all before floor'
+      (λ run. with_shown (conn by) (slice_get run.histories on) item_of run)
+  bad_turn item item_of worker shows none item_is floor_is =
+      plain_turn ((before.spots on).passes by) (before.spots on).note (with_item item (before.shown by)) worker _
+      (shows.0 ∙ sym (again self ((before.spots on).passes by) (mine.passes on within)))
+      (shows.1 ∙ ap (with_item item) mine.shown)
+      (same_tray worker floor_is)
+      (goes_bad stage of_all on by item item_of before within caller works none item_is)
+
+  pub out_turn : (worker : AtWork) (goes : Run → Run) → RunsOut self worker
+      → floor' ≡ record { workers = set floor.workers by worker; tray = floor.tray; last = floor.last }
+      → TurnGoes stage of_all of_all before floor' goes
+  out_turn worker goes out floor_is =
+      plain_turn ((before.spots on).passes by) (before.spots on).note
+      (record (before.shown by) { end = ended.NoMemory }) worker goes
+      (out.0 ∙ sym (again self ((before.spots on).passes by) (mine.passes on within)))
+      (out.1 ∙ ap (λ (t : Transcript). (let it : Transcript = record { items = t.items; end = ended.NoMemory } in it))
+      mine.shown)
+      (same_tray worker floor_is)
+      (goes_out stage of_all of_all on by goes before within caller works)
+
+  -- out of memory after the hearing: the pass stays as it was heard
+  pub heard_out_turn : (worker : AtWork) (goes : Run → Run) → RunsOut ready_self worker
+      → floor' ≡ counted_floor worker
+      → TurnGoes stage of_all of_all before floor' goes
+  heard_out_turn worker goes out floor_is =
+      let pass : PassShown = (heard_now.spots on).passes by in
+      let note : Option NoteShown = (heard_now.spots on).note in
+      let last : Option ConnId = (heard_now.spots on).last in
+      let front : ℕ = (heard_now.spots on).front in
+      let transcript : Transcript = record (heard_now.shown by) { end = ended.NoMemory } in
+      let after : State = out_state on by heard_now in
+      let spot_is : after.spots on ≡ noticed by pass (heard_now.spots on) =
+      put_same on (noticed by pass (heard_now.spots on)) heard_now.spots in
+      record {
+        after = after;
+        is_floor = heard_floor worker after floor_is
+            (turned_worker on by pass note last front transcript heard_now stage.cells ready_self worker within
+            mine_heard
+            (out.0 ∙ sym (again ready_self pass (mine_heard.passes on within)))
+            (out.1 ∙ ap (λ (t : Transcript).
+            (let it : Transcript = record { items = t.items; end = ended.NoMemory } in it)) mine_heard.shown))
+            (turned_others on by pass note last front transcript heard_now)
+            (by_place (λ x. (after.spots x).note ≡ (heard_now.spots x).note) on (ap (λ (s : Spot). s.note) spot_is)
+            (λ x apart. ap (λ (s : Spot). s.note)
+            (put_other on (noticed by pass (heard_now.spots on)) heard_now.spots x apart)))
+            (by_place (λ x. (after.spots x).last ≡ (heard_now.spots x).last) on (ap (λ (s : Spot). s.last) spot_is)
+            (λ x apart. ap (λ (s : Spot). s.last)
+            (put_other on (noticed by pass (heard_now.spots on)) heard_now.spots x apart)));
+        goes_on = goes_then stage of_all (of_others on by) of_all before heard_now after (λ run. run) goes hears
+            (goes_out stage (of_others on by) of_all on by goes heard_now within caller heard_works);
+      }
+
+  -- ---- notes
+
+  pub post_turn : (worker : AtWork) → Posts (str on) self worker
+      → floor' ≡ record {
+        workers = set floor.workers by worker;
+        tray = set floor.tray on (Some (note_of (pass_at self.desk (str on))));
+        last = floor.last;
+      }
+      → TurnGoes stage of_all of_all before floor' (λ run. post_made (conn by) (str on) run)
+  post_turn worker posts floor_is =
+      let pass_is : pass_at self.desk (str on) ≡ (before.spots on).passes by = mine.passes on within in
+      plain_turn ((before.spots on).passes by) (Some (note_of ((before.spots on).passes by)))
+      (with_item (shown.Posted (str on) ((before.spots on).passes by).sure) (before.shown by)) worker _
+      (posts.shows.0 ∙ sym (again self ((before.spots on).passes by) pass_is))
+      (posts.shows.1 ∙ ap (λ (p : PassShown). with_item (shown.Posted (str on) p.sure) self.shown) pass_is
+      ∙ ap (with_item (shown.Posted (str on) ((before.spots on).passes by).sure)) mine.shown)
+      (floor_is ∙ ap (λ (p : PassShown). (let it : Floor = record {
+        workers = set floor.workers by worker;
+        tray = set floor.tray on (Some (note_of p));
+        last = floor.last;
+      } in it)) pass_is)
+      (goes_post stage of_all on by before within caller works tt)
+
+  pub take_turn : floor' ≡ record {
+    workers = set floor.workers by (worker_after_take (str on) (note_in floor.tray (str on)) self);
+    tray = floor.tray;
+    last = floor.last;
+  }
+      → TurnGoes stage of_all of_all before floor' (λ run. take_made (conn by) (str on) run)
+  take_turn floor_is =
+      let pass_is : pass_at self.desk (str on) ≡ (before.spots on).passes by = mine.passes on within in
+      let pass : PassShown = with_any_note (before.spots on).note ((before.spots on).passes by) in
+      let worker : AtWork = worker_after_take (str on) (note_in floor.tray (str on)) self in
+      let told_is : with_any_note (note_in floor.tray (str on)) (pass_at self.desk (str on)) ≡ pass =
+      ap (λ (n : Option NoteShown). with_any_note n (pass_at self.desk (str on))) (at.note on within)
+      ∙ ap (with_any_note (before.spots on).note) pass_is in
+      plain_turn pass (before.spots on).note (with_item (shown.Took (str on) pass.sure) (before.shown by)) worker _
+      (ap (λ (p : PassShown). with_pass (str on) p self.desk) told_is)
+      (ap (λ (p : PassShown). with_item (shown.Took (str on) p.sure) self.shown) told_is
+      ∙ ap (with_item (shown.Took (str on) pass.sure)) mine.shown)
+      (same_tray worker floor_is)
+      (goes_take stage of_all on by before within caller works tt)

@@ -1,0 +1,294 @@
+-- A caller's lines, one after another.
+use Rattle.std.proofs.Common.{◌≡◌, ℕ, ◌≤◌, ◌<◌, ◌==◌, Bool, true, false, List, [], ◌∷◌, ◌++◌, length, Some, refl, sym, ap, subst, ◌∙◌, arith, append_assoc, append-nil, slice_get, MatchBool}
+use Rattle.std.proofs.lemmas.Option.{slice_get_within}
+use Rattle.plex_board.specs.CfTypes.declared.forms.StrForm.{StrForm}
+use Rattle.plex_board.specs.CfTypes.declared.numbers.ConnId.{ConnId}
+use Rattle.plex_board.specs.CfTypes.declared.numbers.StrNo.{StrNo}
+use Rattle.plex_board.specs.PlexScript.declared.asks.AnyHistory.{AnyHistory}
+use Rattle.plex_board.specs.PlexScript.declared.scripts.Line.{Line}
+use Rattle.plex_board.specs.PlexScript.declared.transcripts.AgentEnd.{AgentEnd}
+use Rattle.plex_board.specs.PlexScript.declared.transcripts.AgentEnd.TheVariants as ended
+use Rattle.plex_board.specs.PlexScript.declared.transcripts.Shown.{Shown}
+use Rattle.plex_board.specs.PlexScript.declared.transcripts.Transcript.{Transcript}
+use Rattle.plex_board.specs.PlexScript.Agent.{first_step, call_of}
+use Rattle.plex_board.specs.PlexScript.Heard.{calls_on, length_on}
+use Rattle.plex_board.specs.PlexScript.Follows.{RunsUpTo, ShowsLines}
+use Rattle.plex_board.specs.Cells.{CellShown}
+use Rattle.plex_board.specs.Kinds.{Rising}
+use Rattle.plex_board.specs.Desks.{DeskShown, pass_at}
+use Rattle.plex_board.specs.Boards.{BoardShown, cell_on}
+use Rattle.plex_board.specs.Turns.{AtWork, Acts, Turns, is_done_as}
+use Rattle.plex_board.specs.Callers.{lines_by}
+use Rattle.plex_agent.specs.Chains.{DoesLines, Hears}
+use Rattle.plex_agent.proofs.Passes.{Caller}
+use Rattle.plex_agent.proofs.Moves.{same_number, AreWithin, Goes, goes_then, moves_go, hears_go}
+use Rattle.plex_agent.proofs.Hearings.{hears_then}
+use Rattle.plex_agent.proofs.Turns.{EndsAs}
+use Rattle.plex_agent.proofs.ActTurns.{ShownWhole, ShownUpTo, ShownCut, TurnedBy, acts_turned}
+
+-- ---- where callers work
+
+-- the cells of a board are those of these forms, with this limit; and the histories' calls are numbered upwards
+pub record IsSetting {L : Type 0} (limit : ℕ) (board : BoardShown L) (forms : List StrForm)
+    (histories : List AnyHistory) : Type 0 where
+  pub limits : (x : ℕ) (cell : CellShown L) → slice_get board.cells x ≡ Some cell → cell.limit ≡ limit
+  pub forms_are : (x : ℕ) (cell : CellShown L) → slice_get board.cells x ≡ Some cell
+      → slice_get forms x ≡ Some cell.form
+  pub rise : (on : StrNo) → Rising 0 (calls_on histories on)
+
+-- a caller's passes are its own
+abbrev pub Owns : ConnId → DeskShown → Type 0
+Owns conn desk = (on : StrNo) → on.0 < length desk.passes → (pass_at desk on).owner ≡ conn
+
+pub owns_still : (me : Caller) (before after : AtWork) (part : List Shown) → Goes me before after part
+    → Owns me.conn before.desk → Owns me.conn after.desk
+owns_still me before after part goes owns on within =
+    goes.owners on ∙ owns on (subst (λ (n : ℕ). on.0 < n) goes.passes within)
+
+-- ---- lines of one caller
+
+abbrev pub AreBy : ConnId → List Line → Type 0
+AreBy conn [] = Unit {0}
+AreBy conn (line ∷ lines) = (line.by ≡ conn) × AreBy conn lines
+
+pub own_lines : (conn : ConnId) (lines : List Line) → AreBy conn (lines_by conn lines)
+own_lines conn [] = tt
+own_lines conn (line ∷ lines) = by_test (line.by.0 == conn.0) refl (own_lines conn lines)
+  where
+    by_test : (b : Bool) → line.by.0 == conn.0 ≡ b → AreBy conn (lines_by conn lines)
+        → AreBy conn (lines_by conn (line ∷ lines))
+    by_test true same rest =
+        rw same (ap (λ (n : ℕ). (let it : ConnId = record { 0 = n } in it)) (same_number line.by.0 conn.0 same), rest)
+    by_test false apart rest = rw apart rest
+
+module _ {L : Type 0} (limit : ℕ) (board : BoardShown L) (me : Caller)
+    (setting : IsSetting limit board me.forms me.histories) where
+  -- among its lines a caller stopped before a call on a structure whose journal is full
+  pub record StoppedIn (lines : List Line) (part : List Shown) (on : StrNo) : Type 0 where
+    pub before : List Line
+    pub line : Line
+    pub later : List Line
+    pub split : lines ≡ before ++ line ∷ later
+    pub there : line.on ≡ on
+    pub form : StrForm
+    pub known : slice_get me.forms on.0 ≡ Some form
+    pub during : List Shown
+    pub last : List Shown
+    pub shows : part ≡ during ++ last
+    pub played : ShowsLines me.forms me.histories before during
+    pub stopped : RunsUpTo form.kind (call_of line.act) (calls_on me.histories on) me.conn on
+        (first_step line.act line.retry) last
+    pub full : limit ≤ length_on me.histories on
+
+  -- among its lines a caller's work ended for want of memory
+  pub record BrokenIn (lines : List Line) (part : List Shown) : Type 0 where
+    pub before : List Line
+    pub line : Line
+    pub later : List Line
+    pub split : lines ≡ before ++ line ∷ later
+    pub form : StrForm
+    pub known : slice_get me.forms line.on.0 ≡ Some form
+    pub during : List Shown
+    pub last : List Shown
+    pub shows : part ≡ during ++ last
+    pub played : ShowsLines me.forms me.histories before during
+    pub broken : ShownCut form me.histories me.conn line.on line.retry line.act last
+
+  -- how lines end
+  abbrev pub LinesEnd : List Line → List Shown → AgentEnd → Type 0
+  LinesEnd lines part ended.Done = ShowsLines me.forms me.histories lines part
+  LinesEnd lines part (ended.JournalFull on) = StoppedIn lines part on
+  LinesEnd lines part ended.NoMemory = BrokenIn lines part
+
+  pub record Played (lines : List Line) (before after : AtWork) : Type 0 where
+    pub part : List Shown
+    pub goes : Goes me before after part
+    pub shows : Owns me.conn before.desk → AreWithin me after.desk → LinesEnd lines part after.shown.end
+
+  -- a caller whose work has ended does nothing more, but hears
+  lines_rest : (lines : List Line) (before after : AtWork) → is_done_as before.shown.end ≡ false
+      → DoesLines board lines before after → Hears before after
+  lines_rest [] before after stopped hears = hears
+  lines_rest (line ∷ lines) before after stopped (cell, there, (between, (ready, hears, turn), rest)) =
+      let still : is_done_as ready.shown.end ≡ false =
+      ap (λ (t : Transcript). is_done_as t.end) hears.shown ∙ stopped in
+      let same : between ≡ ready = rw still at turn in
+      hears_then before between after (subst (Hears before) (sym same) hears)
+      (lines_rest lines between after (ap (λ (w : AtWork). is_done_as w.shown.end) same ∙ still) rest)
+
+  line_turned : (line : Line) (cell : CellShown L) (before after : AtWork) → cell_on board line.on ≡ Some cell
+      → before.shown.end ≡ ended.Done → length before.desk.passes ≡ length board.cells
+      → Turns cell.limit cell.form line before after
+      → TurnedBy me limit cell.form line.on line.retry line.by before after line.act
+  line_turned line cell before after there going long turns =
+      acts_turned me limit cell.form line.on line.retry line.by before after going
+      (setting.forms_are line.on.0 cell there) (setting.rise line.on)
+      (omega (arith, slice_get_within board.cells line.on.0 cell there, long)) line.act
+      (subst (λ (n : ℕ). Acts n cell.form line.on line.retry line.act before after)
+      (setting.limits line.on.0 cell there) acts)
+    where
+      acts : Acts cell.limit cell.form line.on line.retry line.act before after
+      acts =
+          subst (λ (e : AgentEnd). MatchBool (is_done_as e)
+          (Acts cell.limit cell.form line.on line.retry line.act before after) (after ≡ before))
+          going turns
+
+  -- how one line ends
+  abbrev LineEnds : Line → StrForm → List Shown → AgentEnd → Type 0
+  LineEnds line form part end =
+      EndsAs me limit line.on (ShownWhole form me.histories line.by line.on line.retry line.act)
+      (ShownUpTo form me.histories line.by line.on line.retry line.act)
+      (ShownCut form me.histories line.by line.on line.retry line.act) part end
+
+  -- one line before others
+  line_then : (line : Line) (lines : List Line) (form : StrForm) (part more : List Shown) (end : AgentEnd)
+      → slice_get me.forms line.on.0 ≡ Some form
+      → ShownWhole form me.histories line.by line.on line.retry line.act part → LinesEnd lines more end
+      → LinesEnd (line ∷ lines) (part ++ more) end
+  line_then line lines form part more ended.Done known whole rest = (form, (part, (more, known, refl, whole, rest)))
+  line_then line lines form part more (ended.JournalFull on) known whole rest =
+      record {
+        before = line ∷ rest.before;
+        line = rest.line;
+        later = rest.later;
+        split = ap (λ (t : List Line). line ∷ t) rest.split;
+        there = rest.there;
+        form = rest.form;
+        known = rest.known;
+        during = part ++ rest.during;
+        last = rest.last;
+        shows = ap (λ (t : List Shown). part ++ t) rest.shows ∙ sym (append_assoc part rest.during rest.last);
+        played = (form, (part, (rest.during, known, refl, whole, rest.played)));
+        stopped = rest.stopped;
+        full = rest.full;
+      }
+  line_then line lines form part more ended.NoMemory known whole rest =
+      record {
+        before = line ∷ rest.before;
+        line = rest.line;
+        later = rest.later;
+        split = ap (λ (t : List Line). line ∷ t) rest.split;
+        form = rest.form;
+        known = rest.known;
+        during = part ++ rest.during;
+        last = rest.last;
+        shows = ap (λ (t : List Shown). part ++ t) rest.shows ∙ sym (append_assoc part rest.during rest.last);
+        played = (form, (part, (rest.during, known, refl, whole, rest.played)));
+        broken = rest.broken;
+      }
+
+  -- a line before whose next call the journal was full
+  line_stops : (line : Line) (lines : List Line) (form : StrForm) (part : List Shown) (on : StrNo) → line.by ≡ me.conn
+      → slice_get me.forms line.on.0 ≡ Some form → (on ≡ line.on)
+      × ShownUpTo form me.histories line.by line.on line.retry line.act part
+      × (limit ≤ length_on me.histories line.on)
+      → StoppedIn (line ∷ lines) part on
+  line_stops line lines form part on mine known (here, runs, full) =
+      subst (StoppedIn (line ∷ lines) part) (sym here)
+      (record {
+        before = [];
+        line = line;
+        later = lines;
+        split = refl;
+        there = refl;
+        form = form;
+        known = known;
+        during = [];
+        last = part;
+        shows = refl;
+        played = refl;
+        stopped = subst (λ (by : ConnId). ShownUpTo form me.histories by line.on line.retry line.act part) mine runs;
+        full = full;
+      })
+
+  -- a line in which memory was lacking
+  line_breaks : (line : Line) (lines : List Line) (form : StrForm) (part : List Shown) → line.by ≡ me.conn
+      → slice_get me.forms line.on.0 ≡ Some form
+      → ShownCut form me.histories line.by line.on line.retry line.act part → BrokenIn (line ∷ lines) part
+  line_breaks line lines form part mine known cut =
+      record {
+        before = [];
+        line = line;
+        later = lines;
+        split = refl;
+        form = form;
+        known = known;
+        during = [];
+        last = part;
+        shows = refl;
+        played = refl;
+        broken = subst (λ (by : ConnId). ShownCut form me.histories by line.on line.retry line.act part) mine cut;
+      }
+
+  pub lines_play : (lines : List Line) (before after : AtWork) → before.shown.end ≡ ended.Done
+      → length before.desk.passes ≡ length board.cells
+      → AreBy me.conn lines → DoesLines board lines before after → Played lines before after
+  lines_play [] before after going long mine hears =
+      record {
+        part = [];
+        goes = hears_go me before after hears;
+        shows = λ owns within.
+            subst (LinesEnd [] []) (sym (ap (λ (t : Transcript). t.end) hears.shown ∙ going)) refl;
+      }
+  lines_play (line ∷ lines) before after going long mine (cell, there, (between, (ready, hears, turn), rest)) =
+      by_end between.shown.end refl
+      (λ (open' : between.shown.end ≡ ended.Done). lines_play lines between after open'
+      (turned.moves.passes ∙ ready_long) mine.1 rest)
+    where
+      heard : Goes me before ready []
+      heard = hears_go me before ready hears
+
+      ready_long : length ready.desk.passes ≡ length board.cells
+      ready_long = hears.passes ∙ long
+
+      turned : TurnedBy me limit cell.form line.on line.retry line.by ready between line.act
+      turned = line_turned line cell ready between there
+          (ap (λ (t : Transcript). t.end) hears.shown ∙ going) ready_long turn
+
+      first : Goes me before between turned.part
+      first = goes_then me before ready between [] turned.part heard
+          (moves_go me line.on ready between turned.part turned.moves)
+
+      known : slice_get me.forms line.on.0 ≡ Some cell.form
+      known = setting.forms_are line.on.0 cell there
+
+      inside : line.on.0 < length ready.desk.passes
+      inside = omega (arith, slice_get_within board.cells line.on.0 cell there, ready_long)
+
+      ends : Owns me.conn before.desk → AreWithin me between.desk
+          → LineEnds line cell.form turned.part between.shown.end
+      ends owns within = turned.shows (owns_still me before ready [] heard owns line.on inside ∙ sym mine.0)
+          (within line.on)
+
+      still : (end : AgentEnd) → between.shown.end ≡ end → is_done_as end ≡ false
+          → (LineEnds line cell.form turned.part end → LinesEnd (line ∷ lines) turned.part end)
+          → Played (line ∷ lines) before after
+      still end is stopped shows =
+          let later : Hears between after = lines_rest lines between after (ap is_done_as is ∙ stopped) rest in
+          let same : after.shown.end ≡ end = ap (λ (t : Transcript). t.end) later.shown ∙ is in
+          let goes : Goes me between after [] = hears_go me between after later in
+          record {
+            part = turned.part;
+            goes = subst (Goes me before after) (append-nil turned.part)
+                (goes_then me before between after turned.part [] first goes);
+            shows = λ owns within. subst (LinesEnd (line ∷ lines) turned.part) (sym same)
+                (shows (subst (LineEnds line cell.form turned.part) is (ends owns (goes.back within))));
+          }
+
+      by_end : (end : AgentEnd) → between.shown.end ≡ end
+          → (between.shown.end ≡ ended.Done → Played lines between after)
+          → Played (line ∷ lines) before after
+      by_end ended.Done is later =
+          let others : Played lines between after = later is in
+          record {
+            part = turned.part ++ others.part;
+            goes = goes_then me before between after turned.part others.part first others.goes;
+            shows = λ owns within. line_then line lines cell.form turned.part others.part after.shown.end known
+                (subst (LineEnds line cell.form turned.part) is (ends owns (others.goes.back within)))
+                (others.shows (owns_still me before between turned.part first owns) within);
+          }
+      by_end (ended.JournalFull on) is later =
+          still (ended.JournalFull on) is refl
+          (λ ends. line_stops line lines cell.form turned.part on mine.0 known ends)
+      by_end ended.NoMemory is later =
+          still ended.NoMemory is refl (λ ends. line_breaks line lines cell.form turned.part mine.0 known ends)

@@ -1,0 +1,240 @@
+-- What the links of a closed board have to do with its histories: structure by structure, link by link.
+use Rattle.std.proofs.Common.{◌≡◌, ℕ, zero, suc, ◌+◌, ◌*◌, ◌-◌, ◌≤◌, ◌<◌, List, [], ◌∷◌, ◌++◌, length, map, slice_get, Option, Some, refl, sym, ap, subst, ◌∙◌, arith, append_assoc}
+use Rattle.std.specs.Prelude.{unwrap_or}
+use Rattle.std.specs.List.{flat_map}
+use Rattle.std.proofs.lemmas.List.{length-map}
+use Rattle.std.proofs.lemmas.Option.{slice_get_within}
+use Rattle.plex_board.specs.CfIo.Count.{RisesBy}
+use Rattle.plex_board.specs.CfTypes.Forms.{IsFacility}
+use Rattle.plex_board.specs.CfTypes.declared.forms.StrForm.{StrForm}
+use Rattle.plex_board.specs.CfTypes.declared.numbers.CfId.{CfId}
+use Rattle.plex_board.specs.CfLink.declared.links.Links.{Links}
+use Rattle.plex_board.specs.CfLink.Links.{Telling, Tells, AreAsked, IsAskedAll, link_at}
+use Rattle.plex_board.specs.CfLink.Tells.{TellsEnough}
+use Rattle.plex_board.proofs.CfLink.LinkLaws.{asked_faults, asked_calls, asked_told}
+use Rattle.plex_board.specs.EngineApi.Answers.{trues}
+use Rattle.plex_board.proofs.EngineApi.AnswerLaws.{marks_counted}
+use Rattle.plex_board.specs.CacheModel.Meaning.{cache_meaning}
+use Rattle.plex_board.specs.ListModel.Meaning.{list_meaning}
+use Rattle.plex_board.specs.LockModel.Meaning.{lock_meaning}
+use Rattle.plex_board.specs.PlexScript.declared.asks.AnyHistory.{AnyHistory}
+use Rattle.plex_board.specs.PlexScript.declared.asks.AnyHistory.TheVariants as history
+use Rattle.plex_board.specs.Kinds.{IsAnyLegal, AreAnyAsTold, any_answers, any_marks_at}
+use Rattle.plex_board.proofs.ToldLaws.{links_told}
+use Rattle.plex_board.specs.RunLinks.{link_place, AreTelling, IsLinkOf, AreRunLinks}
+use Rattle.plex_board.specs.Cells.{CellShown}
+use Rattle.plex_board.specs.Boards.{BoardShown, AreEachAsked, AreLinksAsked, four_of, links_of}
+
+-- ---- places
+
+some_is : {X : Type 0} (x y : X) → Some x ≡ Some y → x ≡ y
+some_is x y e = ap (λ (o : Option _). unwrap_or o x) e
+
+module _ {L : Type 0} where
+  place_here : (links : Links L) (others : List L) (n : ℕ) → 1 ≤ n → n ≤ 4
+      → slice_get (four_of links ++ others) (n - 1) ≡ Some (link_at links (record { 0 = n }))
+  place_here links others zero least most = absurd (omega (arith, least))
+  place_here links others (suc zero) least most = refl
+  place_here links others (suc (suc zero)) least most = refl
+  place_here links others (suc (suc (suc zero))) least most = refl
+  place_here links others (suc (suc (suc (suc zero)))) least most = refl
+  place_here links others (suc (suc (suc (suc (suc n))))) least most = absurd (omega (arith, most))
+
+  place_first : (links : Links L) (others : List L) (cf : CfId) → IsFacility cf
+      → slice_get (four_of links ++ others) (link_place 0 cf) ≡ Some (link_at links cf)
+  place_first links others cf is =
+      let at : link_place 0 cf ≡ cf.0 - 1 = omega arith in
+      ap (slice_get (four_of links ++ others)) at ∙ place_here links others cf.0 is.0 is.1
+
+  behind_four : (links : Links L) (others : List L) (i j : ℕ) → i ≡ suc (suc (suc (suc j)))
+      → slice_get (four_of links ++ others) i ≡ slice_get others j
+  behind_four links others i j e = ap (slice_get (four_of links ++ others)) e
+
+  place_later : (links : Links L) (others : List L) (x : ℕ) (cf : CfId)
+      → slice_get (four_of links ++ others) (link_place (suc x) cf) ≡ slice_get others (link_place x cf)
+  place_later links others x cf =
+      behind_four links others (link_place (suc x) cf) (link_place x cf)
+      (let e : 4 * suc x + (cf.0 - 1) ≡ suc (suc (suc (suc (4 * x + (cf.0 - 1))))) = omega arith in e)
+
+  -- ---- the links of a board
+
+  abbrev all_links : List (CellShown L) → List L → List L
+  all_links cells spare = flat_map (λ (cell : CellShown L). four_of cell.links) cells ++ spare
+
+  links_split : (cell : CellShown L) (cells : List (CellShown L)) (spare : List L)
+      → all_links (cell ∷ cells) spare ≡ four_of cell.links ++ all_links cells spare
+  links_split cell cells spare =
+      append_assoc (four_of cell.links) (flat_map (λ (cell : CellShown L). four_of cell.links) cells) spare
+
+  cell_link : (cells : List (CellShown L)) (spare : List L) (x : ℕ) (cell : CellShown L) (cf : CfId)
+      → slice_get cells x ≡ Some cell → IsFacility cf
+      → slice_get (all_links cells spare) (link_place x cf) ≡ Some (link_at cell.links cf)
+  cell_link [] spare zero cell cf e is = absurd cc
+  cell_link [] spare (suc x) cell cf e is = absurd cc
+  cell_link (first ∷ cells) spare zero cell cf e is =
+      let same : first ≡ cell = some_is first cell e in
+      ap (λ (links : List L). slice_get links (link_place 0 cf)) (links_split first cells spare)
+      ∙ place_first first.links (all_links cells spare) cf is
+      ∙ ap (λ (c : CellShown L). Some (link_at c.links cf)) same
+  cell_link (first ∷ cells) spare (suc x) cell cf e is =
+      ap (λ (links : List L). slice_get links (link_place (suc x) cf)) (links_split first cells spare)
+      ∙ place_later first.links (all_links cells spare) x cf
+      ∙ cell_link cells spare x cell cf e is
+
+  cell_of : (cells : List (CellShown L)) (x : ℕ) (form : StrForm)
+      → slice_get (map (λ (cell : CellShown L). cell.form) cells) x ≡ Some form
+      → (cell : CellShown L) × (slice_get cells x ≡ Some cell) × (cell.form ≡ form)
+  cell_of [] zero form e = absurd cc
+  cell_of [] (suc x) form e = absurd cc
+  cell_of (cell ∷ cells) zero form e = (cell, refl, some_is cell.form form e)
+  cell_of (cell ∷ cells) (suc x) form e = cell_of cells x form e
+
+  module _ (calls : L → Option ℕ) (downs : L → Option (List ℕ)) (faults : L → ℕ) where
+    -- the links of a structure once its cell was closed
+    pub record IsAskedAt (cell : CellShown L) (entries : AnyHistory) (x : ℕ) (new : List L) : Type 0 where
+      pub asked : Links L
+      pub are : AreAsked calls downs faults (any_answers cell.form entries) cell.links asked
+      pub at : (cf : CfId) → IsFacility cf → slice_get new (link_place x cf) ≡ Some (link_at asked cf)
+
+    asked_at : (cells : List (CellShown L)) (histories : List AnyHistory) (spare new : List L)
+        → AreEachAsked calls downs faults cells histories spare new → (x : ℕ) (cell : CellShown L) (entries : AnyHistory)
+        → slice_get cells x ≡ Some cell → slice_get histories x ≡ Some entries → IsAskedAt cell entries x new
+    asked_at [] histories spare new each zero cell entries there kept = absurd cc
+    asked_at [] histories spare new each (suc x) cell entries there kept = absurd cc
+    asked_at (first ∷ cells) [] spare new each x cell entries there kept = absurd each
+    asked_at (first ∷ cells) (one ∷ histories) spare new each zero cell entries there kept =
+        let same : first ≡ cell = some_is first cell there in
+        let same' : one ≡ entries = some_is one entries kept in
+        subst (λ (c : CellShown L). IsAskedAt c entries 0 new) same
+        (subst (λ (h : AnyHistory). IsAskedAt first h 0 new) same' (record {
+          asked = each.0;
+          are = each.3;
+          at = λ cf is.
+              ap (λ (links : List L). slice_get links (link_place 0 cf)) each.2 ∙ place_first each.0 each.1 cf is;
+        }))
+    asked_at (first ∷ cells) (one ∷ histories) spare new each (suc x) cell entries there kept =
+        let rest : IsAskedAt cell entries x each.1 =
+        asked_at cells histories spare each.1 each.4 x cell entries there kept in
+        record {
+          asked = rest.asked;
+          are = rest.are;
+          at = λ cf is.
+              ap (λ (links : List L). slice_get links (link_place (suc x) cf)) each.2
+              ∙ place_later each.0 each.1 x cf ∙ rest.at cf is;
+        }
+
+    each_size : (cells : List (CellShown L)) (histories : List AnyHistory) (spare new : List L)
+        → AreEachAsked calls downs faults cells histories spare new → length new ≡ length (all_links cells spare)
+    each_size [] histories spare new each = ap length each
+    each_size (cell ∷ cells) [] spare new each = absurd each
+    each_size (cell ∷ cells) (one ∷ histories) spare new each =
+        let rest : length each.1 ≡ length (all_links cells spare) = each_size cells histories spare each.1 each.4 in
+        ap length each.2 ∙ ap (λ (n : ℕ). suc (suc (suc (suc n)))) rest ∙ sym (ap length (links_split cell cells spare))
+
+    each_spare : (cells : List (CellShown L)) (histories : List AnyHistory) (spare new : List L)
+        → AreEachAsked calls downs faults cells histories spare new → (i : ℕ) → 4 * length cells ≤ i
+        → slice_get new i ≡ slice_get (all_links cells spare) i
+    each_spare [] histories spare new each i past = ap (λ (links : List L). slice_get links i) each
+    each_spare (cell ∷ cells) [] spare new each i past = absurd each
+    each_spare (cell ∷ cells) (one ∷ histories) spare new each i past =
+        let many : 4 + 4 * length cells ≤ i = omega (arith, past) in
+        let e : i ≡ suc (suc (suc (suc (i - 4)))) = omega (arith, many) in
+        let rest : slice_get each.1 (i - 4) ≡ slice_get (all_links cells spare) (i - 4) =
+        each_spare cells histories spare each.1 each.4 (i - 4) (omega (arith, many)) in
+        ap (λ (links : List L). slice_get links i) each.2 ∙ behind_four each.0 each.1 i (i - 4) e ∙ rest
+        ∙ sym (behind_four cell.links (all_links cells spare) i (i - 4) e)
+        ∙ sym (ap (λ (links : List L). slice_get links i) (links_split cell cells spare))
+
+-- a history of whatever kind has as many marks of a facility as its link answered Down
+any_marks_counted : (form : StrForm) (entries : AnyHistory) → IsAnyLegal form entries → (cf : CfId)
+    → any_marks_at entries cf ≡ trues (any_answers form entries cf)
+any_marks_counted form (history.Cache entries) legal cf = marks_counted cache_meaning form entries legal cf
+any_marks_counted form (history.List entries) legal cf = marks_counted list_meaning form entries legal cf
+any_marks_counted form (history.Lock entries) legal cf = marks_counted lock_meaning form entries legal cf
+
+module _ {L : Type 0} (calls : L → Option ℕ) (downs : L → Option (List ℕ)) (faults : L → ℕ)
+    (enough : (link : L) → TellsEnough (calls link) (downs link)) where
+  link_of : (form : StrForm) (entries : AnyHistory) (cf : CfId) (old new : L) → IsAnyLegal form entries
+      → IsAskedAll calls downs faults (any_answers form entries cf) old new
+      → IsLinkOf calls downs faults form entries cf old new
+  link_of form entries cf old new legal asked =
+      record {
+        asked = asked;
+        marks = subst (λ (n : ℕ). RisesBy n (faults old) (faults new)) (sym (any_marks_counted form entries legal cf))
+            (asked_faults calls downs faults (any_answers form entries cf) old new asked);
+        counted = asked_calls calls downs faults (any_answers form entries cf) old new asked;
+        told = λ told tells.
+            asked_told calls downs faults told (any_answers form entries cf) old new (enough old) tells asked;
+      }
+
+  any_links_told : (form : StrForm) (told : CfId → Telling) (entries : AnyHistory) (old new : Links L)
+      → ((cf : CfId) → IsFacility cf → Tells calls downs faults (told cf) (link_at old cf))
+      → AreAsked calls downs faults (any_answers form entries) old new → AreAnyAsTold form told entries
+  any_links_told form told (history.Cache entries) old new tells asked =
+      links_told cache_meaning form told calls downs faults entries old new enough tells asked
+  any_links_told form told (history.List entries) old new tells asked =
+      links_told list_meaning form told calls downs faults entries old new enough tells asked
+  any_links_told form told (history.Lock entries) old new tells asked =
+      links_told lock_meaning form told calls downs faults entries old new enough tells asked
+
+  module _ (board : BoardShown L) (forms : List StrForm) (histories : List AnyHistory) (old new : List L)
+      (old_are : links_of board ≡ old) (forms_are : map (λ cell. cell.form) board.cells ≡ forms)
+      (asked : AreLinksAsked calls downs faults board histories new) where
+    forms_length : length forms ≡ length board.cells
+    forms_length = ap length (sym forms_are) ∙ length-map board.cells (λ (cell : CellShown L). cell.form)
+
+    asked_here : (x : ℕ) (cell : CellShown L) (entries : AnyHistory) → slice_get board.cells x ≡ Some cell
+        → slice_get histories x ≡ Some entries → IsAskedAt calls downs faults cell entries x new
+    asked_here = asked_at calls downs faults board.cells histories board.spare new asked
+
+    cell_at : (x : ℕ) (form : StrForm) → slice_get forms x ≡ Some form
+        → (cell : CellShown L) × (slice_get board.cells x ≡ Some cell) × (cell.form ≡ form)
+    cell_at x form e = cell_of board.cells x form (ap (λ (fs : List StrForm). slice_get fs x) forms_are ∙ e)
+
+    old_at : (x : ℕ) (cell : CellShown L) (cf : CfId) → slice_get board.cells x ≡ Some cell → IsFacility cf
+        → slice_get old (link_place x cf) ≡ Some (link_at cell.links cf)
+    old_at x cell cf there is =
+        ap (λ (links : List L). slice_get links (link_place x cf)) (sym old_are)
+        ∙ cell_link board.cells board.spare x cell cf there is
+
+    -- as many as there were
+    pub links_size : length new ≡ length old
+    links_size = each_size calls downs faults board.cells histories board.spare new asked ∙ ap length old_are
+
+    -- the links of the run's structures
+    pub run_links : ((x : ℕ) (cell : CellShown L) (entries : AnyHistory) → slice_get board.cells x ≡ Some cell
+        → slice_get histories x ≡ Some entries → IsAnyLegal cell.form entries)
+        → AreRunLinks calls downs faults forms histories old new
+    run_links legal =
+        record {
+          size = links_size;
+          each = λ x form entries cf one other formed kept is before after.
+              let cell = cell_at x form formed in
+              let here : IsAskedAt calls downs faults cell.0 entries x new = asked_here x cell.0 entries cell.1 kept in
+              let one_is : link_at cell.0.links cf ≡ one = some_is _ _ (sym (old_at x cell.0 cf cell.1 is) ∙ before) in
+              let other_is : link_at here.asked cf ≡ other = some_is _ _ (sym (here.at cf is) ∙ after) in
+              subst (λ (f : StrForm). IsLinkOf calls downs faults f entries cf one other) cell.2
+              (subst (λ (l : L). IsLinkOf calls downs faults cell.0.form entries cf l other) one_is
+              (subst (λ (l : L). IsLinkOf calls downs faults cell.0.form entries cf (link_at cell.0.links cf) l) other_is
+              (link_of cell.0.form entries cf (link_at cell.0.links cf) (link_at here.asked cf)
+              (legal x cell.0 entries cell.1 kept) (here.are.asked cf is))));
+          others = λ x form entries cf formed kept other.
+              let cell = cell_at x form formed in
+              let here : IsAskedAt calls downs faults cell.0 entries x new = asked_here x cell.0 entries cell.1 kept in
+              subst (λ (f : StrForm). any_answers f entries cf ≡ []) cell.2 (here.are.others cf other);
+          spare = λ i past.
+              each_spare calls downs faults board.cells histories board.spare new asked i
+              (let few : 4 * length board.cells ≤ i = subst (λ (n : ℕ). 4 * n ≤ i) forms_length past in few)
+              ∙ ap (λ (links : List L). slice_get links i) old_are;
+        }
+
+    -- where they tell which calls are down, the histories are those of such links
+    pub run_told : (told : ℕ → CfId → Telling) → AreTelling calls downs faults told (length forms) old
+        → (x : ℕ) (cell : CellShown L) (entries : AnyHistory) → slice_get board.cells x ≡ Some cell
+        → slice_get histories x ≡ Some entries → AreAnyAsTold cell.form (told x) entries
+    run_told told telling x cell entries there kept =
+        let within : x < length forms =
+        omega (arith, slice_get_within board.cells x cell there, forms_length) in
+        let here : IsAskedAt calls downs faults cell entries x new = asked_here x cell entries there kept in
+        any_links_told cell.form (told x) entries cell.links here.asked
+        (λ cf is. telling x cf (link_at cell.links cf) within is (old_at x cell cf there is)) here.are

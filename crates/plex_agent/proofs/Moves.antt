@@ -1,0 +1,180 @@
+-- What a caller at work does to its desk and its transcript, at one structure and at all.
+use Rattle.std.proofs.Common.{◌≡◌, ◌≢◌, ℕ, ◌<◌, ◌==◌, Bool, true, false, List, [], ◌++◌, length, refl, sym, ap, subst, ◌∙◌, arith, append-nil, append_assoc}
+use Rattle.std.proofs.lemmas.Bool.Decides.{nat_tests}
+use Rattle.std.proofs.lemmas.List.{length-set, get_or-set_same, get_or-set_other}
+use Rattle.plex_board.specs.CfTypes.declared.numbers.StrNo.{StrNo}
+use Rattle.plex_board.specs.PlexScript.declared.transcripts.Shown.{Shown}
+use Rattle.plex_board.specs.PlexScript.declared.transcripts.Transcript.{Transcript}
+use Rattle.plex_board.specs.Passes.{PassShown}
+use Rattle.plex_board.specs.Desks.{DeskShown, no_pass, pass_at, with_pass}
+use Rattle.plex_board.specs.Turns.{AtWork}
+use Rattle.plex_agent.specs.Chains.{Hears}
+use Rattle.plex_agent.proofs.ShownItems.{Each}
+use Rattle.plex_agent.proofs.Passes.{Caller, IsShown, IsGood, IsWithin, Advances, advances_later}
+
+-- ---- one pass of a desk is replaced
+
+pub same_number : (x y : ℕ) → x == y ≡ true → x ≡ y
+same_number x y same = grind (arith, nat_tests)
+
+pub other_number : (x y : ℕ) → x == y ≡ false → y ≢ x
+other_number x y apart = λ is. absurd (by_number is)
+  where
+    by_number : y ≡ x → ⊥
+    by_number is = grind (arith, nat_tests)
+
+pub same_place : (on other : StrNo) → on.0 == other.0 ≡ true → on ≡ other
+same_place on other same =
+    ap (λ (n : ℕ). (let it : StrNo = record { 0 = n } in it)) (same_number on.0 other.0 same)
+
+pub pass_here : (on : StrNo) (pass : PassShown) (desk : DeskShown) → on.0 < length desk.passes
+    → pass_at (with_pass on pass desk) on ≡ pass
+pass_here on pass desk within = get_or-set_same desk.passes on.0 pass no_pass within
+
+pub pass_elsewhere : (on other : StrNo) (pass : PassShown) (desk : DeskShown) → on.0 == other.0 ≡ false
+    → pass_at (with_pass on pass desk) other ≡ pass_at desk other
+pass_elsewhere on other pass desk apart =
+    get_or-set_other desk.passes on.0 other.0 pass no_pass (other_number on.0 other.0 apart)
+
+module _ (me : Caller) where
+  -- ---- at one structure
+
+  -- a caller showed these items at a structure, and left the other passes
+  pub record Moves (on : StrNo) (before after : AtWork) (part : List Shown) : Type 0 where
+    pub items : after.shown.items ≡ before.shown.items ++ part
+    pub owner : after.desk.owner ≡ before.desk.owner
+    pub passes : length after.desk.passes ≡ length before.desk.passes
+    pub here : Advances me on (pass_at before.desk on) (pass_at after.desk on) part
+    pub rest : (other : StrNo) → on.0 == other.0 ≡ false → pass_at after.desk other ≡ pass_at before.desk other
+
+  pub moves_by : (on : StrNo) (before after : AtWork) (pass : PassShown) (part : List Shown)
+      → on.0 < length before.desk.passes
+      → after.desk ≡ with_pass on pass before.desk → after.shown.items ≡ before.shown.items ++ part
+      → Advances me on (pass_at before.desk on) pass part → Moves on before after part
+  moves_by on before after pass part within desk items advances =
+      record {
+        items = items;
+        owner = ap (λ (d : DeskShown). d.owner) desk;
+        passes = ap (λ (d : DeskShown). length d.passes) desk ∙ length-set before.desk.passes on.0 pass;
+        here = subst (λ (p : PassShown). Advances me on (pass_at before.desk on) p part)
+            (sym (ap (λ (d : DeskShown). pass_at d on) desk ∙ pass_here on pass before.desk within)) advances;
+        rest = λ other apart. ap (λ (d : DeskShown). pass_at d other) desk
+            ∙ pass_elsewhere on other pass before.desk apart;
+      }
+
+  pub moves_still : (on : StrNo) (before after : AtWork) (part : List Shown) → after.desk ≡ before.desk
+      → after.shown.items ≡ before.shown.items ++ part
+      → Advances me on (pass_at before.desk on) (pass_at before.desk on) part → Moves on before after part
+  moves_still on before after part desk items advances =
+      record {
+        items = items;
+        owner = ap (λ (d : DeskShown). d.owner) desk;
+        passes = ap (λ (d : DeskShown). length d.passes) desk;
+        here = subst (λ (d : DeskShown). Advances me on (pass_at before.desk on) (pass_at d on) part) (sym desk)
+            advances;
+        rest = λ other apart. ap (λ (d : DeskShown). pass_at d other) desk;
+      }
+
+  -- ---- at all structures
+
+  abbrev pub AreWithin : DeskShown → Type 0
+  AreWithin desk = (on : StrNo) → IsWithin me on (pass_at desk on)
+
+  -- what a caller was shown goes with its desk
+  pub record IsTranscript (worker : AtWork) : Type 0 where
+    pub shows : (on : StrNo) → IsShown on (pass_at worker.desk on) worker.shown.items
+    pub each : Each (IsGood me) worker.shown.items
+
+  -- a caller came from one state of its work to another while it was shown these items
+  pub record Goes (before after : AtWork) (part : List Shown) : Type 0 where
+    pub items : after.shown.items ≡ before.shown.items ++ part
+    pub owner : after.desk.owner ≡ before.desk.owner
+    pub passes : length after.desk.passes ≡ length before.desk.passes
+    pub owners : (on : StrNo) → (pass_at after.desk on).owner ≡ (pass_at before.desk on).owner
+    pub back : AreWithin after.desk → AreWithin before.desk
+    pub forth : AreWithin after.desk → IsTranscript before → IsTranscript after
+
+  pub goes_then : (first second third : AtWork) (part more : List Shown) → Goes first second part
+      → Goes second third more
+      → Goes first third (part ++ more)
+  goes_then first second third part more one two =
+      record {
+        items = two.items ∙ ap (λ (t : List Shown). t ++ more) one.items ∙ append_assoc first.shown.items part more;
+        owner = two.owner ∙ one.owner;
+        passes = two.passes ∙ one.passes;
+        owners = λ on. two.owners on ∙ one.owners on;
+        back = λ within. one.back (two.back within);
+        forth = λ within is. two.forth within (one.forth (two.back within) is);
+      }
+
+  pub moves_go : (on : StrNo) (before after : AtWork) (part : List Shown) → Moves on before after part
+      → Goes before after part
+  moves_go on before after part moves =
+      record {
+        items = moves.items;
+        owner = moves.owner;
+        passes = moves.passes;
+        owners = λ other. owners other (on.0 == other.0) refl;
+        back = λ within other. back within other (on.0 == other.0) refl;
+        forth = λ within is. by_here within (moves.here.forth (within on) before.shown.items (is.shows on) is.each)
+            is;
+      }
+    where
+      owners : (other : StrNo) (b : Bool) → on.0 == other.0 ≡ b
+          → (pass_at after.desk other).owner ≡ (pass_at before.desk other).owner
+      owners other true same =
+          subst (λ (place : StrNo). (pass_at after.desk place).owner ≡ (pass_at before.desk place).owner)
+          (same_place on other same)
+          moves.here.owner
+      owners other false apart = ap (λ (p : PassShown). p.owner) (moves.rest other apart)
+
+      back : AreWithin after.desk → (other : StrNo) (b : Bool) → on.0 == other.0 ≡ b
+          → IsWithin me other (pass_at before.desk other)
+      back within other true same =
+          subst (λ (place : StrNo). IsWithin me place (pass_at before.desk place)) (same_place on other same)
+          (moves.here.back (within on))
+      back within other false apart = subst (IsWithin me other) (moves.rest other apart) (within other)
+
+      shows : IsTranscript before → IsShown on (pass_at after.desk on) (before.shown.items ++ part)
+          → (other : StrNo) (b : Bool)
+          → on.0 == other.0 ≡ b → IsShown other (pass_at after.desk other) after.shown.items
+      shows is here other true same =
+          subst (λ (place : StrNo). IsShown place (pass_at after.desk place) after.shown.items)
+          (same_place on other same)
+          (subst (IsShown on (pass_at after.desk on)) (sym moves.items) here)
+      shows is here other false apart =
+          subst (λ (p : PassShown). IsShown other p after.shown.items) (sym (moves.rest other apart))
+          (subst (IsShown other (pass_at before.desk other)) (sym moves.items)
+          (moves.here.elsewhere other (pass_at before.desk other) before.shown.items apart (is.shows other)))
+
+      by_here : AreWithin after.desk
+          → IsShown on (pass_at after.desk on) (before.shown.items ++ part)
+          × Each (IsGood me) (before.shown.items ++ part)
+          → IsTranscript before → IsTranscript after
+      by_here within (here, each) is =
+          record {
+            shows = λ other. shows is here other (on.0 == other.0) refl;
+            each = subst (Each (IsGood me)) (sym moves.items) each;
+          }
+
+  -- ---- hearings
+
+  -- a caller that hears of others is shown nothing
+  pub hears_go : (before after : AtWork) → Hears before after → Goes before after []
+  hears_go before after hears =
+      record {
+        items = ap (λ (t : Transcript). t.items) hears.shown ∙ sym (append-nil before.shown.items);
+        owner = hears.owner;
+        passes = hears.passes;
+        owners = λ on. ap (λ (p : PassShown). p.owner) (hears.later on).same;
+        back = λ within on. (advances on).back (within on);
+        forth = λ within is. record {
+          shows = λ on. subst (λ (t : Transcript). IsShown on (pass_at after.desk on) t.items) (sym hears.shown)
+              (subst (IsShown on (pass_at after.desk on)) (append-nil before.shown.items)
+              ((advances on).forth (within on) before.shown.items (is.shows on) is.each).0);
+          each = subst (λ (t : Transcript). Each (IsGood me) t.items) (sym hears.shown) is.each;
+        };
+      }
+    where
+      advances : (on : StrNo) → Advances me on (pass_at before.desk on) (pass_at after.desk on) []
+      advances on = advances_later me on (pass_at before.desk on) (pass_at after.desk on) (hears.later on)

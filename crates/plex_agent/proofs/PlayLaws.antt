@@ -1,0 +1,361 @@
+-- What the steps of a line and of a closing come to.
+use Rattle.std.proofs.Common.{◌≡◌, ◌≢◌, ℕ, zero, suc, ◌+◌, ◌-◌, ◌<◌, ◌≤◌, ◌==◌, Bool, true, false, if◌then◌else◌, MatchBool, List, [], ◌∷◌, ◌++◌, length, fold, drop, replicate, Option, Some, None, IfSome, Result, Ok, Err, OnOk, get_or, set, slice_set, slice_index_or, refl, sym, ◌∙◌, ap, subst, arith}
+use Rattle.std.specs.List.{range_with_len}
+use Rattle.std.proofs.Math.Seq.{drop-cons}
+use Rattle.std.proofs.Math.Numerals.{add-one}
+use Rattle.std.proofs.lemmas.Bool.{eqb-false, eqb-true}
+use Rattle.std.proofs.lemmas.List.{get_or-set_same, get_or-set_other}
+use Rattle.std.proofs.lemmas.Option.{slice_get_within}
+use Rattle.plex_board.specs.CfTypes.declared.forms.StrForm.{StrForm}
+use Rattle.plex_board.specs.CfTypes.declared.numbers.ConnId.{ConnId}
+use Rattle.plex_board.specs.CfTypes.declared.numbers.StrNo.{StrNo}
+use Rattle.plex_board.specs.PlexScript.declared.scripts.Act.{Act}
+use Rattle.plex_board.specs.PlexScript.declared.scripts.Act.TheVariants as act
+use Rattle.plex_board.specs.PlexScript.declared.scripts.Line.{Line}
+use Rattle.plex_board.specs.PlexScript.declared.transcripts.Shown.{Shown}
+use Rattle.plex_board.specs.PlexScript.declared.transcripts.Shown.TheVariants as shown
+use Rattle.plex_board.specs.PlexScript.declared.transcripts.Transcript.{Transcript}
+use Rattle.plex_board.specs.Passes.{PassShown, note_of}
+use Rattle.plex_board.specs.Notes.{with_note, with_any_note}
+use Rattle.plex_board.specs.Desks.{DeskShown, pass_at, with_pass}
+use Rattle.plex_board.specs.Cells.{CellShown}
+use Rattle.plex_board.specs.Boards.{BoardShown, cell_on, note_in}
+use Rattle.plex_board.specs.Turns.{AtWork, Turns, Posts, with_item}
+use Rattle.plex_board.specs.Callers.{IsLineFor, DepartsEach, Closes}
+use Rattle.plex_board.specs.Floors.{Floor, no_worker, worker_of, with_worker, heard_from_last, heard_from, heard_all, told_by, worker_ready, worker_after_take, last_after, is_counted, is_working, PlaysAct, PlaysLine, PlaysLines, ClosesOne, ClosesAll}
+use Rattle.plex_board.proofs.DeskLaws.{desk-length, pass_at-with_pass_same}
+use Rattle.plex_agent.specs.Standing.{IsTurn, TakesTurn, PlaysActOn, conns_from}
+use Rattle.plex_agent.proofs.FloorLaws.{HasDesk}
+
+-- a fact of what is there
+pub if_there : {T : Type 0} (P : T → Type 0) (o : Option T) (x : T) → o ≡ Some x → IfSome o P → P x
+if_there P o x is fact = subst (λ (it : Option _). IfSome it P) is fact
+
+-- a fact of an answer that came
+pub on_ok : {T E : Type 0} {P Q : Type 0} (r : Result T E) → (P → Q) → OnOk r P → OnOk r Q
+on_ok (Ok v) f p = f p
+on_ok (Err e) f p = p
+
+set-set : {X : Type 0} (xs : List X) (i : ℕ) (x y : X) → set (set xs i x) i y ≡ set xs i y
+set-set [] i x y = refl
+set-set (z ∷ xs) zero x y = refl
+set-set (z ∷ xs) (suc i) x y = ap (λ (rest : List _). z ∷ rest) (set-set xs i x y)
+
+-- of a caller's work the last that is put stands
+pub put_twice : (floor : Floor) (by : ConnId) (first second : AtWork)
+    → with_worker by second (with_worker by first floor) ≡ with_worker by second floor
+put_twice floor by first second =
+    ap (λ (workers : List AtWork). (let it : Floor = record floor { workers = workers } in it))
+    (set-set floor.workers by.0 first second)
+
+pub worker_put : (floor : Floor) (by : ConnId) (worker : AtWork) → by.0 < length floor.workers
+    → worker_of (with_worker by worker floor) by ≡ worker
+worker_put floor by worker inside = get_or-set_same floor.workers by.0 worker no_worker inside
+
+-- ---- lines
+
+-- what a caller does in its turn, where its line is counted or not
+turn_played : {L : Type 0} (cell : CellShown L) (line : Line) (counted : Bool) (before after : Floor) (worker : AtWork)
+    → IsTurn line.act → counted ≡ is_counted cell.form line.act
+    → Turns cell.limit cell.form line (if counted then heard_from_last before line.by (worker_of before line.by) line.on
+    else worker_of before line.by) worker
+    → after ≡ record (with_worker line.by worker before)
+    { last = if counted then slice_set before.last line.on.0 (Some line.by) else before.last }
+    → PlaysAct cell line line.act before after
+turn_played {L} cell line counted before after worker is_turn counted_is turned after_is =
+    go line.act is_turn (
+      worker,
+      subst (λ (b : Bool). Turns cell.limit cell.form line
+          (if b then heard_from_last before line.by (worker_of before line.by) line.on else worker_of before line.by) worker)
+          counted_is turned,
+      after_is
+          ∙ ap (λ (b : Bool). (let it : Floor = record (with_worker line.by worker before) {
+            last = if b then slice_set before.last line.on.0 (Some line.by) else before.last;
+          } in it)) counted_is,
+    )
+  where
+    go : (a : Act) → IsTurn a
+        → (w : AtWork) × Turns cell.limit cell.form line (worker_ready cell.form line before) w
+        × (after ≡ record (with_worker line.by w before) { last = last_after cell.form line before })
+        → PlaysAct cell line a before after
+    go (act.Call asked) is all = all
+    go act.Events is all = all
+    go (act.Test index) is all = all
+    go (act.TestWord word) is all = all
+    go act.Post is all = absurd is
+    go act.Take is all = absurd is
+
+module _ {L : Type 0} (board : BoardShown L) (line : Line) (bits : ℕ)
+    (bits_are : IfSome (cell_on board line.on) (λ cell. bits ≡ cell.form.vector)) (counted : Bool)
+    (counted_is : (form : StrForm) → form.vector ≡ bits → counted ≡ is_counted form line.act)
+    (is_turn : IsTurn line.act) where
+  is_counted_at : (cell : CellShown L) → cell_on board line.on ≡ Some cell → counted ≡ is_counted cell.form line.act
+  is_counted_at cell there =
+      counted_is cell.form (sym (if_there (λ (it : CellShown L). bits ≡ it.form.vector) (cell_on board line.on) cell there
+      bits_are))
+
+  -- a line that isn't counted is the caller's turn alone
+  pub plays_uncounted : (before after : Floor) → counted ≡ false → TakesTurn board line before after
+      → PlaysActOn board line line.act before after
+  plays_uncounted before after isnt took = record {
+    cell = took.cell;
+    there = took.there;
+    played = turn_played took.cell line false before after took.worker is_turn
+        (sym isnt ∙ is_counted_at took.cell took.there) took.turned took.others;
+  }
+
+  -- one that is counted comes behind what the caller hears, and the caller has then acted last
+  pub plays_counted : (before told worked after : Floor) → counted ≡ true → line.by.0 < length before.workers
+      → told ≡ with_worker line.by (heard_from_last before line.by (worker_of before line.by) line.on) before
+      → TakesTurn board line told worked
+      → after ≡ record worked { last = slice_set worked.last line.on.0 (Some line.by) }
+      → PlaysActOn board line line.act before after
+  plays_counted before told worked after is inside told_is took after_is =
+      let heard = heard_from_last before line.by (worker_of before line.by) line.on in
+      let worked_is : worked ≡ with_worker line.by took.worker before =
+      took.others ∙ ap (λ (f : Floor). with_worker line.by took.worker f) told_is
+      ∙ put_twice before line.by heard took.worker in
+      record {
+        cell = took.cell;
+        there = took.there;
+        played = turn_played took.cell line true before after took.worker is_turn
+            (sym is ∙ is_counted_at took.cell took.there)
+            (subst (λ (w : AtWork). Turns took.cell.limit took.cell.form line w took.worker)
+            (ap (λ (f : Floor). worker_of f line.by) told_is ∙ worker_put before line.by heard inside) took.turned)
+            (after_is ∙ ap (λ (f : Floor). (let it : Floor = record f
+            { last = slice_set f.last line.on.0 (Some line.by) } in it)) worked_is);
+      }
+
+module _ {L : Type 0} (board : BoardShown L) (line : Line) (before after : Floor) (desk desk' : DeskShown)
+    (seen : Transcript) (right : IsLineFor board line) (has : HasDesk board before line.by desk seen) where
+  -- the caller of a line took its turn
+  pub takes_turn : (seen' : Transcript)
+      → IfSome (cell_on board line.on) (λ cell. Turns cell.limit cell.form line (record { desk = desk; shown = seen })
+      (record { desk = desk'; shown = seen' }))
+      → after ≡ with_worker line.by (record { desk = desk'; shown = seen' }) before
+      → TakesTurn board line before after
+  takes_turn seen' turned after_is =
+      let worker : AtWork = record { desk = desk'; shown = seen' } in
+      record {
+        cell = right.cell;
+        there = right.there;
+        worker = worker;
+        turned = subst (λ (w : AtWork). Turns right.cell.limit right.cell.form line w worker) (sym has.is)
+            (if_there (λ (cell : CellShown L). Turns cell.limit cell.form line (record { desk = desk; shown = seen })
+            worker) (cell_on board line.on) right.cell right.there turned);
+        others = after_is;
+      }
+
+  -- it posted a note
+  pub posts : (items : List Shown) (sure : ℕ) → desk' ≡ desk → sure ≡ (pass_at desk line.on).sure
+      → sure ≤ (pass_at desk line.on).known → items ≡ seen.items ++ shown.Posted line.on sure ∷ []
+      → after ≡ record (with_worker line.by (record { desk = desk'; shown = record seen { items = items } }) before)
+      { tray = slice_set before.tray line.on.0 (Some (note_of (pass_at desk line.on))) }
+      → PlaysActOn board line act.Post before after
+  posts items sure desk_is sure_is known items_are after_is =
+      let worker : AtWork = record { desk = desk'; shown = record seen { items = items } } in
+      let shows : record seen { items = items } ≡ with_item (shown.Posted line.on (pass_at desk line.on).sure) seen =
+      ap (λ (its : List Shown). (let it : Transcript = record seen { items = its } in it))
+      (items_are ∙ ap (λ (n : ℕ). seen.items ++ shown.Posted line.on n ∷ []) sure_is) in
+      record {
+        cell = right.cell;
+        there = right.there;
+        played = subst (λ (w : AtWork). (worker : AtWork) × Posts line.on w worker
+            × (after ≡ record (with_worker line.by worker before)
+            { tray = slice_set before.tray line.on.0 (Some (note_of (pass_at w.desk line.on))) })) (sym has.is) (
+              worker,
+              record {
+                known = subst (λ (n : ℕ). n ≤ (pass_at desk line.on).known) sure_is known;
+                shows = (desk_is, shows);
+              },
+              after_is,
+            );
+      }
+
+  -- it was told the note in the tray
+  pub takes : (items : List Shown) (sure : ℕ)
+      → desk' ≡ with_pass line.on (with_any_note (note_in before.tray line.on) (pass_at desk line.on)) desk
+      → sure ≡ (pass_at desk' line.on).sure → items ≡ seen.items ++ shown.Took line.on sure ∷ []
+      → after ≡ with_worker line.by (record { desk = desk'; shown = record seen { items = items } }) before
+      → PlaysActOn board line act.Take before after
+  takes items sure desk_is sure_is items_are after_is =
+      let on = line.on in
+      let pass : PassShown = with_any_note (note_in before.tray on) (pass_at desk on) in
+      let cells = desk-length board desk has.fits in
+      let within = slice_get_within board.cells on.0 right.cell right.there in
+      let inside : on.0 < length desk.passes = omega arith in
+      let knows : sure ≡ pass.sure =
+      sure_is ∙ ap (λ (d : DeskShown). (pass_at d on).sure) desk_is
+      ∙ ap (λ (p : PassShown). p.sure) (pass_at-with_pass_same desk on pass inside) in
+      record {
+        cell = right.cell;
+        there = right.there;
+        played = after_is
+            ∙ ap (λ (d : DeskShown). with_worker line.by (record { desk = d; shown = record seen { items = items } })
+            before) desk_is
+            ∙ ap (λ (its : List Shown). with_worker line.by
+            (record { desk = with_pass on pass desk; shown = record seen { items = its } }) before)
+            (items_are ∙ ap (λ (n : ℕ). seen.items ++ shown.Took on n ∷ []) knows)
+            ∙ ap (λ (w : AtWork). with_worker line.by (worker_after_take on (note_in before.tray on) w) before)
+            (sym has.is);
+      }
+
+-- a line that was played, since its caller's work goes on
+pub plays_line : {L : Type 0} (board : BoardShown L) (line : Line) (does : Act) (before after : Floor)
+    → is_working before line.by ≡ true → line.act ≡ does → PlaysActOn board line does before after
+    → PlaysLine board line before after
+plays_line board line does before after works act_is acted = (
+  acted.cell,
+  acted.there,
+  subst (λ (b : Bool). MatchBool b (PlaysAct acted.cell line line.act before after)
+      (after ≡ before)) (sym works)
+      (subst (λ (a : Act). PlaysAct acted.cell line a before after) (sym act_is) acted.played),
+)
+
+-- a line that wasn't, since its caller's work has ended
+pub plays_nothing : {L : Type 0} (board : BoardShown L) (line : Line) (floor : Floor)
+    → is_working floor line.by ≡ false → IsLineFor board line → PlaysLine board line floor floor
+plays_nothing board line floor ended right = (
+  right.cell,
+  right.there,
+  subst (λ (b : Bool). MatchBool b (PlaysAct right.cell line line.act floor floor)
+      (floor ≡ floor)) (sym ended) refl,
+)
+
+-- ---- hearings
+
+-- what the others know doesn't change as a caller hears of them
+pub same_hearing : (floor : Floor) (by : ConnId) (other : AtWork) (worker : AtWork) (on : StrNo)
+    → heard_from_last (with_worker by other floor) by worker on ≡ heard_from_last floor by worker on
+same_hearing floor by changed worker on = from (slice_index_or floor.last on.0 None)
+  where
+    from : (o : Option ConnId) → heard_from (with_worker by changed floor) by on o worker
+        ≡ heard_from floor by on o worker
+    from None = refl
+    from (Some conn) = go (conn.0 == by.0) refl
+      where
+        go : (b : Bool) → (conn.0 == by.0) ≡ b
+            → (if b then worker else told_by (with_worker by changed floor) on conn worker)
+            ≡ (if b then worker else told_by floor on conn worker)
+        go true is = refl
+        go false is =
+            let apart : conn.0 ≢ by.0 = eqb-false conn.0 by.0 is in
+            ap (λ (w : AtWork). (let it : AtWork = record worker {
+              desk = with_pass on (with_note (note_of (pass_at w.desk on)) (pass_at worker.desk on)) worker.desk;
+            } in it))
+            (get_or-set_other floor.workers by.0 conn.0 changed no_worker apart)
+
+-- the numbers from one on
+pub range_more : (k n : ℕ) → k < n → range_with_len k (n - k) ≡ k ∷ range_with_len (k + 1) (n - (k + 1))
+range_more k n below = let e : n - k ≡ suc (n - (k + 1)) = omega arith in ap (range_with_len k) e
+
+-- one structure more at which the caller heard
+pub hears_more : (start now next : Floor) (by : ConnId) (k n : ℕ) (whole : AtWork) → k < n
+    → by.0 < length start.workers
+    → now ≡ with_worker by (worker_of now by) start
+    → fold (λ worker place. heard_from_last start by worker (record { 0 = place })) (worker_of now by)
+    (range_with_len k (n - k)) ≡ whole
+    → next ≡ with_worker by (heard_from_last now by (worker_of now by) (record { 0 = k })) now
+    → (next ≡ with_worker by (worker_of next by) start)
+    × (fold (λ worker place. heard_from_last start by worker (record { 0 = place })) (worker_of next by)
+    (range_with_len (k + 1) (n - (k + 1))) ≡ whole)
+hears_more start now next by k n whole below inside now_is rest next_is =
+    let on : StrNo = record { 0 = k } in
+    let step : AtWork → ℕ → AtWork = λ worker place. heard_from_last start by worker (record { 0 = place }) in
+    let mine : AtWork = heard_from_last start by (worker_of now by) on in
+    let same : heard_from_last now by (worker_of now by) on ≡ mine =
+    ap (λ (f : Floor). heard_from_last f by (worker_of now by) on) now_is
+    ∙ same_hearing start by (worker_of now by) (worker_of now by) on in
+    let next_from : next ≡ with_worker by mine start =
+    next_is ∙ ap (λ (w : AtWork). with_worker by w now) same ∙ ap (λ (f : Floor). with_worker by mine f) now_is
+    ∙ put_twice start by (worker_of now by) mine in
+    let mine_is : worker_of next by ≡ mine =
+    ap (λ (f : Floor). worker_of f by) next_from ∙ worker_put start by mine inside in (
+      next_from ∙ ap (λ (w : AtWork). with_worker by w start) (sym mine_is),
+      ap (λ (w : AtWork). fold step w (range_with_len (k + 1) (n - (k + 1)))) mine_is
+          ∙ sym (ap (λ (places : List ℕ). fold step (worker_of now by) places) (range_more k n below)) ∙ rest,
+    )
+
+-- no structure is left at which the caller didn't hear
+pub heard_everywhere : (start now : Floor) (by : ConnId) (k n : ℕ) (whole : AtWork) → n ≤ k
+    → now ≡ with_worker by (worker_of now by) start
+    → fold (λ worker place. heard_from_last start by worker (record { 0 = place })) (worker_of now by)
+    (range_with_len k (n - k)) ≡ whole
+    → now ≡ with_worker by whole start
+heard_everywhere start now by k n whole over now_is rest =
+    let step : AtWork → ℕ → AtWork = λ worker place. heard_from_last start by worker (record { 0 = place }) in
+    let none : n - k ≡ 0 = omega arith in
+    now_is ∙ ap (λ (w : AtWork). with_worker by w start)
+    (sym (ap (λ (m : ℕ). fold step (worker_of now by) (range_with_len k m)) none) ∙ rest)
+
+-- ---- closings
+
+-- a connector's closing is its departures
+departs : {L : Type 0} (board : BoardShown L) (before after : AtWork) → 1 ≤ before.desk.owner.0
+    → Closes board before after → DepartsEach 0 board.cells before after
+departs board before after connector closed = go (before.desk.owner.0 == 0) refl closed
+  where
+    go : (b : Bool) → (before.desk.owner.0 == 0) ≡ b
+        → MatchBool b (after ≡ before) (DepartsEach 0 board.cells before after)
+        → DepartsEach 0 board.cells before after
+    go true is closed = absurd (omega (arith, eqb-true before.desk.owner.0 0 is, connector))
+    go false is closed = closed
+
+pub closes_one : {L : Type 0} (board : BoardShown L) (by : ConnId) (before told after : Floor) (desk : DeskShown)
+    (seen : Transcript) (worker : AtWork)
+    → is_working before by ≡ true → by.0 < length before.workers → length before.last ≡ length board.cells
+    → told ≡ with_worker by (heard_all board before by) before
+    → HasDesk board told by desk seen → 1 ≤ by.0 → Closes board (record { desk = desk; shown = seen }) worker
+    → after ≡ record (with_worker by worker told) { last = replicate (length told.last) (Some by) }
+    → ClosesOne board by before after
+closes_one board by before told after desk seen worker works inside places told_is has connector closed after_is =
+    subst (λ (b : Bool). MatchBool b
+    ((w : AtWork) × DepartsEach 0 board.cells (heard_all board before by) w
+    × (after ≡ record (with_worker by w before) { last = replicate (length board.cells) (Some by) }))
+    (after ≡ before)) (sym works) (
+      worker,
+      subst (λ (w : AtWork). DepartsEach 0 board.cells w worker)
+          (ap (λ (f : Floor). worker_of f by) told_is ∙ worker_put before by (heard_all board before by) inside)
+          (subst (λ (w : AtWork). DepartsEach 0 board.cells w worker) (sym has.is)
+          (departs board (record { desk = desk; shown = seen }) worker
+          (subst (λ (conn : ConnId). 1 ≤ conn.0) (sym has.own) connector) closed)),
+      after_is
+          ∙ ap (λ (f : Floor). (let it : Floor = record (with_worker by worker f)
+          { last = replicate (length f.last) (Some by) } in it)) told_is
+          ∙ ap (λ (f : Floor). (let it : Floor = record f { last = replicate (length before.last) (Some by) } in it))
+          (put_twice before by (heard_all board before by) worker)
+          ∙ ap (λ (n : ℕ). (let it : Floor = record (with_worker by worker before)
+          { last = replicate n (Some by) } in it)) places,
+    )
+
+-- a closing that isn't done, since the connector's work has ended
+pub closes_nothing : {L : Type 0} (board : BoardShown L) (by : ConnId) (floor : Floor) → is_working floor by ≡ false
+    → ClosesOne board by floor floor
+closes_nothing board by floor ended =
+    subst (λ (b : Bool). MatchBool b
+    ((w : AtWork) × DepartsEach 0 board.cells (heard_all board floor by) w
+    × (floor ≡ record (with_worker by w floor) { last = replicate (length board.cells) (Some by) }))
+    (floor ≡ floor)) (sym ended) refl
+
+-- ---- one after another
+
+-- one line more
+pub lines_more : {L : Type 0} (board : BoardShown L) (lines : List Line) (line : Line) (i : ℕ)
+    (start now next : Floor)
+    → i < length lines → line ≡ get_or lines i line
+    → ((after : Floor) → PlaysLines board (drop i lines) now after → PlaysLines board lines start after)
+    → PlaysLine board line now next
+    → (after : Floor) → PlaysLines board (drop (i + 1) lines) next after → PlaysLines board lines start after
+lines_more board lines line i start now next below line_is rest played after more =
+    let front : drop i lines ≡ line ∷ drop (i + 1) lines =
+    rw add-one (drop-cons lines i line below ∙ ap (λ (it : Line). it ∷ drop (suc i) lines) (sym line_is)) in
+    rest after (subst (λ (left : List Line). PlaysLines board left now after) (sym front) (next, played, more))
+
+-- one closing more
+pub closings_more : {L : Type 0} (board : BoardShown L) (k n : ℕ) (Then : Floor → Type 0) (now next : Floor) → k < n
+    → ((after : Floor) → ClosesAll board (conns_from (k + 1) (n - k)) now after → Then after)
+    → ClosesOne board (record { 0 = k + 1 }) now next
+    → (after : Floor) → ClosesAll board (conns_from (k + 1 + 1) (n - (k + 1))) next after → Then after
+closings_more board k n Then now next below rest closed after more =
+    let left : n - k ≡ suc (n - (k + 1)) = omega arith in
+    rest after (subst (λ (m : ℕ). ClosesAll board (conns_from (k + 1) m) now after) (sym left) (next, closed, more))

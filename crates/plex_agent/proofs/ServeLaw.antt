@@ -1,0 +1,292 @@
+-- Callers at work at one board, whatever the schedule was: each works at its own desk, and what is known of the
+-- others is what the histories say.
+use Rattle.std.proofs.Common.{◌≡◌, ◌≢◌, ℕ, ◌+◌, ◌≤◌, ◌<◌, inl, inr, List, [], length, map, Some, None, Option, refl, sym, ap, subst, ◌∙◌, arith, append-nil, slice_get}
+use Rattle.std.specs.Prelude.{All}
+use Rattle.std.proofs.lemmas.Bool.{cases_lt}
+use Rattle.std.proofs.lemmas.List.{length-map, get_or_past}
+use Rattle.std.proofs.lemmas.List.Elements.{All-nil}
+use Rattle.std.proofs.lemmas.Option.{slice_get_within}
+use Rattle.plex_board.proofs.CfLists.TableLaws.{get_within}
+use Rattle.plex_board.specs.CfTypes.declared.forms.StrForm.{StrForm}
+use Rattle.plex_board.specs.CfTypes.declared.numbers.ConnId.{ConnId}
+use Rattle.plex_board.specs.CfTypes.declared.numbers.StrNo.{StrNo}
+use Rattle.plex_board.specs.PlexScript.declared.asks.AnyHistory.{AnyHistory}
+use Rattle.plex_board.specs.PlexScript.declared.scripts.Script.{Script}
+use Rattle.plex_board.specs.PlexScript.declared.transcripts.AgentEnd.{AgentEnd}
+use Rattle.plex_board.specs.PlexScript.declared.transcripts.AgentEnd.TheVariants as ended
+use Rattle.plex_board.specs.PlexScript.declared.transcripts.Shown.{Shown}
+use Rattle.plex_board.specs.PlexScript.declared.transcripts.Transcript.{Transcript}
+use Rattle.plex_board.specs.PlexScript.Heard.{AnyCall, any_calls, any_length, own_calls, calls_of, calls_on, length_of, length_on}
+use Rattle.plex_board.specs.PlexScript.Follows.{AgreesWith, numbers_on}
+use Rattle.plex_board.specs.Headline.{TestsTell, EndsRight, IsHistoryOf, ShowsHistories}
+use Rattle.plex_board.specs.Cells.{CellShown, IsAnyTold}
+use Rattle.plex_board.specs.Kinds.{Rising}
+use Rattle.plex_board.proofs.HistoryLaws.{calls_rise}
+use Rattle.plex_board.specs.Desks.{DeskShown, no_pass, pass_at}
+use Rattle.plex_board.specs.Boards.{BoardShown, IsStarted, IsClosed, IsAccount, AreClosed, new_desk}
+use Rattle.plex_board.specs.Turns.{AtWork}
+use Rattle.plex_board.specs.Callers.{no_items}
+use Rattle.plex_agent.specs.Chains.{Serves}
+use Rattle.plex_agent.specs.Ends.{WorkEnds, ShowsWork}
+use Rattle.plex_agent.proofs.Passes.{Caller, IsWithin}
+use Rattle.plex_agent.proofs.Moves.{AreWithin, IsTranscript}
+use Rattle.plex_agent.proofs.Lines.{IsSetting}
+use Rattle.plex_agent.proofs.Lookups.{get_map, get_mapped, all_get, kind_of_type}
+use Rattle.plex_agent.proofs.Work.{caller_of, begins_long, begins_owning, begins_shown, Finished, finishes}
+
+module _ {L : Type 0} (limit : ℕ) (script : Script) (board : BoardShown L) (histories : List AnyHistory)
+    (workers : List AtWork)
+    (forms_are : map (λ cell. cell.form) board.cells ≡ script.structures)
+    (started : All (IsStarted (length script.connectors) limit) board.cells)
+    (closed : AreClosed board (map (λ worker. worker.desk) workers) histories) where
+  abbrev desk_of : AtWork → DeskShown
+  desk_of worker = worker.desk
+
+  abbrev shown_of : AtWork → Transcript
+  shown_of worker = worker.shown
+
+  as_many : length board.cells ≡ length script.structures
+  as_many = sym (length-map board.cells (λ (cell : CellShown L). cell.form)) ∙ ap length forms_are
+
+  starts : (x : ℕ) (cell : CellShown L) → slice_get board.cells x ≡ Some cell
+      → IsStarted (length script.connectors) limit cell
+  starts x cell there = all_get (IsStarted (length script.connectors) limit) board.cells x cell started there
+
+  form_there : (x : ℕ) (cell : CellShown L) → slice_get board.cells x ≡ Some cell
+      → slice_get script.structures x ≡ Some cell.form
+  form_there x cell there =
+      ap (λ (forms : List StrForm). slice_get forms x) (sym forms_are)
+      ∙ get_map (λ (cell : CellShown L). cell.form) board.cells x cell there
+
+  -- the cell and the history of a structure
+  cell_there : (x : ℕ) → x < length board.cells → (cell : CellShown L) × (slice_get board.cells x ≡ Some cell)
+  cell_there x within = get_within board.cells x within
+
+  history_there : (x : ℕ) → x < length board.cells → (entries : AnyHistory) × (slice_get histories x ≡ Some entries)
+  history_there x within = get_within histories x (omega (arith, within, closed.structures))
+
+  cell_within : (x : ℕ) (entries : AnyHistory) → slice_get histories x ≡ Some entries → (cell : CellShown L)
+      × (slice_get board.cells x ≡ Some cell)
+  cell_within x entries there =
+      cell_there x (omega (arith, slice_get_within histories x entries there, closed.structures))
+
+  closed_at : (on : StrNo) (cell : CellShown L) (entries : AnyHistory) → slice_get board.cells on.0 ≡ Some cell
+      → slice_get histories on.0 ≡ Some entries → IsClosed cell entries
+  closed_at on cell entries there kept = (closed.closed on cell entries there kept).0
+
+  setting : IsSetting limit board script.structures histories
+  setting =
+      record {
+        limits = λ x cell there. (starts x cell there).limit_is;
+        forms_are = form_there;
+        rise = λ on. rise on (slice_get histories on.0) refl;
+      }
+    where
+      rise : (on : StrNo) (o : Option AnyHistory) → slice_get histories on.0 ≡ o → Rising 0 (calls_on histories on)
+      rise on None none = rw none tt
+      rise on (Some entries) kept =
+          let cell = cell_within on.0 entries kept in
+          rw kept
+          (calls_rise cell.0.form entries
+          (closed_at on cell.0 entries cell.1 kept).legal)
+
+  -- ---- one caller
+
+  module _ (conn : ConnId) (worker : AtWork) (there : slice_get workers conn.0 ≡ Some worker)
+      (finished : Finished limit board script histories conn setting forms_are worker) where
+    abbrev me : Caller
+    me = caller_of script histories conn
+
+    account : (on : StrNo) (cell : CellShown L) (entries : AnyHistory) → slice_get board.cells on.0 ≡ Some cell
+        → slice_get histories on.0 ≡ Some entries → IsAccount cell entries (pass_at worker.desk on)
+    account on cell entries found kept =
+        all_get (λ (desk : DeskShown). IsAccount cell entries (pass_at desk on)) (map desk_of workers) conn.0
+        worker.desk (closed.closed on cell entries found kept).1 (get_map desk_of workers conn.0 worker there)
+
+    long : length worker.desk.passes ≡ length board.cells
+    long = finished.goes.passes ∙ begins_long board conn
+
+    owns : (on : StrNo) → on.0 < length board.cells → (pass_at worker.desk on).owner ≡ conn
+    owns on within =
+        finished.goes.owners on ∙ begins_owning board conn on (omega (arith, within, begins_long board conn))
+
+    calls_mine : (on : StrNo) (entries : AnyHistory) → on.0 < length board.cells
+        → slice_get histories on.0 ≡ Some entries
+        → (pass_at worker.desk on).calls ≡ own_calls (calls_on histories on) conn
+    calls_mine on entries within kept =
+        let cell = cell_there on.0 within in
+        (account on cell.0 entries cell.1 kept).mine ∙ ap (own_calls (any_calls entries)) (owns on within)
+        ∙ ap (λ (o : Option AnyHistory). own_calls (calls_of o) conn) (sym kept)
+
+    within_board : (on : StrNo) → on.0 < length board.cells → IsWithin me on (pass_at worker.desk on)
+    within_board on within =
+        let cell = cell_there on.0 within in
+        let kept = history_there on.0 within in
+        let known : IsAccount cell.0 kept.0 (pass_at worker.desk on) = account on cell.0 kept.0 cell.1 kept.1 in
+        let reached : length_on histories on ≡ any_length kept.0 = ap length_of kept.1 in
+        record {
+          calls = record {
+            more = [];
+            behind = sym (calls_mine on kept.0 within kept.1) ∙ sym (append-nil (pass_at worker.desk on).calls);
+          };
+          known = omega (arith, known.known, reached);
+          tests = λ form entries found kept'. by_names form entries cell.0 kept.0
+              (sym (form_there on.0 cell.0 cell.1) ∙ found) (sym kept.1 ∙ kept')
+              known.tests;
+        }
+      where
+        by_names : (form : StrForm) (entries : AnyHistory) (cell : CellShown L) (entries' : AnyHistory)
+            → Some cell.form ≡ Some form → Some entries' ≡ Some entries
+            → All (IsAnyTold cell.form entries' (pass_at worker.desk on).owner) (pass_at worker.desk on).tests
+            → All (IsAnyTold form entries conn) (pass_at worker.desk on).tests
+        by_names form entries cell entries' found kept tests =
+            let same_form : cell.form ≡ form = cc in
+            let same_entries : entries' ≡ entries = cc in
+            subst (λ (f : StrForm). All (IsAnyTold f entries conn) (pass_at worker.desk on).tests) same_form
+            (subst (λ (h : AnyHistory). All (IsAnyTold cell.form h conn) (pass_at worker.desk on).tests) same_entries
+            (subst (λ (c : ConnId). All (IsAnyTold cell.form entries' c) (pass_at worker.desk on).tests)
+            (owns on within) tests))
+
+    no_such_pass : (on : StrNo) → length board.cells ≤ on.0 → pass_at worker.desk on ≡ no_pass
+    no_such_pass on past = get_or_past worker.desk.passes on.0 no_pass (omega (arith, past, long))
+
+    are_within : AreWithin me worker.desk
+    are_within on =
+        elim (cases_lt on.0 (length board.cells)) [ inl within ↦ within_board on within | inr past ↦ outside past ]
+      where
+        outside : length board.cells ≤ on.0 → IsWithin me on (pass_at worker.desk on)
+        outside past =
+            subst (IsWithin me on) (sym (no_such_pass on past))
+            (record {
+              calls = record { more = own_calls (calls_on histories on) conn; behind = refl };
+              known = omega arith;
+              tests = λ form entries found kept. All-nil (IsAnyTold form entries conn);
+            })
+
+    goes_with : IsTranscript me worker
+    goes_with = finished.goes.forth are_within (begins_shown board me)
+
+    agrees : AgreesWith histories conn worker.shown.items
+    agrees =
+        record {
+          numbers = λ on small. numbers on small;
+          notes = λ k item found. (goes_with.each k item found).0;
+        }
+      where
+        numbers : (on : StrNo) → on.0 < length histories
+            → numbers_on on worker.shown.items
+            ≡ map (λ (call : AnyCall). call.no) (own_calls (calls_on histories on) conn)
+        numbers on small =
+            let within : on.0 < length board.cells = omega (arith, small, closed.structures) in
+            let kept = history_there on.0 within in
+            (goes_with.shows on).numbers ∙ ap (map (λ (call : AnyCall). call.no)) (calls_mine on kept.0 within kept.1)
+
+    tests : TestsTell script.structures histories conn worker.shown.items
+    tests k item form entries found known kept = (goes_with.each k item found).1 form entries known kept
+
+    work : ShowsWork limit script histories conn worker.shown
+    work =
+        record {
+          ends = subst
+              (λ (items : List Shown). WorkEnds limit script histories conn items worker.shown.end)
+              (sym finished.goes.items)
+              (finished.ends are_within (subst (AgreesWith histories conn) finished.goes.items agrees));
+          tests = tests;
+        }
+
+  -- where memory was found, the items follow the script, or stop at a full journal
+  ends_right : (conn : ConnId) (shown : Transcript) → shown.end ≢ ended.NoMemory
+      → ShowsWork limit script histories conn shown → EndsRight limit script histories conn shown.items shown.end
+  ends_right conn shown found work = by_end shown.end found work.ends
+    where
+      by_end : (end : AgentEnd) → end ≢ ended.NoMemory → WorkEnds limit script histories conn shown.items end
+          → EndsRight limit script histories conn shown.items end
+      by_end ended.Done found ends = ends
+      by_end (ended.JournalFull on) found ends = ends
+      by_end ended.NoMemory found ends = absurd (found refl)
+
+  -- ---- all callers
+
+  history_of : (x : ℕ) (form : StrForm) (entries : AnyHistory) → slice_get script.structures x ≡ Some form
+      → slice_get histories x ≡ Some entries
+      → IsHistoryOf script form entries
+  history_of x form entries known kept =
+      let cell = cell_within x entries kept in
+      let is : IsClosed cell.0 entries = closed_at (record { 0 = x }) cell.0 entries cell.1 kept in
+      let start : IsStarted (length script.connectors) limit cell.0 = starts x cell.0 cell.1 in
+      let both : Some cell.0.form ≡ Some form = sym (form_there x cell.0 cell.1) ∙ known in
+      let same : cell.0.form ≡ form = cc in
+      subst (λ (f : StrForm). IsHistoryOf script f entries) same
+      (record {
+        kind = kind_of_type cell.0.form.kind entries (is.history_type ∙ start.type_is);
+        legal = is.legal;
+        callers = subst (λ (n : ℕ). All (λ (call : AnyCall). call.by.0 ≤ n) (any_calls entries)) start.callers_is
+            is.callers;
+      })
+
+  -- each caller, at its own desk
+  work_of : (c : ℕ) (worker : AtWork) → slice_get workers c ≡ Some worker
+      → Serves board script.lines (record { desk = new_desk board c; shown = no_items }) worker
+      → ShowsWork limit script histories (record { 0 = c }) worker.shown
+  work_of c worker there serves =
+      work (record { 0 = c }) worker there
+      (finishes limit board script histories (record { 0 = c }) setting forms_are worker serves)
+
+  shows_all : length workers ≡ length script.connectors + 1
+      → ((c : ℕ) (worker : AtWork) → slice_get workers c ≡ Some worker
+      → Serves board script.lines (record { desk = new_desk board c; shown = no_items }) worker)
+      → All (λ worker. worker.shown.end ≢ ended.NoMemory) workers
+      → ShowsHistories limit script histories (map (λ worker. worker.shown) workers)
+  shows_all as_workers serve found =
+      record {
+        structures = closed.structures ∙ as_many;
+        histories_right = history_of;
+        callers = length-map workers shown_of ∙ as_workers;
+        ends = λ c transcript shown'. ends_of c transcript (get_mapped shown_of workers c transcript shown');
+        tests = λ c transcript shown'. tests_of c transcript (get_mapped shown_of workers c transcript shown');
+      }
+    where
+      ends_of : (c : ℕ) (transcript : Transcript)
+          → (worker : AtWork) × (slice_get workers c ≡ Some worker) × (worker.shown ≡ transcript)
+          → EndsRight limit script histories (record { 0 = c }) transcript.items transcript.end
+      ends_of c transcript (worker, there, is) =
+          subst (λ (t : Transcript). EndsRight limit script histories (record { 0 = c }) t.items t.end) is
+          (ends_right (record { 0 = c }) worker.shown
+          (all_get (λ (worker : AtWork). worker.shown.end ≢ ended.NoMemory) workers c worker found there)
+          (work_of c worker there (serve c worker there)))
+
+      tests_of : (c : ℕ) (transcript : Transcript)
+          → (worker : AtWork) × (slice_get workers c ≡ Some worker) × (worker.shown ≡ transcript)
+          → TestsTell script.structures histories (record { 0 = c }) transcript.items
+      tests_of c transcript (worker, there, is) =
+          subst (λ (t : Transcript). TestsTell script.structures histories (record { 0 = c }) t.items) is
+          (work_of c worker there (serve c worker there)).tests
+
+-- However a caller's work ended, and whatever the others did: what it was shown are the caller's calls, each once and
+-- in their order, as far as its work came, and tests that tell what stood.
+pub serve_right : {L : Type 0} (limit : ℕ) (script : Script) (board : BoardShown L) (histories : List AnyHistory)
+    (workers : List AtWork) (c : ℕ) (worker : AtWork)
+    → map (λ cell. cell.form) board.cells ≡ script.structures
+    → All (IsStarted (length script.connectors) limit) board.cells
+    → AreClosed board (map (λ worker. worker.desk) workers) histories
+    → slice_get workers c ≡ Some worker
+    → Serves board script.lines (record { desk = new_desk board c; shown = no_items }) worker
+    → ShowsWork limit script histories (record { 0 = c }) worker.shown
+serve_right limit script board histories workers c worker forms_are started closed there serves =
+    work_of limit script board histories workers forms_are started closed c worker there serves
+
+-- Whatever the schedule was, what the callers were shown goes with the histories: these are legal, and hold each
+-- caller's calls once and in its order; each transcript follows the script, or stops at a full journal; and each test
+-- tells what stood.
+pub serves_right : {L : Type 0} (limit : ℕ) (script : Script) (board : BoardShown L) (histories : List AnyHistory)
+    (workers : List AtWork)
+    → map (λ cell. cell.form) board.cells ≡ script.structures
+    → All (IsStarted (length script.connectors) limit) board.cells
+    → length workers ≡ length script.connectors + 1
+    → ((c : ℕ) (worker : AtWork) → slice_get workers c ≡ Some worker
+    → Serves board script.lines (record { desk = new_desk board c; shown = no_items }) worker)
+    → All (λ worker. worker.shown.end ≢ ended.NoMemory) workers
+    → AreClosed board (map (λ worker. worker.desk) workers) histories
+    → ShowsHistories limit script histories (map (λ worker. worker.shown) workers)
+serves_right limit script board histories workers forms_are started as_workers serve found closed =
+    shows_all limit script board histories workers forms_are started closed as_workers serve found

@@ -1,0 +1,268 @@
+-- What has been done at one structure, by all callers, and what is known of it while a script runs.
+use Rattle.std.proofs.Common.{◌≡◌, ◌≢◌, ℕ, ◌+◌, ◌≤◌, ◌<◌, ◌==◌, Bool, true, false, cond, List, [], ◌∷◌, ◌++◌, Option, None, Some, refl, sym, ap, subst, ◌∙◌, arith, append-nil}
+use Rattle.std.specs.Prelude.{All}
+use Rattle.std.proofs.lemmas.Bool.Decides.{nat_tests}
+use Rattle.std.proofs.lemmas.List.Elements.{All-head, All-tail, All-push, All-weaker, filter-append}
+use Rattle.plex_board.specs.CfTypes.declared.numbers.ConnId.{ConnId}
+use Rattle.plex_board.specs.CfTypes.declared.numbers.StrNo.{StrNo}
+use Rattle.plex_board.specs.EngineApi.declared.told.Told.{Told}
+use Rattle.plex_board.specs.PlexScript.declared.scripts.AnyAsk.{AnyAsk}
+use Rattle.plex_board.specs.PlexScript.Heard.{AnyCall, own_calls}
+use Rattle.plex_board.specs.Kinds.{Rising}
+use Rattle.plex_board.specs.declared.any_reply.AnyReply.{AnyReply}
+use Rattle.plex_board.specs.Passes.{PassShown, NoteShown, with_call}
+
+abbrev pub conn : ℕ → ConnId
+conn c = record { 0 = c }
+
+abbrev pub str : ℕ → StrNo
+str x = record { 0 = x }
+
+-- ---- tables that are functions
+
+abbrev pub put : {X : Type 0} → ℕ → X → (ℕ → X) → ℕ → X
+put at x xs other = cond (other == at) x (xs other)
+
+pub same_number : (m n : ℕ) → m == n ≡ true → m ≡ n
+same_number m n e = grind (arith, nat_tests)
+
+pub other_number : (m n : ℕ) → m == n ≡ false → m ≢ n
+other_number m n e same = grind (arith, nat_tests)
+
+pub is_same : (n : ℕ) → n == n ≡ true
+is_same n = grind (arith, nat_tests)
+
+pub is_other : (m n : ℕ) → m ≢ n → m == n ≡ false
+is_other m n apart = grind (arith, nat_tests)
+
+pub put_all : {X : Type 0} (P : ℕ → X → Type 0) (at : ℕ) (x : X) (xs : ℕ → X) → P at x
+    → ((other : ℕ) → other ≢ at → P other (xs other)) → (other : ℕ) → P other (put at x xs other)
+put_all {X} P at x xs here rest other = go (other == at) refl
+  where
+    go : (b : Bool) → other == at ≡ b → P other (cond b x (xs other))
+    go true same = subst (λ n. P n x) (sym (same_number other at same)) here
+    go false apart = rest other (other_number other at apart)
+
+pub put_same : {X : Type 0} (at : ℕ) (x : X) (xs : ℕ → X) → put at x xs at ≡ x
+put_same at x xs = rw (is_same at) refl
+
+pub put_other : {X : Type 0} (at : ℕ) (x : X) (xs : ℕ → X) (other : ℕ) → other ≢ at → put at x xs other ≡ xs other
+put_other at x xs other apart = rw (is_other other at apart) refl
+
+-- ---- calls whose numbers rise
+
+abbrev pub AreBelow : ℕ → List AnyCall → Type 0
+AreBelow front calls = All (λ call. call.no ≤ front) calls
+
+pub rising_push : (low : ℕ) (calls : List AnyCall) (call : AnyCall) (front : ℕ) → low ≤ front → Rising low calls
+    → AreBelow front calls → front < call.no → Rising low (calls ++ call ∷ [])
+rising_push low [] call front least rising below above = (omega arith, tt)
+rising_push low (first ∷ calls) call front least rising below above = (
+  rising.0,
+  rising_push first.no calls call front (All-head (λ (call : AnyCall). call.no ≤ front) first calls below) rising.1
+      (All-tail (λ (call : AnyCall). call.no ≤ front) first calls below) above,
+)
+
+pub own_push : (calls : List AnyCall) (call : AnyCall) (c : ℕ) → call.by.0 ≡ c
+    → own_calls (calls ++ call ∷ []) (conn c) ≡ own_calls calls (conn c) ++ call ∷ []
+own_push calls call c mine =
+    let same : call.by.0 == c ≡ true = rw mine (is_same c) in
+    filter-append (λ (call : AnyCall). call.by.0 == c) calls (call ∷ []) ∙ rw same refl
+
+pub own_push_other : (calls : List AnyCall) (call : AnyCall) (c : ℕ) → call.by.0 ≢ c
+    → own_calls (calls ++ call ∷ []) (conn c) ≡ own_calls calls (conn c)
+own_push_other calls call c apart =
+    let other : call.by.0 == c ≡ false = is_other call.by.0 c apart in
+    filter-append (λ (call : AnyCall). call.by.0 == c) calls (call ∷ [])
+    ∙ rw other (append-nil (own_calls calls (conn c)))
+
+-- ---- a structure
+
+-- the callers' passes, the note in the tray, who acted last; all calls that were made, in the order of the run, and a
+-- number that no pass is above
+pub record Spot : Type 0 where
+  pub passes : ℕ → PassShown
+  pub note : Option NoteShown
+  pub last : Option ConnId
+  pub events : List AnyCall
+  pub front : ℕ
+
+pub record IsKnownPass (events : List AnyCall) (front c : ℕ) (pass : PassShown) : Type 0 where
+  pub owner : pass.owner ≡ conn c
+  pub sure : pass.sure ≤ pass.known
+  pub within : pass.known ≤ front
+  pub calls : pass.calls ≡ own_calls events (conn c)
+
+-- the front is 0 while nobody acted; who acted last knows it
+abbrev pub LastKnows : ℕ → Spot → Option ConnId → Type 0
+LastKnows callers spot None = (spot.front ≡ 0) × (spot.events ≡ [])
+LastKnows callers spot (Some c) = (c.0 ≤ callers) × ((spot.passes c.0).known ≡ spot.front)
+
+abbrev pub IsKnownNote : ℕ → Option NoteShown → Type 0
+IsKnownNote front None = Unit {0}
+IsKnownNote front (Some note) = (note.sure ≤ note.known) × (note.known ≤ front)
+
+pub record IsKnown (callers : ℕ) (spot : Spot) : Type 0 where
+  pub pass : (c : ℕ) → c ≤ callers → IsKnownPass spot.events spot.front c (spot.passes c)
+  pub rising : Rising 0 spot.events
+  pub below : AreBelow spot.front spot.events
+  pub by : All (λ call. call.by.0 ≤ callers) spot.events
+  pub lasts : LastKnows callers spot spot.last
+  pub noted : IsKnownNote spot.front spot.note
+
+-- ---- what a caller does there
+
+-- its pass became this, which knows the front
+abbrev pub moved : ℕ → PassShown → Spot → Spot
+moved by pass spot = record {
+  passes = put by pass spot.passes;
+  note = spot.note;
+  last = Some (conn by);
+  events = spot.events;
+  front = pass.known;
+}
+
+-- its pass became this, and it isn't said to have acted
+abbrev pub noticed : ℕ → PassShown → Spot → Spot
+noticed by pass spot = record spot { passes = put by pass spot.passes }
+
+-- it posted its numbers
+abbrev pub posted : Option NoteShown → Spot → Spot
+posted note spot = record spot { note = note }
+
+abbrev pub event : ℕ → AnyAsk → Told → AnyCall
+event by asked told = record { no = told.no; by = conn by; ask = asked; told = told }
+
+-- it was answered a call
+abbrev pub called : ℕ → AnyAsk → Told → AnyReply → Spot → Spot
+called by asked told reply spot = record {
+  passes = put by (with_call asked told reply (spot.passes by)) spot.passes;
+  note = spot.note;
+  last = spot.last;
+  events = spot.events ++ event by asked told ∷ [];
+  front = told.no;
+}
+
+note_later : (front front' : ℕ) (note : Option NoteShown) → front ≤ front' → IsKnownNote front note
+    → IsKnownNote front' note
+note_later front front' None later noted = tt
+note_later front front' (Some note) later noted = (noted.0, omega (arith, noted.1))
+
+below_later : (front front' : ℕ) (calls : List AnyCall) → front ≤ front' → AreBelow front calls
+    → AreBelow front' calls
+below_later front front' calls later below =
+    All-weaker (λ (call : AnyCall). call.no ≤ front) (λ (call : AnyCall). call.no ≤ front') (λ call is. omega arith)
+    calls below
+
+pass_later : (events : List AnyCall) (front front' c : ℕ) (pass : PassShown) → front ≤ front'
+    → IsKnownPass events front c pass
+    → IsKnownPass events front' c pass
+pass_later events front front' c pass later is =
+    record { owner = is.owner; sure = is.sure; within = omega (arith, is.within); calls = is.calls }
+
+pub known_moved : (callers by : ℕ) (spot : Spot) (pass : PassShown) → by ≤ callers → IsKnown callers spot
+    → spot.front ≤ pass.known → pass.sure ≤ pass.known → pass.owner ≡ (spot.passes by).owner
+    → pass.calls ≡ (spot.passes by).calls → IsKnown callers (moved by pass spot)
+known_moved callers by spot pass caller known later sure owner calls =
+    record {
+      pass = put_all (λ c pass'. c ≤ callers → IsKnownPass spot.events pass.known c pass') by pass spot.passes
+          (λ within. record {
+            owner = owner ∙ (known.pass by caller).owner;
+            sure = sure;
+            within = omega arith;
+            calls = calls ∙ (known.pass by caller).calls;
+          })
+          (λ other apart within.
+          pass_later spot.events spot.front pass.known other (spot.passes other) later (known.pass other within));
+      rising = known.rising;
+      below = below_later spot.front pass.known spot.events later known.below;
+      by = known.by;
+      lasts = (caller, ap (λ (p : PassShown). p.known) (put_same by pass spot.passes));
+      noted = note_later spot.front pass.known spot.note later known.noted;
+    }
+
+pub known_noticed : (callers by : ℕ) (spot : Spot) (pass : PassShown) → by ≤ callers → IsKnown callers spot
+    → (spot.passes by).known ≤ pass.known → pass.known ≤ spot.front → pass.sure ≤ pass.known
+    → pass.owner ≡ (spot.passes by).owner → pass.calls ≡ (spot.passes by).calls
+    → IsKnown callers (noticed by pass spot)
+known_noticed callers by spot pass caller known later within sure owner calls =
+    record {
+      pass = put_all (λ c pass'. c ≤ callers → IsKnownPass spot.events spot.front c pass') by pass spot.passes
+          (λ inside. record {
+            owner = owner ∙ (known.pass by caller).owner;
+            sure = sure;
+            within = within;
+            calls = calls ∙ (known.pass by caller).calls;
+          })
+          (λ other apart inside. known.pass other inside);
+      rising = known.rising;
+      below = known.below;
+      by = known.by;
+      lasts = last_noticed spot.last known.lasts;
+      noted = known.noted;
+    }
+  where
+    last_noticed : (last : Option ConnId) → LastKnows callers spot last → LastKnows callers (noticed by pass spot)
+        last
+    last_noticed None is = is
+    last_noticed (Some c) is = (
+      is.0,
+      put_all (λ c pass'. (spot.passes c).known ≡ spot.front → pass'.known ≡ spot.front) by pass spot.passes
+          (λ before. omega (arith, before, later, within)) (λ other apart before. before) c.0 is.1,
+    )
+
+pub known_posted : (callers : ℕ) (spot : Spot) (note : NoteShown) → IsKnown callers spot → note.sure ≤ note.known
+    → note.known ≤ spot.front → IsKnown callers (posted (Some note) spot)
+known_posted callers spot note known sure within =
+    record {
+      pass = known.pass;
+      rising = known.rising;
+      below = known.below;
+      by = known.by;
+      lasts = same_last spot.last known.lasts;
+      noted = (sure, within);
+    }
+  where
+    same_last : (last : Option ConnId) → LastKnows callers spot last → LastKnows callers (posted (Some note) spot)
+        last
+    same_last None is = is
+    same_last (Some c) is = is
+
+pub known_called : (callers by : ℕ) (spot : Spot) (asked : AnyAsk) (told : Told) (reply : AnyReply) → by ≤ callers
+    → IsKnown callers spot
+    → spot.last ≡ Some (conn by) → spot.front < told.no → IsKnown callers (called by asked told reply spot)
+known_called callers by spot asked told reply caller known last above =
+    let call : AnyCall = event by asked told in
+    let before : PassShown = spot.passes by in
+    let mine : IsKnownPass spot.events spot.front by before = known.pass by caller in
+    let named : before.calls ++ record { no = told.no; by = before.owner; ask = asked; told = told } ∷ []
+    ≡ before.calls ++ call ∷ [] =
+    ap (λ (o : ConnId). before.calls ++ record { no = told.no; by = o; ask = asked; told = told } ∷ []) mine.owner in
+    record {
+      pass = put_all (λ c pass'. c ≤ callers → IsKnownPass (spot.events ++ call ∷ []) told.no c pass') by
+          (with_call asked told reply before) spot.passes
+          (λ within. record {
+            owner = mine.owner;
+            sure = omega arith;
+            within = omega arith;
+            calls = named ∙ ap (λ (t : List AnyCall). t ++ call ∷ []) mine.calls
+                ∙ sym (own_push spot.events call by refl);
+          })
+          (λ other apart within. record {
+            owner = (known.pass other within).owner;
+            sure = (known.pass other within).sure;
+            within = omega (arith, (known.pass other within).within);
+            calls = (known.pass other within).calls ∙ sym (own_push_other spot.events call other
+                (λ e. apart (sym e)));
+          });
+      rising = rising_push 0 spot.events call spot.front (omega arith) known.rising known.below above;
+      below = All-push (λ (call : AnyCall). call.no ≤ told.no) spot.events call
+          (below_later spot.front told.no spot.events (omega arith) known.below) (omega arith);
+      by = All-push (λ (call : AnyCall). call.by.0 ≤ callers) spot.events call known.by caller;
+      lasts = rw last (
+        caller,
+        ap (λ (p : PassShown). p.known) (put_same by (with_call asked told reply before)
+            spot.passes),
+      );
+      noted = note_later spot.front told.no spot.note (omega arith) known.noted;
+    }

@@ -1,0 +1,241 @@
+-- The callers at work at a board, and what has been done at its structures.
+use Rattle.std.proofs.Common.{◌≡◌, ◌≢◌, ℕ, ◌+◌, ◌≤◌, ◌<◌, ◌==◌, Bool, true, false, List, ◌++◌, length, map, set, get_or, Option, None, Some, refl, sym, ap, subst, ◌∙◌, arith, length-set}
+use Rattle.std.specs.Prelude.{slice_index_or}
+use Rattle.std.proofs.lemmas.List.{get_or-set_same, get_or-set_other, set-set}
+use Rattle.plex_board.specs.CfTypes.declared.forms.Kind.{Kind}
+use Rattle.plex_board.specs.PlexScript.declared.agents.Step.{Step}
+use Rattle.plex_board.specs.PlexScript.declared.agents.Step.TheVariants as step
+use Rattle.plex_board.specs.PlexScript.declared.scripts.AnyAsk.{AnyAsk}
+use Rattle.plex_board.specs.PlexScript.declared.transcripts.AgentEnd.{AgentEnd}
+use Rattle.plex_board.specs.PlexScript.declared.transcripts.AgentEnd.TheVariants as ended
+use Rattle.plex_board.specs.PlexScript.declared.transcripts.Shown.{Shown}
+use Rattle.plex_board.specs.PlexScript.declared.transcripts.Transcript.{Transcript}
+use Rattle.plex_board.specs.PlexScript.Agent.{most_asks}
+use Rattle.plex_board.specs.Serial.{all_steps_made}
+use Rattle.plex_board.specs.Passes.{PassShown, IsLater}
+use Rattle.plex_board.specs.Desks.{DeskShown, pass_at, with_pass, no_pass}
+use Rattle.plex_board.specs.Boards.{note_in}
+use Rattle.plex_board.specs.Turns.{AtWork, Asks, EndsAt, Halts, Steps, call_item}
+use Rattle.plex_board.specs.Floors.{Floor, worker_of, no_worker}
+use Rattle.plex_agent.proofs.Spots.{conn, str, same_number, other_number, Spot}
+use Rattle.plex_agent.proofs.Stages.{Stage, IsStage, State, Shows, Goes}
+use Rattle.plex_agent.proofs.ExactMoves.{SaysLess}
+use Rattle.plex_agent.proofs.ExactCalls.{IsMoved, IsHalted, IsEnded, StepsGo, steps_first}
+
+-- ---- desks
+
+pub pass_same : (desk : DeskShown) (x : ℕ) (pass : PassShown) → x < length desk.passes
+    → pass_at (with_pass (str x) pass desk) (str x) ≡ pass
+pass_same desk x pass within = get_or-set_same desk.passes x pass no_pass within
+
+pub pass_other : (desk : DeskShown) (on x : ℕ) (pass : PassShown) → x ≢ on
+    → pass_at (with_pass (str on) pass desk) (str x) ≡ pass_at desk (str x)
+pass_other desk on x pass apart = get_or-set_other desk.passes on x pass no_pass apart
+
+pub pass_again : (desk : DeskShown) (x : ℕ) (pass pass' : PassShown)
+    → with_pass (str x) pass' (with_pass (str x) pass desk) ≡ with_pass (str x) pass' desk
+pass_again desk x pass pass' =
+    ap (λ (t : List PassShown). (let it : DeskShown = record { owner = desk.owner; passes = t } in it))
+    (set-set desk.passes x pass pass')
+
+-- ---- a worker
+
+-- the worker's passes and transcript are the caller's
+pub record IsWorker (cells by : ℕ) (worker : AtWork) (state : State) : Type 0 where
+  pub size : length worker.desk.passes ≡ cells
+  pub passes : (x : ℕ) → x < cells → pass_at worker.desk (str x) ≡ (state.spots x).passes by
+  pub shown : worker.shown ≡ state.shown by
+
+-- nothing happened to the other callers
+pub record OthersSame (by : ℕ) (before after : State) : Type 0 where
+  pub passes : (x c : ℕ) → c ≢ by → (after.spots x).passes c ≡ (before.spots x).passes c
+  pub shown : (c : ℕ) → c ≢ by → after.shown c ≡ before.shown c
+
+-- nor to the notes
+abbrev pub NotesSame : State → State → Type 0
+NotesSame before after = (x : ℕ) → (after.spots x).note ≡ (before.spots x).note
+
+abbrev pub LastsSame : State → State → Type 0
+LastsSame before after = (x : ℕ) → (after.spots x).last ≡ (before.spots x).last
+
+pub others_then : (by : ℕ) (first second third : State) → OthersSame by first second → OthersSame by second third
+    → OthersSame by first third
+others_then by first second third one two =
+    record {
+      passes = λ x c apart. two.passes x c apart ∙ one.passes x c apart;
+      shown = λ c apart. two.shown c apart ∙ one.shown c apart;
+    }
+
+pub by_place : (P : ℕ → Type 0) (on : ℕ) → P on → ((x : ℕ) → x ≢ on → P x) → (x : ℕ) → P x
+by_place P on here rest x = go (x == on) refl
+  where
+    go : (b : Bool) → x == on ≡ b → P x
+    go true same = subst P (sym (same_number x on same)) here
+    go false apart = rest x (other_number x on apart)
+
+module _ (on by : ℕ) (pass : PassShown) (transcript : Transcript) (before after : State)
+    (moved : IsMoved on by pass transcript before after) where
+  pub moved_others : OthersSame by before after
+  moved_others = record {
+    passes = λ x c apart. by_place (λ x. (after.spots x).passes c ≡ (before.spots x).passes c) on
+        (moved.others c apart)
+        (λ x apart'. ap (λ (s : Spot). s.passes c) (moved.elsewhere x apart')) x;
+    shown = moved.others_shown;
+  }
+
+  pub moved_notes : NotesSame before after
+  moved_notes =
+      by_place (λ x. (after.spots x).note ≡ (before.spots x).note) on moved.note
+      (λ x apart. ap (λ (s : Spot). s.note) (moved.elsewhere x apart))
+
+  pub moved_lasts : LastsSame before after
+  moved_lasts =
+      by_place (λ x. (after.spots x).last ≡ (before.spots x).last) on moved.last
+      (λ x apart. ap (λ (s : Spot). s.last) (moved.elsewhere x apart))
+
+  -- the worker whose pass and transcript became these
+  pub moved_worker : (cells : ℕ) (worker worker' : AtWork) → on < cells → IsWorker cells by worker before
+      → worker'.desk ≡ with_pass (str on) pass worker.desk → worker'.shown ≡ transcript
+      → IsWorker cells by worker' after
+  moved_worker cells worker worker' within is desk shown =
+      record {
+        size = ap (λ (d : DeskShown). length d.passes) desk ∙ length-set worker.desk.passes on pass ∙ is.size;
+        passes = by_place (λ x. x < cells → pass_at worker'.desk (str x) ≡ (after.spots x).passes by) on
+            (λ inside. ap (λ (d : DeskShown). pass_at d (str on)) desk
+            ∙ pass_same worker.desk on pass (omega (arith, is.size)) ∙ sym moved.here)
+            (λ x apart inside. ap (λ (d : DeskShown). pass_at d (str x)) desk ∙ pass_other worker.desk on x pass apart
+            ∙ is.passes x inside ∙ sym (ap (λ (s : Spot). s.passes by) (moved.elsewhere x apart)));
+        shown = shown ∙ sym moved.shown;
+      }
+
+-- ---- the calls of a line
+
+-- how the calls end, by the pass that they leave
+pub record EndsSo (limit : ℕ) (kind : Kind) (line : Option AnyAsk) (on : ℕ) (last : Step) (pass : PassShown)
+    (desk after : DeskShown)
+    (end : AgentEnd) : Type 0 where
+  pub ends : IsEnded limit kind line on last pass (pass_at after (str on)) end
+  pub desk_is : after ≡ with_pass (str on) (pass_at after (str on)) desk
+
+halts_so : (kind : Kind) (line : Option AnyAsk) (on : ℕ) (last : Step) (pass : PassShown) (desk after : DeskShown)
+    → on < length desk.passes → Halts kind line (str on) last (with_pass (str on) pass desk) after
+    → IsHalted kind line last pass (pass_at after (str on))
+    × (after ≡ with_pass (str on) (pass_at after (str on)) desk)
+halts_so kind line on last pass desk after within halts = (
+  record {
+    asked = halts.asked;
+    next = halts.next;
+    later = subst (λ (p : PassShown). IsLater p (pass_at after (str on))) (pass_same desk on pass within)
+        halts.later.later;
+    ordered = halts.ordered;
+  },
+  halts.later.rest ∙ pass_again desk on pass (pass_at after (str on)),
+)
+
+ends_so : (limit : ℕ) (kind : Kind) (line : Option AnyAsk) (on : ℕ) (last : Step) (pass : PassShown)
+    (desk after : DeskShown)
+    (end : AgentEnd) → on < length desk.passes
+    → EndsAt limit kind line (str on) last (with_pass (str on) pass desk) after end
+    → EndsSo limit kind line on last pass desk after end
+ends_so limit kind line on last pass desk after ended.Done within ends =
+    let same : pass_at after (str on) ≡ pass = ap (λ (d : DeskShown). pass_at d (str on)) ends.1
+    ∙ pass_same desk on pass within in
+    record {
+      ends = (ends.0, same);
+      desk_is = ends.1 ∙ ap (λ (p : PassShown). with_pass (str on) p desk) (sym same);
+    }
+ends_so limit kind line on last pass desk after (ended.JournalFull place) within ends =
+    let halts = halts_so kind line on last pass desk after within ends.1 in
+    record { ends = (ends.0, halts.0, ends.2); desk_is = halts.1 }
+ends_so limit kind line on last pass desk after ended.NoMemory within ends =
+    let halts = halts_so kind line on last pass desk after within ends.0 in
+    record { ends = halts.0; desk_is = halts.1 }
+
+-- where the calls lead
+pub record AsksGo (stage : Stage) (shows shows' : Shows) (line : Option AnyAsk) (on by : ℕ) (first : Step)
+    (worker : AtWork) (before : State) : Type 1 where
+  pub after : State
+  pub is_worker : IsWorker stage.cells by worker after
+  pub others : OthersSame by before after
+  pub notes : NotesSame before after
+  pub lasts : LastsSame before after
+  pub goes : Goes stage shows shows' before after
+      (all_steps_made stage.limit stage.told (stage.form on) line (conn by) (str on) first)
+
+pub asks_go : (stage : Stage) (is : IsStage stage) (shows shows' : Shows) (line : Option AnyAsk) (on by : ℕ)
+    (first : Step)
+    (worker worker' : AtWork) (before : State) → on < stage.cells → by ≤ stage.callers
+    → first ≢ step.Rest → SaysLess shows shows' on by → IsWorker stage.cells by worker before
+    → (before.shown by).end ≡ ended.Done → (before.spots on).last ≡ Some (conn by)
+    → Asks stage.limit (stage.form on).kind line (str on) first worker worker'
+    → AsksGo stage shows shows' line on by first worker' before
+asks_go stage is shows shows' line on by first worker worker' before within caller goes says at works last asks =
+    let kind : Kind = (stage.form on).kind in
+    let ends : EndsSo stage.limit kind line on asks.last asks.pass worker.desk worker'.desk worker'.shown.end =
+    ends_so stage.limit kind line on asks.last asks.pass worker.desk worker'.desk worker'.shown.end
+    (omega (arith, at.size)) asks.ends in
+    let pass' : PassShown = pass_at worker'.desk (str on) in
+    let transcript : Transcript =
+    record { items = (before.shown by).items ++ map (call_item (str on)) asks.tolds; end = worker'.shown.end } in
+    let go : StepsGo stage is line on by within caller shows shows' (most_asks first) first pass' transcript before =
+    steps_first stage is line on by within caller shows shows' asks.tolds (most_asks first) first asks.last asks.pass
+    pass'
+    worker'.shown.end before goes says works last (omega arith)
+    (subst (λ (p : PassShown). Steps kind line first p asks.tolds asks.last asks.pass) (at.passes on within)
+    asks.steps) ends.ends in
+    let shown_is : worker'.shown ≡ transcript =
+    ap (λ (t : List Shown). (let it : Transcript = record { items = t; end = worker'.shown.end } in it))
+    (asks.items ∙ ap (λ (t : Transcript). t.items ++ map (call_item (str on)) asks.tolds) at.shown) in
+    record {
+      after = go.after;
+      is_worker = moved_worker on by pass' transcript before go.after go.is_moved stage.cells worker worker' within at
+          ends.desk_is shown_is;
+      others = moved_others on by pass' transcript before go.after go.is_moved;
+      notes = moved_notes on by pass' transcript before go.after go.is_moved;
+      lasts = moved_lasts on by pass' transcript before go.after go.is_moved;
+      goes = go.goes;
+    }
+
+-- ---- the floor
+
+pub record IsFloor (stage : Stage) (floor : Floor) (state : State) : Type 0 where
+  pub workers : length floor.workers ≡ stage.callers + 1
+  pub tray : length floor.tray ≡ stage.cells
+  pub lasts : length floor.last ≡ stage.cells
+  pub worker : (c : ℕ) → c ≤ stage.callers → IsWorker stage.cells c (worker_of floor (conn c)) state
+  pub note : (x : ℕ) → x < stage.cells → note_in floor.tray (str x) ≡ (state.spots x).note
+  pub last : (x : ℕ) → x < stage.cells → slice_index_or floor.last x None ≡ (state.spots x).last
+
+-- one worker's turn
+pub floor_after : (stage : Stage) (by : ℕ) (worker : AtWork) (floor floor' : Floor) (before after : State)
+    → by ≤ stage.callers
+    → IsFloor stage floor before → floor'.workers ≡ set floor.workers by worker → length floor'.tray ≡ stage.cells
+    → length floor'.last ≡ stage.cells
+    → ((x : ℕ) → x < stage.cells → note_in floor'.tray (str x) ≡ (after.spots x).note)
+    → ((x : ℕ) → x < stage.cells → slice_index_or floor'.last x None ≡ (after.spots x).last)
+    → IsWorker stage.cells by worker after → OthersSame by before after → IsFloor stage floor' after
+floor_after stage by worker floor floor' before after caller is workers tray lasts note last mine others =
+    record {
+      workers = ap length workers ∙ length-set floor.workers by worker ∙ is.workers;
+      tray = tray;
+      lasts = lasts;
+      worker = by_place (λ c. c ≤ stage.callers → IsWorker stage.cells c (worker_of floor' (conn c)) after) by
+          (λ within.
+          let here : worker_of floor' (conn by) ≡ worker =
+          ap (λ (t : List AtWork). get_or t by no_worker) workers
+          ∙ get_or-set_same floor.workers by worker no_worker (omega (arith, is.workers)) in
+          subst (λ (w : AtWork). IsWorker stage.cells by w after) (sym here) mine)
+          (λ c apart within.
+          let there : worker_of floor' (conn c) ≡ worker_of floor (conn c) =
+          ap (λ (t : List AtWork). get_or t c no_worker) workers
+          ∙ get_or-set_other floor.workers by c worker no_worker apart in
+          let was : IsWorker stage.cells c (worker_of floor (conn c)) before = is.worker c within in
+          subst (λ (w : AtWork). IsWorker stage.cells c w after) (sym there)
+          (record {
+            size = was.size;
+            passes = λ x inside. was.passes x inside ∙ sym (others.passes x c apart);
+            shown = was.shown ∙ sym (others.shown c apart);
+          }));
+      note = note;
+      last = last;
+    }

@@ -1,0 +1,45 @@
+use Rattle.std.proofs.Common.{◌≡◌, ◌<◌, List, length, get_or, sym, ◌∙◌, ap, subst, arith}
+use Rattle.plex_board.specs.PlexScript.declared.scripts.Line.{Line}
+use Rattle.plex_board.specs.Serial.{connectors}
+use Rattle.plex_board.specs.Floors.{Plays}
+use Rattle.plex_agent.specs.Standing.{IsPlayable}
+use Rattle.plex_agent.proofs.PlayLaws.{lines_more, closings_more}
+use Rattle.plex_agent.proofs.floor.Floor.play.Goals as goal
+
+pub line-requires-clause-line : goal.line-requires-clause-line
+line-requires-clause-line g c κs within =
+    let items = c.items-line-items.ensures in
+    let item : c.line-item.result ≡ get_or c.args.script.now.lines c.loop-line.line-index c.line-item.result =
+    c.line-item.is ∙ ap (λ (lines : List Line). get_or lines c.loop-line.line-index c.line-item.result) items in
+    let long = ap (λ (lines : List Line). length lines) items in
+    let test = c.loop-line-test.true in
+    let below : c.loop-line.line-index < length c.args.script.now.lines = omega arith in
+    subst (λ (line : Line). IsPlayable c.args.board.now line) (sym item)
+    (c.requires.lines c.loop-line.line-index c.line-item.result below)
+
+pub loop-line-preserved : goal.loop-line-preserved
+loop-line-preserved g c =
+    let items = c.items-line-items.ensures in
+    let item : c.line-item.result ≡ get_or c.args.script.now.lines c.loop-line.line-index c.line-item.result =
+    c.line-item.is ∙ ap (λ (lines : List Line). get_or lines c.loop-line.line-index c.line-item.result) items in
+    let long = ap (λ (lines : List Line). length lines) items in
+    let test = c.loop-line-test.true in
+    let below : c.loop-line.line-index < length c.args.script.now.lines = omega arith in
+    record {
+      fits = c.in_ok-line.ensures.of_board;
+      rest = lines_more c.args.board.now c.args.script.now.lines c.line-item.result c.loop-line.line-index
+          c.args.self.now c.loop-line.self c.line.new.self below item c.loop-line.invariant.rest
+          c.in_ok-line.ensures.played;
+    }
+
+pub loop-before-preserved : goal.loop-before-preserved
+loop-before-preserved g c =
+    let long = ap (λ (names : List _). length names) c.items.ensures in
+    let test = c.loop-before-test.true in
+    let below : c.loop-before.before < length c.args.script.now.connectors = omega arith in
+    record {
+      fits = c.close.ensures.of_board;
+      rest = closings_more c.args.board.now c.loop-before.before (length c.args.script.now.connectors)
+          (λ after. Plays c.args.board.now c.args.script.now.lines (connectors c.args.script.now) after)
+          c.loop-before.self c.close.new.self below c.loop-before.invariant.rest c.close.ensures.closed;
+    }

@@ -1,0 +1,48 @@
+use Rattle.std.proofs.Common.{◌<◌, length, sym, ap, subst, arith}
+use Rattle.std.proofs.lemmas.Option.{slice_get_within}
+use Rattle.plex_board.specs.Floors.{Floor}
+use Rattle.plex_agent.specs.Standing.{IsFloorOf}
+use Rattle.plex_agent.proofs.FloorLaws.{acted, acted_fits}
+use Rattle.plex_agent.proofs.PlayLaws.{plays_counted, plays_uncounted}
+use Rattle.plex_agent.proofs.floor.Floor.turn.Goals as goal
+
+pub returns-then-not-is_counted-clause-played : goal.returns-then-not-is_counted-clause-played
+returns-then-not-is_counted-clause-played g c =
+    plays_uncounted c.args.board.now c.args.line.now c.vector.result c.vector.ensures.form c.is_counted.result
+    c.is_counted.ensures c.requires.turn c.args.self.now c.work.new.self c.if-not-is_counted.true
+    c.work.ensures.turned
+
+pub hear-requires-clause-place : goal.hear-requires-clause-place
+hear-requires-clause-place g c κs within =
+    slice_get_within c.args.board.now.cells c.args.line.now.on.0 c.requires.line.right.cell
+    c.requires.line.right.there
+
+pub index_mut-requires : goal.index_mut-requires
+index_mut-requires g c =
+    let places = c.work-2.ensures.of_board.places in
+    let within = slice_get_within c.args.board.now.cells c.args.line.now.on.0 c.requires.line.right.cell
+    c.requires.line.right.there in
+    let same = ap (λ (floor : Floor). length floor.last) c.self.view_is in
+    let count = c.self.inside.last.ok.0 in
+    let at_is = c.from.ensures in
+    omega arith
+
+pub returns-clause-played : goal.returns-clause-played
+returns-clause-played g c =
+    let callers = c.requires.floor.workers.callers in
+    let caller = c.requires.line.caller in
+    let inside : c.args.line.now.by.0 < length c.args.self.now.workers = omega arith in
+    plays_counted c.args.board.now c.args.line.now c.vector.result c.vector.ensures.form c.is_counted.result
+    c.is_counted.ensures c.requires.turn c.args.self.now c.hear.new.self c.work-2.new.self _
+    c.if-not-is_counted.false inside c.hear.ensures.heard c.work-2.ensures.turned
+    (acted c.self.inside.workers.items c.self.inside.tray c.self.inside.last.items c.work-2.new.self
+    c.self.view_is c.args.line.now.by c.args.line.now.on c.from.result c.from.ensures)
+
+pub returns-clause-of_board : goal.returns-clause-of_board
+returns-clause-of_board g c =
+    subst (λ (floor : Floor). IsFloorOf c.args.board.now floor)
+    (sym (acted c.self.inside.workers.items c.self.inside.tray c.self.inside.last.items
+    c.work-2.new.self c.self.view_is c.args.line.now.by c.args.line.now.on c.from.result
+    c.from.ensures))
+    (acted_fits c.args.board.now c.work-2.new.self c.work-2.ensures.of_board
+    c.args.line.now.by c.args.line.now.on c.requires.line.caller)

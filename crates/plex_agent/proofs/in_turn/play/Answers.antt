@@ -1,0 +1,63 @@
+use Rattle.std.proofs.Common.{List, Option, length, refl, sym, ◌∙◌, ap, subst, arith}
+use Rattle.plex_board.specs.Passes.{NoteShown}
+use Rattle.plex_board.specs.Boards.{IsTrayOf}
+use Rattle.plex_board.specs.Turns.{AtWork}
+use Rattle.plex_board.specs.Floors.{Floor}
+use Rattle.plex_agent.specs.Standing.{AreCallersOf, IsFloorOf}
+use Rattle.plex_agent.proofs.SeatedLaws.{new_callers, new_crew, new_desks-are, callers-desks}
+use Rattle.plex_agent.proofs.FloorLaws.{new_floor_is, new_floor_fits}
+use Rattle.plex_agent.proofs.in_turn.play.Goals as goal
+
+pub returns-in_default-clause-of_board : goal.returns-in_default-clause-of_board
+returns-in_default-clause-of_board g c =
+    new_desks-are c.args.board.now c.args.desks.items c.requires.desks c.args.desks.items refl
+
+pub returns-in_default-nobody-clause-of_board : goal.returns-in_default-nobody-clause-of_board
+returns-in_default-nobody-clause-of_board g c =
+    new_desks-are c.args.board.now c.args.desks.items c.requires.desks c.args.desks.items refl
+
+pub returns-in-Err-clause-of_board : goal.returns-in-Err-clause-of_board
+returns-in-Err-clause-of_board g c =
+    new_desks-are c.args.board.now c.args.desks.items c.requires.desks c.in-Err.desks.items
+    c.in-Err.ensures.handed_back
+
+pub play-played-requires-clause-start : goal.play-played-requires-clause-start
+play-played-requires-clause-start g c κs within =
+    new_floor_is c.args.board.now c.in-Ok-seat.seated.0.items c.in-Ok.tray c.in-Ok-nobody.last.items
+    c.structures.result
+    (new_crew c.args.board.now c.args.desks.items c.requires.desks c.in-Ok-seat.seated.0.items
+    c.in-Ok-seat.ensures.workers)
+    c.in-Ok.ensures.notes c.in-Ok-nobody.ensures c.structures.ensures
+
+pub play-played-requires-clause-floor : goal.play-played-requires-clause-floor
+play-played-requires-clause-floor g c κs within =
+    subst (λ (floor : Floor). IsFloorOf c.args.board.now floor)
+    (sym (play-played-requires-clause-start g c κs within))
+    (new_floor_fits c.args.board.now c.requires.few
+    (subst (λ (tray : List (Option NoteShown)). IsTrayOf c.args.board.now tray) c.in-Ok.ensures.notes
+    c.in-Ok.ensures.of_board))
+
+pub part-desks-requires : goal.part-desks-requires
+part-desks-requires g c =
+    let room = c.in-Ok-seat.ensures.room in
+    let came = ap (λ (it : List AtWork). length it)
+    (new_crew c.args.board.now c.args.desks.items c.requires.desks c.in-Ok-seat.seated.0.items
+    c.in-Ok-seat.ensures.workers)
+    ∙ (new_callers c.args.board.now).callers in
+    let left = ap (λ (floor : Floor). length floor.workers) c.floor.view_is
+    ∙ c.play-played.ensures.of_board.workers.callers in
+    let count = c.in-Ok-seat.seated.0.ok.0 in
+    let count' = c.floor.inside.workers.ok.0 in
+    omega arith
+
+pub returns-in-Ok-played-clause-of_board : goal.returns-in-Ok-played-clause-of_board
+returns-in-Ok-played-clause-of_board g c =
+    callers-desks c.args.board.now c.floor.inside.workers.items
+    (subst (λ (floor : Floor). AreCallersOf c.args.board.now floor.workers) (sym c.floor.view_is)
+    c.play-played.ensures.of_board.workers) c.part-desks.result.0.items c.part-desks.ensures.desks
+
+pub returns-in-Err-played-clause-of_board : goal.returns-in-Err-played-clause-of_board
+returns-in-Err-played-clause-of_board g c =
+    callers-desks c.args.board.now c.floor.inside.workers.items
+    (subst (λ (floor : Floor). AreCallersOf c.args.board.now floor.workers) (sym c.floor.view_is)
+    c.play-played.ensures.of_board.workers) c.part-desks.result.0.items c.part-desks.ensures.desks

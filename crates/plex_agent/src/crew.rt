@@ -1,0 +1,83 @@
+//! The callers of a script, who come to their desks, and leave them.
+ghost use Rattle.std.specs.Prelude.{◌≡◌, ◌≤◌, IfOk, IfErr, map};
+ghost use Rattle.std.specs.Vec.{vec_len};
+ghost use Rattle.plex_agent.specs.Crews.{idle_worker};
+
+use crate::worker::Worker;
+use plex_board::Desk;
+use plex_board::scripts::Transcript;
+use std::alloc::Global;
+use std::marker::Model;
+
+/// The memory that it takes to part so many callers from their desks.
+#[derive(Drop)]
+pub(crate) struct Room {
+    desks: Vec<Desk>,
+    shown: Vec<Transcript>,
+}
+
+impl Model for Room {
+    ghost use Rattle.std.specs.Prelude.{◌≡◌, ℕ, [], min};
+    ghost use Rattle.std.specs.Vec.{vec_capacity};
+
+    ghost Value = { ℕ };
+
+    ghost view = { λ r. min (vec_capacity r.desks) (vec_capacity r.shown) };
+
+    ghost invariant = { λ r. (r.desks.items ≡ []) × (r.shown.items ≡ []) };
+}
+
+/// The callers at these desks, none of which has done anything.
+///
+/// # Errors
+///
+/// Where there is no memory the desks come back.
+pub(crate) fn seat(alloc: Global, desks: Vec<Desk>) -> Result<(Vec<Worker>, Room), Vec<Desk>>
+    ensures workers { IfOk result (λ it. it.0.items ≡ map idle_worker desks.items) }
+    ensures room { IfOk result (λ it. vec_len it.0 ≤ it.1) }
+    ensures handed_back { IfErr result (λ back. back.items ≡ desks.items) }
+{
+    let callers = desks.len();
+    let Ok(mut workers) = Vec::with_capacity(alloc, callers) else {
+        return Err(desks);
+    };
+    let Ok(parted) = Vec::with_capacity(alloc, callers) else {
+        return Err(desks);
+    };
+    let Ok(shown) = Vec::with_capacity(alloc, callers) else {
+        return Err(desks);
+    };
+    for desk in desks {
+        workers.push_reserved(Worker::new(alloc, desk));
+    }
+    Ok((
+        workers,
+        Room {
+            desks: parted,
+            shown,
+        },
+    ))
+}
+
+impl Room {
+    /// The desks of all callers, and what each was shown. It takes no memory.
+    pub(crate) fn part(self, workers: Vec<Worker>) -> (Vec<Desk>, Vec<Transcript>)
+        requires { vec_len workers ≤ self }
+        ensures desks { result.0.items ≡ map (λ worker. worker.desk) workers.items }
+        ensures shown { result.1.items ≡ map (λ worker. worker.shown) workers.items }
+    {
+        let Room {
+            mut desks,
+            mut shown,
+        } = self;
+        for worker in workers {
+            let Worker {
+                desk,
+                shown: transcript,
+            } = worker;
+            desks.push_reserved(desk);
+            shown.push_reserved(transcript);
+        }
+        (desks, shown)
+    }
+}

@@ -1,5 +1,0 @@
-use Rattle.std.proofs.Common.{◌≡◌, replicate, None}
-use Rattle.plex_work.proofs.floor.nobody.Given as goal
-
-abbrev pub invariant-loop : goal.invariant-loop
-invariant-loop l = l.last.items ≡ replicate l.counter None

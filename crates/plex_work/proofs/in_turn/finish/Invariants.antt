@@ -1,8 +1,0 @@
-use Rattle.std.proofs.Common.{◌≢◌, take}
-use Rattle.std.specs.Prelude.{All}
-use Rattle.plex_script.specs.declared.transcripts.AgentEnd.TheVariants as ended
-use Rattle.plex_work.proofs.in_turn.finish.Given as goal
-
-abbrev pub invariant-loop-transcript : goal.invariant-loop-transcript
-invariant-loop-transcript l =
-    All (λ transcript. transcript.end ≢ ended.NoMemory) (take l.transcript-index l.transcript-items)

@@ -1,4 +1,0 @@
-pub mod Crews
-pub mod Exact
-pub mod Played
-pub mod Standing

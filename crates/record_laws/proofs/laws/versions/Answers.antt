@@ -1,5 +1,0 @@
-use Rattle.record_laws.proofs.VersionReplay.{versions-replay}
-use Rattle.record_laws.proofs.laws.versions.Goals as goal
-
-pub returns : goal.returns
-returns c = versions-replay c.args.form.now c.args.history.now c.requires.legal c.requires.few

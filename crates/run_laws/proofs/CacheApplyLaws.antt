@@ -1,0 +1,52 @@
+-- A command after others: copies are fresh, and changed pages that aren't cast out are kept.
+use Rattle.std.proofs.Common.{◌≡◌, ℕ, List, [], ◌∷◌, ◌++◌, refl, sym, ap, ◌∙◌, subst}
+use Rattle.plex_board.specs.CfTypes.declared.cache_commands.CacheCmd.{CacheCmd}
+use Rattle.plex_board.specs.CfTypes.declared.forms.Caps.{Caps}
+use Rattle.plex_board.specs.CfTypes.declared.numbers.ConnId.{ConnId}
+use Rattle.plex_board.specs.EngineApi.Meaning.{Held}
+use Rattle.plex_board.specs.CacheModel.Contents.{Content, no_content}
+use Rattle.plex_board.specs.CacheModel.Runs.{Deed, Copies, after_deed, after_run}
+use Rattle.plex_board.specs.CacheModel.Runs.Deed.{Calls}
+use Rattle.plex_board.proofs.CacheModel.ContentLaws.{orderly-content}
+use Rattle.plex_board.proofs.CacheModel.CopyLaws.{fresh-copy, content-run}
+use Rattle.plex_board.proofs.CacheModel.EngineLaws.{content-nothing}
+use Rattle.plex_board.proofs.CacheModel.UncastLaws.{uncast-kept}
+use Rattle.run_laws.specs.CacheApplied.{IsHeldAfter, content_applied, copies_then, uncast_then, AreFresh, AreKept}
+use Rattle.run_laws.specs.Unique.{IsUnique}
+use Rattle.run_laws.proofs.UniqueLaws.{unique-content}
+
+after_run-push : (vector : ℕ) (caps : Caps) (content : Content) (deeds : List Deed) (deed : Deed)
+    → after_run vector caps content (deeds ++ deed ∷ [])
+    ≡ after_deed vector caps (after_run vector caps content deeds) deed
+after_run-push vector caps content [] deed = refl
+after_run-push vector caps content (first ∷ deeds) deed =
+    after_run-push vector caps (after_deed vector caps content first) deeds deed
+
+-- the command is one deed more
+applied-run : (held : Held Content) (deeds : List Deed) (by : ConnId) (cmd : CacheCmd) → IsHeldAfter deeds held
+    → content_applied held by cmd ≡ after_run held.shape.vector held.caps no_content (deeds ++ Calls by cmd ∷ [])
+applied-run held deeds by cmd led =
+    ap (λ (content : Content). after_deed held.shape.vector held.caps content (Calls by cmd)) led
+    ∙ sym (after_run-push held.shape.vector held.caps no_content deeds (Calls by cmd))
+
+pub applied-fresh : (held : Held Content) (deeds : List Deed) (by : ConnId) (cmd : CacheCmd) (copies : Copies)
+    → IsHeldAfter deeds held → AreFresh (content_applied held by cmd) (copies_then held copies deeds by cmd)
+applied-fresh held deeds by cmd copies led =
+    subst (λ (content : Content). AreFresh content (copies_then held copies deeds by cmd))
+    (sym (applied-run held deeds by cmd led))
+    (λ conn index name there. fresh-copy held.shape.vector held.caps copies (deeds ++ Calls by cmd ∷ []) conn index
+    name there)
+
+pub applied-kept : (held : Held Content) (deeds : List Deed) (by : ConnId) (cmd : CacheCmd) → IsHeldAfter deeds held
+    → AreKept (content_applied held by cmd) (uncast_then held deeds by cmd)
+applied-kept held deeds by cmd led =
+    subst (λ (content : Content). AreKept content (uncast_then held deeds by cmd))
+    (sym (applied-run held deeds by cmd led))
+    (λ name. uncast-kept held.shape.vector held.caps (deeds ++ Calls by cmd ∷ []) name)
+
+pub applied-unique : (held : Held Content) (deeds : List Deed) (by : ConnId) (cmd : CacheCmd) → IsHeldAfter deeds held
+    → IsUnique (content_applied held by cmd)
+applied-unique held deeds by cmd led =
+    subst IsUnique (sym (applied-run held deeds by cmd led))
+    (unique-content _ (orderly-content held.caps _
+    (content-run held.shape.vector held.caps no_content (deeds ++ Calls by cmd ∷ []) (content-nothing held.caps))))

@@ -1,0 +1,99 @@
+-- What accepted commands are answered, read off the rows.
+use Rattle.std.proofs.Common.{◌≡◌, ℕ, true, List, Option, Some, None, is_some, option_map, unwrap_or, refl, ap, ◌∙◌}
+use Rattle.plex_board.specs.CfTypes.declared.cache_commands.CacheCmd.{CacheCmd}
+use Rattle.plex_board.specs.CfTypes.declared.cache_commands.CacheReply.{CacheReply}
+use Rattle.plex_board.specs.CfTypes.declared.cache_commands.CacheReply.TheVariants as replies
+use Rattle.plex_board.specs.CfTypes.declared.forms.Caps.{Caps}
+use Rattle.plex_board.specs.CfTypes.declared.forms.StrForm.{StrForm}
+use Rattle.plex_board.specs.CfTypes.declared.names.Name16.{Name16}
+use Rattle.plex_board.specs.CfTypes.declared.numbers.ConnId.{ConnId}
+use Rattle.plex_board.specs.CfTypes.declared.refusals.Refusal.{Refusal}
+use Rattle.plex_board.specs.EngineApi.declared.asks.Ask.TheVariants as ask
+use Rattle.plex_board.specs.EngineApi.declared.asks.Reply.TheVariants as reply
+use Rattle.plex_board.specs.EngineApi.History.{next_reply, replay}
+use Rattle.plex_board.specs.EngineApi.Machine.{Machine, unless, content_done, content_reply}
+use Rattle.plex_board.specs.EngineApi.Meaning.{unless_refused}
+use Rattle.plex_board.specs.EngineApi.Shell.{content_cause}
+use Rattle.plex_board.specs.CacheModel.declared.items.CacheItem.{CacheItem}
+use Rattle.plex_board.specs.CacheModel.Commands.Castout as castout
+use Rattle.plex_board.specs.CacheModel.Commands.Read as read
+use Rattle.plex_board.specs.CacheModel.Contents.{Content}
+use Rattle.plex_board.specs.CacheModel.Meaning.{cache_meaning}
+use Rattle.plex_board.specs.CacheModel.Rows.{row_of, row_or_new, is_changed, new_row}
+use Rattle.plex_board.specs.CacheModel.Runs.{reply_copy, copy_in}
+use Rattle.plex_board.specs.CacheModel.Step.{cause, done, reply as answer_to}
+use Rattle.plex_board.proofs.CacheModel.CopyLaws.{copy-row_or_new}
+use Rattle.run_laws.specs.CacheHistories.{CacheHistory, content_after}
+
+answer_unless : (caps : Caps) (content : Content) (by : ConnId) (cmd : CacheCmd) (answer : CacheReply)
+    (refusal : Option Refusal)
+    → content_reply (unless_refused refusal content (done caps content by cmd)).reply ≡ reply.Content answer
+    → answer ≡ answer_to content by cmd
+answer_unless caps content by cmd answer (Some refusal) told = absurd cc
+answer_unless caps content by cmd answer None told = cc
+
+-- an accepted command is answered as the content says
+pub answer-content : (form : StrForm) (history : CacheHistory) (by : ConnId) (cmd : CacheCmd) (answer : CacheReply)
+    → next_reply cache_meaning form history by (ask.Content cmd) ≡ reply.Content answer
+    → answer ≡ answer_to (content_after form history) by cmd
+answer-content form history by cmd answer told = go (content_cause machine.shell by) told
+  where
+    machine : Machine Content
+    machine = replay cache_meaning form history
+
+    go : (refused : Option Refusal)
+        → (unless cache_meaning form refused machine (content_done cache_meaning form machine by cmd)).reply
+        ≡ reply.Content answer
+        → answer ≡ answer_to machine.content by cmd
+    go (Some refusal) told = absurd cc
+    go None told =
+        answer_unless machine.shell.caps machine.content by cmd answer
+        (cause form.vector machine.shell.caps machine.content by cmd) told
+
+copy_of_data : (row : CacheItem) (body : Option (List ℕ))
+    → reply_copy (read.data_reply row body) ≡ option_map (λ data'. (data', row.adj)) body
+copy_of_data row None = refl
+copy_of_data row (Some body) = refl
+
+-- a READ brings the copy that the rows have
+pub copy-read : (rows : List CacheItem) (name : Name16) (stg : ℕ)
+    → reply_copy (read.reply rows name stg) ≡ copy_in rows name
+copy-read rows name stg =
+    let row : CacheItem = row_or_new name stg rows in copy_of_data row row.body ∙ copy-row_or_new name stg rows
+
+-- the row of a name that has one
+the_row : (rows : List CacheItem) (name : Name16) (stg : ℕ) (row : CacheItem) → row_of name rows ≡ Some row
+    → row_or_new name stg rows ≡ row
+the_row rows name stg row there = ap (λ (o : Option CacheItem). unwrap_or o (new_row name stg)) there
+
+read_data : (row : CacheItem) (body : List ℕ) (adj : Option (List ℕ)) (class : ℕ) (found : Option (List ℕ))
+    → found ≡ Some body → row.adj ≡ adj → row.class ≡ Some class
+    → read.data_reply row found ≡ replies.Data body adj true
+read_data row body adj class None has same changed = absurd cc
+read_data row body adj class (Some other) has same changed =
+    let is : other ≡ body = cc in
+    let now : is_changed row ≡ true = ap (λ (c : Option ℕ). is_some c) changed in
+    rw (is, same, now) refl
+
+-- a READ of a changed row answers its data and adjunct, and that it is changed
+pub read-changed : (rows : List CacheItem) (name : Name16) (stg : ℕ) (row : CacheItem) (body : List ℕ)
+    (adj : Option (List ℕ)) (class : ℕ)
+    → row_of name rows ≡ Some row → row.body ≡ Some body → row.adj ≡ adj → row.class ≡ Some class
+    → read.reply rows name stg ≡ replies.Data body adj true
+read-changed rows name stg row body adj class there has same changed =
+    ap (λ (r : CacheItem). read.data_reply r r.body) (the_row rows name stg row there)
+    ∙ read_data row body adj class row.body has same changed
+
+cast_data : (row : CacheItem) (body : List ℕ) (adj : Option (List ℕ)) (found : Option (List ℕ)) → found ≡ Some body
+    → row.adj ≡ adj → castout.data_reply row found ≡ replies.CastData body adj
+cast_data row body adj None has same = absurd cc
+cast_data row body adj (Some other) has same = let is : other ≡ body = cc in rw (is, same) refl
+
+-- a CASTOUT answers the row's data and adjunct
+pub castout-changed : (rows : List CacheItem) (name : Name16) (row : CacheItem) (body : List ℕ)
+    (adj : Option (List ℕ))
+    → row_of name rows ≡ Some row → row.body ≡ Some body → row.adj ≡ adj
+    → castout.reply rows name ≡ replies.CastData body adj
+castout-changed rows name row body adj there has same =
+    ap (λ (r : CacheItem). castout.data_reply r r.body) (the_row rows name 1 row there)
+    ∙ cast_data row body adj row.body has same

@@ -1,0 +1,41 @@
+-- A command asks for the records alone.
+use Rattle.std.proofs.Common.{◌≡◌, ℕ, List, [], ◌∷◌, refl, ap, ◌∙◌}
+use Rattle.plex_board.specs.CfTypes.declared.forms.Caps.{Caps}
+use Rattle.plex_board.specs.CfTypes.declared.lock_commands.LockCmd.{LockCmd}
+use Rattle.plex_board.specs.CfTypes.declared.lock_commands.LockCmd.TheVariants.{Obtain, Alter, Release, Decide, RtRead, RtDelete}
+use Rattle.plex_board.specs.CfTypes.declared.numbers.ConnId.{ConnId}
+use Rattle.plex_board.specs.EngineApi.declared.shapes.Shape.{Shape}
+use Rattle.plex_board.specs.EngineApi.Meaning.{unless_refused}
+use Rattle.plex_board.specs.LockModel.Contents.{Content}
+use Rattle.plex_board.specs.LockModel.Step.{cause, done}
+use Rattle.run_laws.specs.Entries.{step_at, replies_of}
+
+cause_same : (m n k : ℕ) (content : Content) (by : ConnId) (cmd : LockCmd)
+    → cause (record { entries = m; elements = k }) content by cmd
+    ≡ cause (record { entries = n; elements = k }) content by cmd
+cause_same m n k content by (Obtain r excl rec) = refl
+cause_same m n k content by (Alter r excl rec) = refl
+cause_same m n k content by (Release r) = refl
+cause_same m n k content by (Decide r conn how) = refl
+cause_same m n k content by (RtRead conn) = refl
+cause_same m n k content by (RtDelete conn r) = refl
+
+cause_agrees : (a b : Caps) → a.elements ≡ b.elements → (content : Content) (by : ConnId) (cmd : LockCmd)
+    → cause a content by cmd ≡ cause b content by cmd
+cause_agrees a b e content by cmd =
+    cause_same a.entries b.entries a.elements content by cmd
+    ∙ ap (λ (n : ℕ). cause (record { entries = b.entries; elements = n }) content by cmd) e
+
+pub step-agrees : (a b : Caps) → a.elements ≡ b.elements → (shape : Shape) (content : Content) (by : ConnId)
+    (cmd : LockCmd) → step_at a shape content by cmd ≡ step_at b shape content by cmd
+step-agrees a b e shape content by cmd =
+    ap (λ refusal. unless_refused refusal content (done content by cmd)) (cause_agrees a b e content by cmd)
+
+pub replies-agree : (a b : Caps) → a.elements ≡ b.elements → (shape : Shape) (content : Content)
+    (commands : List (ConnId × LockCmd)) → replies_of a shape content commands ≡ replies_of b shape content commands
+replies-agree a b e shape content [] = refl
+replies-agree a b e shape content (command ∷ commands) =
+    let same = step-agrees a b e shape content command.0 command.1 in
+    ap (λ step. step.reply ∷ replies_of a shape step.state commands) same
+    ∙ ap (λ l. (step_at b shape content command.0 command.1).reply ∷ l)
+    (replies-agree a b e shape (step_at b shape content command.0 command.1).state commands)

@@ -1,0 +1,139 @@
+-- A bit that stands tells a fresh copy.
+use Rattle.std.proofs.Common.{◌≡◌, ℕ, true, [], ◌∷◌, ◌++◌, Option, None, Some, is_some, option_map, take, drop, inl, inr, append-nil, refl, sym, ap, ◌∙◌, subst}
+use Rattle.std.specs.Prelude.{IsTrue, option_and_then, find}
+use Rattle.std.proofs.lemmas.Bool.{false≢true}
+use Rattle.std.proofs.lemmas.List.{take-append-drop}
+use Rattle.plex_board.specs.CfTypes.declared.cache_commands.CacheCmd.TheVariants.{Read}
+use Rattle.plex_board.specs.CfTypes.declared.forms.StrForm.{StrForm}
+use Rattle.plex_board.specs.CfTypes.declared.names.Name16.{Name16}
+use Rattle.plex_board.specs.CfTypes.declared.numbers.ConnId.{ConnId}
+use Rattle.plex_board.specs.EngineApi.History.{Continues, Tells, last_call_below, stands_after}
+use Rattle.plex_board.proofs.EngineApi.HistoryLaws.{continues_legal}
+use Rattle.plex_board.proofs.CfLists.FilterLaws.{any_is_found, all_found}
+use Rattle.plex_board.specs.CacheRegs.declared.registrations.Registration.{Registration}
+use Rattle.plex_board.specs.CacheRegs.Registrations.{is_at, registered_at}
+use Rattle.plex_board.specs.CacheModel.declared.items.CacheItem.{CacheItem}
+use Rattle.plex_board.specs.CacheModel.Contents.{Content}
+use Rattle.plex_board.specs.CacheModel.Meaning.{cache_meaning}
+use Rattle.plex_board.specs.CacheModel.Rows.{is_row_of, row_of, has_row}
+use Rattle.plex_board.specs.CacheModel.Runs.{copy_in, reply_copy, row_copy}
+use Rattle.plex_board.proofs.CacheModel.CopyLaws.{fresh-at}
+use Rattle.run_laws.specs.Copies.{copy_held, IsAsRead, IsFresh, TellsFresh}
+use Rattle.run_laws.specs.CacheHistories.{CacheHistory, IsLegalCache, content_after}
+use Rattle.run_laws.proofs.CacheReplies.{answer-content, copy-read}
+use Rattle.run_laws.proofs.CacheTraces.{HasTrace, trace-continues}
+use Rattle.run_laws.proofs.UniqueLaws.{orderly-replay}
+
+-- ---- what is held is what the name's row has
+
+held-registered : (form : StrForm) (history : CacheHistory) (conn : ConnId) (index : ℕ) (name : Name16)
+    → HasTrace form history
+    → registered_at (content_after form history).regs conn index ≡ Some name
+    → copy_held history conn index ≡ copy_in (content_after form history).rows name
+held-registered form history conn index name trace there =
+    fresh-at (content_after form history).rows (copy_held history) conn index name (content_after form history).regs
+    trace there
+
+-- ---- the registration of a bit that stands, and its row
+
+found_row : (o : Option CacheItem) → is_some o ≡ true → (row : CacheItem) × (o ≡ Some row)
+found_row None e = absurd (false≢true e)
+found_row (Some row) e = (row, refl)
+
+fresh_at : (form : StrForm) (history : CacheHistory) (conn : ConnId) (index : ℕ) (found : Option Registration)
+    → HasTrace form history
+    → stands_after cache_meaning form history conn index ≡ true
+    → find (is_at conn index) (content_after form history).regs ≡ found → is_some found ≡ true
+    → IsFresh form history conn index
+fresh_at form history conn index None trace stands there e = absurd (false≢true e)
+fresh_at form history conn index (Some reg) trace stands there e =
+    let content : Content = content_after form history in
+    let is = orderly-replay form history in
+    let named : registered_at content.regs conn index ≡ Some reg.name =
+    ap (λ (o : Option Registration). option_map (λ (r : Registration). r.name) o) there in
+    let has : has_row reg.name content.rows ≡ true =
+    all_found (is_at conn index) (λ (r : Registration). has_row r.name content.rows) content.regs reg is.row_each
+    there
+    in
+    let row = found_row (row_of reg.name content.rows) (sym (any_is_found (is_row_of reg.name) content.rows) ∙ has) in
+    record {
+      name = reg.name;
+      row = row.0;
+      stands = stands;
+      registered = named;
+      there = row.1;
+      same = held-registered form history conn index reg.name trace named
+          ∙ ap (λ (o : Option CacheItem). option_and_then row_copy o) row.1;
+    }
+
+fresh-trace : (form : StrForm) (history : CacheHistory) (conn : ConnId) (index : ℕ) → HasTrace form history
+    → stands_after cache_meaning form history conn index ≡ true → IsFresh form history conn index
+fresh-trace form history conn index trace stands =
+    fresh_at form history conn index (find (is_at conn index) (content_after form history).regs) trace stands refl
+    (sym (any_is_found (is_at conn index) (content_after form history).regs) ∙ stands)
+
+-- ---- legal histories, and what stands at their front
+
+continues_front : (form : StrForm) (history front others : CacheHistory)
+    → Continues cache_meaning form history (front ++ others)
+    → Continues cache_meaning form history front
+continues_front form history [] others goes = tt
+continues_front form history (entry ∷ front) others goes = (
+  goes.0,
+  continues_front form
+      (history ++ entry ∷ []) front others goes.1,
+)
+
+pub trace-legal : (form : StrForm) (front others : CacheHistory) → IsLegalCache form (front ++ others)
+    → HasTrace form front
+trace-legal form front others legal =
+    trace-continues form front
+    (continues_front form [] front others (continues_legal cache_meaning form (front ++ others) legal))
+
+trace-take : (form : StrForm) (history : CacheHistory) (n : ℕ) → IsLegalCache form history
+    → HasTrace form (take n history)
+trace-take form history n legal =
+    trace-legal form (take n history) (drop n history)
+    (subst (IsLegalCache form) (sym (take-append-drop n history)) legal)
+
+-- after a legal history each bit that stands tells a fresh copy
+pub fresh-copy : (form : StrForm) (history : CacheHistory) → IsLegalCache form history → (conn : ConnId) (index : ℕ)
+    → IsTrue (stands_after cache_meaning form history conn index) → IsFresh form history conn index
+fresh-copy form history legal conn index stands =
+    fresh-trace form history conn index
+    (trace-legal form history [] (subst (IsLegalCache form) (sym (append-nil history)) legal)) stands
+
+-- a test that tells that the bit stands tells a fresh copy
+pub fresh-test : (form : StrForm) (history : CacheHistory) → IsLegalCache form history
+    → (n q : ℕ) (conn : ConnId) (index : ℕ)
+    → Tells cache_meaning form history n q conn index true → TellsFresh form history n q conn index
+fresh-test form history legal n q conn index tells =
+    record {
+      point = tells.point;
+      seen = tells.seen;
+      fresh = elim tells.stood [
+        | inl stood ↦ inl (fresh-trace form (take n history) conn index (trace-take form history n legal) (sym stood))
+        | inr stood ↦
+            let at : ℕ = last_call_below history n in
+            inr (
+              stood.0,
+              fresh-trace form (take at history) conn index (trace-take form history at legal)
+                  (sym stood.1),
+            )
+      ];
+    }
+
+-- and so an accepted READ of its name, by anyone, is answered with what is held
+pub copy-as-read : (form : StrForm) (history : CacheHistory) → IsLegalCache form history → (conn : ConnId) (index : ℕ)
+    → IsTrue (stands_after cache_meaning form history conn index) → IsAsRead form history conn index
+copy-as-read form history legal conn index stands =
+    let fresh = fresh-copy form history legal conn index stands in
+    let rows = (content_after form history).rows in
+    record {
+      name = fresh.name;
+      registered = fresh.registered;
+      same = λ by at old stg answer told.
+          ap reply_copy (answer-content form history by (Read fresh.name at old stg) answer told)
+          ∙ copy-read rows fresh.name stg ∙ ap (λ (o : Option CacheItem). option_and_then row_copy o) fresh.there
+          ∙ sym fresh.same;
+    }

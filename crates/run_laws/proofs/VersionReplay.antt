@@ -1,0 +1,543 @@
+-- After every legal history the version of each record is 1 plus the number of its updates.
+use Rattle.std.proofs.Common.{◌≡◌, ℕ, zero, suc, ◌+◌, ◌<◌, ◌≤◌, ◌==◌, ◌&&◌, ◌||◌, Bool, true, false, not, cond, if◌then◌else◌, List, [], ◌∷◌, ◌++◌, Option, Some, None, length, length-append, append_assoc, append-nil, filter, nat_lt, replicate, refl, sym, ap, ◌∙◌, subst, arith}
+use Rattle.std.specs.Prelude.{fold}
+use Rattle.std.specs.List.{list_all, list_any}
+use Rattle.std.proofs.lemmas.Bool.{and_parts, and_from, or_parts, eqb-true, false≢true}
+use Rattle.std.proofs.lemmas.Bool.Decides.{nat_tests}
+use Rattle.std.proofs.lemmas.List.Folds.{list_all-append, list_any-append, list_all-map}
+use Rattle.std.proofs.lemmas.List.{length-map, map-append}
+use Rattle.std.proofs.lemmas.List.Sums.{fold-append}
+use Rattle.plex_board.specs.CfTypes.declared.forms.Caps.{Caps}
+use Rattle.plex_board.specs.CfTypes.declared.forms.StrForm.{StrForm}
+use Rattle.plex_board.specs.CfTypes.declared.list_commands.ListCmd.{ListCmd}
+use Rattle.plex_board.specs.CfTypes.declared.list_commands.ListCmd.TheVariants.{Write, Update, Read, Move, Delete, ReadList, LockSet, LockReset, LockTest, LControls, SetLimit, Monitor, Unmonitor}
+use Rattle.plex_board.specs.CfTypes.declared.list_commands.ListReply.{ListReply}
+use Rattle.plex_board.specs.CfTypes.declared.numbers.ConnId.{ConnId}
+use Rattle.plex_board.specs.CfTypes.declared.numbers.EntryId.{EntryId}
+use Rattle.plex_board.specs.CfTypes.declared.refusals.Refusal.{Refusal}
+use Rattle.plex_board.specs.EngineApi.declared.shapes.Shape.{Shape}
+use Rattle.plex_board.specs.EngineApi.History.{replay}
+use Rattle.plex_board.specs.EngineApi.Meaning.{Held, unless_refused}
+use Rattle.plex_board.specs.EngineApi.Shapes.{shape_of}
+use Rattle.plex_board.proofs.EngineApi.HistoryLaws.{continues_legal}
+use Rattle.plex_board.proofs.CfLists.FilterLaws.{list_all-filter, list_all_weaker, all_found, found_passes}
+use Rattle.plex_board.proofs.CfLists.InsertionLaws.{list_all-insertion}
+use Rattle.plex_board.specs.CfLists.Insertions.{insertion}
+use Rattle.plex_board.specs.ListStore.Record.{Record}
+use Rattle.plex_board.specs.ListStore.Lists.{Lists, records_of, all_records, is_id, lists_without, replaced_by}
+use Rattle.plex_board.specs.ListModel.Contents.{Content, headers_of, no_content, content_without}
+use Rattle.plex_board.specs.ListModel.Lists.{the_record, stands_before, with_record}
+use Rattle.plex_board.specs.ListModel.Meaning.{list_meaning}
+use Rattle.plex_board.specs.ListModel.Commands.Update as update
+use Rattle.plex_board.specs.ListModel.Commands.Move as move
+use Rattle.plex_board.specs.ListModel.Commands.Write as write
+use Rattle.plex_board.specs.ListModel.Step.{causes, cause, done}
+use Rattle.plex_board.proofs.ListModel.ContentLaws.{none_hold, the_record-in}
+use Rattle.plex_board.proofs.ListModel.ListLaws.{with-all, each-records, one-records, all-without, all-map}
+use Rattle.plex_board.proofs.ShellLaws.Keeping.{IsTraced}
+use Rattle.plex_board.proofs.ShellLaws.ReplayLaws.{traced-replay, legal-answered}
+use Rattle.run_laws.specs.ListHistories.{Told, ListEntry, ListHistory, told_by, told_in, IsLegalList, content_after}
+use Rattle.run_laws.specs.ListApplied.{Deed, IsHeldAfter, after_deed, opened, told_reply, told_of, told_from, told_then, content_applied}
+use Rattle.run_laws.specs.ListApplied.Deed.{Calls, Leaves, Returns}
+use Rattle.run_laws.specs.Versions.{is_write, is_update, answers, tells, makes, updates, AreVersioned}
+
+-- ---- counting
+
+-- the updates since the last WRITE, one entry after another
+abbrev counted : EntryId → ℕ → Told → ℕ
+counted id n entry = cond (makes id entry) 0 (cond (updates id entry) (n + 1) n)
+
+abbrev updates_of : EntryId → List Told → ℕ
+updates_of id history = fold (counted id) 0 history
+
+count-le : (made updated : Bool) (n : ℕ) → cond made 0 (cond updated (n + 1) n) ≤ n + 1
+count-le true updated n = omega arith
+count-le false true n = omega arith
+count-le false false n = omega arith
+
+counts-le : (id : EntryId) (n : ℕ) (history : List Told) → fold (counted id) n history ≤ n + length history
+counts-le id n [] = omega arith
+counts-le id n (entry ∷ history) =
+    omega (
+      arith,
+      counts-le id (counted id n entry) history,
+      count-le (makes id entry) (updates id entry) n,
+    )
+
+updates-push : (id : EntryId) (history : List Told) (entry : Told)
+    → updates_of id (history ++ entry ∷ []) ≡ counted id (updates_of id history) entry
+updates-push id history entry = fold-append (counted id) 0 history (entry ∷ [])
+
+made-push : (id : EntryId) (history : List Told) (entry : Told)
+    → list_any (makes id) (history ++ entry ∷ []) ≡ list_any (makes id) history || (makes id entry || false)
+made-push id history entry = list_any-append (makes id) history (entry ∷ [])
+
+-- ---- what is known of a record
+
+-- its id was given, a WRITE made it, and its version is 1 plus its updates
+abbrev is_good : List Told → ℕ → Record → Bool
+is_good history next rec =
+    nat_lt rec.id.0 next && (list_any (makes rec.id) history && rec.version == 1 + updates_of rec.id history)
+
+record IsGood (history : List Told) (next : ℕ) (rec : Record) : Type 0 where
+  given : nat_lt rec.id.0 next ≡ true
+  made : list_any (makes rec.id) history ≡ true
+  version : rec.version ≡ 1 + updates_of rec.id history
+
+same_number : (a b : ℕ) → a ≡ b → (a == b) ≡ true
+same_number a b e = grind (arith, nat_tests)
+
+good_parts : (history : List Told) (next : ℕ) (rec : Record) → is_good history next rec ≡ true
+    → IsGood history next rec
+good_parts history next rec h =
+    let version : Bool = rec.version == 1 + updates_of rec.id history in
+    let parts = and_parts (nat_lt rec.id.0 next) (list_any (makes rec.id) history && version) h in
+    let behind_ = and_parts (list_any (makes rec.id) history) version parts.1 in
+    record {
+      given = parts.0;
+      made = behind_.0;
+      version = eqb-true rec.version (1 + updates_of rec.id history) behind_.1;
+    }
+
+good_from : (history : List Told) (next : ℕ) (rec : Record) → IsGood history next rec
+    → is_good history next rec ≡ true
+good_from history next rec is =
+    let version : Bool = rec.version == 1 + updates_of rec.id history in
+    and_from (nat_lt rec.id.0 next) (list_any (makes rec.id) history && version) is.given
+    (and_from (list_any (makes rec.id) history) version is.made
+    (same_number rec.version (1 + updates_of rec.id history) is.version))
+
+-- the entry tells neither a WRITE nor an UPDATE of the record
+record Spares (id : EntryId) (entry : Told) : Type 0 where
+  made : makes id entry ≡ false
+  updated : updates id entry ≡ false
+
+or_first : (a b : Bool) → a ≡ true → a || b ≡ true
+or_first true b e = refl
+or_first false b e = absurd (false≢true e)
+
+counted_none : (made updated : Bool) (n : ℕ) → made ≡ false → updated ≡ false
+    → cond made 0 (cond updated (n + 1) n) ≡ n
+counted_none false false n e f = refl
+counted_none true updated n e f = absurd (false≢true (sym e))
+counted_none false true n e f = absurd (false≢true (sym f))
+
+counted_one : (made updated : Bool) (n : ℕ) → made ≡ false → updated ≡ true
+    → cond made 0 (cond updated (n + 1) n) ≡ n + 1
+counted_one false true n e f = refl
+counted_one true updated n e f = absurd (false≢true (sym e))
+counted_one false false n e f = absurd (false≢true f)
+
+counted_new : (made updated : Bool) (n : ℕ) → made ≡ true → cond made 0 (cond updated (n + 1) n) ≡ 0
+counted_new true updated n e = refl
+counted_new false updated n e = absurd (false≢true e)
+
+made_longer : (id : EntryId) (history : List Told) (entry : Told) → list_any (makes id) history ≡ true
+    → list_any (makes id) (history ++ entry ∷ []) ≡ true
+made_longer id history entry h = made-push id history entry ∙ or_first (list_any (makes id) history) _ h
+
+good-spared : (history : List Told) (entry : Told) (next later : ℕ) (rec : Record) → Spares rec.id entry
+    → (nat_lt rec.id.0 next ≡ true → nat_lt rec.id.0 later ≡ true)
+    → is_good history next rec ≡ true → is_good (history ++ entry ∷ []) later rec ≡ true
+good-spared history entry next later rec spares given h =
+    let is = good_parts history next rec h in
+    good_from (history ++ entry ∷ []) later rec (record {
+      given = given is.given;
+      made = made_longer rec.id history entry is.made;
+      version = is.version ∙ ap (λ n. 1 + n) (sym (updates-push rec.id history entry ∙ counted_none
+          (makes rec.id entry)
+          (updates rec.id entry) (updates_of rec.id history) spares.made spares.updated));
+    })
+
+below_most : (a n m : ℕ) → a ≡ 1 + n → n ≤ 0 + m → m + 1 < 4294967295 → nat_lt a 4294967295 ≡ true
+below_most a n m e h few = grind (arith, nat_tests)
+
+risen : (b : Bool) (n : ℕ) → b ≡ true → (if b then n + 1 else 1) ≡ n + 1
+risen true n e = refl
+risen false n e = absurd (false≢true e)
+
+one_later : (n m : ℕ) → n ≡ 1 + m → n + 1 ≡ 1 + (m + 1)
+one_later n m e = omega (arith, e)
+
+good-updated : (history : List Told) (entry : Told) (next : ℕ) (rec : Record) (body adj : Option (List ℕ))
+    → makes rec.id entry ≡ false → updates rec.id entry ≡ true → length history + 1 < 4294967295
+    → is_good history next rec ≡ true
+    → is_good (history ++ entry ∷ []) next (update.with_new_data body adj rec) ≡ true
+good-updated history entry next rec body adj unmade updated few h =
+    let is = good_parts history next rec h in
+    let count = updates_of rec.id history in
+    let low = below_most rec.version count (length history) is.version (counts-le rec.id 0 history) few in
+    good_from (history ++ entry ∷ []) next (update.with_new_data body adj rec) (record {
+      given = is.given;
+      made = made_longer rec.id history entry is.made;
+      version = risen (nat_lt rec.version 4294967295) rec.version low ∙ one_later rec.version count is.version
+          ∙ ap (λ n. 1 + n) (sym (updates-push rec.id history entry ∙ counted_one (makes rec.id entry)
+          (updates rec.id entry) count unmade updated));
+    })
+
+good-made : (history : List Told) (entry : Told) (next : ℕ) (rec : Record) → makes rec.id entry ≡ true
+    → rec.version ≡ 1 → nat_lt rec.id.0 next ≡ true
+    → is_good (history ++ entry ∷ []) next rec ≡ true
+good-made history entry next rec made first given =
+    good_from (history ++ entry ∷ []) next rec (record {
+      given = given;
+      made = made-push rec.id history entry ∙ or_last (list_any (makes rec.id) history) (makes rec.id entry) made;
+      version = first ∙ ap (λ n. 1 + n) (sym (updates-push rec.id history entry ∙ counted_new (makes rec.id entry)
+          (updates rec.id entry) (updates_of rec.id history) made));
+    })
+  where
+    or_last : (a b : Bool) → b ≡ true → a || (b || false) ≡ true
+    or_last true b e = refl
+    or_last false true e = refl
+    or_last false false e = absurd (false≢true e)
+
+-- ---- all records of a content
+
+all_flat : (p : Record → Bool) (lists : Lists) → list_all p (all_records lists) ≡ list_all (list_all p) lists
+all_flat p [] = refl
+all_flat p (records ∷ lists) =
+    list_all-append p records (all_records lists) ∙ ap (λ b. list_all p records && b) (all_flat p lists)
+
+all-with_record : (p : Record → Bool) (head : Bool) (header : ℕ) (rec : Record) (lists : Lists) → p rec ≡ true
+    → list_all p (all_records lists) ≡ true
+    → list_all p (all_records (with_record head header rec lists)) ≡ true
+all-with_record p head header rec lists e h =
+    let before = stands_before head rec in
+    let each = sym (all_flat p lists) ∙ h in
+    let records = records_of lists header in
+    all_flat p (with_record head header rec lists)
+    ∙ each-records (list_all p) lists header (insertion before rec records)
+    (list_all-insertion p before rec records ∙ and_from (p rec) (list_all p records) e
+    (one-records (list_all p) lists header refl each)) each
+
+all-left : (p : Record → Bool) (id : EntryId) (lists : Lists) → list_all p (all_records lists) ≡ true
+    → list_all p (all_records (lists_without id lists)) ≡ true
+all-left p id lists h =
+    ap (list_all p) (all-without id lists) ∙ list_all-filter p (λ rec. not (is_id id rec)) (all_records lists) h
+
+all-nothing : (p : Record → Bool) (n : ℕ) → list_all p (all_records (replicate n [])) ≡ true
+all-nothing p zero = refl
+all-nothing p (suc n) = all-nothing p n
+
+-- ---- one entry more
+
+-- as long as a history has fewer entries than there are versions
+abbrev AreGood : List Told → Content → Type 0
+AreGood history content =
+    length history < 4294967295 → list_all (is_good history content.next) (all_records content.lists) ≡ true
+
+fewer : (history : List Told) (entry : Told) → length (history ++ entry ∷ []) < 4294967295
+    → length history + 1 < 4294967295
+fewer history entry few = omega (arith, few, length-append history (entry ∷ []))
+
+quiet : (entry : Told) (id : EntryId) → entry ≡ None → Spares id entry
+quiet entry id none =
+    record { made = ap (tells is_write id) none; updated = ap (tells is_update id) none }
+
+abbrev done_as : ListCmd → ListReply → Told
+done_as command answer = Some (record { command = command; answer = answer })
+
+dull : (entry : Told) (id : EntryId) (cmd : ListCmd) (answer : ListReply) → entry ≡ done_as cmd answer
+    → is_write cmd ≡ false → is_update cmd ≡ false → Spares id entry
+dull entry id cmd answer e w u =
+    record {
+      made = ap (tells is_write id) e ∙ ap (λ b. b && answers id answer) w;
+      updated = ap (tells is_update id) e ∙ ap (λ b. b && answers id answer) u;
+    }
+
+-- the same records, none of them written or updated
+good-same : (history : List Told) (entry : Told) (next : ℕ) (recs : List Record) → ((id : EntryId) → Spares id entry)
+    → list_all (is_good history next) recs ≡ true → list_all (is_good (history ++ entry ∷ []) next) recs ≡ true
+good-same history entry next recs spares =
+    list_all_weaker (is_good history next) (is_good (history ++ entry ∷ []) next)
+    (λ rec h. good-spared history entry next next rec (spares rec.id) (λ e. e) h) recs
+
+apart : (a n : ℕ) → nat_lt a n ≡ true → (n == a) ≡ false
+apart a n h = grind (arith, nat_tests)
+
+later : (a n : ℕ) → nat_lt a n ≡ true → nat_lt a (n + 1) ≡ true
+later a n h = grind (arith, nat_tests)
+
+is_next : (n : ℕ) → nat_lt n (n + 1) ≡ true
+is_next n = grind (arith, nat_tests)
+
+same : (n : ℕ) → (n == n) ≡ true
+same n = grind (arith, nat_tests)
+
+turn : (a b : ℕ) → (a == b) ≡ (b == a)
+turn a b = grind (arith, nat_tests)
+
+good-written : (history : List Told) (entry : Told) (next : ℕ) (rec : Record) (cmd : ListCmd) (answer : ListReply)
+    → entry ≡ done_as cmd answer → is_update cmd ≡ false
+    → ((id : EntryId) → is_write cmd && answers id answer ≡ (next == id.0))
+    → is_good history next rec ≡ true → is_good (history ++ entry ∷ []) (next + 1) rec ≡ true
+good-written history entry next rec cmd answer e u own h =
+    let given = (good_parts history next rec h).given in
+    good-spared history entry next (next + 1) rec (record {
+      made = ap (tells is_write rec.id) e ∙ own rec.id ∙ apart rec.id.0 next given;
+      updated = ap (tells is_update rec.id) e ∙ ap (λ b. b && answers rec.id answer) u;
+    }) (later rec.id.0 next) h
+
+-- where a record is replaced by itself of the next version
+good-replaced : (history : List Told) (entry : Told) (next : ℕ) (rec other : Record) (body adj : Option (List ℕ))
+    → length history + 1 < 4294967295 → ((id : EntryId) → makes id entry ≡ false)
+    → ((id : EntryId) → updates id entry ≡ (rec.id.0 == id.0))
+    → is_good history next rec ≡ true → is_good history next other ≡ true
+    → is_good (history ++ entry ∷ []) next (replaced_by (update.with_new_data body adj rec) other) ≡ true
+good-replaced history entry next rec other body adj few unmade updated h k = go (is_id rec.id other) refl
+  where
+    go : (b : Bool) → is_id rec.id other ≡ b
+        → is_good (history ++ entry ∷ []) next (if b then update.with_new_data body adj rec else other) ≡ true
+    go true e =
+        good-updated history entry next rec body adj (unmade rec.id) (updated rec.id ∙ same rec.id.0) few h
+    go false e =
+        good-spared history entry next next other (record {
+          made = unmade other.id;
+          updated = updated other.id ∙ turn rec.id.0 other.id.0 ∙ e;
+        }) (λ f. f) k
+
+done-good : (shape : Shape) (caps : Caps) (content : Content) (by : ConnId) (cmd : ListCmd) (history : List Told)
+    (entry : Told) → entry ≡ done_as cmd (done content by cmd).reply
+    → cause shape caps content by cmd ≡ None
+    → length history + 1 < 4294967295
+    → list_all (is_good history content.next) (all_records content.lists) ≡ true
+    → list_all (is_good (history ++ entry ∷ []) (done content by cmd).state.next)
+    (all_records (done content by cmd).state.lists) ≡ true
+done-good shape caps content by (Write header head name key body adj cond) history entry e none few h =
+    let cmd = Write header head name key body adj cond in
+    let answer = write.reply content in
+    let rec = write.new_record content name key body adj in
+    let next = content.next in
+    let good = is_good (history ++ entry ∷ []) (next + 1) in
+    all-with_record good head header rec content.lists
+    (good-made history entry (next + 1) rec (ap (tells is_write rec.id) e ∙ same next) refl (is_next next))
+    (list_all_weaker (is_good history next) good
+    (λ old k. good-written history entry next old cmd answer e refl (λ id. refl) k) (all_records content.lists) h)
+done-good shape caps content by (Update at body adj version cond) history entry e none few h =
+    let cmd = Update at body adj version cond in
+    let holds = none_hold (causes shape caps content by cmd) none in
+    let rec = the_record content.lists at in
+    let all = all_records content.lists in
+    let next = content.next in
+    let good = is_good (history ++ entry ∷ []) next in
+    let i = the_record-in content.lists at holds.1.1.1.1.0 in
+    let own = with-all (is_good history next) rec i.others all i.with_it h in
+    let f = replaced_by (update.with_new_data body adj rec) in
+    ap (list_all good) (all-map f content.lists)
+    ∙ list_all-map good f all
+    ∙ list_all_weaker (is_good history next) (λ other. good (f other))
+    (λ other k. good-replaced history entry next rec other body adj few (λ id. ap (tells is_write id) e)
+    (λ id. ap (tells is_update id) e) own k) all h
+done-good shape caps content by (Move at header head key version cond) history entry e none few h =
+    let cmd = Move at header head key version cond in
+    let holds = none_hold (causes shape caps content by cmd) none in
+    let old = the_record content.lists at in
+    let all = all_records content.lists in
+    let next = content.next in
+    let good = is_good (history ++ entry ∷ []) next in
+    let now = good-same history entry next all (λ id. dull entry id cmd (done content by cmd).reply e refl refl) h in
+    let i = the_record-in content.lists at holds.1.1.1.1.0 in
+    all-with_record good head header (move.with_new_key key old) (lists_without old.id content.lists)
+    (with-all good old i.others all i.with_it now) (all-left good old.id content.lists now)
+done-good shape caps content by (Delete at version cond) history entry e none few h =
+    let cmd = Delete at version cond in
+    let next = content.next in
+    all-left (is_good (history ++ entry ∷ []) next) (the_record content.lists at).id content.lists
+    (good-same history entry next (all_records content.lists)
+    (λ id. dull entry id cmd (done content by cmd).reply e refl refl) h)
+done-good shape caps content by (Read at cond) history entry e none few h =
+    good-same history entry content.next (all_records content.lists) (λ id. dull entry id _ _ e refl refl) h
+done-good shape caps content by (ReadList header) history entry e none few h =
+    good-same history entry content.next (all_records content.lists) (λ id. dull entry id _ _ e refl refl) h
+done-good shape caps content by (LockSet lock) history entry e none few h =
+    good-same history entry content.next (all_records content.lists) (λ id. dull entry id _ _ e refl refl) h
+done-good shape caps content by (LockReset lock) history entry e none few h =
+    good-same history entry content.next (all_records content.lists) (λ id. dull entry id _ _ e refl refl) h
+done-good shape caps content by (LockTest lock) history entry e none few h =
+    good-same history entry content.next (all_records content.lists) (λ id. dull entry id _ _ e refl refl) h
+done-good shape caps content by (LControls header) history entry e none few h =
+    good-same history entry content.next (all_records content.lists) (λ id. dull entry id _ _ e refl refl) h
+done-good shape caps content by (SetLimit header n) history entry e none few h =
+    good-same history entry content.next (all_records content.lists) (λ id. dull entry id _ _ e refl refl) h
+done-good shape caps content by (Monitor header index) history entry e none few h =
+    good-same history entry content.next (all_records content.lists) (λ id. dull entry id _ _ e refl refl) h
+done-good shape caps content by (Unmonitor header) history entry e none few h =
+    good-same history entry content.next (all_records content.lists) (λ id. dull entry id _ _ e refl refl) h
+
+-- an entry that does no command on the content, and leaves the records
+quiet-good : (history : List Told) (entry : Told) (next : ℕ) (lists : Lists) → entry ≡ None
+    → (length history < 4294967295 → list_all (is_good history next) (all_records lists) ≡ true)
+    → length (history ++ entry ∷ []) < 4294967295
+    → list_all (is_good (history ++ entry ∷ []) next) (all_records lists) ≡ true
+quiet-good history entry next lists none is few =
+    good-same history entry next (all_records lists) (λ id. quiet entry id none)
+    (is (omega (arith, fewer history entry few)))
+
+good-nothing : (history : List Told) (shape : Shape) → AreGood history (no_content shape)
+good-nothing history shape few = all-nothing (is_good history 1) (headers_of shape.kind)
+
+-- what an entry tells comes behind what the history told
+longer : (history : ListHistory) (entry : ListEntry) (content : Content)
+    → AreGood (told_in history ++ told_by entry ∷ []) content → AreGood (told_in (history ++ entry ∷ [])) content
+longer history entry content =
+    subst (λ (l : List Told). AreGood l content) (sym (map-append told_by history (entry ∷ [])))
+
+left_alone : (history : ListHistory) (entry : ListEntry) (before after : Content) → told_by entry ≡ None
+    → after.lists ≡ before.lists → after.next ≡ before.next → AreGood (told_in history) before
+    → AreGood (told_in (history ++ entry ∷ [])) after
+left_alone history entry before after none same_lists same_next is =
+    longer history entry after
+    (λ few. rw (same_lists, same_next) (quiet-good (told_in history) (told_by entry) before.next before.lists none is
+    few))
+
+traced : (form : StrForm) → IsTraced list_meaning form (λ history content. AreGood (told_in history) content)
+traced form =
+    record {
+      none = good-nothing [] (shape_of form);
+      done = λ history entry command accepted fine is.
+          let before = replay list_meaning form history in
+          longer history entry (done before.content entry.by command).state
+          (λ few. done-good (shape_of form) before.shell.caps before.content entry.by command (told_in history)
+          (told_by entry) accepted fine (fewer (told_in history) (told_by entry) few)
+          (is (omega (arith, fewer (told_in history) (told_by entry) few))));
+      same = λ history entry content none is. left_alone history entry content content none refl refl is;
+      leave = λ history entry who content none departs is.
+          left_alone history entry content (content_without content who.conn who.keep) none refl refl is;
+      back = λ history entry content none returns is. left_alone history entry content content none refl refl is;
+      forget = λ history entry content none is. left_alone history entry content content none refl refl is;
+      clear = λ history entry content none gone is. good-nothing (told_in (history ++ entry ∷ [])) (shape_of form);
+    }
+
+-- ---- where the record was made
+
+record IsSplit (id : EntryId) (n : ℕ) (history : List Told) : Type 0 where
+  before : List Told
+  write : Told
+  since : List Told
+  split : history ≡ before ++ write ∷ since
+  made : makes id write ≡ true
+  last : list_any (makes id) since ≡ false
+  count : fold (counted id) n history ≡ length (filter (updates id) since)
+
+counts_since : (id : EntryId) (n : ℕ) (since : List Told) → list_any (makes id) since ≡ false
+    → fold (counted id) n since ≡ n + length (filter (updates id) since)
+counts_since id n [] h = omega arith
+counts_since id n (entry ∷ since) h =
+    let parts = or_parts (makes id entry) (list_any (makes id) since) h in
+    go (makes id entry) (updates id entry) parts.0 (λ m. counts_since id m since parts.1)
+  where
+    go : (made updated : Bool) → made ≡ false
+        → ((m : ℕ) → fold (counted id) m since ≡ m + length (filter (updates id) since))
+        → fold (counted id) (cond made 0 (cond updated (n + 1) n)) since
+        ≡ n + length (cond updated (entry ∷ filter (updates id) since) (filter (updates id) since))
+    go true updated e rest = absurd (false≢true (sym e))
+    go false true e rest = omega (arith, rest (n + 1))
+    go false false e rest = rest n
+
+none_more : (n : ℕ) → 0 + n ≡ n
+none_more n = omega arith
+
+made_at : (id : EntryId) (n : ℕ) (history : List Told) → list_any (makes id) history ≡ true → IsSplit id n history
+made_at id n [] h = absurd (false≢true h)
+made_at id n (entry ∷ history) h =
+    go (list_any (makes id) history) refl (λ k. made_at id (counted id n entry) history k)
+  where
+    here : (a b : Bool) → b ≡ false → a || b ≡ true → a ≡ true
+    here true b e f = refl
+    here false true e f = absurd (false≢true (sym e))
+    here false false e f = absurd (false≢true f)
+
+    go : (b : Bool) → list_any (makes id) history ≡ b
+        → (list_any (makes id) history ≡ true → IsSplit id (counted id n entry) history)
+        → IsSplit id n (entry ∷ history)
+    go true e rest =
+        let later_ = rest e in
+        record {
+          before = entry ∷ later_.before;
+          write = later_.write;
+          since = later_.since;
+          split = ap (λ (l : List Told). entry ∷ l) later_.split;
+          made = later_.made;
+          last = later_.last;
+          count = later_.count;
+        }
+    go false e rest =
+        let made = here (makes id entry) (list_any (makes id) history) e h in
+        record {
+          before = [];
+          write = entry;
+          since = history;
+          split = refl;
+          made = made;
+          last = e;
+          count = ap (λ m. fold (counted id) m history) (counted_new (makes id entry) (updates id entry) n made)
+              ∙ counts_since id 0 history e ∙ none_more (length (filter (updates id) history));
+        }
+
+-- ---- the version of a record
+
+versioned : (told : List Told) (content : Content) → AreGood told content → length told < 4294967295
+    → AreVersioned told content.lists
+versioned told content are few id rec found =
+    let all = all_records content.lists in
+    let is =
+    good_parts told content.next rec (all_found (is_id id) (is_good told content.next) all rec (are few) found) in
+    let named : rec.id.0 ≡ id.0 = eqb-true rec.id.0 id.0 (found_passes (is_id id) all rec found) in
+    let same_id : rec.id ≡ id = ap (λ (n : ℕ). (let e : EntryId = record { 0 = n } in e)) named in
+    let split = subst (λ (e : EntryId). IsSplit e 0 told) same_id (made_at rec.id 0 told is.made) in
+    record {
+      before = split.before;
+      write = split.write;
+      since = split.since;
+      split = split.split;
+      made = split.made;
+      last = split.last;
+      version = is.version ∙ ap (λ n. 1 + n) (ap (λ (e : EntryId). updates_of e told) same_id ∙ split.count);
+    }
+
+-- ---- after every legal history
+
+pub versions-replay : (form : StrForm) (history : ListHistory) → IsLegalList form history
+    → length history < 4294967295
+    → AreVersioned (told_in history) (content_after form history).lists
+versions-replay form history legal few =
+    versioned (told_in history) (content_after form history)
+    (traced-replay list_meaning form refl (λ history content. AreGood (told_in history) content) (traced form) history
+    (legal-answered list_meaning form refl history (continues_legal list_meaning form history legal)))
+    (omega (arith, few, length-map history told_by))
+
+-- ---- after every command
+
+deed-good : (held : Held Content) (deed : Deed) (told : List Told) → AreGood told held.state
+    → AreGood (told ++ told_of held deed ∷ []) (after_deed held deed).state
+deed-good held (Calls by cmd) told are = go (cause held.shape held.caps held.state by cmd) refl
+  where
+    go : (refused : Option Refusal) → cause held.shape held.caps held.state by cmd ≡ refused
+        → AreGood (told ++ told_reply cmd (unless_refused refused held.state (done held.state by cmd)).reply ∷ [])
+        (unless_refused refused held.state (done held.state by cmd)).state
+    go None none few =
+        let answered = done_as cmd (done held.state by cmd).reply in
+        done-good held.shape held.caps held.state by cmd told answered refl none (fewer told answered few)
+        (are (omega (arith, fewer told answered few)))
+    go (Some refusal) some few = quiet-good told None held.state.next held.state.lists refl are few
+deed-good held (Leaves conn keep) told are = λ few. quiet-good told None held.state.next held.state.lists refl are few
+deed-good held (Returns conn) told are = λ few. quiet-good told None held.state.next held.state.lists refl are few
+
+deeds-good : (held : Held Content) (deeds : List Deed) (told : List Told) → AreGood told held.state
+    → AreGood (told ++ told_from held deeds) (fold after_deed held deeds).state
+deeds-good held [] told are = subst (λ (l : List Told). AreGood l held.state) (sym (append-nil told)) are
+deeds-good held (deed ∷ deeds) told are =
+    let next = after_deed held deed in
+    subst (λ (l : List Told). AreGood l (fold after_deed next deeds).state)
+    (append_assoc told (told_of held deed ∷ []) (told_from next deeds))
+    (deeds-good next deeds (told ++ told_of held deed ∷ []) (deed-good held deed told are))
+
+pub versions-applied : (held : Held Content) (deeds : List Deed) (by : ConnId) (cmd : ListCmd)
+    → IsHeldAfter deeds held → length (told_then held deeds by cmd) < 4294967295
+    → AreVersioned (told_then held deeds by cmd) (content_applied held by cmd).lists
+versions-applied held deeds by cmd led =
+    let told = told_from (opened held) deeds in
+    versioned (told_then held deeds by cmd) (content_applied held by cmd)
+    (deed-good held (Calls by cmd) told
+    (subst (λ (h : Held Content). AreGood told h.state) (sym led)
+    (deeds-good (opened held) deeds [] (good-nothing [] held.shape))))

@@ -1,0 +1,38 @@
+ghost use Rattle.std.specs.Prelude.{◌≡◌, List};
+ghost use Rattle.plex_board.specs.CfTypes.declared.forms.Caps.{Caps};
+ghost use Rattle.plex_board.specs.CfTypes.declared.lock_commands.LockCmd.{LockCmd};
+ghost use Rattle.plex_board.specs.CfTypes.declared.numbers.ConnId.{ConnId};
+ghost use Rattle.plex_board.specs.EngineApi.Meaning.{Held};
+ghost use Rattle.plex_board.specs.EngineApi.declared.shapes.Shape.{Shape};
+ghost use Rattle.plex_board.specs.LockModel.Contents.{Content, OwnersAreCompatible};
+ghost use Rattle.run_laws.specs.LockApplied.{Deed, IsHeldAfter, content_applied};
+ghost use Rattle.run_laws.specs.Entries.{step_at, replies_of};
+ghost use Rattle.run_laws.specs.LockHistories.{content_after};
+
+use plex_board::api::History;
+use plex_board::types::{LockCmd, LockReply, StrForm};
+
+/// After every history of a lock structure any two owners of one resource are compatible: both
+/// share it, or they are one connector.
+pub fn owners_compatible(form: &StrForm, history: &History<LockCmd, LockReply>)
+    ensures { OwnersAreCompatible (content_after form.now history.now) }
+{}
+
+/// The same of what an engine's `apply` leaves of a lock structure that was empty at first,
+/// whatever commands, departures and returns came before.
+pub fn after_apply()
+    ensures { (held : Held Content) (deeds : List Deed) (by : ConnId) (cmd : LockCmd)
+        → IsHeldAfter deeds held
+        → OwnersAreCompatible (content_applied held by cmd) }
+{}
+
+/// What a command answers, leaves and sends depends on how many records there may be, and not on
+/// the number of table entries; and so do all answers to a list of commands.
+pub fn table_entries_play_no_part()
+    ensures step { (a b : Caps) → a.elements ≡ b.elements
+        → (shape : Shape) (content : Content) (by : ConnId) (cmd : LockCmd)
+        → step_at a shape content by cmd ≡ step_at b shape content by cmd }
+    ensures replies { (a b : Caps) → a.elements ≡ b.elements
+        → (shape : Shape) (content : Content) (commands : List (ConnId × LockCmd))
+        → replies_of a shape content commands ≡ replies_of b shape content commands }
+{}

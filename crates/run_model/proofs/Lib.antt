@@ -1,4 +1,0 @@
-pub mod WordLaws
-pub mod HistoryLaws
-pub mod ToldLaws
-pub mod SeamLaws

@@ -1,6 +1,0 @@
-use Rattle.word_tests.specs.Two.{IsHandOf}
-use Rattle.word_tests.proofs.tests.locks.race.rounds.Given as goal
-
--- the hand stays what it is
-abbrev pub invariant-loop-round : goal.invariant-loop-round
-invariant-loop-round g l = IsHandOf l.locks l.fn.hand.number l.hand

@@ -1,4 +1,0 @@
-mod locks;
-mod turns;
-mod words;
-mod worlds;
