@@ -4,6 +4,7 @@
 
 mod cell;
 mod closed;
+mod copies;
 mod inside;
 mod mirror;
 mod place_set;
