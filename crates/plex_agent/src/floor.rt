@@ -7,8 +7,8 @@ ghost use Rattle.plex_board.specs.Floors.{PlaysLine, ClosesOne, Plays, new_floor
 ghost use Rattle.plex_board.specs.Serial.{connectors};
 ghost use Rattle.plex_agent.specs.Standing.{IsFloorOf, IsTurn, IsPlayable, TakesTurn, PlaysActOn};
 
+use crate::agent::{closing, turn};
 use crate::worker::Worker;
-use plex_agent::{closing, turn};
 use plex_board::links::Link;
 use plex_board::scripts::{Act, Line, Script, Shown};
 use plex_board::types::{ConnId, NoMemory, StrNo};

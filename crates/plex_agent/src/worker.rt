@@ -4,9 +4,9 @@ ghost use Rattle.plex_board.specs.Turns.{is_done_as};
 ghost use Rattle.plex_board.specs.Callers.{IsLineFor};
 ghost use Rattle.plex_agent.specs.Crews.{IsIdle, Works, idle_worker};
 
-use plex_agent::{Gate, serve};
+use crate::agent::serve;
 use plex_board::links::Link;
-use plex_board::scripts::{AgentEnd, Line, Transcript};
+use plex_board::scripts::{AgentEnd, Gate, Line, Transcript};
 use plex_board::types::Listing;
 use plex_board::{Board, Desk};
 use std::alloc::Global;
