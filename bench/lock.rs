@@ -1,4 +1,4 @@
-//! The turns of crates/bench_sync at Rust's own mutex. It prints a line for each number of threads:
+//! The turns of crates/bench_parts at Rust's own mutex. It prints a line for each number of threads:
 //! `mutex THREADS TURNS NANOSECONDS`.
 use std::sync::Mutex;
 use std::thread;

@@ -1,4 +1,4 @@
-//! The rounds of crates/bench_words in plain Rust: with a lock word by hand (a load, a compare_exchange and a fetch_sub), and with Rust's
+//! The rounds of crates/bench_parts in plain Rust: with a lock word by hand (a load, a compare_exchange and a fetch_sub), and with Rust's
 //! own mutex, each thread with one of its own. It prints a line for each and each number of threads: `hand|mutex THREADS ROUNDS NANOSECONDS`.
 use std::hint::black_box;
 use std::sync::Mutex;

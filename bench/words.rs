@@ -1,4 +1,4 @@
-//! The tests of crates/bench_sync in plain Rust, alone and while another thread stores. The row `plain` does the same work as
+//! The tests of crates/bench_parts in plain Rust, alone and while another thread stores. The row `plain` does the same work as
 //! `vec_words`: the same threads, table and words with a bit and a stamp, and a pass that keeps the greatest stamp. The row `load`
 //! only loads the word. It prints a line for each: `plain|load alone|beside TESTS NANOSECONDS SET KNOWN`.
 use std::sync::atomic::{AtomicU64, Ordering::SeqCst};
