@@ -1,10 +1,5 @@
 -- A lock that was just granted.
-use Rattle.std.proofs.Common.{◌≡◌, ◌≢◌, ℕ, true, List, [], ◌∷◌, None, Some, refl, sym, ap, ◌∙◌, eq-eqb}
-use Rattle.std.specs.Prelude.{if◌then◌else◌}
-use Rattle.std.proofs.lemmas.Option.{none-some}
-use Rattle.lock_words.specs.declared.view.Hold.{Hold}
-use Rattle.lock_words.specs.Values.{held_as}
-use Rattle.lock_words.specs.View.{hold}
+use Rattle.bench_parts.proofs.Names.{◌≡◌, ◌≢◌, ℕ, true, List, [], ◌∷◌, None, Some, refl, sym, ap, ◌∙◌, eq-eqb, if◌then◌else◌, none-some, Hold, held_as, hold}
 
 pub one-held : (word : ℕ) (held : List Hold) → held ≡ hold word true ∷ [] → held_as held word ≢ None
 one-held word held is none = some_is (sym (ap (λ t. if t then Some true else None) (eq-eqb word word refl))

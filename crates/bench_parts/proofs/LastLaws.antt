@@ -1,10 +1,5 @@
 -- The last of two things.
-use Rattle.std.proofs.Common.{◌≡◌, ◌+◌, ◌<◌, List, arith, [], ◌∷◌, ◌++◌, length, get_or, map, refl, sym, ap, subst, ◌∙◌}
-use Rattle.std.specs.Prelude.{suc, Option, Some, None, IfSome}
-use Rattle.std.specs.Option.{option_to_list}
-use Rattle.std.specs.List.{range_with_len}
-use Rattle.std.proofs.lemmas.List.{length-append}
-use Rattle.plex_board.specs.VecWords.Tokens.{PassSeen, WordTable, new_pass}
+use Rattle.bench_parts.proofs.Names.{◌≡◌, ◌+◌, ◌<◌, List, arith, [], ◌∷◌, ◌++◌, length, get_or, map, refl, sym, ap, subst, ◌∙◌, suc, Option, Some, None, IfSome, option_to_list, range_with_len, length-append, PassSeen, WordTable, new_pass}
 
 -- the last of two
 last-of_two : {X : Type 0} (a b : X) (front : List X) (x : X) → a ∷ b ∷ [] ≡ front ++ x ∷ [] → b ≡ x

@@ -1,3 +1,4 @@
+pub mod Names
 pub mod LastLaws
 pub mod SeatLaws
 pub mod Granted

@@ -1,25 +1,7 @@
 -- What is known at a board of one cache structure, and of the connector's desk there.
-use Rattle.std.proofs.Common.{◌≡◌, ℕ, ◌+◌, ◌<◌, ◌≤◌, List, arith, [], ◌∷◌, ◌++◌, length, map, refl, sym, ap, subst, ◌∙◌}
-use Rattle.std.specs.Prelude.{All, Option, Some, None, IfSome, Result, Ok, Err, IfOk, IfErr, slice_get}
-use Rattle.std.specs.Option.{option_to_list}
-use Rattle.std.specs.List.{range_with_len}
-use Rattle.std.proofs.lemmas.List.Elements.{All-nil, All-cons, All-head}
-use Rattle.plex_board.specs.CfTypes.declared.forms.StrForm.{StrForm}
-use Rattle.plex_board.specs.CfTypes.declared.cache_commands.CacheCmd.{CacheCmd}
-use Rattle.plex_board.specs.CfTypes.Forms.{IsForm, IsConnector}
-use Rattle.plex_board.specs.EngineApi.declared.asks.Ask.{Ask}
-use Rattle.plex_board.specs.EngineApi.declared.told.Told.{Told}
-use Rattle.plex_board.specs.PlexScript.declared.scripts.Script.{Script}
-use Rattle.plex_board.specs.PlexScript.declared.scripts.AnyAsk.{AnyAsk}
+use Rattle.bench_parts.proofs.Names.{◌≡◌, ℕ, ◌+◌, ◌<◌, ◌≤◌, List, arith, [], ◌∷◌, ◌++◌, length, map, refl, sym, ap, subst, ◌∙◌, All, Option, Some, None, IfSome, Result, Ok, Err, IfOk, IfErr, slice_get, option_to_list, range_with_len, All-nil, All-cons, All-head, StrForm, CacheCmd, IsForm, IsConnector, Ask, Told, Script, AnyAsk, CallRefused, type_of_kind, CellShown, IsAskOf, DeskShown, IsAnsweredOn, IsLaterOn, BoardShown, IsPolicy, IsStarted, IsDeskOf, cell_on, new_desk, new_desk-of_board, IsCacheForm, IsCacheAlone, IsOneCache, IsPool, IsCacheBoard, IsOperated, IsSeated, pool}
 use Rattle.plex_board.specs.PlexScript.declared.scripts.AnyAsk.TheVariants as any_ask
-use Rattle.plex_board.specs.StructCell.declared.refused.CallRefused.{CallRefused}
-use Rattle.plex_board.specs.Types.{type_of_kind}
-use Rattle.plex_board.specs.Cells.{CellShown, IsAskOf}
-use Rattle.plex_board.specs.Desks.{DeskShown, IsAnsweredOn, IsLaterOn}
-use Rattle.plex_board.specs.Boards.{BoardShown, IsPolicy, IsStarted, IsDeskOf, cell_on, new_desk}
-use Rattle.plex_board.proofs.DeskLaws.{new_desk-of_board}
 use Rattle.bench_parts.proofs.LastLaws.{front-of_two, last-of_one, last-some}
-use Rattle.bench_parts.specs.Seats.{IsCacheForm, IsCacheAlone, IsOneCache, IsPool, IsCacheBoard, IsOperated, IsSeated, pool}
 
 -- ---- the script
 

@@ -1,16 +1,5 @@
 -- The last name of all.
-use Rattle.std.proofs.Common.{◌≡◌, ℕ, zero, suc, ◌+◌, ◌-◌, ◌≤◌, ◌<◌, Bool, true, false, not, cond, List, [], ◌∷◌, Option, None, Some, option_map, slice_get, length, drop, refl, sym, ap, ◌∙◌, arith}
-use Rattle.std.specs.List.{list_all}
-use Rattle.std.proofs.lemmas.Bool.{and_parts, not-true}
-use Rattle.std.proofs.lemmas.List.{drop_all}
-use Rattle.cf_types.specs.declared.names.Name16.{Name16}
-use Rattle.cf_types.specs.Name.{name_before}
-use Rattle.cf_lists.specs.Insertions.{insertion}
-use Rattle.cf_lists.specs.Pairwise.{pairwise}
-use Rattle.cf_lists.specs.Bins.{arranged, in_turn}
-use Rattle.cache_classes.specs.declared.changed.Changed.{Changed}
-use Rattle.cache_classes.specs.Castout.{name_of, last_name, later}
-use Rattle.cache_classes.specs.ClassBatch.{Entry, changed_at, entries_in, classes_in}
+use Rattle.cache_classes.proofs.Names.{◌≡◌, ℕ, zero, suc, ◌+◌, ◌-◌, ◌≤◌, ◌<◌, Bool, true, false, not, cond, List, [], ◌∷◌, Option, None, Some, option_map, slice_get, length, drop, refl, sym, ap, ◌∙◌, arith, list_all, and_parts, not-true, drop_all, Name16, name_before, insertion, pairwise, arranged, in_turn, Changed, name_of, last_name, later, Entry, changed_at, entries_in, classes_in}
 use Rattle.cache_classes.proofs.NameOrder.{name_order}
 use Rattle.cache_classes.proofs.MapLaws.{in_order_in}
 

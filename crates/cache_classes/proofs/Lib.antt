@@ -1,3 +1,4 @@
+pub mod Names
 pub mod NameOrder
 pub mod MapLaws
 pub mod WalkLaws

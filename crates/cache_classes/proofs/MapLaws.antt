@@ -1,27 +1,5 @@
 -- The entries of a map by name, in the order of names.
-use Rattle.std.proofs.Common.{◌≡◌, ℕ, Bool, true, false, not, ◌&&◌, cond, List, [], ◌∷◌, Option, Some, None, option_map, length, filter, refl, sym, ap, ◌∙◌, subst}
-use Rattle.std.specs.Prelude.{nat_eq, option_to_list}
-use Rattle.std.specs.List.{IsDistinct}
-use Rattle.std.specs.Map.{keys_of, lookup}
-use Rattle.std.specs.Cmp.Lexicographic.{nat_list_eq_equiv, pointwise}
-use Rattle.std.proofs.lemmas.Bool.{false≢true, not-true}
-use Rattle.std.proofs.lemmas.List.{length-map}
-use Rattle.std.proofs.lemmas.Map.{lookup-none}
-use Rattle.std.proofs.lemmas.Map.Entries.{none_past_head}
-use Rattle.cf_types.specs.declared.names.Name16.{Name16}
-use Rattle.cf_types.specs.Name.{same_name, name_before}
-use Rattle.cf_lists.specs.Insertions.{insertion}
-use Rattle.cf_lists.specs.Pairwise.{pairwise}
-use Rattle.cf_lists.proofs.FilterLaws.{filter_absorbed, filter-filter, filter_nothing, filter_swap, list_all_always}
-use Rattle.cf_lists.proofs.InsertionLaws.{filter-insertion_out}
-use Rattle.cf_lists.proofs.PairwiseLaws.{FindsPlace, pairwise-filter, pairwise-insertion}
-use Rattle.cf_lists.specs.Bins.{arranged, in_turn}
-use Rattle.cf_lists.proofs.BinLaws.{arranged_in_turn, keyed-arranged}
-use Rattle.cf_lists.proofs.TieLaws.{ordered_filters}
-use Rattle.cf_lists.proofs.ViewLaws.{length_arranged}
-use Rattle.cache_classes.specs.declared.changed.Changed.{Changed}
-use Rattle.cache_classes.specs.Castout.{is_named, name_of, names_without, names_with}
-use Rattle.cache_classes.specs.ClassBatch.{Entry, changed_at, entries_in, classes_in, Writes}
+use Rattle.cache_classes.proofs.Names.{◌≡◌, ℕ, Bool, true, false, not, ◌&&◌, cond, List, [], ◌∷◌, Option, Some, None, option_map, length, filter, refl, sym, ap, ◌∙◌, subst, nat_eq, option_to_list, IsDistinct, keys_of, lookup, nat_list_eq_equiv, pointwise, false≢true, not-true, length-map, lookup-none, none_past_head, Name16, same_name, name_before, insertion, pairwise, filter_absorbed, filter-filter, filter_nothing, filter_swap, list_all_always, filter-insertion_out, FindsPlace, pairwise-filter, pairwise-insertion, arranged, in_turn, arranged_in_turn, keyed-arranged, ordered_filters, length_arranged, Changed, is_named, name_of, names_without, names_with, Entry, changed_at, entries_in, classes_in, Writes}
 use Rattle.cache_classes.proofs.NameOrder.{name_order}
 
 -- ---- the entries of a name

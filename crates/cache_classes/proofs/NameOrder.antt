@@ -1,14 +1,5 @@
 -- The order of names: it is strict, and of two names one comes first, or they are the same.
-use Rattle.std.proofs.Common.{◌≡◌, Bool, true, false, Ordering, refl, sym, ap, ◌∙◌, subst}
-use Rattle.std.specs.Ordering.{nat_cmp, is_lt, is_eq, ordering_reverse}
-use Rattle.std.specs.declared.cmp.Ordering.TheVariants.{Less, Equal, Greater}
-use Rattle.std.specs.Cmp.Lexicographic.{slice_cmp, texts_ties}
-use Rattle.std.proofs.lemmas.Cmp.{nat_list_cmp_total}
-use Rattle.std.proofs.lemmas.Bool.{false≢true}
-use Rattle.cf_types.specs.declared.names.Name16.{Name16}
-use Rattle.cf_types.specs.Name.{same_name, name_before}
-use Rattle.cf_types.proofs.ResourceLaws.{same_name-eq, same_name-refl}
-use Rattle.cf_lists.specs.Bins.{IsKeyOrder}
+use Rattle.cache_classes.proofs.Names.{◌≡◌, Bool, true, false, Ordering, refl, sym, ap, ◌∙◌, subst, nat_cmp, is_lt, is_eq, ordering_reverse, Less, Equal, Greater, slice_cmp, texts_ties, nat_list_cmp_total, false≢true, Name16, same_name, name_before, same_name-eq, same_name-refl, IsKeyOrder}
 
 less : (o : Ordering) → is_lt o ≡ true → o ≡ Less
 less Less h = refl

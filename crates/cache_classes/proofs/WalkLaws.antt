@@ -1,17 +1,5 @@
 -- Entries one after another.
-use Rattle.std.proofs.Common.{◌≡◌, ℕ, ◌+◌, ◌≤◌, ◌==◌, Bool, true, false, cond, List, ◌∷◌, filter, map, length, sym, ap, ◌∙◌, arith}
-use Rattle.std.specs.List.Sorted.{IsPermutation}
-use Rattle.std.proofs.lemmas.List.{length-map}
-use Rattle.cf_types.specs.declared.names.Name16.{Name16}
-use Rattle.cf_types.specs.Name.{same_name, name_before}
-use Rattle.cf_lists.specs.Pairwise.{pairwise}
-use Rattle.cf_lists.proofs.FilterLaws.{length-filter-le}
-use Rattle.cf_lists.specs.Bins.{in_turn}
-use Rattle.cf_lists.proofs.SortLaws.{arranged-filter, sorted_is}
-use Rattle.cf_lists.proofs.ViewLaws.{length_arranged}
-use Rattle.cache_classes.specs.declared.changed.Changed.{Changed}
-use Rattle.cache_classes.specs.Castout.{is_of_class, name_of, names_in, names_of, count_of}
-use Rattle.cache_classes.specs.ClassBatch.{Entry, changed_at, entries_in, classes_in}
+use Rattle.cache_classes.proofs.Names.{◌≡◌, ℕ, ◌+◌, ◌≤◌, ◌==◌, Bool, true, false, cond, List, ◌∷◌, filter, map, length, sym, ap, ◌∙◌, arith, IsPermutation, length-map, Name16, same_name, name_before, pairwise, length-filter-le, in_turn, arranged-filter, sorted_is, length_arranged, Changed, is_of_class, name_of, names_in, names_of, count_of, Entry, changed_at, entries_in, classes_in}
 use Rattle.cache_classes.proofs.NameOrder.{name_order}
 
 -- as many pass a test as they lie in the map as in their order

@@ -1,25 +1,5 @@
 -- The registrations for several names end, one name after another.
-use Rattle.std.proofs.Common.{◌≡◌, ℕ, ◌+◌, ◌-◌, ◌≤◌, ◌<◌, Bool, true, false, not, ◌&&◌, ◌||◌, ◌==◌, List, [], ◌∷◌, ◌++◌, None, Some, length, drop, filter, get_or, map, add-one, append_assoc, refl, sym, ap, ◌∙◌, arith}
-use Rattle.std.specs.List.{range_with_len}
-use Rattle.std.proofs.lemmas.List.{drop_more}
-use Rattle.std.proofs.lemmas.List.Elements.{filter_agree, filter-append}
-use Rattle.std.proofs.lemmas.List.{map-append}
-use Rattle.cf_types.specs.declared.names.Name16.{Name16}
-use Rattle.cf_types.specs.declared.numbers.ConnId.{ConnId}
-use Rattle.cf_types.specs.declared.effects.BitChange.{BitChange}
-use Rattle.cf_types.specs.Name.{same_name}
-use Rattle.cf_types.specs.Gains.{Gains}
-use Rattle.cf_types.proofs.GainsLaws.{Falls, gains_falls}
-use Rattle.std.proofs.lemmas.Bool.{and_from, eq-eqb}
-use Rattle.std.proofs.lemmas.List.{drop_all}
-use Rattle.cf_lists.proofs.FilterLaws.{filter-filter, filter_all, list_all_always, length-filter-le}
-use Rattle.cache_model.specs.CacheRegs.declared.registrations.Registration.{Registration}
-use Rattle.cache_model.specs.CacheRegs.Registrations.{stands, regs_with, ends_with_name, regs_without_name}
-use Rattle.cache_rows.proofs.CacheRegs.NameLaws.{same_name-sym}
-use Rattle.cache_rows.proofs.CacheRegs.BitLaws.{falls_filter, stands_kept, gains_then_falls}
-use Rattle.cache_model.specs.declared.items.CacheItem.{CacheItem}
-use Rattle.cache_model.specs.Contents.{is_among, regs_spared}
-use Rattle.cache_model.specs.Commands.CoStats.{has_rows, rows_of_class, class_counts}
+use Rattle.cache_core.proofs.Names.{◌≡◌, ℕ, ◌+◌, ◌-◌, ◌≤◌, ◌<◌, Bool, true, false, not, ◌&&◌, ◌||◌, ◌==◌, List, [], ◌∷◌, ◌++◌, None, Some, length, drop, filter, get_or, map, add-one, append_assoc, refl, sym, ap, ◌∙◌, arith, range_with_len, drop_more, map-append, drop_all, filter_agree, filter-append, Name16, ConnId, BitChange, same_name, Gains, Falls, gains_falls, and_from, eq-eqb, filter-filter, filter_all, list_all_always, length-filter-le, Registration, stands, regs_with, ends_with_name, regs_without_name, same_name-sym, falls_filter, stands_kept, gains_then_falls, CacheItem, is_among, regs_spared, has_rows, rows_of_class, class_counts}
 
 test_step : (a b c : Bool) → b ≡ a → not (a && true) && not c ≡ not (b || c)
 test_step true b c e = rw e refl

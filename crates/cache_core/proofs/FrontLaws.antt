@@ -1,29 +1,7 @@
 -- The names of the rows that are reclaimed, counted a row at a time.
-use Rattle.std.proofs.Common.{◌≡◌, ℕ, suc, zero, Option, None, option_map, slice_get, append-nil, subst, ◌+◌, ◌≤◌, Bool, true, false, not, cond, List, [], ◌∷◌, ◌++◌, append_assoc, length, length-append, drop, filter, map, sum_by, refl, sym, ap, ◌∙◌, arith}
-use Rattle.std.specs.Option.{option_to_list}
-use Rattle.std.proofs.lemmas.List.{drop_all, length-map}
-use Rattle.std.proofs.lemmas.List.Elements.{filter-append}
-use Rattle.std.proofs.lemmas.List.Sums.{sum_by-cons, sum_by-append}
-use Rattle.std.proofs.lemmas.List.Filters.{length-filter_both, sum_by-filter_both}
-use Rattle.std.proofs.lemmas.List.Folds.{fold-map}
-use Rattle.cf_lists.specs.Prefixes.{shortest_prefix}
-use Rattle.cf_lists.proofs.FilterLaws.{filter-filter, filter_swap, sum_by-filter-le, length-filter-le}
-use Rattle.cf_lists.proofs.PrefixLaws.{shortest_prefix-nil, shortest_prefix_agree, shortest_prefix-map}
-use Rattle.cf_types.specs.declared.forms.Caps.{Caps}
-use Rattle.cf_types.specs.declared.names.Name16.{Name16}
-use Rattle.cache_model.specs.declared.items.CacheItem.{CacheItem}
-use Rattle.cache_model.specs.declared.requests.Request.{Request}
-use Rattle.cache_core.specs.declared.room.Room.{Room}
-use Rattle.cache_core.specs.declared.room.Reclaimable.{Reclaimable}
-use Rattle.cache_model.specs.Rows.{is_row_of, has_storage, elements_in}
+use Rattle.cache_core.proofs.Names.{◌≡◌, ℕ, suc, zero, Option, None, option_map, slice_get, append-nil, subst, ◌+◌, ◌≤◌, Bool, true, false, not, cond, List, [], ◌∷◌, ◌++◌, append_assoc, length, length-append, drop, filter, map, sum_by, refl, sym, ap, ◌∙◌, arith, Some, option_to_list, drop_all, length-map, filter-append, sum_by-cons, sum_by-append, length-filter_both, sum_by-filter_both, fold-map, shortest_prefix, filter-filter, filter_swap, sum_by-filter-le, length-filter-le, shortest_prefix-nil, shortest_prefix_agree, shortest_prefix-map, Caps, Name16, CacheItem, Request, Room, Reclaimable, is_row_of, has_storage, elements_in, is_reclaimable, reclaim_order, victims, DirectoryFull, is_unchanged, reclaimed_for, room_for, is_enough, is_enough_of, reclaimable_of, reclaimable_from, size}
 use Rattle.cache_model.specs.Room as room
-use Rattle.cache_model.specs.Room.{is_reclaimable, reclaim_order, victims}
-use Rattle.cf_types.specs.declared.refusals.Refusal.TheVariants.{DirectoryFull}
-use Rattle.std.specs.Prelude.{Some}
-use Rattle.cache_rows.specs.Indexes.{is_unchanged, reclaimed_for}
 use Rattle.cache_core.specs.Measure as measure
-use Rattle.cache_core.specs.Measure.{room_for, is_enough, is_enough_of, reclaimable_of, reclaimable_from}
-use Rattle.cache_model.proofs.RowLaws.{size}
 
 abbrev pub weight : Reclaimable → ℕ
 weight row = row.elements

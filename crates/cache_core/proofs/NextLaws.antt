@@ -1,14 +1,5 @@
 -- What stands before the next of a list, and what the last row leaves when it goes.
-use Rattle.std.proofs.Common.{◌≡◌, ◌++◌, ◌∷◌, [], ◌&&◌, ◌-◌, Bool, true, List, Option, None, Some, fold, length, map, option_map, take, slice_get, ℕ, ap, refl, sym, ◌∙◌}
-use Rattle.std.specs.List.{list_all}
-use Rattle.std.proofs.lemmas.Bool.{and_parts, and_from}
-use Rattle.std.proofs.lemmas.List.Folds.{list_all-append}
-use Rattle.std.proofs.lemmas.Option.{slice_get-map}
-use Rattle.cf_types.specs.declared.names.Name16.{Name16}
-use Rattle.cf_lists.specs.Pairwise.{pairwise}
-use Rattle.cache_model.specs.CacheRegs.declared.registrations.Registration.{Registration}
-use Rattle.cache_model.specs.declared.items.CacheItem.{CacheItem}
-use Rattle.cache_model.specs.Contents.{Content, no_content, content_with, regs_without_row, content_without_last}
+use Rattle.cache_core.proofs.Names.{◌≡◌, ◌++◌, ◌∷◌, [], ◌&&◌, ◌-◌, Bool, true, List, Option, None, Some, fold, length, map, option_map, take, slice_get, ℕ, ap, refl, sym, ◌∙◌, list_all, and_parts, and_from, list_all-append, slice_get-map, Name16, pairwise, Registration, CacheItem, Content, no_content, content_with, regs_without_row, content_without_last}
 
 pub before_next : {X : Type 0} (relation : X → X → Bool) (xs : List X) (y : X) (ys : List X)
     → pairwise relation (xs ++ y ∷ ys) ≡ true

@@ -1,23 +1,8 @@
 -- What a plan that isn't refused says.
-use Rattle.std.proofs.Common.{◌≡◌, ℕ, ◌<◌, inl, inr, List, ◌∷◌, cond, leb, Option, None, Some, Result, Ok, Err, refl, sym, ap, ◌∙◌, subst}
-use Rattle.std.specs.Prelude.{OnOk, OnErr}
-use Rattle.std.proofs.lemmas.Bool.{cases_lt, le-leb}
-use Rattle.engine_api.specs.Meaning.{first_refusal}
-use Rattle.cf_types.specs.declared.forms.Caps.{Caps}
-use Rattle.cf_types.specs.declared.numbers.ConnId.{ConnId}
-use Rattle.cf_types.specs.declared.refusals.Refusal.{Refusal}
-use Rattle.cf_types.specs.declared.cache_commands.CacheCmd.{CacheCmd}
-use Rattle.cf_types.specs.declared.cache_commands.CacheCmd.TheVariants.{Read, Write, CrossInval, RegList, Castout, Unlock, CoClass, CoStats, DirInfo, Delete, StgStats}
-use Rattle.cf_types.specs.declared.cache_commands.CacheReply.{CacheReply}
-use Rattle.cache_model.specs.declared.items.CacheItem.{CacheItem}
-use Rattle.cache_model.specs.Rows.{IsDirectory}
-use Rattle.cache_model.specs.Contents.{Content}
+use Rattle.cache_core.proofs.Names.{◌≡◌, ℕ, ◌<◌, inl, inr, List, ◌∷◌, cond, leb, Option, None, Some, Result, Ok, Err, refl, sym, ap, ◌∙◌, subst, OnOk, OnErr, cases_lt, le-leb, first_refusal, Caps, ConnId, Refusal, CacheCmd, Read, Write, CrossInval, RegList, Castout, Unlock, CoClass, CoStats, DirInfo, Delete, StgStats, CacheReply, CacheItem, IsDirectory, Content, cause, request_spared, Plan, plan_unless, plan_for, IsSpared, IsIndexed}
 use Rattle.cache_model.specs.Commands.Read as read
 use Rattle.cache_model.specs.Commands.Write as write
-use Rattle.cache_model.specs.Step.{cause, victims}
-use Rattle.cache_model.proofs.RoomLaws.{request_spared}
-use Rattle.cache_core.specs.declared.plans.Plan.{Plan}
-use Rattle.cache_core.specs.Plans.{plan_unless, plan_for, IsSpared, IsIndexed}
+use Rattle.cache_model.specs.Step.{victims}
 
 -- the plan that is taken is the one that was wanted
 pub plan_taken : (taken kept : Option Plan) (plan wanted : Plan) → taken ≡ kept → taken ≡ Some plan

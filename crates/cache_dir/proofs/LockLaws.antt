@@ -1,11 +1,5 @@
 -- Castout locks that are noted by the names of their rows, and released.
-use Rattle.std.proofs.Common.{◌≡◌, ℕ, Bool, true, false, not, ◌==◌, cond, List, Option, None, Some, option_map, refl}
-use Rattle.std.proofs.lemmas.Map.Entries.{option_filter}
-use Rattle.cf_types.specs.declared.names.Name16.{Name16}
-use Rattle.cf_types.specs.declared.numbers.ConnId.{ConnId}
-use Rattle.cache_dir.specs.declared.row.DirRow.{DirRow}
-use Rattle.cache_dir.specs.RowMap.{row_at, let_go}
-use Rattle.cache_dir.specs.Locks.{lock_without}
+use Rattle.cache_dir.proofs.Names.{◌≡◌, ℕ, Bool, true, false, not, ◌==◌, cond, List, Option, None, Some, option_map, refl, option_filter, Name16, ConnId, DirRow, row_at, let_go, lock_without}
 
 -- a lock is this connector's
 abbrev is_of : ConnId → Option ConnId → Bool

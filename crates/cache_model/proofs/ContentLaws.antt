@@ -1,38 +1,10 @@
 -- Every command, departure and end of registrations leads from content to content.
-use Rattle.std.proofs.Common.{◌≡◌, ℕ, ◌+◌, ◌-◌, ◌≤◌, Bool, true, false, not, ◌&&◌, ◌||◌, cond, List, [], ◌∷◌, Option, Some, None, is_some, is_none, unwrap_or, option_map, length, filter, map, nat_lt, nat_le, ◌⊎◌, inl, inr, refl, sym, ap, ◌∙◌, subst, arith}
-use Rattle.std.specs.List.{list_all}
-use Rattle.std.proofs.lemmas.Bool.{and_parts, and_from, or_cases, or_right, not-true, false≢true, ltb-true, leb-true}
-use Rattle.std.proofs.lemmas.List.{length-map}
-use Rattle.std.proofs.lemmas.Map.Views.{any-filter_same}
-use Rattle.cf_types.specs.declared.forms.Caps.{Caps}
-use Rattle.cf_types.specs.declared.names.Name16.{Name16}
-use Rattle.cf_types.specs.declared.numbers.ConnId.{ConnId}
-use Rattle.cf_types.specs.declared.refusals.Refusal.{Refusal}
-use Rattle.cf_types.specs.declared.refusals.Refusal.TheVariants.{IsChanged, NotChanged}
-use Rattle.cf_types.specs.declared.cache_commands.CacheCmd.{CacheCmd}
-use Rattle.cf_types.specs.declared.cache_commands.CacheCmd.TheVariants.{Read, Write, CrossInval, RegList, Castout, Unlock, CoClass, CoStats, DirInfo, Delete, StgStats}
-use Rattle.cf_types.specs.declared.cache_commands.CacheReply.{CacheReply}
-use Rattle.cf_types.specs.Name.{same_name}
-use Rattle.engine_api.specs.Meaning.{Outcome, first_refusal, unless_refused}
-use Rattle.cf_lists.proofs.FilterLaws.{list_all-filter, list_all_weaker, list_all_both, list_all-filter_same, length-filter-le, sum_by-filter-le, any_is_found, none-filter, all_found}
-use Rattle.cf_lists.proofs.InsertionLaws.{list_all-insertion}
-use Rattle.cache_regs.specs.declared.registrations.Registration.{Registration}
-use Rattle.cache_regs.specs.Registrations.{is_of, is_replaced, stands_before as before, regs_with, regs_without, regs_without_name, ends_with_name, IsRegistry}
-use Rattle.cache_regs.proofs.NameLaws.{same_name-eq, same_name-refl}
-use Rattle.cache_regs.proofs.RegLaws.{registry-with, registry-filter}
-use Rattle.cache_model.specs.declared.items.CacheItem.{CacheItem}
-use Rattle.cache_dir.specs.declared.row.Holder.{Holder}
-use Rattle.cache_model.specs.declared.requests.Request.{Request}
-use Rattle.cache_model.specs.Rows.{is_row_of, is_changed, elements_of, elements_in, row_of, has_row, rows_without, rows_replaced, new_row, row_or_new, is_sound, IsDirectory}
-use Rattle.cache_model.specs.Contents.{Content, IsContent, IsOrderly, content_without, content_forgotten, without_hold, is_among, rows_spared, regs_spared}
-use Rattle.cache_model.specs.Room.{victims, has_place, free_elements, room_refusal}
-use Rattle.cache_model.specs.Refusals.{entry_refusal, held_refusal, unchanged_refusal, not_held_refusal, is_changed_row}
+use Rattle.cache_model.proofs.Names.{◌≡◌, ℕ, ◌+◌, ◌-◌, ◌≤◌, Bool, true, false, not, ◌&&◌, ◌||◌, cond, List, [], ◌∷◌, Option, Some, None, is_some, is_none, unwrap_or, option_map, length, filter, map, nat_lt, nat_le, ◌⊎◌, inl, inr, refl, sym, ap, ◌∙◌, subst, arith, list_all, and_parts, and_from, or_cases, or_right, not-true, false≢true, ltb-true, leb-true, length-map, any-filter_same, Caps, Name16, ConnId, Refusal, IsChanged, NotChanged, CacheCmd, Read, Write, CrossInval, RegList, Castout, Unlock, CoClass, CoStats, DirInfo, Delete, StgStats, CacheReply, same_name, Outcome, first_refusal, unless_refused, list_all-filter, list_all_weaker, list_all_both, list_all-filter_same, length-filter-le, sum_by-filter-le, any_is_found, none-filter, all_found, list_all-insertion, Registration, is_of, is_replaced, stands_before as before, regs_with, regs_without, regs_without_name, ends_with_name, IsRegistry, same_name-eq, same_name-refl, registry-with, registry-filter, CacheItem, Holder, Request, is_row_of, is_changed, elements_of, elements_in, row_of, has_row, rows_without, rows_replaced, new_row, row_or_new, is_sound, IsDirectory, Content, IsContent, IsOrderly, content_without, content_forgotten, without_hold, is_among, rows_spared, regs_spared, victims, has_place, free_elements, room_refusal, entry_refusal, held_refusal, unchanged_refusal, not_held_refusal, is_changed_row, cause, done}
 use Rattle.cache_model.specs.Commands.Read as read
 use Rattle.cache_model.specs.Commands.Write as write
 use Rattle.cache_model.specs.Commands.Castout as castout
 use Rattle.cache_model.specs.Commands.Unlock as unlock
 use Rattle.cache_model.specs.Commands.Delete as delete
-use Rattle.cache_model.specs.Step.{cause, done}
 use Rattle.cache_model.proofs.RowLaws.{size, found_named, directory-filter, directory-replaced, length-replaced, elements-replaced, elements-without, length-without, without-absent, has_row_stays, has_row_here, name-row_or_new, sound-row_or_new, or_new_size, directory-without_hold, has_row-without_hold, elements-without_hold}
 use Rattle.cache_model.proofs.RoomLaws.{gone, request_spared, length-spared, elements-spared, row_of-spared, has_row-spared, room_left}
 

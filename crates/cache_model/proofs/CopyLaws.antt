@@ -1,35 +1,12 @@
 -- A valid bit tells a fresh copy: what a registered connector has at the index is what the name's row has.
-use Rattle.std.proofs.Common.{◌≡◌, ℕ, Bool, true, false, not, ◌&&◌, ◌||◌, ◌==◌, cond, List, [], ◌∷◌, ◌++◌, Option, Some, None, option_map, unwrap_or, filter, find, map, refl, sym, ap, ◌∙◌, subst, arith}
-use Rattle.std.specs.Prelude.{option_and_then}
-use Rattle.std.specs.Option.{option_or}
-use Rattle.std.proofs.lemmas.Bool.{and_parts, or_parts, not-true, false≢true, eqb-true}
-use Rattle.std.proofs.lemmas.Bool.Decides.{nat_tests}
-use Rattle.std.proofs.lemmas.List.Folds.{find-append}
-use Rattle.cf_types.specs.declared.forms.Caps.{Caps}
-use Rattle.cf_types.specs.declared.names.Name16.{Name16}
-use Rattle.cf_types.specs.declared.numbers.ConnId.{ConnId}
-use Rattle.cf_types.specs.declared.refusals.Refusal.{Refusal}
-use Rattle.cf_types.specs.declared.cache_commands.CacheCmd.{CacheCmd}
-use Rattle.cf_types.specs.declared.cache_commands.CacheCmd.TheVariants.{Read, Write, CrossInval, RegList, Castout, Unlock, CoClass, CoStats, DirInfo, Delete, StgStats}
-use Rattle.cf_types.specs.Name.{same_name}
-use Rattle.engine_api.specs.Meaning.{unless_refused}
-use Rattle.cf_lists.specs.Insertions.{insertion}
-use Rattle.cf_lists.proofs.FilterLaws.{find-filter, find_none, none_filtered}
-use Rattle.cf_lists.proofs.InsertionLaws.{find-insertion_past, find-insertion_here}
-use Rattle.cache_regs.specs.declared.registrations.Registration.{Registration}
-use Rattle.cache_regs.specs.Registrations.{is_of, is_at, is_for, is_replaced, registered_at, stands_before as before, regs_with, regs_without_name, ends_with_name}
-use Rattle.cache_regs.proofs.NameLaws.{same_name-eq, same_name-refl, same_name-sym}
-use Rattle.cache_model.specs.declared.items.CacheItem.{CacheItem}
-use Rattle.cache_model.specs.Rows.{is_row_of, is_changed, row_of, has_row, rows_without, stands_before, rows_replaced, new_row, row_or_new, IsDirectory}
-use Rattle.cache_model.specs.Contents.{Content, IsContent, no_content, content_without, without_hold, is_among, rows_spared}
+use Rattle.cache_model.proofs.Names.{◌≡◌, ℕ, Bool, true, false, not, ◌&&◌, ◌||◌, ◌==◌, cond, List, [], ◌∷◌, ◌++◌, Option, Some, None, option_map, unwrap_or, filter, find, map, refl, sym, ap, ◌∙◌, subst, arith, option_and_then, option_or, and_parts, or_parts, not-true, false≢true, eqb-true, nat_tests, find-append, Caps, Name16, ConnId, Refusal, CacheCmd, Read, Write, CrossInval, RegList, Castout, Unlock, CoClass, CoStats, DirInfo, Delete, StgStats, same_name, unless_refused, insertion, find-filter, find_none, none_filtered, find-insertion_past, find-insertion_here, Registration, is_of, is_at, is_for, is_replaced, registered_at, stands_before as before, regs_with, regs_without_name, ends_with_name, same_name-eq, same_name-refl, same_name-sym, CacheItem, is_row_of, is_changed, row_of, has_row, rows_without, rows_replaced, new_row, row_or_new, IsDirectory, Content, IsContent, no_content, content_without, without_hold, is_among, rows_spared, cause, done, after, Copy, Copies, Deed, after_deed, after_run, row_copy, copy_in, reply_copy, copies_with, copies_done, copies_unless, copies_after, copies_run, Calls, Leaves, Forgets}
+use Rattle.cache_model.specs.Rows.{stands_before}
 use Rattle.cache_model.specs.Commands.Read as read
 use Rattle.cache_model.specs.Commands.Write as write
 use Rattle.cache_model.specs.Commands.Castout as castout
 use Rattle.cache_model.specs.Commands.Unlock as unlock
 use Rattle.cache_model.specs.Commands.Delete as delete
-use Rattle.cache_model.specs.Step.{cause, done, victims, after}
-use Rattle.cache_model.specs.Runs.{Copy, Copies, Deed, after_deed, after_run, row_copy, copy_in, reply_copy, copies_with, copies_done, copies_unless, copies_after, copies_run}
-use Rattle.cache_model.specs.Runs.Deed.{Calls, Leaves, Forgets}
+use Rattle.cache_model.specs.Step.{victims}
 use Rattle.cache_model.proofs.RowLaws.{name-row_or_new}
 use Rattle.cache_model.proofs.RoomLaws.{request_spared, row_of-spared}
 use Rattle.cache_model.proofs.EngineLaws.{content-nothing}

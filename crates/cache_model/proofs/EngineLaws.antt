@@ -1,33 +1,6 @@
 -- The laws of the engine's meaning.
-use Rattle.std.proofs.Common.{◌≡◌, ℕ, ◌+◌, ◌-◌, ◌≤◌, Bool, IsTrue, true, false, not, ◌&&◌, List, [], ◌∷◌, ◌++◌, append-nil, append_assoc, Option, None, Some, length, length-append, filter, take, drop, slice_get, fold, ◌⊎◌, inl, inr, ⊎_elim, refl, sym, ap, subst, ◌∙◌, arith}
-use Rattle.std.specs.List.{list_all}
-use Rattle.std.proofs.lemmas.Bool.{and_parts, or_from, or_left, or_cases, not-true, false≢true}
-use Rattle.cf_types.specs.Name.{same_name}
-use Rattle.cf_types.specs.declared.names.Name16.{Name16}
-use Rattle.cf_lists.proofs.FilterLaws.{filter_all, list_all_weaker, list_all_both, list_all-filter, list_all-filter_same}
-use Rattle.cf_lists.proofs.TakeLaws.{split_next}
-use Rattle.std.proofs.lemmas.List.{length-map, take_all, take_at, take-append-drop, drop_all}
-use Rattle.std.proofs.lemmas.Option.{slice_get_cases}
-use Rattle.std.proofs.lemmas.List.Folds.{list_all-append, list_any-append}
-use Rattle.std.proofs.lemmas.List.Sums.{sum_by-append}
-use Rattle.cf_types.specs.Forms.{is_cache}
-use Rattle.cf_types.specs.declared.forms.Caps.{Caps}
-use Rattle.cf_types.specs.declared.forms.Kind.{Kind}
+use Rattle.cache_model.proofs.Names.{◌≡◌, ℕ, ◌+◌, ◌-◌, ◌≤◌, Bool, IsTrue, true, false, not, ◌&&◌, List, [], ◌∷◌, ◌++◌, append-nil, append_assoc, Option, None, Some, length, length-append, filter, take, drop, slice_get, fold, ◌⊎◌, inl, inr, ⊎_elim, refl, sym, ap, subst, ◌∙◌, arith, list_all, and_parts, or_from, or_left, or_cases, not-true, false≢true, same_name, Name16, filter_all, list_all_weaker, list_all_both, list_all-filter, list_all-filter_same, split_next, length-map, take_all, take_at, take-append-drop, drop_all, slice_get_cases, list_all-append, list_any-append, sum_by-append, is_cache, Caps, Kind, ConnId, Shape, Fits, IsNoMore, IsNoMoreOf, FrontLaws, fronts, pairwise, pairwise_front, Registration, regs_for_others, same_name-eq, same_name-sym, registry-filter, CacheItem, is_row_of, elements_in, has_row, may_precede, names_apart, is_sound, Content, IsContent, no_content, content_without, content_forgotten, content_with, content_without_last, regs_without_row, need_of, without_hold, cache_meaning}
 use Rattle.cf_types.specs.declared.forms.Kind.TheVariants as kind
-use Rattle.cf_types.specs.declared.numbers.ConnId.{ConnId}
-use Rattle.engine_api.specs.declared.shapes.Shape.{Shape}
-use Rattle.engine_api.specs.Items.{Fits, IsNoMore, IsNoMoreOf}
-use Rattle.engine_api.proofs.FrontLaws.{FrontLaws, fronts}
-use Rattle.cf_lists.specs.Pairwise.{pairwise}
-use Rattle.cf_lists.proofs.PairwiseLaws.{pairwise_front}
-use Rattle.cache_regs.specs.declared.registrations.Registration.{Registration}
-use Rattle.cache_regs.specs.Registrations.{regs_for_others}
-use Rattle.cache_regs.proofs.NameLaws.{same_name-eq, same_name-sym}
-use Rattle.cache_regs.proofs.RegLaws.{registry-filter}
-use Rattle.cache_model.specs.declared.items.CacheItem.{CacheItem}
-use Rattle.cache_model.specs.Rows.{is_row_of, elements_in, has_row, may_precede, names_apart, is_sound}
-use Rattle.cache_model.specs.Contents.{Content, IsContent, no_content, content_without, content_forgotten, content_with, content_without_last, regs_without_row, need_of, without_hold}
-use Rattle.cache_model.specs.Meaning.{cache_meaning}
 use Rattle.cache_model.proofs.RowLaws.{size, elements-without_hold}
 use Rattle.cache_model.proofs.ContentLaws as laws
 

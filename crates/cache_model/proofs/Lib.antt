@@ -1,3 +1,4 @@
+pub mod Names
 pub mod RowLaws
 pub mod RoomLaws
 pub mod ContentLaws

@@ -1,25 +1,8 @@
 -- Whatever is done to a content at whatever capacity, its rows and registrations stay in order.
-use Rattle.std.proofs.Common.{◌≡◌, ℕ, false, not, ◌&&◌, ◌||◌, List, Option, Some, None, is_none, refl, arith}
-use Rattle.cf_types.specs.declared.forms.Caps.{Caps}
-use Rattle.cf_types.specs.declared.names.Name16.{Name16}
-use Rattle.cf_types.specs.declared.numbers.ConnId.{ConnId}
-use Rattle.cf_types.specs.declared.refusals.Refusal.{Refusal}
-use Rattle.cf_types.specs.declared.cache_commands.CacheCmd.{CacheCmd}
-use Rattle.cf_types.specs.declared.cache_commands.CacheCmd.TheVariants.{Read, Write, CrossInval, RegList, Castout, Unlock, CoClass, CoStats, DirInfo, Delete, StgStats}
-use Rattle.cf_types.specs.Name.{same_name}
-use Rattle.engine_api.specs.Meaning.{unless_refused}
-use Rattle.cf_lists.proofs.FilterLaws.{list_all-filter, all_found}
-use Rattle.cache_regs.specs.declared.registrations.Registration.{Registration}
-use Rattle.cache_regs.specs.Registrations.{regs_with, regs_without_name, ends_with_name}
-use Rattle.cache_regs.proofs.RegLaws.{registry-with, registry-filter}
-use Rattle.cache_model.specs.Rows.{is_row_of, row_of, has_row, row_or_new, is_sound}
-use Rattle.cache_model.specs.Contents.{Content, IsContent, IsOrderly, content_without, content_forgotten, need_of}
-use Rattle.cache_model.specs.Refusals.{is_changed_row}
+use Rattle.cache_model.proofs.Names.{◌≡◌, ℕ, false, not, ◌&&◌, ◌||◌, List, Option, Some, None, is_none, refl, arith, Caps, Name16, ConnId, Refusal, CacheCmd, Read, Write, CrossInval, RegList, Castout, Unlock, CoClass, CoStats, DirInfo, Delete, StgStats, same_name, unless_refused, list_all-filter, all_found, Registration, regs_with, regs_without_name, ends_with_name, registry-with, registry-filter, is_row_of, row_of, has_row, row_or_new, is_sound, Content, IsContent, IsOrderly, content_without, content_forgotten, need_of, is_changed_row, cause, done, Deed, after_deed, Calls, Leaves, Forgets}
 use Rattle.cache_model.specs.Commands.Read as read
 use Rattle.cache_model.specs.Commands.Write as write
-use Rattle.cache_model.specs.Step.{cause, done, victims}
-use Rattle.cache_model.specs.Runs.{Deed, after_deed}
-use Rattle.cache_model.specs.Runs.Deed.{Calls, Leaves, Forgets}
+use Rattle.cache_model.specs.Step.{victims}
 use Rattle.cache_model.proofs.RowLaws.{name-row_or_new, sound-row_or_new}
 use Rattle.cache_model.proofs.ContentLaws.{orderly_used, orderly-content, each_registered, write_sound, none_hold, unless_true, content-done, content-without, content-forgotten}
 

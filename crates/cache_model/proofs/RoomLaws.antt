@@ -1,24 +1,5 @@
 -- The rows that are reclaimed, and what room they leave.
-use Rattle.std.proofs.Common.{◌≡◌, ℕ, ◌+◌, Bool, true, false, not, ◌&&◌, cond, List, Some, None, is_some, length, filter, nat_le, refl, sym, ap, ◌∙◌, subst}
-use Rattle.std.specs.List.{list_all}
-use Rattle.std.proofs.lemmas.Bool.{and_parts, and_from}
-use Rattle.std.proofs.lemmas.List.Folds.{list_all-append}
-use Rattle.cf_types.specs.declared.forms.Caps.{Caps}
-use Rattle.cf_types.specs.declared.names.Name16.{Name16}
-use Rattle.cf_types.specs.declared.refusals.Refusal.TheVariants.{DirectoryFull, NoElements}
-use Rattle.cf_types.specs.Name.{same_name}
-use Rattle.cf_lists.specs.Pairwise.{pairwise}
-use Rattle.cf_lists.specs.Prefixes.{shortest_prefix}
-use Rattle.cf_lists.proofs.FilterLaws.{list_any-map, list_all-filter, list_all_weaker, list_all-filter_same, none_from_all, any_is_found, filter-filter}
-use Rattle.cf_lists.proofs.PairwiseLaws.{pairwise-filter, pairwise_split}
-use Rattle.cf_lists.proofs.PrefixLaws.{list_all-shortest_prefix, pairwise-shortest_prefix, shortest_prefix-enough}
-use Rattle.cf_lists.proofs.KeyLaws.{AllFound, found_filter, found_append, found_prefix, sum_by_spared, length_spared, find-spared, apart_sym}
-use Rattle.cache_regs.proofs.NameLaws.{same_name-eq, same_name-refl}
-use Rattle.cache_model.specs.declared.items.CacheItem.{CacheItem}
-use Rattle.cache_model.specs.declared.requests.Request.{Request}
-use Rattle.cache_model.specs.Rows.{is_row_of, is_changed, has_storage, elements_in, row_of, has_row, names_apart, IsDirectory}
-use Rattle.cache_model.specs.Contents.{is_among, rows_spared}
-use Rattle.cache_model.specs.Room.{is_reclaimable, reclaim_order, has_place, free_elements, has_room, victims, elements_refusal, room_refusal}
+use Rattle.cache_model.proofs.Names.{◌≡◌, ℕ, ◌+◌, Bool, true, false, not, ◌&&◌, cond, List, Some, None, is_some, length, filter, nat_le, refl, sym, ap, ◌∙◌, subst, list_all, and_parts, and_from, list_all-append, Caps, Name16, DirectoryFull, NoElements, same_name, pairwise, shortest_prefix, list_any-map, list_all-filter, list_all_weaker, list_all-filter_same, none_from_all, any_is_found, filter-filter, pairwise-filter, pairwise_split, list_all-shortest_prefix, pairwise-shortest_prefix, shortest_prefix-enough, AllFound, found_filter, found_append, found_prefix, sum_by_spared, length_spared, find-spared, apart_sym, same_name-eq, same_name-refl, CacheItem, Request, is_row_of, is_changed, has_storage, elements_in, row_of, has_row, names_apart, IsDirectory, is_among, rows_spared, is_reclaimable, reclaim_order, has_place, free_elements, has_room, victims, elements_refusal, room_refusal}
 use Rattle.cache_model.proofs.RowLaws.{name_of, size}
 
 -- the rows that go

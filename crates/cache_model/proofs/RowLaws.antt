@@ -1,23 +1,6 @@
 -- A directory stays one when a row takes the place of the row of its name.
-use Rattle.std.proofs.Common.{◌≡◌, ℕ, ◌+◌, ◌≤◌, Bool, true, false, not, ◌&&◌, ◌||◌, cond, List, [], ◌∷◌, ◌++◌, Option, Some, None, is_some, is_none, unwrap_or, length, length-append, filter, map, refl, sym, ap, ◌∙◌, subst, arith}
-use Rattle.std.specs.List.{list_all}
-use Rattle.std.proofs.lemmas.Bool.{and_parts, and_from, or_left, not-true, false≢true}
-use Rattle.std.proofs.lemmas.List.Folds.{list_all-append, list_any-append, list_all-map, fold-map}
-use Rattle.std.proofs.lemmas.List.Sums.{sum_by_push}
-use Rattle.std.proofs.lemmas.Map.Views.{any-filter_same}
-use Rattle.cf_types.specs.declared.names.Name16.{Name16}
-use Rattle.cf_types.specs.declared.numbers.ConnId.{ConnId}
-use Rattle.cf_types.specs.Name.{same_name, name_before}
-use Rattle.cf_lists.specs.Pairwise.{pairwise}
-use Rattle.cf_lists.specs.Insertions.{insertion}
-use Rattle.cf_lists.proofs.FilterLaws.{list_all-filter, list_all_weaker, list_all_always, list_all-filter_same, none_filtered, all_from_none, filter_all, all_found, found_passes}
-use Rattle.cf_lists.proofs.InsertionLaws.{list_all-insertion, list_any-insertion, length-insertion, sum_by-insertion}
-use Rattle.cf_lists.proofs.PairwiseLaws.{FindsPlace, pairwise-filter, pairwise_push, pairwise-insertion, pairwise-insertion_any, pairwise-map}
-use Rattle.cf_lists.proofs.KeyLaws.{sum_by_without, length_without}
-use Rattle.cache_regs.proofs.NameLaws.{same_name-eq, same_name-refl, same_name-sym, name_before-trans, name_before-else}
-use Rattle.cache_model.specs.declared.items.CacheItem.{CacheItem}
-use Rattle.cache_model.specs.Rows.{is_row_of, is_changed, is_held_by, elements_of, elements_in, row_of, has_row, rows_without, stands_before, rows_with, rows_replaced, new_row, row_or_new, may_precede, names_apart, is_sound, IsDirectory}
-use Rattle.cache_model.specs.Contents.{without_hold}
+use Rattle.cache_model.proofs.Names.{◌≡◌, ℕ, ◌+◌, ◌≤◌, Bool, true, false, not, ◌&&◌, ◌||◌, cond, List, [], ◌∷◌, ◌++◌, Option, Some, None, is_some, is_none, unwrap_or, length, length-append, filter, map, refl, sym, ap, ◌∙◌, subst, arith, list_all, and_parts, and_from, or_left, not-true, false≢true, list_all-append, list_any-append, list_all-map, fold-map, sum_by_push, any-filter_same, Name16, ConnId, same_name, name_before, pairwise, insertion, list_all-filter, list_all_weaker, list_all_always, list_all-filter_same, none_filtered, all_from_none, filter_all, all_found, found_passes, list_all-insertion, list_any-insertion, length-insertion, sum_by-insertion, FindsPlace, pairwise-filter, pairwise_push, pairwise-insertion, pairwise-insertion_any, pairwise-map, sum_by_without, length_without, same_name-eq, same_name-refl, same_name-sym, name_before-trans, name_before-else, CacheItem, is_row_of, is_changed, is_held_by, elements_of, elements_in, row_of, has_row, rows_without, rows_with, rows_replaced, new_row, row_or_new, may_precede, names_apart, is_sound, IsDirectory, without_hold}
+use Rattle.cache_model.specs.Rows.{stands_before}
 
 abbrev pub name_of : CacheItem → Name16
 name_of row = row.name

@@ -1,34 +1,11 @@
 -- A row that was written as changed stays, changed and with the data that were written, until it is cast out or
 -- deleted.
-use Rattle.std.proofs.Common.{◌≡◌, ℕ, Bool, true, false, not, ◌&&◌, ◌||◌, cond, List, [], ◌∷◌, Option, Some, None, is_some, is_none, unwrap_or, option_map, map, refl, sym, ap, ◌∙◌, subst}
-use Rattle.std.specs.List.{list_any, list_all}
-use Rattle.std.proofs.lemmas.Bool.{and_parts, not-true, false≢true}
-use Rattle.cf_types.specs.declared.forms.Caps.{Caps}
-use Rattle.cf_types.specs.declared.names.Name16.{Name16}
-use Rattle.cf_types.specs.declared.numbers.ConnId.{ConnId}
-use Rattle.cf_types.specs.declared.refusals.Refusal.{Refusal}
-use Rattle.cf_types.specs.declared.refusals.Refusal.TheVariants.{NotHeld}
-use Rattle.cf_types.specs.declared.cache_commands.CacheCmd.{CacheCmd}
-use Rattle.cf_types.specs.declared.cache_commands.CacheCmd.TheVariants.{Read, Write, CrossInval, RegList, Castout, Unlock, CoClass, CoStats, DirInfo, Delete, StgStats}
-use Rattle.cf_types.specs.Name.{same_name}
-use Rattle.engine_api.specs.Meaning.{unless_refused, first_refusal}
-use Rattle.cf_lists.proofs.FilterLaws.{list_any-map}
-use Rattle.cache_regs.proofs.NameLaws.{same_name-eq}
-use Rattle.cache_model.specs.declared.items.CacheItem.{CacheItem}
-use Rattle.cache_dir.specs.declared.row.Holder.{Holder}
-use Rattle.cache_model.specs.declared.requests.Request.{Request}
-use Rattle.cache_model.specs.Rows.{is_row_of, is_changed, is_held_by, row_of, rows_without, rows_replaced, new_row, row_or_new, IsDirectory}
-use Rattle.cache_model.specs.Contents.{Content, IsContent, no_content, without_hold, is_among, rows_spared}
-use Rattle.cache_model.specs.Room.{victims}
-use Rattle.cache_model.specs.Refusals.{entry_refusal, not_held_refusal, is_changed_row}
+use Rattle.cache_model.proofs.Names.{◌≡◌, ℕ, Bool, true, false, not, ◌&&◌, ◌||◌, cond, List, [], ◌∷◌, Option, Some, None, is_some, is_none, unwrap_or, option_map, map, refl, sym, ap, ◌∙◌, subst, list_any, list_all, and_parts, not-true, false≢true, Caps, Name16, ConnId, Refusal, NotHeld, CacheCmd, Read, Write, CrossInval, RegList, Castout, Unlock, CoClass, CoStats, DirInfo, Delete, StgStats, same_name, unless_refused, first_refusal, list_any-map, same_name-eq, CacheItem, Holder, Request, is_row_of, is_changed, is_held_by, row_of, rows_without, rows_replaced, new_row, row_or_new, IsDirectory, Content, IsContent, no_content, without_hold, is_among, rows_spared, victims, entry_refusal, not_held_refusal, is_changed_row, cause, done, after, Deed, after_deed, after_run, Calls, Leaves, Forgets, Uncast, Uncasts, uncast_with, uncast_written, uncast_cast, uncast_unlocked, uncast_done, uncast_unless, uncast_after, uncast_run, is_settled, HasWritten, Kept}
 use Rattle.cache_model.specs.Commands.Read as read
 use Rattle.cache_model.specs.Commands.Write as write
 use Rattle.cache_model.specs.Commands.Castout as castout
 use Rattle.cache_model.specs.Commands.Unlock as unlock
-use Rattle.cache_model.specs.Step.{cause, done, victims as victims_of, after}
-use Rattle.cache_model.specs.Runs.{Deed, after_deed, after_run}
-use Rattle.cache_model.specs.Runs.Deed.{Calls, Leaves, Forgets}
-use Rattle.cache_model.specs.Uncast.{Uncast, Uncasts, uncast_with, uncast_written, uncast_cast, uncast_unlocked, uncast_done, uncast_unless, uncast_after, uncast_run, is_settled, HasWritten, Kept}
+use Rattle.cache_model.specs.Step.{victims as victims_of}
 use Rattle.cache_model.proofs.RowLaws.{name_of, name-row_or_new}
 use Rattle.cache_model.proofs.RoomLaws.{gone, goes, OnesFound, row_of-spared}
 use Rattle.cache_model.proofs.ContentLaws.{none_hold, unless_true}

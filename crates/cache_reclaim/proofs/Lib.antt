@@ -1,3 +1,4 @@
+pub mod Names
 pub mod NameKeys
 pub mod LastUseLaws
 pub mod MapLaws

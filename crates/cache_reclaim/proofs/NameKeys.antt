@@ -1,8 +1,5 @@
 -- Names as keys.
-use Rattle.std.proofs.Common.{◌≡◌, ℕ, Bool, true, false, List, refl, sym, ap, ◌≢◌}
-use Rattle.std.specs.Cmp.Lexicographic.{bytes_decides}
-use Rattle.cf_types.specs.declared.names.Name16.{Name16}
-use Rattle.cf_types.specs.Name.{same_name}
+use Rattle.cache_reclaim.proofs.Names.{◌≡◌, ℕ, Bool, true, false, List, refl, sym, ap, ◌≢◌, bytes_decides, Name16, same_name}
 
 pub same_name-eq : (a b : Name16) → same_name a b ≡ true → a ≡ b
 same_name-eq a b h =

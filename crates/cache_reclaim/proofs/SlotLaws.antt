@@ -1,22 +1,7 @@
 -- A slot that is written, and one that is freed.
-use Rattle.std.proofs.Common.{◌≡◌, ◌≢◌, ℕ, suc, ◌-◌, ◌<◌, Bool, true, false, not, nat_eq, cond, List, [], ◌∷◌, ◌++◌, reverse, length, filter, get_or, Option, Some, None, IsSome, Result, Ok, Err, OnOk, IsOk, is_some, refl, sym, ap, ◌∙◌, subst, arith}
-use Rattle.std.specs.List.{IsDistinct, cons_option, slice_get, filter_map}
-use Rattle.std.specs.Map.{keys_of, lookup, lookup_entry, remove_entry}
-use Rattle.std.specs.Cmp.{nat_eq_equiv}
-use Rattle.std.proofs.lemmas.Bool.{false≢true, eqb-true, eq-eqb}
-use Rattle.std.proofs.lemmas.List.{reverse-append, append_assoc, length-append, append-nil, length-reverse, take_all}
-use Rattle.std.proofs.lemmas.List.Elements.{filter_map-append, filter-append}
-use Rattle.std.proofs.lemmas.Map.{NonePasses, lookup-remove_entry, lookup-none}
-use Rattle.std.proofs.lemmas.Map.Entries.{none_past_head, lookup_from_place}
-use Rattle.std.proofs.lemmas.Option.{slice_get-get_or}
-use Rattle.lru.specs.LruCache.{LruCache, lru_cache, put_entries, last_entry}
-use Rattle.std.specs.declared.alloc.AllocFailed.{AllocFailed}
-use Rattle.std.proofs.lemmas.List.Sorted.{list_any-IsPermutation, IsPermutation-reverse}
-use Rattle.cache_reclaim.specs.declared.used.Used.{Used}
-use Rattle.cf_types.specs.declared.names.Name16.{Name16}
-use Rattle.cf_types.specs.Name.{same_name}
-use Rattle.cache_reclaim.specs.LastUse.{order_without, order_touched, has_name, is_in_part}
-use Rattle.cache_reclaim.specs.Slots.{used_in, part_of, by_name, IsFree, EndsFree, ends_free, IsTied, IsSlotOf, WritesName}
+use Rattle.cache_reclaim.proofs.Names.{◌≡◌, ◌≢◌, ℕ, suc, ◌-◌, ◌<◌, Bool, true, false, not, nat_eq, cond, List, [], ◌∷◌, ◌++◌, reverse, length, filter, get_or, Option, Some, None, IsSome, Result, Ok, Err, OnOk, IsOk, is_some, refl, sym, ap, ◌∙◌, subst, arith, IsDistinct, cons_option, filter_map, keys_of, lookup, lookup_entry, remove_entry, nat_eq_equiv, false≢true, eqb-true, eq-eqb, reverse-append, length-append, length-reverse, take_all, filter_map-append, filter-append, NonePasses, lookup-remove_entry, lookup-none, none_past_head, lookup_from_place, slice_get-get_or, LruCache, lru_cache, put_entries, last_entry, AllocFailed, list_any-IsPermutation, IsPermutation-reverse, Used, Name16, same_name, order_without, order_touched, has_name, is_in_part, used_in, part_of, by_name, IsFree, EndsFree, ends_free, IsTied, IsSlotOf, WritesName}
+use Rattle.std.specs.List.{slice_get}
+use Rattle.std.proofs.lemmas.List.{append_assoc, append-nil}
 use Rattle.cache_reclaim.proofs.NameKeys.{same_name-eq, same_name-from, same_name-sym, same_name-ne}
 
 -- ---- a slot that is there

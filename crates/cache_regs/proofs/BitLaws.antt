@@ -1,19 +1,5 @@
 -- The bits that change when registrations come and end.
-use Rattle.std.proofs.Common.{◌≡◌, ℕ, Bool, true, false, not, ◌&&◌, ◌||◌, ◌==◌, List, [], ◌∷◌, ◌++◌, filter, append-nil, refl, sym, ap, ◌∙◌, subst₂, inl, inr, ◌⊎◌, arith}
-use Rattle.std.specs.List.{list_any}
-use Rattle.std.proofs.lemmas.Bool.{and_parts, false≢true, eqb-true, eq-eqb}
-use Rattle.std.proofs.lemmas.Bool.Decides.{nat_tests}
-use Rattle.std.proofs.lemmas.Map.Views.{any-filter_same}
-use Rattle.cf_types.specs.declared.names.Name16.{Name16}
-use Rattle.cf_types.specs.declared.numbers.ConnId.{ConnId}
-use Rattle.cf_types.specs.declared.effects.BitChange.{BitChange}
-use Rattle.cf_types.specs.Gains.{Gains}
-use Rattle.cf_types.proofs.GainsLaws.{Falls, gains_none, gains_one, gains_then}
-use Rattle.cf_lists.proofs.FilterLaws.{any-filter}
-use Rattle.cf_lists.proofs.InsertionLaws.{list_any-insertion, list_any-insertion_kept}
-use Rattle.cache_regs.specs.declared.registrations.Registration.{Registration}
-use Rattle.cache_regs.specs.Registrations.{is_of, is_at, is_for, is_replaced, regs_with, stands, stands_before}
-use Rattle.cache_regs.specs.Places.{with_reg, set_changes}
+use Rattle.cache_regs.proofs.Names.{◌≡◌, ℕ, Bool, true, false, not, ◌&&◌, ◌||◌, ◌==◌, List, [], ◌∷◌, ◌++◌, filter, append-nil, refl, sym, ap, ◌∙◌, subst₂, inl, inr, ◌⊎◌, arith, list_any, and_parts, false≢true, eqb-true, eq-eqb, nat_tests, any-filter_same, Name16, ConnId, BitChange, Gains, Falls, gains_none, gains_one, gains_then, any-filter, list_any-insertion, list_any-insertion_kept, Registration, is_of, is_at, is_for, is_replaced, regs_with, stands, stands_before, with_reg, set_changes}
 
 -- ---- one registration goes or comes
 

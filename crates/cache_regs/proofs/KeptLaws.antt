@@ -1,13 +1,5 @@
 -- What is true of each registration stays so.
-use Rattle.std.proofs.Common.{◌≡◌, ℕ, Bool, true, not, List, filter, ◌∙◌}
-use Rattle.std.specs.List.{list_all}
-use Rattle.std.proofs.lemmas.Bool.{and_from}
-use Rattle.cf_types.specs.declared.names.Name16.{Name16}
-use Rattle.cf_types.specs.declared.numbers.ConnId.{ConnId}
-use Rattle.cf_lists.proofs.FilterLaws.{list_all-filter}
-use Rattle.cf_lists.proofs.InsertionLaws.{list_all-insertion}
-use Rattle.cache_regs.specs.declared.registrations.Registration.{Registration}
-use Rattle.cache_regs.specs.Registrations.{is_replaced, regs_with, stands_before}
+use Rattle.cache_regs.proofs.Names.{◌≡◌, ℕ, Bool, true, not, List, filter, ◌∙◌, list_all, and_from, Name16, ConnId, list_all-filter, list_all-insertion, Registration, is_replaced, regs_with, stands_before}
 
 -- where it is true of the new one
 pub all_with : (p : Registration → Bool) (conn : ConnId) (index : ℕ) (name : Name16) (regs : List Registration)

@@ -1,24 +1,6 @@
 -- The entries of a map by connector and index, in order.
-use Rattle.std.proofs.Common.{◌≡◌, ℕ, zero, suc, ◌+◌, Bool, true, false, not, ◌&&◌, ◌||◌, cond, nat_lt, nat_eq, ◌==◌, List, [], ◌∷◌, Option, Some, None, is_some, option_map, length, slice_get, filter, find, refl, sym, ap, ◌∙◌, subst, arith}
-use Rattle.std.specs.List.{list_any, list_all, IsDistinct}
-use Rattle.std.specs.Map.{keys_of, lookup}
-use Rattle.std.specs.Cmp.{IsEquivalence, nat_eq_equiv, and_equiv, on_equiv}
-use Rattle.std.specs.Cmp.Lexicographic.{nat_list_eq_equiv, pointwise, bytes_decides}
-use Rattle.std.proofs.lemmas.Bool.{and_parts, and_from, eqb-true, eq-eqb}
-use Rattle.std.proofs.lemmas.Bool.Decides.{nat_tests}
-use Rattle.std.proofs.lemmas.Map.{lookup-none}
-use Rattle.std.proofs.lemmas.Map.Entries.{none_past_head, option_filter}
-use Rattle.cf_types.specs.declared.names.Name16.{Name16}
-use Rattle.cf_types.specs.declared.numbers.ConnId.{ConnId}
-use Rattle.cf_lists.specs.Pairwise.{pairwise}
-use Rattle.cf_lists.proofs.InsertionLaws.{length-insertion, find-insertion_past, find-insertion_here}
-use Rattle.cf_lists.proofs.FilterLaws.{any_is_found, all_from_none, find_none, none_from_all, list_all_weaker}
-use Rattle.cf_lists.proofs.PairwiseLaws.{pairwise-filter, pairwise-insertion}
-use Rattle.cache_regs.specs.declared.registrations.Registration.{Registration}
-use Rattle.cache_regs.specs.Registrations.{is_at, registered_at, stands, stands_before}
-use Rattle.cache_regs.specs.Maps.{place_eq, named_eq, at_place, reg_of, regs_in, WritesPlace}
+use Rattle.cache_regs.proofs.Names.{◌≡◌, ℕ, zero, suc, ◌+◌, Bool, true, false, not, ◌&&◌, ◌||◌, cond, nat_lt, nat_eq, ◌==◌, List, [], ◌∷◌, Option, Some, None, is_some, option_map, length, slice_get, filter, find, refl, sym, ap, ◌∙◌, subst, arith, list_any, list_all, IsDistinct, keys_of, lookup, IsEquivalence, nat_eq_equiv, and_equiv, on_equiv, nat_list_eq_equiv, pointwise, bytes_decides, and_parts, and_from, eqb-true, eq-eqb, nat_tests, lookup-none, none_past_head, option_filter, Name16, ConnId, pairwise, length-insertion, find-insertion_past, find-insertion_here, any_is_found, all_from_none, find_none, none_from_all, list_all_weaker, pairwise-filter, pairwise-insertion, Registration, is_at, registered_at, stands, stands_before, place_eq, named_eq, at_place, reg_of, regs_in, WritesPlace, ordered_same}
 use Rattle.cache_regs.proofs.RegLaws.{finds_place, places_apart}
-use Rattle.cf_lists.proofs.OrderLaws.{ordered_same}
 
 pub place_laws : IsEquivalence place_eq
 place_laws = and_equiv (on_equiv (λ (x : ℕ × ℕ). x.0) nat_eq_equiv) (on_equiv (λ (x : ℕ × ℕ). x.1) nat_eq_equiv)

@@ -1,17 +1,5 @@
 -- Registrations stay in order, with one for an index and one for a name.
-use Rattle.std.proofs.Common.{◌≡◌, ℕ, ◌≤◌, Bool, true, false, not, ◌&&◌, ◌||◌, ◌==◌, nat_lt, cond, List, [], ◌∷◌, length, filter, refl, ◌∙◌, subst₂, arith}
-use Rattle.std.specs.List.{list_all}
-use Rattle.std.proofs.lemmas.Bool.{and_parts, false≢true, eqb-true}
-use Rattle.std.proofs.lemmas.Bool.Decides.{nat_tests}
-use Rattle.std.proofs.lemmas.List.Elements.{filter_agree}
-use Rattle.cf_types.specs.declared.names.Name16.{Name16}
-use Rattle.cf_types.specs.declared.numbers.ConnId.{ConnId}
-use Rattle.cf_types.specs.Name.{same_name}
-use Rattle.cf_lists.specs.Pairwise.{pairwise}
-use Rattle.cf_lists.proofs.FilterLaws.{filter-filter, filter_none, length-filter-le, none_from_all, list_all_weaker, list_all-filter_same}
-use Rattle.cf_lists.proofs.PairwiseLaws.{FindsPlace, pairwise-filter, pairwise-insertion, pairwise-insertion_any}
-use Rattle.cache_regs.specs.declared.registrations.Registration.{Registration}
-use Rattle.cache_regs.specs.Registrations.{is_of, is_at, is_for, is_replaced, regs_with, stands_before, names_apart, IsRegistry}
+use Rattle.cache_regs.proofs.Names.{◌≡◌, ℕ, ◌≤◌, Bool, true, false, not, ◌&&◌, ◌||◌, ◌==◌, nat_lt, cond, List, [], ◌∷◌, length, filter, refl, ◌∙◌, subst₂, arith, list_all, and_parts, false≢true, eqb-true, nat_tests, filter_agree, Name16, ConnId, same_name, pairwise, filter-filter, filter_none, length-filter-le, none_from_all, list_all_weaker, list_all-filter_same, FindsPlace, pairwise-filter, pairwise-insertion, pairwise-insertion_any, Registration, is_of, is_at, is_for, is_replaced, regs_with, stands_before, names_apart, IsRegistry}
 use Rattle.cache_regs.proofs.NameLaws.{same_name-eq, same_name-sym}
 
 -- ---- the order

@@ -1,20 +1,5 @@
 -- What commands do to the row of a name, and the rows that they end for it.
-use Rattle.std.proofs.Common.{◌≡◌, ℕ, ◌+◌, ◌≤◌, Bool, true, false, not, ◌&&◌, ◌||◌, List, [], ◌∷◌, Option, Some, None, unwrap_or, length, drop, get_or, refl, sym, ap, ◌∙◌, subst, arith}
-use Rattle.std.proofs.lemmas.Bool.{or_left, false≢true}
-use Rattle.std.proofs.lemmas.List.{drop_more, drop_all}
-use Rattle.std.proofs.lemmas.List.Elements.{filter_agree}
-use Rattle.cf_types.specs.declared.names.Name16.{Name16}
-use Rattle.cf_types.specs.Name.{same_name}
-use Rattle.cf_lists.proofs.FilterLaws.{filter-filter, filter_all, find-filter, find_none, list_all_always}
-use Rattle.cache_regs.proofs.NameLaws.{same_name-eq}
-use Rattle.cache_model.specs.declared.items.CacheItem.{CacheItem}
-use Rattle.cache_model.specs.Rows.{is_row_of, row_of, has_row, rows_without, rows_with, rows_replaced, new_row, row_or_new}
-use Rattle.cache_model.specs.Contents.{is_among, rows_spared}
-use Rattle.cache_model.specs.Commands.Write.{row_with}
-use Rattle.cache_model.proofs.RowLaws.{without-absent}
-use Rattle.cache_rows.specs.declared.label.Label.{Label}
-use Rattle.cache_rows.specs.Stored.{label_of, label_written, item_with, body_of}
-use Rattle.cache_rows.specs.Listed.{relabeled, rows_but}
+use Rattle.cache_rows.proofs.Names.{◌≡◌, ℕ, ◌+◌, ◌≤◌, Bool, true, false, not, ◌&&◌, ◌||◌, List, [], ◌∷◌, Option, Some, None, unwrap_or, length, drop, get_or, refl, sym, ap, ◌∙◌, subst, arith, or_left, false≢true, drop_more, drop_all, filter_agree, Name16, same_name, filter-filter, filter_all, find-filter, find_none, list_all_always, same_name-eq, CacheItem, is_row_of, row_of, has_row, rows_without, rows_with, rows_replaced, new_row, row_or_new, is_among, rows_spared, row_with, without-absent, Label, label_of, label_written, item_with, body_of, relabeled, rows_but}
 
 -- ---- rows that go, but for one
 

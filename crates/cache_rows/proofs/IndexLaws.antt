@@ -1,30 +1,7 @@
 -- The indexes stay those of the rows.
-use Rattle.std.proofs.Common.{◌≡◌, ℕ, ◌≤◌, Bool, true, false, not, ◌&&◌, ◌||◌, cond, List, [], ◌∷◌, ◌++◌, append-nil, Option, Some, None, is_some, unwrap_or, filter, map, refl, sym, ap, ◌∙◌, arith}
-use Rattle.std.specs.List.{list_all}
-use Rattle.std.proofs.lemmas.Bool.{and_parts, or_left, or_right, false≢true}
-use Rattle.std.proofs.lemmas.List.{map-append}
-use Rattle.std.proofs.lemmas.List.Elements.{filter-append}
-use Rattle.cf_types.specs.declared.names.Name16.{Name16}
-use Rattle.cf_types.specs.declared.numbers.ConnId.{ConnId}
-use Rattle.cf_types.specs.Name.{same_name, name_before}
-use Rattle.cf_lists.specs.Pairwise.{pairwise}
-use Rattle.cf_lists.specs.Insertions.{insertion}
-use Rattle.cf_lists.proofs.FilterLaws.{filter_swap, filter_none, none_from_all, list_all_weaker, list_all_always}
-use Rattle.cf_lists.proofs.InsertionLaws.{filter-insertion_out}
-use Rattle.cf_lists.proofs.PairwiseLaws.{FindsPlace, pairwise-insertion, pairwise_push}
-use Rattle.cache_classes.specs.declared.changed.Changed.{Changed}
+use Rattle.cache_rows.proofs.Names.{◌≡◌, ℕ, ◌≤◌, Bool, true, false, not, ◌&&◌, ◌||◌, cond, List, [], ◌∷◌, ◌++◌, append-nil, Option, Some, None, is_some, unwrap_or, filter, map, refl, sym, ap, ◌∙◌, arith, list_all, and_parts, or_left, or_right, false≢true, map-append, filter-append, Name16, ConnId, same_name, name_before, pairwise, insertion, filter_swap, filter_none, none_from_all, list_all_weaker, list_all_always, filter-insertion_out, FindsPlace, pairwise-insertion, pairwise_push, Changed, names_without, names_with, names_set, room_taken, Used, order_without, order_touched, same_name-refl, CacheItem, is_row_of, is_changed, has_row, rows_without, stands_before, rows_with, may_precede, names_apart, without_hold, without-absent, alone-next, is_unchanged, changed_of, classes_of, used_of, order_of, order_with, changed_first}
 use Rattle.cache_classes.specs.Castout as castout
-use Rattle.cache_classes.specs.Castout.{names_without, names_with, names_set, room_taken}
-use Rattle.cache_reclaim.specs.declared.used.Used.{Used}
 use Rattle.cache_reclaim.specs.LastUse as last_use
-use Rattle.cache_reclaim.specs.LastUse.{order_without, order_touched}
-use Rattle.cache_regs.proofs.NameLaws.{same_name-refl}
-use Rattle.cache_model.specs.declared.items.CacheItem.{CacheItem}
-use Rattle.cache_model.specs.Rows.{is_row_of, is_changed, has_row, rows_without, stands_before, rows_with, may_precede, names_apart}
-use Rattle.cache_model.specs.Contents.{without_hold}
-use Rattle.cache_model.proofs.RowLaws.{without-absent}
-use Rattle.cache_model.proofs.EngineLaws.{alone-next}
-use Rattle.cache_rows.specs.Indexes.{is_unchanged, changed_of, classes_of, used_of, order_of, order_with, changed_first}
 
 -- ---- filters of maps
 

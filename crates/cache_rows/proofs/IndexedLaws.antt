@@ -1,38 +1,7 @@
 -- A map from names and two indexes hold one list of rows, as rows come and go.
-use Rattle.std.proofs.Common.{◌≡◌, ℕ, zero, suc, ◌+◌, ◌-◌, ◌≤◌, ◌<◌, Bool, true, false, not, ◌&&◌, cond, List, [], ◌∷◌, ◌++◌, Option, Some, None, option_map, option_to_list, slice_get, is_some, unwrap_or, length, length-append, filter, find, map, drop, refl, sym, ap, ◌∙◌, subst, arith}
-use Rattle.std.specs.Option.{option_or}
-use Rattle.std.specs.List.{list_all}
-use Rattle.std.proofs.lemmas.Bool.{and_parts}
-use Rattle.std.proofs.lemmas.List.{map-append, length-map, drop_all}
-use Rattle.std.proofs.lemmas.List.Elements.{filter-append}
-use Rattle.std.proofs.lemmas.List.Folds.{find-append}
-use Rattle.std.proofs.lemmas.Option.{slice_get-map}
-use Rattle.cf_types.specs.declared.names.Name16.{Name16}
-use Rattle.cf_types.specs.declared.numbers.ConnId.{ConnId}
-use Rattle.cf_types.specs.Name.{same_name}
-use Rattle.cf_lists.specs.Pairwise.{pairwise}
-use Rattle.cf_lists.specs.Insertions.{insertion}
-use Rattle.cf_lists.proofs.FilterLaws.{filter-filter, filter_swap, find-filter, find_none, any_is_found, length-filter-le}
-use Rattle.cf_lists.proofs.InsertionLaws.{find-insertion_past, find-insertion_here}
-use Rattle.cf_lists.proofs.KeyLaws.{found_filter}
-use Rattle.cf_lists.proofs.PairwiseLaws.{pairwise-filter, pairwise-map}
-use Rattle.cache_classes.specs.declared.changed.Changed.{Changed}
-use Rattle.cache_classes.specs.Castout.{names_without, names_set}
+use Rattle.cache_rows.proofs.Names.{◌≡◌, ℕ, zero, suc, ◌+◌, ◌-◌, ◌≤◌, ◌<◌, Bool, true, false, not, ◌&&◌, cond, List, [], ◌∷◌, ◌++◌, Option, Some, None, option_map, option_to_list, slice_get, is_some, unwrap_or, length, length-append, filter, find, map, drop, refl, sym, ap, ◌∙◌, subst, arith, option_or, list_all, and_parts, map-append, length-map, drop_all, filter-append, find-append, slice_get-map, Name16, ConnId, same_name, pairwise, insertion, filter-filter, filter_swap, find-filter, find_none, any_is_found, length-filter-le, find-insertion_past, find-insertion_here, found_filter, pairwise-filter, pairwise-map, Changed, names_without, names_set, Writes, Used, order_without, slice_get-front, slice_get-behind, same_name-eq, same_name-refl, same_name-sym, CacheItem, is_row_of, is_changed, row_of, has_row, rows_without, stands_before, rows_with, rows_replaced, new_row, names_apart, has_storage, without_hold, name_of, apart-with, alone-without, is_unchanged, changed_of, used_of, order_with, changed_first, Label, item_with, body_of, row_or, changed_in, unchanged_in, rows_in, IsIndexed, counts_at, relabeled}
 use Rattle.cache_classes.specs.Castout as castout
-use Rattle.cache_model.specs.CacheDir.RowMap.{Writes}
-use Rattle.cache_reclaim.specs.declared.used.Used.{Used}
-use Rattle.cache_reclaim.specs.LastUse.{order_without}
 use Rattle.cache_reclaim.specs.LastUse as last_use
-use Rattle.cache_reclaim.proofs.LastUseLaws.{slice_get-front, slice_get-behind}
-use Rattle.cache_regs.proofs.NameLaws.{same_name-eq, same_name-refl, same_name-sym}
-use Rattle.cache_model.specs.declared.items.CacheItem.{CacheItem}
-use Rattle.cache_model.specs.Rows.{is_row_of, is_changed, row_of, has_row, rows_without, stands_before, rows_with, rows_replaced, new_row, names_apart, has_storage}
-use Rattle.cache_model.specs.Contents.{without_hold}
-use Rattle.cache_model.proofs.RowLaws.{name_of, apart-with, alone-without}
-use Rattle.cache_rows.specs.Indexes.{is_unchanged, changed_of, used_of, order_with, changed_first}
-use Rattle.cache_rows.specs.declared.label.Label.{Label}
-use Rattle.cache_rows.specs.Stored.{item_with, body_of}
-use Rattle.cache_rows.specs.Listed.{row_or, changed_in, unchanged_in, rows_in, IsIndexed, counts_at, relabeled}
 use Rattle.cache_rows.proofs.IndexLaws.{filter-map, map_same, unchanged_behind, classes-without, order-without, classes-put, order-put, front-put, classes-released, order-released}
 use Rattle.cache_rows.proofs.LookupLaws.{AreFound}
 

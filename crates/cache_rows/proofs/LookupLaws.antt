@@ -1,24 +1,7 @@
 -- What the indexes tell of the rows.
-use Rattle.std.proofs.Common.{◌≡◌, ℕ, ◌==◌, Bool, true, false, not, ◌&&◌, List, [], ◌∷◌, ◌++◌, Option, Some, None, option_map, slice_get, is_some, unwrap_or, length, filter, map, suc, zero, ◌-◌, ◌+◌, ◌<◌, take, refl, sym, ap, ◌∙◌, subst, arith}
-use Rattle.std.proofs.lemmas.List.{map-append, length-map, drop_all}
-use Rattle.std.proofs.lemmas.List.Elements.{filter_agree}
-use Rattle.std.proofs.lemmas.Option.{slice_get-map}
-use Rattle.cf_types.specs.declared.names.Name16.{Name16}
-use Rattle.cf_types.specs.Name.{same_name}
-use Rattle.cf_lists.specs.Pairwise.{pairwise}
-use Rattle.cf_lists.proofs.FilterLaws.{filter-filter, filter_all, list_all_always, any_is_found}
-use Rattle.cf_lists.proofs.TakeLaws.{split_next}
-use Rattle.cf_lists.proofs.KeyLaws.{AllFound, found_filter, found_append}
-use Rattle.cache_classes.specs.declared.changed.Changed.{Changed}
+use Rattle.cache_rows.proofs.Names.{◌≡◌, ℕ, ◌==◌, Bool, true, false, not, ◌&&◌, List, [], ◌∷◌, ◌++◌, Option, Some, None, option_map, slice_get, is_some, unwrap_or, length, filter, map, suc, zero, ◌-◌, ◌+◌, ◌<◌, take, refl, sym, ap, ◌∙◌, subst, arith, map-append, length-map, drop_all, filter_agree, slice_get-map, Name16, same_name, pairwise, filter-filter, filter_all, list_all_always, any_is_found, split_next, AllFound, found_filter, found_append, Changed, Used, same_name-eq, same_name-refl, CacheItem, is_row_of, is_changed, row_of, has_row, rows_without, has_class, has_storage, names_apart, rows_of_class, name_of, is_unchanged, changed_of, classes_of, used_of, order_of, reclaimed_for}
 use Rattle.cache_classes.specs.Castout as castout
-use Rattle.cache_reclaim.specs.declared.used.Used.{Used}
 use Rattle.cache_reclaim.specs.LastUse as last_use
-use Rattle.cache_regs.proofs.NameLaws.{same_name-eq, same_name-refl}
-use Rattle.cache_model.specs.declared.items.CacheItem.{CacheItem}
-use Rattle.cache_model.specs.Rows.{is_row_of, is_changed, row_of, has_row, rows_without, has_class, has_storage, names_apart}
-use Rattle.cache_model.specs.Commands.CoStats.{rows_of_class}
-use Rattle.cache_model.proofs.RowLaws.{name_of}
-use Rattle.cache_rows.specs.Indexes.{is_unchanged, changed_of, classes_of, used_of, order_of, reclaimed_for}
 use Rattle.cache_rows.proofs.IndexLaws.{filter-map, map_same, without-last}
 
 -- ---- the names of a castout class

@@ -1,20 +1,5 @@
 -- Rows whose data lie in a pool, as they come and go.
-use Rattle.std.proofs.Common.{◌≡◌, ℕ, Bool, true, false, cond, nat_eq, List, [], ◌∷◌, set, get_or, slice_get, Option, Some, None, option_map, refl, sym, ap, ◌∙◌, subst, get_or-set_other}
-use Rattle.std.specs.Cmp.Lexicographic.{pointwise}
-use Rattle.std.proofs.lemmas.Bool.{false≢true}
-use Rattle.std.proofs.lemmas.Option.{get_or_from_slice_get}
-use Rattle.cf_types.specs.declared.names.Name16.{Name16}
-use Rattle.cf_types.specs.declared.numbers.ConnId.{ConnId}
-use Rattle.cf_types.specs.Name.{same_name}
-use Rattle.cache_model.specs.CfPool.declared.chain.Chain.{Chain}
-use Rattle.cf_lists.proofs.TableLaws.{get-set_other}
-use Rattle.cache_regs.proofs.NameLaws.{same_name-eq}
-use Rattle.cache_model.specs.CacheDir.declared.row.DirRow.{DirRow}
-use Rattle.cache_model.specs.CacheDir.RowMap.{row_at, let_go, Writes}
-use Rattle.cache_model.specs.declared.items.CacheItem.{CacheItem}
-use Rattle.cache_model.specs.Contents.{without_hold}
-use Rattle.cache_rows.specs.declared.label.Label.{Label}
-use Rattle.cache_rows.specs.Stored.{item_with, row_of_label, body_of, body_in, item_in, entries_in, item_at, chains_without, HasBytes, HasData, chain_of, head_of, AreStored}
+use Rattle.cache_rows.proofs.Names.{◌≡◌, ℕ, Bool, true, false, cond, nat_eq, List, [], ◌∷◌, set, get_or, slice_get, Option, Some, None, option_map, refl, sym, ap, ◌∙◌, subst, get_or-set_other, pointwise, false≢true, get_or_from_slice_get, Name16, ConnId, same_name, Chain, get-set_other, same_name-eq, DirRow, row_at, let_go, Writes, CacheItem, without_hold, Label, item_with, row_of_label, body_of, body_in, item_in, entries_in, item_at, chains_without, HasBytes, HasData, chain_of, head_of, AreStored}
 
 abbrev Chains : Type 0
 Chains = List (Option (List ℕ))

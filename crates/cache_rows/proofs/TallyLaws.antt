@@ -1,27 +1,5 @@
 -- What is counted of rows, as rows come and go.
-use Rattle.std.proofs.Common.{◌≡◌, ℕ, ◌+◌, ◌*◌, ◌≤◌, ◌<◌, Bool, true, false, not, ◌&&◌, cond, List, [], ◌∷◌, ◌++◌, Option, Some, None, is_some, is_none, length, length-append, filter, map, sum_by, refl, sym, ap, ◌∙◌, subst, arith}
-use Rattle.std.specs.List.{list_all}
-use Rattle.std.proofs.lemmas.Bool.{and_parts, and_from, leb-true}
-use Rattle.std.proofs.lemmas.List.{length-map}
-use Rattle.std.proofs.lemmas.List.Folds.{list_all-append, list_all-map, fold-map}
-use Rattle.std.proofs.lemmas.List.Sums.{sum_by-cons, sum_by_push}
-use Rattle.cf_types.specs.declared.names.Name16.{Name16}
-use Rattle.cf_types.specs.declared.numbers.ConnId.{ConnId}
-use Rattle.cf_types.specs.Name.{same_name}
-use Rattle.cf_lists.specs.Pairwise.{pairwise}
-use Rattle.cf_lists.specs.Insertions.{insertion}
-use Rattle.cf_lists.proofs.FilterLaws.{any_is_found, list_all-filter, filter-filter, filter_swap}
-use Rattle.cf_lists.proofs.InsertionLaws.{length-insertion, sum_by-insertion, list_all-insertion}
-use Rattle.cf_lists.proofs.KeyLaws.{sum_by_without, length_without}
-use Rattle.cache_regs.proofs.NameLaws.{same_name-eq, same_name-refl}
-use Rattle.cache_model.specs.declared.items.CacheItem.{CacheItem}
-use Rattle.cache_model.specs.Rows.{is_row_of, is_changed, elements_of, elements_in, row_of, has_row, rows_without, stands_before, rows_with, names_apart}
-use Rattle.cache_model.specs.Room.{is_reclaimable}
-use Rattle.cache_model.specs.Contents.{without_hold}
-use Rattle.cache_model.proofs.RowLaws.{name_of, size, without-absent}
-use Rattle.cache_rows.specs.declared.tally.Tally.{Tally}
-use Rattle.cache_rows.specs.Indexes.{is_unchanged}
-use Rattle.cache_rows.specs.Tallies.{one_unchanged, elements_unchanged, is_small, tally_of, tally_with, IsTally, CanGrow, CanShrink}
+use Rattle.cache_rows.proofs.Names.{◌≡◌, ℕ, ◌+◌, ◌*◌, ◌≤◌, ◌<◌, Bool, true, false, not, ◌&&◌, cond, List, [], ◌∷◌, ◌++◌, Option, Some, None, is_some, is_none, length, length-append, filter, map, sum_by, refl, sym, ap, ◌∙◌, subst, arith, list_all, and_parts, and_from, leb-true, length-map, list_all-append, list_all-map, fold-map, sum_by-cons, sum_by_push, Name16, ConnId, same_name, pairwise, insertion, any_is_found, list_all-filter, filter-filter, filter_swap, length-insertion, sum_by-insertion, list_all-insertion, sum_by_without, length_without, same_name-eq, same_name-refl, CacheItem, is_row_of, is_changed, elements_of, elements_in, row_of, has_row, rows_without, stands_before, rows_with, names_apart, is_reclaimable, without_hold, name_of, size, without-absent, Tally, is_unchanged, one_unchanged, elements_unchanged, is_small, tally_of, tally_with, IsTally, CanGrow, CanShrink}
 
 -- ---- sums of a row more, and of a row less
 

@@ -1,9 +1,5 @@
 -- Bytes that go piece by piece.
-use Rattle.std.proofs.Common.{◌≡◌, ℕ, ◌+◌, ◌≤◌, Option, List, ◌++◌, length, take, drop, sym, ap, ◌∙◌, subst, arith, length-append, length-take}
-use Rattle.std.proofs.lemmas.List.{take_at, drop-drop, length-take-le, take-append-drop}
-use Rattle.std.proofs.Math.Seq.{take-add}
-use Rattle.std.specs.Io.KnownBytes.{Appends}
-use Rattle.std.proofs.KnownBytes.{Appends-trans}
+use Rattle.cf_io.proofs.Names.{◌≡◌, ℕ, ◌+◌, ◌≤◌, Option, List, ◌++◌, length, take, drop, sym, ap, ◌∙◌, subst, arith, length-append, length-take, take_at, drop-drop, length-take-le, take-append-drop, take-add, Appends, Appends-trans}
 
 -- what took the first m bytes of a text, and then the first n of the rest, took the first m + n
 pub Appends-more : (a b c : Option (List ℕ)) (text rest : List ℕ) (m n : ℕ) → rest ≡ drop m text

@@ -1,14 +1,6 @@
 -- Lists of lists: all records, one list replaced, the last record gone.
-use Rattle.std.proofs.Common.{◌≡◌, ℕ, ◌+◌, ◌-◌, ◌<◌, Bool, true, false, not, ◌&&◌, ◌||◌, nat_lt, cond, List, [], ◌∷◌, ◌++◌, length, map, filter, get_or, take, drop, set, position, Option, Some, None, is_some, refl, sym, ap, ◌∙◌, arith, suc, zero}
-use Rattle.std.specs.List.{list_any, list_all, position_or_len}
-use Rattle.std.specs.Option.{option_or}
-use Rattle.std.proofs.lemmas.Bool.{and_parts, and_from, false≢true}
-use Rattle.std.proofs.lemmas.List.{append_assoc, map-append, length-map, length-append, nil_from_length, take_all}
-use Rattle.std.proofs.lemmas.List.Folds.{list_any-append, list_all-append}
-use Rattle.std.proofs.lemmas.List.Elements.{filter-append}
-use Rattle.cf_lists.specs.Pairwise.{pairwise}
+use Rattle.cf_lists.proofs.Names.{◌≡◌, ℕ, ◌+◌, ◌-◌, ◌<◌, Bool, true, false, not, ◌&&◌, ◌||◌, nat_lt, cond, List, [], ◌∷◌, ◌++◌, length, map, filter, get_or, take, drop, set, position, Option, Some, None, is_some, refl, sym, ap, ◌∙◌, arith, suc, zero, list_any, list_all, position_or_len, option_or, and_parts, and_from, false≢true, append_assoc, map-append, length-map, length-append, nil_from_length, take_all, list_any-append, list_all-append, filter-append, pairwise, records_of, all_records, IsLastFull}
 use Rattle.cf_lists.proofs.FilterLaws.{none_from_all, list_all_weaker}
-use Rattle.cf_lists.specs.Lists.{records_of, all_records, IsLastFull}
 
 module _ {X : Type 0} where
   -- the records of a header

@@ -1,15 +1,8 @@
 -- What is kept in table entries is seen in order, and a change of one entry is a change of what is seen.
-use Rattle.std.proofs.Common.{◌≡◌, ◌≢◌, ℕ, zero, suc, ◌<◌, ◌==◌, Bool, true, false, not, cond, List, [], ◌∷◌, ◌++◌, filter, length, get_or, set, refl, sym, ap, ◌∙◌, subst, arith}
-use Rattle.std.specs.List.{list_all}
-use Rattle.std.proofs.lemmas.Bool.{eqb-true, eq-eqb, not-true, false≢true}
-use Rattle.std.proofs.lemmas.List.{append-nil, get_or-set_same, get_or-set_other}
-use Rattle.std.proofs.lemmas.List.Elements.{filter-append}
-use Rattle.cf_lists.specs.Insertions.{insertion}
-use Rattle.cf_lists.specs.Pairwise.{pairwise}
+use Rattle.cf_lists.proofs.Names.{◌≡◌, ◌≢◌, ℕ, zero, suc, ◌<◌, ◌==◌, Bool, true, false, not, cond, List, [], ◌∷◌, ◌++◌, filter, length, get_or, set, refl, sym, ap, ◌∙◌, subst, arith, list_all, eqb-true, eq-eqb, not-true, false≢true, append-nil, get_or-set_same, get_or-set_other, filter-append, insertion, pairwise, is_keyed, in_turn, arranged, joined, AreAtHome, IsKeyOrder}
 use Rattle.cf_lists.proofs.FilterLaws.{filter_none, none_from_all, list_all_weaker, list_all_always}
 use Rattle.cf_lists.proofs.PairwiseLaws.{FindsPlace, pairwise-insertion}
 use Rattle.cf_lists.proofs.InsertionLaws.{filter-insertion_out}
-use Rattle.cf_lists.specs.Bins.{is_keyed, in_turn, arranged, joined, AreAtHome, IsKeyOrder}
 use Rattle.cf_lists.proofs.EntryPlaceLaws.{filter-insertion_ahead}
 use Rattle.cf_lists.proofs.TieLaws.{ordered_filters}
 

@@ -1,9 +1,5 @@
 -- Filters, and what holds of all elements, of some, or of the first that passes.
-use Rattle.std.proofs.Common.{◌≡◌, ℕ, ◌≤◌, Bool, true, false, not, ◌&&◌, ◌||◌, cond, List, [], ◌∷◌, Option, Some, None, length, filter, find, sum_by, is_some, map, refl, sym, ap, ◌∙◌, subst, arith}
-use Rattle.std.specs.List.{list_any, list_all}
-use Rattle.std.proofs.lemmas.Bool.{and_parts, and_from, or_right, false≢true}
-use Rattle.std.proofs.lemmas.List.Elements.{filter_agree}
-use Rattle.std.proofs.lemmas.List.Filters.{length-filter_both, sum_by-filter_both}
+use Rattle.cf_lists.proofs.Names.{◌≡◌, ℕ, ◌≤◌, Bool, true, false, not, ◌&&◌, ◌||◌, cond, List, [], ◌∷◌, Option, Some, None, length, filter, find, sum_by, is_some, map, refl, sym, ap, ◌∙◌, subst, arith, list_any, list_all, and_parts, and_from, or_right, false≢true, filter_agree, length-filter_both, sum_by-filter_both}
 
 -- ---- two filters
 

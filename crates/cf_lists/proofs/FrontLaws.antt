@@ -1,13 +1,6 @@
 -- The records up to one of them, and with that one.
-use Rattle.std.proofs.Common.{◌≡◌, ℕ, zero, suc, ◌+◌, ◌<◌, ◌≤◌, ◌||◌, not, Bool, true, false, List, [], ◌∷◌, ◌++◌, length, take, drop, set, replicate, slice_get, Some, refl, sym, ap, ◌∙◌, subst, arith}
-use Rattle.std.specs.List.{list_any}
-use Rattle.std.proofs.lemmas.Bool.{false≢true, eq-eqb}
-use Rattle.std.proofs.lemmas.List.{append_assoc, take_all, length-replicate}
-use Rattle.std.proofs.lemmas.List.Folds.{list_any-append}
-use Rattle.cf_lists.specs.Pairwise.{pairwise}
+use Rattle.cf_lists.proofs.Names.{◌≡◌, ℕ, zero, suc, ◌+◌, ◌<◌, ◌≤◌, ◌||◌, not, Bool, true, false, List, [], ◌∷◌, ◌++◌, length, take, drop, set, replicate, slice_get, Some, refl, sym, ap, ◌∙◌, subst, arith, list_any, false≢true, eq-eqb, append_assoc, take_all, length-replicate, list_any-append, pairwise, all_records, records_of, is_id, ids_apart, front, emptied}
 use Rattle.cf_lists.proofs.TakeLaws.{take_next, split_next}
-use Rattle.cf_lists.specs.Lists.{all_records, records_of, is_id, ids_apart}
-use Rattle.cf_lists.specs.Fronts.{front, emptied}
 use Rattle.cf_lists.proofs.AllLaws.{none_behind, any_all, pairwise_back}
 use Rattle.cf_lists.proofs.IdLaws.{once}
 use Rattle.cf_lists.proofs.RecordSpotLaws.{any_at, any_there}

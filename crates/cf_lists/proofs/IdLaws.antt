@@ -1,16 +1,8 @@
 -- Lists of records with ids: one with an id is in one place at most.
-use Rattle.std.proofs.Common.{◌≡◌, ℕ, ◌+◌, ◌<◌, ◌≤◌, Bool, true, false, not, ◌&&◌, ◌||◌, ◌==◌, nat_lt, if◌then◌else◌, cond, List, [], ◌∷◌, ◌++◌, length, map, filter, find, take, drop, set, slice_get, position, Option, Some, refl, sym, ap, ◌∙◌, subst, arith, suc}
-use Rattle.std.specs.List.{list_any, list_all, position_or_len, insert, remove}
-use Rattle.std.specs.Option.{option_or}
-use Rattle.std.proofs.lemmas.Bool.{and_parts, false≢true, eq-eqb, eqb-true}
-use Rattle.std.proofs.lemmas.Bool.Decides.{nat_tests}
-use Rattle.std.proofs.lemmas.List.{append_assoc, take-append-drop}
-use Rattle.std.proofs.lemmas.List.Folds.{find-append, find_at}
-use Rattle.cf_lists.specs.Pairwise.{pairwise}
+use Rattle.cf_lists.proofs.Names.{◌≡◌, ℕ, ◌+◌, ◌<◌, ◌≤◌, Bool, true, false, not, ◌&&◌, ◌||◌, ◌==◌, nat_lt, if◌then◌else◌, cond, List, [], ◌∷◌, ◌++◌, length, map, filter, find, take, drop, set, slice_get, position, Option, Some, refl, sym, ap, ◌∙◌, subst, arith, suc, list_any, list_all, position_or_len, insert, remove, option_or, and_parts, false≢true, eq-eqb, eqb-true, nat_tests, append_assoc, take-append-drop, find-append, find_at, pairwise, all_records, is_id, has_id, record_of, lists_without, lists_with, lists_replaced, replaced_by, ids_apart}
 use Rattle.cf_lists.proofs.FilterLaws.{any_is_found, find_none, none_filtered, list_all_weaker, filter_all, all_from_none}
 use Rattle.cf_lists.proofs.KeyLaws.{any_is_placed, remove_placed}
 use Rattle.cf_lists.proofs.PairwiseLaws.{pairwise_front, pairwise_weaker, pairwise-filter, pairwise-map}
-use Rattle.cf_lists.specs.Lists.{all_records, is_id, has_id, record_of, lists_without, lists_with, lists_replaced, replaced_by, ids_apart}
 use Rattle.cf_lists.proofs.AllLaws.{list_of, none_behind, any_all, option_left, all-filter, all-map, pairwise_middle, all-set, all-split, pairwise_back}
 
 module _ {X : Type 0} (id_of : X → ℕ) where

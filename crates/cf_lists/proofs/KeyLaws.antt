@@ -1,12 +1,5 @@
 -- Lists whose elements have keys of their own.
-use Rattle.std.proofs.Common.{◌≡◌, ℕ, ◌+◌, Bool, true, false, not, ◌&&◌, ◌||◌, cond, List, [], ◌∷◌, ◌++◌, map, Some, None, length, filter, find, sum_by, position, nat_lt, refl, sym, ap, ◌∙◌, subst, arith, suc}
-use Rattle.std.specs.List.{list_any, list_all, position_or_len, remove}
-use Rattle.std.proofs.lemmas.Bool.{and_parts, not-true, false≢true, lt-ltb}
-use Rattle.std.proofs.lemmas.Bool.Decides.{nat_tests}
-use Rattle.std.proofs.lemmas.List.Elements.{filter_agree}
-use Rattle.std.proofs.lemmas.List.Sums.{sum_by-cons}
-use Rattle.cf_lists.specs.Pairwise.{pairwise}
-use Rattle.cf_lists.specs.Prefixes.{shortest_prefix}
+use Rattle.cf_lists.proofs.Names.{◌≡◌, ℕ, ◌+◌, Bool, true, false, not, ◌&&◌, ◌||◌, cond, List, [], ◌∷◌, ◌++◌, map, Some, None, length, filter, find, sum_by, position, nat_lt, refl, sym, ap, ◌∙◌, subst, arith, suc, list_any, list_all, position_or_len, remove, and_parts, not-true, false≢true, lt-ltb, nat_tests, filter_agree, sum_by-cons, pairwise, shortest_prefix}
 use Rattle.cf_lists.proofs.PairwiseLaws.{pairwise-filter}
 use Rattle.cf_lists.proofs.FilterLaws.{filter_all, filter-filter, find-filter, list_all-filter, list_all_always, none_from_all, all_from_none, list_all_weaker}
 

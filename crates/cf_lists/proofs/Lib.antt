@@ -1,3 +1,4 @@
+pub mod Names
 pub mod FilterLaws
 pub mod InsertionLaws
 pub mod PairwiseLaws

@@ -1,10 +1,5 @@
 -- What holds between each element of a list and each later one.
-use Rattle.std.proofs.Common.{◌≡◌, Bool, true, false, not, ◌&&◌, cond, List, [], ◌∷◌, ◌++◌, filter, map, refl, sym, ap, ◌∙◌}
-use Rattle.std.specs.List.{list_all}
-use Rattle.std.proofs.lemmas.Bool.{and_parts, and_from}
-use Rattle.std.proofs.lemmas.List.Folds.{list_all-append, list_all-map}
-use Rattle.cf_lists.specs.Insertions.{insertion}
-use Rattle.cf_lists.specs.Pairwise.{pairwise}
+use Rattle.cf_lists.proofs.Names.{◌≡◌, Bool, true, false, not, ◌&&◌, cond, List, [], ◌∷◌, ◌++◌, filter, map, refl, sym, ap, ◌∙◌, list_all, and_parts, and_from, list_all-append, list_all-map, insertion, pairwise}
 use Rattle.cf_lists.proofs.FilterLaws.{list_all-filter, list_all_both, list_all_weaker}
 use Rattle.cf_lists.proofs.InsertionLaws.{list_all-insertion}
 

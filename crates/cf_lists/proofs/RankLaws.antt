@@ -1,17 +1,7 @@
 -- The element at a place, found by its resource; and the last of all.
-use Rattle.std.proofs.Common.{◌≡◌, ℕ, zero, suc, ◌+◌, ◌-◌, ◌<◌, ◌≤◌, nat_lt, Bool, true, false, not, ◌&&◌, cond, if◌then◌else◌, drop, get_or, List, [], ◌∷◌, ◌++◌, Option, Some, None, is_some, filter, length, slice_get, refl, sym, ap, ◌∙◌, subst, arith}
-use Rattle.std.specs.List.{list_all}
-use Rattle.std.proofs.lemmas.Bool.{and_parts, not-true, false≢true, lt-ltb}
-use Rattle.std.proofs.lemmas.Bool.Decides.{nat_tests}
-use Rattle.cf_types.specs.declared.resources.Resource.{Resource}
-use Rattle.cf_types.specs.Resources.{Part, same_resource, resource_before}
-use Rattle.cf_types.proofs.ResourceLaws.{same_resource-eq, same_resource-refl}
-use Rattle.cf_lists.specs.Insertions.{insertion}
-use Rattle.cf_lists.specs.Pairwise.{pairwise}
+use Rattle.cf_lists.proofs.Names.{◌≡◌, ℕ, zero, suc, ◌+◌, ◌-◌, ◌<◌, ◌≤◌, nat_lt, Bool, true, false, not, ◌&&◌, cond, if◌then◌else◌, drop, get_or, List, [], ◌∷◌, ◌++◌, Option, Some, None, is_some, filter, length, slice_get, refl, sym, ap, ◌∙◌, subst, arith, list_all, and_parts, not-true, false≢true, lt-ltb, nat_tests, Resource, Part, same_resource, resource_before, same_resource-eq, same_resource-refl, insertion, pairwise, in_turn, arranged, joined, is_on, placed_on, later_of, last_of, seen_in}
 use Rattle.cf_lists.proofs.FilterLaws.{filter_none, none_from_all, list_all_weaker}
 use Rattle.cf_lists.proofs.InsertionLaws.{list_all-insertion}
-use Rattle.cf_lists.specs.Bins.{in_turn, arranged, joined}
-use Rattle.cf_lists.specs.Tables.{is_on, placed_on, later_of, last_of, seen_in}
 use Rattle.cf_lists.proofs.EntryKeyLaws.{resource_order}
 use Rattle.cf_lists.proofs.SortLaws.{arranged-filter}
 use Rattle.cf_lists.proofs.ViewLaws.{length_arranged}

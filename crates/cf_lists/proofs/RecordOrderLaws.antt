@@ -1,13 +1,7 @@
 -- Keys that stand in the orders of headers.
-use Rattle.std.proofs.Common.{◌≡◌, ◌≢◌, ◌⊎◌, inl, inr, ℕ, ◌+◌, ◌<◌, Bool, true, false, ◌||◌, ◌==◌, List, [], ◌∷◌, ◌++◌, length, map, take, drop, set, slice_get, get_or, Some, refl, sym, ap, ◌∙◌, subst, arith, suc, zero, get_or-set_same, get_or-set_other}
-use Rattle.std.specs.List.{list_any, insert, remove}
-use Rattle.std.proofs.lemmas.Bool.{or_right, false≢true, eq-eqb, eqb-true}
-use Rattle.std.proofs.lemmas.Bool.Decides.{eqb_tells}
-use Rattle.std.proofs.lemmas.List.{take-append-drop}
-use Rattle.std.proofs.lemmas.List.Folds.{list_any-append}
+use Rattle.cf_lists.proofs.Names.{◌≡◌, ◌≢◌, ◌⊎◌, inl, inr, ℕ, ◌+◌, ◌<◌, Bool, true, false, ◌||◌, ◌==◌, List, [], ◌∷◌, ◌++◌, length, map, take, drop, set, slice_get, get_or, Some, refl, sym, ap, ◌∙◌, subst, arith, suc, zero, list_any, insert, remove, or_right, false≢true, eq-eqb, eqb-true, eqb_tells, take-append-drop, list_any-append, records_of, all_records, stands}
+use Rattle.std.proofs.Common.{get_or-set_same, get_or-set_other}
 use Rattle.cf_lists.proofs.TakeLaws.{split_next}
-use Rattle.cf_lists.specs.Lists.{records_of, all_records}
-use Rattle.cf_lists.specs.Orders.{stands}
 use Rattle.cf_lists.proofs.AllLaws.{list_of-get_or}
 use Rattle.cf_lists.proofs.RecordSpotLaws.{any_at, header_within}
 

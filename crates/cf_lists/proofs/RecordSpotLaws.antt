@@ -1,10 +1,6 @@
 -- A record with an id that stands somewhere: that is where it is found.
-use Rattle.std.proofs.Common.{◌≡◌, ℕ, ◌+◌, ◌<◌, Bool, true, false, not, ◌==◌, nat_lt, cond, List, [], ◌∷◌, ◌++◌, length, slice_get, position, Option, Some, None, option_map, refl, sym, ap, ◌∙◌, subst, arith, suc, zero}
-use Rattle.std.specs.List.{list_any, list_all, position_or_len}
-use Rattle.std.proofs.lemmas.Bool.{and_parts, or_right, false≢true, eq-eqb, eqb-true}
-use Rattle.cf_lists.specs.Pairwise.{pairwise}
+use Rattle.cf_lists.proofs.Names.{◌≡◌, ℕ, ◌+◌, ◌<◌, Bool, true, false, not, ◌==◌, nat_lt, cond, List, [], ◌∷◌, ◌++◌, length, slice_get, position, Option, Some, None, option_map, refl, sym, ap, ◌∙◌, subst, arith, suc, zero, list_any, list_all, position_or_len, and_parts, or_right, false≢true, eq-eqb, eqb-true, pairwise, all_records, is_id, has_id, spot_of, spot_in, ids_apart}
 use Rattle.cf_lists.proofs.KeyLaws.{any_is_placed}
-use Rattle.cf_lists.specs.Lists.{all_records, is_id, has_id, spot_of, spot_in, ids_apart}
 use Rattle.cf_lists.proofs.AllLaws.{list_of, none_behind, any_all}
 use Rattle.cf_lists.proofs.IdLaws.{IsPlaced, once, apart-list}
 

@@ -1,15 +1,7 @@
 -- A sort of keys gives the keys of what is seen.
-use Rattle.std.proofs.Common.{◌≡◌, ℕ, suc, ◌+◌, ◌<◌, Bool, true, false, not, cond, List, [], ◌∷◌, filter, map, length, get_or, sum_by, refl, sym, ap, ◌∙◌, subst, arith}
-use Rattle.std.specs.List.{list_all}
-use Rattle.std.specs.List.Sorted.{IsPermutation}
-use Rattle.std.proofs.lemmas.Bool.{and_parts, and_from, not-true}
-use Rattle.std.proofs.lemmas.List.Sums.{sum_by-cons}
-use Rattle.std.proofs.lemmas.List.Sorted.{sum_by-IsPermutation}
-use Rattle.cf_lists.specs.Insertions.{insertion}
-use Rattle.cf_lists.specs.Pairwise.{pairwise}
+use Rattle.cf_lists.proofs.Names.{◌≡◌, ℕ, suc, ◌+◌, ◌<◌, Bool, true, false, not, cond, List, [], ◌∷◌, filter, map, length, get_or, sum_by, refl, sym, ap, ◌∙◌, subst, arith, list_all, IsPermutation, and_parts, and_from, not-true, sum_by-cons, sum_by-IsPermutation, insertion, pairwise, is_keyed, in_turn, arranged, IsKeyOrder}
 use Rattle.cf_lists.proofs.FilterLaws.{list_all_weaker, list_all-filter_same, filter_swap}
 use Rattle.cf_lists.proofs.PairwiseLaws.{pairwise-filter}
-use Rattle.cf_lists.specs.Bins.{is_keyed, in_turn, arranged, IsKeyOrder}
 use Rattle.cf_lists.proofs.TieLaws.{ordered_filters}
 use Rattle.cf_lists.proofs.BinLaws.{arranged_in_turn, keyed-arranged}
 use Rattle.cf_lists.proofs.ViewLaws.{mapped_pairs}

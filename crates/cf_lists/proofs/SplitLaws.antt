@@ -1,11 +1,6 @@
 -- All records with one more, one less, or one in place of another: the records before it and behind it.
-use Rattle.std.proofs.Common.{◌≡◌, ℕ, ◌<◌, Bool, true, false, not, ◌==◌, cond, List, [], ◌∷◌, ◌++◌, length, map, find, take, drop, slice_get, Some, refl, sym, ap, ◌∙◌, subst, suc, zero}
-use Rattle.std.specs.List.{list_all, insert}
-use Rattle.std.proofs.lemmas.Bool.{and_parts}
-use Rattle.std.proofs.lemmas.List.{append_assoc, take-append-drop}
-use Rattle.cf_lists.specs.Pairwise.{pairwise}
+use Rattle.cf_lists.proofs.Names.{◌≡◌, ℕ, ◌<◌, Bool, true, false, not, ◌==◌, cond, List, [], ◌∷◌, ◌++◌, length, map, find, take, drop, slice_get, Some, refl, sym, ap, ◌∙◌, subst, suc, zero, list_all, insert, and_parts, append_assoc, take-append-drop, pairwise, all_records, records_of, lists_with, records_without, is_id, has_id, replaced_by, ids_apart}
 use Rattle.cf_lists.proofs.FilterLaws.{none_from_all, list_all_weaker, filter_all}
-use Rattle.cf_lists.specs.Lists.{all_records, records_of, lists_with, records_without, is_id, has_id, replaced_by, ids_apart}
 use Rattle.cf_lists.proofs.AllLaws.{all-split, all-set}
 use Rattle.cf_lists.proofs.IdLaws.{once, unchanged}
 

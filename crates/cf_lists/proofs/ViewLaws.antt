@@ -1,11 +1,6 @@
 -- What is seen of table entries, and lists by key.
-use Rattle.std.proofs.Common.{◌≡◌, ℕ, zero, suc, ◌+◌, ◌≤◌, Bool, true, false, ◌&&◌, cond, List, [], ◌∷◌, filter, map, length, get_or, refl, ap, ◌∙◌, arith}
-use Rattle.std.specs.List.{list_all}
-use Rattle.std.proofs.lemmas.Bool.{and_parts, and_from}
-use Rattle.std.proofs.lemmas.List.{length-append, length-map}
-use Rattle.cf_lists.specs.Pairwise.{pairwise}
+use Rattle.cf_lists.proofs.Names.{◌≡◌, ℕ, zero, suc, ◌+◌, ◌≤◌, Bool, true, false, ◌&&◌, cond, List, [], ◌∷◌, filter, map, length, get_or, refl, ap, ◌∙◌, arith, list_all, and_parts, and_from, length-append, length-map, pairwise, is_keyed, arranged, joined}
 use Rattle.cf_lists.proofs.InsertionLaws.{length-insertion}
-use Rattle.cf_lists.specs.Bins.{is_keyed, arranged, joined}
 
 pub length_arranged : {X K : Type 0} (key : X → K) (before : K → K → Bool) (xs : List X)
     → length (arranged key before xs) ≡ length xs

@@ -1,10 +1,5 @@
 -- Elements of one owner, each with its rank.
-use Rattle.std.proofs.Common.{◌≡◌, ◌≢◌, ℕ, zero, suc, ◌+◌, ◌*◌, ◌<◌, ◌≤◌, List, [], ◌∷◌, ◌++◌, take, drop, length, get_or, set, subst, sym, refl, ap, ◌∙◌, inl, inr, arith, get_or-set_same, get_or-set_other, length-set}
-use Rattle.std.proofs.Math.Seq.{take-append-add}
-use Rattle.std.proofs.lemmas.List.{take_all, take_at, take-append-le, take-take, length-take, length-take-le, length-drop, length-append, take-append-drop}
-use Rattle.std.proofs.lemmas.Bool.{cases_lt}
-use Rattle.cf_pool.specs.declared.elements.TheConstants.{SIZE}
-use Rattle.cf_pool.specs.Chains.{behind, IsWithin, walked, written, stored, IsRun}
+use Rattle.cf_pool.proofs.Names.{◌≡◌, ◌≢◌, ℕ, zero, suc, ◌+◌, ◌*◌, ◌<◌, ◌≤◌, List, [], ◌∷◌, ◌++◌, take, drop, length, get_or, set, subst, sym, refl, ap, ◌∙◌, inl, inr, arith, get_or-set_same, get_or-set_other, length-set, take-append-add, take_all, take_at, take-append-le, take-take, length-take, length-take-le, length-drop, length-append, take-append-drop, cases_lt, SIZE, behind, IsWithin, walked, written, stored, IsRun}
 
 pub within_run : (owner rank : ℕ → ℕ) (next : List ℕ) (label n at : ℕ) → IsRun owner rank next label n at
     → IsWithin next n at

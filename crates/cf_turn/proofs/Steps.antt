@@ -1,16 +1,5 @@
 -- Each step on the lock's word keeps the rule.
-use Rattle.std.proofs.Common.{◌≡◌, ℕ, zero, suc, ◌+◌, ◌<◌, ◌≤◌, eqb, List, [], ◌∷◌, ◌++◌, set, get_or, Option, Some}
-use Rattle.std.proofs.Common.{unwrap_or, sym, refl, ap, ◌∙◌, subst, inl, inr, ⊎_elim, arith}
-use Rattle.std.proofs.lemmas.List.Sums.{sum_by-cons, sum_by-append}
-use mathlib.Core.Option.{some, none, some-injective, some-ne-none}
-use prog.Atomic.{either}
-use lib.ListN.{get_elem?}
-use Rattle.atomic_table.proofs.Lists.{at_set, at_snoc, set_else}
-use Rattle.atomic_table.specs.Table.{State, Me, Act, step, keeps, takes, gives, Valid, carried_after, homes_after}
-use Rattle.atomic_table.specs.Table.{put_back, Allows, Enters, Splits, Joins}
-use Rattle.cf_turn.specs.declared.turns.Stand.{Stand}
-use Rattle.cf_turn.specs.Turns.{stand_waiting, stand_in_turn, stand_spent, without_turns, both, turns_of, Knows, AllKnow, IsFree, IsTaken, Kept}
-use Rattle.cf_turn.specs.Turns.{Starts, Tries}
+use Rattle.cf_turn.proofs.Names.{◌≡◌, ℕ, zero, suc, ◌+◌, ◌<◌, ◌≤◌, eqb, List, [], ◌∷◌, ◌++◌, set, get_or, Option, Some, unwrap_or, sym, refl, ap, ◌∙◌, subst, inl, inr, ⊎_elim, arith, sum_by-cons, sum_by-append, some, none, some-injective, some-ne-none, either, get_elem?, at_set, at_snoc, set_else, State, Me, Act, step, keeps, takes, gives, Valid, carried_after, homes_after, put_back, Allows, Enters, Splits, Joins, Stand, stand_waiting, stand_in_turn, stand_spent, without_turns, both, turns_of, Knows, AllKnow, IsFree, IsTaken, Kept, Starts, Tries}
 
 module _ {K : Type 0} where
   abbrev turns : Stand K → ℕ

@@ -1,16 +1,5 @@
 -- Sets of connectors: what a member more or less changes, and how the bits that a set is kept as follow.
-use Rattle.std.proofs.Common.{◌≡◌, ◌≢◌, ℕ, zero, suc, ◌+◌, ◌*◌, ◌/◌, ◌%◌, ◌^◌, ◌<◌, ◌≤◌, Bool, true, false, cond, not, ◌&&◌, ◌⊎◌, ◌==◌, eqb, ltb, filter, List, [], ◌∷◌, ◌++◌, length, bit_and, bit_or, count_ones, refl, sym, ap, subst, ◌∙◌, ⊎_elim, arith, add-one, add-zero, zero-add}
-use Rattle.std.proofs.lemmas.Bool.{eq-eqb, ne_eqb, lt-ltb, le-ltb, and_right, cases_eq, cases_order}
-use Rattle.std.proofs.lemmas.List.{append-nil}
-use Rattle.std.proofs.lemmas.List.Elements.{filter-append}
-use Rattle.std.proofs.lemmas.Nat.{shr-shr, mod-pow-add, ones-le, one_shl, pow_pos, or_lt}
-use Rattle.std.proofs.lemmas.Nat.Bits.{and_pow, bit_at-lt, bit_at-zero, bit_at_set_same, bit_at_set_other, bit_at_clear_same, bit_at_clear_other}
-use Rattle.std.proofs.Math.Nat.{mod-one, zero-mul}
-use Rattle.std.specs.Int.{bit_at, bit_not, w128}
-use Rattle.std.specs.Int.Count.{ones_step}
-use Rattle.cf_types.specs.declared.limits.TheConstants.{SET_NUMBERS}
-use Rattle.cf_types.specs.ConnSets.{conns_from, is_member, with_member, without_member, members}
-use Rattle.cf_types.specs.declared.numbers.ConnId.{ConnId}
+use Rattle.cf_types.proofs.Names.{◌≡◌, ◌≢◌, ℕ, zero, suc, ◌+◌, ◌*◌, ◌/◌, ◌%◌, ◌^◌, ◌<◌, ◌≤◌, Bool, true, false, cond, not, ◌&&◌, ◌⊎◌, ◌==◌, eqb, ltb, filter, List, [], ◌∷◌, ◌++◌, length, bit_and, bit_or, count_ones, refl, sym, ap, subst, ◌∙◌, ⊎_elim, arith, add-one, add-zero, zero-add, eq-eqb, ne_eqb, lt-ltb, le-ltb, and_right, cases_eq, cases_order, append-nil, filter-append, shr-shr, mod-pow-add, ones-le, one_shl, pow_pos, or_lt, and_pow, bit_at-lt, bit_at-zero, bit_at_set_same, bit_at_set_other, bit_at_clear_same, bit_at_clear_other, mod-one, zero-mul, bit_at, bit_not, w128, ones_step, SET_NUMBERS, conns_from, is_member, with_member, without_member, members, ConnId}
 
 -- ---- the connectors of a range that pass a test
 

@@ -1,11 +1,6 @@
 -- What is told of changed bits, one change after another.
-use Rattle.std.proofs.Common.{◌≡◌, ℕ, ◌==◌, ◌&&◌, Bool, true, false, List, [], ◌∷◌, ◌++◌, refl, sym, ap, ◌∙◌, append-nil, append_assoc, map, filter, ◌⊎◌, inl, inr, arith, subst₂}
-use Rattle.std.proofs.lemmas.List.{map-append}
-use Rattle.std.proofs.lemmas.List.Elements.{filter-append}
-use Rattle.std.proofs.lemmas.Bool.Decides.{nat_tests}
-use Rattle.cf_types.specs.declared.numbers.ConnId.{ConnId}
-use Rattle.cf_types.specs.declared.effects.BitChange.{BitChange}
-use Rattle.cf_types.specs.Gains.{Bits, Gains, is_for, bits_told, difference}
+use Rattle.cf_types.proofs.Names.{◌≡◌, ℕ, ◌==◌, ◌&&◌, Bool, true, false, List, [], ◌∷◌, ◌++◌, refl, sym, ap, ◌∙◌, append_assoc, map, filter, ◌⊎◌, inl, inr, arith, subst₂, map-append, filter-append, nat_tests, ConnId, BitChange, Bits, Gains, is_for, bits_told, difference}
+use Rattle.std.proofs.Common.{append-nil}
 
 difference_none : (b : Bool) → [] ≡ difference b b
 difference_none false = refl

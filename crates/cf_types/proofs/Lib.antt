@@ -1,3 +1,4 @@
+pub mod Names
 pub mod TermFaults
 pub mod GainsLaws
 pub mod ConnSetLaws

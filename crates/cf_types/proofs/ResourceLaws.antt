@@ -1,18 +1,5 @@
 -- Resources as keys, and their order.
-use Rattle.std.proofs.Common.{◌≡◌, ℕ, ◌==◌, ◌&&◌, Bool, true, false, not, List, refl, sym, ap, ◌∙◌, subst, arith, nat_eq}
-use Rattle.std.proofs.lemmas.Bool.Decides.{nat_tests}
-use Rattle.std.specs.declared.cmp.Ordering.{Ordering}
-use Rattle.std.specs.declared.cmp.Ordering.TheVariants.{Less, Equal, Greater}
-use Rattle.std.specs.Ordering.{nat_cmp, is_lt, is_gt, is_eq, ordering_reverse, ordering_then}
-use Rattle.std.specs.Cmp.{IsTotalOrder}
-use Rattle.std.specs.Cmp.Lexicographic.{bytes_decides, pointwise, slice_cmp, nat_list_cmp_total}
-use Rattle.std.proofs.lemmas.Cmp.{upto, on_total, then_total, nat_cmp_total, same_from_slice_cmp}
-use Rattle.std.proofs.lemmas.Bool.{and_parts, and_from, eqb-true, eq-eqb, not-true, false≢true}
-use Rattle.cf_types.specs.declared.names.Name16.{Name16}
-use Rattle.cf_types.specs.declared.numbers.ConnId.{ConnId}
-use Rattle.cf_types.specs.declared.resources.Resource.{Resource}
-use Rattle.cf_types.specs.Name.{same_name}
-use Rattle.cf_types.specs.Resources.{same_resource, resource_cmp, resource_before, resource_up_to, Part, same_part}
+use Rattle.cf_types.proofs.Names.{◌≡◌, ℕ, ◌==◌, ◌&&◌, Bool, true, false, not, List, refl, sym, ap, ◌∙◌, subst, arith, nat_eq, nat_tests, Ordering, Less, Equal, Greater, nat_cmp, is_lt, is_gt, is_eq, ordering_reverse, ordering_then, IsTotalOrder, bytes_decides, pointwise, slice_cmp, nat_list_cmp_total, upto, on_total, then_total, nat_cmp_total, same_from_slice_cmp, and_parts, and_from, eqb-true, eq-eqb, not-true, false≢true, Name16, ConnId, Resource, same_name, same_resource, resource_cmp, resource_before, resource_up_to, Part, same_part}
 
 -- names with the same bytes are the same
 pub same_name-eq : (a b : Name16) → same_name a b ≡ true → a ≡ b

@@ -1,7 +1,5 @@
 -- A text has a byte that is no term character exactly where it isn't made of term characters.
-use Rattle.std.proofs.Common.{◌≡◌, ℕ, ◌<◌, ◌+◌, Bool, true, false, not, List, [], ◌∷◌, length, Some, None, position, ◌⊎◌, inl, inr, refl, cond, ◌&&◌, suc, arith}
-use Rattle.std.specs.List.{list_all, position_or_len}
-use Rattle.std.proofs.lemmas.Grind.{common_steps}
+use Rattle.cf_types.proofs.Names.{◌≡◌, ℕ, ◌<◌, ◌+◌, Bool, true, false, not, List, [], ◌∷◌, length, Some, None, position, ◌⊎◌, inl, inr, refl, cond, ◌&&◌, suc, arith, list_all, position_or_len, common_steps}
 
 one_more : (v : Bool) {a : Bool} {n m : ℕ} → ((a ≡ true) × (n ≡ m)) ⊎ ((a ≡ false) × (n < m))
     → ((v && a ≡ true) × (cond (not (not v)) (1 + n) 0 ≡ suc m))

@@ -1,21 +1,7 @@
 -- What a legal history tells of the answers of links, turn by turn.
-use Rattle.std.proofs.Common.{◌≡◌, ℕ, ◌+◌, ◌==◌, Bool, true, false, List, [], ◌∷◌, ◌++◌, length, refl, sym, ap, ◌∙◌, arith, append_assoc, append-nil, length-append, fold}
-use Rattle.std.specs.Prelude.{filter}
-use Rattle.std.proofs.lemmas.List.Sums.{fold_push}
-use Rattle.std.proofs.lemmas.List.Elements.{filter-append}
-use Rattle.cf_types.specs.declared.numbers.CfId.{CfId}
-use Rattle.engine_api.specs.declared.histories.Entry.{Entry}
-use Rattle.engine_api.specs.LinkAsks.{links_asked, asked_unless, asks_of, Asks, AreDistinct, has, marks_of, answers_to}
-use Rattle.cf_types.specs.declared.forms.StrForm.{StrForm}
-use Rattle.cf_types.specs.declared.refusals.Refusal.{Refusal}
-use Rattle.engine_api.specs.Meaning.{Meaning}
-use Rattle.engine_api.specs.Machine.{Machine, opening, room_of}
-use Rattle.engine_api.specs.Shell.{call_cause}
-use Rattle.engine_api.specs.History.{Turn, replay, next_mark, next_entry, with_mark, with_marks, marks_by, after_turn, IsLegal}
-use Rattle.engine_api.specs.Answers.{Reading, begun, read_entry, read_all, answers_in, answers_from, answers, is_mark_as, marks_at, trues}
+use Rattle.engine_api.proofs.Names.{◌≡◌, ℕ, ◌+◌, ◌==◌, Bool, true, false, List, [], ◌∷◌, ◌++◌, length, refl, sym, ap, ◌∙◌, arith, append_assoc, append-nil, length-append, fold, filter, Option, None, Some, fold_push, filter-append, CfId, Entry, links_asked, asked_unless, asks_of, Asks, AreDistinct, has, marks_of, answers_to, StrForm, Refusal, Meaning, Machine, opening, room_of, call_cause, Turn, replay, next_mark, next_entry, with_mark, with_marks, marks_by, after_turn, IsLegal, Reading, begun, read_entry, read_all, answers_in, answers_from, answers, is_mark_as, marks_at, trues}
 use Rattle.engine_api.proofs.AskLaws.{answers_marked, times, marked_once, distinct_apart}
 use Rattle.engine_api.proofs.HistoryLaws.{replay-push, by_turns}
-use Rattle.std.specs.Prelude.{Option, None, Some}
 
 module _ {C R I S : Type 0} (meaning : Meaning C R I S) (form : StrForm) where
   read-push : (history : List (Entry C R)) (entry : Entry C R)

@@ -1,22 +1,7 @@
 -- Which links are asked, and which marks that makes.
-use Rattle.std.proofs.Common.{◌≡◌, ◌≤◌, ℕ, ◌==◌, Bool, true, false, not, ◌&&◌, ◌||◌, List, [], ◌∷◌, length, refl, sym, ap, subst, ◌∙◌, arith}
-use Rattle.std.specs.Prelude.{filter, if◌then◌else◌}
-use Rattle.std.proofs.lemmas.Bool.{eq-eqb, eqb-true}
-use Rattle.cf_types.specs.declared.numbers.CfId.{CfId}
-use Rattle.std.specs.Prelude.{Option, None, Some, ◌++◌}
-use Rattle.cf_types.specs.declared.forms.StrForm.{StrForm}
-use Rattle.cf_types.specs.declared.numbers.ConnId.{ConnId}
-use Rattle.cf_types.specs.declared.refusals.Refusal.{Refusal}
-use Rattle.cf_types.specs.declared.shell_commands.ShellCmd.{ShellCmd}
+use Rattle.engine_api.proofs.Names.{◌≡◌, ◌≤◌, ℕ, ◌==◌, Bool, true, false, not, ◌&&◌, ◌||◌, List, [], ◌∷◌, length, refl, sym, ap, subst, ◌∙◌, arith, filter, if◌then◌else◌, Option, None, Some, ◌++◌, eq-eqb, eqb-true, CfId, StrForm, ConnId, Refusal, ShellCmd, Ask, Meaning, Machine, room_of, fresh_of, Shell, call_cause, listed, asks_of_command, asks_of, asked_unless, links_asked, Asks, has, AreDistinct, apart, reached, reached_in, marks_of, answers_to, trues}
 use Rattle.cf_types.specs.declared.shell_commands.ShellCmd.TheVariants as cmd
-use Rattle.engine_api.specs.declared.asks.Ask.{Ask}
 use Rattle.engine_api.specs.declared.asks.Ask.TheVariants as ask
-use Rattle.engine_api.specs.Meaning.{Meaning}
-use Rattle.engine_api.specs.Machine.{Machine, room_of}
-use Rattle.engine_api.specs.Rebuilds.{fresh_of}
-use Rattle.engine_api.specs.Shell.{Shell, call_cause}
-use Rattle.engine_api.specs.LinkAsks.{listed, asks_of_command, asks_of, asked_unless, links_asked, Asks, has, AreDistinct, apart, reached, reached_in, marks_of, answers_to}
-use Rattle.engine_api.specs.Answers.{trues}
 
 pub same_cf : (x y : CfId) → x.0 == y.0 ≡ true → x ≡ y
 same_cf x y e =

@@ -1,12 +1,6 @@
 -- What the first items of a content make: what follows from the laws on it, and how it follows from laws on one item
 -- that is placed behind others.
-use Rattle.std.proofs.Common.{◌≡◌, Bool, IsTrue, List, [], ◌∷◌, ◌++◌, sym, ap, ◌∙◌, subst, append-nil, append_assoc}
-use Rattle.std.proofs.lemmas.List.Sums.{fold-append}
-use Rattle.cf_types.specs.declared.forms.Caps.{Caps}
-use Rattle.cf_types.specs.declared.forms.Kind.{Kind}
-use Rattle.engine_api.specs.declared.shapes.Shape.{Shape}
-use Rattle.engine_api.specs.Items.{Fits, IsAlone, IsNextItem, content_of_items}
-use Rattle.engine_api.specs.Meaning.{Meaning}
+use Rattle.engine_api.proofs.Names.{◌≡◌, Bool, IsTrue, List, [], ◌∷◌, ◌++◌, sym, ap, ◌∙◌, subst, append-nil, append_assoc, fold-append, Caps, Kind, Shape, Fits, IsAlone, IsNextItem, content_of_items, Meaning}
 
 module _ {C R I S : Type 0} (meaning : Meaning C R I S) (is_kind : Kind → Bool)
     (IsContent : Shape → Caps → S → Type 0) where

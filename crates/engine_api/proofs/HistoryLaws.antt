@@ -1,17 +1,7 @@
 -- Legal histories: what one more turn does to one, and what is known of each of its entries.
-use Rattle.std.proofs.Common.{◌≡◌, ℕ, zero, suc, ◌+◌, ◌<◌, ◌≤◌, inl, inr, List, [], ◌∷◌, ◌++◌, length, take, slice_get, Some, refl, sym, ap, subst, ◌∙◌, arith, append_assoc, append-nil, length-append, fold}
+use Rattle.engine_api.proofs.Names.{◌≡◌, ℕ, zero, suc, ◌+◌, ◌<◌, ◌≤◌, inl, inr, List, [], ◌∷◌, ◌++◌, length, take, slice_get, Some, refl, sym, ap, subst, ◌∙◌, arith, append_assoc, append-nil, length-append, fold, take-append-le, length-take, map-append, fold_push, filter_map-append, CfId, What, Entry, StrForm, Meaning, opening, step, Call, Turn, call_of, calls, machine_after, replay, next_mark, next_entry, with_mark, with_marks, marks_by, after_turn, IsLegal, IsNext, IsNextAs, IsEachNext, Continues}
 use Rattle.std.proofs.lemmas.List as lists
-use Rattle.std.proofs.lemmas.List.{take-append-le, length-take, map-append}
-use Rattle.std.proofs.lemmas.List.Sums.{fold_push}
-use Rattle.std.proofs.lemmas.List.Elements.{filter_map-append}
-use Rattle.cf_types.specs.declared.numbers.CfId.{CfId}
-use Rattle.engine_api.specs.declared.asks.What.{What}
 use Rattle.engine_api.specs.declared.asks.What.TheVariants as what
-use Rattle.engine_api.specs.declared.histories.Entry.{Entry}
-use Rattle.cf_types.specs.declared.forms.StrForm.{StrForm}
-use Rattle.engine_api.specs.Meaning.{Meaning}
-use Rattle.engine_api.specs.Machine.{opening, step}
-use Rattle.engine_api.specs.History.{Call, Turn, call_of, calls, machine_after, replay, next_mark, next_entry, with_mark, with_marks, marks_by, after_turn, IsLegal, IsNext, IsNextAs, IsEachNext, Continues}
 use Rattle.engine_api.proofs.Pushed.{Each, each_none, each_push, cut_push}
 
 -- ---- calls

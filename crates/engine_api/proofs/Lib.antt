@@ -1,3 +1,4 @@
+pub mod Names
 pub mod Pushed
 pub mod HistoryLaws
 pub mod AskLaws

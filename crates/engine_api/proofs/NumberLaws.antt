@@ -1,20 +1,5 @@
 -- The numbers of calls, where marks stand between them.
-use Rattle.std.proofs.Common.{◌≡◌, ℕ, ◌+◌, ◌*◌, ◌<◌, ◌≤◌, ◌⊎◌, inl, inr, Bool, true, false, nat_lt, List, [], ◌∷◌, ◌++◌, length, fold, filter, map, refl, sym, ap, subst, ◌∙◌, arith, append-nil, length-append}
-use Rattle.std.specs.Prelude.{Contains, if◌then◌else◌}
-use Rattle.std.proofs.lemmas.Bool.{cases_lt}
-use Rattle.std.proofs.lemmas.Bool.Decides.{nat_tests}
-use Rattle.std.proofs.lemmas.List.{map-append}
-use Rattle.std.proofs.lemmas.List.Sums.{fold_push}
-use Rattle.std.proofs.lemmas.List.Elements.{filter-append, Contains-push_cases}
-use Rattle.cf_types.specs.declared.numbers.CfId.{CfId}
-use Rattle.engine_api.specs.declared.histories.Entry.{Entry}
-use Rattle.engine_api.specs.LinkAsks.{links_asked, Asks, marks_of}
-use Rattle.cf_types.specs.declared.forms.StrForm.{StrForm}
-use Rattle.cf_types.specs.declared.numbers.ConnId.{ConnId}
-use Rattle.engine_api.specs.declared.asks.Ask.{Ask}
-use Rattle.engine_api.specs.Meaning.{Meaning}
-use Rattle.engine_api.specs.Machine.{Machine}
-use Rattle.engine_api.specs.History.{Call, Turn, calls, replay, with_mark, with_marks, next_entry, next_mark, marks_by, after_turn, IsLegal, numbers, IsPoint, last_number, last_call_below, IsNumbered}
+use Rattle.engine_api.proofs.Names.{◌≡◌, ℕ, ◌+◌, ◌*◌, ◌<◌, ◌≤◌, ◌⊎◌, inl, inr, Bool, true, false, nat_lt, List, [], ◌∷◌, ◌++◌, length, fold, filter, map, refl, sym, ap, subst, ◌∙◌, arith, append-nil, length-append, Contains, if◌then◌else◌, cases_lt, nat_tests, map-append, fold_push, filter-append, Contains-push_cases, CfId, Entry, links_asked, Asks, marks_of, StrForm, ConnId, Ask, Meaning, Machine, Call, Turn, calls, replay, with_mark, with_marks, next_entry, next_mark, marks_by, after_turn, IsLegal, numbers, IsPoint, last_number, last_call_below, IsNumbered}
 use Rattle.engine_api.proofs.AskLaws.{marks_few, two_asked}
 use Rattle.engine_api.proofs.HistoryLaws.{by_turns, calls-turn, call_added}
 

@@ -1,21 +1,6 @@
 -- Legality by turns, and point by point.
-use Rattle.std.proofs.Common.{◌≡◌, ℕ, ◌+◌, ◌≤◌, ◌==◌, ◌⊎◌, inl, inr, Bool, true, false, ◌&&◌, ◌||◌, List, [], ◌∷◌, ◌++◌, length, take, slice_get, Some, refl, sym, ap, subst, ◌∙◌, arith, take_at, append_assoc, append-nil}
-use Rattle.std.specs.Prelude.{filter, if◌then◌else◌}
-use Rattle.std.proofs.lemmas.List.Sums.{fold_push}
-use Rattle.cf_types.specs.declared.numbers.CfId.{CfId}
-use Rattle.engine_api.specs.declared.asks.What.{What}
+use Rattle.engine_api.proofs.Names.{◌≡◌, ℕ, ◌+◌, ◌≤◌, ◌==◌, ◌⊎◌, inl, inr, Bool, true, false, ◌&&◌, ◌||◌, List, [], ◌∷◌, ◌++◌, length, take, slice_get, Some, refl, sym, ap, subst, ◌∙◌, arith, take_at, append_assoc, append-nil, filter, if◌then◌else◌, fold_push, CfId, What, Entry, links_asked, asks_of, Asks, AreDistinct, has, reached, marks_of, StrForm, ConnId, Reply, Meaning, Machine, room_of, call_cause, Turn, replay, next_mark, next_entry, with_mark, with_marks, with_call, after_turn, IsLegal, IsNextAs, Reading, read_all, AreSome, AreMarksOf, MayEnd, IsReplied, IsByPoints}
 use Rattle.engine_api.specs.declared.asks.What.TheVariants as what
-use Rattle.engine_api.specs.declared.histories.Entry.{Entry}
-use Rattle.engine_api.specs.LinkAsks.{links_asked, asks_of, Asks, AreDistinct, has, reached, marks_of}
-use Rattle.cf_types.specs.declared.forms.StrForm.{StrForm}
-use Rattle.cf_types.specs.declared.numbers.ConnId.{ConnId}
-use Rattle.engine_api.specs.declared.asks.Reply.{Reply}
-use Rattle.engine_api.specs.Meaning.{Meaning}
-use Rattle.engine_api.specs.Machine.{Machine, room_of}
-use Rattle.engine_api.specs.Shell.{call_cause}
-use Rattle.engine_api.specs.History.{Turn, replay, next_mark, next_entry, with_mark, with_marks, with_call, after_turn, IsLegal, IsNextAs}
-use Rattle.engine_api.specs.Answers.{Reading, read_all}
-use Rattle.engine_api.specs.Points.{AreSome, AreMarksOf, MayEnd, IsReplied, IsByPoints}
 use Rattle.engine_api.proofs.Pushed.{Each, each_none, each_push}
 use Rattle.engine_api.proofs.AskLaws.{Agree, agree_tail, itself, or_true, same_cf}
 use Rattle.engine_api.proofs.HistoryLaws.{by_turns, by_marks, each_next, number_legal, legal_none, legal_turn}

@@ -1,33 +1,11 @@
 -- What calls do to the connections: who is active after each, and that refused calls change nothing.
-use Rattle.std.proofs.Common.{◌≡◌, Bool, true, false, cond, List, [], ◌∷◌, length, Option, Some, None, refl, ap, ◌∙◌, fold, map}
-use Rattle.std.proofs.lemmas.List.{length-set, length-map}
-use Rattle.cf_types.specs.declared.limits.TheConstants.{CALLERS}
-use Rattle.cf_types.specs.declared.events.Event.{Event}
+use Rattle.engine_api.proofs.Names.{◌≡◌, Bool, true, false, cond, List, [], ◌∷◌, length, Option, Some, None, refl, ap, ◌∙◌, fold, map, length-set, length-map, CALLERS, Event, Letter, StrForm, CfId, ConnId, Refusal, ShellCmd, Connections, no_connections, state_of, excused_state, with_departure, next_event, owed_event, Ask, What, Room, Entry, after_what, machine_after, replay, next_entry, with_call, next_reply, Machine, opening, unless, content_reply, content_done, capacity, room_of, departure_from, command_done, step, entered_machine, Meaning, Outcome, unless_refused, is_at, Shell, shell_cause, content_cause, shell_done, leaver, with_posted, no_deeds, facility_of, given_outcome, stop_outcome, rebuild_connect_outcome, complete_outcome, conns_answered, take_event, responded, response_outcome, is_kept, fresh_loss, primary_loss, loss_outcome, vary_outcome, simplex_again, stopped_outcome, simplex_outcome, idle_outcome, with_off, Rebuild, is_response}
 use Rattle.cf_types.specs.declared.events.Event.TheVariants as event
-use Rattle.cf_types.specs.declared.events.Letter.{Letter}
-use Rattle.cf_types.specs.declared.forms.StrForm.{StrForm}
-use Rattle.cf_types.specs.declared.numbers.CfId.{CfId}
-use Rattle.cf_types.specs.declared.numbers.ConnId.{ConnId}
-use Rattle.cf_types.specs.declared.refusals.Refusal.{Refusal}
-use Rattle.cf_types.specs.declared.shell_commands.ShellCmd.{ShellCmd}
 use Rattle.cf_types.specs.declared.shell_commands.ShellCmd.TheVariants as cmd
 use Rattle.cf_types.specs.declared.shell_commands.ShellReply.TheVariants as answer
-use Rattle.cf_types.specs.Connections.{Connections, no_connections, state_of, excused_state, with_departure}
-use Rattle.cf_types.specs.Mailboxes.{next_event, owed_event}
-use Rattle.engine_api.specs.declared.asks.Ask.{Ask}
 use Rattle.engine_api.specs.declared.asks.Ask.TheVariants as ask
-use Rattle.engine_api.specs.declared.asks.What.{What}
 use Rattle.engine_api.specs.declared.asks.What.TheVariants as what
 use Rattle.engine_api.specs.declared.asks.Reply.TheVariants as reply
-use Rattle.engine_api.specs.declared.deeds.Room.{Room}
-use Rattle.engine_api.specs.declared.histories.Entry.{Entry}
-use Rattle.engine_api.specs.History.{after_what, machine_after, replay, next_entry, with_call, next_reply}
-use Rattle.engine_api.specs.Machine.{Machine, opening, unless, content_reply, content_done, capacity, room_of, departure_from, command_done, step, entered_machine}
-use Rattle.engine_api.specs.Meaning.{Meaning, Outcome, unless_refused}
-use Rattle.engine_api.specs.Instances.{is_at}
-use Rattle.engine_api.specs.Shell.{Shell, shell_cause, content_cause, shell_done, leaver, with_posted, no_deeds, facility_of, given_outcome, stop_outcome, rebuild_connect_outcome, complete_outcome, conns_answered, take_event, responded, response_outcome, is_kept, fresh_loss, primary_loss, loss_outcome, vary_outcome, simplex_again, stopped_outcome, simplex_outcome, idle_outcome, with_off}
-use Rattle.rebuild_core.specs.declared.rebuild.Rebuild.{Rebuild}
-use Rattle.rebuild_core.specs.Stages.{is_response}
 use Rattle.engine_api.proofs.HistoryLaws.{replay-push}
 
 -- ---- the connections that commands leave

@@ -1,19 +1,5 @@
 -- What is known of a record that a command names.
-use Rattle.std.proofs.Common.{◌≡◌, ℕ, Bool, true, List, Option, Some, None, is_some, unwrap_or, refl, sym, ap, ◌∙◌, subst}
-use Rattle.std.specs.Prelude.{IfSome}
-use Rattle.std.specs.List.{list_any}
-use Rattle.std.proofs.lemmas.Bool.{false≢true}
-use Rattle.cf_lists.proofs.FilterLaws.{any_is_found}
-use Rattle.cf_types.specs.declared.list_commands.At.{At}
-use Rattle.cf_types.specs.declared.names.Key16.{Key16}
-use Rattle.list_model.specs.ListStore.Record.{Record}
-use Rattle.list_model.specs.ListStore.Lists.{Lists, all_records, is_id, record_of, lists_without}
-use Rattle.list_model.specs.Lists.{record_at, the_record, no_record, with_record}
-use Rattle.list_model.specs.Commands.Move.{with_new_key}
-use Rattle.list_kept.specs.ContentView.{put_back}
-use Rattle.list_model.specs.Commands.Update.{with_new_data}
-use Rattle.list_kept.specs.Data.{renewed}
-use Rattle.list_core.specs.Found.{IsFound, updated_with}
+use Rattle.list_core.proofs.Names.{◌≡◌, ℕ, Bool, true, List, Option, Some, None, is_some, unwrap_or, refl, sym, ap, ◌∙◌, subst, IfSome, list_any, false≢true, any_is_found, At, Key16, Record, Lists, all_records, is_id, record_of, lists_without, record_at, the_record, no_record, with_record, with_new_key, put_back, with_new_data, renewed, IsFound, updated_with}
 
 pub found-any : (lists : Lists) (at : At) → IsFound lists at → list_any (is_id (the_record lists at).id)
     (all_records lists) ≡ true

@@ -1,4 +1,5 @@
 pub use Rattle.list_model.proofs as ListModel
+pub mod Names
 pub mod FoundLaws
 pub mod PlanLaws
 pub mod RowLaws

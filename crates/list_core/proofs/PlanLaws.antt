@@ -1,27 +1,6 @@
 -- What a plan that isn't refused says.
-use Rattle.std.proofs.Common.{◌≡◌, ℕ, ◌<◌, Option, None, Some, Result, Ok, Err, Bool, true, false, if◌then◌else◌, nat_le, is_some, unwrap_or, length, refl, sym, ap, ◌∙◌, subst}
-use Rattle.std.specs.Prelude.{OnOk, OnErr}
-use Rattle.cf_types.specs.declared.forms.Caps.{Caps}
-use Rattle.cf_types.specs.declared.numbers.ConnId.{ConnId}
-use Rattle.cf_types.specs.declared.refusals.Refusal.{Refusal}
-use Rattle.cf_types.specs.declared.refusals.Refusal.TheVariants.{BadLock, BadHeader, BadIndex}
-use Rattle.cf_types.specs.declared.list_commands.At.{At}
-use Rattle.cf_types.specs.declared.list_commands.ListCmd.{ListCmd}
-use Rattle.cf_types.specs.declared.list_commands.ListCmd.TheVariants.{Write, Update, Read, Move, Delete, ReadList, LockSet, LockReset, LockTest, LControls, SetLimit, Monitor, Unmonitor}
-use Rattle.cf_types.specs.declared.list_commands.ListReply.{ListReply}
-use Rattle.engine_api.specs.declared.shapes.Shape.{Shape}
-use Rattle.cf_lists.specs.Pairwise.{pairwise}
-use Rattle.list_model.specs.ListStore.Record.{Record}
-use Rattle.list_model.specs.ListStore.Lists.{Lists, all_records, ids_apart, record_of}
-use Rattle.list_model.specs.Lists.{record_at, no_record}
-use Rattle.list_model.specs.Contents.{Content, IsContent, headers_of, locks_of}
-use Rattle.list_model.specs.Refusals.{record_refusal, lock_refusal, index_refusal}
-use Rattle.list_model.specs.Step.{causes, cause}
-use Rattle.list_model.proofs.ContentLaws.{none_hold, header_there}
-use Rattle.list_model.proofs.StoreLaws.{record_of-at, new-alone}
-use Rattle.list_core.specs.declared.plans.Plan.{Plan}
-use Rattle.list_core.specs.Found.{IsFound}
-use Rattle.list_core.specs.Plans.{plan_unless, plan_for, IsPossible}
+use Rattle.list_core.proofs.Names.{◌≡◌, ℕ, ◌<◌, Option, None, Some, Result, Ok, Err, Bool, true, false, if◌then◌else◌, nat_le, is_some, unwrap_or, length, refl, sym, ap, ◌∙◌, subst, OnOk, OnErr, Caps, ConnId, Refusal, BadLock, BadHeader, BadIndex, At, ListCmd, Write, Update, Read, Move, Delete, ReadList, LockSet, LockReset, LockTest, LControls, SetLimit, Unmonitor, ListReply, Shape, pairwise, Record, Lists, all_records, ids_apart, record_of, record_at, no_record, Content, IsContent, headers_of, locks_of, record_refusal, lock_refusal, index_refusal, causes, cause, none_hold, header_there, record_of-at, new-alone, Plan, IsFound, plan_unless, plan_for, IsPossible}
+use Rattle.cf_types.specs.declared.list_commands.ListCmd.TheVariants.{Monitor}
 
 -- the plan that is taken is the one that was wanted
 pub plan_taken : (taken kept : Option Plan) (plan wanted : Plan) → taken ≡ kept → taken ≡ Some plan

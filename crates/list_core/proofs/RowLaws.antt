@@ -1,16 +1,5 @@
 -- Monitors as triples, and back.
-use Rattle.std.proofs.Common.{◌≡◌, ℕ, ◌+◌, Bool, true, false, not, cond, List, [], ◌∷◌, map, refl, sym, ap, arith}
-use Rattle.std.specs.List.{list_all}
-use Rattle.std.proofs.lemmas.Bool.{and_from, false≢true}
-use Rattle.list_model.specs.ListStore.Lists.{Lists}
-use Rattle.list_model.specs.ListWatch.declared.monitors.Monitor.{Monitor}
-use Rattle.list_model.specs.ListWatch.declared.monitors.Watched.{Watched}
-use Rattle.list_model.specs.ListWatch.Rows.{monitors_of}
-use Rattle.list_model.specs.ListWatch.Ends.{differs}
-use Rattle.list_model.specs.Contents.{has_records}
-use Rattle.list_model.specs.Items.{Triple, triple_of, monitor_of}
-use Rattle.list_kept.specs.Told.{is_told}
-use Rattle.list_core.specs.Rows.{told_row}
+use Rattle.list_core.proofs.Names.{◌≡◌, ℕ, ◌+◌, Bool, true, false, not, cond, List, [], ◌∷◌, map, refl, sym, ap, arith, list_all, and_from, false≢true, Lists, Monitor, Watched, monitors_of, differs, has_records, Triple, triple_of, monitor_of, is_told, told_row}
 
 pub map-triples : (rows : List Watched) → map (λ (row : Watched). triple_of row.monitor) rows ≡ map triple_of
     (monitors_of rows)

@@ -1,21 +1,6 @@
 -- Records and the chains in which their data lie.
-use Rattle.std.proofs.Common.{◌≡◌, ℕ, zero, suc, ◌+◌, ◌≤◌, ◌<◌, true, List, [], ◌∷◌, length, replicate, sum_by, Option, None, Some, refl, sym, ap, subst, arith}
-use Rattle.std.specs.Prelude.{IfSome, is_none}
-use Rattle.std.specs.Option.{option_or}
-use Rattle.std.specs.List.{list_all, list_any}
-use Rattle.std.proofs.lemmas.List.Sums.{sum_by-cons}
-use Rattle.list_store.specs.CfPool.Pools.{need_at}
-use Rattle.cf_lists.specs.Pairwise.{pairwise}
-use Rattle.cf_lists.proofs.FilterLaws.{found_passes}
-use Rattle.list_keys.specs.Names.{Named}
-use Rattle.list_store.specs.Record.{Record}
-use Rattle.list_store.specs.Lists.{Lists, is_id, ids_apart, all_records, record_of, lists_replaced}
+use Rattle.list_kept.proofs.Names.{◌≡◌, ℕ, zero, suc, ◌+◌, ◌≤◌, ◌<◌, true, List, [], ◌∷◌, length, replicate, sum_by, Option, None, Some, refl, sym, ap, subst, arith, IfSome, is_none, option_or, list_all, list_any, sum_by-cons, need_at, pairwise, found_passes, Named, Record, Lists, is_id, ids_apart, all_records, record_of, lists_replaced, StoreView, names_apart, elements_in, elements_of, Bare, AreUsed, blank, with_data, renewed, AreNamed}
 use Rattle.list_store.specs.Records as store
-use Rattle.list_store.specs.StoreView.{StoreView}
-use Rattle.list_model.specs.Records.{names_apart, elements_in, elements_of}
-use Rattle.list_kept.specs.declared.bare.Bare.{Bare}
-use Rattle.list_kept.specs.Data.{AreUsed, blank, with_data, renewed}
-use Rattle.list_kept.specs.Named.{AreNamed}
 use Rattle.list_kept.proofs.NamedLaws.{replaced, named_other, elements_with, same_id, some_found}
 
 -- where no chain is without a record, such chains take no elements

@@ -1,13 +1,6 @@
 -- The last record, and where there is none.
-use Rattle.std.proofs.Common.{◌≡◌, ℕ, ◌-◌, ◌<◌, ◌==◌, ◌++◌, ◌∷◌, [], not, true, false, List, length, length-append, take, drop, suc, refl, ap, ◌∙◌, arith}
-use Rattle.std.proofs.lemmas.Bool.Decides.{nat_tests}
-use Rattle.list_store.specs.Record.{Record}
-use Rattle.list_store.specs.Lists.{Lists, all_records, records_of, with_records, count_of}
-use Rattle.cf_lists.specs.Lists.{IsLastFull}
-use Rattle.cf_lists.proofs.AllLaws.{all-split}
+use Rattle.list_kept.proofs.Names.{◌≡◌, ℕ, ◌-◌, ◌<◌, ◌==◌, ◌++◌, ◌∷◌, [], not, true, false, List, length, length-append, take, drop, suc, refl, ap, ◌∙◌, arith, nat_tests, Record, Lists, all_records, records_of, with_records, count_of, IsLastFull, all-split, popped, first_records}
 use Rattle.cf_lists.proofs.AllLaws as store
-use Rattle.cf_lists.proofs.AllLaws.{popped}
-use Rattle.list_model.specs.Lists.{first_records}
 
 pub some_test : (n : ℕ) → 0 < n → not (n == 0) ≡ true
 some_test n h = grind (arith, nat_tests)

@@ -1,31 +1,5 @@
 -- The names of records stay right where a record comes, goes or stands in place of another.
-use Rattle.std.proofs.Common.{◌≡◌, ℕ, ◌+◌, ◌<◌, Bool, true, false, not, ◌&&◌, ◌||◌, cond, List, [], ◌∷◌, ◌++◌, length, Option, Some, None, find, option_map, unwrap_or, is_some, refl, sym, ap, ◌∙◌, subst, arith}
-use Rattle.std.specs.Prelude.{IfSome}
-use Rattle.std.specs.List.{list_any}
-use Rattle.std.proofs.lemmas.Bool.{and_parts, eqb-true, false≢true}
-use Rattle.std.proofs.lemmas.List.{length-map}
-use Rattle.cf_types.specs.declared.names.Name16.{Name16}
-use Rattle.cf_types.specs.declared.numbers.EntryId.{EntryId}
-use Rattle.cf_types.specs.declared.list_commands.At.TheVariants.{Name}
-use Rattle.cf_types.proofs.ResourceLaws.{same_name-eq, same_name-refl}
-use Rattle.cf_lists.specs.Pairwise.{pairwise}
-use Rattle.cf_lists.proofs.FilterLaws.{none_from_all, list_all_weaker, find_none, found_passes, any_is_found, filter_all, all_from_none}
-use Rattle.list_keys.specs.Names.{Named, id_of}
-use Rattle.cf_types.specs.declared.names.Key16.{Key16}
-use Rattle.cf_lists.specs.Insertions.{insertion}
-use Rattle.cf_lists.proofs.AllLaws.{all-map}
-use Rattle.cf_lists.proofs.SplitLaws.{split_found}
-use Rattle.list_store.specs.Record.{Record}
-use Rattle.list_store.specs.Lists.{Lists, record_id, is_id, ids_apart, all_records, records_of, with_records, record_of, records_without, lists_without, lists_replaced, replaced_by}
-use Rattle.list_model.specs.Records.{has_name, names_apart, elements_in, elements_of}
-use Rattle.list_model.specs.Lists.{with_record, stands_before}
-use Rattle.list_model.specs.Commands.Move.{with_new_key}
-use Rattle.list_model.proofs.ListLaws.{IsWith, with-pairwise, with-records, with-insertion, with-push, sum-with, in-found, all-without}
-use Rattle.list_model.proofs.RecordLaws.{names_apart-sym}
-use Rattle.list_model.proofs.ContentLaws.{size, with-without}
-use Rattle.list_model.proofs.StoreLaws.{record_of-at}
-use Rattle.list_kept.specs.ContentView.{put_back}
-use Rattle.list_kept.specs.Named.{is_its, AreNamed, WritesIts}
+use Rattle.list_kept.proofs.Names.{◌≡◌, ℕ, ◌+◌, ◌<◌, Bool, true, false, not, ◌&&◌, ◌||◌, cond, List, [], ◌∷◌, ◌++◌, length, Option, Some, None, find, option_map, unwrap_or, is_some, refl, sym, ap, ◌∙◌, subst, arith, IfSome, list_any, and_parts, eqb-true, false≢true, length-map, Name16, EntryId, Name, same_name-eq, same_name-refl, pairwise, none_from_all, list_all_weaker, find_none, found_passes, any_is_found, filter_all, all_from_none, Named, id_of, Key16, insertion, all-map, split_found, Record, Lists, record_id, is_id, ids_apart, all_records, records_of, with_records, record_of, records_without, lists_without, lists_replaced, replaced_by, has_name, names_apart, elements_in, elements_of, with_record, stands_before, with_new_key, IsWith, with-pairwise, with-records, with-insertion, with-push, sum-with, in-found, all-without, names_apart-sym, size, with-without, record_of-at, put_back, is_its, AreNamed, WritesIts}
 
 -- what is found among records with one more
 find_front : (p : Record → Bool) (rec : Record) (front back : List Record)

@@ -1,26 +1,5 @@
 -- Where a record comes to stand among records in order.
-use Rattle.std.proofs.Common.{◌≡◌, ℕ, ◌≤◌, Bool, true, false, not, ◌||◌, Option, List, [], length, replicate, zero, suc, option_map, find, refl, sym, ap, ◌∙◌, arith}
-use Rattle.std.specs.List.{list_all}
-use Rattle.std.proofs.lemmas.Bool.{false≢true}
-use Rattle.std.proofs.lemmas.List.{get_or_past}
-use Rattle.cf_types.specs.declared.names.Key16.{Key16}
-use Rattle.cf_types.specs.declared.numbers.EntryId.{EntryId}
-use Rattle.cf_lists.specs.Pairwise.{pairwise}
-use Rattle.cf_lists.proofs.PairwiseLaws.{pairwise_weaker, pairwise-filter}
-use Rattle.cf_lists.specs.RecordPrefixes.{goes_first}
-use Rattle.cf_lists.proofs.AllLaws.{list_of-get_or}
-use Rattle.list_store.specs.Record.{Record}
-use Rattle.list_store.specs.Lists.{Lists, records_of, all_records, is_id, lists_without}
-use Rattle.list_store.proofs.VecLaws.{all-replicate}
-use Rattle.list_model.specs.Keys.{key_up_to}
-use Rattle.list_model.specs.Records.{may_precede, names_apart, has_name, elements_in}
-use Rattle.list_model.proofs.RecordLaws.{key_up_to-trans}
-use Rattle.list_model.proofs.ListLaws.{all-without}
-use Rattle.list_model.proofs.ContentLaws.{ordered_without}
-use Rattle.list_kept.specs.ContentView.{comes_behind}
-use Rattle.list_keys.specs.Names.{Named, id_of}
-use Rattle.list_kept.specs.Named.{AreNamed}
-use Rattle.list_kept.specs.Orderly.{IsOrderly}
+use Rattle.list_kept.proofs.Names.{◌≡◌, ℕ, ◌≤◌, Bool, true, false, not, ◌||◌, Option, List, [], length, replicate, zero, suc, option_map, find, refl, sym, ap, ◌∙◌, arith, list_all, false≢true, get_or_past, Key16, EntryId, pairwise, pairwise_weaker, pairwise-filter, goes_first, list_of-get_or, Record, Lists, records_of, all_records, is_id, lists_without, all-replicate, key_up_to, may_precede, names_apart, has_name, elements_in, key_up_to-trans, all-without, ordered_without, comes_behind, Named, id_of, AreNamed, IsOrderly}
 use Rattle.list_kept.proofs.ReadLaws.{elements_fewer}
 
 behind_too : (head : Bool) (key : Option Key16) (x y : Record) → may_precede x y ≡ true

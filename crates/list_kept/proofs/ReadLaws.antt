@@ -1,13 +1,5 @@
 -- Records counted and looked for, a header at a time.
-use Rattle.std.proofs.Common.{◌≡◌, ℕ, ◌+◌, ◌≤◌, ◌<◌, not, List, [], ◌∷◌, ◌++◌, length, length-append, drop, sym, ap, ◌∙◌}
-use Rattle.std.proofs.lemmas.List.{drop_more}
-use Rattle.cf_lists.proofs.FilterLaws.{sum_by-filter-le}
-use Rattle.cf_types.specs.declared.numbers.EntryId.{EntryId}
-use Rattle.list_store.specs.Record.{Record}
-use Rattle.list_store.specs.Lists.{Lists, all_records, records_of, records_without, is_id, count_of}
-use Rattle.cf_lists.proofs.AllLaws.{list_of-get_or}
-use Rattle.list_model.specs.Records.{elements_in}
-use Rattle.list_model.proofs.ContentLaws.{size}
+use Rattle.list_kept.proofs.Names.{◌≡◌, ℕ, ◌+◌, ◌≤◌, ◌<◌, not, List, [], ◌∷◌, ◌++◌, length, length-append, drop, sym, ap, ◌∙◌, drop_more, sum_by-filter-le, EntryId, Record, Lists, all_records, records_of, records_without, is_id, count_of, list_of-get_or, elements_in, size}
 
 pub drop_lists : (lists : Lists) (h : ℕ) → h < length lists → drop h lists ≡ records_of lists h ∷ drop (h + 1) lists
 drop_lists lists h lt =

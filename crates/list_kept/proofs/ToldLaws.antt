@@ -1,31 +1,6 @@
 -- The bits that connectors were told stay those that stand.
-use Rattle.std.proofs.Common.{◌≡◌, ℕ, Bool, true, false, not, ◌&&◌, ◌||◌, ◌==◌, if◌then◌else◌, Option, Some, None, List, [], ◌∷◌, filter, refl, sym, ap, ◌∙◌, arith}
-use Rattle.std.specs.List.{list_all}
-use Rattle.std.proofs.lemmas.Bool.{and_parts, and_from, false≢true, eqb-true}
-use Rattle.std.proofs.lemmas.Bool.Decides.{nat_tests}
-use Rattle.std.proofs.lemmas.List.Folds.{list_all-append}
-use Rattle.cf_types.specs.declared.numbers.ConnId.{ConnId}
-use Rattle.cf_types.specs.declared.effects.BitChange.{BitChange}
-use Rattle.cf_types.specs.Gains.{Bits, Gains, difference}
-use Rattle.cf_lists.proofs.FilterLaws.{list_all-filter}
-use Rattle.list_store.specs.Lists.{Lists}
-use Rattle.list_watch.specs.declared.monitors.Monitor.{Monitor}
-use Rattle.list_watch.specs.declared.monitors.Watched.{Watched}
-use Rattle.list_watch.specs.Monitors.{is_at, is_replaced}
+use Rattle.list_kept.proofs.Names.{◌≡◌, ℕ, Bool, true, false, not, ◌&&◌, ◌||◌, ◌==◌, if◌then◌else◌, Option, Some, None, List, [], ◌∷◌, filter, refl, sym, ap, ◌∙◌, arith, list_all, and_parts, and_from, false≢true, eqb-true, nat_tests, list_all-append, ConnId, BitChange, Bits, Gains, difference, list_all-filter, Lists, all_records, ids_apart, record_of, spot_of, lists_without, Monitor, Watched, is_at, is_replaced, monitors_of, is_lit, bit_of, row_turned, rows_turned, rows_with, differs, Content, has_records, Key16, EntryId, pairwise, Record, Spot, with_new_key, full-elsewhere, full-others, put_back, is_told}
 use Rattle.list_watch.specs.Monitors as watch
-use Rattle.list_watch.specs.Rows.{monitors_of, is_lit, bit_of, row_turned, rows_turned, rows_with}
-use Rattle.list_watch.specs.Ends.{differs}
-use Rattle.list_model.specs.Contents.{Content, has_records}
-use Rattle.cf_types.specs.declared.names.Key16.{Key16}
-use Rattle.cf_types.specs.declared.numbers.EntryId.{EntryId}
-use Rattle.cf_lists.specs.Pairwise.{pairwise}
-use Rattle.list_store.specs.Record.{Record}
-use Rattle.list_store.specs.declared.records.Spot.{Spot}
-use Rattle.list_store.specs.Lists.{all_records, ids_apart, record_of, spot_of, lists_without}
-use Rattle.list_model.specs.Commands.Move.{with_new_key}
-use Rattle.list_model.proofs.StoreLaws.{full-elsewhere, full-others}
-use Rattle.list_kept.specs.ContentView.{put_back}
-use Rattle.list_kept.specs.Told.{is_told}
 
 -- ---- the bits that stand
 

@@ -1,47 +1,15 @@
 -- Every command and departure leads from content to content.
-use Rattle.std.proofs.Common.{◌≡◌, ℕ, ◌+◌, ◌-◌, ◌<◌, ◌≤◌, ◌==◌, ◌&&◌, Bool, true, false, not, cond, List, [], ◌∷◌, ◌++◌, Option, Some, None, is_some, is_none, unwrap_or, length, filter, find, map, set, length-set, nat_lt, nat_le, sum_by, refl, sym, ap, ◌∙◌, subst, arith}
-use Rattle.std.specs.List.{list_all}
-use Rattle.std.specs.Option.{option_or}
-use Rattle.std.proofs.lemmas.Bool.{and_parts, and_from, not-true, false≢true}
-use Rattle.std.proofs.lemmas.Bool.Decides.{nat_tests}
-use Rattle.std.proofs.lemmas.List.{length-map}
-use Rattle.std.proofs.lemmas.List.Elements.{filter-append}
-use Rattle.std.proofs.lemmas.List.Folds.{list_all-map}
-use Rattle.std.proofs.lemmas.List.Sums.{sum_by-cons}
-use Rattle.cf_types.specs.declared.forms.Caps.{Caps}
-use Rattle.cf_types.specs.declared.forms.Refs.{Refs}
+use Rattle.list_model.proofs.Names.{◌≡◌, ℕ, ◌+◌, ◌-◌, ◌<◌, ◌≤◌, ◌==◌, ◌&&◌, Bool, true, false, not, cond, List, [], ◌∷◌, ◌++◌, Option, Some, None, is_some, is_none, unwrap_or, length, filter, find, map, set, length-set, nat_lt, nat_le, sum_by, refl, sym, ap, ◌∙◌, subst, arith, list_all, option_or, and_parts, and_from, not-true, false≢true, nat_tests, length-map, filter-append, list_all-map, sum_by-cons, Caps, Refs, At, Cond, ListCmd, Write, Update, Read, Move, Delete, ReadList, LockSet, LockReset, LockTest, LControls, SetLimit, Unmonitor, Key16, Name16, ConnId, EntryId, Refusal, Shape, first_refusal, insertion, pairwise, list_all-filter, list_all_weaker, list_all_always, list_all-filter_same, filter_all, length-filter-le, sum_by-filter-le, any_is_found, all_from_none, pairwise-filter, pairwise-map, Record, Lists, records_of, all_records, is_id, records_without, lists_without, replaced_by, lists_replaced, ids_apart, is_of, is_for, monitors_with, AreMonitors, has_name, elements_of, next_version, is_reference, is_known, names_apart, may_precede, record_at, the_record, no_record, stands_before, with_record, Content, IsContent, is_given, headers_of, locks_of, refs_of, is_within, content_without, holder_without, header_refusal, new_key_refusal, record_refusal, taken_refusal, name_refusal, entries_refusal, elements_refusal, index_refusal, cause, done}
 use Rattle.cf_types.specs.declared.forms.Refs.TheVariants as refs
-use Rattle.cf_types.specs.declared.list_commands.At.{At}
 use Rattle.cf_types.specs.declared.list_commands.At.TheVariants as ref
-use Rattle.cf_types.specs.declared.list_commands.Cond.{Cond}
-use Rattle.cf_types.specs.declared.list_commands.ListCmd.{ListCmd}
-use Rattle.cf_types.specs.declared.list_commands.ListCmd.TheVariants.{Write, Update, Read, Move, Delete, ReadList, LockSet, LockReset, LockTest, LControls, SetLimit, Monitor, Unmonitor}
-use Rattle.cf_types.specs.declared.names.Key16.{Key16}
-use Rattle.cf_types.specs.declared.names.Name16.{Name16}
-use Rattle.cf_types.specs.declared.numbers.ConnId.{ConnId}
-use Rattle.cf_types.specs.declared.numbers.EntryId.{EntryId}
-use Rattle.cf_types.specs.declared.refusals.Refusal.{Refusal}
-use Rattle.engine_api.specs.declared.shapes.Shape.{Shape}
-use Rattle.engine_api.specs.Meaning.{first_refusal}
-use Rattle.cf_lists.specs.Insertions.{insertion}
-use Rattle.cf_lists.specs.Pairwise.{pairwise}
-use Rattle.cf_lists.proofs.FilterLaws.{list_all-filter, list_all_weaker, list_all_always, list_all-filter_same, filter_all, length-filter-le, sum_by-filter-le, any_is_found, all_from_none}
-use Rattle.cf_lists.proofs.PairwiseLaws.{pairwise-filter, pairwise-map}
-use Rattle.list_store.specs.Record.{Record}
-use Rattle.list_store.specs.Lists.{Lists, records_of, all_records, is_id, records_without, lists_without, replaced_by, lists_replaced, ids_apart}
+use Rattle.cf_types.specs.declared.list_commands.ListCmd.TheVariants.{Monitor}
 use Rattle.list_watch.specs.declared.monitors.Monitor as watched
-use Rattle.list_watch.specs.Monitors.{is_of, is_for, monitors_with, AreMonitors}
-use Rattle.list_model.specs.Records.{has_name, elements_of, next_version, is_reference, is_known, names_apart, may_precede}
-use Rattle.list_model.specs.Lists.{record_at, the_record, no_record, stands_before, with_record}
-use Rattle.list_model.specs.Contents.{Content, IsContent, is_given, headers_of, locks_of, refs_of, is_within, content_without, holder_without}
-use Rattle.list_model.specs.Refusals.{header_refusal, new_key_refusal, record_refusal, taken_refusal, name_refusal, entries_refusal, elements_refusal, index_refusal}
 use Rattle.list_model.specs.Commands.Write as write
 use Rattle.list_model.specs.Commands.Update as update
 use Rattle.list_model.specs.Commands.Move as move
 use Rattle.list_model.specs.Commands.Monitor as monitor
 use Rattle.list_model.specs.Commands.Unmonitor as unmonitor
 use Rattle.list_model.specs.Commands.SetLimit as set_limit
-use Rattle.list_model.specs.Step.{cause, done}
 use Rattle.list_model.proofs.RecordLaws.{ordered-with, ids_apart-sym, is_id-refl, names_apart-sym}
 use Rattle.list_model.proofs.ListLaws.{IsWith, with-insertion, with-map, all-with, length-with, sum-with, pairwise-with, with-all, with-pairwise, IsIn, in-found, in-place, in-header, with-records, each-records, one-records, all-without, all-map}
 use Rattle.list_model.proofs.MonitorLaws.{monitors-filter, monitors-with, all-monitors_with}

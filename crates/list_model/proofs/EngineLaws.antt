@@ -1,36 +1,7 @@
 -- The laws of the engine's meaning.
-use Rattle.std.proofs.Common.{◌&&◌, ◌≡◌, ℕ, zero, suc, ◌+◌, ◌-◌, ◌<◌, ◌≤◌, IsTrue, ◌==◌, ◌||◌, Bool, true, false, not, cond, List, [], ◌∷◌, ◌++◌, Option, None, is_some, length, length-append, length-take, map, take, drop, take-append-drop, replicate, sum_by, ◌⊎◌, inl, inr, refl, sym, ap, ◌∙◌, subst, append_assoc, arith}
-use Rattle.std.specs.List.{list_all, list_any}
-use Rattle.std.proofs.lemmas.Bool.{and_parts, and_from, or_from}
-use Rattle.std.proofs.lemmas.Bool.Decides.{nat_tests}
-use Rattle.std.proofs.lemmas.List.{length-replicate}
-use Rattle.std.proofs.lemmas.List.Sums.{sum_by-cons, sum_by-append}
-use Rattle.std.proofs.lemmas.Option.{slice_get_within}
-use Rattle.cf_types.specs.Forms.{is_list}
-use Rattle.cf_types.specs.declared.forms.Caps.{Caps}
-use Rattle.cf_types.specs.declared.forms.Kind.{Kind}
+use Rattle.list_model.proofs.Names.{◌&&◌, ◌≡◌, ℕ, zero, suc, ◌+◌, ◌-◌, ◌<◌, ◌≤◌, IsTrue, ◌==◌, ◌||◌, Bool, true, false, not, cond, List, [], ◌∷◌, ◌++◌, Option, None, is_some, length, length-append, length-take, map, take, drop, take-append-drop, replicate, sum_by, ◌⊎◌, inl, inr, refl, sym, ap, ◌∙◌, subst, append_assoc, arith, list_all, list_any, and_parts, and_from, or_from, nat_tests, length-replicate, sum_by-cons, sum_by-append, slice_get_within, is_list, Caps, Kind, ConnId, Key16, Name16, EntryId, Shape, Fits, IsNoMore, IsNoMoreOf, IsNextItem, content_of_items, FrontLaws, pairwise, pairwise_front, take_next, none_from_all, list_all_weaker, Record, Lists, all_records, count_of, ids_apart, records_of, with_records, is_id, ListItem, Row, elements_in, is_known, names_apart, may_precede, first_records, Content, IsContent, is_given, no_content, headers_of, locks_of, refs_of, content_without, has_controls, controls_of, row_of, rows_from, items_of, content_with, content_without_last, entries_for, elements_for, need_of, list_meaning}
 use Rattle.cf_types.specs.declared.forms.Kind.TheVariants as kind
-use Rattle.cf_types.specs.declared.numbers.ConnId.{ConnId}
-use Rattle.cf_types.specs.declared.names.Key16.{Key16}
-use Rattle.cf_types.specs.declared.names.Name16.{Name16}
-use Rattle.cf_types.specs.declared.numbers.EntryId.{EntryId}
-use Rattle.engine_api.specs.declared.shapes.Shape.{Shape}
-use Rattle.engine_api.specs.Items.{Fits, IsNoMore, IsNoMoreOf, IsNextItem, content_of_items}
 use Rattle.engine_api.proofs.FrontLaws as front
-use Rattle.engine_api.proofs.FrontLaws.{FrontLaws}
-use Rattle.cf_lists.specs.Pairwise.{pairwise}
-use Rattle.cf_lists.proofs.PairwiseLaws.{pairwise_front}
-use Rattle.cf_lists.proofs.TakeLaws.{take_next}
-use Rattle.cf_lists.proofs.FilterLaws.{none_from_all, list_all_weaker}
-use Rattle.list_store.specs.Record.{Record}
-use Rattle.list_store.specs.Lists.{Lists, all_records, count_of, ids_apart, records_of, with_records, is_id}
-use Rattle.list_model.specs.declared.items.ListItem.{ListItem}
-use Rattle.list_model.specs.declared.items.ListItem.TheVariants.{Row}
-use Rattle.list_model.specs.Records.{elements_in, is_known, names_apart, may_precede}
-use Rattle.list_model.specs.Lists.{first_records}
-use Rattle.list_model.specs.Contents.{Content, IsContent, is_given, no_content, headers_of, locks_of, refs_of, content_without}
-use Rattle.list_model.specs.Items.{has_controls, controls_of, row_of, rows_from, items_of, content_with, content_without_last, entries_for, elements_for, need_of}
-use Rattle.list_model.specs.Meaning.{list_meaning}
 use Rattle.list_model.proofs.RecordLaws.{ids_apart-sym}
 use Rattle.list_model.proofs.ListLaws.{IsWith, with-push, with-records, with-pairwise}
 use Rattle.list_model.proofs.ItemLaws.{next-row, record_in, header_in, content_front, controls_in, items-front, made-again, place-next, take_append, controls-placed, first-none, first-first, first-all, count-first, length-rows, ComesFirst, ComesNext, item-comes}

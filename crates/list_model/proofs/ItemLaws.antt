@@ -1,23 +1,5 @@
 -- The items of a content, and the content that the first of them make.
-use Rattle.std.proofs.Common.{◌≡◌, ℕ, zero, suc, ◌+◌, ◌-◌, ◌<◌, ◌≤◌, ◌==◌, ◌||◌, Bool, true, false, not, cond, min, List, [], ◌∷◌, ◌++◌, Option, Some, None, is_some, option_map, length, length-append, length-take, map, nat_lt, take, replicate, slice_get, fold, ◌⊎◌, inl, inr, refl, sym, ap, ◌∙◌, subst, arith}
-use Rattle.std.specs.List.{list_any}
-use Rattle.std.proofs.lemmas.Bool.{or_parts, false≢true, eqb-true}
-use Rattle.std.proofs.lemmas.Bool.Decides.{nat_tests}
-use Rattle.std.proofs.lemmas.List.{length-map, take_all, take-take, take-map}
-use Rattle.std.proofs.lemmas.List.Sums.{fold-append}
-use Rattle.std.proofs.lemmas.Option.{slice_get-map}
-use Rattle.cf_types.specs.declared.forms.Caps.{Caps}
-use Rattle.cf_types.specs.declared.numbers.ConnId.{ConnId}
-use Rattle.engine_api.specs.declared.shapes.Shape.{Shape}
-use Rattle.cf_lists.proofs.TakeLaws.{take_next}
-use Rattle.list_store.specs.Record.{Record}
-use Rattle.list_store.specs.Lists.{Lists, records_of, with_records, all_records, count_of}
-use Rattle.list_watch.specs.declared.monitors.Monitor.{Monitor}
-use Rattle.list_model.specs.declared.items.ListItem.{ListItem}
-use Rattle.list_model.specs.declared.items.ListItem.TheVariants.{Controls, Row}
-use Rattle.list_model.specs.Lists.{no_record, first_records}
-use Rattle.list_model.specs.Contents.{Content, IsContent, no_content, headers_of, locks_of}
-use Rattle.list_model.specs.Items.{triple_of, monitor_of, has_controls, controls_of, row_of, rows_from, items_of, content_with}
+use Rattle.list_model.proofs.Names.{◌≡◌, ℕ, zero, suc, ◌+◌, ◌-◌, ◌<◌, ◌≤◌, ◌==◌, ◌||◌, Bool, true, false, not, cond, min, List, [], ◌∷◌, ◌++◌, Option, Some, None, is_some, option_map, length, length-append, length-take, map, nat_lt, take, replicate, slice_get, fold, ◌⊎◌, inl, inr, refl, sym, ap, ◌∙◌, subst, arith, list_any, or_parts, false≢true, eqb-true, nat_tests, length-map, take_all, take-take, take-map, fold-append, slice_get-map, Caps, ConnId, Shape, take_next, Record, Lists, records_of, with_records, all_records, count_of, Monitor, ListItem, Controls, Row, no_record, first_records, Content, IsContent, no_content, headers_of, locks_of, triple_of, monitor_of, has_controls, controls_of, row_of, rows_from, items_of, content_with}
 
 -- ---- lists
 

@@ -1,3 +1,4 @@
+pub mod Names
 pub mod RecordLaws
 pub mod ListLaws
 pub mod MonitorLaws

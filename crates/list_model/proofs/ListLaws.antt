@@ -1,16 +1,5 @@
 -- Lists of records for each header: a record more, one taken out, one changed.
-use Rattle.std.proofs.Common.{◌≡◌, ℕ, zero, suc, ◌+◌, ◌<◌, ◌&&◌, Bool, true, false, not, cond, List, [], ◌∷◌, ◌++◌, Option, Some, length, length-append, find, map, slice_get, sum_by, refl, sym, ap, ◌∙◌, subst, append_assoc, arith}
-use Rattle.std.specs.List.{list_all}
-use Rattle.std.proofs.lemmas.Bool.{and_parts, and_from}
-use Rattle.std.proofs.lemmas.List.{map-append}
-use Rattle.std.proofs.lemmas.List.Elements.{filter-append}
-use Rattle.std.proofs.lemmas.List.Sums.{sum_by-cons, sum_by-append}
-use Rattle.cf_types.specs.declared.numbers.EntryId.{EntryId}
-use Rattle.cf_lists.specs.Insertions.{insertion}
-use Rattle.cf_lists.specs.Pairwise.{pairwise}
-use Rattle.cf_lists.proofs.FilterLaws.{list_all_weaker}
-use Rattle.list_store.specs.Record.{Record}
-use Rattle.list_store.specs.Lists.{Lists, records_of, with_records, all_records, is_id, records_without, lists_without}
+use Rattle.list_model.proofs.Names.{◌≡◌, ℕ, zero, suc, ◌+◌, ◌<◌, ◌&&◌, Bool, true, false, not, cond, List, [], ◌∷◌, ◌++◌, Option, Some, length, length-append, find, map, slice_get, sum_by, refl, sym, ap, ◌∙◌, subst, append_assoc, arith, list_all, and_parts, and_from, map-append, filter-append, sum_by-cons, sum_by-append, EntryId, insertion, pairwise, list_all_weaker, Record, Lists, records_of, with_records, all_records, is_id, records_without, lists_without}
 
 -- ---- a list with one more element somewhere
 

@@ -1,13 +1,5 @@
 -- Monitors: one more, and fewer.
-use Rattle.std.proofs.Common.{◌≡◌, ℕ, ◌&&◌, ◌||◌, Bool, true, false, not, List, [], ◌∷◌, filter, refl, ◌∙◌}
-use Rattle.std.specs.List.{list_all}
-use Rattle.std.proofs.lemmas.Bool.{and_from, false≢true}
-use Rattle.std.proofs.lemmas.List.Folds.{list_all-append}
-use Rattle.cf_types.specs.declared.numbers.ConnId.{ConnId}
-use Rattle.cf_lists.proofs.FilterLaws.{list_all-filter, list_all-filter_same, list_all_weaker}
-use Rattle.cf_lists.proofs.PairwiseLaws.{pairwise-filter, pairwise_push}
-use Rattle.list_watch.specs.declared.monitors.Monitor.{Monitor}
-use Rattle.list_watch.specs.Monitors.{is_at, is_for, is_replaced, monitors_with, places_apart, headers_apart, AreMonitors}
+use Rattle.list_model.proofs.Names.{◌≡◌, ℕ, ◌&&◌, ◌||◌, Bool, true, false, not, List, [], ◌∷◌, filter, refl, ◌∙◌, list_all, and_from, false≢true, list_all-append, ConnId, list_all-filter, list_all-filter_same, list_all_weaker, pairwise-filter, pairwise_push, Monitor, is_at, is_for, is_replaced, monitors_with, places_apart, headers_apart, AreMonitors}
 
 neither : (a b : Bool) → not (a || b) ≡ true → (not a ≡ true) × (not b ≡ true)
 neither true b h = absurd (false≢true h)

@@ -1,23 +1,5 @@
 -- Records: the order of their keys, and names and ids apart.
-use Rattle.std.proofs.Common.{◌≡◌, ℕ, ◌==◌, Bool, true, false, not, List, Option, Some, None, Ordering, Less, Equal, Greater, is_lt, is_gt, nat_cmp, refl, sym, ap, ◌∙◌, subst, arith}
-use Rattle.std.specs.Ordering.{ordering_reverse}
-use Rattle.std.specs.Cmp.Lexicographic.{slice_cmp, nat_list_cmp_total}
-use Rattle.std.proofs.lemmas.Bool.{not-true, false≢true}
-use Rattle.std.proofs.lemmas.Bool.Decides.{nat_tests}
-use Rattle.std.proofs.lemmas.Cmp.{upto}
-use Rattle.cf_types.specs.declared.names.Key16.{Key16}
-use Rattle.cf_types.specs.declared.names.Name16.{Name16}
-use Rattle.cf_types.specs.Name.{same_name}
-use Rattle.cf_types.proofs.ResourceLaws.{same_name-eq, same_name-refl}
-use Rattle.cf_lists.specs.Insertions.{insertion}
-use Rattle.cf_lists.specs.Pairwise.{pairwise}
-use Rattle.cf_lists.proofs.FilterLaws.{list_all_always}
-use Rattle.cf_lists.proofs.PairwiseLaws.{FindsPlace, pairwise-insertion}
-use Rattle.list_store.specs.Record.{Record}
-use Rattle.list_store.specs.Lists.{is_id, ids_apart}
-use Rattle.list_model.specs.Keys.{key_before, key_up_to}
-use Rattle.list_model.specs.Records.{names_apart, may_precede}
-use Rattle.list_model.specs.Lists.{stands_before}
+use Rattle.list_model.proofs.Names.{◌≡◌, ℕ, ◌==◌, Bool, true, false, not, List, Option, Some, None, Ordering, Less, Equal, Greater, is_lt, is_gt, nat_cmp, refl, sym, ap, ◌∙◌, subst, arith, ordering_reverse, slice_cmp, nat_list_cmp_total, not-true, false≢true, nat_tests, upto, Key16, Name16, same_name, same_name-eq, same_name-refl, insertion, pairwise, list_all_always, FindsPlace, pairwise-insertion, Record, is_id, ids_apart, key_before, key_up_to, names_apart, may_precede, stands_before}
 
 -- ---- the order of keys
 

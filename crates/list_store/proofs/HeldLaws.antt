@@ -1,15 +1,5 @@
 -- The chains of records, and those that no record has.
-use Rattle.std.proofs.Common.{◌≡◌, ◌≢◌, ℕ, zero, suc, ◌+◌, List, [], ◌∷◌, ◌++◌, set, get_or, slice_get, sum_by, Option, None, Some, refl, sym, ap, ◌∙◌, subst, arith, get_or-set_other}
-use Rattle.std.proofs.lemmas.Option.{get_or_from_slice_get}
-use Rattle.cf_lists.proofs.TableLaws.{get-set_other}
-use Rattle.std.proofs.lemmas.List.Sums.{sum_by-set, sum_by-cons}
-use Rattle.cf_lists.proofs.RecordSpotLaws.{get_within}
-use Rattle.cf_lists.proofs.SplitLaws.{Every}
-use Rattle.cf_pool.specs.declared.chain.Chain.{Chain}
-use Rattle.cf_pool.specs.Pools.{IsChain, need_at}
-use Rattle.list_store.specs.declared.records.Rec.{Rec}
-use Rattle.list_store.specs.Record.{Record}
-use Rattle.list_store.specs.Records.{record_in, body_in, HasChain, chains_less, loose_in, AreHeld}
+use Rattle.list_store.proofs.Names.{◌≡◌, ◌≢◌, ℕ, zero, suc, ◌+◌, List, [], ◌∷◌, ◌++◌, set, get_or, slice_get, sum_by, Option, None, Some, refl, sym, ap, ◌∙◌, subst, arith, get_or-set_other, get_or_from_slice_get, get-set_other, sum_by-set, sum_by-cons, get_within, Every, Chain, IsChain, need_at, Rec, Record, record_in, body_in, HasChain, chains_less, loose_in, AreHeld}
 
 -- ---- one list of chains
 

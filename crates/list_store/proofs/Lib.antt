@@ -1,3 +1,4 @@
+pub mod Names
 pub mod VecLaws
 pub mod TiedLaws
 pub mod SpotLaws

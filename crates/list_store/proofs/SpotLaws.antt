@@ -1,15 +1,7 @@
 -- A header and a place as a spot.
-use Rattle.std.proofs.Common.{◌≡◌, ℕ, true, false, [], Option, Some, None, option_map, position, refl, sym, ap, ◌∙◌}
-use Rattle.std.specs.List.{list_any}
-use Rattle.std.proofs.lemmas.Bool.{false≢true}
-use Rattle.std.proofs.lemmas.List.Quantifiers.{position-Some}
-use Rattle.cf_lists.proofs.KeyLaws.{none_placed}
-use Rattle.cf_lists.proofs.AllLaws.{list_of-get_or}
-use Rattle.cf_types.specs.declared.numbers.EntryId.{EntryId}
+use Rattle.list_store.proofs.Names.{◌≡◌, ℕ, true, false, [], Option, Some, None, option_map, position, refl, sym, ap, ◌∙◌, list_any, false≢true, position-Some, none_placed, list_of-get_or, EntryId, Spot, Lists, record_id, is_id, has_id, spot_of, spot_in, as_spot}
 use Rattle.cf_lists.specs.Lists as generic
-use Rattle.list_store.specs.declared.records.Spot.{Spot}
-use Rattle.list_store.specs.Lists.{Lists, record_id, is_id, has_id, records_of, spot_of, spot_in}
-use Rattle.list_store.specs.Spots.{as_spot}
+use Rattle.list_store.specs.Lists.{records_of}
 
 at_header : (header : ℕ) (o : Option ℕ)
     → option_map {T = ℕ × ℕ} {U = Spot} as_spot (option_map {T = ℕ} {U = ℕ × ℕ} (λ (place : ℕ). (header, place)) o)

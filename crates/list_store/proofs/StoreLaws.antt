@@ -1,30 +1,6 @@
 -- What a call does to the records that are shown, and to the chains that no record has.
-use Rattle.std.proofs.Common.{◌≡◌, ℕ, zero, suc, ◌+◌, ◌-◌, ◌<◌, true, false, not, List, [], ◌∷◌, ◌++◌, map, set, slice_get, replicate, sum_by, length, Option, None, Some, is_some, option_map, Result, Ok, Err, refl, sym, ap, ◌∙◌, subst, arith, Bor}
-use Rattle.std.specs.Prelude.{IfSome, IfNone, IfOk, OnErr}
-use Rattle.std.proofs.lemmas.List.Sums.{sum_by-cons}
-use Rattle.cf_lists.specs.Pairwise.{pairwise}
-use Rattle.cf_lists.specs.Lists.{all_records, records_of, is_id, has_id, record_of, lists_with, lists_without, lists_replaced, replaced_by, ids_apart}
-use Rattle.std.specs.List.{list_any}
-use Rattle.cf_lists.proofs.FilterLaws.{any_is_found}
-use Rattle.cf_lists.proofs.AllLaws.{any_all, all-filter, all-map}
-use Rattle.cf_lists.proofs.IdLaws.{without_absent}
-use Rattle.cf_lists.proofs.SplitLaws.{every_at, every_found, all_with, agree_all, IsSplit, split_found}
-use Rattle.cf_pool.specs.declared.chain.Chain.{Chain}
-use Rattle.cf_pool.specs.declared.no_elements.NoElements.{NoElements}
-use Rattle.cf_pool.specs.Chains.{need_of}
-use Rattle.cf_pool.specs.Pools.{Chains, IsChain, need_at, need_in, with_chain, without_chain}
-use Rattle.list_store.specs.declared.records.Rec.{Rec}
-use Rattle.list_store.specs.TableView.{TableView}
-use Rattle.list_store.specs.Tied.{rec_id}
-use Rattle.list_store.specs.Record.{Record}
-use Rattle.list_store.specs.Records.{record_in, HasChain, chains_less, loose_in, is_data, AreHeld, elements_in}
-use Rattle.list_store.specs.StoreView.{StoreView}
-use Rattle.std.specs.List.{list_all}
-use Rattle.std.specs.Prelude.{nat_le}
-use Rattle.std.proofs.Common.{◌≤◌, get_or}
-use Rattle.std.proofs.lemmas.Bool.{and_from, and_parts, le-leb, leb-true}
-use Rattle.std.proofs.lemmas.Option.{get_or_from_slice_get}
-use Rattle.cf_lists.proofs.RecordSpotLaws.{get_within}
+use Rattle.list_store.proofs.Names.{◌≡◌, ℕ, zero, suc, ◌+◌, ◌-◌, ◌<◌, true, false, not, List, [], ◌∷◌, ◌++◌, map, set, slice_get, replicate, sum_by, length, Option, None, Some, is_some, option_map, Result, Ok, Err, refl, sym, ap, ◌∙◌, subst, arith, Bor, IfSome, IfNone, IfOk, OnErr, nat_le, ◌≤◌, get_or, sum_by-cons, pairwise, all_records, records_of, record_of, lists_with, lists_without, lists_replaced, replaced_by, ids_apart, list_any, list_all, any_is_found, any_all, all-filter, all-map, without_absent, every_at, every_found, all_with, agree_all, IsSplit, split_found, Chain, NoElements, need_of, Chains, IsChain, need_at, need_in, with_chain, without_chain, Rec, TableView, rec_id, Record, record_in, HasChain, chains_less, loose_in, is_data, AreHeld, elements_in, StoreView, and_from, and_parts, le-leb, leb-true, get_or_from_slice_get, get_within}
+use Rattle.cf_lists.specs.Lists.{is_id, has_id}
 use Rattle.list_store.proofs.VecLaws.{list_all-set, list_all-get_or}
 use Rattle.list_store.proofs.HeldLaws.{less_swap, has_swap, loose_middle, held_middle, loose_sub, each_chain, elsewhere_fresh, elsewhere_loose, loose_change, held_change, record_change, counted, loose_fresh}
 

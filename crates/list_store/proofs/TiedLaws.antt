@@ -1,25 +1,7 @@
 -- A record more or less in the slab, the orders and the map at once.
-use Rattle.std.proofs.Common.{◌≡◌, ◌≢◌, inl, inr, ℕ, ◌<◌, ◌≤◌, Bool, true, false, cond, ◌==◌, List, [], ◌∷◌, ◌++◌, ◌-◌, length, map, set, take, replicate, slice_get, zero, suc, Option, Some, None, is_some, option_map, unwrap_or, refl, sym, ap, ◌∙◌, subst, arith}
-use Rattle.std.specs.Prelude.{IsSome, IfSome, IfNone, slice_index_or}
-use Rattle.std.specs.List.{list_all, list_any, remove}
-use Rattle.std.proofs.lemmas.Bool.{false≢true, eq-eqb, eqb-true, ltb-true}
-use Rattle.std.proofs.lemmas.Bool.Decides.{eqb_tells}
-use Rattle.std.proofs.lemmas.List.{length-map, drop_all, append-nil}
-use Rattle.slab.specs.Slab.{Slab, get, Updates}
-use Rattle.cf_lists.specs.Pairwise.{pairwise}
-use Rattle.cf_lists.proofs.FilterLaws.{find_none}
-use Rattle.cf_lists.specs.Lists.{all_records, records_of, is_id, record_of, spot_of, lists_with, lists_without, lists_replaced, replaced_by, ids_apart}
-use Rattle.cf_lists.specs.Orders.{stands}
-use Rattle.cf_lists.proofs.AllLaws.{any_all, list_of-get_or}
-use Rattle.cf_lists.proofs.IdLaws.{IsPlaced, record_there, taken_there, without_absent, apart-with, apart-without, apart-changed, gone}
-use Rattle.cf_lists.proofs.RecordSpotLaws.{placed_at, spot_there, no_spot, header_within}
-use Rattle.cf_lists.proofs.RecordMapLaws.{records_of-map, get-map, with-map, removed-map}
-use Rattle.cf_lists.proofs.RecordOrderLaws.{stands_new, stands_more, stands_either, stands_at, stands_still, stands_before, place_stands, agree, any_stands, any_key, twice}
-use Rattle.list_store.specs.declared.records.Rec.{Rec}
-use Rattle.list_store.specs.Tied.{rec_id}
-use Rattle.list_store.specs.Orders.{is_few}
+use Rattle.list_store.proofs.Names.{◌≡◌, ◌≢◌, inl, inr, ℕ, ◌<◌, ◌≤◌, Bool, true, false, cond, ◌==◌, List, [], ◌∷◌, ◌++◌, ◌-◌, length, map, set, take, replicate, slice_get, zero, suc, Option, Some, None, is_some, option_map, unwrap_or, refl, sym, ap, ◌∙◌, subst, arith, IsSome, IfSome, IfNone, slice_index_or, list_all, list_any, remove, false≢true, eq-eqb, eqb-true, ltb-true, eqb_tells, length-map, drop_all, append-nil, Slab, get, Updates, pairwise, find_none, all_records, records_of, record_of, lists_with, lists_without, lists_replaced, replaced_by, ids_apart, stands, any_all, list_of-get_or, IsPlaced, record_there, taken_there, without_absent, apart-with, apart-without, apart-changed, gone, placed_at, spot_there, no_spot, header_within, records_of-map, get-map, with-map, removed-map, stands_new, stands_more, stands_either, stands_at, stands_still, stands_before, place_stands, agree, any_stands, any_key, twice, Rec, rec_id, no_rec, rec_at, lists_at, spot_for, Writes, IsHeld, IsFound, IsTied, is_few}
+use Rattle.cf_lists.specs.Lists.{is_id, spot_of}
 use Rattle.list_store.proofs.VecLaws.{list_all-get_or}
-use Rattle.list_store.specs.Tied.{no_rec, rec_at, lists_at, spot_for, Writes, IsHeld, IsFound, IsTied}
 
 -- the record under a key
 pub at_is : (slab : Slab Rec) (k : ℕ) (rec : Rec) → get slab k ≡ Some rec → rec_at slab k ≡ rec

@@ -1,20 +1,5 @@
 -- Monitors stay one for an index and one for a header.
-use Rattle.std.proofs.Common.{◌≡◌, ℕ, ◌≤◌, Bool, true, false, not, ◌&&◌, ◌||◌, ◌==◌, cond, List, [], ◌∷◌, ◌++◌, filter, map, length, find, Option, option_map, refl, sym, ap, ◌∙◌, subst, arith}
-use Rattle.std.specs.List.{list_all}
-use Rattle.std.proofs.lemmas.Bool.{and_parts}
-use Rattle.std.proofs.lemmas.Bool.Decides.{nat_tests}
-use Rattle.std.proofs.lemmas.List.{map-append}
-use Rattle.std.proofs.lemmas.List.Folds.{list_all-map}
-use Rattle.std.proofs.lemmas.List.Elements.{filter_agree}
-use Rattle.cf_types.specs.declared.numbers.ConnId.{ConnId}
-use Rattle.cf_lists.specs.Pairwise.{pairwise}
-use Rattle.cf_lists.proofs.FilterLaws.{filter-filter, list_all_weaker, list_all-filter_same, length-filter-le, filter_none, none_from_all}
-use Rattle.cf_lists.proofs.PairwiseLaws.{pairwise-filter, pairwise_push}
-use Rattle.list_watch.specs.declared.monitors.Monitor.{Monitor}
-use Rattle.list_watch.specs.declared.monitors.Watched.{Watched}
-use Rattle.list_watch.specs.Monitors.{is_at, is_of, is_for, is_replaced, monitors_with, monitors_without, monitors_of_others, places_apart, headers_apart, AreMonitors}
-use Rattle.list_watch.specs.Rows.{monitors_of, rows_turned, rows_with, rows_without, rows_of_others}
-use Rattle.list_watch.specs.Ends.{rows_put}
+use Rattle.list_watch.proofs.Names.{◌≡◌, ℕ, ◌≤◌, Bool, true, false, not, ◌&&◌, ◌||◌, ◌==◌, cond, List, [], ◌∷◌, ◌++◌, filter, map, length, find, Option, option_map, refl, sym, ap, ◌∙◌, subst, arith, list_all, and_parts, nat_tests, map-append, list_all-map, filter_agree, ConnId, pairwise, filter-filter, list_all_weaker, list_all-filter_same, length-filter-le, filter_none, none_from_all, pairwise-filter, pairwise_push, Monitor, Watched, is_at, is_of, is_for, is_replaced, monitors_with, monitors_without, monitors_of_others, places_apart, headers_apart, AreMonitors, monitors_of, rows_turned, rows_with, rows_without, rows_of_others, rows_put}
 use Rattle.list_watch.proofs.BitLaws.{is_elsewhere, monitors-turned}
 
 -- ---- rows as monitors

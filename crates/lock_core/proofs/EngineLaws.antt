@@ -1,23 +1,5 @@
 -- What the engine keeps of its content.
-use Rattle.std.proofs.Common.{◌≡◌, ℕ, ◌+◌, ◌-◌, ◌≤◌, ◌<◌, [], ◌∷◌, List, Option, Some, None, false, Result, Ok, Err, OnOk, OnErr, ◌++◌, length, length-append, sym, ap, subst, ◌∙◌, arith}
-use Rattle.std.proofs.lemmas.List.{length-map, length-take}
-use Rattle.cf_types.specs.declared.forms.Caps.{Caps}
-use Rattle.cf_types.specs.declared.numbers.ConnId.{ConnId}
-use Rattle.cf_types.specs.declared.lock_commands.LockCmd.{LockCmd}
-use Rattle.lock_queue.specs.declared.waiters.Waiter.{Waiter}
-use Rattle.lock_model.specs.Interests.{Interest}
-use Rattle.lock_model.specs.Contents.{Content, IsContent, records_in, items, need_of, content_with, content_without_last}
-use Rattle.lock_model.specs.Departures.{with_returned, with_retained}
-use Rattle.lock_model.specs.Step.{cause}
-use Rattle.lock_model.proofs.ContentLaws.{items_in}
-use Rattle.lock_model.proofs.EngineLaws.{elements-items, entries-items}
-use Rattle.lock_core.specs.declared.plans.Plan.{Plan}
-use Rattle.lock_core.specs.Plans.{plan_for}
-use Rattle.lock_model.specs.declared.items.LockItem.{LockItem}
-use Rattle.lock_model.specs.declared.items.LockItem.TheVariants.{Owner, Waits}
-use Rattle.lock_model.proofs.ItemLaws.{owner-next, waiter-next}
-use Rattle.lock_core.specs.Stock.{content_placed}
-use Rattle.lock_core.specs.EngineView.{IsCounted}
+use Rattle.lock_core.proofs.Names.{◌≡◌, ℕ, ◌+◌, ◌-◌, ◌≤◌, ◌<◌, [], ◌∷◌, List, Option, Some, None, false, Result, Ok, Err, OnOk, OnErr, ◌++◌, length, length-append, sym, ap, subst, ◌∙◌, arith, length-map, length-take, Caps, ConnId, LockCmd, Waiter, Interest, Content, IsContent, records_in, items, need_of, content_with, content_without_last, with_returned, with_retained, cause, items_in, elements-items, entries-items, Plan, plan_for, LockItem, Owner, Waits, owner-next, waiter-next, content_placed, IsCounted}
 
 -- the need of a content is the number of its interests, and of its record data
 pub need-content : (content : Content)

@@ -1,19 +1,6 @@
 -- Waiters that are granted one after another.
-use Rattle.std.proofs.Common.{◌≡◌, ◌+◌, Bool, true, false, cond, ◌∷◌, [], List, Option, Some, None, length, filter, find, refl, sym, ap, ◌∙◌, subst}
-use Rattle.cf_types.specs.declared.resources.Resource.{Resource}
-use Rattle.cf_types.specs.Resources.{Part, same_part}
-use Rattle.cf_types.proofs.ResourceLaws.{same_part-eq, same_part-refl}
+use Rattle.lock_core.proofs.Names.{◌≡◌, ◌+◌, Bool, true, false, cond, ◌∷◌, [], List, Option, Some, None, length, filter, find, refl, sym, ap, ◌∙◌, subst, ◌≤◌, not, Resource, Part, same_part, same_part-eq, same_part-refl, length-filter-le, sum_by-filter-le, ConnId, Waiter, IsQueue, is_by, waiters_without_conn, is_on, is_waiter, waiter_of, first_of, waiters_without, may_own, Content, records_of, records_waiting, settlement_of, with_letters_before, grants, grant, held_by, content_granted, granted_letter, waiters_of-first, if_grantable, next_of}
 use Rattle.cf_lists.proofs.KeyLaws as keys
-use Rattle.cf_lists.proofs.FilterLaws.{length-filter-le, sum_by-filter-le}
-use Rattle.std.proofs.Common.{◌≤◌, not}
-use Rattle.cf_types.specs.declared.numbers.ConnId.{ConnId}
-use Rattle.lock_queue.specs.declared.waiters.Waiter.{Waiter}
-use Rattle.lock_queue.specs.Waiters.{IsQueue, is_by, waiters_without_conn, is_on, is_waiter, waiter_of, first_of, waiters_without}
-use Rattle.lock_model.specs.Interests.{may_own}
-use Rattle.lock_model.specs.Contents.{Content, records_of, records_waiting}
-use Rattle.lock_model.specs.Grants.{settlement_of, with_letters_before, grants, grant, held_by, content_granted, granted_letter}
-use Rattle.lock_model.proofs.ItemLaws.{waiters_of-first}
-use Rattle.lock_core.specs.Stock.{if_grantable, next_of}
 
 abbrev part_of : Waiter → Part
 part_of w = (w.r, w.conn)

@@ -1,16 +1,5 @@
 -- How many letters a command sends at most.
-use Rattle.std.proofs.Common.{◌+◌, ◌≤◌, Bool, true, false, not, if◌then◌else◌, ◌∷◌, [], List, Option, Some, None}
-use Rattle.std.proofs.Common.{length, filter, ap, arith}
-use Rattle.cf_types.specs.declared.numbers.ConnId.{ConnId}
-use Rattle.cf_types.specs.declared.resources.Resource.{Resource}
-use Rattle.cf_types.specs.declared.lock_commands.Decision.TheVariants.{Deny}
-use Rattle.cf_lists.proofs.FilterLaws.{filter_swap, length-filter-le}
-use Rattle.lock_queue.specs.declared.waiters.Waiter.{Waiter}
-use Rattle.lock_queue.specs.Waiters.{is_on, is_waiter, waiters_of, waiters_without}
-use Rattle.lock_model.specs.Interests.{may_own, manager_of, interests_without}
-use Rattle.lock_model.specs.Contents.{Content}
-use Rattle.lock_model.specs.Grants.{Settlement, settlement_of, with_letters_before, grants, grant, held_by}
-use Rattle.lock_model.specs.Grants.{content_granted, granted_letter}
+use Rattle.lock_core.proofs.Names.{◌+◌, ◌≤◌, Bool, true, false, not, if◌then◌else◌, ◌∷◌, [], List, Option, Some, None, length, filter, ap, arith, ConnId, Resource, Deny, filter_swap, length-filter-le, Waiter, is_on, is_waiter, waiters_of, waiters_without, may_own, manager_of, interests_without, Content, Settlement, settlement_of, with_letters_before, grants, grant, held_by, content_granted, granted_letter}
 use Rattle.lock_model.specs.Requests as requests
 use Rattle.lock_model.specs.Commands.Obtain as obtain
 use Rattle.lock_model.specs.Commands.Alter as alter

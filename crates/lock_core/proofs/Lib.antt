@@ -1,4 +1,5 @@
 pub use Rattle.lock_model.proofs as LockModel
+pub mod Names
 pub mod ReadLaws
 pub mod GrantLaws
 pub mod LetterLaws

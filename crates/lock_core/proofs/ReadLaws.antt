@@ -1,17 +1,5 @@
 -- What is read of waiters and of interests, and what is found among them.
-use Rattle.std.proofs.Common.{◌≡◌, ℕ, ◌+◌, ◌≤◌, Bool, true, false, ◌||◌, cond, if◌then◌else◌, List, [], ◌∷◌, Option, Some, None, is_some, option_map, filter, find, refl, sym, ap, ◌∙◌, arith}
-use Rattle.std.specs.List.{list_any}
-use Rattle.std.proofs.lemmas.List.Sums.{sum_by-cons}
-use Rattle.cf_lists.proofs.FilterLaws.{any_is_found}
-use Rattle.lock_queue.specs.declared.waiters.Waiter.{Waiter}
-use Rattle.lock_queue.specs.Waiters.{waiter_of, waiters_with, recorded_by, recorded_of, recorded_in, IsQueue}
-use Rattle.lock_queue.proofs.CountLaws.{recorded_less, recorded_more}
-use Rattle.lock_model.specs.Interests.{Interest}
-use Rattle.lock_model.specs.Contents.{records_of, records_waiting}
-use Rattle.lock_model.specs.Refusals.{record_refusal}
-use Rattle.cf_types.specs.declared.refusals.Refusal.{Refusal}
-use Rattle.cf_types.specs.declared.refusals.Refusal.TheVariants.{NoRecord}
-use Rattle.engine_api.specs.Meaning.{first_refusal}
+use Rattle.lock_core.proofs.Names.{◌≡◌, ℕ, ◌+◌, ◌≤◌, Bool, true, false, ◌||◌, cond, if◌then◌else◌, List, [], ◌∷◌, Option, Some, None, is_some, option_map, filter, find, refl, sym, ap, ◌∙◌, arith, list_any, sum_by-cons, any_is_found, Waiter, waiter_of, waiters_with, recorded_by, recorded_of, recorded_in, IsQueue, recorded_less, recorded_more, Interest, records_of, records_waiting, record_refusal, Refusal, NoRecord, first_refusal}
 
 -- ---- one that is found
 

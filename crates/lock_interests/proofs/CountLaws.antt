@@ -1,31 +1,7 @@
 -- Record data are as many as the interests that have them, where each is of an owner.
-use Rattle.std.proofs.Common.{◌≡◌, ℕ, suc, ◌+◌, Bool, true, false, not, ◌&&◌, ◌||◌, ◌==◌, cond, List, [], ◌∷◌, Option, Some, None, is_some, option_map, filter, find, map, length, refl, sym, ap, ◌∙◌, subst, arith}
-use Rattle.std.specs.List.{list_any, list_all}
-use Rattle.std.proofs.lemmas.Bool.{and_parts, and_from, false≢true}
-use Rattle.std.proofs.lemmas.List.Elements.{filter_agree}
-use Rattle.std.proofs.lemmas.List.Filters.{length-filter_both}
-use Rattle.cf_types.specs.declared.numbers.ConnId.{ConnId}
-use Rattle.cf_types.specs.declared.resources.Resource.{Resource}
-use Rattle.cf_types.specs.Resources.{Part, same_part, resource_up_to}
-use Rattle.cf_types.proofs.ResourceLaws.{same_part-eq, same_part-refl, same_part_comm}
-use Rattle.cf_lists.specs.Pairwise.{pairwise}
-use Rattle.cf_lists.proofs.FilterLaws.{filter_nothing, any_is_found, find-filter, list_any-map, list_all_weaker, list_all-filter}
-use Rattle.cf_lists.proofs.InsertionLaws.{list_all-insertion, list_any-insertion, length-insertion}
-use Rattle.cf_lists.proofs.KeyLaws.{none_later, length_without}
-use Rattle.lock_table.specs.declared.holdings.Held.{Held}
-use Rattle.lock_table.specs.Holdings.{is_interest, has_interest, owners_with, owners_without, in_state, in_retention_of, IsOwners}
-use Rattle.lock_table.proofs.HoldingLaws.{owners-with, owners-in_state}
-use Rattle.lock_model.specs.LockQueue.declared.waiters.Waiter.{Waiter}
-use Rattle.lock_record.specs.declared.recorded.Record.{Record}
-use Rattle.lock_record.specs.Recorded.{stands_before, is_record, is_of, record_of, has_record, records_with, records_without, records_without_conn, AreRecords}
+use Rattle.lock_interests.proofs.Names.{◌≡◌, ℕ, suc, ◌+◌, Bool, true, false, not, ◌&&◌, ◌||◌, ◌==◌, cond, List, [], ◌∷◌, Option, Some, None, is_some, option_map, filter, find, map, length, refl, sym, ap, ◌∙◌, subst, arith, list_any, list_all, and_parts, and_from, false≢true, filter_agree, length-filter_both, ConnId, Resource, Part, same_part, resource_up_to, same_part-eq, same_part-refl, same_part_comm, pairwise, filter_nothing, any_is_found, find-filter, list_any-map, list_all_weaker, list_all-filter, list_all-insertion, list_any-insertion, length-insertion, none_later, length_without, Held, is_interest, has_interest, owners_with, owners_without, in_state, in_retention_of, IsOwners, owners-with, owners-in_state, Waiter, Record, stands_before, is_record, is_of, record_of, has_record, records_with, records_without, records_without_conn, AreRecords, records-filter, records-with, Interest, interests_with, interests_changed, records_of, records_owned, stays, with_alteration, with_record, interests_of, records_put, records_given, AreOwned}
 use Rattle.lock_record.specs.Recorded as book
-use Rattle.lock_record.proofs.RecordLaws.{records-filter, records-with}
 use Rattle.lock_model.specs.Interests as interests
-use Rattle.lock_model.specs.Interests.{Interest, interests_with, interests_changed}
-use Rattle.lock_model.specs.Contents.{records_of, records_owned}
-use Rattle.lock_model.specs.Departures.{stays}
-use Rattle.lock_model.specs.Grants.{with_alteration}
-use Rattle.lock_interests.specs.InterestsView.{with_record, interests_of, records_put, records_given, AreOwned}
 use Rattle.lock_interests.proofs.JoinLaws.{joined-with, joined-changed}
 use Rattle.lock_interests.proofs.ReadLaws.{records-joined}
 

@@ -1,26 +1,6 @@
 -- Interests with their record data, as owners and record data come, change and go.
-use Rattle.std.proofs.Common.{◌≡◌, ℕ, Bool, true, false, not, ◌&&◌, ◌||◌, ◌==◌, cond, List, Option, Some, None, is_some, option_map, filter, map, refl, sym, ap, subst, ◌∙◌}
-use Rattle.std.specs.Option.{option_or}
-use Rattle.std.proofs.lemmas.Bool.{false≢true}
-use Rattle.cf_types.specs.declared.numbers.ConnId.{ConnId}
-use Rattle.cf_types.specs.declared.resources.Resource.{Resource}
-use Rattle.cf_types.specs.Resources.{Part, same_part, resource_up_to}
-use Rattle.cf_types.proofs.ResourceLaws.{same_part-eq, same_part-refl, same_part_comm}
-use Rattle.cf_lists.specs.Insertions.{insertion}
-use Rattle.cf_lists.proofs.FilterLaws.{find-filter, find_none, none_filtered}
-use Rattle.cf_lists.proofs.InsertionLaws.{find-insertion_past, find-insertion_here}
-use Rattle.lock_table.specs.declared.holdings.Held.{Held}
-use Rattle.lock_table.specs.Holdings.{is_interest, owners_with, owners_without, in_state, in_retention_of}
-use Rattle.lock_model.specs.LockQueue.declared.waiters.Waiter.{Waiter}
-use Rattle.lock_record.specs.declared.recorded.Record.{Record}
-use Rattle.lock_record.specs.Recorded.{stands_before, is_record, is_of, record_of, records_with, records_without, records_without_conn}
+use Rattle.lock_interests.proofs.Names.{◌≡◌, ℕ, Bool, true, false, not, ◌&&◌, ◌||◌, ◌==◌, cond, List, Option, Some, None, is_some, option_map, filter, map, refl, sym, ap, subst, ◌∙◌, option_or, false≢true, ConnId, Resource, Part, same_part, resource_up_to, same_part-eq, same_part-refl, same_part_comm, insertion, find-filter, find_none, none_filtered, find-insertion_past, find-insertion_here, Held, is_interest, owners_with, owners_without, in_state, in_retention_of, Waiter, Record, stands_before, is_record, is_of, record_of, records_with, records_without, records_without_conn, Interest, interests_with, interests_without, interests_changed, with_alteration, stays, with_retained, interests_left, without_record, with_record, interests_of, records_put, records_given, map-filtered, map-insertion, map-either, map-both}
 use Rattle.lock_model.specs.Interests as interests
-use Rattle.lock_model.specs.Interests.{Interest, interests_with, interests_without, interests_changed}
-use Rattle.lock_model.specs.Grants.{with_alteration}
-use Rattle.lock_model.specs.Departures.{stays, with_retained, interests_left}
-use Rattle.lock_model.specs.Commands.RtDelete.{without_record}
-use Rattle.lock_interests.specs.InterestsView.{with_record, interests_of, records_put, records_given}
-use Rattle.cf_lists.proofs.ImageLaws.{map-filtered, map-insertion, map-either, map-both}
 
 -- ---- record data of one part, and of others
 

@@ -1,3 +1,4 @@
+pub mod Names
 pub mod JoinLaws
 pub mod ReadLaws
 pub mod CountLaws

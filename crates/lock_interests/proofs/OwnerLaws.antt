@@ -1,29 +1,10 @@
 -- What is read of the owners of one resource, and of the resources of one connector; and what a departure leaves.
-use Rattle.std.proofs.Common.{◌≡◌, ℕ, zero, suc, ◌+◌, ◌<◌, ◌++◌, arith, length, drop, get_or, slice_get, Bool, true, false, not, ◌&&◌, ◌||◌, ◌==◌, cond, if◌then◌else◌, List, [], ◌∷◌, Option, Some, None, is_some, option_map, filter, find, map, refl, sym, ap, ◌∙◌, subst}
-use Rattle.std.specs.Prelude.{option_to_list}
-use Rattle.std.specs.List.{list_any, list_all, filter_map, cons_option}
-use Rattle.std.proofs.lemmas.List.{append_assoc}
-use Rattle.std.proofs.lemmas.List.Elements.{filter_agree}
-use Rattle.std.proofs.lemmas.Bool.{and_parts, and_from, eqb-true, false≢true}
-use Rattle.cf_types.specs.declared.numbers.ConnId.{ConnId}
-use Rattle.cf_types.specs.declared.resources.Resource.{Resource}
-use Rattle.cf_types.specs.Resources.{Part, same_part, same_resource}
-use Rattle.cf_types.proofs.ResourceLaws.{same_part-eq, same_part-refl, same_resource_comm}
-use Rattle.cf_lists.specs.Pairwise.{pairwise}
-use Rattle.cf_lists.proofs.FilterLaws.{any_is_found, all_found, found_passes, filter_swap, filter_absorbed}
-use Rattle.cf_lists.proofs.KeyLaws.{none_later, later_apart, AllFound, found_filter}
-use Rattle.lock_table.specs.declared.holdings.Held.{Held}
-use Rattle.lock_table.specs.Holdings.{is_on, is_by, is_interest, has_interest, owners_of, owners_retained, owners_without_active, in_retention, in_retention_of, are_apart}
-use Rattle.lock_table.specs.Tables.{resource_of}
-use Rattle.lock_record.specs.declared.recorded.Record.{Record}
-use Rattle.lock_record.specs.Recorded.{is_record, is_of, has_record, record_of}
+use Rattle.lock_interests.proofs.Names.{◌≡◌, ℕ, zero, suc, ◌+◌, ◌<◌, ◌++◌, arith, length, drop, get_or, Bool, true, false, not, ◌&&◌, ◌||◌, ◌==◌, cond, if◌then◌else◌, List, [], ◌∷◌, Option, Some, None, is_some, option_map, filter, find, map, refl, sym, ap, ◌∙◌, subst, option_to_list, list_any, list_all, filter_map, cons_option, append_assoc, filter_agree, and_parts, and_from, eqb-true, false≢true, ConnId, Resource, Part, same_part, same_resource, same_part-eq, same_part-refl, same_resource_comm, pairwise, any_is_found, all_found, found_passes, filter_swap, filter_absorbed, none_later, later_apart, AllFound, found_filter, Held, is_on, is_by, is_interest, has_interest, owners_of, owners_retained, owners_without_active, in_retention, in_retention_of, are_apart, resource_of, Record, is_record, is_of, has_record, record_of, Interest, stays, with_record, interests_of, letters_told, record_read, records_read, held_read, read_in, is_held_retained, retained_at, retained_all, AreOwned}
+use Rattle.std.proofs.Common.{slice_get}
 use Rattle.lock_model.specs.Interests as interests
-use Rattle.lock_model.specs.Interests.{Interest}
-use Rattle.lock_model.specs.Departures.{stays}
 use Rattle.lock_model.specs.Commands.Decide as decide
 use Rattle.lock_model.specs.Commands.RtRead as rt_read
 use Rattle.lock_model.specs.Commands.RtDelete as rt_delete
-use Rattle.lock_interests.specs.InterestsView.{with_record, interests_of, letters_told, record_read, records_read, held_read, read_in, is_held_retained, retained_at, retained_all, AreOwned}
 use Rattle.lock_interests.proofs.CountLaws.{has_is_some}
 use Rattle.lock_interests.proofs.ReadLaws.{recorded-joined, any_recorded-joined, told-joined}
 

@@ -1,29 +1,11 @@
 -- What is read of interests is read of their owners and their record data.
-use Rattle.std.proofs.Common.{◌≡◌, ℕ, ◌+◌, ◌≤◌, ◌<◌, ◌-◌, get_or, Bool, true, false, not, ◌&&◌, ◌||◌, ◌==◌, cond, List, [], ◌∷◌, Option, Some, None, is_some, option_map, length, filter, find, map, refl, sym, ap, ◌∙◌, arith}
-use Rattle.std.specs.List.{list_any, list_all, filter_map, cons_option, slice_get}
-use Rattle.std.proofs.lemmas.Bool.{false≢true}
-use Rattle.std.proofs.lemmas.List.Sums.{sum_by-cons}
-use Rattle.std.proofs.lemmas.List.{length-map}
-use Rattle.std.proofs.lemmas.Option.{slice_get-map, slice_get-get_or}
-use Rattle.cf_types.specs.declared.numbers.ConnId.{ConnId}
-use Rattle.cf_types.specs.declared.resources.Resource.{Resource}
-use Rattle.cf_types.specs.Resources.{same_resource}
-use Rattle.cf_types.proofs.ResourceLaws.{same_resource_comm}
-use Rattle.cf_lists.proofs.FilterLaws.{list_any-map}
-use Rattle.lock_table.specs.declared.holdings.Held.{Held}
-use Rattle.lock_table.specs.Holdings.{is_on, is_interest, owners_of}
-use Rattle.lock_record.specs.declared.recorded.Record.{Record}
-use Rattle.lock_record.specs.Recorded.{record_of}
+use Rattle.lock_interests.proofs.Names.{◌≡◌, ℕ, ◌+◌, ◌≤◌, ◌<◌, ◌-◌, get_or, Bool, true, false, not, ◌&&◌, ◌||◌, ◌==◌, cond, List, [], ◌∷◌, Option, Some, None, is_some, option_map, length, filter, find, map, refl, sym, ap, ◌∙◌, arith, list_any, list_all, filter_map, cons_option, slice_get, false≢true, sum_by-cons, length-map, slice_get-map, slice_get-get_or, ConnId, Resource, same_resource, same_resource_comm, list_any-map, Held, is_on, is_interest, owners_of, Record, record_of, Interest, are_compatible, may_own, is_managing, manager_of, interest_of, interests_with, interests_without, interests_changed, records_of, records_owned, Letter, Inside, InterestsView, interests_view, with_record, interests_of, letters_told, record_read, records_read}
 use Rattle.lock_model.specs.Interests as interests
-use Rattle.lock_model.specs.Interests.{Interest, are_compatible, is_by, may_own, is_managing, manager_of, interest_of, interests_with, interests_without, interests_changed}
-use Rattle.lock_model.specs.Contents.{records_of, records_owned}
+use Rattle.lock_model.specs.Interests.{is_by}
 use Rattle.lock_model.specs.Commands.RtRead as rt_read
 use Rattle.lock_model.specs.Commands.RtDelete as rt_delete
 use Rattle.lock_model.specs.Commands.Decide as decide
 use Rattle.cf_types.specs.declared.events.Event.TheVariants as events
-use Rattle.cf_types.specs.declared.events.Letter.{Letter}
-use Rattle.lock_interests.specs.declared.interests.Interests.TheInside.{Inside}
-use Rattle.lock_interests.specs.InterestsView.{InterestsView, interests_view, with_record, interests_of, letters_told, record_read, records_read}
 
 all_step : (p : Held → Bool) (b : Bool) (x : Held) (xs : List Held) (c : Bool) → list_all p xs ≡ c
     → list_all p (cond b (x ∷ xs) xs) ≡ (not b || p x) && c

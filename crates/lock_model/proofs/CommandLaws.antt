@@ -1,37 +1,12 @@
 -- Every command leads from content to content.
-use Rattle.std.proofs.Common.{◌≡◌, ℕ, ◌+◌, ◌≤◌, Bool, true, false, not, cond, List, [], ◌∷◌, Option, Some, None, is_some, length, map, nat_le, refl, ap, ◌∙◌, arith}
-use Rattle.std.specs.List.{list_all}
-use Rattle.std.proofs.lemmas.Bool.{and_parts, and_from, not-true, leb-true}
-use Rattle.std.proofs.lemmas.List.{length-map}
-use Rattle.cf_types.specs.declared.forms.Caps.{Caps}
-use Rattle.cf_types.specs.declared.numbers.ConnId.{ConnId}
-use Rattle.cf_types.specs.declared.refusals.Refusal.{Refusal}
-use Rattle.cf_types.specs.declared.refusals.Refusal.TheVariants.{StillPending, RecordsFull}
-use Rattle.cf_types.specs.declared.resources.Resource.{Resource}
-use Rattle.cf_types.specs.declared.lock_commands.Decision.{Decision}
-use Rattle.cf_types.specs.declared.lock_commands.Decision.TheVariants.{Keep, Deny, Notify}
-use Rattle.cf_types.specs.declared.lock_commands.LockCmd.{LockCmd}
-use Rattle.cf_types.specs.declared.lock_commands.LockCmd.TheVariants.{Obtain, Alter, Release, Decide, RtRead, RtDelete}
-use Rattle.cf_types.specs.Resources.{same_part}
-use Rattle.engine_api.specs.Meaning.{first_refusal}
-use Rattle.cf_lists.proofs.FilterLaws.{list_all-filter, list_all-filter_same, list_all_always, all_from_none, any_is_found, length-filter-le, sum_by-filter-le}
-use Rattle.cf_lists.proofs.InsertionLaws.{list_all-insertion, length-insertion}
-use Rattle.lock_queue.specs.declared.waiters.Waiter.{Waiter}
-use Rattle.lock_queue.specs.Waiters.{is_waiter, waits, waiters_without, stands_before}
-use Rattle.lock_model.specs.Interests.{Interest, is_of, interest_of, has_interest, interests_with, interests_without, interests_changed, may_own}
-use Rattle.lock_model.specs.Contents.{Content, IsContent, is_due, records_of, records_in}
+use Rattle.lock_model.proofs.Names.{◌≡◌, ℕ, ◌+◌, ◌≤◌, Bool, true, false, not, cond, List, [], ◌∷◌, Option, Some, None, is_some, length, map, nat_le, refl, ap, ◌∙◌, arith, list_all, and_parts, and_from, not-true, leb-true, length-map, Caps, ConnId, Refusal, StillPending, RecordsFull, Resource, Decision, Keep, Deny, Notify, LockCmd, Obtain, Alter, Release, Decide, RtRead, RtDelete, same_part, first_refusal, list_all-filter, list_all-filter_same, list_all_always, all_from_none, any_is_found, length-filter-le, sum_by-filter-le, list_all-insertion, length-insertion, Waiter, is_waiter, waits, waiters_without, stands_before, Interest, is_of, interest_of, has_interest, interests_with, interests_without, interests_changed, may_own, Content, IsContent, is_due, records_of, records_in, settlement_of, held_by, interests_granted, grant, interested_refusal, interest_refusal, records_refusal, content_asked, wait_settlement, cause, done, queue-filter, queue-with}
 use Rattle.lock_model.specs.Grants as grants
-use Rattle.lock_model.specs.Grants.{settlement_of, held_by, interests_granted, grant}
-use Rattle.lock_model.specs.Refusals.{interested_refusal, interest_refusal, records_refusal}
-use Rattle.lock_model.specs.Requests.{content_asked, wait_settlement}
 use Rattle.lock_model.specs.Commands.Obtain as obtain
 use Rattle.lock_model.specs.Commands.Alter as alter
 use Rattle.lock_model.specs.Commands.Release as release
 use Rattle.lock_model.specs.Commands.Decide as decide
 use Rattle.lock_model.specs.Commands.RtDelete as rt_delete
-use Rattle.lock_model.specs.Step.{cause, done}
 use Rattle.lock_model.proofs.InterestLaws.{KeepsState, has-without, has-map, length-with, interests-filter, interests-same, records-map}
-use Rattle.lock_queue.proofs.WaiterLaws.{queue-filter, queue-with}
 use Rattle.lock_model.proofs.GrantLaws.{waiter_part}
 use Rattle.lock_model.proofs.ContentLaws.{items_in, led_grant, due_all, owners-granted, has-granted}
 

@@ -1,24 +1,7 @@
 -- The grant rule leads from content to content, with no more record data and no more items.
-use Rattle.std.proofs.Common.{◌≡◌, ℕ, ◌+◌, ◌≤◌, Bool, true, false, not, ◌&&◌, cond, List, [], ◌∷◌, Some, length, find, refl, ap, ◌∙◌, arith}
-use Rattle.std.specs.List.{list_all}
-use Rattle.std.proofs.lemmas.Bool.{and_parts, not-true}
-use Rattle.std.proofs.lemmas.List.{length-map}
-use Rattle.cf_types.specs.declared.forms.Caps.{Caps}
-use Rattle.cf_types.specs.declared.events.Letter.{Letter}
-use Rattle.cf_types.specs.declared.resources.Resource.{Resource}
-use Rattle.cf_types.specs.Resources.{same_part}
-use Rattle.cf_types.proofs.ResourceLaws.{same_part-eq, same_part-refl, same_part_comm}
-use Rattle.cf_lists.specs.Pairwise.{pairwise}
-use Rattle.cf_lists.proofs.FilterLaws.{list_all-filter, list_all-filter_same, list_all_weaker, list_all_both}
-use Rattle.cf_lists.proofs.PairwiseLaws.{pairwise-filter}
+use Rattle.lock_model.proofs.Names.{◌≡◌, ℕ, ◌+◌, ◌≤◌, Bool, true, false, not, ◌&&◌, cond, List, [], ◌∷◌, Some, length, find, refl, ap, ◌∙◌, arith, list_all, and_parts, not-true, length-map, Caps, Letter, Resource, same_part, same_part-eq, same_part-refl, same_part_comm, pairwise, list_all-filter, list_all-filter_same, list_all_weaker, list_all_both, pairwise-filter, Waiter, is_on, is_waiter, waiters_of, waiters_without, are_apart, Interest, AreInterests, has_interest, interests_with, interests_changed, may_own, parts_apart, Content, IsContent, is_due, records_of, records_owned, records_in, held_by, with_alteration, interests_granted, content_granted, granted_letter, Settlement, settlement_of, with_letters_before, grants, grant, grant_each, queue-filter}
 use Rattle.cf_lists.proofs.KeyLaws as keys
-use Rattle.lock_queue.specs.declared.waiters.Waiter.{Waiter}
-use Rattle.lock_queue.specs.Waiters.{is_on, is_waiter, waiters_of, waiters_without, are_apart}
-use Rattle.lock_model.specs.Interests.{Interest, AreInterests, has_interest, interests_with, interests_changed, may_own, parts_apart}
-use Rattle.lock_model.specs.Contents.{Content, IsContent, is_due, records_of, records_owned, records_in}
-use Rattle.lock_model.specs.Grants.{held_by, with_alteration, interests_granted, content_granted, granted_letter, Settlement, settlement_of, with_letters_before, grants, grant, grant_each}
 use Rattle.lock_model.proofs.InterestLaws.{has-map, has-with, interests-with, records-with, length-with}
-use Rattle.lock_queue.proofs.WaiterLaws.{queue-filter}
 use Rattle.lock_model.proofs.GrantLaws.{waiter_part as part_of, alteration, alteration-keeps, interests-altered, records-altered}
 
 -- ---- a content that another one leads to

@@ -1,24 +1,6 @@
 -- The laws of the engine's meaning.
-use Rattle.std.proofs.Common.{◌≡◌, ◌-◌, ◌≤◌, Bool, true, false, List, [], ◌∷◌, ◌++◌, append-nil, append_assoc, length, length-append, fold, map, sum_by, refl, sym, ap, ◌∙◌, arith}
-use Rattle.std.specs.List.{list_any}
-use Rattle.std.proofs.lemmas.Bool.{or_right, false≢true}
-use Rattle.std.proofs.lemmas.List.{map-append, take_at}
-use Rattle.std.proofs.lemmas.List.Folds.{list_any-append}
-use Rattle.std.proofs.lemmas.List.Sums.{sum_by-append, sum_by-cons}
-use Rattle.cf_types.specs.declared.forms.Caps.{Caps}
-use Rattle.cf_types.specs.declared.forms.Kind.{Kind}
+use Rattle.lock_model.proofs.Names.{◌≡◌, ◌-◌, ◌≤◌, Bool, true, false, List, [], ◌∷◌, ◌++◌, append-nil, append_assoc, length, length-append, fold, map, sum_by, refl, sym, ap, ◌∙◌, arith, list_any, or_right, false≢true, map-append, take_at, list_any-append, sum_by-append, sum_by-cons, Caps, Kind, ConnId, is_lock, Shape, Fits, IsNoMore, IsNoMoreOf, Waiter, LockItem, Owner, Waits, Interest, Content, IsContent, no_content, records_of, records_in, owner, items, content_with, content_without_last, without_last, entries_of_item, records_of_item, need_of, with_returned, lock_meaning}
 use Rattle.cf_types.specs.declared.forms.Kind.TheVariants as kind
-use Rattle.cf_types.specs.declared.numbers.ConnId.{ConnId}
-use Rattle.cf_types.specs.Forms.{is_lock}
-use Rattle.engine_api.specs.declared.shapes.Shape.{Shape}
-use Rattle.engine_api.specs.Items.{Fits, IsNoMore, IsNoMoreOf}
-use Rattle.lock_queue.specs.declared.waiters.Waiter.{Waiter}
-use Rattle.lock_model.specs.declared.items.LockItem.{LockItem}
-use Rattle.lock_model.specs.declared.items.LockItem.TheVariants.{Owner, Waits}
-use Rattle.lock_model.specs.Interests.{Interest}
-use Rattle.lock_model.specs.Contents.{Content, IsContent, no_content, records_of, records_in, owner, items, content_with, content_without_last, without_last, entries_of_item, records_of_item, need_of}
-use Rattle.lock_model.specs.Departures.{with_returned}
-use Rattle.lock_model.specs.Meaning.{lock_meaning}
 use Rattle.lock_model.proofs.DepartureLaws as departures
 
 pub content-nothing : (caps : Caps) → IsContent caps no_content

@@ -1,19 +1,6 @@
 -- The grant rule leads from content to content, and to no more record data and no more items.
-use Rattle.std.proofs.Common.{◌≡◌, ℕ, ◌+◌, ◌≤◌, Bool, true, false, not, ◌&&◌, ◌||◌, ◌==◌, cond, List, [], ◌∷◌, Option, Some, None, map, refl, sym, ap, ◌∙◌, subst, arith}
-use Rattle.std.specs.List.{list_any, list_all}
-use Rattle.std.specs.Option.{option_or}
-use Rattle.std.proofs.lemmas.Bool.{and_parts, or_parts, or_right, false≢true, eq-eqb}
-use Rattle.std.proofs.lemmas.List.Sums.{sum_by-cons}
-use Rattle.cf_types.specs.declared.numbers.ConnId.{ConnId}
-use Rattle.cf_types.specs.Resources.{same_resource, Part, same_part}
-use Rattle.cf_types.proofs.ResourceLaws.{same_part-eq, same_part-refl}
-use Rattle.cf_lists.specs.Pairwise.{pairwise}
+use Rattle.lock_model.proofs.Names.{◌≡◌, ℕ, ◌+◌, ◌≤◌, Bool, true, false, not, ◌&&◌, ◌||◌, ◌==◌, cond, List, [], ◌∷◌, Option, Some, None, map, refl, sym, ap, ◌∙◌, subst, arith, list_any, list_all, option_or, and_parts, or_parts, or_right, false≢true, eq-eqb, sum_by-cons, ConnId, same_resource, Part, same_part, same_part-eq, same_part-refl, pairwise, Held, Waiter, Interest, AreInterests, is_of, has_interest, interests_changed, may_coexist, may_own, parts_apart, owners_agree, records_of, records_owned, held_by, with_alteration}
 use Rattle.cf_lists.proofs.KeyLaws as keys
-use Rattle.lock_table.specs.declared.holdings.Held.{Held}
-use Rattle.lock_queue.specs.declared.waiters.Waiter.{Waiter}
-use Rattle.lock_model.specs.Interests.{Interest, AreInterests, is_of, has_interest, interests_changed, may_coexist, may_own, parts_apart, owners_agree}
-use Rattle.lock_model.specs.Contents.{records_of, records_owned}
-use Rattle.lock_model.specs.Grants.{held_by, with_alteration}
 use Rattle.lock_model.proofs.InterestLaws.{part_of, KeepsPart, interests-map, agree_same, agree_sym}
 
 -- the resource and the connector

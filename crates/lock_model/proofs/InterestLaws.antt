@@ -1,23 +1,6 @@
 -- Interests that are added, changed or taken away stay in their order, one for a connector and resource, and
 -- compatible.
-use Rattle.std.proofs.Common.{◌≡◌, ℕ, ◌+◌, ◌≤◌, Bool, true, false, not, ◌&&◌, ◌||◌, ◌==◌, List, [], ◌∷◌, length, filter, map, refl, sym, ap, ◌∙◌, subst, arith}
-use Rattle.std.specs.List.{list_all}
-use Rattle.std.proofs.lemmas.Bool.{and_parts, and_from}
-use Rattle.std.proofs.lemmas.Bool.Decides.{nat_tests}
-use Rattle.std.proofs.lemmas.List.Folds.{list_all-map}
-use Rattle.std.proofs.lemmas.List.Sums.{sum_by-cons}
-use Rattle.std.proofs.lemmas.Map.Views.{any-filter_same}
-use Rattle.cf_types.specs.declared.numbers.ConnId.{ConnId}
-use Rattle.cf_types.specs.declared.resources.Resource.{Resource}
-use Rattle.cf_types.specs.Resources.{same_resource, resource_up_to, Part, same_part}
-use Rattle.cf_types.proofs.ResourceLaws.{same_part-eq, same_part_comm, same_resource_comm, resource_up_to-either, resource_up_to-trans}
-use Rattle.cf_lists.specs.Pairwise.{pairwise}
-use Rattle.cf_lists.proofs.FilterLaws.{list_all-filter, list_all-filter_same, list_all_weaker, list_all_both, list_all_always, sum_by-filter-le, length-filter-le}
-use Rattle.cf_lists.proofs.InsertionLaws.{list_any-insertion, sum_by-insertion, length-insertion}
-use Rattle.cf_lists.proofs.PairwiseLaws.{FindsPlace, pairwise-filter, pairwise-insertion, pairwise-insertion_any, pairwise-map}
-use Rattle.lock_table.specs.declared.holdings.Held.{Held}
-use Rattle.lock_model.specs.Interests.{Interest, AreInterests, is_of, has_interest, interests_without, interests_with, may_coexist, may_own, stands_up_to, parts_apart, owners_agree}
-use Rattle.lock_model.specs.Contents.{records_of, records_owned}
+use Rattle.lock_model.proofs.Names.{◌≡◌, ℕ, ◌+◌, ◌≤◌, Bool, true, false, not, ◌&&◌, ◌||◌, ◌==◌, List, [], ◌∷◌, length, filter, map, refl, sym, ap, ◌∙◌, subst, arith, list_all, and_parts, and_from, nat_tests, list_all-map, sum_by-cons, any-filter_same, ConnId, Resource, same_resource, resource_up_to, Part, same_part, same_part-eq, same_part_comm, same_resource_comm, resource_up_to-either, resource_up_to-trans, pairwise, list_all-filter, list_all-filter_same, list_all_weaker, list_all_both, list_all_always, sum_by-filter-le, length-filter-le, list_any-insertion, sum_by-insertion, length-insertion, FindsPlace, pairwise-filter, pairwise-insertion, pairwise-insertion_any, pairwise-map, Held, Interest, AreInterests, is_of, has_interest, interests_without, interests_with, may_coexist, may_own, stands_up_to, parts_apart, owners_agree, records_of, records_owned}
 
 -- ---- two interests
 

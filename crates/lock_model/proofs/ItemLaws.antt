@@ -1,33 +1,9 @@
 -- Items that come and go one after another: what a content is meanwhile, and where the one that is added or taken
 -- away stands.
-use Rattle.std.proofs.Common.{◌≡◌, ◌+◌, ◌-◌, Bool, true, false, not, cond, List, [], ◌∷◌, ◌++◌, append-nil, append_assoc, Some, length, filter, map, take, drop, sum_by, refl, sym, ap, ◌∙◌, subst, arith}
-use Rattle.std.specs.List.{list_all, slice_get}
-use Rattle.std.proofs.lemmas.Bool.{and_parts, and_from, false≢true}
-use Rattle.std.proofs.lemmas.List.{take-append-drop, take_all, take_more}
-use Rattle.std.proofs.lemmas.List.Elements.{filter-append}
-use Rattle.std.proofs.lemmas.List.Folds.{list_all-append}
-use Rattle.std.proofs.lemmas.List.Sums.{sum_by-append}
-use Rattle.std.proofs.lemmas.Option.{get_or_from_slice_get}
-use Rattle.cf_types.specs.Forms.{is_lock}
-use Rattle.cf_types.specs.declared.forms.Caps.{Caps}
-use Rattle.cf_types.specs.declared.resources.Resource.{Resource}
-use Rattle.cf_types.specs.Resources.{same_part}
-use Rattle.cf_types.proofs.ResourceLaws.{same_part-eq, same_part-refl}
-use Rattle.engine_api.proofs.FrontLaws.{FrontLaws, fronts}
-use Rattle.cf_lists.specs.Pairwise.{pairwise}
-use Rattle.cf_lists.specs.Insertions.{insertion}
-use Rattle.cf_lists.proofs.FilterLaws.{filter_all, filter_swap, all_from_none}
-use Rattle.cf_lists.proofs.PairwiseLaws.{pairwise-filter, pairwise_front}
+use Rattle.lock_model.proofs.Names.{◌≡◌, ◌+◌, ◌-◌, Bool, true, false, not, cond, List, [], ◌∷◌, ◌++◌, append-nil, append_assoc, Some, length, filter, map, take, drop, sum_by, refl, sym, ap, ◌∙◌, subst, arith, list_all, slice_get, and_parts, and_from, false≢true, take-append-drop, take_all, take_more, filter-append, list_all-append, sum_by-append, get_or_from_slice_get, is_lock, Caps, Resource, same_part, same_part-eq, same_part-refl, FrontLaws, fronts, pairwise, insertion, filter_all, filter_swap, all_from_none, pairwise-filter, pairwise_front, Waiter, is_on, is_waiter, waiters_of, waiters_without, waiters_with, stands_before, are_apart, IsQueue, LockItem, Owner, Waits, Interest, AreInterests, is_of, interests_with, interests_without, stands_up_to, parts_apart, owners_agree, Content, IsContent, is_due, records_of, owner, items, content_with, content_without_last, without_last, lock_meaning}
 use Rattle.cf_lists.proofs.KeyLaws as keys
-use Rattle.lock_queue.specs.declared.waiters.Waiter.{Waiter}
-use Rattle.lock_queue.specs.Waiters.{is_on, is_waiter, waiters_of, waiters_without, waiters_with, stands_before, are_apart, IsQueue}
-use Rattle.lock_model.specs.declared.items.LockItem.{LockItem}
-use Rattle.lock_model.specs.declared.items.LockItem.TheVariants.{Owner, Waits}
-use Rattle.lock_model.specs.Interests.{Interest, AreInterests, is_of, interests_with, interests_without, stands_up_to, parts_apart, owners_agree}
-use Rattle.lock_model.specs.Contents.{Content, IsContent, is_due, records_of, owner, items, content_with, content_without_last, without_last}
 use Rattle.lock_model.proofs.InterestLaws.{part_of}
 use Rattle.lock_model.proofs.GrantLaws.{waiter_part}
-use Rattle.lock_model.specs.Meaning.{lock_meaning}
 use Rattle.lock_model.proofs.EngineLaws.{behind_owners, behind_items, nobody, content-nothing, made-items, content-moved, items-place, unplace-place}
 
 -- ---- the first items of a content

@@ -1,3 +1,4 @@
+pub mod Names
 pub mod InterestLaws
 pub mod GrantLaws
 pub mod ContentLaws

@@ -1,15 +1,5 @@
 -- Any two owners of one resource are compatible.
-use Rattle.std.proofs.Common.{◌≡◌, Bool, true, false, not, ◌&&◌, ◌||◌, ◌==◌, List, [], ◌∷◌, Contains, refl, ◌∙◌}
-use Rattle.std.specs.List.{list_all}
-use Rattle.std.proofs.lemmas.Bool.{and_parts, and_from, or_right, eq-eqb, false≢true}
-use Rattle.std.proofs.lemmas.List.Elements.{All-contains}
-use Rattle.std.proofs.lemmas.List.Sums.{AllPass-from_list_all}
-use Rattle.cf_types.specs.declared.forms.Caps.{Caps}
-use Rattle.cf_types.specs.Resources.{same_resource}
-use Rattle.cf_lists.specs.Pairwise.{pairwise}
-use Rattle.cf_lists.proofs.FilterLaws.{list_all_weaker, list_all_both}
-use Rattle.lock_model.specs.Interests.{Interest, are_compatible, owners_agree}
-use Rattle.lock_model.specs.Contents.{Content, IsContent, OwnersAreCompatible}
+use Rattle.lock_model.proofs.Names.{◌≡◌, Bool, true, false, not, ◌&&◌, ◌||◌, ◌==◌, List, [], ◌∷◌, Contains, refl, ◌∙◌, list_all, and_parts, and_from, or_right, eq-eqb, false≢true, All-contains, AllPass-from_list_all, Caps, same_resource, pairwise, list_all_weaker, list_all_both, Interest, are_compatible, owners_agree, Content, IsContent, OwnersAreCompatible}
 use Rattle.lock_model.proofs.InterestLaws.{agree_sym}
 
 -- a relation with no direction, between each element and itself too

@@ -1,23 +1,5 @@
 -- How many interests there are.
-use Rattle.std.proofs.Common.{◌≡◌, ℕ, zero, suc, ◌+◌, ◌<◌, ◌≤◌, Bool, true, false, not, if◌then◌else◌, Option, Some, None, is_some, sum_by, List, [], ◌∷◌, ◌++◌, map, filter, drop, get_or, length, refl, sym, ap, ◌∙◌, arith}
-use Rattle.std.proofs.lemmas.List.{append_assoc, append-nil, map-append, drop_all}
-use Rattle.std.proofs.lemmas.List.Elements.{filter-append}
-use Rattle.cf_lists.specs.Bins.{arranged, joined}
-use Rattle.cf_types.specs.declared.numbers.ConnId.{ConnId}
-use Rattle.cf_types.specs.declared.resources.Resource.{Resource}
-use Rattle.cf_lists.specs.Insertions.{insertion}
-use Rattle.cf_lists.specs.Pairwise.{pairwise}
-use Rattle.cf_lists.proofs.InsertionLaws.{length-insertion, sum_by-insertion}
-use Rattle.cf_lists.proofs.KeyLaws.{sum_by_without}
-use Rattle.cf_lists.proofs.FilterLaws.{any_is_found, length-filter-le}
-use Rattle.std.specs.List.{list_any}
-use Rattle.std.proofs.lemmas.List.Sums.{sum_by-append, sum_by-cons}
-use Rattle.cf_types.specs.Resources.{same_part, resource_before}
-use Rattle.cf_types.proofs.ResourceLaws.{same_part-eq, same_part-refl}
-use Rattle.cf_lists.proofs.EntryTableLaws.{one_less, none_out}
-use Rattle.lock_queue.specs.declared.waiters.Waiter.{Waiter}
-use Rattle.lock_queue.specs.Waiters.{is_waiter, waits, waiter_of, waiters_without, waiters_with, stands_before, are_apart, recorded_by, recorded_of, recorded_in}
-use Rattle.lock_queue.specs.Tables.{part_of, resource_of, waiters_in, one_where}
+use Rattle.lock_queue.proofs.Names.{◌≡◌, ℕ, zero, suc, ◌+◌, ◌<◌, ◌≤◌, Bool, true, false, not, if◌then◌else◌, Option, Some, None, is_some, sum_by, List, [], ◌∷◌, ◌++◌, map, filter, drop, get_or, length, refl, sym, ap, ◌∙◌, arith, append_assoc, append-nil, map-append, drop_all, filter-append, arranged, joined, ConnId, Resource, insertion, pairwise, length-insertion, sum_by-insertion, sum_by_without, any_is_found, length-filter-le, list_any, sum_by-append, sum_by-cons, same_part, resource_before, same_part-eq, same_part-refl, one_less, none_out, Waiter, is_waiter, waits, waiter_of, waiters_without, waiters_with, stands_before, are_apart, recorded_by, recorded_of, recorded_in, part_of, resource_of, waiters_in, one_where}
 
 pub less_one : (r : Resource) (conn : ConnId) (waiters : List Waiter) (b : Bool) → b ≡ waits r conn waiters
     → pairwise are_apart waiters ≡ true → length (waiters_without r conn waiters) + one_where b ≡ length waiters

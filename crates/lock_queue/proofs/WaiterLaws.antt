@@ -1,18 +1,5 @@
 -- Waiters stay in order, with one of a connector for a resource.
-use Rattle.std.proofs.Common.{◌≡◌, Bool, true, false, not, ◌&&◌, ◌||◌, List, filter, refl, sym, ap, ◌∙◌}
-use Rattle.std.specs.declared.cmp.Ordering.{Ordering}
-use Rattle.std.specs.declared.cmp.Ordering.TheVariants.{Less, Equal, Greater}
-use Rattle.std.specs.Ordering.{is_lt, ordering_reverse}
-use Rattle.std.proofs.lemmas.Bool.{and_from, and_parts, not-true, false≢true}
-use Rattle.cf_types.specs.declared.resources.Resource.{Resource}
-use Rattle.cf_types.specs.Resources.{resource_cmp, same_resource, resource_before, resource_up_to}
-use Rattle.cf_types.proofs.ResourceLaws.{resource_cmp_total, same_part_comm, same_resource-eq}
-use Rattle.cf_lists.proofs.FilterLaws.{list_all_weaker, list_all-filter_same, list_all_always}
-use Rattle.cf_lists.proofs.PairwiseLaws.{FindsPlace, pairwise-filter, pairwise-insertion, pairwise-insertion_any}
-use Rattle.cf_lists.proofs.EntryKeyLaws.{resource_order}
-use Rattle.lock_queue.specs.Tables.{is_ahead}
-use Rattle.lock_queue.specs.declared.waiters.Waiter.{Waiter}
-use Rattle.lock_queue.specs.Waiters.{is_on, is_waiter, waiters_with, waiters_without, stands_before, are_apart, IsQueue}
+use Rattle.lock_queue.proofs.Names.{◌≡◌, Bool, true, false, not, ◌&&◌, ◌||◌, List, filter, refl, sym, ap, ◌∙◌, Ordering, Less, Equal, Greater, is_lt, ordering_reverse, and_from, and_parts, not-true, false≢true, Resource, resource_cmp, same_resource, resource_before, resource_up_to, resource_cmp_total, same_part_comm, same_resource-eq, list_all_weaker, list_all-filter_same, list_all_always, FindsPlace, pairwise-filter, pairwise-insertion, pairwise-insertion_any, resource_order, is_ahead, Waiter, is_on, is_waiter, waiters_with, waiters_without, stands_before, are_apart, IsQueue}
 
 pub queue-filter : (q : Waiter → Bool) (waiters : List Waiter) → IsQueue waiters → IsQueue (filter q waiters)
 queue-filter q waiters is =

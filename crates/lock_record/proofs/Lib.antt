@@ -1,3 +1,4 @@
+pub mod Names
 pub mod PartLaws
 pub mod RecordLaws
 pub mod MapLaws

@@ -1,32 +1,5 @@
 -- The entries of a map by connector and resource, in order.
-use Rattle.std.proofs.Common.{◌≡◌, ℕ, ◌+◌, Bool, true, false, not, ◌&&◌, cond, List, [], ◌∷◌, Option, Some, None, is_some, option_map, length, filter, find, map, refl, sym, ap, ◌∙◌, subst}
-use Rattle.std.specs.Prelude.{nat_eq, option_to_list}
-use Rattle.std.specs.List.{IsDistinct}
-use Rattle.std.specs.Map.{keys_of, lookup}
-use Rattle.std.specs.Cmp.{IsEquivalence, nat_eq_equiv, and_equiv, on_equiv}
-use Rattle.std.specs.Cmp.Lexicographic.{nat_list_eq_equiv, pointwise}
-use Rattle.std.proofs.lemmas.Bool.{false≢true}
-use Rattle.std.proofs.lemmas.List.{length-map}
-use Rattle.std.proofs.lemmas.Map.{lookup-none}
-use Rattle.std.proofs.lemmas.Map.Entries.{none_past_head}
-use Rattle.cf_types.specs.declared.numbers.ConnId.{ConnId}
-use Rattle.cf_types.specs.Resources.{Part, same_part}
-use Rattle.cf_types.proofs.ResourceLaws.{same_part-eq, same_part-refl}
-use Rattle.cf_lists.specs.Insertions.{insertion}
-use Rattle.cf_lists.specs.Pairwise.{pairwise}
-use Rattle.cf_lists.proofs.FilterLaws.{filter_all, filter_absorbed, filter-filter, filter_nothing, filter_swap, any_is_found, all_from_none, list_all_always, list_all_weaker}
-use Rattle.cf_lists.proofs.ImageLaws.{map-filtered}
-use Rattle.cf_lists.proofs.InsertionLaws.{filter-insertion_out}
-use Rattle.cf_lists.proofs.KeyLaws.{length_without}
-use Rattle.cf_lists.proofs.PairwiseLaws.{pairwise-filter, pairwise-insertion, pairwise-insertion_any}
-use Rattle.cf_lists.specs.Bins.{arranged, in_turn}
-use Rattle.cf_lists.proofs.BinLaws.{arranged_in_turn, keyed-arranged}
-use Rattle.cf_lists.proofs.SortLaws.{arranged-filter}
-use Rattle.cf_lists.proofs.TieLaws.{ordered_filters}
-use Rattle.cf_lists.proofs.ViewLaws.{length_arranged}
-use Rattle.lock_record.specs.declared.recorded.Record.{Record}
-use Rattle.lock_record.specs.Book.{Key, key_eq, key_of, part_at, recorded, records_in, Writes}
-use Rattle.lock_record.specs.Recorded.{is_of, record_of, has_record, part_of, part_before, records_with, records_without, records_without_conn, are_apart, AreRecords}
+use Rattle.lock_record.proofs.Names.{◌≡◌, ℕ, ◌+◌, Bool, true, false, not, ◌&&◌, cond, List, [], ◌∷◌, Option, Some, None, is_some, option_map, length, filter, find, map, refl, sym, ap, ◌∙◌, subst, nat_eq, option_to_list, IsDistinct, keys_of, lookup, IsEquivalence, nat_eq_equiv, and_equiv, on_equiv, nat_list_eq_equiv, pointwise, false≢true, length-map, lookup-none, none_past_head, ConnId, Part, same_part, same_part-eq, same_part-refl, insertion, pairwise, filter_all, filter_absorbed, filter-filter, filter_nothing, filter_swap, any_is_found, all_from_none, list_all_always, list_all_weaker, map-filtered, filter-insertion_out, length_without, pairwise-filter, pairwise-insertion, pairwise-insertion_any, arranged, in_turn, arranged_in_turn, keyed-arranged, arranged-filter, ordered_filters, length_arranged, Record, Key, key_eq, key_of, part_at, recorded, records_in, Writes, is_of, record_of, has_record, part_of, part_before, records_with, records_without, records_without_conn, are_apart, AreRecords}
 use Rattle.lock_record.proofs.PartLaws.{part_order}
 use Rattle.lock_record.proofs.RecordLaws.{apart_both, finds_place}
 

@@ -1,12 +1,5 @@
 -- Parts in order: by resource, and of one resource by connector.
-use Rattle.std.proofs.Common.{◌≡◌, ℕ, ◌&&◌, ◌||◌, ◌==◌, nat_lt, Bool, true, false, refl, sym, ◌∙◌, subst, arith}
-use Rattle.std.proofs.lemmas.Bool.{and_from, false≢true}
-use Rattle.std.proofs.lemmas.Bool.Decides.{nat_tests}
-use Rattle.cf_types.specs.Resources.{Part, resource_before, same_part, same_resource}
-use Rattle.cf_types.proofs.ResourceLaws.{same_part-eq, same_part-refl, same_resource-eq, same_resource-refl}
-use Rattle.cf_lists.specs.Bins.{IsKeyOrder}
-use Rattle.cf_lists.proofs.EntryKeyLaws.{resource_order}
-use Rattle.lock_record.specs.Recorded.{part_before}
+use Rattle.lock_record.proofs.Names.{◌≡◌, ℕ, ◌&&◌, ◌||◌, ◌==◌, nat_lt, Bool, true, false, refl, sym, ◌∙◌, subst, arith, and_from, false≢true, nat_tests, Part, resource_before, same_part, same_resource, same_part-eq, same_part-refl, same_resource-eq, same_resource-refl, IsKeyOrder, resource_order, part_before}
 
 never : (b s : Bool) (n : ℕ) → b ≡ false → b || (s && nat_lt n n) ≡ false
 never b s n e = grind (arith, nat_tests)

@@ -1,24 +1,5 @@
 -- Entries one after another.
-use Rattle.std.proofs.Common.{◌≡◌, ℕ, zero, suc, ◌+◌, ◌<◌, ◌==◌, ◌||◌, ◌&&◌, nat_lt, Bool, true, false, List, [], ◌∷◌, ◌++◌, option_map, slice_get, length, drop, map, filter, refl, sym, ap, ◌∙◌, arith}
-use Rattle.std.specs.Prelude.{if◌then◌else◌}
-use Rattle.std.specs.List.{list_any, list_all}
-use Rattle.std.specs.List.Sorted.{IsPermutation}
-use Rattle.std.proofs.lemmas.Bool.{and_parts, and_from}
-use Rattle.std.proofs.lemmas.Bool.Decides.{nat_tests}
-use Rattle.cf_types.specs.declared.numbers.ConnId.{ConnId}
-use Rattle.cf_types.specs.declared.resources.Resource.{Resource}
-use Rattle.cf_types.specs.Resources.{resource_before, same_part, same_resource}
-use Rattle.cf_lists.specs.Insertions.{insertion}
-use Rattle.cf_lists.specs.Pairwise.{pairwise}
-use Rattle.cf_lists.proofs.FilterLaws.{list_all-filter_same}
-use Rattle.cf_lists.proofs.InsertionLaws.{list_all-insertion, list_any-insertion}
-use Rattle.cf_lists.specs.Bins.{arranged, in_turn}
-use Rattle.cf_lists.proofs.EntryKeyLaws.{resource_order}
-use Rattle.cf_lists.proofs.EntryPlaceLaws.{insertion_agree}
-use Rattle.cf_lists.proofs.SortLaws.{arranged-filter, sorted_is}
-use Rattle.lock_record.specs.declared.recorded.Record.{Record}
-use Rattle.lock_record.specs.Book.{Key, recorded, records_in}
-use Rattle.lock_record.specs.Recorded.{is_of, is_part_by, part_of, part_before, resource_at, resource_of, resources_by}
+use Rattle.lock_record.proofs.Names.{◌≡◌, ℕ, zero, suc, ◌+◌, ◌<◌, ◌==◌, ◌||◌, ◌&&◌, nat_lt, Bool, true, false, List, [], ◌∷◌, ◌++◌, option_map, slice_get, length, drop, map, filter, refl, sym, ap, ◌∙◌, arith, if◌then◌else◌, list_any, list_all, IsPermutation, and_parts, and_from, nat_tests, ConnId, Resource, resource_before, same_part, same_resource, insertion, pairwise, list_all-filter_same, list_all-insertion, list_any-insertion, arranged, in_turn, resource_order, insertion_agree, arranged-filter, sorted_is, Record, Key, recorded, records_in, is_of, is_part_by, part_of, part_before, resource_at, resource_of, resources_by}
 use Rattle.lock_record.proofs.PartLaws.{part_order}
 
 -- what some of them have

@@ -1,17 +1,5 @@
 -- How many interests there are.
-use Rattle.std.proofs.Common.{◌≡◌, ℕ, zero, suc, ◌+◌, ◌<◌, ◌≤◌, Bool, true, false, not, List, [], ◌∷◌, ◌++◌, map, filter, drop, get_or, length, refl, sym, ap, ◌∙◌, arith}
-use Rattle.std.proofs.lemmas.List.{append_assoc, append-nil, map-append, drop_all}
-use Rattle.std.proofs.lemmas.List.Elements.{filter-append}
-use Rattle.cf_lists.specs.Bins.{joined}
-use Rattle.cf_types.specs.declared.numbers.ConnId.{ConnId}
-use Rattle.cf_types.specs.declared.resources.Resource.{Resource}
-use Rattle.cf_lists.specs.Insertions.{insertion}
-use Rattle.cf_lists.specs.Pairwise.{pairwise}
-use Rattle.cf_lists.proofs.InsertionLaws.{length-insertion}
-use Rattle.cf_lists.proofs.EntryTableLaws.{one_less, none_out}
-use Rattle.lock_table.specs.declared.holdings.Held.{Held}
-use Rattle.lock_table.specs.Holdings.{has_interest, owners_without, are_apart}
-use Rattle.lock_table.specs.Tables.{part_of, resource_of, one_where}
+use Rattle.lock_table.proofs.Names.{◌≡◌, ℕ, zero, suc, ◌+◌, ◌<◌, ◌≤◌, Bool, true, false, not, List, [], ◌∷◌, ◌++◌, map, filter, drop, get_or, length, refl, sym, ap, ◌∙◌, arith, append_assoc, append-nil, map-append, drop_all, filter-append, joined, ConnId, Resource, insertion, pairwise, length-insertion, one_less, none_out, Held, has_interest, owners_without, are_apart, part_of, resource_of, one_where}
 
 pub less_one : (r : Resource) (conn : ConnId) (owners : List Held) (b : Bool) → b ≡ has_interest r conn owners
     → pairwise are_apart owners ≡ true → length (owners_without r conn owners) + one_where b ≡ length owners

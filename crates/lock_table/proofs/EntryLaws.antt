@@ -1,24 +1,6 @@
 -- A table entry: its mask, and the place of an interest in it.
-use Rattle.std.proofs.Common.{◌≡◌, ◌≢◌, ℕ, ◌==◌, Bool, true, false, not, ◌&&◌, ◌||◌, if◌then◌else◌, cond, nat_lt, List, [], ◌∷◌, ◌++◌, Some, None, map, filter, position, get_or, set, refl, sym, ap, ◌∙◌, subst, arith}
-use Rattle.std.specs.List.{list_any, list_all, remove}
-use Rattle.std.proofs.lemmas.Bool.{and_parts, not-true, eqb-true, eq-eqb, false≢true, lt-ltb}
-use Rattle.std.proofs.lemmas.List.Folds.{list_any-append}
-use Rattle.std.proofs.lemmas.List.Quantifiers.{position-Some}
-use Rattle.cf_types.specs.declared.limits.TheConstants.{SET_NUMBERS}
-use Rattle.cf_types.specs.declared.numbers.ConnId.{ConnId}
-use Rattle.cf_types.specs.declared.resources.Resource.{Resource}
-use Rattle.cf_types.specs.Resources.{same_part, same_resource}
-use Rattle.cf_types.specs.ConnSets.{is_member, with_member, without_member}
-use Rattle.cf_types.proofs.ResourceLaws.{same_part-eq, same_part-refl}
+use Rattle.lock_table.proofs.Names.{◌≡◌, ◌≢◌, ℕ, ◌==◌, Bool, true, false, not, ◌&&◌, ◌||◌, if◌then◌else◌, cond, nat_lt, List, [], ◌∷◌, ◌++◌, Some, None, map, filter, position, get_or, set, refl, sym, ap, ◌∙◌, subst, arith, list_any, list_all, remove, and_parts, not-true, eqb-true, eq-eqb, false≢true, lt-ltb, list_any-append, position-Some, SET_NUMBERS, ConnId, Resource, same_part, same_resource, is_member, with_member, without_member, same_part-eq, same_part-refl, pairwise, filter_all, filter_none, all_from_none, any-filter, list_any-map, list_all_weaker, remove_placed, no_place, any_kept, set_placed, map_placed, Held, is_by, is_interest, are_apart, owners_without, owners_without_active, in_state, in_retention, in_retention_of, part_of, IsMasked}
 use Rattle.lock_table.proofs.MaskLaws.{is_member-with_member_same, is_member-with_member_other, is_member-without_member_same, is_member-without_member_other}
-use Rattle.cf_lists.specs.Pairwise.{pairwise}
-use Rattle.cf_lists.proofs.FilterLaws.{filter_all, filter_none, all_from_none, any-filter, list_any-map, list_all_weaker}
-use Rattle.cf_lists.proofs.KeyLaws.{remove_placed}
-use Rattle.cf_lists.proofs.EntrySpotLaws.{no_place, any_kept, set_placed, map_placed}
-use Rattle.lock_table.specs.declared.holdings.Held.{Held}
-use Rattle.lock_table.specs.Holdings.{is_by, is_interest, are_apart, owners_without, owners_without_active, in_state, in_retention, in_retention_of}
-use Rattle.lock_table.specs.Tables.{part_of}
-use Rattle.lock_table.specs.Masks.{IsMasked}
 
 or_false : (a : Bool) → a ≡ a || false
 or_false true = refl

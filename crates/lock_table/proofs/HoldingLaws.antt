@@ -1,14 +1,6 @@
 -- Interests stay in order, with one of a connector in a resource.
-use Rattle.std.proofs.Common.{◌≡◌, Bool, true, not, ◌&&◌, List, filter, map, refl, ap, ◌∙◌}
-use Rattle.std.proofs.lemmas.Bool.{and_from}
-use Rattle.cf_types.specs.declared.numbers.ConnId.{ConnId}
-use Rattle.cf_types.specs.declared.resources.Resource.{Resource}
-use Rattle.cf_types.specs.Resources.{resource_up_to}
-use Rattle.cf_types.proofs.ResourceLaws.{resource_up_to-trans, resource_up_to-either, same_part_comm}
-use Rattle.cf_lists.proofs.FilterLaws.{list_all_weaker, list_all-filter_same, list_all_always}
-use Rattle.cf_lists.proofs.PairwiseLaws.{FindsPlace, pairwise-filter, pairwise-insertion, pairwise-insertion_any, pairwise-map}
-use Rattle.lock_table.specs.declared.holdings.Held.{Held}
-use Rattle.lock_table.specs.Holdings.{is_interest, owners_with, owners_without, in_state, in_order, are_apart, IsOwners}
+use Rattle.lock_table.proofs.Names.{◌≡◌, Bool, true, not, ◌&&◌, List, filter, map, refl, ap, ◌∙◌, and_from, ConnId, Resource, resource_up_to, resource_up_to-trans, resource_up_to-either, same_part_comm, list_all_weaker, list_all-filter_same, list_all_always, FindsPlace, pairwise-filter, pairwise-insertion, pairwise-insertion_any, pairwise-map, Held, is_interest, owners_with, owners_without, in_state, are_apart, IsOwners}
+use Rattle.lock_table.specs.Holdings.{in_order}
 
 pub owners-filter : (q : Held → Bool) (owners : List Held) → IsOwners owners → IsOwners (filter q owners)
 owners-filter q owners is =

@@ -1,3 +1,4 @@
+pub mod Names
 pub mod HoldingLaws
 pub mod MaskLaws
 pub mod EntryLaws

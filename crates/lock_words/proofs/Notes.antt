@@ -1,24 +1,6 @@
 -- What a hand's notes tell of the locks that it holds.
-use Rattle.std.proofs.Common.{◌≡◌, ◌≢◌, ◌==◌, ◌+◌, ◌*◌, ◌<◌, ℕ, suc, Bool, true, false, not, List, [], ◌∷◌, ◌++◌}
-use Rattle.std.proofs.Common.{length, set, get_or, filter, Option, Some, None}
-use Rattle.std.proofs.Common.{refl, sym, ap, ◌∙◌, subst, arith, eq-eqb, ne_eqb}
-use Rattle.std.specs.Prelude.{if◌then◌else◌}
-use Rattle.std.proofs.lemmas.List.{get_or-set_same, get_or-set_other, length-set}
-use Rattle.std.proofs.lemmas.List.Elements.{All-push}
-use mathlib.Core.Logic.{dite}
-use native.Mathlib.Decide.{ℕ_discrete}
-use Rattle.atomic_table.specs.Table.{Me}
-use Rattle.atomic_table.specs.Seated.{TableId}
-use Rattle.lock_words.specs.declared.view.Hold.{Hold}
-use Rattle.lock_words.specs.declared.view.Reading.{Reading}
-use Rattle.lock_words.specs.declared.view.Grant.{Grant}
-use Rattle.lock_words.specs.declared.view.View.{View}
-use Rattle.lock_words.specs.Values.{tally, held_as, noted, says_excl}
-use Rattle.lock_words.specs.View.{hold, reading, grant, looked, granted, tried, released, Becomes}
-use Rattle.lock_words.specs.declared.view.Size.{Size}
-use Rattle.lock_words.specs.Hands.{IsHand, IsLocks, HandSeen, LocksSeen, hand_seen}
-use Rattle.lock_words.proofs.Tallies.{one, tally-push, one-other, one-same, one-opposite, tally-released, tally-spared}
-use Rattle.lock_words.proofs.Tallies.{held-as}
+use Rattle.lock_words.proofs.Names.{◌≡◌, ◌≢◌, ◌==◌, ◌+◌, ◌*◌, ◌<◌, ℕ, suc, Bool, true, false, not, List, [], ◌∷◌, ◌++◌, length, set, get_or, filter, Option, Some, None, refl, sym, ap, ◌∙◌, subst, arith, eq-eqb, ne_eqb, if◌then◌else◌, get_or-set_same, get_or-set_other, length-set, All-push, dite, ℕ_discrete, Me, TableId, Hold, Reading, Grant, View, tally, held_as, noted, says_excl, hold, reading, grant, looked, granted, tried, released, Becomes, Size, IsHand, IsLocks, HandSeen, LocksSeen, hand_seen}
+use Rattle.lock_words.proofs.Tallies.{one, tally-push, one-other, one-same, one-opposite, tally-released, tally-spared, held-as}
 
 module _ (notes : List (Option Bool)) (table : TableId) (me : Me ℕ View) (hand : IsHand notes table me) where
   -- the notes tell how a word is held

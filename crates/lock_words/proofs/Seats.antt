@@ -1,25 +1,5 @@
 -- A seat is split, and a seat takes in another.
-use Rattle.std.proofs.Common.{◌≡◌, ◌≢◌, ◌+◌, ◌<◌, ◌≤◌, ◌⊎◌, ℕ, zero, suc, Bool, true, false, List, [], ◌∷◌, ◌++◌}
-use Rattle.std.proofs.Common.{length, set, get_or, Contains}
-use Rattle.std.proofs.Common.{refl, sym, ap, ◌∙◌, subst, inl, inr, ⊎_elim, arith, true≢false, length-append}
-use Rattle.std.proofs.lemmas.List.{length-set}
-use Rattle.std.proofs.lemmas.List.Sums.{sum_by_push}
-use Rattle.std.proofs.lemmas.List.Elements.{All-weaker, All-nil, All-cons, All-append, Contains-append_left}
-use Rattle.std.proofs.lemmas.List.Elements.{Contains-append_right}
-use mathlib.Core.Option.{some, some-injective, some-ne-none}
-use mathlib.Core.Logic.{dite}
-use native.Mathlib.Decide.{ℕ_discrete}
-use lib.ListN.{get_elem?}
-use Rattle.atomic_table.specs.Table.{Me, Allows, Splits, Joins}
-use Rattle.atomic_table.proofs.Lists.{at_set, set_here, set_else, at_longer}
-use Rattle.lock_words.specs.declared.view.Hold.{Hold}
-use Rattle.lock_words.specs.declared.view.Reading.{Reading}
-use Rattle.lock_words.specs.declared.view.Grant.{Grant}
-use Rattle.lock_words.specs.declared.view.View.{View}
-use Rattle.lock_words.specs.declared.view.Size.{Size}
-use Rattle.lock_words.specs.Values.{tally, says_excl}
-use Rattle.lock_words.specs.View.{grant, spent_view, without_right, next_view, joined}
-use Rattle.lock_words.specs.Rule.{total, IsSpent, IsOwn, IsAnswered, IsLive, AllFit, Kept}
+use Rattle.lock_words.proofs.Names.{◌≡◌, ◌≢◌, ◌+◌, ◌<◌, ◌≤◌, ◌⊎◌, ℕ, zero, suc, Bool, true, false, List, [], ◌∷◌, ◌++◌, length, set, get_or, Contains, refl, sym, ap, ◌∙◌, subst, inl, inr, ⊎_elim, arith, true≢false, length-append, length-set, sum_by_push, All-weaker, All-nil, All-cons, All-append, Contains-append_left, Contains-append_right, some, some-injective, some-ne-none, dite, ℕ_discrete, get_elem?, Me, Allows, Splits, Joins, at_set, set_here, set_else, at_longer, Hold, Reading, Grant, View, Size, tally, says_excl, grant, spent_view, without_right, next_view, joined, total, IsSpent, IsOwn, IsAnswered, IsLive, AllFit, Kept}
 use Rattle.lock_words.proofs.Tallies.{tally-append, sum-set, value-same, value-sum}
 use Rattle.lock_words.proofs.Steps.{within, same-at, not-spent, moved, fit-set}
 

@@ -1,31 +1,6 @@
 -- Each step keeps the rule.
-use Rattle.std.proofs.Common.{◌≡◌, ◌≢◌, ◌==◌, ◌+◌, ◌-◌, ◌*◌, ◌%◌, ◌^◌, ◌<◌, ◌≤◌, ◌⊎◌, ℕ, zero, suc, Bool, true, false}
-use Rattle.std.proofs.Common.{not, cond}
-use Rattle.std.proofs.Common.{List, [], ◌∷◌, ◌++◌, length, set, get_or, Contains}
-use Rattle.std.proofs.Common.{refl, sym, ap, ◌∙◌, subst, inl, inr, ⊎_elim, arith}
-use Rattle.std.specs.Prelude.{if◌then◌else◌}
-use Rattle.std.proofs.lemmas.Bool.{eqb-true}
-use Rattle.std.proofs.lemmas.List.{length-set}
-use Rattle.std.proofs.lemmas.List.Elements.{All-weaker, All-push, All-filter, All-contains, Contains-append_left}
-use Rattle.std.proofs.lemmas.List.Elements.{Contains-push}
-use mathlib.Core.Option.{some, some-injective, some-ne-none}
-use mathlib.Core.Logic.{dite}
-use native.Mathlib.Decide.{ℕ_discrete}
-use prog.Atomic.{either}
-use lib.ListN.{get_elem?}
-use Rattle.atomic_table.specs.Table.{State, Me, keeps, Allows}
-use Rattle.atomic_table.proofs.Lists.{at_set, set_here, set_else}
-use Rattle.lock_words.specs.declared.view.Hold.{Hold}
-use Rattle.lock_words.specs.declared.view.Reading.{Reading}
-use Rattle.lock_words.specs.declared.view.Grant.{Grant}
-use Rattle.lock_words.specs.declared.view.View.{View}
-use Rattle.lock_words.specs.declared.view.Size.{Size}
-use Rattle.lock_words.specs.Values.{tally, IsValue, says_excl, Admits, Adds}
-use Rattle.lock_words.specs.View.{hold, reading, grant, spent_view, looked, granted, tried, released, Becomes}
-use Rattle.lock_words.specs.Rule.{total, IsSpent, IsOwn, IsAnswered, IsLive, AllFit, Kept}
-use Rattle.lock_words.proofs.Tallies.{one, tally-push, one-other, one-same, one-opposite, tally-released, tally-spared}
-use Rattle.lock_words.proofs.Tallies.{counted, sum-set, somewhere}
-use Rattle.lock_words.proofs.Tallies.{value-sum, value-is, value-same, value-state, values-set, taken-off}
+use Rattle.lock_words.proofs.Names.{◌≡◌, ◌≢◌, ◌==◌, ◌+◌, ◌-◌, ◌*◌, ◌%◌, ◌^◌, ◌<◌, ◌≤◌, ◌⊎◌, ℕ, zero, suc, Bool, true, false, not, cond, List, [], ◌∷◌, ◌++◌, length, set, get_or, Contains, refl, sym, ap, ◌∙◌, subst, inl, inr, ⊎_elim, arith, if◌then◌else◌, eqb-true, length-set, All-weaker, All-push, All-filter, All-contains, Contains-append_left, Contains-push, some, some-injective, some-ne-none, dite, ℕ_discrete, either, get_elem?, State, Me, keeps, Allows, at_set, set_here, set_else, Hold, Reading, Grant, View, Size, tally, IsValue, says_excl, Admits, Adds, hold, reading, grant, spent_view, looked, granted, tried, released, Becomes, total, IsSpent, IsOwn, IsAnswered, IsLive, AllFit, Kept}
+use Rattle.lock_words.proofs.Tallies.{one, tally-push, one-other, one-same, one-opposite, tally-released, tally-spared, counted, sum-set, somewhere, value-sum, value-is, value-same, value-state, values-set, taken-off}
 
 pub within : (vs : List View) (i : ℕ) (v : View) → get_elem? vs i ≡ some v → i < length vs
 within [] i v e = absurd (some-ne-none v (sym e))

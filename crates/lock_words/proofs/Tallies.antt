@@ -1,23 +1,5 @@
 -- Counts of items over one list and over all seats.
-use Rattle.std.proofs.Common.{◌≡◌, ◌≢◌, ◌==◌, ◌+◌, ◌-◌, ◌*◌, ◌%◌, ◌^◌, ◌<◌, ◌≤◌, ◌&&◌, ℕ, zero, suc, Bool, true, false}
-use Rattle.std.proofs.Common.{not, cond}
-use Rattle.std.proofs.Common.{List, [], ◌∷◌, ◌++◌, length, set, get_or, filter, All, AllPairs, Option, Some, None}
-use Rattle.std.proofs.Common.{sum_by}
-use Rattle.std.proofs.Common.{refl, sym, ap, ◌∙◌, subst, inl, inr, ⊎_elim, arith, eq-eqb, ne_eqb, eq-zero-or-pos}
-use Rattle.std.specs.Prelude.{if◌then◌else◌}
-use Rattle.std.proofs.lemmas.Bool.{eqb-true, eqb-false}
-use Rattle.std.proofs.lemmas.List.{get_or-set_same, get_or-set_other}
-use Rattle.std.proofs.lemmas.List.Sums.{sum_by-cons, sum_by-append, sum_by_push, get_or-le-sum_by}
-use Rattle.std.proofs.lemmas.List.Elements.{All-head, All-tail}
-use mathlib.Core.Option.{some, some-injective, some-ne-none}
-use mathlib.Core.Logic.{dite}
-use native.Mathlib.Decide.{ℕ_discrete}
-use lib.ListN.{get_elem?}
-use Rattle.lock_words.specs.declared.view.Hold.{Hold}
-use Rattle.lock_words.specs.declared.view.View.{View}
-use Rattle.lock_words.specs.Values.{is_hold, tally, IsValue, AreCompatible, held_as, says_excl, noted}
-use Rattle.lock_words.specs.View.{hold}
-use Rattle.lock_words.specs.Rule.{total}
+use Rattle.lock_words.proofs.Names.{◌≡◌, ◌≢◌, ◌==◌, ◌+◌, ◌-◌, ◌*◌, ◌%◌, ◌^◌, ◌<◌, ◌≤◌, ◌&&◌, ℕ, zero, suc, Bool, true, false, not, cond, List, [], ◌∷◌, ◌++◌, length, set, get_or, filter, All, AllPairs, Option, Some, None, sum_by, refl, sym, ap, ◌∙◌, subst, inl, inr, ⊎_elim, arith, eq-eqb, ne_eqb, eq-zero-or-pos, if◌then◌else◌, eqb-true, eqb-false, get_or-set_same, get_or-set_other, sum_by-cons, sum_by-append, sum_by_push, get_or-le-sum_by, All-head, All-tail, some, some-injective, some-ne-none, dite, ℕ_discrete, get_elem?, Hold, View, is_hold, tally, IsValue, AreCompatible, held_as, says_excl, noted, hold, total}
 
 abbrev bit : Bool → ℕ
 bit b = cond b 1 0

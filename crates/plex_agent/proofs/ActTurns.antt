@@ -1,26 +1,9 @@
 -- What a line's act shows, whichever it is.
-use Rattle.std.proofs.Common.{◌≡◌, ℕ, ◌*◌, ◌<◌, inl, inr, nat_lt, Bool, true, false, List, [], ◌∷◌, length, Some, None, refl, sym, ap, subst, ◌∙◌, append-nil, slice_get, MatchBool}
-use Rattle.std.proofs.lemmas.Bool.{ltb-true}
-use Rattle.plex_board.specs.CfTypes.declared.forms.StrForm.{StrForm}
-use Rattle.plex_board.specs.CfTypes.declared.numbers.ConnId.{ConnId}
-use Rattle.plex_board.specs.CfTypes.declared.numbers.StrNo.{StrNo}
+use Rattle.plex_agent.proofs.Names.{◌≡◌, ℕ, ◌*◌, ◌<◌, inl, inr, nat_lt, Bool, true, false, List, [], ◌∷◌, length, Some, None, refl, sym, ap, subst, ◌∙◌, append-nil, slice_get, MatchBool, ltb-true, StrForm, ConnId, StrNo, AnyHistory, Act, AgentEnd, Shown, Transcript, first_step, call_of, calls_on, RunsUpTo, ShowsAct, PassShown, Rising, pass_at, AtWork, Tests, TestsWord, ShowsOnly, RunsOut, Acts, ShowsUpTo}
 use Rattle.plex_board.specs.PlexScript.declared.agents.Step.TheVariants as step
-use Rattle.plex_board.specs.PlexScript.declared.asks.AnyHistory.{AnyHistory}
-use Rattle.plex_board.specs.PlexScript.declared.scripts.Act.{Act}
 use Rattle.plex_board.specs.PlexScript.declared.scripts.Act.TheVariants as act
-use Rattle.plex_board.specs.PlexScript.declared.transcripts.AgentEnd.{AgentEnd}
 use Rattle.plex_board.specs.PlexScript.declared.transcripts.AgentEnd.TheVariants as ended
-use Rattle.plex_board.specs.PlexScript.declared.transcripts.Shown.{Shown}
 use Rattle.plex_board.specs.PlexScript.declared.transcripts.Shown.TheVariants as shown
-use Rattle.plex_board.specs.PlexScript.declared.transcripts.Transcript.{Transcript}
-use Rattle.plex_board.specs.PlexScript.Agent.{first_step, call_of}
-use Rattle.plex_board.specs.PlexScript.Heard.{calls_on}
-use Rattle.plex_board.specs.PlexScript.Follows.{RunsUpTo, ShowsAct}
-use Rattle.plex_board.specs.Passes.{PassShown}
-use Rattle.plex_board.specs.Kinds.{Rising}
-use Rattle.plex_board.specs.Desks.{pass_at}
-use Rattle.plex_board.specs.Turns.{AtWork, Tests, TestsWord, ShowsOnly, RunsOut, Acts}
-use Rattle.plex_agent.specs.Ends.{ShowsUpTo}
 use Rattle.plex_agent.proofs.Passes.{Caller, advances_none, advances_one}
 use Rattle.plex_agent.proofs.Adds.{test_adds, word_adds, bad_adds, post_adds, take_adds, with_test, with_word}
 use Rattle.plex_agent.proofs.Moves.{Moves, moves_by, moves_still}

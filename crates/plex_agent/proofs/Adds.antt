@@ -1,38 +1,7 @@
 -- What each kind of item does to a pass: calls, tests, posts and takes.
-use Rattle.std.proofs.Common.{◌≡◌, ℕ, ◌+◌, ◌*◌, ◌^◌, ◌≤◌, ◌<◌, ◌==◌, ◌&&◌, nat_lt, inl, inr, Bool, true, false, List, [], ◌∷◌, ◌++◌, map, Some, None, refl, sym, ap, ◌∙◌, arith, append-nil, slice_get, cond}
-use Rattle.std.specs.Prelude.{All}
-use Rattle.std.specs.Int.{bit_at}
-use Rattle.std.proofs.lemmas.Bool.{ltb-false}
-use Rattle.std.proofs.lemmas.List.{map-append}
-use Rattle.std.proofs.lemmas.List.Elements.{All-head, All-tail}
-use Rattle.plex_board.specs.CfTypes.declared.forms.StrForm.{StrForm}
-use Rattle.plex_board.specs.CfTypes.declared.numbers.ConnId.{ConnId}
-use Rattle.plex_board.specs.CfTypes.declared.numbers.StrNo.{StrNo}
-use Rattle.plex_board.specs.EngineApi.declared.histories.Entry.{Entry}
-use Rattle.plex_board.specs.EngineApi.declared.told.Told.{Told}
-use Rattle.plex_board.specs.EngineApi.Meaning.{Meaning}
-use Rattle.plex_board.specs.EngineApi.History.{Tells}
-use Rattle.plex_board.specs.CacheModel.Meaning.{cache_meaning}
-use Rattle.plex_board.specs.ListModel.Meaning.{list_meaning}
-use Rattle.plex_board.specs.LockModel.Meaning.{lock_meaning}
-use Rattle.plex_board.specs.PlexScript.declared.scripts.AnyAsk.{AnyAsk}
-use Rattle.plex_board.specs.PlexScript.declared.asks.AnyHistory.{AnyHistory}
+use Rattle.plex_agent.proofs.Names.{◌≡◌, ℕ, ◌+◌, ◌*◌, ◌^◌, ◌≤◌, ◌<◌, ◌==◌, ◌&&◌, nat_lt, inl, inr, Bool, true, false, List, [], ◌∷◌, ◌++◌, map, Some, None, refl, sym, ap, ◌∙◌, arith, append-nil, slice_get, cond, All, bit_at, ltb-false, map-append, All-head, All-tail, StrForm, ConnId, StrNo, Entry, Told, Meaning, Tells, cache_meaning, list_meaning, lock_meaning, AnyAsk, AnyHistory, Shown, AnyCall, numbers_on, surest_on, seen_on, TellsBit, TellsWord, place_of, Sight, bit_in, sight, indices_of, IsTold, AnyReply, PassShown, IsLater, with_call, IsAnyTold, told_past, each_sight, bit_in_word, AnyTells, all_bits}
 use Rattle.plex_board.specs.PlexScript.declared.asks.AnyHistory.TheVariants as history
-use Rattle.plex_board.specs.PlexScript.declared.transcripts.Shown.{Shown}
 use Rattle.plex_board.specs.PlexScript.declared.transcripts.Shown.TheVariants as shown
-use Rattle.plex_board.specs.PlexScript.Heard.{AnyCall}
-use Rattle.plex_board.specs.PlexScript.Follows.{numbers_on, surest_on}
-use Rattle.plex_board.specs.Numbers.{seen_on}
-use Rattle.plex_board.specs.Headline.{TellsBit, TellsWord, place_of}
-use Rattle.plex_board.specs.VecWords.declared.logged.Sight.{Sight}
-use Rattle.plex_board.specs.VecWords.Logged.{bit_in, sight, indices_of}
-use Rattle.plex_board.specs.StructCell.Telling.{IsTold}
-use Rattle.plex_board.specs.declared.any_reply.AnyReply.{AnyReply}
-use Rattle.plex_board.specs.Passes.{PassShown, IsLater, with_call}
-use Rattle.plex_board.specs.Cells.{IsAnyTold}
-use Rattle.plex_board.proofs.SightLaws.{told_past, each_sight, bit_in_word}
-use Rattle.plex_board.specs.Kinds.{AnyTells}
-use Rattle.plex_board.proofs.WordLaws.{all_bits}
 use Rattle.plex_agent.proofs.Fronts.{itself, front_same, front_more}
 use Rattle.plex_agent.proofs.Passes.{Caller, IsOf, IsShown, IsWithin, Adds}
 

@@ -1,13 +1,6 @@
 -- A caller that hears of nobody between its turns.
-use Rattle.std.proofs.Common.{◌≡◌, ℕ, ◌+◌, ◌==◌, Bool, true, false, MatchBool, List, [], ◌∷◌, sym, ap, subst}
-use Rattle.plex_board.specs.CfTypes.declared.numbers.ConnId.{ConnId}
-use Rattle.plex_board.specs.PlexScript.declared.scripts.Line.{Line}
-use Rattle.plex_board.specs.Cells.{CellShown}
-use Rattle.plex_board.specs.Boards.{BoardShown}
-use Rattle.plex_board.specs.Turns.{AtWork}
+use Rattle.plex_agent.proofs.Names.{◌≡◌, ℕ, ◌+◌, ◌==◌, Bool, true, false, MatchBool, List, [], ◌∷◌, sym, ap, subst, ConnId, Line, CellShown, BoardShown, AtWork, lines_by, Hears, DoesLines, DepartsEach, Closes, Serves}
 use Rattle.plex_board.specs.Callers as alone
-use Rattle.plex_board.specs.Callers.{lines_by}
-use Rattle.plex_agent.specs.Chains.{Hears, DoesLines, DepartsEach, Closes, Serves}
 use Rattle.plex_agent.proofs.Hearings.{hears_none}
 use Rattle.plex_agent.proofs.Keeping.{Keeps, keeps_same, keeps_then, turns_keep}
 

@@ -1,26 +1,9 @@
 -- The calls of a line, put together from its steps.
-use Rattle.std.proofs.Common.{◌≡◌, ◌≢◌, ℕ, suc, ◌<◌, ◌≤◌, List, [], ◌∷◌, ◌++◌, length, map, Option, refl, sym, ap, subst, ◌∙◌, append-nil, append_assoc, arith}
-use Rattle.std.specs.Prelude.{IfSome}
-use Rattle.std.proofs.lemmas.List.{set-set}
-use Rattle.plex_board.specs.CfTypes.declared.forms.Kind.{Kind}
-use Rattle.plex_board.specs.CfTypes.declared.numbers.StrNo.{StrNo}
-use Rattle.plex_board.specs.StructCell.declared.refused.CallRefused.{CallRefused}
+use Rattle.plex_agent.proofs.Names.{◌≡◌, ◌≢◌, ℕ, suc, ◌<◌, ◌≤◌, List, [], ◌∷◌, ◌++◌, length, map, Option, refl, sym, ap, subst, ◌∙◌, append-nil, append_assoc, arith, IfSome, set-set, Kind, StrNo, CallRefused, Step, AnyAsk, AgentEnd, Shown, most_asks, step_after, IsReady, PassShown, with_call, CellShown, DeskShown, pass_at, with_pass, IsLaterOn, BoardShown, IsDeskOf, cell_on, pass_at-with_pass_same, with_pass-pass_at, desk-length, AtWork, Asks, Steps, EndsAt, Halts, call_item, IsAsked, at_work, asks_some, fewer_asks, ready_after}
 use Rattle.plex_board.specs.StructCell.declared.refused.CallRefused.TheVariants as refused
-use Rattle.plex_board.specs.PlexScript.declared.agents.Step.{Step}
 use Rattle.plex_board.specs.PlexScript.declared.agents.Step.TheVariants as step
-use Rattle.plex_board.specs.PlexScript.declared.scripts.AnyAsk.{AnyAsk}
-use Rattle.plex_board.specs.PlexScript.declared.transcripts.AgentEnd.{AgentEnd}
 use Rattle.plex_board.specs.PlexScript.declared.transcripts.AgentEnd.TheVariants as ended
-use Rattle.plex_board.specs.PlexScript.declared.transcripts.Shown.{Shown}
-use Rattle.plex_board.specs.PlexScript.Agent.{most_asks, step_after, IsReady}
-use Rattle.plex_board.specs.Passes.{PassShown, with_call}
-use Rattle.plex_board.specs.Cells.{CellShown}
-use Rattle.plex_board.specs.Desks.{DeskShown, pass_at, with_pass, IsLaterOn}
-use Rattle.plex_board.specs.Boards.{BoardShown, IsDeskOf, cell_on}
-use Rattle.plex_board.proofs.DeskLaws.{pass_at-with_pass_same, with_pass-pass_at, desk-length}
-use Rattle.plex_board.specs.Turns.{AtWork, Asks, Steps, EndsAt, Halts, call_item}
-use Rattle.plex_agent.specs.Calls.{IsAsked, at_work, end_of}
-use Rattle.plex_board.proofs.PlexScript.StepLaws.{asks_some, fewer_asks, ready_after}
+use Rattle.plex_agent.specs.Calls.{end_of}
 use Rattle.plex_agent.proofs.CellLaws.{some_is, cell_there}
 
 with_pass_twice : (on : StrNo) (first second : PassShown) (desk : DeskShown)

@@ -1,14 +1,6 @@
 -- A caller's whole work, one line and one departure after another.
-use Rattle.std.proofs.Common.{◌≡◌, ℕ, suc, ◌+◌, ◌<◌, ◌==◌, true, false, List, ◌∷◌, length, drop, get_or, sym, subst, arith}
-use Rattle.std.specs.Prelude.{IfSome, All}
-use Rattle.std.proofs.Math.Seq.{drop-cons}
-use Rattle.std.proofs.lemmas.List.Elements.{All-get_or}
-use Rattle.std.proofs.lemmas.Option.{get_or_from_slice_get}
-use Rattle.plex_board.specs.CfTypes.declared.numbers.ConnId.{ConnId}
-use Rattle.plex_board.specs.PlexScript.declared.scripts.Line.{Line}
-use Rattle.plex_board.specs.Boards.{BoardShown, cell_on}
-use Rattle.plex_board.specs.Turns.{AtWork, Turns, Departs}
-use Rattle.plex_board.specs.Callers.{IsLineFor, DoesLines, DepartsEach, lines_by}
+use Rattle.plex_agent.proofs.Names.{◌≡◌, ℕ, suc, ◌+◌, ◌<◌, ◌==◌, true, false, List, ◌∷◌, length, drop, get_or, sym, subst, arith, IfSome, All, drop-cons, All-get_or, get_or_from_slice_get, ConnId, Line, BoardShown, cell_on, AtWork, Turns, Departs, IsLineFor, lines_by}
+use Rattle.plex_board.specs.Callers.{DoesLines, DepartsEach}
 use Rattle.plex_agent.proofs.CellLaws.{some_is, cell_there}
 
 drop_next : {X : Type 0} (xs : List X) (i : ℕ) (x d : X) → i < length xs → x ≡ get_or xs i d

@@ -1,18 +1,5 @@
 -- The cell of a structure that is there.
-use Rattle.std.proofs.Common.{◌≡◌, ℕ, ◌<◌, List, [], ◌∷◌, length, get_or, Some, None, Option, refl, sym, subst, ◌∙◌, slice_get, arith}
-use Rattle.std.specs.Prelude.{IfSome}
-use Rattle.std.proofs.lemmas.Option.{slice_get-get_or}
-use Rattle.plex_board.specs.CfTypes.declared.forms.Kind.{Kind}
-use Rattle.plex_board.specs.CfTypes.declared.numbers.ConnId.{ConnId}
-use Rattle.plex_board.specs.CfTypes.declared.numbers.StrNo.{StrNo}
-use Rattle.plex_board.specs.PlexScript.declared.agents.Step.{Step}
-use Rattle.plex_board.specs.PlexScript.declared.scripts.AnyAsk.{AnyAsk}
-use Rattle.plex_board.specs.PlexScript.Agent.{asked_by}
-use Rattle.plex_board.specs.Types.{type_of_kind}
-use Rattle.plex_board.specs.Kinds.{MayAskAny}
-use Rattle.plex_board.specs.Cells.{CellShown, IsAskOf}
-use Rattle.plex_board.specs.Boards.{BoardShown, cell_on}
-use Rattle.plex_agent.specs.Calls.{IsAskable}
+use Rattle.plex_agent.proofs.Names.{◌≡◌, ℕ, ◌<◌, List, [], ◌∷◌, length, get_or, Some, None, Option, refl, sym, subst, ◌∙◌, slice_get, arith, IfSome, slice_get-get_or, Kind, ConnId, StrNo, Step, AnyAsk, asked_by, type_of_kind, MayAskAny, CellShown, IsAskOf, BoardShown, cell_on, IsAskable}
 use Rattle.plex_agent.proofs.StepLaws.{may_ask}
 
 pub some_is : {X : Type 0} (P : X → Type 0) (o : Option X) (x : X) → o ≡ Some x → IfSome o P → P x

@@ -1,28 +1,9 @@
 -- A connector's closing: its departures, from one structure after another.
-use Rattle.std.proofs.Common.{◌≡◌, ℕ, suc, ◌+◌, ◌≤◌, ◌<◌, ◌==◌, Bool, true, false, List, [], ◌∷◌, ◌++◌, length, map, take, Some, None, Option, refl, sym, ap, subst, ◌∙◌, arith, append-nil, slice_get, MatchBool}
-use Rattle.std.proofs.lemmas.Bool.Decides.{nat_tests}
-use Rattle.std.proofs.lemmas.Option.{slice_get_within}
-use Rattle.plex_board.specs.CfTypes.declared.forms.Kind.{Kind}
-use Rattle.plex_board.specs.CfTypes.declared.numbers.ConnId.{ConnId}
-use Rattle.plex_board.specs.CfTypes.declared.numbers.StrNo.{StrNo}
+use Rattle.plex_agent.proofs.Names.{◌≡◌, ℕ, suc, ◌+◌, ◌≤◌, ◌<◌, ◌==◌, Bool, true, false, List, [], ◌∷◌, ◌++◌, length, map, take, Some, None, Option, refl, sym, ap, subst, ◌∙◌, arith, append-nil, slice_get, MatchBool, nat_tests, slice_get_within, Kind, ConnId, StrNo, AnyAsk, AnyHistory, AgentEnd, Shown, Transcript, shell_ask, AnyCall, is_linked, calls_on, length_on, Runs, RunsUpTo, is_linked_by, ShowsClosing, ShowsClosings, CellShown, PassShown, DeskShown, pass_at, BoardShown, AtWork, Asks, Departs, is_done_as, DepartsEach, Hears}
 use Rattle.plex_board.specs.CfTypes.declared.shell_commands.ShellCmd.TheVariants as cmd
 use Rattle.plex_board.specs.PlexScript.declared.agents.Step.TheVariants as step
-use Rattle.plex_board.specs.PlexScript.declared.scripts.AnyAsk.{AnyAsk}
-use Rattle.plex_board.specs.PlexScript.declared.asks.AnyHistory.{AnyHistory}
-use Rattle.plex_board.specs.PlexScript.declared.transcripts.AgentEnd.{AgentEnd}
 use Rattle.plex_board.specs.PlexScript.declared.transcripts.AgentEnd.TheVariants as ended
-use Rattle.plex_board.specs.PlexScript.declared.transcripts.Shown.{Shown}
-use Rattle.plex_board.specs.PlexScript.declared.transcripts.Transcript.{Transcript}
 use Rattle.plex_board.specs.PlexScript.declared.transcripts.Shown.TheVariants as shown
-use Rattle.plex_board.specs.PlexScript.Agent.{shell_ask}
-use Rattle.plex_board.specs.PlexScript.Heard.{AnyCall, is_linked, calls_on, length_on}
-use Rattle.plex_board.specs.PlexScript.Follows.{Runs, RunsUpTo, is_linked_by, ShowsClosing, ShowsClosings}
-use Rattle.plex_board.specs.Cells.{CellShown}
-use Rattle.plex_board.specs.Passes.{PassShown}
-use Rattle.plex_board.specs.Desks.{DeskShown, pass_at}
-use Rattle.plex_board.specs.Boards.{BoardShown}
-use Rattle.plex_board.specs.Turns.{AtWork, Asks, Departs, is_done_as}
-use Rattle.plex_agent.specs.Chains.{DepartsEach, Hears}
 use Rattle.plex_agent.proofs.Passes.{Caller, advances_none}
 use Rattle.plex_agent.proofs.Moves.{AreWithin, Goes, goes_then, moves_go, moves_still, hears_go}
 use Rattle.plex_agent.proofs.Hearings.{hears_then}

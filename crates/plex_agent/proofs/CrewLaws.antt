@@ -1,25 +1,8 @@
 -- The callers of a board, each at work on its own: as they begin, and what their work shows.
-use Rattle.std.proofs.Common.{◌≡◌, ℕ, ◌+◌, ◌≤◌, ◌<◌, List, length, Some, slice_get, get_or, sym, ap, subst, ◌∙◌, arith}
-use Rattle.std.specs.Prelude.{All}
-use Rattle.std.specs.List.{range_with_len}
-use Rattle.std.proofs.lemmas.List.Elements.{All-map, All-same, All-weaker}
-use Rattle.std.proofs.lemmas.List.FromFn.{length-range_with_len, get_or-range_with_len}
-use Rattle.plex_board.specs.CfTypes.declared.limits.TheConstants.{CONNECTORS}
-use Rattle.plex_board.specs.PlexScript.declared.asks.AnyHistory.{AnyHistory}
-use Rattle.plex_board.specs.PlexScript.declared.scripts.Line.{Line}
-use Rattle.plex_board.specs.PlexScript.declared.scripts.Script.{Script}
-use Rattle.plex_board.specs.PlexScript.declared.transcripts.Transcript.{Transcript}
-use Rattle.plex_board.specs.Headline.{ShowsHistories}
-use Rattle.plex_board.specs.Desks.{DeskShown}
-use Rattle.plex_board.specs.Boards.{BoardShown, AreClosed, new_desk}
-use Rattle.plex_board.specs.Turns.{AtWork}
-use Rattle.plex_board.specs.Callers.{IsLineFor, Serves, no_items}
-use Rattle.plex_board.proofs.DeskLaws.{new_desk-of_board}
+use Rattle.plex_agent.proofs.Names.{◌≡◌, ℕ, ◌+◌, ◌≤◌, ◌<◌, List, length, Some, slice_get, get_or, sym, ap, subst, ◌∙◌, arith, All, range_with_len, All-map, All-same, All-weaker, length-range_with_len, get_or-range_with_len, CONNECTORS, AnyHistory, Line, Script, Transcript, ShowsHistories, DeskShown, BoardShown, AreClosed, new_desk, AtWork, IsLineFor, no_items, new_desk-of_board, AreCallersOf, IsPlayable, IsBoardOf, IsIdle, IsServed, WorkEach, idle_worker, crew_of}
+use Rattle.plex_board.specs.Callers.{Serves}
 use Rattle.plex_agent.proofs.ServeLaw.{serves_right}
 use Rattle.plex_agent.proofs.Alone.{alone_serves}
-use Rattle.plex_agent.specs.Standing.{AreCallersOf, IsPlayable}
-use Rattle.plex_agent.specs.Played.{IsBoardOf}
-use Rattle.plex_agent.specs.Crews.{IsIdle, IsServed, WorkEach, idle_worker, crew_of}
 use Rattle.plex_agent.proofs.SeatedLaws.{crew_at, new_callers}
 use Rattle.plex_agent.proofs.RunLaws.{HadMemory, had_memory}
 

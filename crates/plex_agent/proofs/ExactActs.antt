@@ -1,29 +1,8 @@
 -- Tests, posts and takes: what each keeps, and what the run by the machine alone shows for it.
-use Rattle.std.proofs.Common.{◌+◌, ◌≡◌, ◌≢◌, ℕ, ◌*◌, ◌^◌, ◌≤◌, ◌<◌, ◌==◌, max, nat_lt, Bool, true, false, List, [], ◌∷◌, ◌++◌, map, slice_get, Option, None, Some, refl, sym, ap, subst, ◌∙◌, arith}
-use Rattle.std.specs.Prelude.{All, if◌then◌else◌}
-use Rattle.std.proofs.lemmas.Bool.Decides.{nat_tests}
-use Rattle.std.proofs.lemmas.List.Elements.{All-nil, All-cons, All-head, All-tail}
-use Rattle.std.proofs.lemmas.Option.{get_or_from_slice_get}
-use Rattle.plex_board.specs.CfTypes.declared.numbers.StrNo.{StrNo}
-use Rattle.plex_board.specs.PlexScript.declared.asks.AnyHistory.{AnyHistory}
+use Rattle.plex_agent.proofs.Names.{◌+◌, ◌≡◌, ◌≢◌, ℕ, ◌*◌, ◌^◌, ◌≤◌, ◌<◌, ◌==◌, max, nat_lt, Bool, true, false, List, [], ◌∷◌, ◌++◌, map, slice_get, Option, None, Some, refl, sym, ap, subst, ◌∙◌, arith, All, if◌then◌else◌, nat_tests, All-nil, All-cons, All-head, All-tail, get_or_from_slice_get, StrNo, AnyHistory, Shown, Transcript, any_length, IsAnyPoint, any_take, any_stands, any_word, end_of, IsFrontOf, shown_on, seen_on, with_shown, test_shown, word_shown, post_made, take_made, Sight, sight, indices_of, PassShown, NoteShown, note_of, IsAnyTold, with_any_note, with_item, set_same, each_sight}
 use Rattle.plex_board.specs.PlexScript.declared.transcripts.AgentEnd.TheVariants as ended
-use Rattle.plex_board.specs.PlexScript.declared.transcripts.Shown.{Shown}
 use Rattle.plex_board.specs.PlexScript.declared.transcripts.Shown.TheVariants as shown
-use Rattle.plex_board.specs.PlexScript.declared.transcripts.Transcript.{Transcript}
-use Rattle.plex_board.specs.PlexScript.Heard.{any_length}
-use Rattle.plex_board.specs.Kinds.{IsAnyPoint, any_take, any_stands, any_word, end_of}
-use Rattle.plex_board.proofs.SeamLaws.{IsFrontOf}
-use Rattle.plex_board.specs.Numbers.{shown_on, seen_on}
-use Rattle.plex_board.specs.Serial.{with_shown, test_shown, word_shown, post_made, take_made}
-use Rattle.plex_board.specs.VecWords.declared.logged.Sight.{Sight}
-use Rattle.plex_board.specs.VecWords.Logged.{sight, indices_of}
-use Rattle.plex_board.specs.Passes.{PassShown, NoteShown, note_of}
-use Rattle.plex_board.specs.Cells.{IsAnyTold}
-use Rattle.plex_board.specs.Notes.{with_any_note}
-use Rattle.plex_board.specs.Turns.{with_item}
-use Rattle.plex_board.proofs.CfLists.TableLaws.{set_same}
 use Rattle.plex_agent.proofs.TestLaws.{told_bit, told_word, told_point}
-use Rattle.plex_board.proofs.SightLaws.{each_sight}
 use Rattle.plex_agent.proofs.Spots.{conn, str, put, put_all, put_same, is_other, Spot, IsKnownPass, IsKnownNote, moved, noticed, posted, known_moved, known_noticed, known_posted, put_other}
 use Rattle.plex_agent.proofs.Fits.{FitsAt, events_front, fits_put}
 use Rattle.plex_agent.proofs.Agreements.{AgreesAt, IsSeen, agrees_put, sure_in, known_in, last_is, seen_push, seen_none}

@@ -1,35 +1,7 @@
 -- A board as its script begins: its stage, and that nothing has been done.
-use Rattle.std.proofs.Common.{◌≡◌, ℕ, zero, suc, ◌+◌, ◌≤◌, ◌<◌, false, List, [], ◌∷◌, length, map, slice_get, replicate, Option, None, Some, refl, sym, ap, subst, ◌∙◌, arith}
-use Rattle.std.specs.Prelude.{All, unwrap_or, option_map}
-use Rattle.std.proofs.lemmas.List.{get_or-replicate, length-replicate, length-map}
-use Rattle.std.proofs.lemmas.List.FromFn.{length-map-range_with_len, get_or-map-range_with_len}
-use Rattle.std.proofs.lemmas.List.Elements.{All-nil, All-cons, All-weaker, All-map}
-use Rattle.std.proofs.lemmas.Option.{slice_get-map, slice_get_within, slice_get-get_or, get_or_from_slice_get}
-use Rattle.plex_board.proofs.CfLists.TableLaws.{get_within}
-use Rattle.plex_board.specs.CfTypes.declared.forms.StrForm.{StrForm}
-use Rattle.plex_board.specs.CfTypes.declared.forms.Kind.{Kind}
+use Rattle.plex_agent.proofs.Names.{◌≡◌, ℕ, zero, suc, ◌+◌, ◌≤◌, ◌<◌, false, List, [], ◌∷◌, length, map, slice_get, replicate, Option, None, Some, refl, sym, ap, subst, ◌∙◌, arith, All, option_map, unwrap_or, get_or-replicate, length-replicate, length-map, length-map-range_with_len, get_or-map-range_with_len, All-nil, All-cons, All-weaker, All-map, slice_get-map, slice_get_within, slice_get-get_or, get_or_from_slice_get, get_within, StrForm, Kind, CfId, ConnId, Telling, AreMadeBelow, AnyHistory, Line, Script, AnyCall, IsOfKind, AreAnyAsTold, no_calls, numbers_from, any_take, any_numbers, take_none, start, connectors, IsRunnable, IsRunnableLine, type_of_kind, type_of_history, PassShown, unused_pass, CellShown, pass_at, no_pass, BoardShown, IsStarted, new_desk, IsClosed, no_items, AtWork, worker_of, no_worker, new_floor}
 use Rattle.plex_board.specs.CfTypes.declared.forms.Kind.TheVariants as kind
-use Rattle.plex_board.specs.CfTypes.declared.numbers.CfId.{CfId}
-use Rattle.plex_board.specs.CfTypes.declared.numbers.ConnId.{ConnId}
-use Rattle.plex_board.specs.CfLink.Links.{Telling}
-use Rattle.plex_board.specs.StructCell.Limits.{AreMadeBelow}
-use Rattle.plex_board.specs.PlexScript.declared.asks.AnyHistory.{AnyHistory}
 use Rattle.plex_board.specs.PlexScript.declared.asks.AnyHistory.TheVariants as history
-use Rattle.plex_board.specs.PlexScript.declared.scripts.Line.{Line}
-use Rattle.plex_board.specs.PlexScript.declared.scripts.Script.{Script}
-use Rattle.plex_board.specs.PlexScript.Heard.{AnyCall}
-use Rattle.plex_board.specs.Kinds.{IsOfKind, AreAnyAsTold, no_calls, numbers_from, any_take, any_numbers}
-use Rattle.plex_board.proofs.HistoryLaws.{take_none}
-use Rattle.plex_board.specs.Serial.{start, connectors}
-use Rattle.plex_board.specs.Runnable.{IsRunnable, IsRunnableLine}
-use Rattle.plex_board.specs.Types.{type_of_kind, type_of_history}
-use Rattle.plex_board.specs.Passes.{PassShown, unused_pass}
-use Rattle.plex_board.specs.Cells.{CellShown}
-use Rattle.plex_board.specs.Desks.{pass_at, no_pass}
-use Rattle.plex_board.specs.Boards.{BoardShown, IsStarted, new_desk, IsClosed}
-use Rattle.plex_board.specs.Callers.{no_items}
-use Rattle.plex_board.specs.Turns.{AtWork}
-use Rattle.plex_board.specs.Floors.{worker_of, no_worker, new_floor}
 use Rattle.plex_agent.proofs.Spots.{conn, str, Spot, IsKnownPass}
 use Rattle.plex_agent.proofs.Stages.{Stage, IsStage, State, Known, Agrees}
 use Rattle.plex_agent.proofs.Workers.{IsWorker, IsFloor}

@@ -1,32 +1,10 @@
 -- The closings of a script at a board, against the run by the machine alone.
-use Rattle.std.proofs.Common.{inl, inr, ◌≡◌, ◌≢◌, ℕ, zero, suc, ◌+◌, ◌≤◌, ◌<◌, Bool, true, false, List, [], ◌∷◌, ◌++◌, length, map, fold, slice_get, replicate, Option, None, Some, MatchBool, refl, sym, ap, subst, ◌∙◌, arith, length-set, append_assoc, length-append}
-use Rattle.std.specs.Prelude.{All, slice_index_or}
-use Rattle.std.specs.List.{range_with_len, enumerate_from}
-use Rattle.std.proofs.lemmas.List.{get_or-replicate, length-replicate}
-use Rattle.std.proofs.lemmas.List.Elements.{All-head, All-tail}
-use Rattle.plex_board.specs.CfTypes.declared.forms.StrForm.{StrForm}
-use Rattle.plex_board.specs.CfTypes.declared.numbers.ConnId.{ConnId}
+use Rattle.plex_agent.proofs.Names.{inl, inr, ◌≡◌, ◌≢◌, ℕ, zero, suc, ◌+◌, ◌≤◌, ◌<◌, Bool, true, false, List, [], ◌∷◌, ◌++◌, length, map, fold, slice_get, replicate, Option, None, Some, MatchBool, refl, sym, ap, subst, ◌∙◌, arith, length-set, append_assoc, length-append, All, slice_index_or, range_with_len, enumerate_from, get_or-replicate, length-replicate, All-head, All-tail, StrForm, ConnId, AnyAsk, Script, AgentEnd, Transcript, shell_ask, AnyCall, any_calls, own_calls, is_linked, cases_eq, IsAnyPoint, any_take, end_of, IsFrontOf, Run, is_done, after_departure, after_closing, all_steps_made, PassShown, CellShown, IsAnyTold, pass_at, with_pass, BoardShown, note_in, AtWork, Asks, Departs, is_done_as, Floor, worker_of, with_worker, heard_from_last, heard_all, ClosesAll}
 use Rattle.plex_board.specs.CfTypes.declared.shell_commands.ShellCmd.TheVariants as cmd
 use Rattle.plex_board.specs.PlexScript.declared.agents.Step.TheVariants as step
-use Rattle.plex_board.specs.PlexScript.declared.scripts.AnyAsk.{AnyAsk}
-use Rattle.plex_board.specs.PlexScript.declared.scripts.Script.{Script}
-use Rattle.plex_board.specs.PlexScript.declared.transcripts.AgentEnd.{AgentEnd}
 use Rattle.plex_board.specs.PlexScript.declared.transcripts.AgentEnd.TheVariants as ended
-use Rattle.plex_board.specs.PlexScript.declared.transcripts.Transcript.{Transcript}
-use Rattle.plex_board.specs.PlexScript.Agent.{shell_ask}
-use Rattle.plex_board.specs.PlexScript.Heard.{AnyCall, any_calls, own_calls, is_linked}
-use Rattle.std.proofs.lemmas.Bool.{cases_eq}
-use Rattle.plex_board.specs.Kinds.{IsAnyPoint, any_take, end_of}
-use Rattle.plex_board.proofs.SeamLaws.{IsFrontOf}
 use Rattle.plex_board.specs.Serial as serial
-use Rattle.plex_board.specs.Serial.{Run, is_done, after_departure, after_closing, all_steps_made}
-use Rattle.plex_board.specs.Passes.{PassShown}
-use Rattle.plex_board.specs.Cells.{CellShown, IsAnyTold}
-use Rattle.plex_board.specs.Desks.{pass_at, with_pass}
-use Rattle.plex_board.specs.Boards.{BoardShown, note_in}
-use Rattle.plex_board.specs.Turns.{AtWork, Asks, Departs, is_done_as}
 use Rattle.plex_board.specs.Callers.{DepartsEach}
-use Rattle.plex_board.specs.Floors.{Floor, worker_of, with_worker, heard_from_last, heard_all, ClosesAll}
 use Rattle.plex_agent.proofs.Spots.{conn, str, put, put_all, put_same, put_other, Spot, moved, known_moved}
 use Rattle.plex_agent.proofs.Fits.{put_back, FitsAt, events_front, fits_put, heard_pass, IsHeardPass, heard_is, heard_complete}
 use Rattle.plex_agent.proofs.Agreements.{AgreesAt, agrees_put, last_is}

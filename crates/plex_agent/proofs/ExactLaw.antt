@@ -1,27 +1,7 @@
 -- The law of a script's work at one board on one thread: the callers were shown what the run by the machine alone
 -- shows, and the histories that the closed structures left are the run's.
-use Rattle.std.proofs.Common.{◌≡◌, ◌≢◌, ℕ, ◌≤◌, ◌<◌, List, [], length, map, fold, get_or, slice_get, Some, sym, ap, subst, ◌∙◌, arith, append-nil}
-use Rattle.std.specs.Prelude.{All, option_map}
-use Rattle.std.proofs.lemmas.List.{length-map, get_or-map}
-use Rattle.std.proofs.lemmas.Option.{slice_get-map, slice_get-get_or}
-use Rattle.plex_board.specs.CfTypes.declared.numbers.CfId.{CfId}
-use Rattle.plex_board.specs.CfTypes.declared.numbers.ConnId.{ConnId}
-use Rattle.plex_board.specs.CfLink.Links.{Telling}
-use Rattle.plex_board.specs.PlexScript.declared.asks.AnyHistory.{AnyHistory}
-use Rattle.plex_board.specs.PlexScript.declared.scripts.Script.{Script}
+use Rattle.plex_agent.proofs.Names.{◌≡◌, ◌≢◌, ℕ, ◌≤◌, ◌<◌, List, [], length, map, fold, get_or, slice_get, Some, sym, ap, subst, ◌∙◌, arith, append-nil, All, option_map, length-map, get_or-map, slice_get-map, slice_get-get_or, CfId, ConnId, Telling, AnyHistory, Script, Transcript, any_calls, any_length, own_calls, AreAnyAsTold, any_take, end_of, calls_rise, same_calls, take_all, end_length, Run, start, connectors, after_line, after_closing, serial_run, IsRunnable, CellShown, IsAnyTold, DeskShown, pass_at, BoardShown, IsStarted, IsAccount, AreClosed, AtWork, Floor, Plays, worker_of, no_worker}
 use Rattle.plex_board.specs.PlexScript.declared.transcripts.AgentEnd.TheVariants as ended
-use Rattle.plex_board.specs.PlexScript.declared.transcripts.Transcript.{Transcript}
-use Rattle.plex_board.specs.PlexScript.Heard.{any_calls, any_length, own_calls}
-use Rattle.plex_board.specs.Kinds.{AreAnyAsTold, any_take, end_of}
-use Rattle.plex_board.proofs.HistoryLaws.{calls_rise, same_calls, take_all}
-use Rattle.plex_board.proofs.SeamLaws.{end_length}
-use Rattle.plex_board.specs.Serial.{Run, start, connectors, after_line, after_closing, serial_run}
-use Rattle.plex_board.specs.Runnable.{IsRunnable}
-use Rattle.plex_board.specs.Cells.{CellShown, IsAnyTold}
-use Rattle.plex_board.specs.Desks.{DeskShown, pass_at}
-use Rattle.plex_board.specs.Boards.{BoardShown, IsStarted, IsAccount, AreClosed}
-use Rattle.plex_board.specs.Turns.{AtWork}
-use Rattle.plex_board.specs.Floors.{Floor, Plays, worker_of, no_worker}
 use Rattle.plex_agent.proofs.Spots.{conn, str, Spot, IsKnownPass}
 use Rattle.plex_agent.proofs.Agreements.{AgreesAt}
 use Rattle.plex_agent.proofs.Stages.{Stage, IsStage, State, Known, Fits, Agrees, Goes, goes_then}

@@ -1,29 +1,8 @@
 -- What one step of a caller at a structure keeps, and the run that goes with it: a hearing, a call, and a
 -- next call that wasn't made.
-use Rattle.std.proofs.Common.{◌≡◌, ◌≢◌, ℕ, ◌≤◌, ◌<◌, ◌==◌, max, true, false, [], ◌∷◌, ◌++◌, set, slice_get, None, Some, refl, sym, ap, subst, ◌∙◌, arith}
-use Rattle.std.specs.Prelude.{All}
-use Rattle.std.proofs.lemmas.Bool.Decides.{nat_tests}
-use Rattle.std.proofs.lemmas.List.Sums.{fold_push}
-use Rattle.plex_board.specs.CfTypes.declared.forms.StrForm.{StrForm}
-use Rattle.plex_board.specs.CfTypes.declared.numbers.CfId.{CfId}
-use Rattle.plex_board.specs.CfLink.Links.{Telling}
-use Rattle.plex_board.specs.EngineApi.declared.told.Told.{Told}
-use Rattle.plex_board.specs.PlexScript.declared.scripts.AnyAsk.{AnyAsk}
-use Rattle.plex_board.specs.PlexScript.declared.asks.AnyHistory.{AnyHistory}
-use Rattle.plex_board.specs.PlexScript.declared.transcripts.AgentEnd.{AgentEnd}
+use Rattle.plex_agent.proofs.Names.{◌≡◌, ◌≢◌, ℕ, ◌≤◌, ◌<◌, ◌==◌, max, true, false, [], ◌∷◌, ◌++◌, set, slice_get, None, Some, refl, sym, ap, subst, ◌∙◌, arith, All, nat_tests, fold_push, StrForm, CfId, Telling, Told, AnyAsk, AnyHistory, AgentEnd, Transcript, any_length, IsAnyPoint, any_take, any_next, end_of, last_number, calls_rise, IsFrontOf, point_end, shown_on, seen_on, Run, shown_to, stopped_at, transcript_of, transcript_at, AnyReply, PassShown, with_call, IsLater, IsAnyTold, set_same}
 use Rattle.plex_board.specs.PlexScript.declared.transcripts.AgentEnd.TheVariants as ended
 use Rattle.plex_board.specs.PlexScript.declared.transcripts.Shown.TheVariants as shown
-use Rattle.plex_board.specs.PlexScript.declared.transcripts.Transcript.{Transcript}
-use Rattle.plex_board.specs.PlexScript.Heard.{any_length}
-use Rattle.plex_board.specs.Kinds.{IsAnyPoint, any_take, any_next, end_of, last_number}
-use Rattle.plex_board.proofs.HistoryLaws.{calls_rise}
-use Rattle.plex_board.proofs.SeamLaws.{IsFrontOf, point_end}
-use Rattle.plex_board.specs.Numbers.{shown_on, seen_on}
-use Rattle.plex_board.specs.Serial.{Run, shown_to, stopped_at, transcript_of, transcript_at}
-use Rattle.plex_board.specs.declared.any_reply.AnyReply.{AnyReply}
-use Rattle.plex_board.specs.Passes.{PassShown, with_call, IsLater}
-use Rattle.plex_board.specs.Cells.{IsAnyTold}
-use Rattle.plex_board.proofs.CfLists.TableLaws.{set_same}
 use Rattle.plex_agent.proofs.Spots.{conn, str, put, put_same, put_other, is_other, Spot, IsKnown, LastKnows, event, moved, called, known_moved, known_called}
 use Rattle.plex_agent.proofs.Fits.{FitsAt, events_front, fits_put, fits_called, IsNextCall, is_next_call, heard_pass, IsHeardPass, heard_is, heard_complete}
 use Rattle.plex_agent.proofs.Agreements.{AgreesAt, IsSeen, agrees_put, sure_in, last_is, seen_push, seen_none}

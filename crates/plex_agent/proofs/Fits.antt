@@ -1,21 +1,5 @@
 -- What the histories that are left at the end have to do with what was done at a structure so far.
-use Rattle.std.proofs.Common.{◌≡◌, ℕ, ◌≤◌, ◌<◌, ◌==◌, Bool, true, false, cond, List, [], ◌∷◌, ◌++◌, fold, Option, None, Some, refl, sym, ap, subst, ◌∙◌, arith, append_assoc}
-use Rattle.std.specs.Prelude.{All, if◌then◌else◌}
-use Rattle.plex_board.specs.CfTypes.declared.forms.StrForm.{StrForm}
-use Rattle.plex_board.specs.CfTypes.declared.numbers.ConnId.{ConnId}
-use Rattle.plex_board.specs.CfTypes.declared.numbers.CfId.{CfId}
-use Rattle.plex_board.specs.CfLink.Links.{Telling}
-use Rattle.plex_board.specs.EngineApi.declared.told.Told.{Told}
-use Rattle.plex_board.specs.PlexScript.declared.scripts.AnyAsk.{AnyAsk}
-use Rattle.plex_board.specs.PlexScript.declared.asks.AnyHistory.{AnyHistory}
-use Rattle.plex_board.specs.PlexScript.Heard.{AnyCall, any_calls, any_length}
-use Rattle.plex_board.specs.Kinds.{IsAnyLegal, AreAnyAsTold, any_take, any_next, any_told, any_numbers, end_of, last_number}
-use Rattle.plex_board.proofs.SeamLaws.{IsNextOf, next_call, IsFrontOf, front_of, numbers_of, numbers_any, IsBefore}
-use Rattle.plex_board.specs.StructCell.Limits.{AreMadeBelow}
-use Rattle.plex_board.specs.declared.any_reply.AnyReply.{AnyReply}
-use Rattle.plex_board.specs.Passes.{PassShown, with_call, note_of}
-use Rattle.plex_board.specs.Cells.{IsAnyTold}
-use Rattle.plex_board.specs.Notes.{with_note}
+use Rattle.plex_agent.proofs.Names.{◌≡◌, ℕ, ◌≤◌, ◌<◌, ◌==◌, Bool, true, false, cond, List, [], ◌∷◌, ◌++◌, fold, Option, None, Some, refl, sym, ap, subst, ◌∙◌, arith, append_assoc, All, if◌then◌else◌, StrForm, ConnId, CfId, Telling, Told, AnyAsk, AnyHistory, AnyCall, any_calls, any_length, IsAnyLegal, AreAnyAsTold, any_take, any_next, any_told, any_numbers, end_of, last_number, IsNextOf, next_call, IsFrontOf, front_of, numbers_of, numbers_any, IsBefore, AreMadeBelow, AnyReply, PassShown, with_call, note_of, IsAnyTold, with_note}
 use Rattle.plex_agent.proofs.Spots.{conn, put, same_number, Spot, IsKnown, LastKnows, event, called}
 
 pub put_back : {X : Type 0} (P : ℕ → X → Type 0) (at : ℕ) (x : X) (xs : ℕ → X) → (P at x → P at (xs at))

@@ -1,24 +1,7 @@
 -- A floor of a board: as it begins, as one caller changes or hears, and as who acted last changes.
-use Rattle.std.proofs.Common.{◌≡◌, ◌≢◌, ℕ, ◌+◌, ◌<◌, ◌≤◌, ◌==◌, inl, inr, Bool, true, false, if◌then◌else◌, List, ◌∷◌, ◌++◌, [], append_assoc, append-nil, drop, replicate, unwrap_or, length, length-append, Option, Some, None, get_or, set, refl, sym, ◌∙◌, ap, subst, arith}
+use Rattle.plex_agent.proofs.Names.{◌≡◌, ◌≢◌, ℕ, ◌+◌, ◌<◌, ◌≤◌, ◌==◌, inl, inr, Bool, true, false, if◌then◌else◌, List, ◌∷◌, ◌++◌, [], append_assoc, append-nil, drop, replicate, length, length-append, Option, Some, None, get_or, set, refl, sym, ◌∙◌, ap, subst, arith, drop-cons, set-append_seam, map-set_same, get_or-append_seam, add-one, eqb-true, get_or_read, get_or_append_left, set-append_left, set-get_or, length-replicate, replicate_more, All-replicate, All-get_or, slice_get_within, slice_get-get_or, get_or_from_slice_get, CONNECTORS, ConnId, StrNo, Transcript, NoteShown, note_of, with_note, DeskShown, no_pass, fixed_of, pass_at, with_pass, BoardShown, IsDeskOf, IsTrayOf, no_notes, AtWork, Floor, no_worker, new_floor, worker_of, with_worker, heard_from_last, heard_from, told_by, IsFloorOf, crew_of}
+use Rattle.std.proofs.Common.{unwrap_or}
 use Rattle.std.proofs.Math.ListN.{length-set}
-use Rattle.std.proofs.Math.Seq.{drop-cons, set-append_seam, map-set_same, get_or-append_seam}
-use Rattle.std.proofs.Math.Numerals.{add-one}
-use Rattle.std.proofs.lemmas.Bool.{eqb-true}
-use Rattle.std.proofs.lemmas.List.{get_or_read, get_or_append_left, set-append_left, set-get_or, length-replicate, replicate_more}
-use Rattle.std.proofs.lemmas.List.Elements.{All-replicate, All-get_or}
-use Rattle.std.proofs.lemmas.Option.{slice_get_within, slice_get-get_or, get_or_from_slice_get}
-use Rattle.plex_board.specs.CfTypes.declared.limits.TheConstants.{CONNECTORS}
-use Rattle.plex_board.specs.CfTypes.declared.numbers.ConnId.{ConnId}
-use Rattle.plex_board.specs.CfTypes.declared.numbers.StrNo.{StrNo}
-use Rattle.plex_board.specs.PlexScript.declared.transcripts.Transcript.{Transcript}
-use Rattle.plex_board.specs.Passes.{NoteShown, note_of}
-use Rattle.plex_board.specs.Notes.{with_note}
-use Rattle.plex_board.specs.Desks.{DeskShown, no_pass, fixed_of, pass_at, with_pass}
-use Rattle.plex_board.specs.Boards.{BoardShown, IsDeskOf, IsTrayOf, no_notes}
-use Rattle.plex_board.specs.Turns.{AtWork}
-use Rattle.plex_board.specs.Floors.{Floor, no_worker, new_floor, worker_of, with_worker, heard_from_last, heard_from, told_by}
-use Rattle.plex_agent.specs.Standing.{IsFloorOf}
-use Rattle.plex_agent.specs.Crews.{crew_of}
 use Rattle.plex_agent.proofs.SeatedLaws.{own_desk, callers-set, slice_get-set, new_callers}
 
 -- a caller's work that is put where it stands

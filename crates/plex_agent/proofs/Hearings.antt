@@ -1,9 +1,5 @@
 -- Hearings: none, and one after another.
-use Rattle.std.proofs.Common.{refl, ap, ◌∙◌, arith}
-use Rattle.plex_board.specs.Passes.{PassShown, IsLater}
-use Rattle.plex_board.specs.Desks.{pass_at}
-use Rattle.plex_board.specs.Turns.{AtWork}
-use Rattle.plex_agent.specs.Chains.{Hears}
+use Rattle.plex_agent.proofs.Names.{refl, ap, ◌∙◌, arith, PassShown, IsLater, pass_at, AtWork, Hears}
 
 pub later_same : (pass : PassShown) → IsLater pass pass
 later_same pass = record { known = omega arith; sure = omega arith; same = refl }

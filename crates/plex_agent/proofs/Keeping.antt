@@ -1,26 +1,10 @@
 -- Turns leave a desk its owner and its passes; and where no pass has seen more complete than it knows, none comes to.
-use Rattle.std.proofs.Common.{◌≡◌, ℕ, zero, suc, ◌+◌, ◌*◌, ◌≤◌, nat_lt, inl, inr, Bool, true, false, MatchBool, List, [], ◌∷◌, length, Option, None, Some, get_or, set, refl, sym, ap, subst, ◌∙◌, arith}
+use Rattle.plex_agent.proofs.Names.{◌≡◌, ℕ, zero, suc, ◌+◌, ◌*◌, ◌≤◌, nat_lt, inl, inr, Bool, true, false, MatchBool, List, [], ◌∷◌, length, Option, None, Some, get_or, set, refl, sym, ap, subst, ◌∙◌, arith, Kind, StrForm, ConnId, StrNo, Told, Step, AnyAsk, Act, Line, AgentEnd, step_after, is_linked, PassShown, NoteShown, with_call, CellShown, DeskShown, no_pass, pass_at, with_pass, AtWork, Steps, Halts, EndsAt, Asks, Tests, TestsWord, ShowsOnly, Acts, Turns, Departs, is_done_as}
 use Rattle.std.proofs.lemmas.List.{length-set}
-use Rattle.plex_board.specs.CfTypes.declared.forms.Kind.{Kind}
-use Rattle.plex_board.specs.CfTypes.declared.forms.StrForm.{StrForm}
-use Rattle.plex_board.specs.CfTypes.declared.numbers.ConnId.{ConnId}
-use Rattle.plex_board.specs.CfTypes.declared.numbers.StrNo.{StrNo}
-use Rattle.plex_board.specs.EngineApi.declared.told.Told.{Told}
-use Rattle.plex_board.specs.PlexScript.declared.agents.Step.{Step}
 use Rattle.plex_board.specs.PlexScript.declared.agents.Step.TheVariants as step
-use Rattle.plex_board.specs.PlexScript.declared.scripts.AnyAsk.{AnyAsk}
-use Rattle.plex_board.specs.PlexScript.declared.scripts.Act.{Act}
 use Rattle.plex_board.specs.PlexScript.declared.scripts.Act.TheVariants as act
-use Rattle.plex_board.specs.PlexScript.declared.scripts.Line.{Line}
-use Rattle.plex_board.specs.PlexScript.declared.transcripts.AgentEnd.{AgentEnd}
 use Rattle.plex_board.specs.PlexScript.declared.transcripts.AgentEnd.TheVariants as ended
 use Rattle.plex_board.specs.PlexScript.declared.transcripts.Shown.TheVariants as shown
-use Rattle.plex_board.specs.PlexScript.Agent.{step_after}
-use Rattle.plex_board.specs.PlexScript.Heard.{is_linked}
-use Rattle.plex_board.specs.Passes.{PassShown, NoteShown, with_call}
-use Rattle.plex_board.specs.Cells.{CellShown}
-use Rattle.plex_board.specs.Desks.{DeskShown, no_pass, pass_at, with_pass}
-use Rattle.plex_board.specs.Turns.{AtWork, Steps, Halts, EndsAt, Asks, Tests, TestsWord, ShowsOnly, Acts, Turns, Departs, is_done_as}
 use Rattle.plex_board.specs.Callers as alone
 use Rattle.plex_agent.proofs.Closings.{departing}
 

@@ -1,4 +1,5 @@
 pub use Rattle.plex_board.proofs.CfLists as CfLists
+pub mod Names
 pub mod StepLaws
 pub mod CellLaws
 pub mod AskLaws

@@ -1,30 +1,10 @@
 -- All lines of a script at a board, against the run by the machine alone.
-use Rattle.std.proofs.Common.{◌≡◌, ℕ, ◌*◌, ◌≤◌, ◌<◌, ◌==◌, nat_lt, Bool, true, false, List, [], ◌∷◌, length, fold, set, slice_get, Option, None, Some, MatchBool, ◌⊎◌, inl, inr, refl, sym, ap, subst, ◌∙◌, arith}
-use Rattle.std.specs.Prelude.{All, if◌then◌else◌, slice_index_or}
-use Rattle.std.proofs.lemmas.List.Elements.{All-head, All-tail}
-use Rattle.std.proofs.lemmas.Option.{slice_get_within}
-use Rattle.plex_board.specs.CfTypes.declared.forms.StrForm.{StrForm}
-use Rattle.plex_board.specs.CfTypes.declared.numbers.ConnId.{ConnId}
-use Rattle.plex_board.specs.CfTypes.declared.numbers.StrNo.{StrNo}
+use Rattle.plex_agent.proofs.Names.{◌≡◌, ℕ, ◌*◌, ◌≤◌, ◌<◌, ◌==◌, nat_lt, Bool, true, false, List, [], ◌∷◌, length, fold, set, slice_get, Option, None, Some, MatchBool, ◌⊎◌, inl, inr, refl, sym, ap, subst, ◌∙◌, arith, All, if◌then◌else◌, slice_index_or, All-head, All-tail, slice_get_within, StrForm, ConnId, StrNo, Act, Line, Script, AgentEnd, Shown, Transcript, first_step, Run, act_made, after_line, is_done, test_shown, word_shown, CellShown, BoardShown, cell_on, AtWork, Acts, Tests, TestsWord, ShowsOnly, RunsOut, IfDone, is_done_as, any_word, any_length, Floor, worker_of, with_worker, heard_from, told_by, heard_from_last, is_counted, PlaysAct, is_working, PlaysLine, PlaysLines}
 use Rattle.plex_board.specs.PlexScript.declared.agents.Step.TheVariants as step
-use Rattle.plex_board.specs.PlexScript.declared.scripts.Act.{Act}
 use Rattle.plex_board.specs.PlexScript.declared.scripts.Act.TheVariants as act
-use Rattle.plex_board.specs.PlexScript.declared.scripts.Line.{Line}
-use Rattle.plex_board.specs.PlexScript.declared.scripts.Script.{Script}
-use Rattle.plex_board.specs.PlexScript.declared.transcripts.AgentEnd.{AgentEnd}
 use Rattle.plex_board.specs.PlexScript.declared.transcripts.AgentEnd.TheVariants as ended
-use Rattle.plex_board.specs.PlexScript.declared.transcripts.Shown.{Shown}
 use Rattle.plex_board.specs.PlexScript.declared.transcripts.Shown.TheVariants as shown
-use Rattle.plex_board.specs.PlexScript.declared.transcripts.Transcript.{Transcript}
-use Rattle.plex_board.specs.PlexScript.Agent.{first_step}
 use Rattle.plex_board.specs.Serial as serial
-use Rattle.plex_board.specs.Serial.{Run, act_made, after_line, is_done, test_shown, word_shown}
-use Rattle.plex_board.specs.Cells.{CellShown}
-use Rattle.plex_board.specs.Boards.{BoardShown, cell_on}
-use Rattle.plex_board.specs.Turns.{AtWork, Acts, Tests, TestsWord, ShowsOnly, RunsOut, IfDone, is_done_as}
-use Rattle.plex_board.specs.Kinds.{any_word}
-use Rattle.plex_board.specs.PlexScript.Heard.{any_length}
-use Rattle.plex_board.specs.Floors.{Floor, worker_of, with_worker, heard_from, told_by, heard_from_last, is_counted, PlaysAct, is_working, PlaysLine, PlaysLines}
 use Rattle.plex_agent.proofs.Stages.{Stage, IsStage, State, Known, Shows, Agrees, Goes, goes_then, goes_not}
 use Rattle.plex_agent.proofs.ExactMoves.{transcript_is}
 use Rattle.plex_agent.proofs.Workers.{IsFloor}

@@ -1,27 +1,9 @@
 -- A line of a script at a board, and all lines, against the run by the machine alone.
-use Rattle.std.proofs.Common.{◌≡◌, ◌≢◌, ℕ, ◌*◌, ◌≤◌, ◌<◌, nat_lt, true, List, [], ◌∷◌, length, map, set, slice_get, Option, None, Some, refl, sym, ap, subst, ◌∙◌, arith, length-set}
-use Rattle.std.specs.Prelude.{slice_index_or}
-use Rattle.std.proofs.lemmas.Bool.Decides.{nat_tests}
-use Rattle.std.proofs.lemmas.List.{set-get_or}
-use Rattle.plex_board.specs.CfTypes.declared.numbers.ConnId.{ConnId}
-use Rattle.plex_board.specs.PlexScript.declared.agents.Step.{Step}
+use Rattle.plex_agent.proofs.Names.{◌≡◌, ◌≢◌, ℕ, ◌*◌, ◌≤◌, ◌<◌, nat_lt, true, List, [], ◌∷◌, length, map, set, slice_get, Option, None, Some, refl, sym, ap, subst, ◌∙◌, arith, length-set, slice_index_or, nat_tests, set-get_or, ConnId, Step, AnyAsk, Shown, Transcript, AnyHistory, sight, indices_of, shown_on, Run, act_made, all_steps_made, with_shown, post_made, take_made, PassShown, NoteShown, note_of, with_any_note, DeskShown, pass_at, with_pass, no_pass, note_in, AtWork, Asks, Tests, TestsWord, ShowsOnly, RunsOut, Posts, with_item, Floor, worker_of, heard_from_last, worker_after_take}
 use Rattle.plex_board.specs.PlexScript.declared.agents.Step.TheVariants as step
-use Rattle.plex_board.specs.PlexScript.declared.scripts.AnyAsk.{AnyAsk}
 use Rattle.plex_board.specs.PlexScript.declared.scripts.Act.TheVariants as act
 use Rattle.plex_board.specs.PlexScript.declared.transcripts.AgentEnd.TheVariants as ended
-use Rattle.plex_board.specs.PlexScript.declared.transcripts.Shown.{Shown}
 use Rattle.plex_board.specs.PlexScript.declared.transcripts.Shown.TheVariants as shown
-use Rattle.plex_board.specs.PlexScript.declared.transcripts.Transcript.{Transcript}
-use Rattle.plex_board.specs.PlexScript.declared.asks.AnyHistory.{AnyHistory}
-use Rattle.plex_board.specs.VecWords.Logged.{sight, indices_of}
-use Rattle.plex_board.specs.Numbers.{shown_on}
-use Rattle.plex_board.specs.Serial.{Run, act_made, all_steps_made, with_shown, post_made, take_made}
-use Rattle.plex_board.specs.Passes.{PassShown, NoteShown, note_of}
-use Rattle.plex_board.specs.Notes.{with_any_note}
-use Rattle.plex_board.specs.Desks.{DeskShown, pass_at, with_pass, no_pass}
-use Rattle.plex_board.specs.Boards.{note_in}
-use Rattle.plex_board.specs.Turns.{AtWork, Asks, Tests, TestsWord, ShowsOnly, RunsOut, Posts, with_item}
-use Rattle.plex_board.specs.Floors.{Floor, worker_of, heard_from_last, worker_after_take}
 use Rattle.plex_agent.proofs.Spots.{conn, str, put_same, put_other, Spot, moved, noticed}
 use Rattle.plex_agent.proofs.Fits.{heard_pass}
 use Rattle.plex_agent.proofs.Stages.{Stage, IsStage, State, Known, Shows, Goes, goes_then, acted}

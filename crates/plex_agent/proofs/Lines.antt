@@ -1,25 +1,6 @@
 -- A caller's lines, one after another.
-use Rattle.std.proofs.Common.{◌≡◌, ℕ, ◌≤◌, ◌<◌, ◌==◌, Bool, true, false, List, [], ◌∷◌, ◌++◌, length, Some, refl, sym, ap, subst, ◌∙◌, arith, append_assoc, append-nil, slice_get, MatchBool}
-use Rattle.std.proofs.lemmas.Option.{slice_get_within}
-use Rattle.plex_board.specs.CfTypes.declared.forms.StrForm.{StrForm}
-use Rattle.plex_board.specs.CfTypes.declared.numbers.ConnId.{ConnId}
-use Rattle.plex_board.specs.CfTypes.declared.numbers.StrNo.{StrNo}
-use Rattle.plex_board.specs.PlexScript.declared.asks.AnyHistory.{AnyHistory}
-use Rattle.plex_board.specs.PlexScript.declared.scripts.Line.{Line}
-use Rattle.plex_board.specs.PlexScript.declared.transcripts.AgentEnd.{AgentEnd}
+use Rattle.plex_agent.proofs.Names.{◌≡◌, ℕ, ◌≤◌, ◌<◌, ◌==◌, Bool, true, false, List, [], ◌∷◌, ◌++◌, length, Some, refl, sym, ap, subst, ◌∙◌, arith, append_assoc, append-nil, slice_get, MatchBool, slice_get_within, StrForm, ConnId, StrNo, AnyHistory, Line, AgentEnd, Shown, Transcript, first_step, call_of, calls_on, length_on, RunsUpTo, ShowsLines, CellShown, Rising, DeskShown, pass_at, BoardShown, cell_on, AtWork, Acts, Turns, is_done_as, lines_by, DoesLines, Hears}
 use Rattle.plex_board.specs.PlexScript.declared.transcripts.AgentEnd.TheVariants as ended
-use Rattle.plex_board.specs.PlexScript.declared.transcripts.Shown.{Shown}
-use Rattle.plex_board.specs.PlexScript.declared.transcripts.Transcript.{Transcript}
-use Rattle.plex_board.specs.PlexScript.Agent.{first_step, call_of}
-use Rattle.plex_board.specs.PlexScript.Heard.{calls_on, length_on}
-use Rattle.plex_board.specs.PlexScript.Follows.{RunsUpTo, ShowsLines}
-use Rattle.plex_board.specs.Cells.{CellShown}
-use Rattle.plex_board.specs.Kinds.{Rising}
-use Rattle.plex_board.specs.Desks.{DeskShown, pass_at}
-use Rattle.plex_board.specs.Boards.{BoardShown, cell_on}
-use Rattle.plex_board.specs.Turns.{AtWork, Acts, Turns, is_done_as}
-use Rattle.plex_board.specs.Callers.{lines_by}
-use Rattle.plex_agent.specs.Chains.{DoesLines, Hears}
 use Rattle.plex_agent.proofs.Passes.{Caller}
 use Rattle.plex_agent.proofs.Moves.{same_number, AreWithin, Goes, goes_then, moves_go, hears_go}
 use Rattle.plex_agent.proofs.Hearings.{hears_then}

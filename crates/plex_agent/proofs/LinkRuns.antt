@@ -1,29 +1,7 @@
 -- What the links of a closed board have to do with its histories: structure by structure, link by link.
-use Rattle.std.proofs.Common.{◌≡◌, ℕ, zero, suc, ◌+◌, ◌*◌, ◌-◌, ◌≤◌, ◌<◌, List, [], ◌∷◌, ◌++◌, length, map, slice_get, Option, Some, refl, sym, ap, subst, ◌∙◌, arith, append_assoc}
-use Rattle.std.specs.Prelude.{unwrap_or}
-use Rattle.std.specs.List.{flat_map}
-use Rattle.std.proofs.lemmas.List.{length-map}
-use Rattle.std.proofs.lemmas.Option.{slice_get_within}
-use Rattle.plex_board.specs.CfIo.Count.{RisesBy}
-use Rattle.plex_board.specs.CfTypes.Forms.{IsFacility}
-use Rattle.plex_board.specs.CfTypes.declared.forms.StrForm.{StrForm}
-use Rattle.plex_board.specs.CfTypes.declared.numbers.CfId.{CfId}
-use Rattle.plex_board.specs.CfLink.declared.links.Links.{Links}
-use Rattle.plex_board.specs.CfLink.Links.{Telling, Tells, AreAsked, IsAskedAll, link_at}
-use Rattle.plex_board.specs.CfLink.Tells.{TellsEnough}
-use Rattle.plex_board.proofs.CfLink.LinkLaws.{asked_faults, asked_calls, asked_told}
-use Rattle.plex_board.specs.EngineApi.Answers.{trues}
-use Rattle.plex_board.proofs.EngineApi.AnswerLaws.{marks_counted}
-use Rattle.plex_board.specs.CacheModel.Meaning.{cache_meaning}
-use Rattle.plex_board.specs.ListModel.Meaning.{list_meaning}
-use Rattle.plex_board.specs.LockModel.Meaning.{lock_meaning}
-use Rattle.plex_board.specs.PlexScript.declared.asks.AnyHistory.{AnyHistory}
+use Rattle.plex_agent.proofs.Names.{◌≡◌, ℕ, zero, suc, ◌+◌, ◌*◌, ◌-◌, ◌≤◌, ◌<◌, List, [], ◌∷◌, ◌++◌, length, map, slice_get, Option, Some, refl, sym, ap, subst, ◌∙◌, arith, append_assoc, unwrap_or, flat_map, length-map, slice_get_within, RisesBy, IsFacility, StrForm, CfId, Links, Telling, AreAsked, IsAskedAll, link_at, TellsEnough, asked_faults, asked_calls, asked_told, trues, marks_counted, cache_meaning, list_meaning, lock_meaning, AnyHistory, IsAnyLegal, AreAnyAsTold, any_answers, any_marks_at, links_told, link_place, AreTelling, IsLinkOf, AreRunLinks, CellShown, BoardShown, AreEachAsked, AreLinksAsked, four_of, links_of}
+use Rattle.plex_board.specs.CfLink.Links.{Tells}
 use Rattle.plex_board.specs.PlexScript.declared.asks.AnyHistory.TheVariants as history
-use Rattle.plex_board.specs.Kinds.{IsAnyLegal, AreAnyAsTold, any_answers, any_marks_at}
-use Rattle.plex_board.proofs.ToldLaws.{links_told}
-use Rattle.plex_board.specs.RunLinks.{link_place, AreTelling, IsLinkOf, AreRunLinks}
-use Rattle.plex_board.specs.Cells.{CellShown}
-use Rattle.plex_board.specs.Boards.{BoardShown, AreEachAsked, AreLinksAsked, four_of, links_of}
 
 -- ---- places
 

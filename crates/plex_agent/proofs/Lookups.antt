@@ -1,13 +1,7 @@
 -- Elements of lists by their places; and the kinds of histories.
-use Rattle.std.proofs.Common.{◌≡◌, ℕ, zero, suc, List, [], ◌∷◌, map, Some, refl, ap, subst, slice_get}
-use Rattle.std.specs.Prelude.{All}
-use Rattle.std.proofs.lemmas.List.Elements.{All-head, All-tail}
-use Rattle.plex_board.specs.CfTypes.declared.forms.Kind.{Kind}
+use Rattle.plex_agent.proofs.Names.{◌≡◌, ℕ, zero, suc, List, [], ◌∷◌, map, Some, refl, ap, subst, slice_get, All, All-head, All-tail, Kind, AnyHistory, type_of_kind, type_of_history, IsOfKind}
 use Rattle.plex_board.specs.CfTypes.declared.forms.Kind.TheVariants as kind
-use Rattle.plex_board.specs.PlexScript.declared.asks.AnyHistory.{AnyHistory}
 use Rattle.plex_board.specs.PlexScript.declared.asks.AnyHistory.TheVariants as history
-use Rattle.plex_board.specs.Types.{type_of_kind, type_of_history}
-use Rattle.plex_board.specs.Kinds.{IsOfKind}
 
 pub get_map : {X Y : Type 0} (f : X → Y) (xs : List X) (i : ℕ) (x : X) → slice_get xs i ≡ Some x
     → slice_get (map f xs) i ≡ Some (f x)

@@ -1,14 +1,6 @@
 -- What a caller at work does to its desk and its transcript, at one structure and at all.
-use Rattle.std.proofs.Common.{◌≡◌, ◌≢◌, ℕ, ◌<◌, ◌==◌, Bool, true, false, List, [], ◌++◌, length, refl, sym, ap, subst, ◌∙◌, arith, append-nil, append_assoc}
-use Rattle.std.proofs.lemmas.Bool.Decides.{nat_tests}
-use Rattle.std.proofs.lemmas.List.{length-set, get_or-set_same, get_or-set_other}
-use Rattle.plex_board.specs.CfTypes.declared.numbers.StrNo.{StrNo}
-use Rattle.plex_board.specs.PlexScript.declared.transcripts.Shown.{Shown}
-use Rattle.plex_board.specs.PlexScript.declared.transcripts.Transcript.{Transcript}
-use Rattle.plex_board.specs.Passes.{PassShown}
-use Rattle.plex_board.specs.Desks.{DeskShown, no_pass, pass_at, with_pass}
-use Rattle.plex_board.specs.Turns.{AtWork}
-use Rattle.plex_agent.specs.Chains.{Hears}
+use Rattle.plex_agent.proofs.Names.{◌≡◌, ◌≢◌, ℕ, ◌<◌, ◌==◌, Bool, true, false, List, [], ◌++◌, length, refl, sym, ap, subst, ◌∙◌, arith, append-nil, append_assoc, nat_tests, get_or-set_same, get_or-set_other, StrNo, Shown, Transcript, PassShown, DeskShown, no_pass, pass_at, with_pass, AtWork, Hears}
+use Rattle.std.proofs.lemmas.List.{length-set}
 use Rattle.plex_agent.proofs.ShownItems.{Each}
 use Rattle.plex_agent.proofs.Passes.{Caller, IsShown, IsGood, IsWithin, Advances, advances_later}
 

@@ -1,18 +1,5 @@
 -- What a caller's pass to a structure has to do with the items that it was shown, and goes on having as both grow.
-use Rattle.std.proofs.Common.{◌≡◌, ℕ, ◌≤◌, ◌==◌, false, List, [], ◌∷◌, ◌++◌, length, map, take, max, fold, Some, None, refl, sym, ap, subst, ◌∙◌, arith, append-nil, append_assoc, slice_get}
-use Rattle.std.specs.Prelude.{All}
-use Rattle.std.proofs.lemmas.List.Elements.{filter_map-append, All-take, All-same}
-use Rattle.plex_board.specs.CfTypes.declared.forms.StrForm.{StrForm}
-use Rattle.plex_board.specs.CfTypes.declared.numbers.ConnId.{ConnId}
-use Rattle.plex_board.specs.CfTypes.declared.numbers.StrNo.{StrNo}
-use Rattle.plex_board.specs.PlexScript.declared.asks.AnyHistory.{AnyHistory}
-use Rattle.plex_board.specs.PlexScript.declared.transcripts.Shown.{Shown}
-use Rattle.plex_board.specs.PlexScript.Heard.{AnyCall, own_calls, calls_on, length_on}
-use Rattle.plex_board.specs.PlexScript.Follows.{number_on, numbers_on, sure_on, surest_on, IsNote}
-use Rattle.plex_board.specs.Numbers.{shown_on, seen_on}
-use Rattle.plex_board.specs.Headline.{TellsOf, place_of}
-use Rattle.plex_board.specs.Passes.{PassShown, IsLater}
-use Rattle.plex_board.specs.Cells.{IsAnyTold}
+use Rattle.plex_agent.proofs.Names.{◌≡◌, ℕ, ◌≤◌, ◌==◌, false, List, [], ◌∷◌, ◌++◌, length, map, take, max, fold, Some, None, refl, sym, ap, subst, ◌∙◌, arith, append-nil, append_assoc, slice_get, All, filter_map-append, All-take, All-same, StrForm, ConnId, StrNo, AnyHistory, Shown, AnyCall, own_calls, calls_on, length_on, number_on, numbers_on, sure_on, surest_on, IsNote, shown_on, seen_on, TellsOf, place_of, PassShown, IsLater, IsAnyTold}
 use Rattle.plex_agent.proofs.Fronts.{IsFront, front_same, front_then, take_front}
 use Rattle.plex_agent.proofs.ShownItems.{Each, each_push, greatest_push, unread_push}
 

@@ -1,30 +1,8 @@
 -- What the steps of a line and of a closing come to.
-use Rattle.std.proofs.Common.{◌≡◌, ◌≢◌, ℕ, zero, suc, ◌+◌, ◌-◌, ◌<◌, ◌≤◌, ◌==◌, Bool, true, false, if◌then◌else◌, MatchBool, List, [], ◌∷◌, ◌++◌, length, fold, drop, replicate, Option, Some, None, IfSome, Result, Ok, Err, OnOk, get_or, set, slice_set, slice_index_or, refl, sym, ◌∙◌, ap, subst, arith}
-use Rattle.std.specs.List.{range_with_len}
-use Rattle.std.proofs.Math.Seq.{drop-cons}
-use Rattle.std.proofs.Math.Numerals.{add-one}
-use Rattle.std.proofs.lemmas.Bool.{eqb-false, eqb-true}
-use Rattle.std.proofs.lemmas.List.{get_or-set_same, get_or-set_other}
-use Rattle.std.proofs.lemmas.Option.{slice_get_within}
-use Rattle.plex_board.specs.CfTypes.declared.forms.StrForm.{StrForm}
-use Rattle.plex_board.specs.CfTypes.declared.numbers.ConnId.{ConnId}
-use Rattle.plex_board.specs.CfTypes.declared.numbers.StrNo.{StrNo}
-use Rattle.plex_board.specs.PlexScript.declared.scripts.Act.{Act}
+use Rattle.plex_agent.proofs.Names.{◌≡◌, ◌≢◌, ℕ, zero, suc, ◌+◌, ◌-◌, ◌<◌, ◌≤◌, ◌==◌, Bool, true, false, if◌then◌else◌, MatchBool, List, [], ◌∷◌, ◌++◌, length, fold, drop, replicate, Option, Some, None, IfSome, Result, Ok, Err, OnOk, get_or, set, slice_set, slice_index_or, refl, sym, ◌∙◌, ap, subst, arith, range_with_len, drop-cons, add-one, eqb-false, eqb-true, get_or-set_same, get_or-set_other, slice_get_within, StrForm, ConnId, StrNo, Act, Line, Shown, Transcript, PassShown, note_of, with_note, with_any_note, DeskShown, pass_at, with_pass, CellShown, BoardShown, cell_on, note_in, AtWork, Turns, Posts, with_item, IsLineFor, Floor, no_worker, worker_of, with_worker, heard_from_last, heard_from, heard_all, told_by, worker_ready, worker_after_take, last_after, is_counted, is_working, PlaysAct, PlaysLine, PlaysLines, ClosesOne, ClosesAll, desk-length, pass_at-with_pass_same, IsTurn, TakesTurn, PlaysActOn, conns_from}
 use Rattle.plex_board.specs.PlexScript.declared.scripts.Act.TheVariants as act
-use Rattle.plex_board.specs.PlexScript.declared.scripts.Line.{Line}
-use Rattle.plex_board.specs.PlexScript.declared.transcripts.Shown.{Shown}
 use Rattle.plex_board.specs.PlexScript.declared.transcripts.Shown.TheVariants as shown
-use Rattle.plex_board.specs.PlexScript.declared.transcripts.Transcript.{Transcript}
-use Rattle.plex_board.specs.Passes.{PassShown, note_of}
-use Rattle.plex_board.specs.Notes.{with_note, with_any_note}
-use Rattle.plex_board.specs.Desks.{DeskShown, pass_at, with_pass}
-use Rattle.plex_board.specs.Cells.{CellShown}
-use Rattle.plex_board.specs.Boards.{BoardShown, cell_on, note_in}
-use Rattle.plex_board.specs.Turns.{AtWork, Turns, Posts, with_item}
-use Rattle.plex_board.specs.Callers.{IsLineFor, DepartsEach, Closes}
-use Rattle.plex_board.specs.Floors.{Floor, no_worker, worker_of, with_worker, heard_from_last, heard_from, heard_all, told_by, worker_ready, worker_after_take, last_after, is_counted, is_working, PlaysAct, PlaysLine, PlaysLines, ClosesOne, ClosesAll}
-use Rattle.plex_board.proofs.DeskLaws.{desk-length, pass_at-with_pass_same}
-use Rattle.plex_agent.specs.Standing.{IsTurn, TakesTurn, PlaysActOn, conns_from}
+use Rattle.plex_board.specs.Callers.{DepartsEach, Closes}
 use Rattle.plex_agent.proofs.FloorLaws.{HasDesk}
 
 -- a fact of what is there

@@ -1,39 +1,11 @@
 -- A script that may be run, and the board that was started for it.
-use Rattle.std.proofs.Common.{Vec, Global, ◌≡◌, ◌≢◌, ℕ, ◌≤◌, List, length, map, Option, Some, None, Result, Ok, Err, IfOk, IsOkAnd, All, slice_get, refl, sym, ◌∙◌, ap, subst, arith}
+use Rattle.plex_agent.proofs.Names.{Vec, Global, ◌≡◌, ◌≢◌, ℕ, ◌≤◌, List, length, map, Option, Some, None, Result, Ok, Err, IfOk, IsOkAnd, All, slice_get, refl, sym, ◌∙◌, ap, subst, arith, length-map, get_or-map, All-get_or, slice_get-map, slice_get_within, get_or_from_slice_get, Kind, StrForm, NoMemory, CfId, ConnId, Telling, TellsEnough, AnyAsk, Act, Line, Script, AnyHistory, Transcript, IsRunnable, IsRunnableLine, IsRunnableAct, AreTelling, AreRunLinks, serial_run, type_of_kind, type_of_ask, CellShown, DeskShown, BoardShown, IsStarted, AreClosed, AreLinksAsked, links_of, AtWork, MayAct, Finished, IsPlayable, IsBoardOf, IsPlayed, ShowsHistories}
 use Rattle.std.specs.Option.{option_map}
-use Rattle.std.proofs.lemmas.List.{length-map, get_or-map}
-use Rattle.std.proofs.lemmas.List.Elements.{All-get_or}
-use Rattle.std.proofs.lemmas.Option.{slice_get-map, slice_get_within, get_or_from_slice_get}
-use Rattle.plex_board.specs.CfTypes.declared.forms.Kind.{Kind}
 use Rattle.plex_board.specs.CfTypes.declared.forms.Kind.TheVariants as kind
-use Rattle.plex_board.specs.CfTypes.declared.forms.StrForm.{StrForm}
-use Rattle.plex_board.specs.CfTypes.declared.memory.NoMemory.{NoMemory}
-use Rattle.plex_board.specs.CfTypes.declared.numbers.CfId.{CfId}
-use Rattle.plex_board.specs.CfTypes.declared.numbers.ConnId.{ConnId}
-use Rattle.plex_board.specs.CfLink.Links.{Telling}
-use Rattle.plex_board.specs.CfLink.Tells.{TellsEnough}
-use Rattle.plex_board.specs.PlexScript.declared.scripts.AnyAsk.{AnyAsk}
 use Rattle.plex_board.specs.PlexScript.declared.scripts.AnyAsk.TheVariants as ask
-use Rattle.plex_board.specs.PlexScript.declared.scripts.Act.{Act}
 use Rattle.plex_board.specs.PlexScript.declared.scripts.Act.TheVariants as act
-use Rattle.plex_board.specs.PlexScript.declared.scripts.Line.{Line}
-use Rattle.plex_board.specs.PlexScript.declared.scripts.Script.{Script}
-use Rattle.plex_board.specs.PlexScript.declared.asks.AnyHistory.{AnyHistory}
 use Rattle.plex_board.specs.PlexScript.declared.transcripts.AgentEnd.TheVariants as ended
-use Rattle.plex_board.specs.PlexScript.declared.transcripts.Transcript.{Transcript}
 use Rattle.plex_board.specs.Kinds.{IsAskOf}
-use Rattle.plex_board.specs.Runnable.{IsRunnable, IsRunnableLine, IsRunnableAct}
-use Rattle.plex_board.specs.RunLinks.{AreTelling, AreRunLinks}
-use Rattle.plex_board.specs.Serial.{serial_run}
-use Rattle.plex_board.specs.Types.{type_of_kind, type_of_ask}
-use Rattle.plex_board.specs.Cells.{CellShown}
-use Rattle.plex_board.specs.Desks.{DeskShown}
-use Rattle.plex_board.specs.Boards.{BoardShown, IsStarted, AreClosed, AreLinksAsked, links_of}
-use Rattle.plex_board.specs.Turns.{AtWork, MayAct}
-use Rattle.plex_agent.specs.declared.in_turn.Finished.{Finished}
-use Rattle.plex_agent.specs.Standing.{IsPlayable}
-use Rattle.plex_agent.specs.Played.{IsBoardOf, IsPlayed}
-use Rattle.plex_board.specs.Headline.{ShowsHistories}
 use Rattle.plex_agent.proofs.ExactLaw.{exact}
 use Rattle.plex_agent.proofs.LinkRuns.{run_links, run_told, links_size}
 use Rattle.plex_agent.proofs.Schedules.{serial_shows}

@@ -1,36 +1,11 @@
 -- A script's work on one thread is one schedule: each caller's lines and departures are a chain of turns, before each of
 -- which it hears of others.
-use Rattle.std.proofs.Common.{◌≡◌, ◌≢◌, ℕ, zero, suc, ◌+◌, ◌≤◌, ◌<◌, ◌==◌, inl, Bool, true, false, MatchBool, List, [], ◌∷◌, length, map, fold, replicate, Option, None, Some, get_or, set, refl, sym, ap, subst, ◌∙◌, arith}
-use Rattle.std.specs.Prelude.{All}
-use Rattle.std.specs.List.{range_with_len}
-use Rattle.std.proofs.lemmas.Bool.Decides.{nat_tests}
-use Rattle.std.proofs.lemmas.List.{length-set, length-map, get_or-set_same, get_or-set_other}
-use Rattle.std.proofs.lemmas.List.Elements.{All-head, All-tail}
-use Rattle.std.proofs.lemmas.List.FromFn.{length-map-range_with_len, get_or-map-range_with_len}
-use Rattle.std.proofs.lemmas.Option.{slice_get_within, get_or_from_slice_get}
-use Rattle.plex_board.specs.CfTypes.declared.forms.StrForm.{StrForm}
-use Rattle.plex_board.specs.CfTypes.declared.numbers.ConnId.{ConnId}
-use Rattle.plex_board.specs.CfTypes.declared.numbers.StrNo.{StrNo}
-use Rattle.plex_board.specs.PlexScript.declared.scripts.Act.{Act}
+use Rattle.plex_agent.proofs.Names.{◌≡◌, ◌≢◌, ℕ, zero, suc, ◌+◌, ◌≤◌, ◌<◌, ◌==◌, inl, Bool, true, false, MatchBool, List, [], ◌∷◌, length, map, fold, replicate, Option, None, Some, get_or, set, refl, sym, ap, subst, ◌∙◌, arith, All, range_with_len, nat_tests, length-map, get_or-set_same, get_or-set_other, All-head, All-tail, length-map-range_with_len, get_or-map-range_with_len, slice_get_within, get_or_from_slice_get, StrForm, ConnId, StrNo, Act, Line, Script, AnyHistory, numbers_from, connectors, ShowsHistories, PassShown, NoteShown, IsLater, note_of, unused_pass, CellShown, with_note, with_any_note, no_pass, pass_at, with_pass, BoardShown, IsStarted, AreClosed, cell_on, new_desk, note_in, AtWork, Takes, Acts, Turns, is_done_as, with_item, lines_by, no_items, Floor, Plays, PlaysLines, PlaysLine, PlaysAct, ClosesOne, ClosesAll, new_floor, no_worker, worker_of, told_by, heard_from, heard_from_last, heard_all, is_counted, is_working, with_worker, last_after, worker_ready, worker_after_take, Hears, HearsThen, DoesLines, DepartsEach, Serves}
+use Rattle.std.proofs.lemmas.List.{length-set}
 use Rattle.plex_board.specs.PlexScript.declared.scripts.Act.TheVariants as act
-use Rattle.plex_board.specs.PlexScript.declared.scripts.Line.{Line}
-use Rattle.plex_board.specs.PlexScript.declared.scripts.Script.{Script}
-use Rattle.plex_board.specs.PlexScript.declared.asks.AnyHistory.{AnyHistory}
 use Rattle.plex_board.specs.PlexScript.declared.transcripts.AgentEnd.TheVariants as ended
 use Rattle.plex_board.specs.PlexScript.declared.transcripts.Shown.TheVariants as shown
-use Rattle.plex_board.specs.Kinds.{numbers_from}
-use Rattle.plex_board.specs.Serial.{connectors}
-use Rattle.plex_board.specs.Headline.{ShowsHistories}
-use Rattle.plex_board.specs.Passes.{PassShown, NoteShown, IsLater, note_of, unused_pass}
-use Rattle.plex_board.specs.Cells.{CellShown}
-use Rattle.plex_board.specs.Notes.{with_note, with_any_note}
-use Rattle.plex_board.specs.Desks.{no_pass, pass_at, with_pass}
-use Rattle.plex_board.specs.Boards.{BoardShown, IsStarted, AreClosed, cell_on, new_desk, note_in}
-use Rattle.plex_board.specs.Turns.{AtWork, Takes, Acts, Turns, is_done_as, with_item}
 use Rattle.plex_board.specs.Callers as alone
-use Rattle.plex_board.specs.Callers.{lines_by, no_items}
-use Rattle.plex_board.specs.Floors.{Floor, Plays, PlaysLines, PlaysLine, PlaysAct, ClosesOne, ClosesAll, new_floor, no_worker, worker_of, told_by, heard_from, heard_from_last, heard_all, is_counted, is_working, with_worker, last_after, worker_ready, worker_after_take}
-use Rattle.plex_agent.specs.Chains.{Hears, HearsThen, DoesLines, DepartsEach, Serves}
 use Rattle.plex_agent.proofs.Hearings.{hears_none, hears_then}
 use Rattle.plex_agent.proofs.Moves.{same_number, other_number}
 use Rattle.plex_agent.proofs.Keeping.{conn, str, any_set, IsInOrder, IsOrdered, IsNoteOrdered, Keeps, turns_keep, departs_each_keep}

@@ -1,19 +1,6 @@
 -- The callers of a board, each at its own desk: as they begin, as one of them changes, and the desks that they leave.
-use Rattle.std.proofs.Common.{◌≡◌, ℕ, zero, suc, ◌+◌, ◌<◌, ◌⊎◌, inl, inr, ◌≤◌, List, [], ◌∷◌, length, map, Some, slice_get, get_or, set, refl, sym, ◌∙◌, ap, subst, arith}
-use Rattle.std.specs.List.{range_with_len}
+use Rattle.plex_agent.proofs.Names.{◌≡◌, ℕ, zero, suc, ◌+◌, ◌<◌, ◌⊎◌, inl, inr, ◌≤◌, List, [], ◌∷◌, length, map, Some, slice_get, get_or, set, refl, sym, ◌∙◌, ap, subst, arith, range_with_len, All-map, All-same, length-map-range_with_len, get_or-map-range_with_len, slice_get_within, slice_get-get_or, get_or_from_slice_get, map-map, ConnId, DeskShown, BoardShown, IsDeskOf, new_desk, AtWork, no_worker, new_desk-of_board, AreCallersOf, AreDesksOf, idle_worker, crew_of}
 use Rattle.std.proofs.Math.ListN.{length-set}
-use Rattle.std.proofs.lemmas.List.Elements.{All-map, All-same}
-use Rattle.std.proofs.lemmas.List.FromFn.{length-map-range_with_len, get_or-map-range_with_len}
-use Rattle.std.proofs.lemmas.Option.{slice_get_within, slice_get-get_or, get_or_from_slice_get}
-use Rattle.std.proofs.lemmas.Simd.{map-map}
-use Rattle.plex_board.specs.CfTypes.declared.numbers.ConnId.{ConnId}
-use Rattle.plex_board.specs.Desks.{DeskShown}
-use Rattle.plex_board.specs.Boards.{BoardShown, IsDeskOf, new_desk}
-use Rattle.plex_board.specs.Turns.{AtWork}
-use Rattle.plex_board.specs.Floors.{no_worker}
-use Rattle.plex_board.proofs.DeskLaws.{new_desk-of_board}
-use Rattle.plex_agent.specs.Standing.{AreCallersOf, AreDesksOf}
-use Rattle.plex_agent.specs.Crews.{idle_worker, crew_of}
 
 abbrev pub desk_of : AtWork → DeskShown
 desk_of worker = worker.desk

@@ -1,33 +1,7 @@
 -- Callers at work at one board, whatever the schedule was: each works at its own desk, and what is known of the
 -- others is what the histories say.
-use Rattle.std.proofs.Common.{◌≡◌, ◌≢◌, ℕ, ◌+◌, ◌≤◌, ◌<◌, inl, inr, List, [], length, map, Some, None, Option, refl, sym, ap, subst, ◌∙◌, arith, append-nil, slice_get}
-use Rattle.std.specs.Prelude.{All}
-use Rattle.std.proofs.lemmas.Bool.{cases_lt}
-use Rattle.std.proofs.lemmas.List.{length-map, get_or_past}
-use Rattle.std.proofs.lemmas.List.Elements.{All-nil}
-use Rattle.std.proofs.lemmas.Option.{slice_get_within}
-use Rattle.plex_board.proofs.CfLists.TableLaws.{get_within}
-use Rattle.plex_board.specs.CfTypes.declared.forms.StrForm.{StrForm}
-use Rattle.plex_board.specs.CfTypes.declared.numbers.ConnId.{ConnId}
-use Rattle.plex_board.specs.CfTypes.declared.numbers.StrNo.{StrNo}
-use Rattle.plex_board.specs.PlexScript.declared.asks.AnyHistory.{AnyHistory}
-use Rattle.plex_board.specs.PlexScript.declared.scripts.Script.{Script}
-use Rattle.plex_board.specs.PlexScript.declared.transcripts.AgentEnd.{AgentEnd}
+use Rattle.plex_agent.proofs.Names.{◌≡◌, ◌≢◌, ℕ, ◌+◌, ◌≤◌, ◌<◌, inl, inr, List, [], length, map, Some, None, Option, refl, sym, ap, subst, ◌∙◌, arith, append-nil, slice_get, All, cases_lt, length-map, get_or_past, All-nil, slice_get_within, get_within, StrForm, ConnId, StrNo, AnyHistory, Script, AgentEnd, Shown, Transcript, AnyCall, any_calls, any_length, own_calls, calls_of, calls_on, length_of, length_on, AgreesWith, numbers_on, TestsTell, EndsRight, IsHistoryOf, ShowsHistories, CellShown, IsAnyTold, Rising, calls_rise, DeskShown, no_pass, pass_at, BoardShown, IsStarted, IsClosed, IsAccount, AreClosed, new_desk, AtWork, no_items, Serves, WorkEnds, ShowsWork}
 use Rattle.plex_board.specs.PlexScript.declared.transcripts.AgentEnd.TheVariants as ended
-use Rattle.plex_board.specs.PlexScript.declared.transcripts.Shown.{Shown}
-use Rattle.plex_board.specs.PlexScript.declared.transcripts.Transcript.{Transcript}
-use Rattle.plex_board.specs.PlexScript.Heard.{AnyCall, any_calls, any_length, own_calls, calls_of, calls_on, length_of, length_on}
-use Rattle.plex_board.specs.PlexScript.Follows.{AgreesWith, numbers_on}
-use Rattle.plex_board.specs.Headline.{TestsTell, EndsRight, IsHistoryOf, ShowsHistories}
-use Rattle.plex_board.specs.Cells.{CellShown, IsAnyTold}
-use Rattle.plex_board.specs.Kinds.{Rising}
-use Rattle.plex_board.proofs.HistoryLaws.{calls_rise}
-use Rattle.plex_board.specs.Desks.{DeskShown, no_pass, pass_at}
-use Rattle.plex_board.specs.Boards.{BoardShown, IsStarted, IsClosed, IsAccount, AreClosed, new_desk}
-use Rattle.plex_board.specs.Turns.{AtWork}
-use Rattle.plex_board.specs.Callers.{no_items}
-use Rattle.plex_agent.specs.Chains.{Serves}
-use Rattle.plex_agent.specs.Ends.{WorkEnds, ShowsWork}
 use Rattle.plex_agent.proofs.Passes.{Caller, IsWithin}
 use Rattle.plex_agent.proofs.Moves.{AreWithin, IsTranscript}
 use Rattle.plex_agent.proofs.Lines.{IsSetting}

@@ -1,11 +1,5 @@
 -- Items one after another: what holds of each, by those before it; and the greatest number that they show.
-use Rattle.std.proofs.Common.{◌≡◌, ℕ, zero, suc, ◌≤◌, ◌<◌, ◌⊎◌, inl, inr, List, [], ◌∷◌, ◌++◌, length, take, max, fold, Some, None, Option, refl, sym, ap, subst, ◌∙◌, arith, append-nil, slice_get}
-use Rattle.std.specs.List.{filter_map}
-use Rattle.std.proofs.lemmas.List.{take-append-le}
-use Rattle.std.proofs.lemmas.List.Elements.{filter_map-append}
-use Rattle.std.proofs.lemmas.List.Sums.{fold-append}
-use Rattle.std.proofs.Math.Seq.{take-append_seam}
-use Rattle.plex_board.proofs.EngineApi.Pushed.{pushed_cases}
+use Rattle.plex_agent.proofs.Names.{◌≡◌, ℕ, zero, suc, ◌≤◌, ◌<◌, ◌⊎◌, inl, inr, List, [], ◌∷◌, ◌++◌, length, take, max, fold, Some, None, Option, refl, sym, ap, subst, ◌∙◌, arith, append-nil, slice_get, filter_map, take-append-le, filter_map-append, fold-append, take-append_seam, pushed_cases}
 
 -- ---- what holds of each
 

@@ -1,16 +1,5 @@
 -- What has been done at one structure, by all callers, and what is known of it while a script runs.
-use Rattle.std.proofs.Common.{◌≡◌, ◌≢◌, ℕ, ◌+◌, ◌≤◌, ◌<◌, ◌==◌, Bool, true, false, cond, List, [], ◌∷◌, ◌++◌, Option, None, Some, refl, sym, ap, subst, ◌∙◌, arith, append-nil}
-use Rattle.std.specs.Prelude.{All}
-use Rattle.std.proofs.lemmas.Bool.Decides.{nat_tests}
-use Rattle.std.proofs.lemmas.List.Elements.{All-head, All-tail, All-push, All-weaker, filter-append}
-use Rattle.plex_board.specs.CfTypes.declared.numbers.ConnId.{ConnId}
-use Rattle.plex_board.specs.CfTypes.declared.numbers.StrNo.{StrNo}
-use Rattle.plex_board.specs.EngineApi.declared.told.Told.{Told}
-use Rattle.plex_board.specs.PlexScript.declared.scripts.AnyAsk.{AnyAsk}
-use Rattle.plex_board.specs.PlexScript.Heard.{AnyCall, own_calls}
-use Rattle.plex_board.specs.Kinds.{Rising}
-use Rattle.plex_board.specs.declared.any_reply.AnyReply.{AnyReply}
-use Rattle.plex_board.specs.Passes.{PassShown, NoteShown, with_call}
+use Rattle.plex_agent.proofs.Names.{◌≡◌, ◌≢◌, ℕ, ◌+◌, ◌≤◌, ◌<◌, ◌==◌, Bool, true, false, cond, List, [], ◌∷◌, ◌++◌, Option, None, Some, refl, sym, ap, subst, ◌∙◌, arith, append-nil, All, nat_tests, All-head, All-tail, All-push, All-weaker, filter-append, ConnId, StrNo, Told, AnyAsk, AnyCall, own_calls, Rising, AnyReply, PassShown, NoteShown, with_call}
 
 abbrev pub conn : ℕ → ConnId
 conn c = record { 0 = c }

@@ -1,19 +1,7 @@
 -- What has been done at all structures, and the steps of it: what each keeps, what it says of what was done before,
 -- and that the run by the machine alone goes with it.
-use Rattle.std.proofs.Common.{◌≡◌, ◌≢◌, ℕ, ◌+◌, ◌≤◌, ◌<◌, inl, inr, List, length, set, slice_get, Some, sym, ap, subst, ◌∙◌, length-set}
-use Rattle.plex_board.specs.CfTypes.declared.forms.StrForm.{StrForm}
-use Rattle.plex_board.specs.CfTypes.declared.numbers.CfId.{CfId}
-use Rattle.plex_board.specs.CfLink.Links.{Telling}
-use Rattle.std.proofs.lemmas.Bool.{cases_eq}
-use Rattle.plex_board.specs.PlexScript.declared.asks.AnyHistory.{AnyHistory}
+use Rattle.plex_agent.proofs.Names.{◌≡◌, ◌≢◌, ℕ, ◌+◌, ◌≤◌, ◌<◌, inl, inr, List, length, set, slice_get, Some, sym, ap, subst, ◌∙◌, length-set, StrForm, CfId, Telling, cases_eq, AnyHistory, Transcript, IsAnyLegal, AreAnyAsTold, IsAnyPoint, any_take, any_numbers, end_of, AreMadeBelow, seen_on, Run, get-set_same, get-set_other, PassShown}
 use Rattle.plex_board.specs.PlexScript.declared.transcripts.AgentEnd.TheVariants as ended
-use Rattle.plex_board.specs.PlexScript.declared.transcripts.Transcript.{Transcript}
-use Rattle.plex_board.specs.Kinds.{IsAnyLegal, AreAnyAsTold, IsAnyPoint, any_take, any_numbers, end_of}
-use Rattle.plex_board.specs.StructCell.Limits.{AreMadeBelow}
-use Rattle.plex_board.specs.Numbers.{seen_on}
-use Rattle.plex_board.specs.Serial.{Run}
-use Rattle.plex_board.proofs.CfLists.TableLaws.{get-set_same, get-set_other}
-use Rattle.plex_board.specs.Passes.{PassShown}
 use Rattle.plex_agent.proofs.Spots.{str, put, put_all, put_same, put_other, Spot, IsKnown}
 use Rattle.plex_agent.proofs.Fits.{put_back, FitsAt}
 use Rattle.plex_agent.proofs.Agreements.{AgreesAt, agrees_elsewhere, sure_in}

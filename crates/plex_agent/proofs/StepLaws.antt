@@ -1,19 +1,8 @@
 -- What the steps of a line ask may be asked.
-use Rattle.std.proofs.Common.{◌≡◌, Some, None, Option, refl, sym, subst}
-use Rattle.plex_board.specs.CfTypes.declared.forms.Kind.{Kind}
+use Rattle.plex_agent.proofs.Names.{◌≡◌, Some, None, Option, refl, sym, subst, Kind, ConnId, ShellCmd, MayCommand, Step, AnyAsk, asked_by, shell_ask, type_of_kind, MayAskAny, CellShown, IsAskOf, IsAskable}
 use Rattle.plex_board.specs.CfTypes.declared.forms.Kind.TheVariants as kind
-use Rattle.plex_board.specs.CfTypes.declared.numbers.ConnId.{ConnId}
-use Rattle.plex_board.specs.CfTypes.declared.shell_commands.ShellCmd.{ShellCmd}
 use Rattle.plex_board.specs.CfTypes.declared.shell_commands.ShellCmd.TheVariants as cmd
-use Rattle.plex_board.specs.EngineApi.Asking.{MayCommand}
-use Rattle.plex_board.specs.PlexScript.declared.agents.Step.{Step}
 use Rattle.plex_board.specs.PlexScript.declared.agents.Step.TheVariants as step
-use Rattle.plex_board.specs.PlexScript.declared.scripts.AnyAsk.{AnyAsk}
-use Rattle.plex_board.specs.PlexScript.Agent.{asked_by, shell_ask}
-use Rattle.plex_board.specs.Types.{type_of_kind}
-use Rattle.plex_board.specs.Kinds.{MayAskAny}
-use Rattle.plex_board.specs.Cells.{CellShown, IsAskOf}
-use Rattle.plex_agent.specs.Calls.{IsAskable}
 
 -- ---- what may be asked
 

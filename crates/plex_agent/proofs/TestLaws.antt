@@ -1,25 +1,6 @@
 -- What a caller's tests show of its structure's history, where they aren't behind what it had seen complete.
-use Rattle.std.proofs.Common.{◌≡◌, ℕ, ◌+◌, ◌*◌, ◌^◌, ◌<◌, ◌≤◌, ◌==◌, ◌&&◌, nat_lt, inl, inr, Bool, true, false, List, take, map, refl, sym, ◌∙◌, arith}
-use Rattle.std.specs.Prelude.{All}
-use Rattle.std.specs.Int.{bit_at}
-use Rattle.std.proofs.lemmas.Bool.{ltb-true, ltb-false}
-use Rattle.plex_board.specs.CfTypes.declared.forms.StrForm.{StrForm}
-use Rattle.plex_board.specs.CfTypes.declared.numbers.ConnId.{ConnId}
-use Rattle.plex_board.specs.EngineApi.declared.histories.Entry.{Entry}
-use Rattle.plex_board.specs.EngineApi.Meaning.{Meaning}
-use Rattle.plex_board.specs.EngineApi.History.{stands_after}
-use Rattle.plex_board.specs.CacheModel.Meaning.{cache_meaning}
-use Rattle.plex_board.specs.ListModel.Meaning.{list_meaning}
-use Rattle.plex_board.specs.LockModel.Meaning.{lock_meaning}
-use Rattle.plex_board.specs.PlexScript.declared.asks.AnyHistory.{AnyHistory}
+use Rattle.plex_agent.proofs.Names.{◌≡◌, ℕ, ◌+◌, ◌*◌, ◌^◌, ◌<◌, ◌≤◌, ◌==◌, ◌&&◌, nat_lt, inl, inr, Bool, true, false, List, take, map, refl, sym, ◌∙◌, arith, All, bit_at, ltb-true, ltb-false, StrForm, ConnId, Entry, Meaning, stands_after, cache_meaning, list_meaning, lock_meaning, AnyHistory, Sight, bit_in, sight, indices_of, IsTold, IsAnyTold, told_past, each_sight, bit_in_word, IsAnyPoint, any_take, any_stands, any_word, all_bits}
 use Rattle.plex_board.specs.PlexScript.declared.asks.AnyHistory.TheVariants as history
-use Rattle.plex_board.specs.VecWords.declared.logged.Sight.{Sight}
-use Rattle.plex_board.specs.VecWords.Logged.{bit_in, sight, indices_of}
-use Rattle.plex_board.specs.StructCell.Telling.{IsTold}
-use Rattle.plex_board.specs.Cells.{IsAnyTold}
-use Rattle.plex_board.proofs.SightLaws.{told_past, each_sight, bit_in_word}
-use Rattle.plex_board.specs.Kinds.{IsAnyPoint, any_take, any_stands, any_word}
-use Rattle.plex_board.proofs.WordLaws.{all_bits}
 
 -- ---- one bit
 

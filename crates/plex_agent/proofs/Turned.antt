@@ -1,17 +1,6 @@
 -- A step at one structure, as the workers of a floor see it; hearings; and work that ends for want of memory.
-use Rattle.std.proofs.Common.{◌≡◌, ◌≢◌, ℕ, ◌≤◌, ◌<◌, ◌==◌, Bool, true, false, List, length, set, Option, None, Some, refl, sym, ap, ◌∙◌, arith, length-set}
-use Rattle.std.specs.Prelude.{slice_index_or, if◌then◌else◌}
-use Rattle.std.proofs.lemmas.List.{get_or-set_same, get_or-set_other, set-get_or}
-use Rattle.plex_board.specs.CfTypes.declared.numbers.ConnId.{ConnId}
+use Rattle.plex_agent.proofs.Names.{◌≡◌, ◌≢◌, ℕ, ◌≤◌, ◌<◌, ◌==◌, Bool, true, false, List, length, set, Option, None, Some, refl, sym, ap, ◌∙◌, arith, length-set, slice_index_or, if◌then◌else◌, get_or-set_same, get_or-set_other, set-get_or, ConnId, Transcript, Run, PassShown, NoteShown, note_of, with_note, DeskShown, pass_at, with_pass, no_pass, note_in, AtWork, Floor, worker_of, heard_from, heard_from_last}
 use Rattle.plex_board.specs.PlexScript.declared.transcripts.AgentEnd.TheVariants as ended
-use Rattle.plex_board.specs.PlexScript.declared.transcripts.Transcript.{Transcript}
-use Rattle.plex_board.specs.Serial.{Run}
-use Rattle.plex_board.specs.Passes.{PassShown, NoteShown, note_of}
-use Rattle.plex_board.specs.Notes.{with_note}
-use Rattle.plex_board.specs.Desks.{DeskShown, pass_at, with_pass, no_pass}
-use Rattle.plex_board.specs.Boards.{note_in}
-use Rattle.plex_board.specs.Turns.{AtWork}
-use Rattle.plex_board.specs.Floors.{Floor, worker_of, heard_from, heard_from_last}
 use Rattle.plex_agent.proofs.Spots.{conn, str, put, put_same, put_other, Spot, LastKnows, noticed, known_noticed}
 use Rattle.plex_agent.proofs.Fits.{fits_put, heard_as, heard_pass}
 use Rattle.plex_agent.proofs.Stages.{Stage, State, Known, Shows, Goes, acted, known_acted, fits_acted}

@@ -1,24 +1,8 @@
 -- A caller's turn at a structure: what it does to desk and transcript, and what its items show by the histories.
-use Rattle.std.proofs.Common.{◌≡◌, ℕ, ◌≤◌, ◌<◌, List, [], ◌∷◌, ◌++◌, length, map, Some, Option, refl, sym, ap, subst, ◌∙◌, arith, append-nil, append_assoc}
+use Rattle.plex_agent.proofs.Names.{◌≡◌, ℕ, ◌≤◌, ◌<◌, List, [], ◌∷◌, ◌++◌, length, map, Some, Option, refl, sym, ap, subst, ◌∙◌, arith, append-nil, append_assoc, Kind, ConnId, StrNo, Told, Step, AnyAsk, AgentEnd, Shown, step_after, asked_by, AnyCall, call_numbered, calls_on, length_on, IsHeard, Runs, RunsUpTo, AnyReply, PassShown, with_call, Rising, DeskShown, pass_at, with_pass, AtWork, call_item, Steps, Halts, EndsAt, Asks}
 use Rattle.std.proofs.lemmas.List.{length-set}
-use Rattle.plex_board.specs.CfTypes.declared.forms.Kind.{Kind}
-use Rattle.plex_board.specs.CfTypes.declared.numbers.ConnId.{ConnId}
-use Rattle.plex_board.specs.CfTypes.declared.numbers.StrNo.{StrNo}
-use Rattle.plex_board.specs.EngineApi.declared.told.Told.{Told}
-use Rattle.plex_board.specs.PlexScript.declared.agents.Step.{Step}
 use Rattle.plex_board.specs.PlexScript.declared.agents.Step.TheVariants as step
-use Rattle.plex_board.specs.PlexScript.declared.scripts.AnyAsk.{AnyAsk}
-use Rattle.plex_board.specs.PlexScript.declared.transcripts.AgentEnd.{AgentEnd}
 use Rattle.plex_board.specs.PlexScript.declared.transcripts.AgentEnd.TheVariants as ended
-use Rattle.plex_board.specs.PlexScript.declared.transcripts.Shown.{Shown}
-use Rattle.plex_board.specs.PlexScript.Agent.{step_after, asked_by}
-use Rattle.plex_board.specs.PlexScript.Heard.{AnyCall, call_numbered, calls_on, length_on}
-use Rattle.plex_board.specs.PlexScript.Follows.{IsHeard, Runs, RunsUpTo}
-use Rattle.plex_board.specs.declared.any_reply.AnyReply.{AnyReply}
-use Rattle.plex_board.specs.Passes.{PassShown, with_call}
-use Rattle.plex_board.specs.Kinds.{Rising}
-use Rattle.plex_board.specs.Desks.{DeskShown, pass_at, with_pass}
-use Rattle.plex_board.specs.Turns.{AtWork, call_item, Steps, Halts, EndsAt, Asks}
 use Rattle.plex_agent.proofs.Fronts.{own_heard}
 use Rattle.plex_agent.proofs.Passes.{Caller, IsWithin, Advances, advances_none, advances_then, advances_one, advances_later}
 use Rattle.plex_agent.proofs.Adds.{call_adds}

@@ -1,24 +1,6 @@
 -- The whole work of a caller: its lines, and then its closing.
-use Rattle.std.proofs.Common.{◌≡◌, ◌≢◌, ℕ, zero, suc, ◌+◌, ◌<◌, ◌==◌, inl, inr, Bool, true, false, List, [], ◌∷◌, ◌++◌, length, map, take, get_or, refl, sym, ap, subst, ◌∙◌, arith, append-nil, slice_get, MatchBool}
-use Rattle.std.proofs.lemmas.List.{length-map}
-use Rattle.std.proofs.lemmas.Bool.Decides.{nat_tests}
-use Rattle.plex_board.specs.CfTypes.declared.forms.StrForm.{StrForm}
-use Rattle.plex_board.specs.CfTypes.declared.numbers.ConnId.{ConnId}
-use Rattle.plex_board.specs.PlexScript.declared.asks.AnyHistory.{AnyHistory}
-use Rattle.plex_board.specs.PlexScript.declared.scripts.Script.{Script}
-use Rattle.plex_board.specs.PlexScript.declared.transcripts.AgentEnd.{AgentEnd}
+use Rattle.plex_agent.proofs.Names.{◌≡◌, ◌≢◌, ℕ, zero, suc, ◌+◌, ◌<◌, ◌==◌, inl, inr, Bool, true, false, List, [], ◌∷◌, ◌++◌, length, map, take, get_or, refl, sym, ap, subst, ◌∙◌, arith, append-nil, slice_get, MatchBool, length-map, nat_tests, StrForm, ConnId, AnyHistory, Script, AgentEnd, Shown, Transcript, AnyCall, own_calls, is_linked, calls_on, AgreesWith, ShowsLines, ShowsClosings, lines_of, numbers_on, PassShown, unused_pass, CellShown, no_pass, pass_at, BoardShown, AtWork, is_done_as, Serves, DepartsEach, Hears, WorkEnds, beginner}
 use Rattle.plex_board.specs.PlexScript.declared.transcripts.AgentEnd.TheVariants as ended
-use Rattle.plex_board.specs.PlexScript.declared.transcripts.Shown.{Shown}
-use Rattle.plex_board.specs.PlexScript.declared.transcripts.Transcript.{Transcript}
-use Rattle.plex_board.specs.PlexScript.Heard.{AnyCall, own_calls, is_linked, calls_on}
-use Rattle.plex_board.specs.PlexScript.Follows.{AgreesWith, ShowsLines, ShowsClosings, lines_of, numbers_on}
-use Rattle.plex_board.specs.Passes.{PassShown, unused_pass}
-use Rattle.plex_board.specs.Cells.{CellShown}
-use Rattle.plex_board.specs.Desks.{no_pass, pass_at}
-use Rattle.plex_board.specs.Boards.{BoardShown}
-use Rattle.plex_board.specs.Turns.{AtWork, is_done_as}
-use Rattle.plex_agent.specs.Chains.{Serves, DepartsEach, Hears}
-use Rattle.plex_agent.specs.Ends.{WorkEnds, beginner}
 use Rattle.plex_agent.proofs.Fronts.{take_front}
 use Rattle.plex_agent.proofs.ShownItems.{each_none}
 use Rattle.plex_agent.proofs.Passes.{Caller, IsGood, IsShown}

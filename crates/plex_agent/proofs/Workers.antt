@@ -1,22 +1,7 @@
 -- The callers at work at a board, and what has been done at its structures.
-use Rattle.std.proofs.Common.{◌≡◌, ◌≢◌, ℕ, ◌+◌, ◌≤◌, ◌<◌, ◌==◌, Bool, true, false, List, ◌++◌, length, map, set, get_or, Option, None, Some, refl, sym, ap, subst, ◌∙◌, arith, length-set}
-use Rattle.std.specs.Prelude.{slice_index_or}
-use Rattle.std.proofs.lemmas.List.{get_or-set_same, get_or-set_other, set-set}
-use Rattle.plex_board.specs.CfTypes.declared.forms.Kind.{Kind}
-use Rattle.plex_board.specs.PlexScript.declared.agents.Step.{Step}
+use Rattle.plex_agent.proofs.Names.{◌≡◌, ◌≢◌, ℕ, ◌+◌, ◌≤◌, ◌<◌, ◌==◌, Bool, true, false, List, ◌++◌, length, map, set, get_or, Option, None, Some, refl, sym, ap, subst, ◌∙◌, arith, length-set, slice_index_or, get_or-set_same, get_or-set_other, set-set, Kind, Step, AnyAsk, AgentEnd, Shown, Transcript, most_asks, all_steps_made, PassShown, IsLater, DeskShown, pass_at, with_pass, no_pass, note_in, AtWork, Asks, EndsAt, Halts, Steps, call_item, Floor, worker_of, no_worker}
 use Rattle.plex_board.specs.PlexScript.declared.agents.Step.TheVariants as step
-use Rattle.plex_board.specs.PlexScript.declared.scripts.AnyAsk.{AnyAsk}
-use Rattle.plex_board.specs.PlexScript.declared.transcripts.AgentEnd.{AgentEnd}
 use Rattle.plex_board.specs.PlexScript.declared.transcripts.AgentEnd.TheVariants as ended
-use Rattle.plex_board.specs.PlexScript.declared.transcripts.Shown.{Shown}
-use Rattle.plex_board.specs.PlexScript.declared.transcripts.Transcript.{Transcript}
-use Rattle.plex_board.specs.PlexScript.Agent.{most_asks}
-use Rattle.plex_board.specs.Serial.{all_steps_made}
-use Rattle.plex_board.specs.Passes.{PassShown, IsLater}
-use Rattle.plex_board.specs.Desks.{DeskShown, pass_at, with_pass, no_pass}
-use Rattle.plex_board.specs.Boards.{note_in}
-use Rattle.plex_board.specs.Turns.{AtWork, Asks, EndsAt, Halts, Steps, call_item}
-use Rattle.plex_board.specs.Floors.{Floor, worker_of, no_worker}
 use Rattle.plex_agent.proofs.Spots.{conn, str, same_number, other_number, Spot}
 use Rattle.plex_agent.proofs.Stages.{Stage, IsStage, State, Shows, Goes}
 use Rattle.plex_agent.proofs.ExactMoves.{SaysLess}

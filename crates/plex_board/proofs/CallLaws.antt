@@ -1,20 +1,6 @@
 -- A call that was answered, as it is shown.
-use Rattle.std.proofs.Common.{◌≡◌, ℕ, List, [], ◌∷◌, ◌++◌, sym, ap, ◌∙◌}
-use Rattle.std.specs.Prelude.{IfOk, Ok, Err, Result}
-use Rattle.std.proofs.lemmas.List.{map-append}
-use Rattle.plex_script.specs.CfTypes.declared.numbers.ConnId.{ConnId}
-use Rattle.plex_script.specs.EngineApi.declared.asks.Ask.{Ask}
-use Rattle.plex_script.specs.EngineApi.declared.asks.Reply.{Reply}
-use Rattle.plex_script.specs.EngineApi.declared.told.Told.{Told}
-use Rattle.plex_script.specs.declared.scripts.AnyAsk.{AnyAsk}
-use Rattle.plex_script.specs.Heard.{AnyCall, any_call}
-use Rattle.struct_cell.specs.VecWords.Tokens.{PassSeen}
-use Rattle.struct_cell.specs.declared.refused.CallRefused.{CallRefused}
+use Rattle.plex_board.proofs.Names.{◌≡◌, ℕ, List, [], ◌∷◌, ◌++◌, sym, ap, ◌∙◌, IfOk, Ok, Err, Result, map-append, ConnId, Ask, Reply, Told, AnyAsk, AnyCall, any_call, PassSeen, CallRefused, About, StrType, AnyReply, PassShown, Replied, IsAnswered, call_by, heard_by, reply_by, replies_by, shown_as, with_call}
 use Rattle.struct_cell.specs.Calls as calls
-use Rattle.struct_cell.specs.Cells.{About}
-use Rattle.plex_board.specs.Types.{StrType}
-use Rattle.plex_board.specs.declared.any_reply.AnyReply.{AnyReply}
-use Rattle.plex_board.specs.Passes.{PassShown, Replied, IsAnswered, call_by, heard_by, reply_by, replies_by, shown_as, with_call}
 
 module _ {C R : Type 0} (str_type : StrType) (of : Ask C → AnyAsk) (told : Reply R → AnyReply) where
   module _ (asked : Ask C) (it : Told) (seen later : PassSeen (About C R))

@@ -1,14 +1,5 @@
 -- What is known when a board is closed.
-use Rattle.std.proofs.Common.{◌≡◌, ℕ, ◌+◌, List, length, map, sym, ap, subst, ◌∙◌, arith}
-use Rattle.std.specs.Prelude.{All, Option}
-use Rattle.std.specs.List.{range_with_len}
-use Rattle.std.proofs.lemmas.List.{length-map}
-use Rattle.std.proofs.lemmas.List.FromFn.{length-range_with_len}
-use Rattle.plex_script.specs.declared.asks.AnyHistory.{AnyHistory}
-use Rattle.plex_board.specs.Desks.{DeskShown, no_pass}
-use Rattle.plex_board.specs.Boards.{BoardShown, IsDeskOf, AreClosed, AreEachAsked, AreLinksAsked}
-use Rattle.plex_board.specs.declared.rest.Rest.{Rest}
-use Rattle.plex_board.specs.Rests.{HomeShown, homes_shown, AllFit, homes_gathered, AreHomes, AreEmpty, AreEnded, IsReady}
+use Rattle.plex_board.proofs.Names.{◌≡◌, ℕ, ◌+◌, List, length, map, sym, ap, subst, ◌∙◌, arith, All, Option, range_with_len, length-map, length-range_with_len, AnyHistory, DeskShown, no_pass, BoardShown, IsDeskOf, AreClosed, AreEachAsked, AreLinksAsked, Rest, HomeShown, homes_shown, AllFit, homes_gathered, AreHomes, AreEmpty, AreEnded, IsReady}
 use Rattle.plex_board.proofs.HomeLaws.{desks-fit, homes-gathered, accounts-at, count-of-homes, count-of-histories}
 use Rattle.plex_board.proofs.OpenLaws.{homes-fewer}
 

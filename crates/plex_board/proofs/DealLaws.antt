@@ -1,14 +1,5 @@
 -- What is known where the last pass is dealt to its desk.
-use Rattle.std.proofs.Common.{◌≡◌, ℕ, ◌+◌, ◌-◌, ◌<◌, ◌≤◌, List, [], ◌∷◌, ◌++◌, length, get_or, set, get_or-set_other, map, sym, ap, subst, ◌∙◌, arith}
-use Rattle.std.specs.Prelude.{All, Some}
-use Rattle.std.specs.List.{range_with_len}
-use Rattle.std.proofs.lemmas.List.{length-append}
-use Rattle.std.proofs.lemmas.List.FromFn.{map-range_with_len_more}
-use Rattle.std.proofs.lemmas.List.Elements.{All-pop}
-use Rattle.plex_board.specs.Passes.{PassShown}
-use Rattle.plex_board.specs.Desks.{DeskShown}
-use Rattle.plex_board.specs.Rests.{each_with}
-use Rattle.plex_board.specs.Openings.{bare_desk, desk_with}
+use Rattle.plex_board.proofs.Names.{◌≡◌, ℕ, ◌+◌, ◌-◌, ◌<◌, ◌≤◌, List, [], ◌∷◌, ◌++◌, length, get_or, set, get_or-set_other, map, sym, ap, subst, ◌∙◌, arith, All, Some, range_with_len, length-append, map-range_with_len_more, All-pop, PassShown, DeskShown, each_with, bare_desk, desk_with}
 use Rattle.plex_board.proofs.RowLaws.{each_with-last}
 
 module _ (all front : List PassShown) (pass : PassShown) (owner : ℕ) (all_is : all ≡ front ++ pass ∷ [])

@@ -1,14 +1,5 @@
 -- A desk's passes: what replaces one does to the desk, and what a desk of a board has.
-use Rattle.std.proofs.Common.{◌≡◌, ℕ, ◌<◌, List, length, get_or, sym, ap, ◌∙◌, arith, get_or-set_same}
-use Rattle.std.specs.Prelude.{Some}
-use Rattle.std.proofs.lemmas.List.{length-map, set-get_or, get_or-map}
-use Rattle.std.proofs.lemmas.Option.{slice_get_within, get_or_from_slice_get}
-use Rattle.std.proofs.lemmas.Simd.{map-map}
-use Rattle.plex_script.specs.CfTypes.declared.numbers.StrNo.{StrNo}
-use Rattle.plex_board.specs.Passes.{PassShown, unused_pass}
-use Rattle.plex_board.specs.Cells.{CellShown, IsPassOf}
-use Rattle.plex_board.specs.Desks.{DeskShown, Fixed, fixed_of, no_pass, pass_at, with_pass}
-use Rattle.plex_board.specs.Boards.{BoardShown, cell_on, fixed_at, IsDeskOf, new_desk}
+use Rattle.plex_board.proofs.Names.{◌≡◌, ℕ, ◌<◌, List, length, get_or, sym, ap, ◌∙◌, arith, get_or-set_same, Some, length-map, set-get_or, get_or-map, slice_get_within, get_or_from_slice_get, map-map, StrNo, PassShown, unused_pass, CellShown, IsPassOf, DeskShown, Fixed, fixed_of, no_pass, pass_at, with_pass, BoardShown, cell_on, fixed_at, IsDeskOf, new_desk}
 
 -- ---- the desk with another pass
 

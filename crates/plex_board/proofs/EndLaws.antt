@@ -1,17 +1,5 @@
 -- What is known as stations end one after the other.
-use Rattle.std.proofs.Common.{◌≡◌, ℕ, ◌+◌, ◌≤◌, List, [], ◌∷◌, ◌++◌, length, refl, sym, ap, subst, ◌∙◌, arith, append_assoc}
-use Rattle.std.specs.Prelude.{All, Option, Some, option_to_list}
-use Rattle.std.proofs.lemmas.List.{append-nil}
-use Rattle.struct_cell.specs.CfLink.declared.links.Links.{Links}
-use Rattle.plex_script.specs.declared.asks.AnyHistory.{AnyHistory}
-use Rattle.plex_script.specs.Heard.{any_calls, any_length, own_calls}
-use Rattle.plex_board.specs.declared.any_pass.AnyPasses.{AnyPasses}
-use Rattle.plex_board.specs.Passes.{PassShown, passes_shown}
-use Rattle.plex_board.specs.Cells.{CellShown, IsAnyTold, own_replies}
-use Rattle.struct_cell.specs.CfLink.Links.{AreAsked}
-use Rattle.plex_board.specs.Kinds.{IsAnyPoint, any_answers}
-use Rattle.plex_board.specs.Boards.{IsClosed, IsAccount, AreEachAsked, four_of}
-use Rattle.plex_board.specs.Rests.{HomeShown, home_shown, homes_shown, AreHomes, AreEnded}
+use Rattle.plex_board.proofs.Names.{◌≡◌, ℕ, ◌+◌, ◌≤◌, List, [], ◌∷◌, ◌++◌, length, refl, sym, ap, subst, ◌∙◌, arith, append_assoc, All, Option, Some, option_to_list, append-nil, Links, AnyHistory, any_calls, any_length, own_calls, AnyPasses, PassShown, passes_shown, CellShown, IsAnyTold, own_replies, AreAsked, IsAnyPoint, any_answers, IsClosed, IsAccount, AreEachAsked, four_of, HomeShown, home_shown, homes_shown, AreHomes, AreEnded}
 use Rattle.plex_board.proofs.OpenLaws.{ended-step}
 
 -- what was taken out stood first

@@ -1,26 +1,9 @@
 -- What a history of whatever kind says of its calls: how many there are, and that their numbers rise.
-use Rattle.std.proofs.Common.{◌≡◌, ℕ, suc, ◌*◌, ◌<◌, ◌≤◌, ◌==◌, Bool, true, false, List, [], ◌∷◌, length, map, refl, sym, ap, subst, ◌∙◌, arith, suc-le-suc, zero-lt-suc}
-use Rattle.std.specs.Prelude.{All}
-use Rattle.std.proofs.lemmas.Bool.{eq-eqb, ne_eqb, false≢true}
+use Rattle.plex_board.proofs.Names.{◌≡◌, ℕ, suc, ◌*◌, ◌<◌, ◌≤◌, ◌==◌, Bool, true, false, List, [], ◌∷◌, length, map, refl, sym, ap, subst, ◌∙◌, arith, suc-le-suc, zero-lt-suc, All, eq-eqb, ne_eqb, false≢true, StrForm, Kind, ConnId, Ask, Entry, Meaning, Call, calls, IsLegal, RisesTo, numbers_rise, three_each, cache_meaning, list_meaning, lock_meaning, AnyAsk, AnyHistory, AnyCall, any_call, any_calls, any_length, own_calls, IsOfKind, IsAnyLegal, Rising, any_take, no_calls}
 use Rattle.std.proofs.lemmas.List as lists
-use Rattle.plex_script.specs.CfTypes.declared.forms.StrForm.{StrForm}
-use Rattle.plex_script.specs.CfTypes.declared.forms.Kind.{Kind}
 use Rattle.plex_script.specs.CfTypes.declared.forms.Kind.TheVariants as kind
-use Rattle.plex_script.specs.CfTypes.declared.numbers.ConnId.{ConnId}
-use Rattle.plex_script.specs.EngineApi.declared.asks.Ask.{Ask}
-use Rattle.plex_script.specs.EngineApi.declared.histories.Entry.{Entry}
-use Rattle.plex_script.specs.EngineApi.Meaning.{Meaning}
-use Rattle.plex_script.specs.EngineApi.History.{Call, calls, IsLegal}
-use Rattle.plex_script.proofs.EngineApi.NumberLaws.{RisesTo, numbers_rise, three_each}
-use Rattle.cache_core.specs.CacheModel.Meaning.{cache_meaning}
-use Rattle.list_core.specs.ListModel.Meaning.{list_meaning}
-use Rattle.lock_core.specs.LockModel.Meaning.{lock_meaning}
-use Rattle.plex_script.specs.declared.scripts.AnyAsk.{AnyAsk}
 use Rattle.plex_script.specs.declared.scripts.AnyAsk.TheVariants as ask
-use Rattle.plex_script.specs.declared.asks.AnyHistory.{AnyHistory}
 use Rattle.plex_script.specs.declared.asks.AnyHistory.TheVariants as history
-use Rattle.plex_script.specs.Heard.{AnyCall, any_call, any_calls, any_length, own_calls}
-use Rattle.plex_board.specs.Kinds.{IsOfKind, IsAnyLegal, Rising, any_take, no_calls}
 
 module _ {C R I S : Type 0} (meaning : Meaning C R I S) (of : Ask C → AnyAsk) (form : StrForm) where
   -- the calls, as their callers hear of them

@@ -1,17 +1,5 @@
 -- The homes of a board's structures, as passes come home.
-use Rattle.std.proofs.Common.{◌≡◌, ℕ, suc, zero, ◌<◌, List, [], ◌∷◌, ◌++◌, length, get_or, map, refl, sym, ap, subst, ◌∙◌, arith, append_assoc}
-use Rattle.std.specs.Prelude.{All, slice_get, Some}
-use Rattle.std.proofs.lemmas.List.{length-append, append-nil}
-use Rattle.std.proofs.lemmas.List.Elements.{All-push, All-nil, All-cons, All-head, All-tail}
-use Rattle.std.proofs.lemmas.Option.{slice_get_within}
-use Rattle.plex_script.specs.CfTypes.declared.numbers.ConnId.{ConnId}
-use Rattle.plex_script.specs.declared.asks.AnyHistory.{AnyHistory}
-use Rattle.plex_board.specs.Types.{OfCache}
-use Rattle.plex_board.specs.Passes.{PassShown}
-use Rattle.plex_board.specs.Cells.{CellShown, IsPassOf}
-use Rattle.plex_board.specs.Desks.{DeskShown, fixed_of}
-use Rattle.plex_board.specs.Boards.{IsClosed, IsAccount, fixed_at}
-use Rattle.plex_board.specs.Rests.{each_with, HomeShown, home_with, Fits, homes_gathered, AllFit, IsHomeOf, AreHomes, AreEnded, ArePasses}
+use Rattle.plex_board.proofs.Names.{◌≡◌, ℕ, suc, zero, ◌<◌, List, [], ◌∷◌, ◌++◌, length, get_or, map, refl, sym, ap, subst, ◌∙◌, arith, append_assoc, All, slice_get, Some, length-append, append-nil, All-push, All-nil, All-cons, All-head, All-tail, slice_get_within, ConnId, AnyHistory, OfCache, PassShown, CellShown, IsPassOf, DeskShown, fixed_of, IsClosed, IsAccount, fixed_at, each_with, HomeShown, home_with, Fits, homes_gathered, AllFit, IsHomeOf, AreHomes, AreEnded, ArePasses}
 use Rattle.plex_board.proofs.RowLaws.{each_with-length}
 
 -- a home has what it had, and then each desk's pass

@@ -1,20 +1,5 @@
 -- What is known as structures are made one after the other.
-use Rattle.std.proofs.Common.{◌≡◌, ℕ, ◌≤◌, List, [], ◌∷◌, ◌++◌, length, map, refl, sym, ap, subst, ◌∙◌, arith, append_assoc}
-use Rattle.std.specs.Prelude.{All}
-use Rattle.std.proofs.lemmas.List.{map-append}
-use Rattle.std.proofs.lemmas.List.Elements.{All-push, All-nil, All-map}
-use Rattle.plex_script.specs.CfTypes.declared.forms.StrForm.{StrForm}
-use Rattle.struct_cell.specs.CfLink.declared.links.Links.{Links}
-use Rattle.plex_script.specs.declared.asks.AnyHistory.{AnyHistory}
-use Rattle.plex_board.specs.declared.any_pass.AnyPasses.{AnyPasses}
-use Rattle.plex_board.specs.Types.{StrType, type_of_kind}
-use Rattle.plex_board.specs.Passes.{PassShown, unused_pass, passes_shown, type_of_passes, room_of}
-use Rattle.plex_board.specs.Cells.{CellShown, IsPassOf}
-use Rattle.struct_cell.specs.VecWords.Tokens.{WordTable}
-use Rattle.plex_board.specs.Desks.{DeskShown}
-use Rattle.plex_board.specs.Boards.{IsClosed, IsAccount, IsStarted}
-use Rattle.plex_board.specs.Rests.{each_with, HomeShown, home_shown, homes_shown, IsHomeOf, AreHomes, AreEmpty, AreEnded}
-use Rattle.plex_board.specs.Openings.{desk_with, desk_at}
+use Rattle.plex_board.proofs.Names.{◌≡◌, ℕ, ◌≤◌, List, [], ◌∷◌, ◌++◌, length, map, refl, sym, ap, subst, ◌∙◌, arith, append_assoc, All, map-append, All-push, All-nil, All-map, StrForm, Links, AnyHistory, AnyPasses, StrType, type_of_kind, PassShown, unused_pass, passes_shown, type_of_passes, room_of, CellShown, IsPassOf, WordTable, DeskShown, IsClosed, IsAccount, IsStarted, each_with, HomeShown, home_shown, homes_shown, IsHomeOf, AreHomes, AreEmpty, AreEnded, desk_with, desk_at}
 
 -- a caller that has seen nothing hasn't called
 pub unused-calls : (str_type : StrType) (words : WordTable) (passes : List PassShown) (owners : List ℕ)

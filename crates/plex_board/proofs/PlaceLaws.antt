@@ -1,19 +1,6 @@
 -- What is known where a call of a board is a call of one of its stations, with one of a desk's places.
-use Rattle.std.proofs.Common.{◌≡◌, ◌≢◌, ℕ, ◌<◌, ◌≤◌, List, length, get_or, set, refl, sym, ap, subst, ◌∙◌, arith, get_or-set_same}
-use Rattle.std.specs.Prelude.{Some, None, Ok, Err, Option, Result, slice_get, IfOk, IfErr, IfSome}
-use Rattle.std.proofs.Math.Seq.{map-set_same}
-use Rattle.std.proofs.lemmas.List.{set-get_or}
-use Rattle.std.proofs.lemmas.Option.{slice_get_read, get_or_from_slice_get}
-use Rattle.plex_script.specs.CfTypes.declared.numbers.StrNo.{StrNo}
-use Rattle.plex_script.specs.EngineApi.declared.told.Told.{Told}
-use Rattle.plex_script.specs.declared.scripts.AnyAsk.{AnyAsk}
-use Rattle.struct_cell.specs.declared.refused.CallRefused.{CallRefused}
+use Rattle.plex_board.proofs.Names.{◌≡◌, ◌≢◌, ℕ, ◌<◌, ◌≤◌, List, length, get_or, set, refl, sym, ap, subst, ◌∙◌, arith, get_or-set_same, Some, None, Ok, Err, Option, Result, slice_get, IfOk, IfErr, IfSome, map-set_same, set-get_or, slice_get_read, get_or_from_slice_get, StrNo, Told, AnyAsk, CallRefused, PassShown, NoteShown, IsAnswered, IsLater, with_call, with_any_note, CellShown, IsPassOf, DeskShown, IsAnsweredOn, fixed_of, no_pass, pass_at, with_pass, BoardShown, cell_on, IsDeskOf}
 use Rattle.struct_cell.specs.declared.refused.CallRefused.TheVariants as refused
-use Rattle.plex_board.specs.Passes.{PassShown, NoteShown, IsAnswered, IsLater, with_call}
-use Rattle.plex_board.specs.Notes.{with_any_note}
-use Rattle.plex_board.specs.Cells.{CellShown, IsPassOf}
-use Rattle.plex_board.specs.Desks.{DeskShown, IsAnsweredOn, fixed_of, no_pass, pass_at, with_pass}
-use Rattle.plex_board.specs.Boards.{BoardShown, cell_on, IsDeskOf}
 use Rattle.plex_board.proofs.DeskLaws.{desk-length, desk-pass_is, desk-pass_owner}
 
 -- the station's cell and the place's pass are those on a structure

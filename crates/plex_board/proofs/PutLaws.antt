@@ -1,10 +1,5 @@
 -- What is known where the last pass is put into its home.
-use Rattle.std.proofs.Common.{◌≡◌, ℕ, ◌<◌, List, [], ◌∷◌, ◌++◌, length, get_or, set, sym, ap, subst, ◌∙◌, arith}
-use Rattle.std.proofs.lemmas.List.{length-map, get_or-map, map-set}
-use Rattle.plex_board.specs.declared.any_pass.AnyPasses.{AnyPasses}
-use Rattle.plex_board.specs.Types.{StrType}
-use Rattle.plex_board.specs.Passes.{PassShown, passes_shown, type_of_passes, room_of}
-use Rattle.plex_board.specs.Rests.{each_with, HomeShown, home_shown, homes_shown, home_with, Fits}
+use Rattle.plex_board.proofs.Names.{◌≡◌, ℕ, ◌<◌, List, [], ◌∷◌, ◌++◌, length, get_or, set, sym, ap, subst, ◌∙◌, arith, length-map, get_or-map, map-set, AnyPasses, StrType, PassShown, passes_shown, type_of_passes, room_of, each_with, HomeShown, home_shown, homes_shown, home_with, Fits}
 use Rattle.plex_board.proofs.RowLaws.{each_with-last, FitsLast, fits-last}
 
 same-home : (str_type other : StrType) (passes others : List PassShown) (room most : ℕ) → str_type ≡ other

@@ -1,30 +1,9 @@
 -- Where a call of a history stands: the entries up to its number are the next ones of those up to the number of the
 -- call before it.
-use Rattle.std.proofs.Common.{◌≡◌, ℕ, zero, suc, ◌<◌, ◌≤◌, ◌⊎◌, inl, inr, List, [], ◌∷◌, ◌++◌, length, take, map, fold, refl, sym, ap, subst, ◌∙◌, arith, append_assoc}
-use Rattle.std.specs.Prelude.{Contains}
-use Rattle.std.proofs.lemmas.List.{append_cancel_left}
-use Rattle.std.proofs.lemmas.List.Sums.{fold_push}
-use Rattle.plex_script.specs.CfTypes.declared.forms.StrForm.{StrForm}
-use Rattle.plex_script.specs.CfTypes.declared.numbers.CfId.{CfId}
-use Rattle.struct_cell.specs.CfLink.Links.{Telling}
-use Rattle.plex_script.specs.EngineApi.declared.asks.Ask.{Ask}
-use Rattle.plex_script.specs.EngineApi.declared.histories.Entry.{Entry}
-use Rattle.plex_script.specs.EngineApi.Meaning.{Meaning}
-use Rattle.plex_script.specs.EngineApi.Told.{told_of}
+use Rattle.plex_board.proofs.Names.{◌≡◌, ℕ, zero, suc, ◌<◌, ◌≤◌, ◌⊎◌, inl, inr, List, [], ◌∷◌, ◌++◌, length, take, map, fold, refl, sym, ap, subst, ◌∙◌, arith, append_assoc, Contains, append_cancel_left, fold_push, StrForm, CfId, Telling, Ask, Entry, Meaning, told_of, Call, Turn, calls, numbers, after_turn, IsLegal, by_turns, calls-turn, call_added, IsMade, call_made, length-turn, cache_meaning, list_meaning, lock_meaning, AnyAsk, AnyHistory, AnyCall, any_call, any_calls, any_length, next_by, told_by, after_call, down_of, IsAnyLegal, AreAnyAsTold, IsAnyPoint, Rising, any_take, any_next, any_told, any_numbers, end_of, last_number}
 use Rattle.plex_script.specs.EngineApi.History as histories
-use Rattle.plex_script.specs.EngineApi.History.{Call, Turn, calls, numbers, after_turn, IsLegal}
-use Rattle.plex_script.proofs.EngineApi.HistoryLaws.{by_turns, calls-turn, call_added, IsMade, call_made}
-use Rattle.plex_script.proofs.EngineApi.NumberLaws.{length-turn}
-use Rattle.cache_core.specs.CacheModel.Meaning.{cache_meaning}
-use Rattle.list_core.specs.ListModel.Meaning.{list_meaning}
-use Rattle.lock_core.specs.LockModel.Meaning.{lock_meaning}
-use Rattle.plex_script.specs.declared.scripts.AnyAsk.{AnyAsk}
 use Rattle.plex_script.specs.declared.scripts.AnyAsk.TheVariants as ask
-use Rattle.plex_script.specs.declared.asks.AnyHistory.{AnyHistory}
 use Rattle.plex_script.specs.declared.asks.AnyHistory.TheVariants as history
-use Rattle.plex_script.specs.Heard.{AnyCall, any_call, any_calls, any_length}
-use Rattle.plex_board.specs.Told.{next_by, told_by, after_call, down_of}
-use Rattle.plex_board.specs.Kinds.{IsAnyLegal, AreAnyAsTold, IsAnyPoint, Rising, any_take, any_next, any_told, any_numbers, end_of, last_number}
 use Rattle.plex_board.proofs.ToldLaws.{AreAsTold, run_of, run_at, IsRunAt}
 
 -- ---- lists

@@ -1,36 +1,5 @@
 -- What holds of passes and calls by the type of their structure holds of them as they are shown.
-use Rattle.std.proofs.Common.{◌≡◌, ℕ, ◌<◌, ◌≤◌, ◌==◌, Bool, true, false, List, [], ◌∷◌, length, map, get_or, All, refl, sym, ap, subst, ◌∙◌, arith}
-use Rattle.std.proofs.lemmas.Bool.Decides.{nat_tests}
-use Rattle.std.proofs.lemmas.Simd.{map-map}
-use Rattle.std.proofs.lemmas.List.{length-map, get_or-map}
-use Rattle.std.specs.Prelude.{Option, is_some, option_map}
-use Rattle.std.specs.List.{range_with_len}
-use Rattle.std.proofs.lemmas.List.FromFn.{length-range_with_len}
-use Rattle.std.proofs.lemmas.List.Elements.{All-map, All-weaker}
-use Rattle.struct_cell.specs.CfLink.declared.links.Links.{Links}
-use Rattle.struct_cell.specs.CfLink.Links.{AreAsked}
-use Rattle.plex_script.specs.CfTypes.declared.forms.StrForm.{StrForm}
-use Rattle.plex_script.specs.CfTypes.declared.numbers.CfId.{CfId}
-use Rattle.plex_script.specs.CfTypes.declared.numbers.ConnId.{ConnId}
-use Rattle.plex_script.specs.EngineApi.declared.asks.Ask.{Ask}
-use Rattle.plex_script.specs.EngineApi.declared.asks.Reply.{Reply}
-use Rattle.plex_script.specs.EngineApi.declared.histories.Entry.{Entry}
-use Rattle.plex_script.specs.EngineApi.Meaning.{Meaning}
-use Rattle.plex_script.specs.EngineApi.History.{Call, calls, own}
-use Rattle.cache_core.proofs.CfLists.ImageLaws.{map-filtered}
-use Rattle.plex_script.specs.declared.scripts.AnyAsk.{AnyAsk}
-use Rattle.plex_script.specs.Heard.{AnyCall, any_call, call_numbered, own_calls}
-use Rattle.struct_cell.specs.VecWords.declared.logged.Sight.{Sight}
-use Rattle.struct_cell.specs.VecWords.Tokens.{WordTable, PassSeen, new_pass}
-use Rattle.struct_cell.specs.declared.inside.CellKey.{CellKey}
-use Rattle.struct_cell.specs.Calls.{reply_to}
-use Rattle.struct_cell.specs.Cells.{About, own_call_of}
-use Rattle.struct_cell.specs.Limits.{AreMadeBelow}
-use Rattle.struct_cell.specs.Telling.{IsTold}
-use Rattle.plex_board.specs.Types.{StrType}
-use Rattle.plex_board.specs.declared.any_reply.AnyReply.{AnyReply}
-use Rattle.plex_board.specs.Passes.{PassShown, call_by, heard_by, replies_by, reply_by, reply_numbered, shown_as, unused_pass}
-use Rattle.plex_board.specs.Cells.{CellShown, keyed_as, replied, IsPassOf}
+use Rattle.plex_board.proofs.Names.{◌≡◌, ℕ, ◌<◌, ◌≤◌, ◌==◌, Bool, true, false, List, [], ◌∷◌, length, map, get_or, All, refl, sym, ap, subst, ◌∙◌, arith, Option, is_some, option_map, nat_tests, map-map, length-map, get_or-map, range_with_len, length-range_with_len, All-map, All-weaker, Links, AreAsked, StrForm, CfId, ConnId, Ask, Reply, Entry, Meaning, Call, calls, own, map-filtered, AnyAsk, AnyCall, any_call, call_numbered, own_calls, Sight, WordTable, PassSeen, new_pass, CellKey, reply_to, About, own_call_of, AreMadeBelow, IsTold, StrType, AnyReply, PassShown, call_by, heard_by, replies_by, reply_by, reply_numbered, shown_as, unused_pass, CellShown, keyed_as, replied, IsPassOf}
 
 -- a vector of so many has room for so many
 pub room_for : {X : Type 0} (of : ℕ → X) (n : ℕ) (items : List X) (len cap : ℕ) → (len ≡ length items) × (len ≤ cap)

@@ -1,16 +1,6 @@
 -- The tests of a word's indices, one by one; and tests past the vector.
-use Rattle.std.proofs.Common.{◌≡◌, ℕ, ◌+◌, ◌*◌, ◌%◌, ◌<◌, ◌≤◌, ◌==◌, false, List, length, map, refl, sym, ap, subst, arith}
-use Rattle.std.specs.Prelude.{All}
-use Rattle.std.specs.Int.{bit_at}
-use Rattle.std.specs.List.{range_with_len}
-use Rattle.std.proofs.lemmas.List.FromFn.{length-map-range_with_len, get_or-map-range_with_len}
-use Rattle.plex_script.specs.CfTypes.declared.forms.StrForm.{StrForm}
-use Rattle.plex_script.specs.CfTypes.declared.numbers.ConnId.{ConnId}
-use Rattle.plex_script.specs.declared.asks.AnyHistory.{AnyHistory}
+use Rattle.plex_board.proofs.Names.{◌≡◌, ℕ, ◌+◌, ◌*◌, ◌%◌, ◌<◌, ◌≤◌, ◌==◌, false, List, length, map, refl, sym, ap, subst, arith, All, bit_at, range_with_len, length-map-range_with_len, get_or-map-range_with_len, StrForm, ConnId, AnyHistory, Sight, bit_in, sight, indices_of, IsAnyTold}
 use Rattle.plex_script.specs.declared.asks.AnyHistory.TheVariants as history
-use Rattle.struct_cell.specs.VecWords.declared.logged.Sight.{Sight}
-use Rattle.struct_cell.specs.VecWords.Logged.{bit_in, sight, indices_of}
-use Rattle.plex_board.specs.Cells.{IsAnyTold}
 
 -- past the vector a test shows nothing
 pub told_past : (form : StrForm) (h : AnyHistory) (conn : ConnId) (test : Sight) → IsAnyTold form h conn test

@@ -1,18 +1,5 @@
 -- What is known of the passes of a new cell, and of a caller that has called.
-use Rattle.std.proofs.Common.{◌≡◌, ℕ, ◌+◌, ◌<◌, ◌≤◌, List, [], ◌∷◌, ◌++◌, length, map, sym, ap, subst, ◌∙◌, arith, refl}
-use Rattle.std.specs.Prelude.{All, Option, Some, IfSome}
-use Rattle.std.specs.List.{range_with_len}
-use Rattle.std.proofs.Math.Seq.{get_or-append_seam}
-use Rattle.std.proofs.lemmas.List.{length-append, length-map}
-use Rattle.std.proofs.lemmas.List.FromFn.{length-range_with_len}
-use Rattle.std.proofs.lemmas.List.Elements.{All-get_or, All-map}
-use Rattle.plex_script.specs.CfTypes.declared.forms.StrForm.{StrForm}
-use Rattle.struct_cell.specs.CfLink.declared.links.Links.{Links}
-use Rattle.struct_cell.specs.VecWords.Tokens.{WordTable}
-use Rattle.plex_board.specs.declared.any_pass.AnyPass.{AnyPass}
-use Rattle.plex_board.specs.Types.{StrType, type_of_kind}
-use Rattle.plex_board.specs.Passes.{PassShown, unused_pass}
-use Rattle.plex_board.specs.Cells.{CellShown, IsPassOf}
+use Rattle.plex_board.proofs.Names.{◌≡◌, ℕ, ◌+◌, ◌<◌, ◌≤◌, List, [], ◌∷◌, ◌++◌, length, map, sym, ap, subst, ◌∙◌, arith, refl, All, Option, Some, IfSome, range_with_len, get_or-append_seam, length-append, length-map, length-range_with_len, All-get_or, All-map, StrForm, Links, WordTable, AnyPass, StrType, type_of_kind, PassShown, unused_pass, CellShown, IsPassOf}
 
 -- the passes of a new cell, by the cell
 pub started-passes : {L : Type 0} (cell : CellShown L) (form : StrForm) (callers limit : ℕ) (links : Links L)

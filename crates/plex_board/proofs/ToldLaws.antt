@@ -1,31 +1,6 @@
 -- Where links tell which calls are down, a history is that of the run with these.
-use Rattle.std.proofs.Common.{◌≡◌, ℕ, ◌+◌, ◌==◌, ◌≤◌, ◌⊎◌, inl, inr, Bool, true, List, [], ◌∷◌, ◌++◌, length, refl, sym, ap, subst, ◌∙◌, arith, append_assoc, fold, take, drop}
-use Rattle.std.specs.Prelude.{Option, ◌↔◌, if◌then◌else◌}
-use Rattle.std.specs.Bool.{Decides}
-use Rattle.std.specs.List.{list_any}
-use Rattle.std.proofs.lemmas.Bool.Decides.{same_from_decides, Decides-by_or, Decides-eqb}
-use Rattle.std.proofs.lemmas.Bool.{cases_lt}
-use Rattle.std.proofs.lemmas.List.{length-take, take-append-drop}
-use Rattle.std.proofs.lemmas.List.Sums.{fold_push}
-use Rattle.std.proofs.lemmas.List.Elements.{Decides-contains}
-use Rattle.struct_cell.specs.CfIo.Count.{IsListed}
-use Rattle.struct_cell.specs.CfLink.Tells.{TellsEnough}
-use Rattle.plex_script.specs.CfTypes.Forms.{IsFacility}
-use Rattle.struct_cell.specs.CfLink.declared.links.Links.{Links}
-use Rattle.plex_script.specs.CfTypes.declared.numbers.CfId.{CfId}
-use Rattle.plex_script.specs.EngineApi.declared.histories.Entry.{Entry}
-use Rattle.plex_script.specs.EngineApi.LinkAsks.{links_asked, Asks, reached_in, marks_of, answers_to}
-use Rattle.plex_script.specs.CfTypes.declared.forms.StrForm.{StrForm}
-use Rattle.plex_script.specs.EngineApi.Meaning.{Meaning}
-use Rattle.plex_script.specs.EngineApi.Machine.{Machine}
-use Rattle.plex_script.specs.EngineApi.History.{Call, Turn, calls, replay, with_marks, with_call, after_turn, IsLegal}
-use Rattle.plex_script.specs.EngineApi.Answers.{answers, answers_from, read_all}
-use Rattle.struct_cell.specs.CfLink.Links.{link_at, calls_after, Telling, IsAsTold, AreAsked, Tells}
-use Rattle.plex_board.specs.Told.{is_listed, down_of, next_by, after_call}
-use Rattle.plex_script.proofs.EngineApi.AskLaws.{Agree, marks_agree}
-use Rattle.plex_script.proofs.EngineApi.HistoryLaws.{by_turns, calls-turn, call_added, legal_turn, IsMade, call_made}
-use Rattle.plex_script.proofs.EngineApi.AnswerLaws.{IsAtGroup, group-turn, answers-turn, answers-append}
-use Rattle.struct_cell.proofs.CfLink.LinkLaws.{asked_told}
+use Rattle.plex_board.proofs.Names.{◌≡◌, ℕ, ◌+◌, ◌==◌, ◌≤◌, ◌⊎◌, inl, inr, Bool, true, List, [], ◌∷◌, ◌++◌, length, refl, sym, ap, subst, ◌∙◌, arith, append_assoc, fold, take, drop, Option, ◌↔◌, if◌then◌else◌, Decides, list_any, same_from_decides, Decides-by_or, Decides-eqb, cases_lt, length-take, take-append-drop, fold_push, Decides-contains, IsListed, TellsEnough, IsFacility, Links, CfId, Entry, links_asked, Asks, reached_in, marks_of, answers_to, StrForm, Meaning, Machine, Call, Turn, calls, replay, with_marks, after_turn, IsLegal, answers, answers_from, read_all, link_at, calls_after, Telling, IsAsTold, AreAsked, Tells, is_listed, down_of, next_by, after_call, Agree, marks_agree, by_turns, calls-turn, call_added, legal_turn, IsMade, call_made, IsAtGroup, group-turn, answers-turn, answers-append, asked_told}
+use Rattle.plex_script.specs.EngineApi.History.{with_call}
 
 listed_decides : (downs : List ℕ) (count : ℕ) → Decides (is_listed downs count) (IsListed downs count)
 listed_decides downs count =

@@ -1,14 +1,5 @@
 -- What is known of a tray whose slot on a structure is read or written.
-use Rattle.std.proofs.Common.{◌≡◌, ℕ, zero, suc, ◌<◌, List, [], ◌∷◌, length, get_or, set, map, refl, sym, ap, subst, ◌∙◌, arith, ◌⊎◌, inl, inr}
-use Rattle.std.specs.Prelude.{Some, None, Option, slice_get, IfSome, option_map}
-use Rattle.std.proofs.lemmas.List.{length-set, length-map, map-set}
-use Rattle.std.proofs.Math.Seq.{map-set_same}
-use Rattle.std.proofs.lemmas.Option.{slice_get_read, slice_get-map, slice_get_within}
-use Rattle.plex_script.specs.CfTypes.declared.numbers.StrNo.{StrNo}
-use Rattle.plex_board.specs.declared.any_note.AnyNote.{AnyNote}
-use Rattle.plex_board.specs.Passes.{NoteShown, note_shown}
-use Rattle.plex_board.specs.Cells.{CellShown, IsNoteOf}
-use Rattle.plex_board.specs.Boards.{BoardShown, cell_on, IsTrayOf}
+use Rattle.plex_board.proofs.Names.{◌≡◌, ℕ, zero, suc, ◌<◌, List, [], ◌∷◌, length, get_or, set, map, refl, sym, ap, subst, ◌∙◌, arith, ◌⊎◌, inl, inr, Some, None, Option, slice_get, IfSome, option_map, length-set, length-map, map-set, map-set_same, slice_get_read, slice_get-map, slice_get_within, StrNo, AnyNote, NoteShown, note_shown, CellShown, IsNoteOf, BoardShown, cell_on, IsTrayOf}
 
 -- an element after one was written: the written one, or what was there
 element-after : {X : Type 0} (xs : List X) (i x : ℕ) (v w : X) → slice_get (set xs i v) x ≡ Some w

@@ -1,26 +1,7 @@
 -- Structures that nobody has called yet, as they end.
-use Rattle.std.proofs.Common.{◌≡◌, ℕ, suc, ◌+◌, ◌<◌, ◌≤◌, List, [], ◌∷◌, ◌++◌, length, get_or, map, All, refl, sym, ap, subst, ◌∙◌, arith, append_assoc}
-use Rattle.std.specs.Prelude.{Option, Some, slice_get}
-use Rattle.std.specs.List.{flat_map, range_with_len}
-use Rattle.std.proofs.lemmas.List.{length-map, get_or-map}
-use Rattle.std.proofs.lemmas.List.FromFn.{length-range_with_len, get_or-map-range_with_len}
-use Rattle.std.proofs.lemmas.List.Elements.{All-map, All-weaker}
-use Rattle.std.proofs.lemmas.Option.{slice_get_within, get_or_from_slice_get}
-use Rattle.plex_script.specs.CfTypes.declared.numbers.ConnId.{ConnId}
-use Rattle.struct_cell.specs.CfLink.declared.links.Links.{Links}
-use Rattle.struct_cell.specs.CfLink.Links.{AreAsked}
-use Rattle.plex_script.specs.declared.asks.AnyHistory.{AnyHistory}
-use Rattle.plex_script.specs.Heard.{any_calls, own_calls}
-use Rattle.plex_board.specs.Kinds.{any_answers}
-use Rattle.plex_board.specs.Passes.{PassShown, unused_pass}
-use Rattle.plex_board.specs.Cells.{CellShown}
+use Rattle.plex_board.proofs.Names.{◌≡◌, ℕ, suc, ◌+◌, ◌<◌, ◌≤◌, List, [], ◌∷◌, ◌++◌, length, get_or, map, All, refl, sym, ap, subst, ◌∙◌, arith, append_assoc, Option, Some, slice_get, flat_map, range_with_len, length-map, get_or-map, length-range_with_len, get_or-map-range_with_len, All-map, All-weaker, slice_get_within, get_or_from_slice_get, ConnId, Links, AreAsked, AnyHistory, any_calls, own_calls, any_answers, PassShown, unused_pass, CellShown, DeskShown, no_pass, fixed_of, IsStarted, IsClosed, IsAccount, AreEachAsked, four_of, fixed_at, Opening, HomeShown, homes_shown, AllFit, homes_gathered, AreHomes, AreEnded, IsOpening, IsUnused, desk_at}
 use Rattle.plex_board.proofs.UnusedPassLaws.{unused_links}
-use Rattle.plex_board.specs.Desks.{DeskShown, no_pass, fixed_of}
-use Rattle.plex_board.specs.Boards.{IsStarted, IsClosed, IsAccount, AreEachAsked, four_of, fixed_at}
 use Rattle.plex_board.proofs.DeskLaws.{new_desk-of_board}
-use Rattle.plex_board.specs.declared.opening.Opening.{Opening}
-use Rattle.plex_board.specs.Rests.{HomeShown, homes_shown, AllFit, homes_gathered, AreHomes, AreEnded}
-use Rattle.plex_board.specs.Openings.{IsOpening, IsUnused, desk_at}
 use Rattle.plex_board.proofs.HomeLaws.{desks-fit, homes-gathered, accounts-at, count-of-homes}
 
 module _ {L : Type 0} (asks : L → Option ℕ) (downs : L → Option (List ℕ)) (faults : L → ℕ) where

@@ -1,31 +1,8 @@
 -- A structure that nobody has called: its links were asked nothing.
-use Rattle.std.proofs.Common.{◌≡◌, ℕ, ◌+◌, ◌<◌, ◌≤◌, ◌==◌, Bool, true, false, List, [], ◌∷◌, ◌++◌, length, get_or, map, All, refl, sym, ap, subst, ◌∙◌, arith, length-append}
-use Rattle.std.specs.Prelude.{Option}
-use Rattle.std.proofs.lemmas.Bool.{eq-eqb}
-use Rattle.std.specs.List.{range_with_len}
-use Rattle.std.proofs.lemmas.List.Elements.{All-head}
-use Rattle.std.proofs.lemmas.List.FromFn.{length-map-range_with_len, get_or-map-range_with_len}
-use Rattle.plex_script.specs.CfTypes.declared.forms.StrForm.{StrForm}
-use Rattle.plex_script.specs.CfTypes.declared.numbers.CfId.{CfId}
-use Rattle.plex_script.specs.CfTypes.declared.numbers.ConnId.{ConnId}
-use Rattle.struct_cell.specs.CfLink.declared.links.Links.{Links}
-use Rattle.struct_cell.specs.CfLink.Links.{IsAskedAll, AreAsked, link_at}
-use Rattle.plex_script.specs.EngineApi.declared.histories.Entry.{Entry}
-use Rattle.plex_script.specs.EngineApi.Meaning.{Meaning}
-use Rattle.plex_script.specs.EngineApi.History.{calls, IsLegal}
-use Rattle.plex_script.proofs.EngineApi.HistoryLaws.{by_turns, calls-turn, call_added}
-use Rattle.cache_core.specs.CacheModel.Meaning.{cache_meaning}
-use Rattle.list_core.specs.ListModel.Meaning.{list_meaning}
-use Rattle.lock_core.specs.LockModel.Meaning.{lock_meaning}
+use Rattle.plex_board.proofs.Names.{◌≡◌, ℕ, ◌+◌, ◌<◌, ◌≤◌, ◌==◌, Bool, true, false, List, [], ◌∷◌, ◌++◌, length, get_or, map, All, refl, sym, ap, subst, ◌∙◌, arith, Option, eq-eqb, range_with_len, All-head, length-map-range_with_len, get_or-map-range_with_len, StrForm, CfId, ConnId, Links, IsAskedAll, AreAsked, link_at, Entry, Meaning, calls, IsLegal, by_turns, calls-turn, call_added, cache_meaning, list_meaning, lock_meaning, AnyHistory, AnyCall, any_call, any_calls, own_calls, WordTable, StrType, IsAnyLegal, any_answers, PassShown, unused_pass, CellShown}
+use Rattle.std.proofs.Common.{length-append}
 use Rattle.plex_script.specs.declared.scripts.AnyAsk.TheVariants as ask
-use Rattle.plex_script.specs.declared.asks.AnyHistory.{AnyHistory}
 use Rattle.plex_script.specs.declared.asks.AnyHistory.TheVariants as history
-use Rattle.plex_script.specs.Heard.{AnyCall, any_call, any_calls, own_calls}
-use Rattle.struct_cell.specs.VecWords.Tokens.{WordTable}
-use Rattle.plex_board.specs.Types.{StrType}
-use Rattle.plex_board.specs.Kinds.{IsAnyLegal, any_answers}
-use Rattle.plex_board.specs.Passes.{PassShown, unused_pass}
-use Rattle.plex_board.specs.Cells.{CellShown}
 
 -- ---- who has called
 

@@ -1,23 +1,7 @@
 -- The calls of a connector are entries that are counted one by one.
-use Rattle.std.proofs.Common.{◌≡◌, ℕ, ◌+◌, ◌==◌, ◌&&◌, Bool, true, false, cond, List, [], ◌∷◌, length, map, refl, sym, ap, ◌∙◌, arith, count_by}
-use Rattle.std.specs.List.{cons_option}
-use Rattle.std.proofs.lemmas.List.Sums.{sum_by-cons}
-use Rattle.plex_script.specs.CfTypes.declared.cache_commands.CacheCmd.{CacheCmd}
-use Rattle.plex_script.specs.CfTypes.declared.cache_commands.CacheReply.{CacheReply}
-use Rattle.plex_script.specs.CfTypes.declared.list_commands.ListCmd.{ListCmd}
-use Rattle.plex_script.specs.CfTypes.declared.list_commands.ListReply.{ListReply}
-use Rattle.plex_script.specs.CfTypes.declared.lock_commands.LockCmd.{LockCmd}
-use Rattle.plex_script.specs.CfTypes.declared.lock_commands.LockReply.{LockReply}
-use Rattle.plex_script.specs.CfTypes.declared.numbers.ConnId.{ConnId}
-use Rattle.plex_script.specs.EngineApi.declared.asks.Ask.{Ask}
-use Rattle.plex_script.specs.EngineApi.declared.asks.What.{What}
+use Rattle.plex_load.proofs.Names.{◌≡◌, ℕ, ◌+◌, ◌==◌, ◌&&◌, Bool, true, false, cond, List, [], ◌∷◌, length, map, refl, sym, ap, ◌∙◌, arith, count_by, cons_option, sum_by-cons, CacheCmd, CacheReply, ListCmd, ListReply, LockCmd, LockReply, ConnId, Ask, What, Entry, Call, call_told, calls, AnyAsk, any_call, own_calls, is_call, is_call_by}
 use Rattle.plex_script.specs.EngineApi.declared.asks.What.TheVariants as what
-use Rattle.plex_script.specs.EngineApi.declared.histories.Entry.{Entry}
-use Rattle.plex_script.specs.EngineApi.History.{Call, call_told, calls}
-use Rattle.plex_script.specs.declared.scripts.AnyAsk.{AnyAsk}
 use Rattle.plex_script.specs.declared.scripts.AnyAsk.TheVariants as ask
-use Rattle.plex_script.specs.Heard.{any_call, own_calls}
-use Rattle.plex_load.specs.Counts.{is_call, is_call_by}
 
 module _ {C R : Type 0} (of : Ask C → AnyAsk) (conn : ConnId) where
   abbrev own_of : List (Call C R) → ℕ

@@ -1,14 +1,7 @@
 -- How many calls the lines of a load make.
-use Rattle.std.proofs.Common.{◌≡◌, ℕ, ◌+◌, ◌*◌, ◌%◌, ◌≤◌, ◌==◌, zero, suc, Bool, true, false, cond, [], ◌++◌, map, refl, ap, ◌∙◌, arith}
-use Rattle.std.specs.List.{range_with_len, sum_by}
-use Rattle.std.proofs.lemmas.Bool.Decides.{nat_tests}
-use Rattle.std.proofs.lemmas.List.FromFn.{sum_by-map-range_with_len_more}
-use Rattle.std.proofs.lemmas.List.Sums.{sum_by-append, sum_by-cons}
-use Rattle.plex_script.specs.CfTypes.declared.numbers.StrNo.{StrNo}
+use Rattle.plex_load.proofs.Names.{◌≡◌, ℕ, ◌+◌, ◌*◌, ◌%◌, ◌≤◌, ◌==◌, zero, suc, Bool, true, false, cond, [], ◌++◌, map, refl, ap, ◌∙◌, arith, range_with_len, nat_tests, sum_by-map-range_with_len_more, sum_by-append, sum_by-cons, StrNo, first_step, most_asks, number_after, index_of, lines_each, read, write, work, connect_line, work_line, connector_lines, first_number, own_lines, lines_of_first, load_script, asks_on, asks_of}
+use Rattle.std.specs.List.{sum_by}
 use Rattle.plex_script.specs.declared.scripts.Act.TheVariants as act
-use Rattle.plex_script.specs.Agent.{first_step, most_asks}
-use Rattle.plex_load.specs.Generated.{number_after, index_of, lines_each, read, write, work, connect_line, work_line, connector_lines, first_number, own_lines, lines_of_first, load_script}
-use Rattle.plex_load.specs.Loads.{asks_on, asks_of}
 use Rattle.plex_load.proofs.EachLine.{each-is, four_parts}
 
 -- a test asks nothing, and any other line behind CONNECT asks once

@@ -1,15 +1,6 @@
 -- What holds of each load.
-use Rattle.std.proofs.Common.{◌≡◌, ℕ, ◌%◌, ◌==◌, Bool, true, false, cond, refl, sym, subst, All}
+use Rattle.plex_load.proofs.Names.{◌≡◌, ℕ, ◌%◌, ◌==◌, Bool, true, false, cond, refl, sym, subst, All, Line, Script, script_text, IsScript, IsWellFormed, script-formed, script-reads, index_of, read, write, work, load_script, IsLoad}
 use Rattle.plex_script.specs.declared.scripts.Act.TheVariants as act
-use Rattle.plex_script.specs.declared.scripts.Line.{Line}
-use Rattle.plex_script.specs.declared.scripts.Script.{Script}
-use Rattle.plex_script.specs.Printed.{script_text}
-use Rattle.plex_script.specs.Scripts.{IsScript}
-use Rattle.plex_script.specs.WellFormed.{IsWellFormed}
-use Rattle.plex_script.proofs.FormedLines.{script-formed}
-use Rattle.plex_script.proofs.ReadBack.{script-reads}
-use Rattle.plex_load.specs.Generated.{index_of, read, write, work, load_script}
-use Rattle.plex_load.specs.Loads.{IsLoad}
 use Rattle.plex_load.proofs.EachLine.{each_line, length-load}
 use Rattle.plex_load.proofs.LoadCalls.{load_calls}
 use Rattle.plex_load.proofs.LoadLimits.{load-keeps}

@@ -1,24 +1,7 @@
 -- A load keeps the forms, the ranges and the limits of the language.
-use Rattle.std.proofs.Common.{◌≡◌, ℕ, ◌+◌, ◌≤◌, ◌<◌, ◌==◌, ◌%◌, zero, suc, Bool, true, false, not, cond, List, [], ◌∷◌, ◌++◌, length, codes, get_or, refl, sym, ap, ◌∙◌, subst, arith, All}
-use Rattle.std.specs.Fmt.{decimal}
-use Rattle.std.proofs.lemmas.Bool.Decides.{nat_tests}
-use Rattle.std.proofs.lemmas.List.Elements.{All-nil, All-cons}
-use Rattle.std.proofs.lemmas.List.FromFn.{get_or-map-range_with_len}
+use Rattle.plex_load.proofs.Names.{◌≡◌, ℕ, ◌+◌, ◌≤◌, ◌<◌, ◌==◌, ◌%◌, zero, suc, Bool, true, false, not, cond, List, [], ◌∷◌, ◌++◌, length, codes, get_or, refl, sym, ap, ◌∙◌, subst, arith, All, decimal, nat_tests, All-nil, All-cons, get_or-map-range_with_len, Pref, Name16, IsForm, IsPref, IsPadded, Declared, is_term, is_name, is_declared, Term, NewName, IsNamed, AreNames, AreWithin, words-within, Act, MayDo, class_in, line_tokens, AreFacilities, HasRoom, IsStructureIn, IsLineIn, KeepsLimits, named, letter, page, read, write, connect, work, own_line, index_of, load_facility, load_pref, load_form, load_connectors, lines_of_first, load_script}
 use Rattle.plex_script.specs.CfTypes.declared.forms.Kind.TheVariants as kind
-use Rattle.plex_script.specs.CfTypes.declared.forms.Pref.{Pref}
-use Rattle.plex_script.specs.CfTypes.declared.names.Name16.{Name16}
-use Rattle.plex_script.specs.CfTypes.Forms.{IsForm, IsPref}
-use Rattle.plex_script.specs.CfTypes.Term.{IsPadded}
-use Rattle.plex_script.specs.PlexSpell.Tokens.{Declared, is_term, is_name, is_declared}
-use Rattle.plex_script.specs.PlexSpell.Tokens.Token.{Term, NewName}
-use Rattle.plex_script.specs.PlexPlain.Ranges.{IsNamed, AreNames, AreWithin}
-use Rattle.plex_script.proofs.PlexPlain.Within.{words-within}
-use Rattle.plex_script.specs.declared.scripts.Act.{Act}
 use Rattle.plex_script.specs.declared.scripts.Act.TheVariants as act
-use Rattle.plex_script.specs.LineWords.{MayDo}
-use Rattle.plex_script.specs.Printed.{class_in, line_tokens}
-use Rattle.plex_script.specs.Limits.{AreFacilities, HasRoom, IsStructureIn, IsLineIn, KeepsLimits}
-use Rattle.plex_load.specs.Generated.{named, letter, page, read, write, connect, work, own_line, index_of, load_facility, load_pref, load_form, load_connectors, lines_of_first, load_script}
 use Rattle.plex_load.proofs.EachLine.{each_line}
 use Rattle.plex_load.proofs.TermLaws.{page_term, body_term}
 

@@ -1,11 +1,5 @@
 -- Lines that are put one behind another.
-use Rattle.std.proofs.Common.{◌≡◌, ℕ, ◌+◌, List, ◌++◌, map, sym, ap, ◌∙◌, arith}
-use Rattle.std.specs.List.{flat_map, range_with_len}
-use Rattle.std.proofs.lemmas.List.{append-nil, flat_map_more}
-use Rattle.std.proofs.lemmas.List.FromFn.{map-range_with_len_more}
-use Rattle.plex_script.specs.PlexSpell.Words.{line_text}
-use Rattle.plex_script.specs.declared.asks.AnyHistory.{AnyHistory}
-use Rattle.plex_load.specs.Summary.{calls_line, calls_lines}
+use Rattle.plex_load.proofs.Names.{◌≡◌, ℕ, ◌+◌, List, ◌++◌, map, sym, ap, ◌∙◌, arith, flat_map, range_with_len, append-nil, flat_map_more, map-range_with_len_more, line_text, AnyHistory, calls_line, calls_lines}
 
 -- the lines of no connector, and of one more
 pub calls_none : (histories : List AnyHistory) (text : List ℕ)

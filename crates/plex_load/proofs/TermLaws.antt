@@ -1,14 +1,5 @@
 -- Names and data that are made of a text and a number.
-use Rattle.std.proofs.Common.{◌≡◌, ℕ, ◌+◌, ◌≤◌, ◌<◌, ◌^◌, zero, suc, true, List, ◌++◌, length, codes, refl, arith, length-append}
-use Rattle.std.specs.Char.{is_ascii_digit}
-use Rattle.std.specs.Fmt.{decimal}
-use Rattle.std.specs.List.{list_all}
-use Rattle.std.proofs.lemmas.Bool.Decides.{nat_tests}
-use Rattle.std.proofs.lemmas.Fmt.{length-decimal-le, decimal_nonempty, digits_decimal}
-use Rattle.plex_script.specs.CfTypes.Term.{IsTerm, term_byte}
-use Rattle.plex_script.proofs.PlexSpell.NumberLaws.{own}
-use Rattle.plex_script.proofs.PlexPlain.Tests.{all-append, all-weaker}
-use Rattle.plex_load.specs.Generated.{letter}
+use Rattle.plex_load.proofs.Names.{◌≡◌, ℕ, ◌+◌, ◌≤◌, ◌<◌, ◌^◌, zero, suc, true, List, ◌++◌, length, codes, refl, arith, length-append, is_ascii_digit, decimal, list_all, nat_tests, length-decimal-le, decimal_nonempty, digits_decimal, IsTerm, term_byte, own, all-append, all-weaker, letter}
 
 digit-term : (b : ℕ) → is_ascii_digit b ≡ true → term_byte b ≡ true
 digit-term b h = grind (arith, nat_tests)

@@ -1,35 +1,5 @@
 -- What is told of connectors that have worked.
-use Rattle.std.proofs.Common.{◌≡◌, ◌+◌, ◌<◌, ◌⊎◌, ℕ, zero, suc, Bool, List, [], ◌∷◌, ◌++◌, Option, None, Some, Contains, All, AllPairs, map, length, drop, slice_get, get_or, Result, Ok, Err}
-use Rattle.std.proofs.Common.{refl, sym, ap, ◌∙◌, subst, inl, ⊎_elim, arith, append_assoc, length-append, replicate}
-use Rattle.std.specs.Prelude.{slice_index, IfOk}
-use Rattle.std.specs.List.{range_with_len, flat_map}
-use Rattle.std.specs.Option.{option_map}
-use Rattle.std.proofs.Math.ListN.{get_or-map}
-use Rattle.std.proofs.lemmas.List.{length-map, map-append, length-replicate}
-use Rattle.std.proofs.lemmas.List.Elements.{All-push, All-nil, All-head, All-contains, All-replicate}
-use Rattle.std.proofs.lemmas.List.FromFn.{get_or-map-range_with_len, length-map-range_with_len, get_or-range_with_len}
-use Rattle.std.proofs.lemmas.Option.{slice_get-map, slice_get_within, slice_get-get_or, get_or_from_slice_get, none-some}
-use Rattle.plex_script.specs.CfTypes.declared.numbers.ConnId.{ConnId}
-use Rattle.plex_script.specs.CfTypes.declared.names.Name16.{Name16}
-use Rattle.plex_script.specs.CfTypes.declared.forms.StrForm.{StrForm}
-use Rattle.plex_script.specs.CfTypes.Forms.{IsForm}
-use Rattle.lock_words.specs.declared.view.Hold.{Hold}
-use Rattle.lock_words.specs.declared.view.Grant.{Grant}
-use Rattle.lock_words.specs.Values.{AreCompatible, says_excl}
-use Rattle.lock_words.specs.View.{hold, grant, reading}
-use Rattle.lock_words.specs.Hands.{HandSeen, LocksSeen, new_hand, AreAll, IsOthers, HasValue, all_held}
-use Rattle.plex_script.specs.declared.scripts.Line.{Line}
-use Rattle.plex_script.specs.declared.scripts.Script.{Script}
-use Rattle.plex_script.specs.WellFormed.{IsWellFormed, IsLineOf}
-use Rattle.plex_locks.specs.declared.outcomes.Outcome.{Outcome}
-use Rattle.plex_locks.specs.declared.outcomes.Outcome.TheVariants.{Granted, Held, Contended, Raced, Freed, NotHeld}
-use Rattle.plex_locks.specs.declared.outcomes.Done.{Done}
-use Rattle.plex_locks.specs.declared.told.HandTold.{HandTold}
-use Rattle.plex_locks.specs.declared.told.Locked.{Locked}
-use Rattle.plex_locks.specs.Requests.{tasks_by}
-use Rattle.plex_locks.specs.Outcomes.{word_of, resource_of, left_by, granted_by, FollowsOwn, HasOther, IsOfOthers}
-use Rattle.plex_locks.specs.Work.{AtLocks, AreIdle, IsDealt, IsReady, HasRead, ReadsDone, HaveWorked, asked_by, asked_in}
-use Rattle.plex_locks.specs.Told.{IsHandTold, IsLocked, told_of, none_told, entries_of, dones_of, all_left}
+use Rattle.plex_locks.proofs.Names.{◌≡◌, ◌+◌, ◌<◌, ◌⊎◌, ℕ, zero, suc, Bool, List, [], ◌∷◌, ◌++◌, Option, None, Some, Contains, All, AllPairs, map, length, drop, slice_get, get_or, Result, Ok, Err, refl, sym, ap, ◌∙◌, subst, inl, ⊎_elim, arith, append_assoc, length-append, replicate, slice_index, IfOk, range_with_len, flat_map, option_map, get_or-map, length-map, map-append, length-replicate, All-push, All-nil, All-head, All-contains, All-replicate, get_or-map-range_with_len, length-map-range_with_len, get_or-range_with_len, slice_get-map, slice_get_within, slice_get-get_or, get_or_from_slice_get, none-some, ConnId, Name16, StrForm, IsForm, Hold, Grant, AreCompatible, says_excl, hold, grant, reading, HandSeen, LocksSeen, new_hand, AreAll, IsOthers, HasValue, all_held, Line, Script, IsWellFormed, IsLineOf, Outcome, Granted, Held, Contended, Raced, Freed, NotHeld, Done, HandTold, Locked, tasks_by, word_of, resource_of, left_by, granted_by, FollowsOwn, HasOther, IsOfOthers, AtLocks, AreIdle, IsDealt, IsReady, HasRead, ReadsDone, HaveWorked, asked_by, asked_in, IsHandTold, IsLocked, told_of, none_told, entries_of, dones_of, all_left}
 
 abbrev name_of : AtLocks → Name16
 name_of w = w.name

@@ -1,24 +1,5 @@
 -- One outcome more of a connector at work.
-use Rattle.std.proofs.Common.{◌≡◌, ◌==◌, ◌<◌, ℕ, Bool, true, false, not, List, [], ◌∷◌, ◌++◌, Option, None, Some, Contains, map, filter}
-use Rattle.std.proofs.Common.{refl, sym, ap, ◌∙◌, subst, ⊎_elim, arith, append_assoc, append-nil, eq-zero-or-pos}
-use Rattle.std.specs.Option.{MatchOption}
-use Rattle.std.proofs.lemmas.List.{map-append}
-use Rattle.std.proofs.lemmas.Grind.{flat_map-append}
-use Rattle.std.proofs.lemmas.List.Elements.{All-push, All-weaker, Contains-append_left, Contains-push}
-use Rattle.plex_script.specs.CfTypes.declared.resources.Resource.{Resource}
-use Rattle.lock_words.specs.declared.view.Hold.{Hold}
-use Rattle.lock_words.specs.declared.view.Reading.{Reading}
-use Rattle.lock_words.specs.declared.view.Grant.{Grant}
-use Rattle.lock_words.specs.Values.{Admits, held_as}
-use Rattle.lock_words.specs.View.{hold, grant, reading}
-use Rattle.lock_words.specs.Hands.{HandSeen, hand_released}
-use Rattle.plex_locks.specs.declared.requests.Request.{Request}
-use Rattle.plex_locks.specs.declared.requests.Request.TheVariants.{Obtain, Release}
-use Rattle.plex_locks.specs.declared.outcomes.Outcome.{Outcome}
-use Rattle.plex_locks.specs.declared.outcomes.Outcome.TheVariants.{Granted, Held, Contended, Raced, Freed, NotHeld}
-use Rattle.plex_locks.specs.declared.outcomes.Done.{Done}
-use Rattle.plex_locks.specs.Outcomes.{word_of, resource_of, then_holds, left_by, grant_in, granted_by, IsTry, IsOutcome, FollowsOwn}
-use Rattle.plex_locks.specs.Work.{IsTried, HasRead, ReadsDone, IsWorked}
+use Rattle.plex_locks.proofs.Names.{◌≡◌, ◌==◌, ◌<◌, ℕ, Bool, true, false, not, List, [], ◌∷◌, ◌++◌, Option, None, Some, Contains, map, filter, refl, sym, ap, ◌∙◌, subst, ⊎_elim, arith, append_assoc, append-nil, eq-zero-or-pos, MatchOption, map-append, flat_map-append, All-push, All-weaker, Contains-append_left, Contains-push, Resource, Hold, Reading, Grant, Admits, held_as, hold, grant, reading, HandSeen, hand_released, Request, Obtain, Release, Outcome, Granted, Held, Contended, Raced, Freed, NotHeld, Done, word_of, resource_of, then_holds, left_by, grant_in, granted_by, IsTry, IsOutcome, FollowsOwn, IsTried, HasRead, ReadsDone, IsWorked}
 
 abbrev done_as : Request → Outcome → Done
 done_as request outcome = record { request = request; outcome = outcome }

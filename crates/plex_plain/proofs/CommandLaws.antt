@@ -1,30 +1,11 @@
 -- The words of commands with options.
-use Rattle.std.proofs.Common.{◌≡◌, ℕ, Bool, true, false, List, [], ◌∷◌, ◌++◌, Option, None, Some, codes, refl, sym, ap, ◌∙◌}
-use Rattle.std.specs.Prelude.{if◌then◌else◌}
+use Rattle.plex_plain.proofs.Names.{◌≡◌, ℕ, Bool, true, false, List, [], ◌∷◌, ◌++◌, Option, None, Some, codes, refl, sym, ap, ◌∙◌, if◌then◌else◌, Name16, Key16, Resource, CacheCmd, At, Cond, NotHeld, HeldBy, ListCmd, Token, name_word, Literal, OnResource, all_tokens, disposition, references, number, end, state, option_tokens, flag_tokens, name_tokens, key_tokens, short_tokens, data_tokens, number_tokens, version_tokens, Refs, StrForm, form_tokens, class_tokens, cache_tokens, at_tokens, cond_tokens, list_tokens, resource_word, plain_word, plain_words, storage_told, class_told, castout_words, keep_word, end_word, cache_words, list_words, state_word, refs_word, told_words, number_words, text_words, name_words, key_words}
 use Rattle.std.specs.Fmt.{decimal}
-use Rattle.cf_types.specs.declared.names.Name16.{Name16}
-use Rattle.cf_types.specs.declared.names.Key16.{Key16}
-use Rattle.cf_types.specs.declared.resources.Resource.{Resource}
-use Rattle.cf_types.specs.declared.cache_commands.CacheCmd.{CacheCmd}
 use Rattle.cf_types.specs.declared.cache_commands.CacheCmd.TheVariants as cache
-use Rattle.cf_types.specs.declared.list_commands.At.{At}
 use Rattle.cf_types.specs.declared.list_commands.At.TheVariants as at
-use Rattle.cf_types.specs.declared.list_commands.Cond.{Cond}
-use Rattle.cf_types.specs.declared.list_commands.Cond.TheVariants.{NotHeld, HeldBy}
-use Rattle.cf_types.specs.declared.list_commands.ListCmd.{ListCmd}
 use Rattle.cf_types.specs.declared.list_commands.ListCmd.TheVariants as list
-use Rattle.plex_spell.specs.Tokens.{Token, name_word}
-use Rattle.plex_spell.specs.Tokens.Token.{Literal, OnResource}
-use Rattle.plex_spell.specs.Fields.{all_tokens, disposition, references, number, end, state, option_tokens, flag_tokens, name_tokens, key_tokens, short_tokens, data_tokens, number_tokens, version_tokens}
 use Rattle.cf_types.specs.declared.forms.Kind.TheVariants as kind
-use Rattle.cf_types.specs.declared.forms.Refs.{Refs}
 use Rattle.cf_types.specs.declared.forms.Refs.TheVariants as refs
-use Rattle.cf_types.specs.declared.forms.StrForm.{StrForm}
-use Rattle.plex_spell.specs.FormWords.{form_tokens}
-use Rattle.plex_spell.specs.CacheWords.{class_tokens, cache_tokens}
-use Rattle.plex_spell.specs.ListWords.{at_tokens, cond_tokens, list_tokens}
-use Rattle.plex_plain.specs.Naming.{resource_word}
-use Rattle.plex_plain.specs.PlainWords.{plain_word, plain_words, storage_told, class_told, castout_words, keep_word, end_word, cache_words, list_words, state_word, refs_word, told_words, number_words, text_words, name_words, key_words}
 use Rattle.plex_plain.proofs.TokenLaws.{words_option, words_flag, words_joined}
 
 -- the words of a command under the names of connectors, which it has none of

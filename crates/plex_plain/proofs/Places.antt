@@ -1,16 +1,5 @@
 -- Where a name stands among names.
-use Rattle.std.proofs.Common.{◌≡◌, ◌≢◌, ℕ, ◌-◌, ◌<◌, ◌≤◌, ◌==◌, ◌||◌, Bool, true, false, nat_lt, List, [], ◌∷◌, ◌++◌, length, length-append, get_or, Option, Some, position, decimal, refl, sym, ap, ◌∙◌, arith, zero, suc}
-use Rattle.std.specs.List.{position_or_len, list_any}
-use Rattle.std.specs.Option.{option_map_or}
-use Rattle.std.proofs.lemmas.Bool.Decides.{nat_tests}
-use Rattle.std.proofs.lemmas.Option.{slice_get-get_or}
-use Rattle.cf_types.specs.declared.names.Name16.{Name16}
-use Rattle.cf_types.specs.Term.{block_of}
-use Rattle.plex_spell.specs.Words.{same_word}
-use Rattle.plex_spell.specs.Tokens.{name_word}
-use Rattle.plex_spell.proofs.Choices.{same_word-refl, word-same}
-use Rattle.plex_plain.specs.Naming.{caller_name}
-use Rattle.plex_plain.specs.Ranges.{IsNamed}
+use Rattle.plex_plain.proofs.Names.{◌≡◌, ◌≢◌, ℕ, ◌-◌, ◌<◌, ◌≤◌, ◌==◌, ◌||◌, Bool, true, false, nat_lt, List, [], ◌∷◌, ◌++◌, length, length-append, get_or, Option, Some, position, decimal, refl, sym, ap, ◌∙◌, arith, zero, suc, position_or_len, list_any, option_map_or, nat_tests, slice_get-get_or, Name16, block_of, same_word, name_word, same_word-refl, word-same, caller_name, IsNamed}
 
 -- ---- the first place at which a test holds
 

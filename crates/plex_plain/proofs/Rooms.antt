@@ -1,22 +1,5 @@
 -- Plain words are words, and how many bytes they take in a line.
-use Rattle.std.proofs.Common.{◌≡◌, ℕ, ◌+◌, ◌-◌, ◌≤◌, ◌<◌, ◌^◌, Bool, true, false, nat_le, List, [], ◌∷◌, ◌++◌, length, get_or, Option, Some, None, codes, decimal, refl, arith, zero, suc, length-append}
-use Rattle.std.specs.Char.{is_ascii_digit}
-use Rattle.std.specs.List.{list_all}
-use Rattle.std.proofs.lemmas.Bool.{and_parts, and_from}
-use Rattle.std.proofs.lemmas.Bool.Decides.{nat_tests}
-use Rattle.std.proofs.lemmas.Fmt.{length-decimal-le, decimal_nonempty, digits_decimal}
-use Rattle.cf_types.specs.declared.names.Name16.{Name16}
-use Rattle.cf_types.specs.declared.numbers.CfId.{CfId}
-use Rattle.cf_types.specs.declared.resources.Resource.{Resource}
-use Rattle.cf_types.specs.Term.{IsTerm, IsPadded, text_in_block, term_byte}
-use Rattle.plex_spell.specs.Words.{is_nonempty, tail_of}
-use Rattle.plex_spell.specs.Tokens.{Declared, Token, name_word}
-use Rattle.plex_spell.specs.Tokens.Token.{Literal, Number, Term, Short, Data, OnResource, Record, OfFacility, OfConnector, OfStructure, NewFacility, NewName}
-use Rattle.plex_spell.specs.Fields.{option_tokens, flag_tokens}
-use Rattle.plex_spell.proofs.NumberLaws.{own}
-use Rattle.plex_plain.specs.Naming.{facility_word, resource_word, caller_name}
-use Rattle.plex_plain.specs.PlainWords.{plain_word, plain_words}
-use Rattle.plex_plain.specs.Ranges.{AreNames, IsWithin, AreWithin}
+use Rattle.plex_plain.proofs.Names.{◌≡◌, ℕ, ◌+◌, ◌-◌, ◌≤◌, ◌<◌, ◌^◌, Bool, true, false, nat_le, List, [], ◌∷◌, ◌++◌, length, get_or, Option, Some, None, codes, decimal, refl, arith, zero, suc, length-append, is_ascii_digit, list_all, and_parts, and_from, nat_tests, length-decimal-le, decimal_nonempty, digits_decimal, Name16, CfId, Resource, IsTerm, IsPadded, text_in_block, term_byte, is_nonempty, tail_of, Declared, Token, name_word, Literal, Number, Term, Short, Data, OnResource, Record, OfFacility, OfConnector, OfStructure, NewFacility, NewName, option_tokens, flag_tokens, own, facility_word, resource_word, caller_name, plain_word, plain_words, AreNames, IsWithin, AreWithin}
 use Rattle.plex_plain.proofs.Places.{caller-word}
 use Rattle.plex_plain.proofs.Said.{solid, is_short_word, is_plain, small_high}
 use Rattle.plex_plain.proofs.Tests.{all-append, all-weaker}

@@ -1,28 +1,9 @@
 -- The tokens of each command: which they are made of, and how much room their words take.
-use Rattle.std.proofs.Common.{ℕ, Bool, true, false, List, [], ◌∷◌, Option, Some, None, codes, refl, arith}
-use Rattle.cf_types.specs.declared.names.Name16.{Name16}
-use Rattle.cf_types.specs.declared.names.Key16.{Key16}
-use Rattle.cf_types.specs.declared.resources.Resource.{Resource}
-use Rattle.cf_types.specs.declared.shell_commands.ShellCmd.{ShellCmd}
-use Rattle.cf_types.specs.declared.shell_commands.ShellCmd.TheVariants.{Connect, Disconnect, Fail, Next, Respond, RebuildStart, RebuildStop, RebuildConnect, Copy, RebuildComplete, ForceConn, ForceStr, LoseConn, RestoreConn, Vary, DuplexStart, DuplexStop}
-use Rattle.cf_types.specs.declared.cache_commands.CacheCmd.{CacheCmd}
+use Rattle.plex_plain.proofs.Names.{ℕ, Bool, true, false, List, [], ◌∷◌, Option, Some, None, codes, refl, arith, Name16, Key16, Resource, ShellCmd, Connect, Disconnect, Fail, Next, Respond, RebuildStart, RebuildStop, RebuildConnect, Copy, RebuildComplete, ForceConn, ForceStr, LoseConn, RestoreConn, Vary, DuplexStart, DuplexStop, CacheCmd, At, Cond, NotHeld, HeldBy, ListCmd, Keep, Deny, Notify, LockCmd, Token, Literal, Term, Data, OnResource, number, end, state, name_tokens, key_tokens, number_tokens, version_tokens, short_tokens, data_tokens, option_tokens, shell_tokens, class_tokens, cache_tokens, at_tokens, cond_tokens, list_tokens, lock_tokens}
 use Rattle.cf_types.specs.declared.cache_commands.CacheCmd.TheVariants as cache
-use Rattle.cf_types.specs.declared.list_commands.At.{At}
 use Rattle.cf_types.specs.declared.list_commands.At.TheVariants as at
-use Rattle.cf_types.specs.declared.list_commands.Cond.{Cond}
-use Rattle.cf_types.specs.declared.list_commands.Cond.TheVariants.{NotHeld, HeldBy}
-use Rattle.cf_types.specs.declared.list_commands.ListCmd.{ListCmd}
 use Rattle.cf_types.specs.declared.list_commands.ListCmd.TheVariants as list
-use Rattle.cf_types.specs.declared.lock_commands.Decision.TheVariants.{Keep, Deny, Notify}
-use Rattle.cf_types.specs.declared.lock_commands.LockCmd.{LockCmd}
 use Rattle.cf_types.specs.declared.lock_commands.LockCmd.TheVariants as lock
-use Rattle.plex_spell.specs.Tokens.{Token}
-use Rattle.plex_spell.specs.Tokens.Token.{Literal, Term, Data, OnResource}
-use Rattle.plex_spell.specs.Fields.{number, end, state, name_tokens, key_tokens, number_tokens, version_tokens, short_tokens, data_tokens, option_tokens}
-use Rattle.plex_spell.specs.ShellWords.{shell_tokens}
-use Rattle.plex_spell.specs.CacheWords.{class_tokens, cache_tokens}
-use Rattle.plex_spell.specs.ListWords.{at_tokens, cond_tokens, list_tokens}
-use Rattle.plex_spell.specs.LockWords.{lock_tokens}
 use Rattle.plex_plain.proofs.Rooms.{IsRow, no_tokens, row-append, row-wider, row-option, row-flag}
 
 -- the most bytes that the words of a command take

@@ -1,23 +1,5 @@
 -- A plain word stands for its token, where that is in its range.
-use Rattle.std.proofs.Common.{◌≡◌, ℕ, ◌+◌, ◌-◌, ◌<◌, ◌≤◌, ◌^◌, ◌==◌, ◌&&◌, Bool, true, false, not, nat_le, nat_lt, List, [], ◌∷◌, ◌++◌, length, get_or, Some, option_map, codes, decimal, refl, ap, ◌∙◌, arith, zero, suc, inl, append_assoc, lit<}
-use Rattle.std.specs.List.{list_all}
-use Rattle.std.proofs.lemmas.Bool.{and_parts}
-use Rattle.std.proofs.lemmas.Bool.Decides.{nat_tests}
-use Rattle.std.proofs.lemmas.Fmt.{decimal_digit}
-use Rattle.cf_types.specs.declared.names.Name16.{Name16}
-use Rattle.cf_types.specs.declared.numbers.CfId.{CfId}
-use Rattle.cf_types.specs.declared.numbers.ConnId.{ConnId}
-use Rattle.cf_types.specs.declared.resources.Resource.{Resource}
-use Rattle.cf_types.specs.Forms.{IsFacility}
-use Rattle.cf_types.specs.Term.{IsTerm, IsPadded, text_in_block, term_byte}
-use Rattle.plex_spell.specs.declared.rigour.Rigour.TheVariants.{Names}
-use Rattle.plex_spell.specs.Tokens.{Declared, Token, IsWord, IsText, IsNumber, IsName, IsResource, Spells, is_term, name_word, facility_of, connector_of}
-use Rattle.plex_spell.specs.Tokens.Token.{Literal, Number, Term, Short, Data, OnResource, Record, OfFacility, OfConnector, OfStructure, NewFacility, NewName}
-use Rattle.plex_spell.proofs.NumberLaws.{numeral-decimal}
-use Rattle.plex_spell.proofs.TextLaws.{term_from}
-use Rattle.plex_plain.specs.Naming.{facility_word, resource_word, caller_name}
-use Rattle.plex_plain.specs.PlainWords.{plain_word, plain_words}
-use Rattle.plex_plain.specs.Ranges.{IsNamed, AreNames, IsWithin, AreWithin}
+use Rattle.plex_plain.proofs.Names.{◌≡◌, ℕ, ◌+◌, ◌-◌, ◌<◌, ◌≤◌, ◌^◌, ◌==◌, ◌&&◌, Bool, true, false, not, nat_le, nat_lt, List, [], ◌∷◌, ◌++◌, length, get_or, Some, option_map, codes, decimal, refl, ap, ◌∙◌, arith, zero, suc, inl, append_assoc, lit<, list_all, and_parts, nat_tests, decimal_digit, Name16, CfId, ConnId, Resource, IsFacility, IsTerm, IsPadded, text_in_block, term_byte, Names, Declared, Token, IsWord, IsText, IsNumber, IsName, IsResource, Spells, is_term, name_word, facility_of, connector_of, Literal, Number, Term, Short, Data, OnResource, Record, OfFacility, OfConnector, OfStructure, NewFacility, NewName, numeral-decimal, term_from, facility_word, resource_word, caller_name, plain_word, plain_words, IsNamed, AreNames, IsWithin, AreWithin}
 use Rattle.plex_plain.proofs.Tests.{all-weaker}
 use Rattle.plex_plain.proofs.Places.{HaveNames, name-place, caller-word}
 

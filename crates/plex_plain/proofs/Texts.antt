@@ -1,11 +1,5 @@
 -- Words of a line, and lines of a text, are read back.
-use Rattle.std.proofs.Common.{◌≡◌, ℕ, ◌≤◌, ◌==◌, Bool, true, false, nat_lt, List, [], ◌∷◌, ◌++◌, length, refl, ap, ◌∙◌, arith, append_assoc}
-use Rattle.std.specs.List.{list_all, flat_map, filter, slice_split}
-use Rattle.std.proofs.lemmas.Bool.{and_parts}
-use Rattle.std.proofs.lemmas.Bool.Decides.{nat_tests}
-use Rattle.std.proofs.lemmas.List.{append-nil}
-use Rattle.std.proofs.lemmas.List.Splits.{slice_split_at, slice_split_none}
-use Rattle.plex_spell.specs.Words.{is_blank, is_nonempty, words_of, without_return, lines_in, lines_of, tail_of, line_of, line_text}
+use Rattle.plex_plain.proofs.Names.{◌≡◌, ℕ, ◌≤◌, ◌==◌, Bool, true, false, nat_lt, List, [], ◌∷◌, ◌++◌, length, refl, ap, ◌∙◌, arith, append_assoc, list_all, flat_map, filter, slice_split, and_parts, nat_tests, append-nil, slice_split_at, slice_split_none, is_blank, is_nonempty, words_of, without_return, lines_in, lines_of, tail_of, line_of, line_text}
 use Rattle.plex_plain.proofs.Said.{solid}
 use Rattle.plex_plain.proofs.Tests.{all-append, all-weaker, all-fail}
 

@@ -1,27 +1,6 @@
 -- What words stand for is in its form and its range.
-use Rattle.std.proofs.Common.{◌≡◌, ℕ, ◌+◌, ◌*◌, ◌-◌, ◌≤◌, ◌<◌, ◌==◌, Bool, true, false, not, cond, nat_lt, List, [], ◌∷◌, ◌++◌, Option, Some, None, length, codes, refl, sym, ap, ◌∙◌, arith, subst, zero, suc, inl, inr, replicate, position}
+use Rattle.plex_plain.proofs.Names.{◌≡◌, ℕ, ◌+◌, ◌*◌, ◌-◌, ◌≤◌, ◌<◌, ◌==◌, Bool, true, false, not, cond, nat_lt, List, [], ◌∷◌, ◌++◌, Option, Some, None, length, codes, refl, sym, ap, ◌∙◌, arith, subst, zero, suc, inl, inr, replicate, position, list_all, position_or_len, option_map_or, and_parts, nat_tests, take_while-cons, Name16, CfId, ConnId, StrNo, StrForm, IsFacility, IsTerm, IsPadded, block_of, text_in_block, term_byte, Names, same_word, Declared, Token, IsWord, IsText, IsData, IsRecord, Spells, is_term, is_name, facility_of, connector_of, structure_of, name_word, Literal, Number, Term, Short, Data, OnResource, Record, OfFacility, OfConnector, OfStructure, NewFacility, NewName, mapped, Words, characters-term, IsTerm-whole, IsTerm-repeat, length-repeat, term-name, IsOneOf, IsNamed, IsWithin, AreWithin}
 use Rattle.std.specs.Bool.{if◌then◌else◌}
-use Rattle.std.specs.List.{list_all, position_or_len}
-use Rattle.std.specs.Option.{option_map_or}
-use Rattle.std.proofs.lemmas.Bool.{and_parts}
-use Rattle.std.proofs.lemmas.Bool.Decides.{nat_tests}
-use Rattle.std.proofs.lemmas.List.Sums.{take_while-cons}
-use Rattle.cf_types.specs.declared.names.Name16.{Name16}
-use Rattle.cf_types.specs.declared.numbers.CfId.{CfId}
-use Rattle.cf_types.specs.declared.numbers.ConnId.{ConnId}
-use Rattle.cf_types.specs.declared.numbers.StrNo.{StrNo}
-use Rattle.cf_types.specs.declared.forms.StrForm.{StrForm}
-use Rattle.cf_types.specs.Forms.{IsFacility}
-use Rattle.cf_types.specs.Term.{IsTerm, IsPadded, block_of, text_in_block, term_byte}
-use Rattle.plex_spell.specs.declared.rigour.Rigour.TheVariants.{Names}
-use Rattle.plex_spell.specs.Words.{same_word}
-use Rattle.plex_spell.specs.Tokens.{Declared, Token, IsWord, IsText, IsData, IsRecord, Spells, is_term, is_name, facility_of, connector_of, structure_of, name_word}
-use Rattle.plex_spell.specs.Tokens.Token.{Literal, Number, Term, Short, Data, OnResource, Record, OfFacility, OfConnector, OfStructure, NewFacility, NewName}
-use Rattle.plex_spell.proofs.Choices.{mapped}
-use Rattle.plex_spell.proofs.PlaceLaws.{Words}
-use Rattle.plex_spell.proofs.TextLaws.{characters-term, IsTerm-whole, IsTerm-repeat, length-repeat}
-use Rattle.plex_spell.proofs.WordLaws.{term-name}
-use Rattle.plex_plain.specs.Ranges.{IsOneOf, IsNamed, IsWithin, AreWithin}
 
 -- ---- names and data
 

@@ -1,4 +1,5 @@
 pub use Rattle.plex_script.proofs.PlexSpell as PlexSpell
+pub mod Names
 pub mod Digits
 pub mod LinesAt
 pub mod Sections

@@ -1,12 +1,5 @@
 -- Which line stands where in lists of lines that follow each other.
-use Rattle.std.proofs.Common.{◌≡◌, ℕ, add-one, ◌+◌, ◌<◌, ◌≤◌, zero, suc, List, [], ◌∷◌, ◌++◌, length, get_or, take, map, Option, Some, option_map, unwrap_or, append-nil, refl, sym, ap, ◌∙◌, arith, append_assoc}
-use Rattle.std.specs.List.{slice_get, sum_by, flat_map}
-use Rattle.std.specs.Option.{option_map_or}
-use Rattle.std.proofs.lemmas.List.Sums.{sum_by-cons}
-use Rattle.std.proofs.lemmas.List.{length-map}
-use Rattle.std.proofs.lemmas.Option.{slice_get-map, slice_get-get_or, slice_get_read}
-use Rattle.plex_script.specs.PlexSpell.Words.{line_text}
-use Rattle.plex_report.specs.Report.{lines_each}
+use Rattle.plex_report.proofs.Names.{◌≡◌, ℕ, add-one, ◌+◌, ◌<◌, ◌≤◌, zero, suc, List, [], ◌∷◌, ◌++◌, length, get_or, take, map, Option, Some, option_map, unwrap_or, append-nil, refl, sym, ap, ◌∙◌, arith, append_assoc, slice_get, sum_by, flat_map, option_map_or, sum_by-cons, length-map, slice_get-map, slice_get-get_or, slice_get_read, line_text, lines_each}
 
 -- ---- lists
 

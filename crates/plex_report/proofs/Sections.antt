@@ -1,18 +1,6 @@
 -- Which line stands where in the sections of a report.
-use Rattle.std.proofs.Common.{◌≡◌, ℕ, ◌+◌, ◌<◌, ◌≤◌, zero, suc, List, [], ◌∷◌, ◌++◌, length, get_or, take, None, codes, arith, refl}
-use Rattle.std.specs.List.{slice_get, sum_by}
-use Rattle.std.specs.Option.{option_map_or}
-use Rattle.plex_script.specs.CfTypes.declared.forms.StrForm.{StrForm}
-use Rattle.plex_script.specs.declared.asks.AnyHistory.{AnyHistory}
+use Rattle.plex_report.proofs.Names.{◌≡◌, ℕ, ◌+◌, ◌<◌, ◌≤◌, zero, suc, List, [], ◌∷◌, ◌++◌, length, get_or, take, None, codes, arith, refl, slice_get, sum_by, option_map_or, StrForm, AnyHistory, Script, Transcript, caller_name, structure_name, cache_words, list_words, lock_words, cache_reply_words, list_reply_words, lock_reply_words, form_line, pref_line, structure_lines, heading, entry_line, history_lines, any_length, shown_line, transcript_lines, structures_lines, histories_lines, transcripts_lines}
 use Rattle.plex_script.specs.declared.asks.AnyHistory.TheVariants as any
-use Rattle.plex_script.specs.declared.scripts.Script.{Script}
-use Rattle.plex_script.specs.declared.transcripts.Transcript.{Transcript}
-use Rattle.plex_report.specs.Naming.{caller_name, structure_name}
-use Rattle.plex_report.specs.CommandWords.{cache_words, list_words, lock_words}
-use Rattle.plex_report.specs.ReplyWords.{cache_reply_words, list_reply_words, lock_reply_words}
-use Rattle.plex_script.specs.PlexPlain.PolicyLines.{form_line, pref_line, structure_lines}
-use Rattle.plex_report.specs.Lines.{heading, entry_line, history_lines, any_length, shown_line, transcript_lines}
-use Rattle.plex_report.specs.Report.{structures_lines, histories_lines, transcripts_lines}
 use Rattle.plex_report.proofs.LinesAt.{get_spot, get_after, length-under}
 
 pub past_end : (line : List ℕ) (n : ℕ) → 0 < n → slice_get (line ∷ []) n ≡ None

@@ -1,27 +1,6 @@
 -- The structure whose journal got full in a run: the script can fill it.
-use Rattle.std.proofs.Common.{◌≡◌, ℕ, ◌+◌, ◌≤◌, ◌<◌, Bool, true, List, Option, Some, None, option_map, length, slice_get, get_or, refl, sym, ap, subst, ◌∙◌, arith}
-use Rattle.std.specs.Prelude.{find}
-use Rattle.std.specs.List.{enumerate_from, position_or_len}
-use Rattle.std.proofs.lemmas.Bool.Decides.{nat_tests}
-use Rattle.std.proofs.lemmas.List.Folds.{Any-from_list_any, find_at}
-use Rattle.std.proofs.lemmas.List.FromFn.{get_or-enumerate_from, length-enumerate_from}
-use Rattle.std.proofs.lemmas.List.Sums.{passes_at_first}
-use Rattle.std.proofs.lemmas.Option.{get_or_from_slice_get, slice_get-get_or, slice_get_read, slice_get_within}
-use Rattle.plex_load.specs.CfTypes.declared.forms.StrForm.{StrForm}
-use Rattle.plex_load.specs.CfTypes.declared.numbers.ConnId.{ConnId}
-use Rattle.plex_load.specs.CfTypes.declared.numbers.StrNo.{StrNo}
-use Rattle.plex_load.specs.PlexScript.declared.asks.AnyHistory.{AnyHistory}
-use Rattle.plex_load.specs.PlexScript.declared.scripts.Script.{Script}
-use Rattle.plex_load.specs.PlexScript.declared.transcripts.AgentEnd.{AgentEnd}
+use Rattle.plex_run.proofs.Names.{◌≡◌, ℕ, ◌+◌, ◌≤◌, ◌<◌, Bool, true, List, Option, Some, None, option_map, length, slice_get, get_or, refl, sym, ap, subst, ◌∙◌, arith, find, enumerate_from, position_or_len, nat_tests, Any-from_list_any, find_at, get_or-enumerate_from, length-enumerate_from, passes_at_first, get_or_from_slice_get, slice_get-get_or, slice_get_read, slice_get_within, StrForm, ConnId, StrNo, AnyHistory, Script, AgentEnd, Shown, Transcript, length_on, EndsRight, ShowsHistories, IsWithinScript, most_entries, Reading, ends_full_at, is_full_at, CanFill, ShowsRun, full_of, journal_limit}
 use Rattle.plex_load.specs.PlexScript.declared.transcripts.AgentEnd.TheVariants as ended
-use Rattle.plex_load.specs.PlexScript.declared.transcripts.Shown.{Shown}
-use Rattle.plex_load.specs.PlexScript.declared.transcripts.Transcript.{Transcript}
-use Rattle.plex_load.specs.PlexScript.Heard.{length_on}
-use Rattle.plex_agent.specs.PlexBoard.Headline.{EndsRight, ShowsHistories}
-use Rattle.run_laws.specs.Bounds.{IsWithinScript, most_entries}
-use Rattle.run_laws.specs.Readings.{Reading}
-use Rattle.plex_run.specs.Full.{ends_full_at, is_full_at}
-use Rattle.plex_run.specs.Outcome.{CanFill, ShowsRun, full_of, journal_limit}
 
 -- whatever a run shows, no history is longer than the script can make it
 abbrev pub AreWithin : Type 0

@@ -1,3 +1,4 @@
+pub mod Names
 pub mod Written
 pub mod Passing
 pub mod StatusLaws

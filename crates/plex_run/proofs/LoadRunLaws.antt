@@ -1,20 +1,6 @@
 -- The run of a load: its script can be run, and fills no journal.
-use Rattle.std.proofs.Common.{◌≡◌, ℕ, ◌≤◌, ◌⊎◌, inr, Option, Some, None, refl, subst, arith}
-use Rattle.std.specs.Prelude.{Result, Ok, Err, IfOk}
-use Rattle.plex_load.specs.CfTypes.declared.names.Name16.{Name16}
-use Rattle.plex_load.specs.PlexScript.declared.scripts.Script.{Script}
-use Rattle.plex_load.specs.PlexScript.Printed.{script_text}
-use Rattle.plex_agent.specs.PlexBoard.Runnable.{IsRunnable}
-use Rattle.run_laws.specs.Bounds.{most_calls}
-use Rattle.run_laws.specs.Readings.{Reading}
-use Rattle.plex_load.specs.Generated.{load_script}
-use Rattle.plex_load.specs.Loads.{IsLoad}
+use Rattle.plex_run.proofs.Names.{◌≡◌, ℕ, ◌≤◌, ◌⊎◌, inr, Option, Some, None, refl, subst, arith, Result, Ok, Err, IfOk, Name16, Script, script_text, IsRunnable, most_calls, Reading, load_script, IsLoad, Wires, CanFill, IsRun, IsRunOf, full_of, journal_limit, Output, HasFailed, Writes, WritesFront, Gains, memory_line, IsLoadRun, EndsLoad, loading, summary_of}
 use Rattle.plex_run.specs.declared.way.Way.TheVariants as ways
-use Rattle.plex_run.specs.Wires.{Wires}
-use Rattle.plex_run.specs.Outcome.{CanFill, IsRun, IsRunOf, full_of, journal_limit}
-use Rattle.plex_run.specs.Written.{Output, HasFailed, Writes, WritesFront, Gains}
-use Rattle.plex_run.specs.StatusLines.{memory_line}
-use Rattle.plex_run.specs.Loading.{IsLoadRun, EndsLoad, loading, summary_of}
 use Rattle.plex_run.proofs.TextLaws.{task_without_memory, task_told}
 use Rattle.plex_run.proofs.FullLaws.{AreWithin, can_fill}
 use Rattle.plex_run.proofs.OutcomeLaws.{AreFresh}

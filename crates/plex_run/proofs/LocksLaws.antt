@@ -1,19 +1,6 @@
 -- Which texts are taken for lock words, and what their status tells.
-use Rattle.std.proofs.Common.{◌≡◌, ◌≢◌, ℕ, ◌≤◌, ◌⊎◌, inl, inr, List, length, Some, None, refl, sym, ◌∙◌, subst, arith}
-use Rattle.std.specs.Prelude.{codes}
-use Rattle.plex_load.specs.PlexScript.declared.faults.Why.{Why}
-use Rattle.plex_load.specs.PlexScript.declared.scripts.Script.{Script}
-use Rattle.plex_load.specs.PlexScript.Scripts.{IsScript}
-use Rattle.plex_load.specs.PlexScript.Laws.{SaysOne, IsExclusive}
-use Rattle.plex_locks.specs.declared.told.Locked.{Locked}
-use Rattle.plex_locks.specs.Others.{first_other}
-use Rattle.plex_locks.specs.Told.{IsLocked, locks_text}
-use Rattle.plex_run.specs.declared.locks.Untaken.{Untaken}
+use Rattle.plex_run.proofs.Names.{◌≡◌, ◌≢◌, ℕ, ◌≤◌, ◌⊎◌, inl, inr, List, length, Some, None, refl, sym, ◌∙◌, subst, arith, codes, Why, Script, IsScript, SaysOne, IsExclusive, Locked, first_other, IsLocked, locks_text, Untaken, Output, HasFailed, Writes, WritesFront, Gains, why_word, memory_line, script_limit, IsTaken, IsUntakenAt, TellsUntaken, EndsLocks, locking, locks_word}
 use Rattle.plex_run.specs.declared.locks.Untaken.TheVariants as untaken
-use Rattle.plex_run.specs.Written.{Output, HasFailed, Writes, WritesFront, Gains}
-use Rattle.plex_run.specs.StatusLines.{why_word, memory_line}
-use Rattle.plex_run.specs.Outcome.{script_limit}
-use Rattle.plex_run.specs.Locks.{IsTaken, IsUntakenAt, TellsUntaken, EndsLocks, locking, locks_word}
 use Rattle.plex_run.proofs.TextLaws.{IsFair, task_told, done_ends}
 use Rattle.plex_run.proofs.OutcomeLaws.{fits}
 

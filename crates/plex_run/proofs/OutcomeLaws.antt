@@ -1,27 +1,8 @@
 -- Which texts are scripts, and what their status tells.
-use Rattle.std.proofs.Common.{◌≡◌, ◌≢◌, ℕ, ◌≤◌, ◌<◌, ◌⊎◌, inl, inr, true, false, List, length, Option, Some, None, refl, sym, ◌∙◌, subst, arith}
-use Rattle.std.specs.Prelude.{is_some}
-use Rattle.plex_load.specs.CfTypes.declared.numbers.CfId.{CfId}
-use Rattle.plex_agent.specs.CfLink.Links.{Telling}
-use Rattle.plex_load.specs.PlexScript.declared.faults.Why.{Why}
-use Rattle.plex_load.specs.PlexScript.declared.faults.ReadFault.{ReadFault}
+use Rattle.plex_run.proofs.Names.{◌≡◌, ◌≢◌, ℕ, ◌≤◌, ◌<◌, ◌⊎◌, inl, inr, true, false, List, length, Option, Some, None, refl, sym, ◌∙◌, subst, arith, is_some, CfId, Telling, Why, ReadFault, TellsFault, Script, IsScript, SaysOne, IsExclusive, AnyHistory, Transcript, ShowsHistories, ShowsFresh, Reading, IsOnlyReading, Way, Output, Wires, why_word, EndsTask, IsRefused, IsRun, WritesRun, EndsRun, IsSerialStatus, IsTooLong, script_limit, script_word, running, journal_limit, full_of, full_in_run, run_status, serial_status}
 use Rattle.plex_load.specs.PlexScript.declared.faults.ReadFault.TheVariants as faults
-use Rattle.plex_load.specs.PlexScript.Reading.{TellsFault}
-use Rattle.plex_load.specs.PlexScript.declared.scripts.Script.{Script}
-use Rattle.plex_load.specs.PlexScript.Scripts.{IsScript}
-use Rattle.plex_load.specs.PlexScript.Laws.{SaysOne, IsExclusive}
-use Rattle.plex_load.specs.PlexScript.declared.asks.AnyHistory.{AnyHistory}
-use Rattle.plex_load.specs.PlexScript.declared.transcripts.Transcript.{Transcript}
-use Rattle.plex_agent.specs.PlexBoard.Headline.{ShowsHistories}
-use Rattle.run_laws.specs.Valid.{ShowsFresh}
-use Rattle.run_laws.specs.Readings.{Reading, IsOnlyReading}
-use Rattle.plex_run.specs.declared.way.Way.{Way}
 use Rattle.plex_run.specs.declared.way.Way.TheVariants as ways
-use Rattle.plex_run.specs.Written.{Output}
-use Rattle.plex_run.specs.Wires.{Wires}
-use Rattle.plex_run.specs.StatusLines.{why_word}
-use Rattle.plex_run.specs.Statuses.{EndsTask}
-use Rattle.plex_run.specs.Outcome.{IsRefused, IsRun, WritesRun, EndsRun, EndsRight, IsSerialStatus, IsTooLong, script_limit, script_word, running, journal_limit, full_of, full_in_run, run_status, serial_status}
+use Rattle.plex_run.specs.Outcome.{EndsRight}
 use Rattle.plex_run.proofs.FullLaws.{AreWithin, can_fill}
 use Rattle.plex_run.proofs.ReadingLaws.{one_reading}
 use Rattle.plex_run.proofs.TextLaws.{IsFair, memory_ends, done_ends}

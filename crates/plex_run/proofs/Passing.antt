@@ -1,9 +1,5 @@
 -- What a sink gains by texts that were put into a piece.
-use Rattle.std.proofs.Common.{◌≡◌, List, ℕ, [], ◌++◌, Option, sym, ap, ◌∙◌, subst, append_assoc}
-use Rattle.std.specs.Io.KnownBytes.{Appends}
-use Rattle.std.proofs.KnownBytes.{Appends-trans}
-use Rattle.plex_run.specs.Written.{GainsPrefix}
-use Rattle.plex_run.specs.Pieces.{PassesOn}
+use Rattle.plex_run.proofs.Names.{◌≡◌, List, ℕ, [], ◌++◌, Option, sym, ap, ◌∙◌, subst, append_assoc, Appends, Appends-trans, GainsPrefix, PassesOn}
 use Rattle.plex_run.proofs.Written.{GainsPrefix-after}
 
 -- what stood in the piece was written

@@ -1,23 +1,6 @@
 -- Where no journal got full each caller's work was done, and the report can be read in one way.
-use Rattle.std.proofs.Common.{◌≡◌, ℕ, zero, suc, ◌+◌, ◌<◌, ◌==◌, ◌^◌, Bool, true, false, List, [], ◌∷◌, length, Some, None, slice_get, get_or, refl, sym, ap, ◌∙◌, arith}
-use Rattle.std.specs.Prelude.{find, if◌then◌else◌}
-use Rattle.std.specs.List.{enumerate_from}
-use Rattle.std.proofs.lemmas.Bool.Decides.{nat_tests}
-use Rattle.std.proofs.lemmas.List.Folds.{list_any_at}
-use Rattle.std.proofs.lemmas.Option.{get_or_from_slice_get, slice_get_within}
-use Rattle.plex_load.specs.CfTypes.declared.forms.StrForm.{StrForm}
-use Rattle.plex_load.specs.PlexScript.declared.asks.AnyHistory.{AnyHistory}
-use Rattle.plex_load.specs.PlexScript.declared.scripts.Script.{Script}
-use Rattle.plex_load.specs.PlexScript.declared.transcripts.AgentEnd.{AgentEnd}
+use Rattle.plex_run.proofs.Names.{◌≡◌, ℕ, zero, suc, ◌+◌, ◌<◌, ◌==◌, ◌^◌, Bool, true, false, List, [], ◌∷◌, length, Some, None, slice_get, get_or, refl, sym, ap, ◌∙◌, arith, find, if◌then◌else◌, enumerate_from, nat_tests, list_any_at, get_or_from_slice_get, slice_get_within, StrForm, AnyHistory, Script, AgentEnd, Transcript, length_on, IsScript, ShowsHistories, EndsRight, Reading, IsReading, IsTheReading, IsOnlyReading, report_of, is_reading, ends_full_at, is_full_at, full_structure, ShowsRun, AreMarked, full_of, journal_limit}
 use Rattle.plex_load.specs.PlexScript.declared.transcripts.AgentEnd.TheVariants as ended
-use Rattle.plex_load.specs.PlexScript.declared.transcripts.Transcript.{Transcript}
-use Rattle.plex_load.specs.PlexScript.Heard.{length_on}
-use Rattle.plex_load.specs.PlexScript.Scripts.{IsScript}
-use Rattle.plex_agent.specs.PlexBoard.Headline.{ShowsHistories, EndsRight}
-use Rattle.run_laws.specs.Readings.{Reading, IsReading, IsTheReading, IsOnlyReading, report_of}
-use Rattle.run_laws.proofs.Tests.{is_reading}
-use Rattle.plex_run.specs.Full.{ends_full_at, is_full_at, full_structure}
-use Rattle.plex_run.specs.Outcome.{ShowsRun, AreMarked, full_of, journal_limit}
 use Rattle.plex_run.proofs.RunnableLaws.{none_mapped}
 
 -- a place within the list that passes is found

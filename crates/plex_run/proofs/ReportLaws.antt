@@ -1,12 +1,6 @@
 -- A report whose lines are put one after another.
-use Rattle.std.proofs.Common.{◌≡◌, ℕ, add-one, zero, suc, ◌+◌, ◌<◌, List, [], ◌∷◌, ◌++◌, length, length-append, take, drop, map, Option, None, Some, append-nil, unwrap_or, refl, sym, ap, ◌∙◌, subst, append_assoc, arith}
-use Rattle.std.specs.List.{concat, flat_map, slice_get}
-use Rattle.std.specs.Io.KnownBytes.{Appends}
-use Rattle.std.proofs.lemmas.List.Folds.{concat-append}
-use Rattle.std.proofs.lemmas.List.{take-append-drop}
-use Rattle.plex_load.specs.PlexSpell.Words.{line_text}
-use Rattle.plex_run.specs.Written.{GainsPrefix}
-use Rattle.plex_run.specs.Pieces.{PassesOn}
+use Rattle.plex_run.proofs.Names.{◌≡◌, ℕ, add-one, zero, suc, ◌+◌, ◌<◌, List, [], ◌∷◌, ◌++◌, length, length-append, take, drop, map, Option, None, Some, append-nil, unwrap_or, refl, sym, ap, ◌∙◌, subst, append_assoc, arith, concat, flat_map, Appends, concat-append, take-append-drop, line_text, GainsPrefix, PassesOn}
+use Rattle.std.specs.List.{slice_get}
 use Rattle.plex_run.proofs.Written.{GainsPrefix-before}
 use Rattle.plex_run.proofs.Passing.{passes-both, passed-all, passed-part, passed-front}
 

@@ -1,23 +1,6 @@
 -- What the runs on one thread and on many leave is what a run leaves.
-use Rattle.std.proofs.Common.{◌≡◌, ℕ, List, length, Option, Result, Ok, Err, IfOk, sym, ap, ◌∙◌, arith}
-use Rattle.std.proofs.lemmas.Option.{slice_get_within}
-use Rattle.plex_agent.proofs.CfLists.TableLaws.{get_within}
-use Rattle.plex_load.specs.CfTypes.declared.memory.NoMemory.{NoMemory}
-use Rattle.plex_load.specs.CfTypes.declared.numbers.CfId.{CfId}
-use Rattle.plex_agent.specs.CfLink.Links.{Telling}
-use Rattle.plex_load.specs.PlexScript.declared.asks.AnyHistory.{AnyHistory}
-use Rattle.plex_load.specs.PlexScript.declared.scripts.Script.{Script}
-use Rattle.plex_load.specs.PlexScript.declared.transcripts.Transcript.{Transcript}
-use Rattle.plex_agent.specs.PlexBoard.Headline.{ShowsHistories}
-use Rattle.plex_agent.specs.PlexBoard.RunLinks.{AreTelling, AreRunLinks}
-use Rattle.plex_agent.specs.PlexBoard.Serial.{serial_run}
-use Rattle.plex_agent.specs.declared.in_turn.Finished.{Finished}
-use Rattle.run_laws.specs.Readings.{Reading}
-use Rattle.run_laws.proofs.MarkLaws.{marks_facilities}
-use Rattle.plex_run.specs.declared.way.Way.{Way}
+use Rattle.plex_run.proofs.Names.{◌≡◌, ℕ, List, length, Option, Result, Ok, Err, IfOk, sym, ap, ◌∙◌, arith, slice_get_within, get_within, NoMemory, CfId, Telling, AnyHistory, Script, Transcript, ShowsHistories, AreTelling, AreRunLinks, serial_run, Finished, Reading, marks_facilities, Way, wires, IsRunOf, AreMarked, journal_limit, reading_of}
 use Rattle.plex_run.specs.declared.way.Way.TheVariants as ways
-use Rattle.plex_run.specs.Wires.{wires}
-use Rattle.plex_run.specs.Outcome.{IsRunOf, AreMarked, journal_limit, reading_of}
 
 module _ {L : Type 0} (calls : L → Option ℕ) (downs : L → Option (List ℕ)) (faults : L → ℕ) (old new : List L)
     (script : Script) where

@@ -1,20 +1,8 @@
 -- A script can be run.
-use Rattle.std.proofs.Common.{◌≡◌, Option, Some, None, option_map, refl}
-use Rattle.std.specs.Prelude.{IsTrue}
-use Rattle.plex_load.specs.CfTypes.declared.forms.Kind.{Kind}
+use Rattle.plex_run.proofs.Names.{◌≡◌, Option, Some, None, option_map, refl, IsTrue, Kind, StrForm, ConnId, AnyAsk, Act, Line, Script, is_ask_of, IsWellFormed, IsLineOf, IsActOf, MayAskAny, IsAskOf, IsRunnable, IsRunnableLine, IsRunnableAct}
 use Rattle.plex_load.specs.CfTypes.declared.forms.Kind.TheVariants as kind
-use Rattle.plex_load.specs.CfTypes.declared.forms.StrForm.{StrForm}
-use Rattle.plex_load.specs.CfTypes.declared.numbers.ConnId.{ConnId}
-use Rattle.plex_load.specs.PlexScript.declared.scripts.AnyAsk.{AnyAsk}
 use Rattle.plex_load.specs.PlexScript.declared.scripts.AnyAsk.TheVariants as any
-use Rattle.plex_load.specs.PlexScript.declared.scripts.Act.{Act}
 use Rattle.plex_load.specs.PlexScript.declared.scripts.Act.TheVariants as act
-use Rattle.plex_load.specs.PlexScript.declared.scripts.Line.{Line}
-use Rattle.plex_load.specs.PlexScript.declared.scripts.Script.{Script}
-use Rattle.plex_load.specs.PlexScript.LineWords.{is_ask_of}
-use Rattle.plex_load.specs.PlexScript.WellFormed.{IsWellFormed, IsLineOf, IsActOf, MayAskAny}
-use Rattle.plex_agent.specs.PlexBoard.Kinds.{IsAskOf}
-use Rattle.plex_agent.specs.PlexBoard.Runnable.{IsRunnable, IsRunnableLine, IsRunnableAct}
 use Rattle.plex_agent.specs.PlexBoard.Kinds as kinds
 
 -- ---- lists

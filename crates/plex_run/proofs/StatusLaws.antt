@@ -1,8 +1,5 @@
 -- The lines that tell how a run ended, as they are spelled.
-use Rattle.std.proofs.Common.{◌≡◌, ◌++◌, ◌∷◌, [], refl, ap, arith}
-use Rattle.std.specs.Prelude.{codes}
-use Rattle.plex_load.proofs.PlexSpell.NumberLaws.{decimal-numeral}
-use Rattle.plex_run.specs.StatusLines.{too_long_line}
+use Rattle.plex_run.proofs.Names.{◌≡◌, ◌++◌, ◌∷◌, [], refl, ap, arith, codes, decimal-numeral, too_long_line}
 
 pub too_long-spelled : codes "TOOLONG 1048576\n" ≡ too_long_line
 too_long-spelled =

@@ -1,9 +1,5 @@
 -- How tasks, and words that read a text, end: each way once, whatever the task and the word.
-use Rattle.std.proofs.Common.{◌≡◌, ◌≢◌, ℕ, ◌<◌, ◌⊎◌, inl, inr, List, Option, None, Some, refl, arith}
-use Rattle.std.specs.Prelude.{IfSome}
-use Rattle.plex_run.specs.Written.{Output, HasFailed, Writes, WritesFront, Gains}
-use Rattle.plex_run.specs.StatusLines.{script_line, memory_line}
-use Rattle.plex_run.specs.Statuses.{Task, EndsTask, Word, EndsText, OfText}
+use Rattle.plex_run.proofs.Names.{◌≡◌, ◌≢◌, ℕ, ◌<◌, ◌⊎◌, inl, inr, List, Option, None, Some, refl, arith, IfSome, Output, HasFailed, Writes, WritesFront, Gains, script_line, memory_line, Task, EndsTask, Word, EndsText, OfText}
 
 -- ---- tasks
 

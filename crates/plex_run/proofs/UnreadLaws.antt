@@ -1,11 +1,6 @@
 -- What the status tells where no text came: 7 of a text that is too long.
-use Rattle.std.proofs.Common.{◌≡◌, ℕ, ◌+◌, List, length, Option, arith}
-use Rattle.std.specs.Prelude.{◌<◌, IfSome, replicate}
-use Rattle.std.proofs.lemmas.List.{length-replicate}
-use Rattle.plex_agent.specs.CfIo.ReadEnd.{HasCause}
-use Rattle.plex_agent.specs.CfIo.declared.read_end.ReadEnd.{ReadEnd}
+use Rattle.plex_run.proofs.Names.{◌≡◌, ℕ, ◌+◌, List, length, Option, arith, ◌<◌, IfSome, replicate, length-replicate, HasCause, ReadEnd, read_status}
 use Rattle.plex_agent.specs.CfIo.declared.read_end.ReadEnd.TheVariants as ends
-use Rattle.plex_run.specs.Outcome.{read_status}
 
 -- more bytes were left than the limit allows
 pub unread_long : (limit : ℕ) (left : Option (List ℕ)) (before after : ℕ) (end : ReadEnd) (status : ℕ)

@@ -1,8 +1,6 @@
 -- Words that ask for a load.
-use Rattle.std.proofs.Common.{◌≡◌, ℕ, List, [], ◌∷◌, length, get_or, map, Some, sym, ap, ◌∙◌, subst, arith}
-use Rattle.std.specs.Prelude.{codes, String, string_bytes}
+use Rattle.plex_run.proofs.Names.{◌≡◌, ℕ, List, [], ◌∷◌, length, get_or, map, Some, sym, ap, ◌∙◌, subst, arith, codes, String, string_bytes, Say, number_said}
 use Rattle.plex_run.specs.declared.way.Work.TheVariants as works
-use Rattle.plex_run.specs.Words.{Say, number_said}
 
 -- a list of two
 two_of : {X : Type 0} (xs : List X) (a b : X) → length xs ≡ 2 → a ≡ get_or xs 0 a → b ≡ get_or xs 1 b

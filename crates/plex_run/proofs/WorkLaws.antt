@@ -1,14 +1,7 @@
 -- Work that words ask for is of one kind.
-use Rattle.std.proofs.Common.{◌≡◌, ℕ, ◌⊎◌, inl, inr, List, Option, None, Some, sym, ap, subst, ◌∙◌, arith}
-use Rattle.std.specs.Prelude.{String}
-use Rattle.plex_run.specs.declared.way.Way.{Way}
+use Rattle.plex_run.proofs.Names.{◌≡◌, ℕ, ◌⊎◌, inl, inr, List, Option, None, Some, sym, ap, subst, ◌∙◌, arith, String, Way, Work, Say, Wires, Output, EndsLoad}
 use Rattle.plex_run.specs.declared.way.Way.TheVariants as ways
-use Rattle.plex_run.specs.declared.way.Work.{Work}
 use Rattle.plex_run.specs.declared.way.Work.TheVariants as works
-use Rattle.plex_run.specs.Words.{Say}
-use Rattle.plex_run.specs.Wires.{Wires}
-use Rattle.plex_run.specs.Written.{Output}
-use Rattle.plex_run.specs.Loading.{EndsLoad}
 use Rattle.plex_run.specs.Outcome.{EndsRight}
 
 abbrev number_in : Option Work → ℕ

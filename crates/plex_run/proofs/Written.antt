@@ -1,13 +1,5 @@
 -- What a sink gains by several writes.
-use Rattle.std.proofs.Common.{◌≡◌, ℕ, ◌-◌, ◌^◌, ◌<◌, ◌≤◌, ◌⊎◌, inl, inr, List, ◌++◌, length, take, drop, Option, sym, ap, ◌∙◌, subst, append_assoc, arith}
-use Rattle.std.proofs.Math.Seq.{take-append_seam}
-use Rattle.std.proofs.lemmas.List.{take-append-drop}
-use Rattle.std.proofs.KnownBytes.{Appends-trans}
-use Rattle.std.proofs.lemmas.Bool.{cases_lt}
-use Rattle.std.specs.Io.KnownBytes.{Appends}
-use Rattle.std.specs.Prelude.{Result, Ok, Err, OnOk, OnErr}
-use Rattle.plex_agent.specs.CfIo.Count.{Rises}
-use Rattle.plex_run.specs.Written.{Output, GainsPrefix, Gains, BreaksOff}
+use Rattle.plex_run.proofs.Names.{◌≡◌, ℕ, ◌-◌, ◌^◌, ◌<◌, ◌≤◌, ◌⊎◌, inl, inr, List, ◌++◌, length, take, drop, Option, sym, ap, ◌∙◌, subst, append_assoc, arith, Result, Ok, Err, OnOk, OnErr, take-append_seam, take-append-drop, Appends-trans, cases_lt, Appends, Rises, Output, GainsPrefix, Gains, BreaksOff}
 
 -- a part that a text begins with is a prefix of it
 pub GainsPrefix-part : (old new : Option (List ℕ)) (part rest text : List ℕ) → text ≡ part ++ rest

@@ -1,33 +1,6 @@
 -- What is read of a whole line of a caller is spelled so, and what is spelled so is read.
-use Rattle.std.proofs.Common.{◌≡◌, ℕ, ◌==◌, ◌&&◌, ◌<◌, Bool, true, false, cond, List, [], ◌∷◌, ◌++◌, Option, Some, None, option_map, unwrap_or, codes, refl, sym, ap, ◌∙◌, arith, lit<, nat_le, ◌≤◌, subst}
-use Rattle.std.proofs.lemmas.Bool.Decides.{nat_tests}
-use Rattle.cf_types.specs.declared.numbers.ConnId.{ConnId}
-use Rattle.cf_types.specs.declared.forms.Kind.{Kind}
-use Rattle.plex_plain.specs.PlexSpell.declared.rigour.Rigour.{Rigour}
-use Rattle.plex_plain.specs.PlexSpell.declared.rigour.Rigour.TheVariants.{Form, Limits, Names}
-use Rattle.std.specs.Str.Parse.{digits_value}
-use Rattle.std.proofs.lemmas.Bool.{and_parts}
-use Rattle.plex_plain.specs.PlexSpell.Places.{within_limits}
-use Rattle.plex_plain.specs.PlexSpell.Words.{same_word, begins_with, words_behind}
-use Rattle.plex_plain.specs.PlexSpell.Tokens.{Declared, Spells}
-use Rattle.plex_plain.specs.PlexSpell.Tokens.Token.{Literal, Number}
-use Rattle.plex_plain.specs.PlexSpell.Places.{is_names, on_first, number_of}
-use Rattle.plex_plain.specs.PlexSpell.ShellWords.{is_operator}
-use Rattle.plex_plain.specs.PlexSpell.Patterns.{number_at}
-use Rattle.plex_plain.proofs.PlexSpell.Choices.{pick, not_some, mapped, bound, word-same, same_word-of}
-use Rattle.plex_plain.proofs.PlexSpell.PlaceLaws.{Words, FindsAll, Spells-append, Spells-split, led, led-by, number_at-sound, number_at-complete}
-use Rattle.plex_plain.proofs.PlexSpell.VerbLaws.{is_tail}
-use Rattle.plex_script.specs.LineReading.{is_own}
-use Rattle.plex_plain.proofs.PlexSpell.PatternLaws.{value-sound, value-complete}
-use Rattle.plex_plain.specs.PlexSpell.Patterns.Place.{Amount, AnOption}
-use Rattle.plex_plain.specs.PlexSpell.Fields.{number}
-use Rattle.plex_script.specs.declared.scripts.AnyAsk.{AnyAsk}
-use Rattle.plex_script.specs.declared.scripts.Act.{Act}
-use Rattle.plex_script.specs.declared.scripts.Act.TheVariants.{Call, Test, TestWord, Post, Take, Events}
-use Rattle.plex_script.specs.LineWords.{ask_tokens, act_tokens, retry_tokens, MayAsk, MayDo, is_ask_of, has_vectors, SaysDone}
-use Rattle.plex_script.specs.LineReading.{any_ask_at, retry_at, call_at, own_at, done_at, act_at, whole_read}
+use Rattle.plex_script.proofs.Names.{◌≡◌, ℕ, ◌==◌, ◌&&◌, ◌<◌, Bool, true, false, cond, List, [], ◌∷◌, ◌++◌, Option, Some, None, option_map, unwrap_or, codes, refl, sym, ap, ◌∙◌, arith, lit<, nat_le, ◌≤◌, subst, nat_tests, ConnId, Kind, Rigour, Form, Limits, Names, digits_value, and_parts, within_limits, is_names, on_first, number_of, same_word, begins_with, words_behind, Declared, Spells, Literal, Number, is_operator, number_at, tokens_at, pick, not_some, mapped, bound, word-same, same_word-of, Words, FindsAll, Spells-append, Spells-split, led, led-by, number_at-sound, number_at-complete, is_tail, is_own, any_ask_at, retry_at, call_at, own_at, done_at, act_at, whole_read, value-sound, value-complete, Amount, AnOption, number, AnyAsk, Act, Call, Test, TestWord, Post, Take, Events, ask_tokens, act_tokens, retry_tokens, MayAsk, MayDo, is_ask_of, has_vectors, SaysDone}
 use Rattle.plex_script.proofs.AskLaws.{any_ask-sound, any_ask-complete, ask-not_own, not_operator, operator_not}
-use Rattle.plex_plain.specs.PlexSpell.Patterns.{tokens_at}
 
 -- ---- once more
 

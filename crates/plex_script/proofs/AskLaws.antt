@@ -1,33 +1,7 @@
 -- What is read of what a caller does is spelled so, and what is spelled so is read.
-use Rattle.std.proofs.Common.{◌≡◌, ℕ, Bool, true, false, not, Option, Some, None, option_map, refl, sym, ap, ◌∙◌}
-use Rattle.cf_types.specs.declared.numbers.ConnId.{ConnId}
-use Rattle.cf_types.specs.declared.forms.Kind.{Kind}
+use Rattle.plex_script.proofs.Names.{◌≡◌, ℕ, Bool, true, false, not, Option, Some, None, option_map, refl, sym, ap, ◌∙◌, ConnId, Kind, ShellCmd, CacheCmd, ListCmd, LockCmd, Ask, Shell, Content, Rigour, Declared, Spells, shell_tokens, may_give, is_operator, shell_at, cache_at, list_at, lock_at, pick, not_some, mapped, Words, FindsAll, is_tail, shell-sound, shell-complete, cache-sound, cache-complete, list-sound, list-complete, lock-sound, lock-complete, is_own, ask_at, cache_ask_at, list_ask_at, lock_ask_at, any_ask_at, AnyAsk, ask_tokens, MayAsk, is_ask_of}
 use Rattle.cf_types.specs.declared.forms.Kind.TheVariants as kind
-use Rattle.cf_types.specs.declared.shell_commands.ShellCmd.{ShellCmd}
-use Rattle.cf_types.specs.declared.cache_commands.CacheCmd.{CacheCmd}
-use Rattle.cf_types.specs.declared.list_commands.ListCmd.{ListCmd}
-use Rattle.cf_types.specs.declared.lock_commands.LockCmd.{LockCmd}
-use Rattle.engine_api.specs.declared.asks.Ask.{Ask}
-use Rattle.engine_api.specs.declared.asks.Ask.TheVariants.{Shell, Content}
-use Rattle.plex_plain.specs.PlexSpell.declared.rigour.Rigour.{Rigour}
-use Rattle.plex_plain.specs.PlexSpell.Tokens.{Declared, Spells}
-use Rattle.plex_plain.specs.PlexSpell.ShellWords.{shell_tokens, may_give, is_operator}
-use Rattle.plex_plain.specs.PlexSpell.ShellReading.{shell_at}
-use Rattle.plex_plain.specs.PlexSpell.CacheReading.{cache_at}
-use Rattle.plex_plain.specs.PlexSpell.ListReading.{list_at}
-use Rattle.plex_plain.specs.PlexSpell.LockReading.{lock_at}
-use Rattle.plex_plain.proofs.PlexSpell.Choices.{pick, not_some, mapped}
-use Rattle.plex_plain.proofs.PlexSpell.PlaceLaws.{Words, FindsAll}
-use Rattle.plex_plain.proofs.PlexSpell.VerbLaws.{is_tail}
-use Rattle.plex_plain.proofs.PlexSpell.ShellLaws.{shell-sound, shell-complete}
-use Rattle.plex_plain.proofs.PlexSpell.CacheLaws.{cache-sound, cache-complete}
-use Rattle.plex_plain.proofs.PlexSpell.ListLaws.{list-sound, list-complete}
-use Rattle.plex_plain.proofs.PlexSpell.LockLaws.{lock-sound, lock-complete}
-use Rattle.plex_script.specs.LineReading.{is_own}
-use Rattle.plex_script.specs.declared.scripts.AnyAsk.{AnyAsk}
 use Rattle.plex_script.specs.declared.scripts.AnyAsk.TheVariants as any
-use Rattle.plex_script.specs.LineWords.{ask_tokens, MayAsk, is_ask_of}
-use Rattle.plex_script.specs.LineReading.{ask_at, cache_ask_at, list_ask_at, lock_ask_at, any_ask_at}
 use Rattle.plex_script.proofs.FirstWords.{gives, shell-not_own, cache-content, list-content, lock-content}
 
 pub record AskTold (rigour : Rigour) (declared : Declared) (by : ConnId) (ws rest : Words) (ask : AnyAsk) : Type 0

@@ -1,31 +1,6 @@
 -- What is wrong with a line, from what was read of it.
-use Rattle.std.proofs.Common.{◌≡◌, ℕ, ◌<◌, ◌||◌, Bool, true, false, not, List, [], ◌∷◌, ◌++◌, Option, Some, None, refl, sym, ap, ◌∙◌, arith, inl, inr, Ok, Err, IsTrue, codes, length}
-use Rattle.std.specs.Option.{is_some}
-use Rattle.cf_types.specs.declared.limits.TheConstants.{CONNECTORS}
-use Rattle.cf_types.specs.declared.numbers.ConnId.{ConnId}
-use Rattle.cf_types.specs.declared.forms.Kind.{Kind}
-use Rattle.plex_plain.specs.PlexSpell.declared.rigour.Rigour.{Rigour}
-use Rattle.plex_plain.specs.PlexSpell.declared.rigour.Rigour.TheVariants.{Form, Limits, Names}
-use Rattle.plex_plain.specs.PlexSpell.Tokens.{Declared, structure_of}
-use Rattle.plex_plain.proofs.PlexSpell.PlaceLaws.{Words}
-use Rattle.plex_plain.proofs.PlexSpell.RigourLaws.{Spells-limits, Spells-form}
-use Rattle.plex_script.specs.declared.declarations.Declaration.{Declaration}
-use Rattle.plex_script.specs.declared.faults.Why.{Why}
-use Rattle.plex_script.specs.declared.faults.Why.TheVariants.{Late, Syntax, Limit, Unknown, Twice, Space}
-use Rattle.plex_script.specs.declared.scripts.Act.{Act}
-use Rattle.plex_script.specs.declared.scripts.Script.{Script}
-use Rattle.plex_script.specs.LineWords.{SaysDone, act_tokens, retry_tokens}
-use Rattle.plex_script.specs.PolicyWords.{Declares, declaration_tokens}
-use Rattle.plex_script.specs.LineReading.{act_at}
-use Rattle.plex_script.specs.PolicyReading.{declaration_at}
-use Rattle.plex_script.specs.Causes.{declared_in, kind_of, has_lines, is_full, is_twice, is_too_much, PolicyCause, DoneCause, CallerCause, IsFirst, rank}
-use Rattle.plex_script.specs.Scripts.{with_declaration, AddsDeclaration, AddsLine, AddsOfCaller}
+use Rattle.plex_script.proofs.Names.{◌≡◌, ℕ, ◌<◌, ◌||◌, Bool, true, false, not, List, [], ◌∷◌, ◌++◌, Option, Some, None, refl, sym, ap, ◌∙◌, arith, inl, inr, Ok, Err, IsTrue, codes, length, is_some, CONNECTORS, ConnId, Kind, Rigour, Form, Limits, Names, Declared, structure_of, Words, Spells-limits, Spells-form, Declaration, Why, Late, Syntax, Limit, Unknown, Twice, Space, Act, Script, SaysDone, act_tokens, retry_tokens, Declares, declaration_tokens, act_at, declaration_at, declared_in, kind_of, has_lines, is_full, is_twice, is_too_much, PolicyCause, DoneCause, CallerCause, IsFirst, rank, with_declaration, AddsDeclaration, AddsLine, AddsOfCaller, LineFault, Wrong, NoMemory, StrNo, nat_tests, unread_why, Judged, IsFaultBy, HasRoom}
 use Rattle.plex_script.specs.declared.declarations.Declaration.TheVariants as declaration
-use Rattle.plex_script.specs.declared.line_faults.LineFault.{LineFault}
-use Rattle.plex_script.specs.declared.line_faults.LineFault.TheVariants.{Wrong, NoMemory}
-use Rattle.cf_types.specs.declared.numbers.StrNo.{StrNo}
-use Rattle.std.proofs.lemmas.Bool.Decides.{nat_tests}
-use Rattle.plex_script.specs.Reading.{unread_why, Judged, IsFaultBy, HasRoom}
 use Rattle.plex_script.proofs.ActLaws.{act-sound, act-complete}
 use Rattle.plex_script.proofs.PolicyLaws.{declaration-sound, declaration-complete}
 

@@ -1,10 +1,5 @@
 -- Lines that are read one after another.
-use Rattle.std.proofs.Common.{◌≡◌, ℕ, ◌+◌, true, List, [], ◌∷◌, ◌++◌, length, map, sym, ap, ◌∙◌, arith, append_assoc, length-append, subst}
-use Rattle.std.specs.List.{list_all, flat_map}
-use Rattle.std.proofs.lemmas.List.{append-nil}
-use Rattle.plex_plain.proofs.Texts.{clear, AreClear, clear-append}
-use Rattle.plex_script.specs.declared.scripts.Script.{Script}
-use Rattle.plex_script.specs.Scripts.{line_number, Adds, AddsAll}
+use Rattle.plex_script.proofs.Names.{◌≡◌, ℕ, ◌+◌, true, List, [], ◌∷◌, ◌++◌, length, map, sym, ap, ◌∙◌, arith, append_assoc, length-append, subst, list_all, flat_map, append-nil, clear, AreClear, clear-append, Script, line_number, Adds, AddsAll}
 
 -- behind `count` lines, these lines have no line feeds and no returns, and lead from one script to another
 pub record Leads (script : Script) (count : ℕ) (lines : List (List ℕ)) (after : Script) : Type 0 where

@@ -1,13 +1,6 @@
 -- A text has one fault.
-use Rattle.std.proofs.Common.{◌≡◌, ℕ, suc, ◌+◌, ◌<◌, ◌==◌, Bool, true, false, nat_lt, List, [], ◌∷◌, ◌++◌, drop, length, refl, sym, ap, subst, ◌∙◌, arith}
-use Rattle.std.specs.Prelude.{if◌then◌else◌}
-use Rattle.std.proofs.lemmas.Bool.Decides.{nat_tests}
-use Rattle.plex_plain.specs.PlexSpell.Words.{lines_of}
-use Rattle.plex_script.specs.declared.faults.Why.{Why}
-use Rattle.plex_script.specs.declared.faults.Why.TheVariants.{Late, Syntax, Limit, Unknown, Twice, Space}
-use Rattle.plex_script.specs.declared.scripts.Script.{Script}
-use Rattle.plex_script.specs.Causes.{IsFirst, IsCause, LineCause, rank}
-use Rattle.plex_script.specs.Scripts.{Adds, AddsAll, IsFault, empty_script, line_number}
+use Rattle.plex_script.proofs.Names.{◌≡◌, ℕ, suc, ◌+◌, ◌<◌, ◌==◌, Bool, true, false, nat_lt, List, [], ◌∷◌, ◌++◌, drop, length, refl, sym, ap, subst, ◌∙◌, arith, nat_tests, lines_of, Why, Late, Syntax, Limit, Unknown, Twice, Space, Script, IsFirst, IsCause, LineCause, rank, Adds, AddsAll, IsFault, empty_script, line_number}
+use Rattle.std.proofs.Common.{if◌then◌else◌}
 use Rattle.plex_script.proofs.LineLaws.{adds-one, line-clean}
 
 -- the cause that has a rank

@@ -1,25 +1,9 @@
 -- Which commands their first words tell apart.
-use Rattle.std.proofs.Common.{◌≡◌, ℕ, ◌||◌, Bool, true, false, not, cond, List, [], ◌∷◌, Option, None, codes, refl}
-use Rattle.cf_types.specs.declared.numbers.ConnId.{ConnId}
-use Rattle.cf_types.specs.declared.shell_commands.ShellCmd.{ShellCmd}
+use Rattle.plex_script.proofs.Names.{◌≡◌, ℕ, ◌||◌, Bool, true, false, not, cond, List, [], ◌∷◌, Option, None, codes, refl, ConnId, ShellCmd, CacheCmd, ListCmd, LockCmd, Rigour, begins_with, words_behind, Declared, Token, Spells, Literal, shell_tokens, may_give, is_operator, cache_tokens, list_tokens, lock_tokens, shell_at, Words, is_own}
 use Rattle.cf_types.specs.declared.shell_commands.ShellCmd.TheVariants as shell
-use Rattle.cf_types.specs.declared.cache_commands.CacheCmd.{CacheCmd}
 use Rattle.cf_types.specs.declared.cache_commands.CacheCmd.TheVariants as cache
-use Rattle.cf_types.specs.declared.list_commands.ListCmd.{ListCmd}
 use Rattle.cf_types.specs.declared.list_commands.ListCmd.TheVariants as list
-use Rattle.cf_types.specs.declared.lock_commands.LockCmd.{LockCmd}
 use Rattle.cf_types.specs.declared.lock_commands.LockCmd.TheVariants as lock
-use Rattle.plex_plain.specs.PlexSpell.declared.rigour.Rigour.{Rigour}
-use Rattle.plex_plain.specs.PlexSpell.Words.{begins_with, words_behind}
-use Rattle.plex_plain.specs.PlexSpell.Tokens.{Declared, Token, Spells}
-use Rattle.plex_plain.specs.PlexSpell.Tokens.Token.{Literal}
-use Rattle.plex_plain.specs.PlexSpell.ShellWords.{shell_tokens, may_give, is_operator}
-use Rattle.plex_plain.specs.PlexSpell.CacheWords.{cache_tokens}
-use Rattle.plex_plain.specs.PlexSpell.ListWords.{list_tokens}
-use Rattle.plex_plain.specs.PlexSpell.LockWords.{lock_tokens}
-use Rattle.plex_plain.specs.PlexSpell.ShellReading.{shell_at}
-use Rattle.plex_plain.proofs.PlexSpell.PlaceLaws.{Words}
-use Rattle.plex_script.specs.LineReading.{is_own}
 
 -- ---- first words
 

@@ -1,33 +1,7 @@
 -- What a declaration adds to a script keeps it well formed.
-use Rattle.std.proofs.Common.{◌≡◌, ◌≢◌, ℕ, ◌+◌, ◌≤◌, ◌<◌, ◌==◌, ◌||◌, Bool, true, false, not, List, [], ◌∷◌, ◌++◌, Option, Some, None, length, codes, refl, sym, ap, ◌∙◌, arith, subst, slice_get, slice_set, get_or, All, AllPairs, nat_le}
-use Rattle.std.specs.Option.{option_map_or}
-use Rattle.std.proofs.lemmas.Bool.Decides.{nat_tests}
-use Rattle.std.proofs.lemmas.List.{length-set, length_push}
-use Rattle.std.proofs.lemmas.List.Elements.{All-nil, All-push, All-set}
-use Rattle.std.proofs.lemmas.List.Folds.{list_any_at}
-use Rattle.std.proofs.lemmas.List.Quantifiers.{all_pairs_push}
-use Rattle.std.proofs.lemmas.Option.{get_or_from_slice_get, slice_get_within}
-use Rattle.cf_types.specs.declared.limits.TheConstants.{CONNECTORS}
-use Rattle.cf_types.specs.declared.numbers.StrNo.{StrNo}
-use Rattle.cf_types.specs.declared.forms.Kind.{Kind}
+use Rattle.plex_script.proofs.Names.{◌≡◌, ◌≢◌, ℕ, ◌+◌, ◌≤◌, ◌<◌, ◌==◌, ◌||◌, Bool, true, false, not, List, [], ◌∷◌, ◌++◌, Option, Some, None, length, codes, refl, sym, ap, ◌∙◌, arith, subst, slice_get, slice_set, get_or, All, AllPairs, nat_le, option_map_or, nat_tests, length-set, length_push, All-nil, All-push, All-set, list_any_at, all_pairs_push, get_or_from_slice_get, slice_get_within, CONNECTORS, StrNo, Kind, Pref as Set, StrForm, IsPref, IsKind, IsVectorOf, IsForm, Names, Declared, is_declared, Words, Declaration, Facility, Structure, Connector, Line, Script, form_tokens, declaration_tokens, IsVectorTold, Declares, declared_in, has_lines, is_full, is_twice, has_pref, with_pref, with_declaration, AddsDeclaration, IsLineOf, IsWellFormed, AreWithin, words-within}
 use Rattle.cf_types.specs.declared.forms.Kind.TheVariants as kind
-use Rattle.cf_types.specs.declared.forms.Pref.{Pref as Set}
-use Rattle.cf_types.specs.declared.forms.StrForm.{StrForm}
-use Rattle.cf_types.specs.Forms.{IsPref, IsKind, IsVectorOf, IsForm}
-use Rattle.plex_plain.specs.PlexSpell.declared.rigour.Rigour.TheVariants.{Names}
-use Rattle.plex_plain.specs.PlexSpell.Tokens.{Declared, is_declared}
-use Rattle.plex_plain.proofs.PlexSpell.PlaceLaws.{Words}
-use Rattle.plex_script.specs.declared.declarations.Declaration.{Declaration}
-use Rattle.plex_script.specs.declared.declarations.Declaration.TheVariants.{Facility, Structure, Pref, Connector}
-use Rattle.plex_script.specs.declared.scripts.Line.{Line}
-use Rattle.plex_script.specs.declared.scripts.Script.{Script}
-use Rattle.plex_plain.specs.PlexSpell.FormWords.{form_tokens}
-use Rattle.plex_script.specs.PolicyWords.{declaration_tokens, IsVectorTold, Declares}
-use Rattle.plex_script.specs.Causes.{declared_in, has_lines, is_full, is_twice, has_pref}
-use Rattle.plex_script.specs.Scripts.{with_pref, with_declaration, AddsDeclaration}
-use Rattle.plex_script.specs.WellFormed.{IsLineOf, IsWellFormed}
-use Rattle.plex_plain.specs.Ranges.{AreWithin}
-use Rattle.plex_plain.proofs.Within.{words-within}
+use Rattle.plex_script.specs.declared.declarations.Declaration.TheVariants.{Pref}
 
 pub not-true : (b : Bool) → not b ≡ true → b ≡ false
 not-true true h = absurd (cc)

@@ -1,34 +1,7 @@
 -- What a line adds to a script keeps it well formed, and so does a whole text.
-use Rattle.std.proofs.Common.{◌≡◌, ℕ, ◌≤◌, ◌==◌, Bool, true, false, not, List, [], ◌∷◌, ◌++◌, Option, Some, length, codes, refl, sym, ap, ◌∙◌, arith, subst, slice_get, All}
-use Rattle.std.specs.Bool.{if◌then◌else◌}
-use Rattle.std.proofs.lemmas.Bool.Decides.{nat_tests}
-use Rattle.std.proofs.lemmas.List.Elements.{All-nil, All-push, All-weaker}
-use Rattle.cf_types.specs.declared.limits.TheConstants.{CONNECTORS}
-use Rattle.cf_types.specs.declared.numbers.ConnId.{ConnId}
-use Rattle.cf_types.specs.declared.numbers.StrNo.{StrNo}
-use Rattle.cf_types.specs.declared.forms.Kind.{Kind}
-use Rattle.cf_types.specs.declared.forms.StrForm.{StrForm}
-use Rattle.cf_types.specs.declared.shell_commands.ShellCmd.{ShellCmd}
+use Rattle.plex_script.proofs.Names.{◌≡◌, ℕ, ◌≤◌, ◌==◌, Bool, true, false, not, List, [], ◌∷◌, ◌++◌, Option, Some, length, codes, refl, sym, ap, ◌∙◌, arith, subst, slice_get, All, if◌then◌else◌, nat_tests, All-nil, All-push, All-weaker, CONNECTORS, ConnId, StrNo, Kind, StrForm, ShellCmd, IsForm, IsConnector, Shell, Content, IsOperator, MayCommand, Declared, Literal, Number, shell_tokens, may_give, is_operator, Words, AnyAsk, Act, Call, Test, TestWord, Post, Take, Events, Line, Script, ask_tokens, act_tokens, retry_tokens, MayAsk, MayDo, declared_in, kind_of, AddsLine, IsScript, empty_script, MayAskAny, IsActOf, IsLineOf, IsWellFormed, IsOneOf, AreWithin, words-within, within-front, within-back}
 use Rattle.cf_types.specs.declared.shell_commands.ShellCmd.TheVariants as cmd
-use Rattle.cf_types.specs.Forms.{IsForm, IsConnector}
-use Rattle.engine_api.specs.declared.asks.Ask.TheVariants.{Shell, Content}
-use Rattle.engine_api.specs.Asking.{IsOperator, MayCommand}
-use Rattle.plex_plain.specs.PlexSpell.Tokens.{Declared}
-use Rattle.plex_plain.specs.PlexSpell.Tokens.Token.{Literal, Number}
-use Rattle.plex_plain.specs.PlexSpell.ShellWords.{shell_tokens, may_give, is_operator}
-use Rattle.plex_plain.proofs.PlexSpell.PlaceLaws.{Words}
-use Rattle.plex_script.specs.declared.scripts.AnyAsk.{AnyAsk}
 use Rattle.plex_script.specs.declared.scripts.AnyAsk.TheVariants as any
-use Rattle.plex_script.specs.declared.scripts.Act.{Act}
-use Rattle.plex_script.specs.declared.scripts.Act.TheVariants.{Call, Test, TestWord, Post, Take, Events}
-use Rattle.plex_script.specs.declared.scripts.Line.{Line}
-use Rattle.plex_script.specs.declared.scripts.Script.{Script}
-use Rattle.plex_script.specs.LineWords.{ask_tokens, act_tokens, retry_tokens, MayAsk, MayDo}
-use Rattle.plex_script.specs.Causes.{declared_in, kind_of}
-use Rattle.plex_script.specs.Scripts.{AddsLine, IsScript, empty_script}
-use Rattle.plex_script.specs.WellFormed.{MayAskAny, IsActOf, IsLineOf, IsWellFormed}
-use Rattle.plex_plain.specs.Ranges.{IsOneOf, AreWithin}
-use Rattle.plex_plain.proofs.Within.{words-within, within-front, within-back}
 use Rattle.plex_script.proofs.FormLaws.{declaration-keeps}
 use Rattle.plex_script.proofs.KeptAll.{Known, script-keeps}
 

@@ -1,23 +1,7 @@
 -- What each line keeps, a text keeps.
-use Rattle.std.proofs.Common.{◌≡◌, ℕ, ◌+◌, ◌≤◌, Bool, true, false, List, [], ◌∷◌, Option, Some, None, length, codes, refl, sym, ap, arith, subst, slice_get, get_or}
-use Rattle.std.specs.Bool.{MatchBool, if◌then◌else◌}
+use Rattle.plex_script.proofs.Names.{◌≡◌, ℕ, ◌+◌, ◌≤◌, Bool, true, false, List, [], ◌∷◌, Option, Some, None, length, codes, refl, sym, ap, arith, subst, slice_get, get_or, MatchBool, if◌then◌else◌, MatchOption, position-Some, slice_get-get_or, Name16, ConnId, StrNo, StrForm, same_word, words_of, lines_of, connector_of, structure_of, name_word, mapped, Words, connector-bounds, Script, caller_of, is_comment, is_policy_word, AddsDeclaration, AddsLine, AddsOfCaller, AddsWords, AddsAll, IsScript, empty_script, line_number}
 use Rattle.std.specs.List.{position}
-use Rattle.std.specs.Option.{MatchOption}
-use Rattle.std.proofs.lemmas.List.Quantifiers.{position-Some}
-use Rattle.std.proofs.lemmas.Option.{slice_get-get_or}
-use Rattle.cf_types.specs.declared.names.Name16.{Name16}
-use Rattle.cf_types.specs.declared.numbers.ConnId.{ConnId}
-use Rattle.cf_types.specs.declared.numbers.StrNo.{StrNo}
 use Rattle.cf_types.specs.declared.forms.Kind.TheVariants as kind
-use Rattle.cf_types.specs.declared.forms.StrForm.{StrForm}
-use Rattle.plex_plain.specs.PlexSpell.Words.{same_word, words_of, lines_of}
-use Rattle.plex_plain.specs.PlexSpell.Tokens.{connector_of, structure_of, name_word}
-use Rattle.plex_plain.proofs.PlexSpell.Choices.{mapped}
-use Rattle.plex_plain.proofs.PlexSpell.PlaceLaws.{Words}
-use Rattle.plex_plain.proofs.Within.{connector-bounds}
-use Rattle.plex_script.specs.declared.scripts.Script.{Script}
-use Rattle.plex_script.specs.Causes.{caller_of, is_comment, is_policy_word}
-use Rattle.plex_script.specs.Scripts.{AddsDeclaration, AddsLine, AddsOfCaller, AddsWords, AddsAll, IsScript, empty_script, line_number}
 
 -- ---- who and where
 

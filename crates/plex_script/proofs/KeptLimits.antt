@@ -1,40 +1,6 @@
 -- Each script of a text keeps the limits.
-use Rattle.std.proofs.Common.{◌≡◌, ◌≢◌, ℕ, ◌+◌, ◌≤◌, ◌==◌, ◌||◌, Bool, true, false, cond, List, [], ◌∷◌, ◌++◌, Option, Some, None, length, map, refl, sym, ap, ◌∙◌, arith, subst, slice_get, slice_set, get_or, All}
-use Rattle.std.specs.List.{list_any, sum_by}
-use Rattle.std.specs.Option.{option_map_or}
-use Rattle.std.proofs.Math.Seq.{map-set_same}
-use Rattle.std.proofs.lemmas.Bool.Decides.{nat_tests}
-use Rattle.std.proofs.lemmas.List.{length-set, length_push, map-append}
-use Rattle.std.proofs.lemmas.List.Elements.{All-nil, All-push, All-set, All-weaker}
-use Rattle.std.proofs.lemmas.List.Folds.{list_any_at, list_any-append}
-use Rattle.std.proofs.lemmas.List.Quantifiers.{all_pairs_push}
-use Rattle.std.proofs.lemmas.List.Sums.{sum_by-cons, sum_by-set}
-use Rattle.std.proofs.lemmas.Option.{get_or_from_slice_get, slice_get_within}
-use Rattle.cf_types.specs.declared.names.Name16.{Name16}
-use Rattle.cf_types.specs.declared.numbers.CfId.{CfId}
-use Rattle.cf_types.specs.declared.numbers.ConnId.{ConnId}
-use Rattle.cf_types.specs.declared.numbers.StrNo.{StrNo}
-use Rattle.cf_types.specs.declared.forms.Kind.{Kind}
-use Rattle.cf_types.specs.declared.forms.Pref.{Pref as Set}
-use Rattle.cf_types.specs.declared.forms.StrForm.{StrForm}
-use Rattle.cf_types.specs.Forms.{IsPref, IsForm}
-use Rattle.plex_plain.specs.PlexSpell.declared.rigour.Rigour.TheVariants.{Names}
-use Rattle.plex_plain.specs.PlexSpell.Words.{same_word}
-use Rattle.plex_plain.specs.PlexSpell.Tokens.{is_declared, name_word}
-use Rattle.plex_plain.proofs.PlexSpell.Choices.{same_word-of}
-use Rattle.plex_plain.proofs.PlexSpell.PlaceLaws.{Words}
-use Rattle.plex_plain.specs.Ranges.{IsNamed, AreNames, AreWithin}
-use Rattle.plex_plain.proofs.Within.{words-within, within-front, within-back, within-append}
-use Rattle.plex_script.specs.declared.declarations.Declaration.{Declaration}
-use Rattle.plex_script.specs.declared.declarations.Declaration.TheVariants.{Facility, Structure, Pref, Connector}
-use Rattle.plex_script.specs.declared.scripts.Line.{Line}
-use Rattle.plex_script.specs.declared.scripts.Script.{Script}
-use Rattle.plex_script.specs.LineWords.{act_tokens, retry_tokens, MayDo}
-use Rattle.plex_script.specs.PolicyWords.{declaration_tokens, Declares}
-use Rattle.plex_script.specs.Causes.{declared_in, has_lines, kind_of, is_full, is_twice, is_too_much, facility_units, units_of, all_prefs}
-use Rattle.plex_script.specs.Scripts.{with_declaration, AddsDeclaration, AddsLine, IsScript, empty_script}
-use Rattle.plex_script.specs.Printed.{class_in, line_tokens}
-use Rattle.plex_script.specs.Limits.{AreFacilities, IsStructureIn, IsLineIn, KeepsLimits}
+use Rattle.plex_script.proofs.Names.{◌≡◌, ◌≢◌, ℕ, ◌+◌, ◌≤◌, ◌==◌, ◌||◌, Bool, true, false, cond, List, [], ◌∷◌, ◌++◌, Option, Some, None, length, map, refl, sym, ap, ◌∙◌, arith, subst, slice_get, slice_set, get_or, All, list_any, sum_by, option_map_or, map-set_same, nat_tests, length-set, length_push, map-append, All-nil, All-push, All-set, All-weaker, list_any_at, list_any-append, all_pairs_push, sum_by-cons, sum_by-set, get_or_from_slice_get, slice_get_within, Name16, CfId, ConnId, StrNo, Kind, Pref as Set, StrForm, IsPref, IsForm, Names, same_word, is_declared, name_word, same_word-of, Words, IsNamed, AreNames, AreWithin, words-within, within-front, within-back, within-append, Declaration, Facility, Structure, Connector, Line, Script, act_tokens, retry_tokens, MayDo, declaration_tokens, Declares, declared_in, has_lines, kind_of, is_full, is_twice, is_too_much, facility_units, units_of, all_prefs, with_declaration, AddsDeclaration, AddsLine, IsScript, empty_script, class_in, line_tokens, AreFacilities, IsStructureIn, IsLineIn, KeepsLimits}
+use Rattle.plex_script.specs.declared.declarations.Declaration.TheVariants.{Pref}
 use Rattle.plex_script.proofs.FormLaws.{not-true, told-form, apart-new, form-with, no_lines, room_structures, room_connectors}
 use Rattle.plex_script.proofs.FormedLines.{kind-known}
 use Rattle.plex_script.proofs.KeptAll.{Known, script-keeps}

@@ -1,21 +1,5 @@
 -- Lines lead to one script, or are wrong, and not both.
-use Rattle.std.proofs.Common.{◌≡◌, ℕ, ◌+◌, ◌||◌, Bool, true, false, not, List, [], ◌∷◌, ◌++◌, Option, Some, None, refl, sym, ap, ◌∙◌, arith, inl, inr}
-use Rattle.std.specs.Bool.{MatchBool}
-use Rattle.std.specs.Option.{MatchOption}
-use Rattle.cf_types.specs.declared.numbers.ConnId.{ConnId}
-use Rattle.cf_types.specs.declared.numbers.StrNo.{StrNo}
-use Rattle.cf_types.specs.declared.forms.Kind.{Kind}
-use Rattle.plex_plain.specs.PlexSpell.declared.rigour.Rigour.TheVariants.{Names}
-use Rattle.plex_plain.specs.PlexSpell.Words.{words_of}
-use Rattle.plex_plain.specs.PlexSpell.Tokens.{Declared, structure_of}
-use Rattle.plex_plain.proofs.PlexSpell.PlaceLaws.{Words}
-use Rattle.plex_script.specs.declared.faults.Why.{Why}
-use Rattle.plex_script.specs.declared.faults.Why.TheVariants.{Late, Syntax, Limit, Unknown, Twice, Space}
-use Rattle.plex_script.specs.declared.scripts.Act.{Act}
-use Rattle.plex_script.specs.declared.scripts.Script.{Script}
-use Rattle.plex_script.specs.LineWords.{SaysDone}
-use Rattle.plex_script.specs.Causes.{declared_in, kind_of, has_lines, is_full, is_twice, is_too_much, is_long, is_comment, is_policy_word, caller_of, EmptyCause, PolicyCause, StrangeCause, NoStructureCause, DoneCause, CallerCause, LineCause}
-use Rattle.plex_script.specs.Scripts.{with_declaration, AddsDeclaration, AddsLine, AddsOfCaller, AddsWords, Adds, AddsAll, line_number}
+use Rattle.plex_script.proofs.Names.{◌≡◌, ℕ, ◌+◌, ◌||◌, Bool, true, false, not, List, [], ◌∷◌, ◌++◌, Option, Some, None, refl, sym, ap, ◌∙◌, arith, inl, inr, MatchBool, MatchOption, ConnId, StrNo, Kind, Names, words_of, Declared, structure_of, Words, Why, Late, Syntax, Limit, Unknown, Twice, Space, Act, Script, SaysDone, declared_in, kind_of, has_lines, is_full, is_twice, is_too_much, is_long, is_comment, is_policy_word, caller_of, EmptyCause, PolicyCause, StrangeCause, NoStructureCause, DoneCause, CallerCause, LineCause, with_declaration, AddsDeclaration, AddsLine, AddsOfCaller, AddsWords, Adds, AddsAll, line_number}
 use Rattle.plex_script.proofs.ActLaws.{act-complete}
 use Rattle.plex_script.proofs.CauseLaws.{Declares-one, SaysDone-limits, SaysDone-form, policy-read}
 

@@ -1,40 +1,6 @@
 -- The printed lines of callers do the same again.
-use Rattle.std.proofs.Common.{◌≡◌, ℕ, ◌+◌, ◌≤◌, ◌==◌, ◌||◌, Bool, true, false, not, cond, List, [], ◌∷◌, ◌++◌, length, map, Option, Some, option_map, position, slice_get, codes, decimal, refl, sym, ap, ◌∙◌, arith, zero, suc, length-append, subst, All}
-use Rattle.std.specs.Bool.{MatchBool}
-use Rattle.std.specs.List.{list_any}
-use Rattle.std.specs.Option.{MatchOption, option_map_or}
-use Rattle.std.proofs.lemmas.Bool.{and_parts}
-use Rattle.std.proofs.lemmas.Bool.Decides.{nat_tests}
-use Rattle.std.proofs.lemmas.Option.{get_or_from_slice_get, slice_get_within}
-use Rattle.std.specs.Char.{is_ascii_uppercase}
-use Rattle.cf_types.specs.declared.names.Name16.{Name16}
-use Rattle.cf_types.specs.declared.numbers.ConnId.{ConnId}
-use Rattle.cf_types.specs.declared.numbers.StrNo.{StrNo}
-use Rattle.cf_types.specs.declared.forms.Kind.{Kind}
-use Rattle.cf_types.specs.declared.forms.StrForm.{StrForm}
-use Rattle.cf_types.specs.Term.{IsPadded}
-use Rattle.engine_api.specs.declared.asks.Ask.TheVariants.{Shell, Content}
-use Rattle.plex_plain.specs.PlexSpell.Words.{same_word, line_of, tail_of}
-use Rattle.plex_plain.specs.PlexSpell.Tokens.{name_word, is_name, is_capital, reserved_words, connector_of, structure_of}
-use Rattle.plex_plain.specs.PlexSpell.Tokens.Token.{Literal, Number}
-use Rattle.plex_plain.specs.Naming.{caller_name, structure_name}
-use Rattle.plex_plain.specs.PlainWords.{plain_words}
-use Rattle.plex_plain.specs.Ranges.{AreNames}
-use Rattle.plex_plain.proofs.Places.{HaveNames, name-place}
-use Rattle.plex_plain.proofs.Said.{words-said, connector-said}
-use Rattle.plex_plain.proofs.Texts.{AreGood}
-use Rattle.plex_plain.proofs.Rooms.{IsRow, row-append, words-good, name-good, caller-good}
-use Rattle.plex_plain.proofs.Rows.{shell-row, cache-row, list-row, lock-row}
+use Rattle.plex_script.proofs.Names.{◌≡◌, ℕ, ◌+◌, ◌≤◌, ◌==◌, ◌||◌, Bool, true, false, not, cond, List, [], ◌∷◌, ◌++◌, length, map, Option, Some, option_map, position, slice_get, codes, decimal, refl, sym, ap, ◌∙◌, arith, zero, suc, length-append, subst, All, MatchBool, list_any, MatchOption, option_map_or, and_parts, nat_tests, get_or_from_slice_get, slice_get_within, is_ascii_uppercase, Name16, ConnId, StrNo, Kind, StrForm, IsPadded, Shell, Content, same_word, line_of, tail_of, name_word, is_name, is_capital, reserved_words, connector_of, structure_of, Literal, Number, caller_name, structure_name, plain_words, AreNames, HaveNames, name-place, words-said, connector-said, AreGood, IsRow, row-append, words-good, name-good, caller-good, shell-row, cache-row, list-row, lock-row, Act, Call, Test, TestWord, Post, Take, Events, Line, Script, act_tokens, retry_tokens, MayDo, declared_in, caller_of, is_comment, is_policy_word, line_number, AddsWords, AddsLine, class_in, line_tokens, body_line, numbered_behind, IsLineIn}
 use Rattle.plex_script.specs.declared.scripts.AnyAsk.TheVariants as any
-use Rattle.plex_script.specs.declared.scripts.Act.{Act}
-use Rattle.plex_script.specs.declared.scripts.Act.TheVariants.{Call, Test, TestWord, Post, Take, Events}
-use Rattle.plex_script.specs.declared.scripts.Line.{Line}
-use Rattle.plex_script.specs.declared.scripts.Script.{Script}
-use Rattle.plex_script.specs.LineWords.{act_tokens, retry_tokens, MayDo}
-use Rattle.plex_script.specs.Causes.{declared_in, caller_of, is_comment, is_policy_word}
-use Rattle.plex_script.specs.Scripts.{line_number, AddsWords, AddsLine}
-use Rattle.plex_script.specs.Printed.{class_in, line_tokens, body_line, numbered_behind}
-use Rattle.plex_script.specs.Limits.{IsLineIn}
 use Rattle.plex_script.proofs.Chains.{Leads, LeadsOne, leads-each}
 use Rattle.plex_script.proofs.FormedLines.{kind-known}
 use Rattle.plex_script.proofs.PolicyPrinted.{element, line-adds}

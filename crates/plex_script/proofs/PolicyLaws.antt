@@ -1,29 +1,7 @@
 -- What is read of a line of a policy is spelled so, and what is spelled so is read.
-use Rattle.std.proofs.Common.{◌≡◌, ℕ, Bool, true, false, List, [], ◌∷◌, Option, Some, codes, refl, sym, ap, ◌∙◌, lit<, subst}
-use Rattle.cf_types.specs.declared.names.Name16.{Name16}
-use Rattle.cf_types.specs.declared.forms.Caps.{Caps}
-use Rattle.cf_types.specs.declared.forms.Kind.{Kind}
+use Rattle.plex_script.proofs.Names.{◌≡◌, ℕ, Bool, true, false, List, [], ◌∷◌, Option, Some, codes, refl, sym, ap, ◌∙◌, lit<, subst, Name16, Caps, Kind, Pref as Set, StrForm, Rigour, same_word, begins_with, words_behind, Declared, Spells, Literal, NewName, is_names, on_first, new_name_of, Place, Values, tokens_of, values_at, ANewName, pick, not_some, bound, word-same, new_name-sound, new_name-complete, Words, FindsAll, Spells-append, Spells-split, single-sound, single-complete, led, led-by, ArePlaces, are_rows, values-sound, values-complete, verb-sound, command-complete, led-complete, AreFree-tail, all_lack_retry, Declaration, Facility, Structure, Connector, form_tokens, declaration_tokens, IsDeclaration, IsVectorTold, Declares, whole_read, facility_places, facility_from, pref_places, pref_from, cache_places, cache_from, list_places, list_from, lock_places, lock_from, form_at, structure_at, declared_at, declaration_at}
 use Rattle.cf_types.specs.declared.forms.Kind.TheVariants as kind
-use Rattle.cf_types.specs.declared.forms.Pref.{Pref as Set}
-use Rattle.cf_types.specs.declared.forms.StrForm.{StrForm}
-use Rattle.plex_plain.specs.PlexSpell.declared.rigour.Rigour.{Rigour}
-use Rattle.plex_plain.specs.PlexSpell.Words.{same_word, begins_with, words_behind}
-use Rattle.plex_plain.specs.PlexSpell.Tokens.{Declared, Spells}
-use Rattle.plex_plain.specs.PlexSpell.Tokens.Token.{Literal, NewName}
-use Rattle.plex_plain.specs.PlexSpell.Places.{is_names, on_first, new_name_of}
-use Rattle.plex_plain.specs.PlexSpell.Patterns.{Place, Values, tokens_of, values_at}
-use Rattle.plex_plain.specs.PlexSpell.Patterns.Place.{ANewName}
-use Rattle.plex_plain.proofs.PlexSpell.Choices.{pick, not_some, bound, word-same}
-use Rattle.plex_plain.proofs.PlexSpell.WordLaws.{new_name-sound, new_name-complete}
-use Rattle.plex_plain.proofs.PlexSpell.PlaceLaws.{Words, FindsAll, Spells-append, Spells-split, single-sound, single-complete, led, led-by}
-use Rattle.plex_plain.proofs.PlexSpell.PatternLaws.{ArePlaces, are_rows, values-sound, values-complete}
-use Rattle.plex_plain.proofs.PlexSpell.VerbLaws.{verb-sound, command-complete, led-complete, AreFree-tail, all_lack_retry}
-use Rattle.plex_script.specs.declared.declarations.Declaration.{Declaration}
-use Rattle.plex_script.specs.declared.declarations.Declaration.TheVariants.{Facility, Structure, Pref, Connector}
-use Rattle.plex_plain.specs.PlexSpell.FormWords.{form_tokens}
-use Rattle.plex_script.specs.PolicyWords.{declaration_tokens, IsDeclaration, IsVectorTold, Declares}
-use Rattle.plex_script.specs.LineReading.{whole_read}
-use Rattle.plex_script.specs.PolicyReading.{facility_places, facility_from, pref_places, pref_from, cache_places, cache_from, list_places, list_from, lock_places, lock_from, form_at, structure_at, declared_at, declaration_at}
+use Rattle.plex_script.specs.declared.declarations.Declaration.TheVariants.{Pref}
 use Rattle.plex_script.proofs.ActLaws.{ended-is}
 
 pub record DeclarationTold (rigour : Rigour) (declared : Declared) (ws rest : Words) (declaration : Declaration) :

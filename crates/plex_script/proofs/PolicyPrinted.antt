@@ -1,46 +1,8 @@
 -- The printed lines of a policy declare it again.
-use Rattle.std.proofs.Common.{◌≡◌, ◌≢◌, ℕ, ◌+◌, ◌<◌, ◌≤◌, ◌==◌, Bool, true, false, not, cond, nat_le, nat_lt, List, [], ◌∷◌, ◌++◌, length, map, get_or, Option, Some, option_map, slice_get, slice_set, codes, decimal, refl, sym, ap, ◌∙◌, arith, length-append, subst, All, lit<}
-use Rattle.std.specs.List.{list_any, flat_map}
-use Rattle.std.specs.Option.{option_map_or}
-use Rattle.std.proofs.Math.Seq.{get_or-append_seam, set-append_seam}
-use Rattle.std.proofs.lemmas.Bool.Decides.{nat_tests}
-use Rattle.std.proofs.lemmas.Grind.{flat_map-append}
-use Rattle.std.proofs.lemmas.List.{get_or_append_left, get_or-map, length-map}
-use Rattle.std.proofs.lemmas.List.Folds.{list_any_none}
-use Rattle.std.proofs.lemmas.List.Sums.{sum_by-append, sum_by-cons}
-use Rattle.std.proofs.lemmas.Option.{slice_get-get_or}
-use Rattle.cf_types.specs.declared.limits.TheConstants.{CAPACITY, CONNECTORS, VECTOR_BITS, HEADERS, LIST_LOCKS}
-use Rattle.cf_types.specs.declared.names.Name16.{Name16}
-use Rattle.cf_types.specs.declared.numbers.CfId.{CfId}
-use Rattle.cf_types.specs.declared.numbers.StrNo.{StrNo}
-use Rattle.cf_types.specs.declared.forms.Kind.{Kind}
+use Rattle.plex_script.proofs.Names.{◌≡◌, ◌≢◌, ℕ, ◌+◌, ◌<◌, ◌≤◌, ◌==◌, Bool, true, false, not, cond, nat_le, nat_lt, List, [], ◌∷◌, ◌++◌, length, map, get_or, Option, Some, option_map, slice_get, slice_set, codes, decimal, refl, sym, ap, ◌∙◌, arith, length-append, subst, All, lit<, list_any, flat_map, option_map_or, get_or-append_seam, set-append_seam, nat_tests, flat_map-append, get_or_append_left, get_or-map, length-map, list_any_none, sum_by-append, sum_by-cons, slice_get-get_or, CAPACITY, CONNECTORS, VECTOR_BITS, HEADERS, LIST_LOCKS, Name16, CfId, StrNo, Kind, Refs, Pref as Set, StrForm, IsForm, IsPref, IsKind, IsVectorOf, Names, same_word, line_of, tail_of, form_tokens, disposition, references, Declared, Token, Spells, name_word, is_declared, structure_of, Literal, Number, same_word-refl, facility_word, plain_words, facility_line, form_line, pref_line, connector_line, structure_lines, IsNamed, AreNames, AreWithin, apart_words, HaveNames, position-seam, words-said, number-said, facility-said, name-said, connectors-named, AreGood, words-back, line-clear, IsRow, row-append, row-wider, words-good, name-good, number-good, facility-good, Facility, Structure, Connector, Script, IsVectorTold, declared_in, is_long, has_pref, facility_units, units_of, all_prefs, with_pref, AddsWords, line_number, AreFacilities, IsStructureIn}
 use Rattle.cf_types.specs.declared.forms.Kind.TheVariants as kind
-use Rattle.cf_types.specs.declared.forms.Refs.{Refs}
 use Rattle.cf_types.specs.declared.forms.Refs.TheVariants as refs
-use Rattle.cf_types.specs.declared.forms.Pref.{Pref as Set}
-use Rattle.cf_types.specs.declared.forms.StrForm.{StrForm}
-use Rattle.cf_types.specs.Forms.{IsForm, IsPref, IsKind, IsVectorOf}
-use Rattle.plex_plain.specs.PlexSpell.declared.rigour.Rigour.TheVariants.{Names}
-use Rattle.plex_plain.specs.PlexSpell.Words.{same_word, line_of, tail_of}
-use Rattle.plex_plain.specs.PlexSpell.FormWords.{form_tokens}
-use Rattle.plex_plain.specs.PlexSpell.Fields.{disposition, references}
-use Rattle.plex_plain.specs.PlexSpell.Tokens.{Declared, Token, Spells, name_word, is_declared, structure_of}
-use Rattle.plex_plain.specs.PlexSpell.Tokens.Token.{Literal, Number}
-use Rattle.plex_plain.proofs.PlexSpell.Choices.{same_word-refl}
-use Rattle.plex_plain.specs.Naming.{facility_word}
-use Rattle.plex_plain.specs.PlainWords.{plain_words}
-use Rattle.plex_plain.specs.PolicyLines.{facility_line, form_line, pref_line, connector_line, structure_lines}
-use Rattle.plex_plain.specs.Ranges.{IsNamed, AreNames, AreWithin}
-use Rattle.plex_plain.proofs.Places.{apart_words, HaveNames, position-seam}
-use Rattle.plex_plain.proofs.Said.{words-said, number-said, facility-said, name-said, connectors-named}
-use Rattle.plex_plain.proofs.Texts.{AreGood, words-back, line-clear}
-use Rattle.plex_plain.proofs.Rooms.{IsRow, row-append, row-wider, words-good, name-good, number-good, facility-good}
-use Rattle.plex_script.specs.declared.declarations.Declaration.TheVariants.{Facility, Structure, Pref, Connector}
-use Rattle.plex_script.specs.declared.scripts.Script.{Script}
-use Rattle.plex_script.specs.PolicyWords.{IsVectorTold}
-use Rattle.plex_script.specs.Causes.{declared_in, is_long, has_pref, facility_units, units_of, all_prefs}
-use Rattle.plex_script.specs.Scripts.{with_pref, AddsWords, line_number}
-use Rattle.plex_script.specs.Limits.{AreFacilities, IsStructureIn}
+use Rattle.plex_script.specs.declared.declarations.Declaration.TheVariants.{Pref}
 use Rattle.plex_script.proofs.Chains.{Leads, LeadsOne, leads-each, leads-blocks, leads-one}
 
 abbrev policy : List Set → List StrForm → List Name16 → Script

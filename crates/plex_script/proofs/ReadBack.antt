@@ -1,13 +1,5 @@
 -- A printed script is read back.
-use Rattle.std.proofs.Common.{◌≡◌, ℕ, ◌+◌, List, [], ◌++◌, length, map, sym, arith, subst}
-use Rattle.std.specs.List.{flat_map}
-use Rattle.plex_plain.specs.PolicyLines.{facility_line, structure_lines, connector_line}
-use Rattle.plex_plain.proofs.Texts.{lines-back}
-use Rattle.plex_script.specs.declared.scripts.Script.{Script}
-use Rattle.plex_script.specs.Scripts.{empty_script, AddsAll, IsScript}
-use Rattle.plex_script.specs.Printed.{body_line, policy_lines, printed_lines, script_text, with_line_numbers}
-use Rattle.plex_script.specs.Limits.{KeepsLimits}
-use Rattle.plex_script.specs.Laws.{IsReadBack}
+use Rattle.plex_script.proofs.Names.{◌≡◌, ℕ, ◌+◌, List, [], ◌++◌, length, map, sym, arith, subst, flat_map, facility_line, structure_lines, connector_line, lines-back, Script, empty_script, AddsAll, IsScript, body_line, policy_lines, printed_lines, script_text, with_line_numbers, KeepsLimits, IsReadBack}
 use Rattle.plex_script.proofs.Chains.{Leads, leads-append}
 use Rattle.plex_script.proofs.PolicyPrinted.{structures-named, facilities-add, structures-add, connectors-add}
 use Rattle.plex_script.proofs.LinesPrinted.{lines-add}

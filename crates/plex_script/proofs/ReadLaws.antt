@@ -1,17 +1,5 @@
 -- Reading a text line by line.
-use Rattle.std.proofs.Common.{◌≡◌, ◌≢◌, ℕ, ◌<◌, ◌+◌, ◌-◌, ◌==◌, ◌||◌, Bool, true, false, min, nat_lt, List, [], ◌∷◌, ◌++◌, length, get_or, take, drop, Some, None, position, refl, sym, ap, ◌∙◌, arith, zero, suc, append_assoc, length-append}
-use Rattle.std.specs.List.{slice_split, list_any, position_or_len, before_first, after_first}
-use Rattle.std.proofs.lemmas.Bool.Decides.{nat_tests}
-use Rattle.std.proofs.lemmas.List.{append-nil}
-use Rattle.std.proofs.lemmas.List.Splits.{slice_split_first}
-use Rattle.plex_plain.specs.PlexSpell.Words.{is_nonempty, without_return, lines_in, lines_of}
-use Rattle.plex_plain.proofs.PlexSpell.TextLaws.{any-some, any-none, any-place}
-use Rattle.plex_script.specs.declared.scripts.Script.{Script}
-use Rattle.plex_script.specs.declared.line_faults.LineFault.{LineFault}
-use Rattle.plex_script.specs.declared.line_faults.LineFault.TheVariants.{Wrong, NoMemory}
-use Rattle.plex_script.specs.Causes.{LineCause}
-use Rattle.plex_script.specs.Scripts.{empty_script, Adds, AddsAll, line_number, IsScript}
-use Rattle.plex_script.specs.Reading.{IsFaultBy, fault_at, TellsFault}
+use Rattle.plex_script.proofs.Names.{◌≡◌, ◌≢◌, ℕ, ◌<◌, ◌+◌, ◌-◌, ◌==◌, ◌||◌, Bool, true, false, min, nat_lt, List, [], ◌∷◌, ◌++◌, length, get_or, take, drop, Some, None, position, refl, sym, ap, ◌∙◌, arith, zero, suc, append_assoc, length-append, slice_split, list_any, position_or_len, before_first, after_first, nat_tests, append-nil, slice_split_first, is_nonempty, without_return, lines_in, lines_of, any-some, any-none, any-place, Script, LineFault, Wrong, NoMemory, LineCause, empty_script, Adds, AddsAll, line_number, IsScript, IsFaultBy, fault_at, TellsFault}
 
 -- ---- carriage returns
 

@@ -1,15 +1,5 @@
 -- Texts that are made of lines, and lines of words.
-use Rattle.std.proofs.Common.{◌≡◌, ℕ, ◌+◌, suc, arith, ◌<◌, length, get_or, drop, drop-cons, List, [], ◌∷◌, ◌++◌, map, sym, ap, ◌∙◌, append_assoc}
-use Rattle.std.specs.List.{flat_map}
-use Rattle.std.proofs.lemmas.Grind.{flat_map-append}
-use Rattle.std.proofs.lemmas.List.{map-append}
-use Rattle.plex_plain.specs.PlexSpell.Words.{tail_of, line_text}
-use Rattle.plex_plain.specs.Naming.{caller_name, structure_name}
-use Rattle.plex_plain.specs.PlainWords.{plain_word, plain_words}
-use Rattle.plex_script.specs.declared.scripts.Line.{Line}
-use Rattle.plex_script.specs.declared.scripts.Script.{Script}
-use Rattle.plex_script.specs.LineWords.{act_tokens, retry_tokens}
-use Rattle.plex_script.specs.Printed.{class_in, body_line}
+use Rattle.plex_script.proofs.Names.{◌≡◌, ℕ, ◌+◌, suc, arith, ◌<◌, length, get_or, drop, drop-cons, List, [], ◌∷◌, ◌++◌, map, sym, ap, ◌∙◌, append_assoc, flat_map, flat_map-append, map-append, tail_of, line_text, caller_name, structure_name, plain_word, plain_words, Line, Script, act_tokens, retry_tokens, class_in, body_line}
 
 pub text_append : (xs ys : List (List ℕ)) → flat_map line_text (xs ++ ys) ≡ flat_map line_text xs
     ++ flat_map line_text ys

@@ -1,12 +1,7 @@
 -- The steps of a line: each call leaves fewer, they go with the line's call, and only where nothing is left they rest.
-use Rattle.std.proofs.Common.{◌≡◌, ◌≢◌, ℕ, zero, suc, ◌+◌, ◌*◌, ◌≤◌, Bool, true, false, cond, Some, None, Option, refl, ap, arith}
-use Rattle.cf_types.specs.declared.forms.Kind.{Kind}
+use Rattle.plex_script.proofs.Names.{◌≡◌, ◌≢◌, ℕ, zero, suc, ◌+◌, ◌*◌, ◌≤◌, Bool, true, false, cond, Some, None, Option, refl, ap, arith, Kind, Told, Step, AnyAsk, step_after, most_asks, asks_behind, asked_by, round_step, after_round, shell_ask, IsReady}
 use Rattle.cf_types.specs.declared.shell_commands.ShellCmd.TheVariants as cmd
-use Rattle.engine_api.specs.declared.told.Told.{Told}
-use Rattle.plex_script.specs.declared.agents.Step.{Step}
 use Rattle.plex_script.specs.declared.agents.Step.TheVariants as step
-use Rattle.plex_script.specs.declared.scripts.AnyAsk.{AnyAsk}
-use Rattle.plex_script.specs.Agent.{step_after, most_asks, asks_behind, asked_by, round_step, after_round, shell_ask, IsReady}
 
 -- ---- how many asks are left
 

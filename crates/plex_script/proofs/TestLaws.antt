@@ -1,17 +1,7 @@
 -- Which calls a line's items show: a test of a bit or a word shows none, and a run shows those on its structure alone.
-use Rattle.std.proofs.Common.{◌≡◌, ℕ, ◌*◌, ◌==◌, Bool, true, false, List, [], ◌∷◌, Option, refl, ap}
-use Rattle.std.specs.Prelude.{MatchBool, nat_lt}
-use Rattle.cf_types.specs.declared.forms.Kind.{Kind}
-use Rattle.cf_types.specs.declared.forms.StrForm.{StrForm}
-use Rattle.cf_types.specs.declared.numbers.ConnId.{ConnId}
-use Rattle.cf_types.specs.declared.numbers.StrNo.{StrNo}
-use Rattle.plex_script.specs.declared.agents.Step.{Step}
-use Rattle.plex_script.specs.declared.scripts.AnyAsk.{AnyAsk}
-use Rattle.plex_script.specs.declared.transcripts.Shown.{Shown}
+use Rattle.plex_script.proofs.Names.{◌≡◌, ℕ, ◌*◌, ◌==◌, Bool, true, false, List, [], ◌∷◌, Option, refl, ap, nat_lt, Kind, StrForm, ConnId, StrNo, Step, AnyAsk, Shown, step_after, AnyCall, Runs, ShowsTest, ShowsWord, numbers_on}
+use Rattle.std.proofs.Common.{MatchBool}
 use Rattle.plex_script.specs.declared.transcripts.Shown.TheVariants as shown
-use Rattle.plex_script.specs.Agent.{step_after}
-use Rattle.plex_script.specs.Heard.{AnyCall}
-use Rattle.plex_script.specs.Follows.{Runs, ShowsTest, ShowsWord, numbers_on}
 
 pub test_numbers : (form : StrForm) (place : StrNo) (index : ℕ) (items : List Shown) (on : StrNo)
     → ShowsTest form place index items → numbers_on on items ≡ []

@@ -1,22 +1,7 @@
 -- A line that writes storage class 1 out says the same without it.
-use Rattle.std.proofs.Common.{◌≡◌, ℕ, ◌≤◌, ◌==◌, Bool, true, false, cond, List, [], ◌++◌, Option, Some, None, codes, refl, arith, unwrap_or}
-use Rattle.std.proofs.lemmas.Bool.Decides.{nat_tests}
-use Rattle.cf_types.specs.declared.numbers.ConnId.{ConnId}
-use Rattle.cf_types.specs.declared.forms.Kind.{Kind}
-use Rattle.cf_types.specs.declared.cache_commands.CacheCmd.{CacheCmd}
+use Rattle.plex_script.proofs.Names.{◌≡◌, ℕ, ◌≤◌, ◌==◌, Bool, true, false, cond, List, [], ◌++◌, Option, Some, None, codes, refl, arith, unwrap_or, nat_tests, ConnId, Kind, CacheCmd, Shell, Content, Declared, Token, option_tokens, flag_tokens, name_tokens, number_tokens, short_tokens, class_tokens, cache_tokens, IsGiven, class_told, storage_told, AreWithin, within-front, within-back, within-append, Act, Call, Test, TestWord, Post, Take, Events, act_tokens, MayDo, class_in}
 use Rattle.cf_types.specs.declared.cache_commands.CacheCmd.TheVariants as cache
-use Rattle.engine_api.specs.declared.asks.Ask.TheVariants.{Shell, Content}
-use Rattle.plex_plain.specs.PlexSpell.Tokens.{Declared, Token}
-use Rattle.plex_plain.specs.PlexSpell.Fields.{option_tokens, flag_tokens, name_tokens, number_tokens, short_tokens}
-use Rattle.plex_plain.specs.PlexSpell.CacheWords.{class_tokens, cache_tokens, IsGiven}
-use Rattle.plex_plain.specs.PlainWords.{class_told, storage_told}
-use Rattle.plex_plain.specs.Ranges.{AreWithin}
-use Rattle.plex_plain.proofs.Within.{within-front, within-back, within-append}
 use Rattle.plex_script.specs.declared.scripts.AnyAsk.TheVariants as any
-use Rattle.plex_script.specs.declared.scripts.Act.{Act}
-use Rattle.plex_script.specs.declared.scripts.Act.TheVariants.{Call, Test, TestWord, Post, Take, Events}
-use Rattle.plex_script.specs.LineWords.{act_tokens, MayDo}
-use Rattle.plex_script.specs.Printed.{class_in}
 
 -- ---- which storage class is told
 

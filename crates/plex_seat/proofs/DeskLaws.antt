@@ -1,14 +1,5 @@
 -- A desk whose owner has seen more, and a desk that may be used at a structure.
-use Rattle.std.proofs.Common.{◌≡◌, ℕ, ◌<◌, ◌++◌, List, [], ◌∷◌, length, get_or, refl, sym, ap, subst, ◌∙◌, arith}
-use Rattle.std.proofs.Math.Seq.{get_or-append_seam}
-use Rattle.std.proofs.lemmas.List.{length-append, set-set}
-use Rattle.plex_board.specs.CfTypes.declared.numbers.StrNo.{StrNo}
-use Rattle.plex_board.specs.CfTypes.Forms.{IsConnector}
-use Rattle.plex_board.specs.Passes.{PassShown, IsLater}
-use Rattle.plex_board.specs.Desks.{DeskShown, pass_at, with_pass, IsLaterOn}
-use Rattle.plex_board.specs.Boards.{BoardShown}
-use Rattle.plex_board.proofs.DeskLaws.{with_pass-pass_at}
-use Rattle.plex_seat.specs.Seats.{SeatShown, IsSame, MaySit}
+use Rattle.plex_seat.proofs.Names.{◌≡◌, ℕ, ◌<◌, ◌++◌, List, [], ◌∷◌, length, get_or, refl, sym, ap, subst, ◌∙◌, arith, get_or-append_seam, length-append, set-set, StrNo, IsConnector, PassShown, IsLater, DeskShown, pass_at, with_pass, IsLaterOn, BoardShown, with_pass-pass_at, SeatShown, IsSame, MaySit}
 
 -- ---- more was seen
 

@@ -1,23 +1,7 @@
 -- A member that asks for events: what it asked for adds up.
-use Rattle.std.proofs.Common.{◌≡◌, ℕ, ◌+◌, ◌<◌, ◌≤◌, ◌++◌, List, [], ◌∷◌, length, zero, suc, append_assoc, sym, ap, subst, ◌∙◌, arith}
-use Rattle.std.specs.Prelude.{All, slice_index_or, slice_set}
-use Rattle.std.specs.Option.{option_map_or}
-use Rattle.std.proofs.lemmas.List.{length-append, set-set}
-use Rattle.std.proofs.lemmas.List.Elements.{All-push}
-use Rattle.plex_board.specs.CfTypes.declared.numbers.StrNo.{StrNo}
+use Rattle.plex_seat.proofs.Names.{◌≡◌, ℕ, ◌+◌, ◌<◌, ◌≤◌, ◌++◌, List, [], ◌∷◌, length, zero, suc, append_assoc, sym, ap, subst, ◌∙◌, arith, All, slice_index_or, slice_set, option_map_or, length-append, set-set, All-push, StrNo, AnyAsk, AnyCall, StrType, OfCache, PassShown, with_call, CellShown, DeskShown, IsLaterOn, no_pass, pass_at, with_pass, BoardShown, cell_on, Unanswered, OtherKind, NotMade, Unread, SeatShown, IsSame, pass_of, type_at, common_ask, HasCalled, HasFault, HasAskedForEvents}
 use Rattle.plex_board.specs.CfTypes.declared.shell_commands.ShellCmd.TheVariants as cmd
-use Rattle.plex_board.specs.PlexScript.declared.scripts.AnyAsk.{AnyAsk}
-use Rattle.plex_board.specs.PlexScript.Heard.{AnyCall}
-use Rattle.plex_board.specs.Types.{StrType, OfCache}
-use Rattle.plex_board.specs.Passes.{PassShown, with_call}
-use Rattle.plex_board.specs.Cells.{CellShown}
-use Rattle.plex_board.specs.Desks.{DeskShown, IsLaterOn, no_pass, pass_at, with_pass}
-use Rattle.plex_board.specs.Boards.{BoardShown, cell_on}
-use Rattle.plex_seat.specs.declared.answers.Unanswered.{Unanswered}
-use Rattle.plex_seat.specs.declared.answers.Unanswered.TheVariants.{OtherKind, NotMade, Unread}
 use Rattle.plex_seat.proofs.DeskLaws.{later_same}
-use Rattle.plex_seat.specs.Seats.{SeatShown, IsSame, pass_of, type_at}
-use Rattle.plex_seat.specs.Answers.{common_ask, HasCalled, HasFault, HasAskedForEvents}
 
 -- ---- a desk whose pass is replaced more than once
 

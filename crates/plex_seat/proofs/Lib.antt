@@ -1,3 +1,4 @@
+pub mod Names
 pub mod DeskLaws
 pub mod EventLaws
 pub mod SeatLaws

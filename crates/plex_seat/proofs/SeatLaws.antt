@@ -1,19 +1,5 @@
 -- A member's own call is among those of its pass.
-use Rattle.std.proofs.Common.{◌≡◌, ℕ, ◌++◌, ◌==◌, List, [], ◌∷◌, Bool, true, false, Option, None, Some, refl, sym, ap, ◌∙◌, arith}
-use Rattle.std.specs.Prelude.{is_some, find}
-use Rattle.std.specs.Bool.{if◌then◌else◌}
-use Rattle.std.proofs.lemmas.Bool.{false≢true}
-use Rattle.std.proofs.lemmas.Bool.Decides.{nat_tests}
-use Rattle.plex_board.specs.CfTypes.declared.numbers.StrNo.{StrNo}
-use Rattle.plex_board.specs.EngineApi.declared.told.Told.{Told}
-use Rattle.plex_board.specs.PlexScript.declared.scripts.AnyAsk.{AnyAsk}
-use Rattle.plex_board.specs.PlexScript.Heard.{AnyCall, call_numbered}
-use Rattle.plex_board.specs.declared.any_reply.AnyReply.{AnyReply}
-use Rattle.plex_board.specs.Passes.{PassShown, with_call}
-use Rattle.plex_board.specs.Desks.{DeskShown, pass_at, IsAnsweredOn}
-use Rattle.plex_board.specs.Boards.{BoardShown}
-use Rattle.plex_board.proofs.DeskLaws.{pass_at-with_pass_same, desk-length}
-use Rattle.plex_seat.specs.Seats.{IsSeat}
+use Rattle.plex_seat.proofs.Names.{◌≡◌, ℕ, ◌++◌, ◌==◌, List, [], ◌∷◌, Bool, true, false, Option, None, Some, refl, sym, ap, ◌∙◌, arith, is_some, find, if◌then◌else◌, false≢true, nat_tests, StrNo, Told, AnyAsk, AnyCall, call_numbered, AnyReply, PassShown, with_call, DeskShown, pass_at, IsAnsweredOn, BoardShown, pass_at-with_pass_same, desk-length, IsSeat}
 
 -- the last that is looked for is found
 found_last : {A : Type 0} (p : A → Bool) (xs : List A) (y : A) → p y ≡ true → is_some (find p (xs ++ y ∷ [])) ≡ true

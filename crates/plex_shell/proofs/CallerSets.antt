@@ -1,14 +1,5 @@
 -- Sets of callers: that the active connectors are one, and how letters to one are posted.
-use Rattle.std.proofs.Common.{◌≡◌, ℕ, suc, ◌+◌, ◌-◌, ◌<◌, ◌≤◌, Bool, true, false, cond, not, ◌&&◌, ◌==◌, List, [], ◌∷◌, filter, refl, sym, subst, arith}
-use Rattle.std.proofs.lemmas.Bool.{eq-eqb, ne_eqb, and_right}
-use Rattle.cf_types.specs.declared.limits.TheConstants.{CALLERS}
-use Rattle.cf_types.specs.declared.events.Event.{Event}
-use Rattle.cf_types.specs.declared.numbers.ConnId.{ConnId}
-use Rattle.cf_types.specs.ConnSets.{conns_from, is_member, without_member}
-use Rattle.cf_types.specs.Connections.{Connections, is_active, actives}
-use Rattle.cf_types.specs.Mailboxes.{Mailboxes, with_letter, with_letters, letters_to}
-use Rattle.cf_types.proofs.ConnSetLaws.{filter_agree_from, is_member-from, without_member-from}
-use Rattle.plex_shell.specs.Callers.{AreCallers}
+use Rattle.plex_shell.proofs.Names.{◌≡◌, ℕ, suc, ◌+◌, ◌-◌, ◌<◌, ◌≤◌, Bool, true, false, cond, not, ◌&&◌, ◌==◌, List, [], ◌∷◌, filter, refl, sym, subst, arith, eq-eqb, ne_eqb, and_right, CALLERS, Event, ConnId, conns_from, is_member, without_member, Connections, is_active, actives, Mailboxes, with_letter, with_letters, letters_to, filter_agree_from, is_member-from, without_member-from, AreCallers}
 
 -- those of the callers that pass a test
 AreCallers-filter : (p : ConnId → Bool) → AreCallers (filter p (conns_from 0 CALLERS))

@@ -1,9 +1,5 @@
 -- What follows from what a reader made of words.
-use Rattle.std.proofs.Common.{◌≡◌, ℕ, ◌==◌, Bool, true, false, cond, List, [], ◌∷◌, Option, Some, None, option_map, refl, arith}
-use Rattle.std.proofs.lemmas.Bool.{and_parts, and_from}
-use Rattle.std.proofs.lemmas.Bool.Decides.{nat_tests}
-use Rattle.plex_spell.specs.Words.{same_word}
-use Rattle.plex_spell.specs.Places.{◌>>=◌}
+use Rattle.plex_spell.proofs.Names.{◌≡◌, ℕ, ◌==◌, Bool, true, false, cond, List, [], ◌∷◌, Option, Some, None, option_map, refl, arith, and_parts, and_from, nat_tests, same_word, ◌>>=◌}
 
 -- which way a test went
 pub chosen : {X G : Type 0} (b : Bool) (x y : Option X) (v : X) → (b ≡ true → x ≡ Some v → G)

@@ -1,3 +1,4 @@
+pub mod Names
 pub mod WordLists
 pub mod NumberLaws
 pub mod TextLaws

@@ -1,19 +1,8 @@
 -- What is read as a command of a list structure is spelled so, and what is spelled so is read.
-use Rattle.std.proofs.Common.{◌≡◌, ℕ, Bool, true, false, List, [], ◌∷◌, Option, Some, None, codes, refl, ap, ◌∙◌, lit<}
-use Rattle.cf_types.specs.declared.list_commands.Cond.{Cond}
-use Rattle.cf_types.specs.declared.list_commands.ListCmd.{ListCmd}
-use Rattle.cf_types.specs.declared.list_commands.ListCmd.TheVariants.{Write, Update, Read, Move, Delete, ReadList, LockSet, LockReset, LockTest, LControls, SetLimit, Monitor, Unmonitor}
-use Rattle.plex_spell.specs.declared.labels.Label.{Label}
+use Rattle.plex_spell.proofs.Names.{◌≡◌, ℕ, Bool, true, false, List, [], ◌∷◌, Option, Some, None, codes, refl, ap, ◌∙◌, lit<, Cond, ListCmd, Update, Move, ReadList, LockSet, LockReset, LockTest, LControls, SetLimit, Monitor, Unmonitor, Label, list_tokens, IsListLine, number_places, list_at, use_at, lock_use_at, make_places, make_of, update_places, update_of, record_places, move_places, move_of, delete_places, delete_of, two_places, label_name, label_key, Rigour, same_word, begins_with, words_behind, Declared, Spells, Literal, Number, tokens_of, number_at}
+use Rattle.cf_types.specs.declared.list_commands.ListCmd.TheVariants.{Write, Read, Delete}
 use Rattle.plex_spell.specs.declared.labels.Label.TheVariants as label
-use Rattle.plex_spell.specs.ListWords.{list_tokens, IsListLine}
-use Rattle.plex_spell.specs.CacheReading.{number_places}
-use Rattle.plex_spell.specs.ListReading.{list_at, use_at, lock_use_at, make_places, make_of, update_places, update_of, record_places, move_places, move_of, delete_places, delete_of, two_places, label_name, label_key}
 use Rattle.plex_spell.proofs.CacheLaws.{are_number}
-use Rattle.plex_spell.specs.declared.rigour.Rigour.{Rigour}
-use Rattle.plex_spell.specs.Words.{same_word, begins_with, words_behind}
-use Rattle.plex_spell.specs.Tokens.{Declared, Spells}
-use Rattle.plex_spell.specs.Tokens.Token.{Literal, Number}
-use Rattle.plex_spell.specs.Patterns.{tokens_of, number_at}
 use Rattle.plex_spell.proofs.Choices.{pick, not_some, bound, word-same}
 use Rattle.plex_spell.proofs.PlaceLaws.{Words, FindsAll, Spells-append, Spells-split, led, led-by, number_at-sound, number_at-complete}
 use Rattle.plex_spell.proofs.PatternLaws.{ArePlaces}

@@ -1,12 +1,5 @@
 -- What is read as a command of a lock structure is spelled so, and what is spelled so is read.
-use Rattle.std.proofs.Common.{◌≡◌, true, [], ◌∷◌, Some, codes, refl}
-use Rattle.cf_types.specs.declared.lock_commands.LockCmd.{LockCmd}
-use Rattle.cf_types.specs.declared.lock_commands.LockCmd.TheVariants.{Obtain, Alter, Release, Decide, RtRead, RtDelete}
-use Rattle.plex_spell.specs.LockWords.{lock_tokens}
-use Rattle.plex_spell.specs.LockReading.{lock_at, ask_places, decide_places}
-use Rattle.plex_spell.specs.Patterns.Place.{AResource, AConnector}
-use Rattle.plex_spell.specs.declared.rigour.Rigour.{Rigour}
-use Rattle.plex_spell.specs.Tokens.{Declared, Spells}
+use Rattle.plex_spell.proofs.Names.{◌≡◌, true, [], ◌∷◌, Some, codes, refl, LockCmd, Obtain, Alter, Release, Decide, RtRead, RtDelete, lock_tokens, lock_at, ask_places, decide_places, AResource, AConnector, Rigour, Declared, Spells}
 use Rattle.plex_spell.proofs.Choices.{pick, not_some}
 use Rattle.plex_spell.proofs.PlaceLaws.{Words, FindsAll}
 use Rattle.plex_spell.proofs.PatternLaws.{ArePlaces}

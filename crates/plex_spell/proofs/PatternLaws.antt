@@ -1,19 +1,6 @@
 -- Rows of places: what a reader makes of them is what the words stand for.
-use Rattle.std.proofs.Common.{◌≡◌, ℕ, ◌<◌, ◌^◌, ◌&&◌, Bool, true, false, not, List, [], ◌∷◌, ◌++◌, Option, Some, None, option_map, codes, refl, sym, ap, ◌∙◌}
-use Rattle.std.specs.List.{list_any}
-use Rattle.std.proofs.lemmas.Bool.{and_parts}
-use Rattle.cf_types.specs.declared.limits.TheConstants.{ADJUNCT_BYTES}
-use Rattle.cf_types.specs.declared.list_commands.Cond.TheVariants.{NotHeld, HeldBy}
+use Rattle.plex_spell.proofs.Names.{◌≡◌, ℕ, ◌<◌, ◌^◌, ◌&&◌, Bool, true, false, not, List, [], ◌∷◌, ◌++◌, Option, Some, None, option_map, codes, refl, sym, ap, ◌∙◌, list_any, and_parts, ADJUNCT_BYTES, NotHeld, HeldBy, Rigour, same_word, begins_with, words_behind, Declared, Token, Spells, facility_of, connector_of, structure_of, Literal, Number, Term, Short, Data, OnResource, OfFacility, OfConnector, OfStructure, NewFacility, NewName, one_of_two, references, option_tokens, flag_tokens, decision, is_names, number_of, text_of, data_of, resource_of, new_name_of, facility_in, connector_in, structure_in, Place, Value, Values, tokens_at, tokens_of, value_at, values_at, option_at, flag_at, either_of, decision_of, refs_of, Amount, AName, AKey, AShort, AData, AResource, AFacility, ANewFacility, AConnector, AStructure, ANewName, Either, ADecision, SomeRefs, AClass, ARecord, ACond, ALabel, AFlag, AnOption}
 use Rattle.plex_spell.specs.declared.labels.Label.TheVariants as label
-use Rattle.plex_spell.specs.declared.rigour.Rigour.{Rigour}
-use Rattle.plex_spell.specs.Words.{same_word, begins_with, words_behind}
-use Rattle.plex_spell.specs.Tokens.{Declared, Token, Spells, facility_of, connector_of, structure_of}
-use Rattle.plex_spell.specs.Tokens.Token.{Literal, Number, Term, Short, Data, OnResource, OfFacility, OfConnector, OfStructure, NewFacility, NewName}
-use Rattle.plex_spell.specs.Fields.{one_of_two, references, option_tokens, flag_tokens}
-use Rattle.plex_spell.specs.LockWords.{decision}
-use Rattle.plex_spell.specs.Places.{is_names, number_of, text_of, data_of, resource_of, new_name_of, facility_in, connector_in, structure_in}
-use Rattle.plex_spell.specs.Patterns.{Place, Value, Values, tokens_at, tokens_of, value_at, values_at, option_at, flag_at, either_of, decision_of, refs_of}
-use Rattle.plex_spell.specs.Patterns.Place.{Amount, AName, AKey, AShort, AData, AResource, AFacility, ANewFacility, AConnector, AStructure, ANewName, Either, ADecision, SomeRefs, AClass, ARecord, ACond, ALabel, AFlag, AnOption}
 use Rattle.plex_spell.proofs.Choices.{chosen, bound}
 use Rattle.plex_spell.proofs.WordLaws.{number-sound, number-complete, text-sound, text-complete, new_name-sound, new_name-complete, declared-sound, declared-complete, facility-sound, facility-complete}
 use Rattle.plex_spell.proofs.CutLaws.{resource-sound, resource-complete, data-sound, data-complete}

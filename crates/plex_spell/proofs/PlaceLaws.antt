@@ -1,17 +1,6 @@
 -- A reader of a row of places reads what the words stand for, and misses nothing.
-use Rattle.std.proofs.Common.{◌≡◌, ℕ, Bool, true, false, cond, List, [], ◌∷◌, ◌++◌, Option, Some, None, option_map, codes, refl, sym, ap, ◌∙◌, lit<}
-use Rattle.cf_types.specs.declared.forms.Refs.{Refs}
+use Rattle.plex_spell.proofs.Names.{◌≡◌, ℕ, Bool, true, false, cond, List, [], ◌∷◌, ◌++◌, Option, Some, None, option_map, codes, refl, sym, ap, ◌∙◌, lit<, Refs, Decision, Keep, Deny, Notify, Rigour, same_word, begins_with, words_behind, Declared, Token, IsWord, Spells, Literal, Number, one_of_two, references, decision, is_names, on_first, number_of, either_of, decision_of, refs_of, number_at}
 use Rattle.cf_types.specs.declared.forms.Refs.TheVariants as refs
-use Rattle.cf_types.specs.declared.lock_commands.Decision.{Decision}
-use Rattle.cf_types.specs.declared.lock_commands.Decision.TheVariants.{Keep, Deny, Notify}
-use Rattle.plex_spell.specs.declared.rigour.Rigour.{Rigour}
-use Rattle.plex_spell.specs.Words.{same_word, begins_with, words_behind}
-use Rattle.plex_spell.specs.Tokens.{Declared, Token, IsWord, Spells}
-use Rattle.plex_spell.specs.Tokens.Token.{Literal, Number}
-use Rattle.plex_spell.specs.Fields.{one_of_two, references}
-use Rattle.plex_spell.specs.LockWords.{decision}
-use Rattle.plex_spell.specs.Places.{is_names, on_first, number_of}
-use Rattle.plex_spell.specs.Patterns.{either_of, decision_of, refs_of, number_at}
 use Rattle.plex_spell.proofs.Choices.{chosen, not_some, mapped, word-same, same_word-of}
 use Rattle.plex_spell.proofs.WordLaws.{Finds, number-sound, number-complete}
 

@@ -1,23 +1,7 @@
 -- Places of several words, and rows of places.
-use Rattle.std.proofs.Common.{◌≡◌, ℕ, ◌||◌, Bool, true, false, not, ◌==◌, cond, List, [], ◌∷◌, Option, Some, None, option_map, codes, refl, sym, ap, ◌∙◌}
-use Rattle.std.specs.List.{list_any}
-use Rattle.cf_types.specs.declared.names.Name16.{Name16}
-use Rattle.cf_types.specs.declared.names.Key16.{Key16}
-use Rattle.cf_types.specs.declared.numbers.EntryId.{EntryId}
-use Rattle.cf_types.specs.declared.list_commands.At.{At}
+use Rattle.plex_spell.proofs.Names.{◌≡◌, ℕ, ◌||◌, Bool, true, false, not, ◌==◌, cond, List, [], ◌∷◌, Option, Some, None, option_map, codes, refl, sym, ap, ◌∙◌, list_any, Name16, Key16, EntryId, At, Cond, NotHeld, HeldBy, Label, Rigour, same_word, begins_with, words_behind, Declared, Token, Spells, Number, Term, Record, class_tokens, at_tokens, cond_tokens, on_first, name_of, key_of, record_of, label_tokens, number_at, class_at, cond_at, label_at, key_at, record_at}
 use Rattle.cf_types.specs.declared.list_commands.At.TheVariants as at
-use Rattle.cf_types.specs.declared.list_commands.Cond.{Cond}
-use Rattle.cf_types.specs.declared.list_commands.Cond.TheVariants.{NotHeld, HeldBy}
-use Rattle.plex_spell.specs.declared.labels.Label.{Label}
 use Rattle.plex_spell.specs.declared.labels.Label.TheVariants as label
-use Rattle.plex_spell.specs.declared.rigour.Rigour.{Rigour}
-use Rattle.plex_spell.specs.Words.{same_word, begins_with, words_behind}
-use Rattle.plex_spell.specs.Tokens.{Declared, Token, Spells}
-use Rattle.plex_spell.specs.Tokens.Token.{Number, Term, Record}
-use Rattle.plex_spell.specs.CacheWords.{class_tokens}
-use Rattle.plex_spell.specs.ListWords.{at_tokens, cond_tokens}
-use Rattle.plex_spell.specs.Places.{on_first, name_of, key_of, record_of}
-use Rattle.plex_spell.specs.Patterns.{label_tokens, number_at, class_at, cond_at, label_at, key_at, record_at}
 use Rattle.plex_spell.proofs.Choices.{chosen, not_some, bound, word-same}
 use Rattle.plex_spell.proofs.WordLaws.{name-sound, name-complete, key-sound, key-complete, record-sound, record-complete}
 use Rattle.plex_spell.proofs.PlaceLaws.{Words, FindsAll, Spells-append, Spells-split, single-sound, single-complete, led, led-by, behind-sound, behind-complete, number_at-sound, number_at-complete}

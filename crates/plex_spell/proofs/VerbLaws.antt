@@ -1,12 +1,5 @@
 -- Commands by their first words.
-use Rattle.std.proofs.Common.{◌≡◌, ℕ, Bool, true, not, ◌&&◌, List, [], ◌∷◌, Option, Some, codes, refl, ap, ◌∙◌}
-use Rattle.std.specs.List.{list_any}
-use Rattle.std.proofs.lemmas.Bool.{and_parts}
-use Rattle.plex_spell.specs.declared.rigour.Rigour.{Rigour}
-use Rattle.plex_spell.specs.Words.{same_word}
-use Rattle.plex_spell.specs.Tokens.{Declared, Token, Spells}
-use Rattle.plex_spell.specs.Tokens.Token.{Literal}
-use Rattle.plex_spell.specs.Patterns.{Place, Values, tokens_of, values_at}
+use Rattle.plex_spell.proofs.Names.{◌≡◌, ℕ, Bool, true, not, ◌&&◌, List, [], ◌∷◌, Option, Some, codes, refl, ap, ◌∙◌, list_any, and_parts, Rigour, same_word, Declared, Token, Spells, Literal, Place, Values, tokens_of, values_at}
 use Rattle.plex_spell.proofs.Choices.{word-same}
 use Rattle.plex_spell.proofs.PlaceLaws.{Words, FindsAll}
 use Rattle.plex_spell.proofs.RowLaws.{free_of}

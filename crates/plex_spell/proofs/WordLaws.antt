@@ -1,21 +1,5 @@
 -- A reader of a word reads what the word stands for, and misses nothing.
-use Rattle.std.proofs.Common.{◌≡◌, ℕ, ◌<◌, ◌≤◌, ◌^◌, ◌==◌, ◌&&◌, ◌||◌, Bool, true, false, not, cond, nat_le, List, [], ◌∷◌, length, take, Option, Some, None, option_map, refl, sym, ap, ◌∙◌, arith, eqb-true, eq-eqb, lit<}
-use Rattle.std.specs.Char.{is_ascii_uppercase, is_ascii_digit}
-use Rattle.std.specs.Fmt.{decimal}
-use Rattle.std.specs.List.{list_all, list_any}
-use Rattle.std.specs.Str.Parse.{digits_value}
-use Rattle.std.proofs.lemmas.Bool.{and_parts, and_from}
-use Rattle.std.proofs.lemmas.Bool.Decides.{nat_tests}
-use Rattle.cf_types.specs.declared.names.Name16.{Name16}
-use Rattle.cf_types.specs.declared.names.Key16.{Key16}
-use Rattle.cf_types.specs.declared.numbers.CfId.{CfId}
-use Rattle.cf_types.specs.declared.numbers.EntryId.{EntryId}
-use Rattle.cf_types.specs.Term.{term_byte, block_of}
-use Rattle.plex_spell.specs.declared.rigour.Rigour.{Rigour}
-use Rattle.plex_spell.specs.declared.rigour.Rigour.TheVariants.{Form, Limits, Names}
-use Rattle.plex_spell.specs.Words.{same_word}
-use Rattle.plex_spell.specs.Tokens.{Declared, AtLimits, AtNames, IsNumber, IsText, IsName, IsRecord, is_numeral, is_term, is_name, is_capital, reserved_words, facility_of, is_declared}
-use Rattle.plex_spell.specs.Places.{◌>>=◌, within_limits, named_value, is_names, number_of, text_of, name_of, key_of, new_name_of, record_of, facility_in}
+use Rattle.plex_spell.proofs.Names.{◌≡◌, ℕ, ◌<◌, ◌≤◌, ◌^◌, ◌==◌, ◌&&◌, ◌||◌, Bool, true, false, not, cond, nat_le, List, [], ◌∷◌, length, take, Option, Some, None, option_map, refl, sym, ap, ◌∙◌, arith, eqb-true, eq-eqb, lit<, is_ascii_uppercase, is_ascii_digit, decimal, list_all, list_any, digits_value, and_parts, and_from, nat_tests, Name16, Key16, CfId, EntryId, term_byte, block_of, Rigour, Form, Limits, Names, same_word, Declared, AtLimits, AtNames, IsNumber, IsText, IsName, IsRecord, is_numeral, is_term, is_name, is_capital, reserved_words, facility_of, is_declared, ◌>>=◌, within_limits, named_value, is_names, number_of, text_of, name_of, key_of, new_name_of, record_of, facility_in}
 use Rattle.plex_spell.proofs.Choices.{chosen, not_some, mapped, bound}
 use Rattle.plex_spell.proofs.NumberLaws.{decimal-numeral, value-decimal, numeral-decimal}
 

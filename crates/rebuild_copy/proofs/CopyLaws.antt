@@ -1,17 +1,6 @@
 -- Engines that are filled by items, one after another.
-use Rattle.std.proofs.Common.{◌≡◌, ℕ, ◌+◌, ◌-◌, ◌<◌, List, [], ◌∷◌, ◌++◌, Some, Result, Ok, Err, OnOk, OnErr, length, take, drop, slice_get, ⊎_elim, sym, ap, ◌∙◌, subst, arith, append_assoc}
-use Rattle.std.proofs.lemmas.List.{drop_all}
-use Rattle.std.specs.Prelude.{Bool}
-use Rattle.std.proofs.lemmas.List.Sums.{fold-append}
-use Rattle.std.proofs.lemmas.Option.{slice_get_cases}
-use Rattle.cf_types.specs.declared.forms.Caps.{Caps}
-use Rattle.cf_types.specs.declared.forms.Kind.{Kind}
+use Rattle.rebuild_copy.proofs.Names.{◌≡◌, ℕ, ◌+◌, ◌-◌, ◌<◌, List, [], ◌∷◌, ◌++◌, Some, Result, Ok, Err, OnOk, OnErr, length, take, drop, slice_get, ⊎_elim, sym, ap, ◌∙◌, subst, arith, append_assoc, Bool, drop_all, fold-append, slice_get_cases, Caps, Kind, Shape, Meaning, Held, new_held, items_of, with_item, without_last_item, Fits, IsNoMore, IsNextItem, content_of_items, take_next, split_next, Copy, copy_in, IsFilled, IsCopyOf, with_next}
 use Rattle.cf_types.specs.declared.forms.Kind.TheVariants as kind
-use Rattle.engine_api.specs.declared.shapes.Shape.{Shape}
-use Rattle.engine_api.specs.Meaning.{Meaning, Held, new_held, items_of, with_item, without_last_item}
-use Rattle.engine_api.specs.Items.{Fits, IsNoMore, IsNextItem, content_of_items}
-use Rattle.cf_lists.proofs.TakeLaws.{take_next, split_next}
-use Rattle.rebuild_copy.specs.Copies.{Copy, copy_in, IsFilled, IsCopyOf, with_next}
 
 -- what needs no more fits as well
 fits_less : (kind : Kind) (need other caps : Caps) → IsNoMore need other → Fits kind other caps → Fits kind need caps

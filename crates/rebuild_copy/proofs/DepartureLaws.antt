@@ -1,12 +1,6 @@
 -- A departure while a new instance stands.
-use Rattle.std.proofs.Common.{◌≡◌, Bool, List, [], length, take, refl, sym, subst, arith}
-use Rattle.cf_types.specs.declared.forms.Caps.{Caps}
-use Rattle.cf_types.specs.declared.forms.Kind.{Kind}
+use Rattle.rebuild_copy.proofs.Names.{◌≡◌, Bool, List, [], length, take, refl, sym, subst, arith, Caps, Kind, Shape, Fits, IsNoMoreOf, Meaning, Held, items_of, Copy, IsCopyOf}
 use Rattle.cf_types.specs.declared.forms.Kind.TheVariants as kind
-use Rattle.engine_api.specs.declared.shapes.Shape.{Shape}
-use Rattle.engine_api.specs.Items.{Fits, IsNoMoreOf}
-use Rattle.engine_api.specs.Meaning.{Meaning, Held, items_of}
-use Rattle.rebuild_copy.specs.Copies.{Copy, IsCopyOf}
 
 -- what needs no more by the kind's rule fits as well
 fits_no_more : (of : Kind) (need other caps : Caps) → IsNoMoreOf of need other → Fits of other caps → Fits of need caps

@@ -1,16 +1,6 @@
 -- Whoever may use the content is connected to an instance that stands.
-use Rattle.std.proofs.Common.{◌≡◌, true, None, is_some, List}
-use Rattle.plex_board.specs.CfTypes.declared.forms.StrForm.{StrForm}
-use Rattle.plex_board.specs.CfTypes.declared.numbers.ConnId.{ConnId}
-use Rattle.plex_board.specs.CfTypes.Connections.{is_active, actives}
-use Rattle.plex_board.specs.EngineApi.declared.histories.Entry.{Entry}
-use Rattle.plex_board.specs.EngineApi.History.{replay}
-use Rattle.plex_board.specs.EngineApi.Meaning.{Meaning}
+use Rattle.run_laws.proofs.Names.{◌≡◌, true, None, is_some, List, StrForm, ConnId, is_active, actives, Entry, replay, Meaning, Shell, unless_active, if_lost, if_failed, content_cause, third_none, not_so, manned-replay, active_of, active_member, first_none, somebody_member}
 use Rattle.plex_board.specs.CfTypes.declared.refusals.Refusal.TheVariants as refusal
-use Rattle.plex_board.specs.EngineApi.Shell.{Shell, unless_active, if_lost, if_failed, content_cause}
-use Rattle.plex_board.proofs.ShellLaws.CauseLaws.{third_none, not_so}
-use Rattle.plex_board.proofs.ShellLaws.MemberLaws.{manned-replay}
-use Rattle.plex_board.proofs.ShellLaws.StepLaws.{active_of, active_member, first_none, somebody_member}
 
 module _ {C R I S : Type 0} (meaning : Meaning C R I S) (form : StrForm) where
   -- a command on the content that the shell doesn't refuse finds an instance, and leaves it

@@ -1,22 +1,6 @@
 -- No history is longer than the lines of the script and the closings make it.
-use Rattle.std.proofs.Common.{◌≡◌, ℕ, zero, suc, ◌+◌, ◌≤◌, ◌<◌, List, length, Option, Some, None, slice_get, refl, ap, subst, ◌∙◌, arith}
-use Rattle.std.proofs.lemmas.List.{length-map}
-use Rattle.std.proofs.lemmas.Option.{slice_get_within}
-use Rattle.plex_board.proofs.CfLists.TableLaws.{get_within}
-use Rattle.plex_board.specs.CfTypes.declared.numbers.ConnId.{ConnId}
-use Rattle.plex_board.specs.CfTypes.declared.numbers.StrNo.{StrNo}
-use Rattle.plex_board.specs.PlexScript.declared.asks.AnyHistory.{AnyHistory}
-use Rattle.plex_board.specs.PlexScript.declared.scripts.Line.{Line}
-use Rattle.plex_board.specs.PlexScript.declared.scripts.Script.{Script}
-use Rattle.plex_board.specs.PlexScript.declared.transcripts.AgentEnd.{AgentEnd}
+use Rattle.run_laws.proofs.Names.{◌≡◌, ℕ, zero, suc, ◌+◌, ◌≤◌, ◌<◌, List, length, Option, Some, None, slice_get, refl, ap, subst, ◌∙◌, arith, length-map, slice_get_within, get_within, ConnId, StrNo, AnyHistory, Line, Script, AgentEnd, Shown, Transcript, AnyCall, any_calls, calls_of, calls_on, length_of, own_calls, AgreesWith, lines_of, length_calls, EndsRight, ShowsHistories, IsWithinScript, most_of_lines, most_entries}
 use Rattle.plex_board.specs.PlexScript.declared.transcripts.AgentEnd.TheVariants as ended
-use Rattle.plex_board.specs.PlexScript.declared.transcripts.Shown.{Shown}
-use Rattle.plex_board.specs.PlexScript.declared.transcripts.Transcript.{Transcript}
-use Rattle.plex_board.specs.PlexScript.Heard.{AnyCall, any_calls, calls_of, calls_on, length_of, own_calls}
-use Rattle.plex_board.specs.PlexScript.Follows.{AgreesWith, lines_of}
-use Rattle.plex_board.proofs.HistoryLaws.{length_calls}
-use Rattle.plex_board.specs.Headline.{EndsRight, ShowsHistories}
-use Rattle.run_laws.specs.Bounds.{IsWithinScript, most_of_lines, most_entries}
 use Rattle.run_laws.proofs.ShareLaws.{sum_below, shares_bound}
 use Rattle.run_laws.proofs.CountLaws.{most_on, calls_shown, most_at_end, follows_few, stops_few}
 

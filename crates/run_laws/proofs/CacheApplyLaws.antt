@@ -1,18 +1,5 @@
 -- A command after others: copies are fresh, and changed pages that aren't cast out are kept.
-use Rattle.std.proofs.Common.{◌≡◌, ℕ, List, [], ◌∷◌, ◌++◌, refl, sym, ap, ◌∙◌, subst}
-use Rattle.plex_board.specs.CfTypes.declared.cache_commands.CacheCmd.{CacheCmd}
-use Rattle.plex_board.specs.CfTypes.declared.forms.Caps.{Caps}
-use Rattle.plex_board.specs.CfTypes.declared.numbers.ConnId.{ConnId}
-use Rattle.plex_board.specs.EngineApi.Meaning.{Held}
-use Rattle.plex_board.specs.CacheModel.Contents.{Content, no_content}
-use Rattle.plex_board.specs.CacheModel.Runs.{Deed, Copies, after_deed, after_run}
-use Rattle.plex_board.specs.CacheModel.Runs.Deed.{Calls}
-use Rattle.plex_board.proofs.CacheModel.ContentLaws.{orderly-content}
-use Rattle.plex_board.proofs.CacheModel.CopyLaws.{fresh-copy, content-run}
-use Rattle.plex_board.proofs.CacheModel.EngineLaws.{content-nothing}
-use Rattle.plex_board.proofs.CacheModel.UncastLaws.{uncast-kept}
-use Rattle.run_laws.specs.CacheApplied.{IsHeldAfter, content_applied, copies_then, uncast_then, AreFresh, AreKept}
-use Rattle.run_laws.specs.Unique.{IsUnique}
+use Rattle.run_laws.proofs.Names.{◌≡◌, ℕ, List, [], ◌∷◌, ◌++◌, refl, sym, ap, ◌∙◌, subst, CacheCmd, Caps, ConnId, Held, Content, no_content, Deed, Copies, after_deed, after_run, Calls, orderly-content, fresh-copy, content-run, content-nothing, uncast-kept, IsHeldAfter, content_applied, copies_then, uncast_then, AreFresh, AreKept, IsUnique}
 use Rattle.run_laws.proofs.UniqueLaws.{unique-content}
 
 after_run-push : (vector : ℕ) (caps : Caps) (content : Content) (deeds : List Deed) (deed : Deed)

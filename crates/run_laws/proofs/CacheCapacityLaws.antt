@@ -1,15 +1,5 @@
 -- After every history of a cache its content is one at the capacity of its instances.
-use Rattle.std.proofs.Common.{refl}
-use Rattle.plex_board.specs.CfTypes.declared.forms.Caps.{Caps}
-use Rattle.plex_board.specs.CfTypes.declared.forms.StrForm.{StrForm}
-use Rattle.plex_board.specs.CfTypes.Forms.{is_cache}
-use Rattle.plex_board.specs.EngineApi.declared.shapes.Shape.{Shape}
-use Rattle.plex_board.specs.CacheModel.Contents.{Content, IsContent}
-use Rattle.plex_board.specs.CacheModel.Meaning.{cache_meaning}
-use Rattle.plex_board.proofs.CacheModel.ContentLaws.{content-done}
-use Rattle.plex_board.proofs.CacheModel.EngineLaws.{content-nothing, leave-content, content-moved, need-front, need-leave}
-use Rattle.plex_board.proofs.ShellLaws.CapacityLaws.{ContentLaws, held-replay}
-use Rattle.run_laws.specs.CacheHistories.{CacheHistory, IsWithin}
+use Rattle.run_laws.proofs.Names.{refl, Caps, StrForm, is_cache, Shape, Content, IsContent, cache_meaning, content-done, content-nothing, leave-content, content-moved, need-front, need-leave, ContentLaws, held-replay, CacheHistory, IsWithin}
 
 abbrev IsContentAt : Shape → Caps → Content → Type 0
 IsContentAt shape caps content = IsContent caps content

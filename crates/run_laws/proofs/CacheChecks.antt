@@ -1,33 +1,15 @@
 -- The definitions on short histories: connectors 1 and 2 of a cache share a page, which is written, cast out while it
 -- is written again, unlocked, and cast out and unlocked once more; and a rebuild.
-use Rattle.std.proofs.Common.{◌≡◌, ℕ, true, false, [], ◌∷◌, ◌++◌, None, Some, take, drop, map, refl}
-use Rattle.plex_board.specs.CfTypes.declared.cache_commands.CacheCmd.{CacheCmd}
-use Rattle.plex_board.specs.CfTypes.declared.cache_commands.CacheCmd.TheVariants.{Read, Write, Castout, Unlock}
-use Rattle.plex_board.specs.CfTypes.declared.cache_commands.CacheReply.{CacheReply}
+use Rattle.run_laws.proofs.Names.{◌≡◌, ℕ, true, false, [], ◌∷◌, ◌++◌, None, Some, take, drop, map, refl, CacheCmd, Read, Write, Castout, Unlock, CacheReply, Caps, StrForm, Name16, ConnId, ShellCmd, ShellReply, conns_from, no_connections, actives, empty_mail, Reply, registered_at, copy_in, copy_held, CacheEntry, CacheHistory, capacity_after, content_after, is_cast_out, page_written}
 use Rattle.plex_board.specs.CfTypes.declared.cache_commands.CacheReply.TheVariants as replies
 use Rattle.plex_board.specs.CfTypes.declared.events.Event.TheVariants as event
-use Rattle.plex_board.specs.CfTypes.declared.forms.Caps.{Caps}
 use Rattle.plex_board.specs.CfTypes.declared.forms.Kind.TheVariants as kind
-use Rattle.plex_board.specs.CfTypes.declared.forms.StrForm.{StrForm}
-use Rattle.plex_board.specs.CfTypes.declared.names.Name16.{Name16}
-use Rattle.plex_board.specs.CfTypes.declared.numbers.ConnId.{ConnId}
 use Rattle.plex_board.specs.CfTypes.declared.refusals.Refusal.TheVariants as refusal
-use Rattle.plex_board.specs.CfTypes.declared.shell_commands.ShellCmd.{ShellCmd}
 use Rattle.plex_board.specs.CfTypes.declared.shell_commands.ShellCmd.TheVariants as cmd
-use Rattle.plex_board.specs.CfTypes.declared.shell_commands.ShellReply.{ShellReply}
 use Rattle.plex_board.specs.CfTypes.declared.shell_commands.ShellReply.TheVariants as shown
-use Rattle.plex_board.specs.CfTypes.ConnSets.{conns_from}
-use Rattle.plex_board.specs.CfTypes.Connections.{no_connections, actives}
-use Rattle.plex_board.specs.CfTypes.Mailboxes.{empty_mail}
 use Rattle.plex_board.specs.EngineApi.declared.asks.Ask.TheVariants as ask
-use Rattle.plex_board.specs.EngineApi.declared.asks.Reply.{Reply}
 use Rattle.plex_board.specs.EngineApi.declared.asks.Reply.TheVariants as reply
 use Rattle.plex_board.specs.EngineApi.declared.asks.What.TheVariants as what
-use Rattle.plex_board.specs.CacheRegs.Registrations.{registered_at}
-use Rattle.plex_board.specs.CacheModel.Runs.{copy_in}
-use Rattle.run_laws.specs.Copies.{copy_held}
-use Rattle.run_laws.specs.CacheHistories.{CacheEntry, CacheHistory, capacity_after, content_after}
-use Rattle.run_laws.specs.Uncast.{is_cast_out, page_written}
 
 abbrev conn : ℕ → ConnId
 conn number = record { 0 = number }

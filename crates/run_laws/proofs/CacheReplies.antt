@@ -1,29 +1,10 @@
 -- What accepted commands are answered, read off the rows.
-use Rattle.std.proofs.Common.{◌≡◌, ℕ, true, List, Option, Some, None, is_some, option_map, unwrap_or, refl, ap, ◌∙◌}
-use Rattle.plex_board.specs.CfTypes.declared.cache_commands.CacheCmd.{CacheCmd}
-use Rattle.plex_board.specs.CfTypes.declared.cache_commands.CacheReply.{CacheReply}
+use Rattle.run_laws.proofs.Names.{◌≡◌, ℕ, true, List, Option, Some, None, is_some, option_map, unwrap_or, refl, ap, ◌∙◌, CacheCmd, CacheReply, Caps, StrForm, Name16, ConnId, Refusal, next_reply, replay, Machine, unless, content_done, content_reply, unless_refused, content_cause, CacheItem, Content, cache_meaning, row_of, row_or_new, is_changed, new_row, reply_copy, copy_in, cause, done, reply as answer_to, copy-row_or_new, CacheHistory, content_after}
 use Rattle.plex_board.specs.CfTypes.declared.cache_commands.CacheReply.TheVariants as replies
-use Rattle.plex_board.specs.CfTypes.declared.forms.Caps.{Caps}
-use Rattle.plex_board.specs.CfTypes.declared.forms.StrForm.{StrForm}
-use Rattle.plex_board.specs.CfTypes.declared.names.Name16.{Name16}
-use Rattle.plex_board.specs.CfTypes.declared.numbers.ConnId.{ConnId}
-use Rattle.plex_board.specs.CfTypes.declared.refusals.Refusal.{Refusal}
 use Rattle.plex_board.specs.EngineApi.declared.asks.Ask.TheVariants as ask
 use Rattle.plex_board.specs.EngineApi.declared.asks.Reply.TheVariants as reply
-use Rattle.plex_board.specs.EngineApi.History.{next_reply, replay}
-use Rattle.plex_board.specs.EngineApi.Machine.{Machine, unless, content_done, content_reply}
-use Rattle.plex_board.specs.EngineApi.Meaning.{unless_refused}
-use Rattle.plex_board.specs.EngineApi.Shell.{content_cause}
-use Rattle.plex_board.specs.CacheModel.declared.items.CacheItem.{CacheItem}
 use Rattle.plex_board.specs.CacheModel.Commands.Castout as castout
 use Rattle.plex_board.specs.CacheModel.Commands.Read as read
-use Rattle.plex_board.specs.CacheModel.Contents.{Content}
-use Rattle.plex_board.specs.CacheModel.Meaning.{cache_meaning}
-use Rattle.plex_board.specs.CacheModel.Rows.{row_of, row_or_new, is_changed, new_row}
-use Rattle.plex_board.specs.CacheModel.Runs.{reply_copy, copy_in}
-use Rattle.plex_board.specs.CacheModel.Step.{cause, done, reply as answer_to}
-use Rattle.plex_board.proofs.CacheModel.CopyLaws.{copy-row_or_new}
-use Rattle.run_laws.specs.CacheHistories.{CacheHistory, content_after}
 
 answer_unless : (caps : Caps) (content : Content) (by : ConnId) (cmd : CacheCmd) (answer : CacheReply)
     (refusal : Option Refusal)

@@ -1,24 +1,5 @@
 -- What connectors hold after a history of a cache: where they are registered, what the rows have.
-use Rattle.std.proofs.Common.{◌≡◌, ℕ, Bool, true, false, ◌&&◌, ◌==◌, cond, [], ◌∷◌, ◌++◌, Option, None, Some, unwrap_or, refl, sym, ap, ◌∙◌, subst}
-use Rattle.std.proofs.lemmas.List.Sums.{fold_push}
-use Rattle.plex_board.specs.CfTypes.declared.cache_commands.CacheCmd.{CacheCmd}
-use Rattle.plex_board.specs.CfTypes.declared.cache_commands.CacheCmd.TheVariants.{Read, Write}
-use Rattle.plex_board.specs.CfTypes.declared.forms.Caps.{Caps}
-use Rattle.plex_board.specs.CfTypes.declared.forms.StrForm.{StrForm}
-use Rattle.plex_board.specs.CfTypes.declared.numbers.ConnId.{ConnId}
-use Rattle.plex_board.specs.CfTypes.declared.refusals.Refusal.{Refusal}
-use Rattle.plex_board.specs.EngineApi.History.{Continues, replay}
-use Rattle.plex_board.specs.EngineApi.Meaning.{unless_refused}
-use Rattle.plex_board.specs.CacheModel.Contents.{Content, IsOrderly}
-use Rattle.plex_board.specs.CacheModel.Meaning.{cache_meaning}
-use Rattle.plex_board.specs.CacheModel.Runs.{Copy, Copies, Deed, after_deed, copies_done, copies_unless, copies_after, reply_copy}
-use Rattle.plex_board.specs.CacheModel.Runs.Deed.{Calls, Leaves, Forgets}
-use Rattle.plex_board.specs.CacheModel.Step.{cause, done, reply as answer_to}
-use Rattle.plex_board.proofs.CacheModel.CopyLaws.{Fresh, AllFresh, each_weaker, deed-fresh}
-use Rattle.plex_board.proofs.ShellLaws.Keeping.{IsQuiet, IsTraced}
-use Rattle.plex_board.proofs.ShellLaws.ReplayLaws.{traced-replay, legal-answered}
-use Rattle.run_laws.specs.Copies.{copy_at, copy_of, copy_brought, copy_held}
-use Rattle.run_laws.specs.CacheHistories.{CacheEntry, CacheHistory, Accepted, acceptance_of, content_after}
+use Rattle.run_laws.proofs.Names.{◌≡◌, ℕ, Bool, true, false, ◌&&◌, ◌==◌, cond, [], ◌∷◌, ◌++◌, Option, None, Some, unwrap_or, refl, sym, ap, ◌∙◌, subst, fold_push, CacheCmd, Read, Write, Caps, StrForm, ConnId, Refusal, Continues, replay, unless_refused, Content, IsOrderly, cache_meaning, Copy, Copies, Deed, after_deed, copies_done, copies_unless, copies_after, reply_copy, Calls, Leaves, Forgets, cause, done, reply as answer_to, Fresh, AllFresh, each_weaker, deed-fresh, IsQuiet, IsTraced, traced-replay, legal-answered, copy_at, copy_of, copy_brought, copy_held, CacheEntry, CacheHistory, Accepted, acceptance_of, content_after}
 use Rattle.run_laws.proofs.UniqueLaws.{orderly-kept}
 
 -- ---- what an entry brings

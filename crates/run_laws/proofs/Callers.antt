@@ -1,32 +1,7 @@
 -- The callers of a script have words of their own.
-use Rattle.std.proofs.Common.{◌≡◌, ◌≢◌, ℕ, zero, suc, ◌+◌, ◌-◌, ◌≤◌, ◌<◌, ◌==◌, inl, inr, Bool, true, false, not, cond, List, [], ◌∷◌, ◌++◌, length, Option, Some, None, codes, replicate, get_or, slice_get, refl, sym, ap, subst, ◌∙◌, arith}
-use Rattle.std.specs.Bool.{MatchBool}
-use Rattle.std.specs.Option.{MatchOption}
-use Rattle.std.specs.List.{list_all, list_any}
-use Rattle.std.proofs.lemmas.Bool.{and_parts, and_from}
-use Rattle.std.proofs.lemmas.Bool.Decides.{nat_tests}
-use Rattle.std.proofs.lemmas.List.Folds.{list_any_at}
-use Rattle.std.proofs.lemmas.List.Sums.{take_while-cons}
-use Rattle.std.proofs.lemmas.Option.{slice_get-get_or, slice_get_within, get_or_from_slice_get}
-use Rattle.plex_board.specs.CfTypes.declared.names.Name16.{Name16}
-use Rattle.plex_board.specs.CfTypes.declared.numbers.ConnId.{ConnId}
-use Rattle.plex_board.specs.CfTypes.declared.numbers.StrNo.{StrNo}
-use Rattle.plex_board.specs.CfTypes.Term.{block_of, text_in_block, term_byte}
-use Rattle.plex_board.proofs.EngineApi.Pushed.{pushed_cases}
-use Rattle.plex_report.specs.PlexSpell.declared.rigour.Rigour.TheVariants.{Names}
-use Rattle.plex_report.specs.PlexSpell.Words.{same_word, words_of, lines_of}
-use Rattle.plex_report.specs.PlexSpell.Tokens.{is_name, is_capital, reserved_words, name_word, structure_of}
-use Rattle.plex_report.proofs.PlexSpell.Choices.{same_word-of}
-use Rattle.plex_report.proofs.PlexSpell.PlaceLaws.{Words}
-use Rattle.plex_report.proofs.PlexSpell.TextLaws.{characters-term}
-use Rattle.plex_report.proofs.PlexSpell.WordLaws.{term-name}
-use Rattle.plex_board.specs.PlexScript.declared.declarations.Declaration.{Declaration}
+use Rattle.run_laws.proofs.Names.{◌≡◌, ◌≢◌, ℕ, zero, suc, ◌+◌, ◌-◌, ◌≤◌, ◌<◌, ◌==◌, inl, inr, Bool, true, false, not, cond, List, [], ◌∷◌, ◌++◌, length, Option, Some, None, codes, replicate, get_or, slice_get, refl, sym, ap, subst, ◌∙◌, arith, MatchBool, MatchOption, list_all, list_any, and_parts, and_from, nat_tests, list_any_at, take_while-cons, slice_get-get_or, slice_get_within, get_or_from_slice_get, Name16, ConnId, StrNo, block_of, text_in_block, term_byte, pushed_cases, Names, same_word, words_of, is_name, is_capital, reserved_words, name_word, structure_of, same_word-of, Words, characters-term, term-name, Declaration, Script, declared_in, caller_of, is_comment, is_policy_word, is_twice, Declares, AddsDeclaration, AddsLine, AddsOfCaller, AddsWords, AddsAll, IsScript, empty_script, line_number, with_declaration, caller_name}
+use Rattle.plex_report.specs.PlexSpell.Words.{lines_of}
 use Rattle.plex_board.specs.PlexScript.declared.declarations.Declaration.TheVariants as declaration
-use Rattle.plex_board.specs.PlexScript.declared.scripts.Script.{Script}
-use Rattle.plex_board.specs.PlexScript.Causes.{declared_in, caller_of, is_comment, is_policy_word, is_twice}
-use Rattle.plex_board.specs.PlexScript.PolicyWords.{Declares}
-use Rattle.plex_board.specs.PlexScript.Scripts.{AddsDeclaration, AddsLine, AddsOfCaller, AddsWords, AddsAll, IsScript, empty_script, line_number, with_declaration}
-use Rattle.plex_report.specs.Naming.{caller_name}
 use Rattle.run_laws.proofs.Cuts.{is_free}
 
 -- ---- the word of a name

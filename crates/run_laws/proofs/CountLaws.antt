@@ -1,31 +1,10 @@
 -- How many calls on a structure the items of a caller show: no more than its lines and its closing make.
-use Rattle.std.proofs.Common.{◌≡◌, ◌≢◌, ◌⊎◌, inl, inr, ℕ, zero, suc, ◌+◌, ◌≤◌, ◌==◌, Bool, true, false, cond, List, [], ◌∷◌, ◌++◌, length, take, Option, Some, None, refl, sym, ap, subst, ◌∙◌, arith, length-append}
-use Rattle.std.specs.Prelude.{MatchBool}
-use Rattle.std.proofs.lemmas.Bool.Decides.{nat_tests}
-use Rattle.std.proofs.lemmas.List.Elements.{filter_map-append}
-use Rattle.std.proofs.lemmas.List.Sums.{sum_by-append, sum_by-cons}
-use Rattle.plex_board.specs.CfTypes.declared.forms.Kind.{Kind}
-use Rattle.plex_board.specs.CfTypes.declared.forms.StrForm.{StrForm}
-use Rattle.plex_board.specs.CfTypes.declared.numbers.ConnId.{ConnId}
-use Rattle.plex_board.specs.CfTypes.declared.numbers.StrNo.{StrNo}
+use Rattle.run_laws.proofs.Names.{◌≡◌, ◌≢◌, ◌⊎◌, inl, inr, ℕ, zero, suc, ◌+◌, ◌≤◌, ◌==◌, Bool, true, false, cond, List, [], ◌∷◌, ◌++◌, length, take, Option, Some, None, refl, sym, ap, subst, ◌∙◌, arith, length-append, nat_tests, filter_map-append, sum_by-append, sum_by-cons, Kind, StrForm, ConnId, StrNo, Told, Step, AnyHistory, Act, AnyAsk, Line, Script, Shown, first_step, step_after, most_asks, asked_by, call_of, shell_ask, AnyCall, IsHeard, Runs, RunsUpTo, ShowsAct, ShowsLines, ShowsClosing, ShowsClosings, Follows, StopsInLine, StopsInClosing, is_linked_by, lines_of, number_on, numbers_on, fewer_asks, test_numbers, word_numbers, most_of_line, most_of_lines}
+use Rattle.std.proofs.Common.{MatchBool}
 use Rattle.plex_board.specs.CfTypes.declared.shell_commands.ShellCmd.TheVariants as cmd
-use Rattle.plex_board.specs.EngineApi.declared.told.Told.{Told}
-use Rattle.plex_board.specs.PlexScript.declared.agents.Step.{Step}
 use Rattle.plex_board.specs.PlexScript.declared.agents.Step.TheVariants as step
-use Rattle.plex_board.specs.PlexScript.declared.asks.AnyHistory.{AnyHistory}
-use Rattle.plex_board.specs.PlexScript.declared.scripts.Act.{Act}
 use Rattle.plex_board.specs.PlexScript.declared.scripts.Act.TheVariants as act
-use Rattle.plex_board.specs.PlexScript.declared.scripts.AnyAsk.{AnyAsk}
-use Rattle.plex_board.specs.PlexScript.declared.scripts.Line.{Line}
-use Rattle.plex_board.specs.PlexScript.declared.scripts.Script.{Script}
-use Rattle.plex_board.specs.PlexScript.declared.transcripts.Shown.{Shown}
 use Rattle.plex_board.specs.PlexScript.declared.transcripts.Shown.TheVariants as shown
-use Rattle.plex_board.specs.PlexScript.Agent.{first_step, step_after, most_asks, asked_by, call_of, shell_ask}
-use Rattle.plex_board.specs.PlexScript.Heard.{AnyCall}
-use Rattle.plex_board.specs.PlexScript.Follows.{IsHeard, Runs, RunsUpTo, ShowsAct, ShowsLines, ShowsClosing, ShowsClosings, Follows, StopsInLine, StopsInClosing, is_linked_by, lines_of, number_on, numbers_on}
-use Rattle.plex_board.proofs.PlexScript.StepLaws.{fewer_asks}
-use Rattle.plex_board.proofs.PlexScript.TestLaws.{test_numbers, word_numbers}
-use Rattle.run_laws.specs.Bounds.{most_of_line, most_of_lines}
 
 -- how many calls on a structure items show
 abbrev pub calls_shown : StrNo → List Shown → ℕ

@@ -1,17 +1,5 @@
 -- Texts that are the same, from their fronts on.
-use Rattle.std.proofs.Common.{◌≡◌, ℕ, ◌≤◌, ◌<◌, ◌==◌, ◌^◌, Bool, true, not, List, [], ◌∷◌, ◌++◌, length, refl, sym, ap, ◌∙◌, arith, append_assoc, length-append}
-use Rattle.std.specs.Char.{is_ascii_digit}
-use Rattle.std.specs.Fmt.{decimal}
-use Rattle.std.specs.List.{list_all, flat_map}
-use Rattle.std.proofs.lemmas.Bool.{and_parts, and_from}
-use Rattle.std.proofs.lemmas.Bool.Decides.{nat_tests}
-use Rattle.std.proofs.lemmas.Fmt.{decimal_injective}
-use Rattle.std.proofs.lemmas.Grind.{flat_map-append}
-use Rattle.std.proofs.lemmas.List.{append_cancel_left}
-use Rattle.plex_report.specs.PlexSpell.Tokens.{is_numeral}
-use Rattle.plex_report.proofs.PlexSpell.NumberLaws.{numeral-decimal}
-use Rattle.plex_report.specs.Lines.{heading}
-use Rattle.plex_report.specs.PlexSpell.Words.{line_text}
+use Rattle.run_laws.proofs.Names.{◌≡◌, ℕ, ◌≤◌, ◌<◌, ◌==◌, ◌^◌, Bool, true, not, List, [], ◌∷◌, ◌++◌, length, refl, sym, ap, ◌∙◌, arith, append_assoc, length-append, is_ascii_digit, decimal, list_all, flat_map, and_parts, and_from, nat_tests, decimal_injective, flat_map-append, append_cancel_left, is_numeral, numeral-decimal, heading, line_text}
 
 -- the byte doesn't stand in the text
 abbrev pub is_free : ℕ → List ℕ → Bool

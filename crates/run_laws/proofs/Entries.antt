@@ -1,29 +1,8 @@
 -- The lines of a legal history fix it, where it is known what each caller asks next.
-use Rattle.std.proofs.Common.{◌≡◌, ℕ, ◌+◌, ◌≤◌, ◌==◌, true, not, List, [], ◌∷◌, ◌++◌, length, map, codes, Option, Some, refl, sym, ap, subst, ◌∙◌, arith, append_assoc}
-use Rattle.std.specs.Fmt.{decimal}
-use Rattle.std.proofs.lemmas.Bool.{and_parts, and_from}
-use Rattle.std.proofs.lemmas.Fmt.{decimal_injective}
-use Rattle.std.proofs.lemmas.List.{append_cancel_left}
-use Rattle.plex_board.specs.CfTypes.Forms.{IsFacility}
-use Rattle.plex_board.specs.CfTypes.declared.numbers.CfId.{CfId}
-use Rattle.plex_board.specs.CfTypes.declared.forms.StrForm.{StrForm}
-use Rattle.plex_board.specs.CfTypes.declared.numbers.ConnId.{ConnId}
-use Rattle.plex_board.specs.EngineApi.declared.asks.Ask.{Ask}
-use Rattle.plex_board.specs.EngineApi.declared.asks.What.{What}
+use Rattle.run_laws.proofs.Names.{◌≡◌, ℕ, ◌+◌, ◌≤◌, ◌==◌, true, not, List, [], ◌∷◌, ◌++◌, length, map, codes, Option, Some, refl, sym, ap, subst, ◌∙◌, arith, append_assoc, decimal, and_parts, and_from, decimal_injective, append_cancel_left, IsFacility, CfId, StrForm, ConnId, Ask, What, Entry, Meaning, next_entry, next_mark, IsNextAs, Continues, tail_of, line_of, AnyAsk, Script, facility_word, caller_word, ask_words, entry_line, what_words, reply_words, is_of_vary, NamesFacility, NamesFacilities}
 use Rattle.plex_board.specs.EngineApi.declared.asks.What.TheVariants as what
-use Rattle.plex_board.specs.EngineApi.declared.histories.Entry.{Entry}
-use Rattle.plex_board.specs.EngineApi.Meaning.{Meaning}
-use Rattle.plex_board.specs.EngineApi.History.{next_entry, next_mark, IsNextAs, Continues}
-use Rattle.plex_report.specs.PlexSpell.Words.{tail_of, line_of}
-use Rattle.plex_board.specs.PlexScript.declared.scripts.AnyAsk.{AnyAsk}
-use Rattle.plex_board.specs.PlexScript.declared.scripts.Script.{Script}
-use Rattle.plex_report.specs.PlexPlain.Naming.{facility_word}
-use Rattle.plex_report.specs.Naming.{caller_word}
-use Rattle.plex_report.specs.CommandWords.{ask_words}
-use Rattle.plex_report.specs.Lines.{entry_line, what_words, reply_words, is_of_vary}
 use Rattle.run_laws.proofs.Cuts.{is_free, free_decimal, text_of, text-cons, same_cut}
 use Rattle.run_laws.proofs.Callers.{AreApart, free_caller, same_caller, not_system}
-use Rattle.run_laws.specs.Readings.{NamesFacility, NamesFacilities}
 
 -- words behind words begin with a blank
 record Blank (words : List (List ℕ)) : Type 0 where

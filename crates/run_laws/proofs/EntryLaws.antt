@@ -1,14 +1,7 @@
 -- A command asks for the records alone.
-use Rattle.std.proofs.Common.{◌≡◌, ℕ, List, [], ◌∷◌, refl, ap, ◌∙◌}
-use Rattle.plex_board.specs.CfTypes.declared.forms.Caps.{Caps}
-use Rattle.plex_board.specs.CfTypes.declared.lock_commands.LockCmd.{LockCmd}
-use Rattle.plex_board.specs.CfTypes.declared.lock_commands.LockCmd.TheVariants.{Obtain, Alter, Release, Decide, RtRead, RtDelete}
-use Rattle.plex_board.specs.CfTypes.declared.numbers.ConnId.{ConnId}
-use Rattle.plex_board.specs.EngineApi.declared.shapes.Shape.{Shape}
-use Rattle.plex_board.specs.EngineApi.Meaning.{unless_refused}
+use Rattle.run_laws.proofs.Names.{◌≡◌, ℕ, List, [], ◌∷◌, refl, ap, ◌∙◌, Caps, LockCmd, Obtain, Alter, Release, Decide, RtRead, RtDelete, ConnId, Shape, unless_refused, step_at, replies_of}
 use Rattle.plex_board.specs.LockModel.Contents.{Content}
 use Rattle.plex_board.specs.LockModel.Step.{cause, done}
-use Rattle.run_laws.specs.Entries.{step_at, replies_of}
 
 cause_same : (m n k : ℕ) (content : Content) (by : ConnId) (cmd : LockCmd)
     → cause (record { entries = m; elements = k }) content by cmd

@@ -1,25 +1,5 @@
 -- A bit that stands tells a fresh copy.
-use Rattle.std.proofs.Common.{◌≡◌, ℕ, true, [], ◌∷◌, ◌++◌, Option, None, Some, is_some, option_map, take, drop, inl, inr, append-nil, refl, sym, ap, ◌∙◌, subst}
-use Rattle.std.specs.Prelude.{IsTrue, option_and_then, find}
-use Rattle.std.proofs.lemmas.Bool.{false≢true}
-use Rattle.std.proofs.lemmas.List.{take-append-drop}
-use Rattle.plex_board.specs.CfTypes.declared.cache_commands.CacheCmd.TheVariants.{Read}
-use Rattle.plex_board.specs.CfTypes.declared.forms.StrForm.{StrForm}
-use Rattle.plex_board.specs.CfTypes.declared.names.Name16.{Name16}
-use Rattle.plex_board.specs.CfTypes.declared.numbers.ConnId.{ConnId}
-use Rattle.plex_board.specs.EngineApi.History.{Continues, Tells, last_call_below, stands_after}
-use Rattle.plex_board.proofs.EngineApi.HistoryLaws.{continues_legal}
-use Rattle.plex_board.proofs.CfLists.FilterLaws.{any_is_found, all_found}
-use Rattle.plex_board.specs.CacheRegs.declared.registrations.Registration.{Registration}
-use Rattle.plex_board.specs.CacheRegs.Registrations.{is_at, registered_at}
-use Rattle.plex_board.specs.CacheModel.declared.items.CacheItem.{CacheItem}
-use Rattle.plex_board.specs.CacheModel.Contents.{Content}
-use Rattle.plex_board.specs.CacheModel.Meaning.{cache_meaning}
-use Rattle.plex_board.specs.CacheModel.Rows.{is_row_of, row_of, has_row}
-use Rattle.plex_board.specs.CacheModel.Runs.{copy_in, reply_copy, row_copy}
-use Rattle.plex_board.proofs.CacheModel.CopyLaws.{fresh-at}
-use Rattle.run_laws.specs.Copies.{copy_held, IsAsRead, IsFresh, TellsFresh}
-use Rattle.run_laws.specs.CacheHistories.{CacheHistory, IsLegalCache, content_after}
+use Rattle.run_laws.proofs.Names.{◌≡◌, ℕ, true, [], ◌∷◌, ◌++◌, Option, None, Some, is_some, option_map, take, drop, inl, inr, append-nil, refl, sym, ap, ◌∙◌, subst, IsTrue, option_and_then, find, false≢true, take-append-drop, Read, StrForm, Name16, ConnId, Continues, Tells, last_call_below, stands_after, continues_legal, any_is_found, all_found, Registration, is_at, registered_at, CacheItem, Content, cache_meaning, is_row_of, row_of, has_row, copy_in, reply_copy, row_copy, fresh-at, copy_held, IsAsRead, IsFresh, TellsFresh, CacheHistory, IsLegalCache, content_after}
 use Rattle.run_laws.proofs.CacheReplies.{answer-content, copy-read}
 use Rattle.run_laws.proofs.CacheTraces.{HasTrace, trace-continues}
 use Rattle.run_laws.proofs.UniqueLaws.{orderly-replay}

@@ -1,17 +1,6 @@
 -- The calls of a legal history are heard under their numbers.
-use Rattle.std.proofs.Common.{◌≡◌, ℕ, suc, ◌≤◌, ◌<◌, ◌==◌, inr, Bool, true, false, List, [], ◌∷◌, ◌++◌, length, filter, cond, Some, refl, sym, subst, arith, append_assoc}
-use Rattle.std.specs.Prelude.{Contains, if◌then◌else◌}
-use Rattle.std.proofs.lemmas.Bool.Decides.{nat_tests}
-use Rattle.plex_board.specs.CfTypes.declared.forms.StrForm.{StrForm}
-use Rattle.plex_board.proofs.EngineApi.NumberLaws.{numbered_legal}
-use Rattle.plex_board.specs.CacheModel.Meaning.{cache_meaning}
-use Rattle.plex_board.specs.ListModel.Meaning.{list_meaning}
-use Rattle.plex_board.specs.LockModel.Meaning.{lock_meaning}
-use Rattle.plex_board.specs.PlexScript.declared.asks.AnyHistory.{AnyHistory}
+use Rattle.run_laws.proofs.Names.{◌≡◌, ℕ, suc, ◌≤◌, ◌<◌, ◌==◌, inr, Bool, true, false, List, [], ◌∷◌, ◌++◌, length, filter, cond, Some, refl, sym, subst, arith, append_assoc, Contains, if◌then◌else◌, nat_tests, StrForm, numbered_legal, cache_meaning, list_meaning, lock_meaning, AnyHistory, AnyCall, any_calls, any_length, call_numbered, IsAnyLegal, IsAnyPoint, Rising, any_numbers, numbers_of, numbers_any}
 use Rattle.plex_board.specs.PlexScript.declared.asks.AnyHistory.TheVariants as history
-use Rattle.plex_board.specs.PlexScript.Heard.{AnyCall, any_calls, any_length, call_numbered}
-use Rattle.plex_board.specs.Kinds.{IsAnyLegal, IsAnyPoint, Rising, any_numbers}
-use Rattle.plex_board.proofs.SeamLaws.{numbers_of, numbers_any}
 
 -- each of these is the call with its number
 abbrev pub AreHeard : List AnyCall → List AnyCall → Type 0

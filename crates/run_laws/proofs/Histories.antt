@@ -1,46 +1,11 @@
 -- The lines of legal histories, in which each caller asks what the script says, fix them.
-use Rattle.std.proofs.Common.{◌≡◌, ℕ, ◌+◌, ◌≤◌, ◌<◌, ◌==◌, ◌^◌, Bool, true, List, [], ◌∷◌, ◌++◌, length, map, codes, Option, Some, slice_get, refl, sym, ap, subst, ◌∙◌, arith, append_assoc}
-use Rattle.std.specs.List.{AllByRecursion}
-use Rattle.std.specs.Prelude.{All}
-use Rattle.std.proofs.lemmas.Bool.Decides.{nat_tests}
-use Rattle.std.proofs.lemmas.List.{map-append}
-use Rattle.std.proofs.lemmas.List.Elements.{filter-append, recursion_from_All}
-use Rattle.plex_board.specs.CfTypes.declared.forms.Kind.{Kind}
+use Rattle.run_laws.proofs.Names.{◌≡◌, ℕ, ◌+◌, ◌≤◌, ◌<◌, ◌==◌, ◌^◌, Bool, true, List, [], ◌∷◌, ◌++◌, length, map, codes, Option, Some, slice_get, refl, sym, ap, subst, ◌∙◌, arith, append_assoc, All, AllByRecursion, nat_tests, map-append, filter-append, recursion_from_All, Kind, StrForm, ConnId, StrNo, Ask, What, Entry, Meaning, Call, calls, IsLegal, told_of, calls-append, continues_legal, cache_meaning, list_meaning, lock_meaning, CacheCmd, ListCmd, LockCmd, AnyHistory, AnyAsk, Script, AnyCall, any_call, any_calls, any_length, own_calls, lines_of, IsHistoryOf, IsOfKind, IsAnyLegal, IsAnyPoint, AnyTells, structure_name, cache_words, list_words, lock_words, cache_reply_words, list_reply_words, lock_reply_words, entry_line, entry_lines, history_lines, lines_each, NamesFacilities, MarksFacilities}
 use Rattle.plex_board.specs.CfTypes.declared.forms.Kind.TheVariants as kind
-use Rattle.plex_board.specs.CfTypes.declared.forms.StrForm.{StrForm}
-use Rattle.plex_board.specs.CfTypes.declared.numbers.ConnId.{ConnId}
-use Rattle.plex_board.specs.CfTypes.declared.numbers.StrNo.{StrNo}
-use Rattle.plex_board.specs.EngineApi.declared.asks.Ask.{Ask}
-use Rattle.plex_board.specs.EngineApi.declared.asks.What.{What}
 use Rattle.plex_board.specs.EngineApi.declared.asks.What.TheVariants as what
-use Rattle.plex_board.specs.EngineApi.declared.histories.Entry.{Entry}
-use Rattle.plex_board.specs.EngineApi.Meaning.{Meaning}
-use Rattle.plex_board.specs.EngineApi.History.{Call, calls, IsLegal}
-use Rattle.plex_board.specs.EngineApi.Told.{told_of}
-use Rattle.plex_board.proofs.EngineApi.HistoryLaws.{calls-append, continues_legal}
-use Rattle.plex_board.specs.CacheModel.Meaning.{cache_meaning}
-use Rattle.plex_board.specs.ListModel.Meaning.{list_meaning}
-use Rattle.plex_board.specs.LockModel.Meaning.{lock_meaning}
-use Rattle.plex_board.specs.CfTypes.declared.cache_commands.CacheCmd.{CacheCmd}
-use Rattle.plex_board.specs.CfTypes.declared.list_commands.ListCmd.{ListCmd}
-use Rattle.plex_board.specs.CfTypes.declared.lock_commands.LockCmd.{LockCmd}
-use Rattle.plex_board.specs.PlexScript.declared.asks.AnyHistory.{AnyHistory}
 use Rattle.plex_board.specs.PlexScript.declared.asks.AnyHistory.TheVariants as history
-use Rattle.plex_board.specs.PlexScript.declared.scripts.AnyAsk.{AnyAsk}
 use Rattle.plex_board.specs.PlexScript.declared.scripts.AnyAsk.TheVariants as ask
-use Rattle.plex_board.specs.PlexScript.declared.scripts.Script.{Script}
-use Rattle.plex_board.specs.PlexScript.Heard.{AnyCall, any_call, any_calls, any_length, own_calls}
-use Rattle.plex_board.specs.PlexScript.Follows.{lines_of}
-use Rattle.plex_board.specs.Headline.{IsHistoryOf}
-use Rattle.plex_board.specs.Kinds.{IsOfKind, IsAnyLegal, IsAnyPoint, AnyTells}
-use Rattle.plex_report.specs.Naming.{structure_name}
-use Rattle.plex_report.specs.CommandWords.{cache_words, list_words, lock_words}
-use Rattle.plex_report.specs.ReplyWords.{cache_reply_words, list_reply_words, lock_reply_words}
-use Rattle.plex_report.specs.Lines.{entry_line, entry_lines, history_lines}
-use Rattle.plex_report.specs.Report.{lines_each}
 use Rattle.run_laws.proofs.Cuts.{text_of, same_heading}
 use Rattle.run_laws.proofs.Callers.{AreApart}
-use Rattle.run_laws.specs.Readings.{NamesFacilities, MarksFacilities}
 use Rattle.run_laws.proofs.Heard.{any_within}
 use Rattle.run_laws.proofs.Works.{works, next_ask, Plays, next_of}
 use Rattle.run_laws.proofs.Played.{lines_at}

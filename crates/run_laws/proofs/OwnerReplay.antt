@@ -1,35 +1,15 @@
 -- After every history, and after every command, any two owners of one resource are compatible.
-use Rattle.std.proofs.Common.{◌≡◌, ℕ, ◌+◌, ◌≤◌, nat_le, Bool, true, false, IsTrue, cond, List, [], ◌∷◌, Option, None, Some, refl, sym, ap, subst, arith}
-use Rattle.std.specs.Prelude.{fold}
-use Rattle.std.specs.List.{list_all}
-use Rattle.std.proofs.lemmas.Bool.Decides.{nat_tests}
-use Rattle.plex_board.specs.CfTypes.declared.forms.Caps.{Caps}
-use Rattle.plex_board.specs.CfTypes.declared.forms.StrForm.{StrForm}
-use Rattle.plex_board.specs.CfTypes.declared.lock_commands.LockCmd.{LockCmd}
-use Rattle.plex_board.specs.CfTypes.declared.lock_commands.LockCmd.TheVariants.{Obtain, Alter, Release, Decide, RtRead, RtDelete}
-use Rattle.plex_board.specs.CfTypes.declared.numbers.ConnId.{ConnId}
-use Rattle.plex_board.specs.CfTypes.declared.refusals.Refusal.{Refusal}
-use Rattle.plex_board.specs.CfTypes.declared.refusals.Refusal.TheVariants.{RecordsFull}
-use Rattle.plex_board.specs.EngineApi.Meaning.{Held, new_held, answer, first_refusal, unless_refused}
-use Rattle.plex_board.specs.LockQueue.Waiters.{IsQueue}
-use Rattle.plex_board.specs.LockModel.Interests.{AreInterests}
-use Rattle.plex_board.specs.LockModel.Contents.{Content, IsContent, OwnersAreCompatible, is_due, no_content, records_in}
-use Rattle.plex_board.specs.LockModel.Meaning.{lock_meaning}
-use Rattle.plex_board.specs.LockModel.Departures.{departure_of, with_returned}
-use Rattle.plex_board.specs.LockModel.Refusals.{records_refusal}
+use Rattle.run_laws.proofs.Names.{◌≡◌, ℕ, ◌+◌, ◌≤◌, nat_le, Bool, true, false, IsTrue, cond, List, [], ◌∷◌, Option, None, Some, refl, sym, ap, subst, arith, fold, list_all, nat_tests, Caps, StrForm, LockCmd, Obtain, Alter, Release, Decide, RtRead, RtDelete, ConnId, Refusal, RecordsFull, Held, new_held, answer, first_refusal, unless_refused, IsQueue, AreInterests, OwnersAreCompatible, is_due, records_in, lock_meaning, departure_of, with_returned, records_refusal, none_hold, led_departed, content-returned, compatible-interests, IsKept, kept-replay, Returns, LockHistory}
+use Rattle.plex_board.specs.LockModel.Contents.{Content, IsContent, no_content}
 use Rattle.plex_board.specs.LockModel.Requests as requests
 use Rattle.plex_board.specs.LockModel.Commands.Obtain as obtain
 use Rattle.plex_board.specs.LockModel.Commands.Alter as alter
 use Rattle.plex_board.specs.LockModel.Step.{cause, done}
-use Rattle.plex_board.proofs.LockModel.CommandLaws.{none_hold, content-done}
-use Rattle.plex_board.proofs.LockModel.DepartureLaws.{led_departed, content-returned}
+use Rattle.plex_board.proofs.LockModel.CommandLaws.{content-done}
 use Rattle.plex_board.proofs.LockModel.EngineLaws.{content-nothing}
-use Rattle.plex_board.proofs.LockModel.OwnerLaws.{compatible-interests}
-use Rattle.plex_board.proofs.ShellLaws.Keeping.{IsKept}
-use Rattle.plex_board.proofs.ShellLaws.ReplayLaws.{kept-replay}
 use Rattle.run_laws.specs.LockApplied.{Deed, IsHeldAfter, after_deed, content_applied}
-use Rattle.run_laws.specs.LockApplied.Deed.{Calls, Leaves, Returns}
-use Rattle.run_laws.specs.LockHistories.{LockHistory, content_after}
+use Rattle.run_laws.specs.LockApplied.Deed.{Calls, Leaves}
+use Rattle.run_laws.specs.LockHistories.{content_after}
 
 -- ---- at whatever capacity
 

@@ -1,42 +1,7 @@
 -- A page that was written as changed and isn't cast out is kept.
-use Rattle.std.proofs.Common.{◌≡◌, ℕ, Bool, true, false, ◌&&◌, ◌||◌, cond, List, [], ◌∷◌, ◌++◌, Option, None, Some, is_some, unwrap_or, option_map, append_assoc, append-nil, refl, sym, ap, ◌∙◌, subst}
-use Rattle.std.specs.Prelude.{option_and_then}
-use Rattle.std.specs.List.{list_any}
-use Rattle.std.proofs.lemmas.Bool.{false≢true, or_parts}
-use Rattle.plex_board.specs.CfTypes.declared.cache_commands.CacheCmd.{CacheCmd}
-use Rattle.plex_board.specs.CfTypes.declared.cache_commands.CacheCmd.TheVariants.{Read, Write, Castout, Unlock, Delete}
-use Rattle.plex_board.specs.CfTypes.declared.cache_commands.CacheReply.{CacheReply}
-use Rattle.plex_board.specs.CfTypes.declared.forms.Caps.{Caps}
-use Rattle.plex_board.specs.CfTypes.declared.forms.StrForm.{StrForm}
-use Rattle.plex_board.specs.CfTypes.declared.names.Name16.{Name16}
-use Rattle.plex_board.specs.CfTypes.declared.numbers.ConnId.{ConnId}
-use Rattle.plex_board.specs.CfTypes.declared.refusals.Refusal.{Refusal}
-use Rattle.plex_board.specs.CfTypes.Name.{same_name}
-use Rattle.plex_board.specs.EngineApi.declared.asks.Ask.{Ask}
+use Rattle.run_laws.proofs.Names.{◌≡◌, ℕ, Bool, true, false, ◌&&◌, ◌||◌, cond, List, [], ◌∷◌, ◌++◌, Option, None, Some, is_some, unwrap_or, option_map, append_assoc, append-nil, refl, sym, ap, ◌∙◌, subst, option_and_then, list_any, false≢true, or_parts, CacheCmd, Read, Write, Castout, Unlock, Delete, CacheReply, Caps, StrForm, Name16, ConnId, Refusal, same_name, Ask, What, replay, next_entry, next_mark, IsNextAs, Continues, Machine, step, unless, content_done, content_reply, unless_refused, content_cause, replay-push, continues_legal, same_name-eq, CacheItem, Content, IsOrderly, cache_meaning, row_of, Deed, after_deed, Calls, Leaves, Forgets, cause, done, Uncast, Uncasts, uncast_cast, uncast_unlocked, uncast_unless, uncast_after, Kept, AllKept, deed-kept, accepted_as, Move, stands_in, Same, Left, Returned, Forgotten, Cleared, shell_change, loss_change, CacheEntry, CacheHistory, Accepted, acceptance_of, is_accepted, is_allocated, IsLegalCache, StaysAllocated, content_after, Page, page_in, page_written, is_changed_write, deletes, casts_out, unlocks, HasNone, is_cast_out, IsUncast, HasPage, IsAnswered}
 use Rattle.plex_board.specs.EngineApi.declared.asks.Ask.TheVariants as ask
-use Rattle.plex_board.specs.EngineApi.declared.asks.What.{What}
 use Rattle.plex_board.specs.EngineApi.declared.asks.What.TheVariants as what
-use Rattle.plex_board.specs.EngineApi.History.{replay, next_entry, next_mark, IsNextAs, Continues}
-use Rattle.plex_board.specs.EngineApi.Machine.{Machine, step, unless, content_done, content_reply}
-use Rattle.plex_board.specs.EngineApi.Meaning.{unless_refused}
-use Rattle.plex_board.specs.EngineApi.Shell.{content_cause}
-use Rattle.plex_board.proofs.EngineApi.HistoryLaws.{replay-push, continues_legal}
-use Rattle.plex_board.proofs.CacheRegs.NameLaws.{same_name-eq}
-use Rattle.plex_board.specs.CacheModel.declared.items.CacheItem.{CacheItem}
-use Rattle.plex_board.specs.CacheModel.Contents.{Content, IsOrderly}
-use Rattle.plex_board.specs.CacheModel.Meaning.{cache_meaning}
-use Rattle.plex_board.specs.CacheModel.Rows.{row_of}
-use Rattle.plex_board.specs.CacheModel.Runs.{Deed, after_deed}
-use Rattle.plex_board.specs.CacheModel.Runs.Deed.{Calls, Leaves, Forgets}
-use Rattle.plex_board.specs.CacheModel.Step.{cause, done}
-use Rattle.plex_board.specs.CacheModel.Uncast.{Uncast, Uncasts, uncast_cast, uncast_unlocked, uncast_unless, uncast_after, Kept}
-use Rattle.plex_board.proofs.CacheModel.UncastLaws.{AllKept, deed-kept}
-use Rattle.plex_board.specs.ShellLaws.Accepted.{accepted_as}
-use Rattle.plex_board.proofs.ShellLaws.Moves.{Move, stands_in}
-use Rattle.plex_board.proofs.ShellLaws.Moves.Move.{Same, Left, Returned, Forgotten, Cleared}
-use Rattle.plex_board.proofs.ShellLaws.Changes.{shell_change, loss_change}
-use Rattle.run_laws.specs.CacheHistories.{CacheEntry, CacheHistory, Accepted, acceptance_of, is_accepted, is_allocated, IsLegalCache, StaysAllocated, content_after}
-use Rattle.run_laws.specs.Uncast.{Page, page_in, page_written, is_changed_write, deletes, casts_out, unlocks, HasNone, is_cast_out, IsUncast, HasPage, IsAnswered}
 use Rattle.run_laws.proofs.Allocated.{stands-content}
 use Rattle.run_laws.proofs.CacheReplies.{answer-content, read-changed, castout-changed}
 use Rattle.run_laws.proofs.UniqueLaws.{orderly-replay}

@@ -1,28 +1,9 @@
 -- A transcript that follows a script tells, for each structure, that the caller's calls there are its works.
-use Rattle.std.proofs.Common.{◌≡◌, ℕ, ◌+◌, ◌<◌, ◌==◌, Bool, true, false, List, [], ◌∷◌, ◌++◌, map, filter, cond, Option, Some, None, inl, inr, ◌⊎◌, suc, slice_get, refl, sym, ap, subst, ◌∙◌, arith, append_assoc, append-nil}
-use Rattle.std.specs.Bool.{MatchBool}
-use Rattle.std.proofs.lemmas.Bool.Decides.{nat_tests}
-use Rattle.std.proofs.lemmas.List.Elements.{filter_map-append}
-use Rattle.plex_board.specs.CfTypes.declared.forms.Kind.{Kind}
-use Rattle.plex_board.specs.CfTypes.declared.forms.StrForm.{StrForm}
-use Rattle.plex_board.specs.CfTypes.declared.numbers.ConnId.{ConnId}
-use Rattle.plex_board.specs.CfTypes.declared.numbers.StrNo.{StrNo}
+use Rattle.run_laws.proofs.Names.{◌≡◌, ℕ, ◌+◌, ◌<◌, ◌==◌, Bool, true, false, List, [], ◌∷◌, ◌++◌, map, filter, cond, Option, Some, None, inl, inr, ◌⊎◌, suc, slice_get, refl, sym, ap, subst, ◌∙◌, arith, append_assoc, append-nil, MatchBool, nat_tests, filter_map-append, Kind, StrForm, ConnId, StrNo, Told, Step, AnyHistory, AnyAsk, Act, Line, Script, Shown, first_step, step_after, asked_by, shell_ask, call_of, AnyCall, call_numbered, calls_on, IsHeard, Runs, ShowsAct, ShowsLines, ShowsClosing, ShowsClosings, Follows, lines_of, number_on, numbers_on, is_linked_by, test_numbers, word_numbers, runs_elsewhere}
 use Rattle.plex_board.specs.CfTypes.declared.shell_commands.ShellCmd.TheVariants as cmd
-use Rattle.plex_board.specs.EngineApi.declared.told.Told.{Told}
-use Rattle.plex_board.specs.PlexScript.declared.agents.Step.{Step}
 use Rattle.plex_board.specs.PlexScript.declared.agents.Step.TheVariants as step
-use Rattle.plex_board.specs.PlexScript.declared.asks.AnyHistory.{AnyHistory}
-use Rattle.plex_board.specs.PlexScript.declared.scripts.AnyAsk.{AnyAsk}
-use Rattle.plex_board.specs.PlexScript.declared.scripts.Act.{Act}
 use Rattle.plex_board.specs.PlexScript.declared.scripts.Act.TheVariants as act
-use Rattle.plex_board.specs.PlexScript.declared.scripts.Line.{Line}
-use Rattle.plex_board.specs.PlexScript.declared.scripts.Script.{Script}
-use Rattle.plex_board.specs.PlexScript.declared.transcripts.Shown.{Shown}
 use Rattle.plex_board.specs.PlexScript.declared.transcripts.Shown.TheVariants as shown
-use Rattle.plex_board.specs.PlexScript.Agent.{first_step, step_after, asked_by, shell_ask, call_of}
-use Rattle.plex_board.specs.PlexScript.Heard.{AnyCall, call_numbered, calls_on}
-use Rattle.plex_board.specs.PlexScript.Follows.{IsHeard, Runs, ShowsAct, ShowsLines, ShowsClosing, ShowsClosings, Follows, lines_of, number_on, numbers_on, is_linked_by}
-use Rattle.plex_board.proofs.PlexScript.TestLaws.{test_numbers, word_numbers, runs_elsewhere}
 use Rattle.run_laws.proofs.Heard.{AreHeard, heard_front, heard_back}
 use Rattle.run_laws.proofs.Works.{Work, work_of, closing, works, Consumes, Plays}
 

@@ -1,25 +1,7 @@
 -- A report can be read in one way.
-use Rattle.std.proofs.Common.{◌≡◌, ℕ, zero, suc, ◌+◌, ◌≤◌, ◌<◌, ◌==◌, ◌^◌, List, [], ◌∷◌, ◌++◌, length, map, Option, Some, None, slice_get, get_or, refl, sym, ap, subst, ◌∙◌, arith, append_assoc}
-use Rattle.std.specs.Prelude.{codes}
-use Rattle.std.proofs.lemmas.Option.{slice_get-get_or, slice_get_within}
-use Rattle.plex_board.specs.CfTypes.declared.forms.StrForm.{StrForm}
-use Rattle.plex_board.specs.CfTypes.declared.numbers.StrNo.{StrNo}
-use Rattle.plex_board.specs.PlexScript.declared.asks.AnyHistory.{AnyHistory}
-use Rattle.plex_board.specs.PlexScript.declared.scripts.Script.{Script}
-use Rattle.plex_board.specs.PlexScript.declared.transcripts.AgentEnd.{AgentEnd}
+use Rattle.run_laws.proofs.Names.{◌≡◌, ℕ, zero, suc, ◌+◌, ◌≤◌, ◌<◌, ◌==◌, ◌^◌, List, [], ◌∷◌, ◌++◌, length, map, Option, Some, None, slice_get, get_or, refl, sym, ap, subst, ◌∙◌, arith, append_assoc, codes, slice_get-get_or, slice_get_within, StrForm, StrNo, AnyHistory, Script, AgentEnd, Shown, Transcript, AnyCall, any_calls, call_numbered, own_calls, calls_of, calls_on, length_on, Follows, numbers_on, Rising, calls_rise, caller_name, facility_line, connector_line, transcript_lines, shown_line, by_number, lines_each, structures_lines, histories_lines, transcripts_lines, Reading, IsReading, IsOnlyReading, report_of}
 use Rattle.plex_board.specs.PlexScript.declared.transcripts.AgentEnd.TheVariants as ended
-use Rattle.plex_board.specs.PlexScript.declared.transcripts.Shown.{Shown}
 use Rattle.plex_board.specs.PlexScript.declared.transcripts.Shown.TheVariants as shown
-use Rattle.plex_board.specs.PlexScript.declared.transcripts.Transcript.{Transcript}
-use Rattle.plex_board.specs.PlexScript.Heard.{AnyCall, any_calls, call_numbered, own_calls, calls_of, calls_on, length_on}
-use Rattle.plex_board.specs.PlexScript.Follows.{Follows, numbers_on}
-use Rattle.plex_board.specs.Kinds.{Rising}
-use Rattle.plex_board.proofs.HistoryLaws.{calls_rise}
-use Rattle.plex_report.specs.Naming.{caller_name}
-use Rattle.plex_report.specs.PlexPlain.PolicyLines.{facility_line, connector_line}
-use Rattle.plex_report.specs.Lines.{transcript_lines, shown_line}
-use Rattle.plex_report.specs.Report.{by_number, lines_each, structures_lines, histories_lines, transcripts_lines}
-use Rattle.run_laws.specs.Readings.{Reading, IsReading, IsOnlyReading, report_of}
 use Rattle.run_laws.proofs.Cuts.{text_of, same_behind, same_heading}
 use Rattle.run_laws.proofs.Callers.{AreApart, names_apart}
 use Rattle.run_laws.proofs.Heard.{AreHeard, heard_each, heard_own, heard_within}

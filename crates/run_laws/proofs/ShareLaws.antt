@@ -1,10 +1,5 @@
 -- Lists whose elements are shared out by their keys: what bounds each share bounds the whole.
-use Rattle.std.proofs.Common.{◌≡◌, ℕ, zero, suc, ◌+◌, ◌≤◌, ◌<◌, ◌==◌, List, [], ◌∷◌, length, filter, sum_by, refl, ◌∙◌, arith}
-use Rattle.std.specs.Prelude.{All, not}
-use Rattle.std.proofs.lemmas.Bool.Decides.{nat_tests}
-use Rattle.std.proofs.lemmas.List.Elements.{All-filter, filter_passes}
-use Rattle.std.proofs.lemmas.List.Filters.{length-filter_both, sum_by-filter_both}
-use Rattle.plex_board.proofs.CfLists.FilterLaws.{filter_swap, filter_absorbed}
+use Rattle.run_laws.proofs.Names.{◌≡◌, ℕ, zero, suc, ◌+◌, ◌≤◌, ◌<◌, ◌==◌, List, [], ◌∷◌, length, filter, sum_by, refl, ◌∙◌, arith, All, not, nat_tests, All-filter, filter_passes, length-filter_both, sum_by-filter_both, filter_swap, filter_absorbed}
 
 -- the elements with this key
 abbrev pub share : {X : Type 0} → (X → ℕ) → ℕ → List X → List X

@@ -1,19 +1,6 @@
 -- No history and no transcript is longer than the report.
-use Rattle.std.proofs.Common.{◌≡◌, ℕ, zero, suc, ◌+◌, ◌≤◌, ◌<◌, ◌^◌, List, [], ◌∷◌, ◌++◌, length, map, Option, Some, None, slice_get, refl, ap, arith, length-append}
-use Rattle.std.specs.Prelude.{codes}
-use Rattle.std.proofs.lemmas.List.{length-map}
-use Rattle.plex_board.specs.CfTypes.declared.numbers.StrNo.{StrNo}
-use Rattle.plex_board.specs.PlexScript.declared.asks.AnyHistory.{AnyHistory}
+use Rattle.run_laws.proofs.Names.{◌≡◌, ℕ, zero, suc, ◌+◌, ◌≤◌, ◌<◌, ◌^◌, List, [], ◌∷◌, ◌++◌, length, map, Option, Some, None, slice_get, refl, ap, arith, length-append, codes, length-map, StrNo, AnyHistory, Script, Transcript, any_length, length_on, cache_words, list_words, lock_words, cache_reply_words, list_reply_words, lock_reply_words, facility_line, connector_line, entry_line, history_lines, transcript_lines, shown_line, by_number, lines_each, structures_lines, histories_lines, transcripts_lines, report_lines, Reading, report_of}
 use Rattle.plex_board.specs.PlexScript.declared.asks.AnyHistory.TheVariants as history
-use Rattle.plex_board.specs.PlexScript.declared.scripts.Script.{Script}
-use Rattle.plex_board.specs.PlexScript.declared.transcripts.Transcript.{Transcript}
-use Rattle.plex_board.specs.PlexScript.Heard.{any_length, length_on}
-use Rattle.plex_report.specs.CommandWords.{cache_words, list_words, lock_words}
-use Rattle.plex_report.specs.ReplyWords.{cache_reply_words, list_reply_words, lock_reply_words}
-use Rattle.plex_report.specs.PlexPlain.PolicyLines.{facility_line, connector_line}
-use Rattle.plex_report.specs.Lines.{entry_line, history_lines, transcript_lines, shown_line}
-use Rattle.plex_report.specs.Report.{by_number, lines_each, structures_lines, histories_lines, transcripts_lines, report_lines}
-use Rattle.run_laws.specs.Readings.{Reading, report_of}
 use Rattle.run_laws.proofs.Cuts.{text-long}
 
 -- ---- within their lines

@@ -1,33 +1,7 @@
 -- After every history rows and registrations are in order, and where they are, names, indexes and registrations are
 -- unique.
-use Rattle.std.proofs.Common.{◌≡◌, ℕ, ◌≤◌, Bool, true, false, not, ◌&&◌, ◌||◌, ◌==◌, nat_lt, cond, List, [], ◌∷◌, Option, length, filter, refl, sym, ap, ◌∙◌, subst, arith}
-use Rattle.std.specs.List.{list_all}
-use Rattle.std.proofs.lemmas.Bool.{and_parts, false≢true}
-use Rattle.std.proofs.lemmas.Bool.Decides.{nat_tests}
-use Rattle.plex_board.specs.CfTypes.declared.forms.StrForm.{StrForm}
-use Rattle.plex_board.specs.CfTypes.declared.names.Name16.{Name16}
-use Rattle.plex_board.specs.CfTypes.declared.numbers.ConnId.{ConnId}
-use Rattle.plex_board.specs.CfTypes.declared.refusals.Refusal.{Refusal}
-use Rattle.plex_board.specs.CfTypes.Name.{same_name}
-use Rattle.plex_board.specs.EngineApi.Meaning.{unless_refused}
-use Rattle.plex_board.specs.CfLists.Pairwise.{pairwise}
-use Rattle.plex_board.proofs.CfLists.FilterLaws.{list_all_weaker, none_from_all, filter_none}
-use Rattle.plex_board.specs.CacheRegs.declared.registrations.Registration.{Registration}
-use Rattle.plex_board.specs.CacheRegs.Registrations.{is_of, is_at, is_for, stands_before, names_apart as regs_apart}
-use Rattle.plex_board.proofs.CacheRegs.NameLaws.{same_name-eq}
-use Rattle.plex_board.specs.CacheModel.declared.items.CacheItem.{CacheItem}
-use Rattle.plex_board.specs.CacheModel.Rows.{is_row_of, names_apart}
-use Rattle.plex_board.specs.CacheModel.Contents.{Content, IsOrderly, no_content}
-use Rattle.plex_board.specs.CacheModel.Meaning.{cache_meaning}
-use Rattle.plex_board.specs.CacheModel.Runs.Deed.{Calls, Leaves, Forgets}
-use Rattle.plex_board.specs.CacheModel.Step.{done}
-use Rattle.plex_board.proofs.CacheModel.ContentLaws.{orderly-content}
-use Rattle.plex_board.proofs.CacheModel.EngineLaws.{content-nothing}
-use Rattle.plex_board.proofs.CacheModel.OrderLaws.{orderly-deed}
-use Rattle.plex_board.proofs.ShellLaws.Keeping.{IsKept}
-use Rattle.plex_board.proofs.ShellLaws.ReplayLaws.{kept-replay}
-use Rattle.run_laws.specs.CacheHistories.{CacheHistory, content_after}
-use Rattle.run_laws.specs.Unique.{IsUnique}
+use Rattle.run_laws.proofs.Names.{◌≡◌, ℕ, ◌≤◌, Bool, true, false, not, ◌&&◌, ◌||◌, ◌==◌, nat_lt, cond, List, [], ◌∷◌, Option, length, filter, refl, sym, ap, ◌∙◌, subst, arith, list_all, and_parts, false≢true, nat_tests, StrForm, Name16, ConnId, Refusal, same_name, unless_refused, pairwise, list_all_weaker, none_from_all, filter_none, Registration, is_of, is_at, is_for, stands_before, names_apart as regs_apart, same_name-eq, CacheItem, is_row_of, Content, IsOrderly, no_content, cache_meaning, Calls, Leaves, Forgets, done, orderly-content, content-nothing, orderly-deed, IsKept, kept-replay, CacheHistory, content_after, IsUnique}
+use Rattle.plex_board.specs.CacheModel.Rows.{names_apart}
 
 -- ---- one at most
 

@@ -1,21 +1,8 @@
 -- A test of a run that shows a valid copy tells a fresh one.
-use Rattle.std.proofs.Common.{ℕ, Bool, List, take, subst}
-use Rattle.plex_board.specs.CfTypes.declared.forms.StrForm.{StrForm}
-use Rattle.plex_board.specs.CfTypes.declared.numbers.ConnId.{ConnId}
-use Rattle.plex_board.specs.CfTypes.declared.numbers.StrNo.{StrNo}
-use Rattle.plex_board.specs.CacheModel.Meaning.{cache_meaning}
-use Rattle.plex_board.specs.EngineApi.History.{Tells}
-use Rattle.run_laws.specs.CacheHistories.{CacheHistory, IsLegalCache}
+use Rattle.run_laws.proofs.Names.{ℕ, Bool, List, take, subst, StrForm, ConnId, StrNo, cache_meaning, Tells, CacheHistory, IsLegalCache, AnyHistory, Script, Shown, Transcript, surest_on, ShowsHistories, TellsBit, TellsOf, place_of, BitTellsFresh, TellsFreshBy, ShowsFresh}
 use Rattle.run_laws.proofs.FreshLaws.{fresh-test}
-use Rattle.plex_board.specs.PlexScript.declared.asks.AnyHistory.{AnyHistory}
 use Rattle.plex_board.specs.PlexScript.declared.asks.AnyHistory.TheVariants as history
-use Rattle.plex_board.specs.PlexScript.declared.scripts.Script.{Script}
-use Rattle.plex_board.specs.PlexScript.declared.transcripts.Shown.{Shown}
 use Rattle.plex_board.specs.PlexScript.declared.transcripts.Shown.TheVariants as shown
-use Rattle.plex_board.specs.PlexScript.declared.transcripts.Transcript.{Transcript}
-use Rattle.plex_board.specs.PlexScript.Follows.{surest_on}
-use Rattle.plex_board.specs.Headline.{ShowsHistories, TellsBit, TellsOf, place_of}
-use Rattle.run_laws.specs.Valid.{BitTellsFresh, TellsFreshBy, ShowsFresh}
 
 bit_fresh : (form : StrForm) (entries : CacheHistory) (conn : ConnId) (on : StrNo) (before : List Shown)
     (at index : ℕ) (bit : Bool)

@@ -1,45 +1,16 @@
 -- After every legal history the version of each record is 1 plus the number of its updates.
-use Rattle.std.proofs.Common.{◌≡◌, ℕ, zero, suc, ◌+◌, ◌<◌, ◌≤◌, ◌==◌, ◌&&◌, ◌||◌, Bool, true, false, not, cond, if◌then◌else◌, List, [], ◌∷◌, ◌++◌, Option, Some, None, length, length-append, append_assoc, append-nil, filter, nat_lt, replicate, refl, sym, ap, ◌∙◌, subst, arith}
-use Rattle.std.specs.Prelude.{fold}
-use Rattle.std.specs.List.{list_all, list_any}
-use Rattle.std.proofs.lemmas.Bool.{and_parts, and_from, or_parts, eqb-true, false≢true}
-use Rattle.std.proofs.lemmas.Bool.Decides.{nat_tests}
-use Rattle.std.proofs.lemmas.List.Folds.{list_all-append, list_any-append, list_all-map}
-use Rattle.std.proofs.lemmas.List.{length-map, map-append}
-use Rattle.std.proofs.lemmas.List.Sums.{fold-append}
-use Rattle.plex_board.specs.CfTypes.declared.forms.Caps.{Caps}
-use Rattle.plex_board.specs.CfTypes.declared.forms.StrForm.{StrForm}
-use Rattle.plex_board.specs.CfTypes.declared.list_commands.ListCmd.{ListCmd}
-use Rattle.plex_board.specs.CfTypes.declared.list_commands.ListCmd.TheVariants.{Write, Update, Read, Move, Delete, ReadList, LockSet, LockReset, LockTest, LControls, SetLimit, Monitor, Unmonitor}
-use Rattle.plex_board.specs.CfTypes.declared.list_commands.ListReply.{ListReply}
-use Rattle.plex_board.specs.CfTypes.declared.numbers.ConnId.{ConnId}
-use Rattle.plex_board.specs.CfTypes.declared.numbers.EntryId.{EntryId}
-use Rattle.plex_board.specs.CfTypes.declared.refusals.Refusal.{Refusal}
-use Rattle.plex_board.specs.EngineApi.declared.shapes.Shape.{Shape}
-use Rattle.plex_board.specs.EngineApi.History.{replay}
-use Rattle.plex_board.specs.EngineApi.Meaning.{Held, unless_refused}
-use Rattle.plex_board.specs.EngineApi.Shapes.{shape_of}
-use Rattle.plex_board.proofs.EngineApi.HistoryLaws.{continues_legal}
-use Rattle.plex_board.proofs.CfLists.FilterLaws.{list_all-filter, list_all_weaker, all_found, found_passes}
-use Rattle.plex_board.proofs.CfLists.InsertionLaws.{list_all-insertion}
-use Rattle.plex_board.specs.CfLists.Insertions.{insertion}
-use Rattle.plex_board.specs.ListStore.Record.{Record}
-use Rattle.plex_board.specs.ListStore.Lists.{Lists, records_of, all_records, is_id, lists_without, replaced_by}
-use Rattle.plex_board.specs.ListModel.Contents.{Content, headers_of, no_content, content_without}
-use Rattle.plex_board.specs.ListModel.Lists.{the_record, stands_before, with_record}
-use Rattle.plex_board.specs.ListModel.Meaning.{list_meaning}
+use Rattle.run_laws.proofs.Names.{◌≡◌, ℕ, zero, suc, ◌+◌, ◌<◌, ◌≤◌, ◌==◌, ◌&&◌, ◌||◌, Bool, true, false, not, cond, if◌then◌else◌, List, [], ◌∷◌, ◌++◌, Option, Some, None, length, length-append, append_assoc, append-nil, filter, nat_lt, replicate, refl, sym, ap, ◌∙◌, subst, arith, fold, list_all, list_any, and_parts, and_from, or_parts, eqb-true, false≢true, nat_tests, list_all-append, list_any-append, list_all-map, length-map, map-append, fold-append, Caps, StrForm, ListCmd, Update, ReadList, LockSet, LockReset, LockTest, LControls, SetLimit, Monitor, Unmonitor, ListReply, ConnId, EntryId, Refusal, Shape, replay, Held, unless_refused, shape_of, continues_legal, list_all-filter, list_all_weaker, all_found, found_passes, list_all-insertion, insertion, Record, Lists, records_of, all_records, is_id, lists_without, replaced_by, headers_of, content_without, the_record, with_record, list_meaning, causes, the_record-in, with-all, each-records, one-records, all-without, all-map, IsTraced, traced-replay, legal-answered, ListEntry, ListHistory, told_by, told_in, IsLegalList, opened, told_reply, told_from, told_then, is_write, is_update, answers, tells, makes, updates, AreVersioned}
+use Rattle.plex_board.specs.CfTypes.declared.list_commands.ListCmd.TheVariants.{Write, Read, Move, Delete}
+use Rattle.plex_board.specs.ListModel.Contents.{Content, no_content}
+use Rattle.plex_board.specs.ListModel.Lists.{stands_before}
 use Rattle.plex_board.specs.ListModel.Commands.Update as update
 use Rattle.plex_board.specs.ListModel.Commands.Move as move
 use Rattle.plex_board.specs.ListModel.Commands.Write as write
-use Rattle.plex_board.specs.ListModel.Step.{causes, cause, done}
-use Rattle.plex_board.proofs.ListModel.ContentLaws.{none_hold, the_record-in}
-use Rattle.plex_board.proofs.ListModel.ListLaws.{with-all, each-records, one-records, all-without, all-map}
-use Rattle.plex_board.proofs.ShellLaws.Keeping.{IsTraced}
-use Rattle.plex_board.proofs.ShellLaws.ReplayLaws.{traced-replay, legal-answered}
-use Rattle.run_laws.specs.ListHistories.{Told, ListEntry, ListHistory, told_by, told_in, IsLegalList, content_after}
-use Rattle.run_laws.specs.ListApplied.{Deed, IsHeldAfter, after_deed, opened, told_reply, told_of, told_from, told_then, content_applied}
+use Rattle.plex_board.specs.ListModel.Step.{cause, done}
+use Rattle.plex_board.proofs.ListModel.ContentLaws.{none_hold}
+use Rattle.run_laws.specs.ListHistories.{Told, content_after}
+use Rattle.run_laws.specs.ListApplied.{Deed, IsHeldAfter, after_deed, told_of, content_applied}
 use Rattle.run_laws.specs.ListApplied.Deed.{Calls, Leaves, Returns}
-use Rattle.run_laws.specs.Versions.{is_write, is_update, answers, tells, makes, updates, AreVersioned}
 
 -- ---- counting
 

@@ -1,13 +1,7 @@
 -- What a caller asks next of a structure, by what it was told of its calls there so far.
-use Rattle.std.proofs.Common.{◌≡◌, Bool, true, false, List, [], ◌∷◌, ◌++◌, map, Option, Some, None, inl, inr, ◌⊎◌, refl, sym, ap, subst, ◌∙◌}
-use Rattle.plex_board.specs.CfTypes.declared.forms.Kind.{Kind}
+use Rattle.run_laws.proofs.Names.{◌≡◌, Bool, true, false, List, [], ◌∷◌, ◌++◌, map, Option, Some, None, inl, inr, ◌⊎◌, refl, sym, ap, subst, ◌∙◌, Kind, Step, AnyAsk, first_step, step_after, asked_by, shell_ask, call_of, AnyCall, Line}
 use Rattle.plex_board.specs.CfTypes.declared.shell_commands.ShellCmd.TheVariants as cmd
-use Rattle.plex_board.specs.PlexScript.declared.agents.Step.{Step}
 use Rattle.plex_board.specs.PlexScript.declared.agents.Step.TheVariants as step
-use Rattle.plex_board.specs.PlexScript.declared.scripts.AnyAsk.{AnyAsk}
-use Rattle.plex_board.specs.PlexScript.Agent.{first_step, step_after, asked_by, shell_ask, call_of}
-use Rattle.plex_board.specs.PlexScript.Heard.{AnyCall}
-use Rattle.plex_board.specs.PlexScript.declared.scripts.Line.{Line}
 
 -- the work of one line: its call, if it is one, and the step that it begins with
 pub record Work : Type 0 where

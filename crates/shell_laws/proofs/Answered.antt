@@ -1,15 +1,6 @@
 -- Entries that have the replies of the machine, as those of a legal history do.
-use Rattle.std.proofs.Common.{◌≡◌, List, [], ◌∷◌, ◌++◌, ap, subst}
-use Rattle.cf_types.specs.declared.forms.StrForm.{StrForm}
-use Rattle.cf_types.specs.declared.numbers.ConnId.{ConnId}
-use Rattle.engine_api.specs.declared.asks.Reply.{Reply}
-use Rattle.engine_api.specs.declared.asks.What.{What}
+use Rattle.shell_laws.proofs.Names.{◌≡◌, List, [], ◌∷◌, ◌++◌, ap, subst, StrForm, ConnId, Reply, What, Entry, machine_after, replay, IsNextAs, Continues, Machine, step, loss_step, Meaning, replay-push}
 use Rattle.engine_api.specs.declared.asks.What.TheVariants as what
-use Rattle.engine_api.specs.declared.histories.Entry.{Entry}
-use Rattle.engine_api.specs.History.{machine_after, replay, IsNextAs, Continues}
-use Rattle.engine_api.specs.Machine.{Machine, step, loss_step}
-use Rattle.engine_api.specs.Meaning.{Meaning}
-use Rattle.engine_api.proofs.HistoryLaws.{replay-push}
 
 module _ {C R I S : Type 0} (meaning : Meaning C R I S) (form : StrForm) where
   -- the machine's reply to a call, or for the mark of a lost facility

@@ -1,33 +1,7 @@
 -- The content fits the instance that it is in, and the new one of a rebuild.
-use Rattle.std.proofs.Common.{◌≡◌, ℕ, Bool, true, false, IsTrue, List, [], ◌++◌, Option, None, Some, refl, sym, subst, arith}
-use Rattle.std.specs.Prelude.{if◌then◌else◌, is_some}
-use Rattle.cf_types.specs.declared.events.Stage.{Stage}
-use Rattle.cf_types.specs.declared.events.Stage.TheVariants.{Quiesce, Connect, Copy, Cleanup, Stopping}
-use Rattle.cf_types.specs.declared.forms.Caps.{Caps}
-use Rattle.cf_types.specs.declared.forms.Kind.{Kind}
+use Rattle.shell_laws.proofs.Names.{◌≡◌, ℕ, Bool, true, false, IsTrue, List, [], ◌++◌, Option, None, Some, refl, sym, subst, arith, if◌then◌else◌, is_some, Stage, Quiesce, Connect, Copy, Cleanup, Stopping, Caps, Kind, StrForm, CfId, ConnId, Refusal, without_member, What, Entry, Shape, after_what, replay, Fits, IsNoMore, IsNoMoreOf, Machine, departure_from, room_of, with_back_of, with_made, Meaning, unless_refused, fresh_of, is_held_up, is_switch, shape_of, Leaver, Shell, content_cause, emptied, Passed, No, Into, Ended, Rebuild, outcome_of, rebuild_emptied, rebuild_in, rebuild_left, rebuild_without, with_place, without_owing, HasRoom, IsHeld, HasPlace, IsManned, IsPlaced}
 use Rattle.cf_types.specs.declared.forms.Kind.TheVariants as kind
-use Rattle.cf_types.specs.declared.forms.StrForm.{StrForm}
-use Rattle.cf_types.specs.declared.numbers.CfId.{CfId}
-use Rattle.cf_types.specs.declared.numbers.ConnId.{ConnId}
-use Rattle.cf_types.specs.declared.refusals.Refusal.{Refusal}
-use Rattle.cf_types.specs.ConnSets.{without_member}
-use Rattle.engine_api.specs.declared.asks.What.{What}
 use Rattle.engine_api.specs.declared.asks.What.TheVariants as what
-use Rattle.engine_api.specs.declared.histories.Entry.{Entry}
-use Rattle.engine_api.specs.declared.shapes.Shape.{Shape}
-use Rattle.engine_api.specs.History.{after_what, replay}
-use Rattle.engine_api.specs.Items.{Fits, IsNoMore, IsNoMoreOf}
-use Rattle.engine_api.specs.Machine.{Machine, departure_from, room_of, with_back_of, with_made}
-use Rattle.engine_api.specs.Meaning.{Meaning, unless_refused}
-use Rattle.engine_api.specs.Rebuilds.{fresh_of, is_held_up, is_switch}
-use Rattle.engine_api.specs.Shapes.{shape_of}
-use Rattle.engine_api.specs.Shell.{Leaver, Shell, content_cause, emptied}
-use Rattle.engine_api.specs.RebuildCore.declared.passed.Passed.{Passed}
-use Rattle.engine_api.specs.RebuildCore.declared.passed.Passed.TheVariants.{No, Into, Ended}
-use Rattle.engine_api.specs.RebuildCore.declared.rebuild.Rebuild.{Rebuild}
-use Rattle.engine_api.specs.RebuildCore.Stages.{outcome_of, rebuild_emptied, rebuild_in, rebuild_left, rebuild_without, with_place, without_owing}
-use Rattle.shell_laws.specs.Capacities.{HasRoom, IsHeld}
-use Rattle.shell_laws.specs.Members.{HasPlace, IsManned, IsPlaced}
 use Rattle.shell_laws.proofs.MemberLaws.{content_waits, kept-manned, rebuild_in_it, sound_of}
 use Rattle.shell_laws.proofs.MoveLaws.{Past, kept-call, kept-mark}
 use Rattle.shell_laws.proofs.PlaceLaws.{placed-owed, switch_stands}

@@ -1,18 +1,6 @@
 -- Refusals in their order: where none holds, each of them doesn't.
-use Rattle.std.proofs.Common.{◌≡◌, ◌≤◌, ℕ, Bool, true, false, List, [], ◌∷◌, ◌++◌, Option, None, Some, refl, arith}
-use Rattle.std.proofs.lemmas.Bool.{ltb-false}
-use Rattle.std.specs.Prelude.{nat_lt}
-use Rattle.cf_types.specs.declared.forms.Caps.{Caps}
-use Rattle.cf_types.specs.declared.forms.Kind.{Kind}
+use Rattle.shell_laws.proofs.Names.{◌≡◌, ◌≤◌, ℕ, Bool, true, false, List, [], ◌∷◌, ◌++◌, Option, None, Some, refl, arith, nat_lt, ltb-false, Caps, Kind, StrForm, ConnId, Refusal, Room, Fits, first_refusal, Shell, if_rebuilding, if_too_small, refusal_when, unless_copied_to, Rebuild}
 use Rattle.cf_types.specs.declared.forms.Kind.TheVariants as kind
-use Rattle.cf_types.specs.declared.forms.StrForm.{StrForm}
-use Rattle.cf_types.specs.declared.numbers.ConnId.{ConnId}
-use Rattle.cf_types.specs.declared.refusals.Refusal.{Refusal}
-use Rattle.engine_api.specs.declared.deeds.Room.{Room}
-use Rattle.engine_api.specs.Items.{Fits}
-use Rattle.engine_api.specs.Meaning.{first_refusal}
-use Rattle.engine_api.specs.Shell.{Shell, if_rebuilding, if_too_small, refusal_when, unless_copied_to}
-use Rattle.engine_api.specs.RebuildCore.declared.rebuild.Rebuild.{Rebuild}
 
 -- none of these holds
 abbrev pub NoneHolds : List (Option Refusal) → Type 0

@@ -1,24 +1,13 @@
 -- Rebuilds, read at each place where something changes: one that ends, one that is stopped, one in which a connector
 -- fails while the new instance is filled, and two in which a facility is varied off.
-use Rattle.std.proofs.Common.{◌≡◌, ℕ, List, [], ◌∷◌, ◌++◌, Option, None, Some, take, true, false, refl}
-use Rattle.cf_types.specs.declared.events.Event.{Event}
+use Rattle.shell_laws.proofs.Names.{◌≡◌, ℕ, List, [], ◌∷◌, ◌++◌, Option, None, Some, take, true, false, refl, Event, Stage, Quiesce, Connect, Copy, Cleanup, Stopping, Caps, CfId, ConnId, ShellCmd, ShellReply, Entry, Rebuild, rebuild_told}
 use Rattle.cf_types.specs.declared.events.Event.TheVariants as event
-use Rattle.cf_types.specs.declared.events.Stage.{Stage}
-use Rattle.cf_types.specs.declared.events.Stage.TheVariants.{Quiesce, Connect, Copy, Cleanup, Stopping}
-use Rattle.cf_types.specs.declared.forms.Caps.{Caps}
-use Rattle.cf_types.specs.declared.numbers.CfId.{CfId}
-use Rattle.cf_types.specs.declared.numbers.ConnId.{ConnId}
-use Rattle.cf_types.specs.declared.shell_commands.ShellCmd.{ShellCmd}
 use Rattle.cf_types.specs.declared.shell_commands.ShellCmd.TheVariants as cmd
-use Rattle.cf_types.specs.declared.shell_commands.ShellReply.{ShellReply}
 use Rattle.cf_types.specs.declared.shell_commands.ShellReply.TheVariants as shown
 use Rattle.cf_types.specs.declared.refusals.Refusal.TheVariants as refusal
 use Rattle.engine_api.specs.declared.asks.Ask.TheVariants as ask
 use Rattle.engine_api.specs.declared.asks.Reply.TheVariants as reply
 use Rattle.engine_api.specs.declared.asks.What.TheVariants as what
-use Rattle.engine_api.specs.declared.histories.Entry.{Entry}
-use Rattle.engine_api.specs.RebuildCore.declared.rebuild.Rebuild.{Rebuild}
-use Rattle.shell_laws.specs.Readings.{rebuild_told}
 
 abbrev op : ConnId
 op = record { 0 = 0 }

@@ -1,26 +1,5 @@
 -- What deeds make of the capacities of the instances, and that those of a command may be done.
-use Rattle.std.proofs.Common.{◌≡◌, Bool, true, false, List, [], ◌∷◌, Option, None, Some, inr, refl, sym, ap, ◌∙◌, subst}
-use Rattle.std.specs.Prelude.{if◌then◌else◌, ◌||◌, ◌&&◌, is_some, is_none}
-use Rattle.std.proofs.lemmas.Bool.{both_ways}
-use Rattle.cf_types.specs.declared.events.Stage.{Stage}
-use Rattle.cf_types.specs.declared.events.Stage.TheVariants.{Quiesce, Connect, Copy, Cleanup, Stopping}
-use Rattle.cf_types.specs.declared.forms.Caps.{Caps}
-use Rattle.cf_types.specs.declared.forms.StrForm.{StrForm}
-use Rattle.cf_types.specs.declared.numbers.CfId.{CfId}
-use Rattle.cf_types.specs.declared.numbers.ConnId.{ConnId}
-use Rattle.cf_types.specs.declared.shell_commands.ShellCmd.{ShellCmd}
-use Rattle.cf_types.specs.ConnSets.{without_member}
-use Rattle.engine_api.specs.declared.deeds.Deeds.{Deeds}
-use Rattle.engine_api.specs.declared.deeds.Room.{Room}
-use Rattle.engine_api.specs.Items.{Fits}
-use Rattle.engine_api.specs.Machine.{Machine, items_of, room_of}
-use Rattle.engine_api.specs.Meaning.{Meaning}
-use Rattle.engine_api.specs.Rebuilds.{fresh_of, is_switch}
-use Rattle.engine_api.specs.Shell.{Shell, caps_in, emptied, is_drop, mark_outcome, shell_cause}
-use Rattle.engine_api.specs.RebuildCore.declared.rebuild.Rebuild.{Rebuild}
-use Rattle.engine_api.specs.RebuildCore.Stages.{outcome, outcome_of, rebuild_emptied, rebuild_left, rebuild_without, with_place, without_owing}
-use Rattle.shell_laws.specs.Capacities.{AreFitting, caps_behind, fresh_behind, fresh_caps}
-use Rattle.shell_laws.specs.Members.{HasMembers, IsManned, IsPlaced, Somebody}
+use Rattle.shell_laws.proofs.Names.{◌≡◌, Bool, true, false, List, [], ◌∷◌, Option, None, Some, inr, refl, sym, ap, ◌∙◌, subst, if◌then◌else◌, ◌||◌, ◌&&◌, is_some, is_none, both_ways, Stage, Quiesce, Connect, Copy, Cleanup, Stopping, Caps, StrForm, CfId, ConnId, ShellCmd, without_member, Deeds, Room, Fits, Machine, items_of, room_of, Meaning, fresh_of, is_switch, Shell, caps_in, emptied, is_drop, mark_outcome, shell_cause, Rebuild, outcome, outcome_of, rebuild_emptied, rebuild_left, rebuild_without, with_place, without_owing, AreFitting, caps_behind, fresh_behind, fresh_caps, HasMembers, IsManned, IsPlaced, Somebody}
 use Rattle.shell_laws.proofs.LossLaws.{loss-cases}
 use Rattle.shell_laws.proofs.MemberLaws.{rebuild_in_it, sound_of}
 use Rattle.shell_laws.proofs.PlaceLaws.{IsRebuild, is-without, no_switch, no_switch_outside, placed-owed, switch_copy, switch_stands}

@@ -1,27 +1,6 @@
 -- The new instance has items in COPY alone, and no more than there are; and what leaves some leaves the content.
-use Rattle.std.proofs.Common.{◌≡◌, ℕ, ◌+◌, ◌-◌, ◌≤◌, ◌⊎◌, inl, inr, Bool, true, false, List, [], ◌∷◌, length, Option, None, Some, refl, sym, ◌∙◌, subst, arith}
-use Rattle.std.proofs.Math.Nat.{min-le_right}
-use Rattle.std.specs.Prelude.{if◌then◌else◌, ◌||◌, is_some, min}
-use Rattle.cf_types.specs.declared.events.Stage.TheVariants.{Connect, Copy}
-use Rattle.cf_types.specs.declared.forms.StrForm.{StrForm}
-use Rattle.cf_types.specs.declared.numbers.CfId.{CfId}
-use Rattle.cf_types.specs.declared.numbers.ConnId.{ConnId}
-use Rattle.cf_types.specs.ConnSets.{without_member}
-use Rattle.engine_api.specs.declared.asks.Ask.{Ask}
+use Rattle.shell_laws.proofs.Names.{◌≡◌, ℕ, ◌+◌, ◌-◌, ◌≤◌, ◌⊎◌, inl, inr, Bool, true, false, List, [], ◌∷◌, length, Option, None, Some, refl, sym, ◌∙◌, subst, arith, if◌then◌else◌, ◌||◌, is_some, min, min-le_right, Connect, Copy, StrForm, CfId, ConnId, without_member, Ask, Deeds, Entry, What, after_what, replay, Machine, content_after, copied_after, items_of, loss_step, room_of, step, Meaning, is_switch, shape_of, ShellOutcome, content_cause, is_drop, is_restart, Rebuild, outcome, outcome_of, rebuild_onward, without_owing, IsFilled, IsFilling, IsManned, Somebody}
 use Rattle.engine_api.specs.declared.asks.What.TheVariants as what
-use Rattle.engine_api.specs.declared.deeds.Deeds.{Deeds}
-use Rattle.engine_api.specs.declared.histories.Entry.{Entry}
-use Rattle.engine_api.specs.declared.asks.What.{What}
-use Rattle.engine_api.specs.History.{after_what, replay}
-use Rattle.engine_api.specs.Machine.{Machine, content_after, copied_after, items_of, loss_step, room_of, step}
-use Rattle.engine_api.specs.Meaning.{Meaning}
-use Rattle.engine_api.specs.Rebuilds.{is_switch}
-use Rattle.engine_api.specs.Shapes.{shape_of}
-use Rattle.engine_api.specs.Shell.{ShellOutcome, content_cause, is_drop, is_restart}
-use Rattle.engine_api.specs.RebuildCore.declared.rebuild.Rebuild.{Rebuild}
-use Rattle.engine_api.specs.RebuildCore.Stages.{outcome, outcome_of, rebuild_onward, without_owing}
-use Rattle.shell_laws.specs.Filling.{IsFilled, IsFilling}
-use Rattle.shell_laws.specs.Members.{IsManned, Somebody}
 use Rattle.shell_laws.proofs.LossLaws.{loss-cases}
 use Rattle.shell_laws.proofs.MemberLaws.{content_waits, kept-manned, rebuild_in_it, sound_of}
 use Rattle.shell_laws.proofs.MoveLaws.{Past, kept-call}

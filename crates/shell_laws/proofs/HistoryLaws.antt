@@ -1,23 +1,6 @@
 -- The rebuild that the machine keeps is the one that its history tells of.
-use Rattle.std.proofs.Common.{◌≡◌, List, [], ◌∷◌, ◌++◌, Option, None, option_map, refl, sym, ap, ◌∙◌, subst}
-use Rattle.std.specs.Prelude.{fold}
-use Rattle.cf_types.specs.declared.forms.StrForm.{StrForm}
-use Rattle.cf_types.specs.declared.numbers.ConnId.{ConnId}
-use Rattle.cf_types.specs.Connections.{actives}
-use Rattle.engine_api.specs.declared.asks.Reply.{Reply}
-use Rattle.engine_api.specs.declared.asks.What.{What}
+use Rattle.shell_laws.proofs.Names.{◌≡◌, List, [], ◌∷◌, ◌++◌, Option, None, option_map, refl, sym, ap, ◌∙◌, subst, fold, StrForm, ConnId, actives, Reply, What, Entry, after_what, machine_after, replay, IsLegal, Machine, Meaning, replay-push, continues_legal, Rebuild, actives_after, HasMembers, Reading, read_from, read_next, rebuild_of, rebuild_told, rebuild_next, Telling, telling_of, telling_entry}
 use Rattle.engine_api.specs.declared.asks.What.TheVariants as what
-use Rattle.engine_api.specs.declared.histories.Entry.{Entry}
-use Rattle.engine_api.specs.History.{after_what, machine_after, replay, IsLegal}
-use Rattle.engine_api.specs.Machine.{Machine}
-use Rattle.engine_api.specs.Meaning.{Meaning}
-use Rattle.engine_api.proofs.HistoryLaws.{replay-push, continues_legal}
-use Rattle.engine_api.specs.RebuildCore.declared.rebuild.Rebuild.{Rebuild}
-use Rattle.shell_laws.specs.History.{actives_after}
-use Rattle.shell_laws.specs.Members.{HasMembers}
-use Rattle.shell_laws.specs.Readings.{Reading, read_from, read_next, rebuild_of, rebuild_told}
-use Rattle.shell_laws.specs.Steps.{rebuild_next}
-use Rattle.shell_laws.specs.Tellings.{Telling, telling_of, telling_entry}
 use Rattle.shell_laws.proofs.Answered.{reply_for, AreAnswered, continues-answered}
 use Rattle.shell_laws.proofs.MemberLaws.{manned-replay}
 use Rattle.shell_laws.proofs.ReadingLaws.{IsGoing, told-next, going-next}

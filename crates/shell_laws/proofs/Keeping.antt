@@ -1,18 +1,8 @@
 -- What is to be shown of what holds after every history.
-use Rattle.std.specs.Prelude.{◌≡◌, Bool, false, ◌&&◌, List, [], ◌∷◌, ◌++◌, None, Some}
-use Rattle.cf_types.specs.declared.forms.Caps.{Caps}
-use Rattle.cf_types.specs.declared.forms.StrForm.{StrForm}
-use Rattle.cf_types.specs.declared.numbers.ConnId.{ConnId}
-use Rattle.cf_types.specs.declared.shell_commands.ShellCmd.{ShellCmd}
+use Rattle.shell_laws.proofs.Names.{◌≡◌, Bool, false, ◌&&◌, List, [], ◌∷◌, ◌++◌, None, Some, Caps, StrForm, ConnId, ShellCmd, Entry, Meaning, replay, shape_of, Leaver, leaver, accepted_as}
 use Rattle.cf_types.specs.declared.shell_commands.ShellCmd.TheVariants as cmd
 use Rattle.engine_api.specs.declared.asks.Ask.TheVariants as ask
 use Rattle.engine_api.specs.declared.asks.What.TheVariants as what
-use Rattle.engine_api.specs.declared.histories.Entry.{Entry}
-use Rattle.engine_api.specs.Meaning.{Meaning}
-use Rattle.engine_api.specs.History.{replay}
-use Rattle.engine_api.specs.Shapes.{shape_of}
-use Rattle.engine_api.specs.Shell.{Leaver, leaver}
-use Rattle.shell_laws.specs.Accepted.{accepted_as}
 use Rattle.shell_laws.proofs.Moves.{stands_in}
 
 module _ {C R I S : Type 0} (meaning : Meaning C R I S) (form : StrForm) where

@@ -1,3 +1,4 @@
+pub mod Names
 pub mod Checks
 pub mod ReadingLaws
 pub mod CauseLaws

@@ -1,22 +1,10 @@
 -- What comes of it where what stands in a facility is lost, as a mark tells it or a VARY: nothing is, one of two
 -- instances, the new one of a rebuild, or the only one.
-use Rattle.std.proofs.Common.{◌≡◌, ℕ, Bool, true, false, [], Option, None, Some, refl}
-use Rattle.std.specs.Prelude.{if◌then◌else◌, ◌||◌, is_some}
-use Rattle.cf_types.specs.declared.forms.StrForm.{StrForm}
-use Rattle.cf_types.specs.declared.numbers.CfId.{CfId}
-use Rattle.cf_types.specs.declared.numbers.ConnId.{ConnId}
+use Rattle.shell_laws.proofs.Names.{◌≡◌, ℕ, Bool, true, false, [], Option, None, Some, refl, if◌then◌else◌, ◌||◌, is_some, StrForm, CfId, ConnId, ShellReply, Reply, is_at, Machine, content_after, loss_step, step, Meaning, fresh_of, Shell, ShellOutcome, facility_of, failed_outcome, fresh_loss, idle_outcome, loss_outcome, primary_loss, simplex_outcome, stopped_outcome, vary_outcome, with_off, with_posted, Rebuild}
 use Rattle.cf_types.specs.declared.shell_commands.ShellCmd.TheVariants as cmd
-use Rattle.cf_types.specs.declared.shell_commands.ShellReply.{ShellReply}
 use Rattle.cf_types.specs.declared.shell_commands.ShellReply.TheVariants as shown
 use Rattle.engine_api.specs.declared.asks.Ask.TheVariants as ask
-use Rattle.engine_api.specs.declared.asks.Reply.{Reply}
 use Rattle.engine_api.specs.declared.asks.Reply.TheVariants as reply
-use Rattle.engine_api.specs.Instances.{is_at}
-use Rattle.engine_api.specs.Machine.{Machine, content_after, loss_step, step}
-use Rattle.engine_api.specs.Meaning.{Meaning}
-use Rattle.engine_api.specs.Rebuilds.{fresh_of}
-use Rattle.engine_api.specs.Shell.{Shell, ShellOutcome, facility_of, failed_outcome, fresh_loss, idle_outcome, loss_outcome, primary_loss, simplex_outcome, stopped_outcome, vary_outcome, with_off, with_posted}
-use Rattle.engine_api.specs.RebuildCore.declared.rebuild.Rebuild.{Rebuild}
 
 -- what holds in each case
 pub record InEachCase (form : StrForm) (cf : CfId) (shell : Shell) (Holds : ShellOutcome → Type 0) : Type 0 where

@@ -1,33 +1,8 @@
 -- In a rebuild the members are just the connectors that are active, of whom there are some, and the instances stand
 -- that there are to be: each move keeps it, so it holds after every history.
-use Rattle.std.proofs.Common.{◌≡◌, ◌≢◌, ℕ, Bool, true, false, List, [], ◌∷◌, length, Option, None, Some, inr, refl, sym, ap, ◌∙◌, subst}
-use Rattle.std.specs.Prelude.{fold, is_some, if◌then◌else◌, unwrap_or}
-use Rattle.std.proofs.lemmas.Bool.{both_ways}
-use Rattle.cf_types.specs.declared.limits.TheConstants.{CALLERS}
-use Rattle.cf_types.specs.declared.events.Stage.{Stage}
-use Rattle.cf_types.specs.declared.events.Stage.TheVariants.{Quiesce, Stopping}
-use Rattle.cf_types.specs.declared.forms.StrForm.{StrForm}
-use Rattle.cf_types.specs.declared.numbers.CfId.{CfId}
-use Rattle.cf_types.specs.declared.numbers.ConnId.{ConnId}
+use Rattle.shell_laws.proofs.Names.{◌≡◌, ◌≢◌, ℕ, Bool, true, false, List, [], ◌∷◌, length, Option, None, Some, inr, refl, sym, ap, ◌∙◌, subst, fold, is_some, if◌then◌else◌, unwrap_or, both_ways, CALLERS, Stage, Quiesce, Stopping, StrForm, CfId, ConnId, Connections, actives, is_active, no_connections, is_member, without_member, defined_count-unconnected, Ask, What, Room, Entry, after_what, machine_after, replay, Instances, no_instance, Machine, loss_step, opening, room_of, step, Meaning, is_held_up, is_switch, Shell, content_cause, emptied, if_failed, if_lost, if_quiesced, unless_active, with_primary, length-conns-step, length-conns-replay, conns-loss, Rebuild, outcome_of, rebuild_in, rebuild_onward, with_place, without_owing, HasMembers, HasPlace, IsManned, Somebody}
 use Rattle.cf_types.specs.declared.refusals.Refusal.TheVariants as refusal
-use Rattle.cf_types.specs.Connections.{Connections, actives, is_active, no_connections}
-use Rattle.cf_types.specs.ConnSets.{is_member, without_member}
-use Rattle.cf_types.proofs.ConnectionLaws.{defined_count-unconnected}
-use Rattle.engine_api.specs.declared.asks.Ask.{Ask}
-use Rattle.engine_api.specs.declared.asks.What.{What}
 use Rattle.engine_api.specs.declared.asks.What.TheVariants as what
-use Rattle.engine_api.specs.declared.deeds.Room.{Room}
-use Rattle.engine_api.specs.declared.histories.Entry.{Entry}
-use Rattle.engine_api.specs.History.{after_what, machine_after, replay}
-use Rattle.engine_api.specs.Instances.{Instances, no_instance}
-use Rattle.engine_api.specs.Machine.{Machine, loss_step, opening, room_of, step}
-use Rattle.engine_api.specs.Meaning.{Meaning}
-use Rattle.engine_api.specs.Rebuilds.{is_held_up, is_switch}
-use Rattle.engine_api.specs.Shell.{Shell, content_cause, emptied, if_failed, if_lost, if_quiesced, unless_active, with_primary}
-use Rattle.engine_api.proofs.ShellLaws.{length-conns-step, length-conns-replay, conns-loss}
-use Rattle.engine_api.specs.RebuildCore.declared.rebuild.Rebuild.{Rebuild}
-use Rattle.engine_api.specs.RebuildCore.Stages.{outcome_of, rebuild_in, rebuild_onward, with_place, without_owing}
-use Rattle.shell_laws.specs.Members.{HasMembers, HasPlace, IsManned, Somebody}
 use Rattle.shell_laws.proofs.CauseLaws.{fourth_none}
 use Rattle.shell_laws.proofs.MoveLaws.{kept-call, kept-mark}
 use Rattle.shell_laws.proofs.PlaceLaws.{IsRebuild, is-emptied, is-onward, is-without, nobody, nobody_active, placed-owed, somebody_without, switch_stands}

@@ -1,18 +1,8 @@
 -- What an entry does to a content.
-use Rattle.std.specs.Prelude.{◌≡◌, Bool, false, ◌&&◌, is_some, None, Some}
-use Rattle.cf_types.specs.declared.forms.StrForm.{StrForm}
-use Rattle.cf_types.specs.declared.numbers.ConnId.{ConnId}
-use Rattle.cf_types.specs.declared.shell_commands.ShellCmd.{ShellCmd}
+use Rattle.shell_laws.proofs.Names.{◌≡◌, Bool, false, ◌&&◌, is_some, None, Some, StrForm, ConnId, ShellCmd, Reply, What, Machine, Meaning, shape_of, Leaver, leaver, accepted_as}
 use Rattle.cf_types.specs.declared.shell_commands.ShellCmd.TheVariants as cmd
 use Rattle.engine_api.specs.declared.asks.Ask.TheVariants as ask
-use Rattle.engine_api.specs.declared.asks.Reply.{Reply}
-use Rattle.engine_api.specs.declared.asks.What.{What}
 use Rattle.engine_api.specs.declared.asks.What.TheVariants as what
-use Rattle.engine_api.specs.Machine.{Machine}
-use Rattle.engine_api.specs.Meaning.{Meaning}
-use Rattle.engine_api.specs.Shapes.{shape_of}
-use Rattle.engine_api.specs.Shell.{Leaver, leaver}
-use Rattle.shell_laws.specs.Accepted.{accepted_as}
 
 -- an instance stands
 abbrev pub stands_in : {S : Type 0} → Machine S → Bool

@@ -1,12 +1,5 @@
 -- The secondary stands beside a primary, in another facility and in no rebuild.
-use Rattle.std.proofs.Common.{◌≡◌, None, ap, subst, sym}
-use Rattle.cf_types.specs.declared.forms.StrForm.{StrForm}
-use Rattle.cf_types.specs.declared.numbers.ConnId.{ConnId}
-use Rattle.cf_types.specs.declared.shell_commands.ShellCmd.{ShellCmd}
-use Rattle.engine_api.specs.Machine.{Machine, room_of}
-use Rattle.engine_api.specs.Meaning.{Meaning}
-use Rattle.engine_api.specs.Shell.{Shell, shell_cause}
-use Rattle.shell_laws.specs.Members.{IsManned, IsPaired}
+use Rattle.shell_laws.proofs.Names.{◌≡◌, None, ap, subst, sym, StrForm, ConnId, ShellCmd, Machine, room_of, Meaning, Shell, shell_cause, IsManned, IsPaired}
 use Rattle.shell_laws.proofs.MemberLaws.{sound-move, sound_of}
 use Rattle.shell_laws.proofs.ShellMoves.{IsSound, Work, standing_of}
 use Rattle.shell_laws.proofs.StepLaws.{done, move_by}

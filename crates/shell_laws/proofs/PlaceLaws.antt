@@ -1,26 +1,5 @@
 -- The members of a rebuild, its new instance, and the primary, whose place the new one takes.
-use Rattle.std.proofs.Common.{◌≡◌, ◌≢◌, ℕ, Bool, true, false, not, List, [], ◌∷◌, Option, None, Some, inl, inr, refl, sym, ap, ◌∙◌, subst}
-use Rattle.std.specs.Prelude.{if◌then◌else◌, ◌||◌, ◌&&◌, filter, is_some, is_none, nat_le, unwrap_or}
-use Rattle.std.proofs.lemmas.Bool.{eq-eqb, both_ways, false_from_ne_true}
-use Rattle.cf_types.specs.declared.limits.TheConstants.{CALLERS}
-use Rattle.cf_types.specs.declared.events.Stage.{Stage}
-use Rattle.cf_types.specs.declared.events.Stage.TheVariants.{Quiesce, Connect, Copy, Cleanup, Stopping}
-use Rattle.cf_types.specs.declared.forms.Pref.{Pref}
-use Rattle.cf_types.specs.declared.forms.StrForm.{StrForm}
-use Rattle.cf_types.specs.declared.numbers.CfId.{CfId}
-use Rattle.cf_types.specs.declared.numbers.ConnId.{ConnId}
-use Rattle.cf_types.specs.declared.refusals.Refusal.{Refusal}
-use Rattle.cf_types.specs.Connections.{Connections, actives, is_active, is_active_state, defined_count}
-use Rattle.cf_types.specs.ConnSets.{without_member}
-use Rattle.cf_types.proofs.ConnSetLaws.{filter_none_from}
-use Rattle.cf_types.proofs.ConnectionLaws.{gone-from_none_defined}
-use Rattle.engine_api.specs.Instances.{Instances, is_at, place_for, units_of}
-use Rattle.engine_api.specs.Meaning.{first_refusal}
-use Rattle.engine_api.specs.Rebuilds.{fresh_of, is_copy, is_switch}
-use Rattle.engine_api.specs.Shell.{Shell, candidates, emptied, if_no_place, is_candidate, is_connect, is_off, is_severed, refusal_when, with_primary}
-use Rattle.engine_api.specs.RebuildCore.declared.rebuild.Rebuild.{Rebuild}
-use Rattle.engine_api.specs.RebuildCore.Stages.{outcome, outcome_of, owing_after, rebuild_emptied, rebuild_left, rebuild_onward, rebuild_without, without_owing}
-use Rattle.shell_laws.specs.Members.{HasMembers, HasPlace, IsPlaced, Somebody}
+use Rattle.shell_laws.proofs.Names.{◌≡◌, ◌≢◌, ℕ, Bool, true, false, not, List, [], ◌∷◌, Option, None, Some, inl, inr, refl, sym, ap, ◌∙◌, subst, if◌then◌else◌, ◌||◌, ◌&&◌, filter, is_some, is_none, nat_le, unwrap_or, eq-eqb, both_ways, false_from_ne_true, CALLERS, Stage, Quiesce, Connect, Copy, Cleanup, Stopping, Pref, StrForm, CfId, ConnId, Refusal, Connections, actives, is_active, is_active_state, defined_count, without_member, filter_none_from, gone-from_none_defined, Instances, is_at, place_for, units_of, first_refusal, fresh_of, is_copy, is_switch, Shell, candidates, emptied, if_no_place, is_candidate, is_connect, is_off, is_severed, refusal_when, with_primary, Rebuild, outcome, outcome_of, owing_after, rebuild_emptied, rebuild_left, rebuild_onward, rebuild_without, without_owing, HasMembers, HasPlace, IsPlaced, Somebody}
 use Rattle.shell_laws.proofs.ShellMoves.{left_by}
 
 -- ---- the members and the new instance

@@ -1,21 +1,5 @@
 -- What is read of a history, and what counters keep, with one entry more.
-use Rattle.std.proofs.Common.{◌≡◌, ℕ, Bool, true, false, cond, not, ◌&&◌, ◌||◌, ◌==◌, List, [], ◌∷◌, Option, None, Some, option_map, filter, refl, sym, ap, ◌∙◌, subst}
-use Rattle.std.specs.Prelude.{unwrap_or}
-use Rattle.std.proofs.lemmas.List.Elements.{filter_agree}
-use Rattle.cf_types.specs.declared.events.Stage.{Stage}
-use Rattle.cf_types.specs.declared.events.Stage.TheVariants.{Quiesce, Connect, Copy, Cleanup, Stopping}
-use Rattle.cf_types.specs.declared.numbers.ConnId.{ConnId}
-use Rattle.cf_types.specs.ConnSets.{without_member}
-use Rattle.engine_api.specs.Rebuilds.{is_copy}
-use Rattle.cf_lists.proofs.FilterLaws.{filter-filter, filter_swap}
-use Rattle.engine_api.specs.RebuildCore.declared.passed.Passed.{Passed}
-use Rattle.engine_api.specs.RebuildCore.declared.passed.Passed.TheVariants.{No}
-use Rattle.engine_api.specs.RebuildCore.Stages.{next_stage, outcome, owing_after, rebuild_emptied, rebuild_in, rebuild_left, rebuild_onward}
-use Rattle.shell_laws.specs.Members.{HasMembers, Somebody}
-use Rattle.shell_laws.specs.Readings.{Reading, awaited, begun, has_given, passed, read_behind, read_next, read_past, rebuild_of, with_entry, with_stage, with_told}
-use Rattle.shell_laws.specs.Steps.{rebuild_given, rebuild_next}
-use Rattle.shell_laws.specs.Tellings.{Telling, TellingEntry, is_awaited}
-use Rattle.shell_laws.specs.Tellings.Telling.{Starts, Places, Stops, Departs, Forces, Fails, Nothing}
+use Rattle.shell_laws.proofs.Names.{◌≡◌, ℕ, Bool, true, false, cond, not, ◌&&◌, ◌||◌, ◌==◌, List, [], ◌∷◌, Option, None, Some, option_map, filter, refl, sym, ap, ◌∙◌, subst, unwrap_or, filter_agree, Stage, Quiesce, Connect, Copy, Cleanup, Stopping, ConnId, without_member, is_copy, filter-filter, filter_swap, Passed, No, next_stage, outcome, owing_after, rebuild_emptied, rebuild_in, rebuild_left, rebuild_onward, HasMembers, Somebody, Reading, awaited, begun, has_given, passed, read_behind, read_next, read_past, rebuild_of, with_entry, with_stage, with_told, rebuild_given, rebuild_next, Telling, TellingEntry, is_awaited, Starts, Places, Stops, Departs, Forces, Fails, Nothing}
 
 filter_true : {X : Type 0} (xs : List X) → filter (λ x. true) xs ≡ xs
 filter_true [] = refl

@@ -1,16 +1,5 @@
 -- What each entry keeps holds after every history.
-use Rattle.std.proofs.Common.{◌≡◌, false, ◌&&◌, List, [], ◌∷◌, ◌++◌, sym, subst, append_assoc, append-nil}
-use Rattle.std.specs.Prelude.{fold}
-use Rattle.cf_types.specs.declared.forms.StrForm.{StrForm}
-use Rattle.cf_types.specs.declared.numbers.ConnId.{ConnId}
-use Rattle.engine_api.specs.declared.asks.Reply.{Reply}
-use Rattle.engine_api.specs.declared.asks.What.{What}
-use Rattle.engine_api.specs.declared.histories.Entry.{Entry}
-use Rattle.engine_api.specs.History.{after_what, machine_after, replay, Continues}
-use Rattle.engine_api.specs.Machine.{Machine, opening}
-use Rattle.engine_api.specs.Meaning.{Meaning}
-use Rattle.engine_api.specs.Shapes.{shape_of}
-use Rattle.engine_api.proofs.HistoryLaws.{replay-push}
+use Rattle.shell_laws.proofs.Names.{◌≡◌, false, ◌&&◌, List, [], ◌∷◌, ◌++◌, sym, subst, append_assoc, append-nil, fold, StrForm, ConnId, Reply, What, Entry, after_what, machine_after, replay, Continues, Machine, opening, Meaning, shape_of, replay-push}
 use Rattle.shell_laws.proofs.Answered.{reply_for, AreAnswered, continues-answered}
 use Rattle.shell_laws.proofs.Moves.{stands_in, Move, Change}
 use Rattle.shell_laws.proofs.Moves.Move.{Same, Left, Returned, Forgotten, Cleared}

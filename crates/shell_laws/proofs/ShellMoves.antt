@@ -1,25 +1,6 @@
 -- What the common commands make of what stands of a structure: each of them, where it isn't refused, is one of thirteen
 -- moves, and so is the loss of a facility.
-use Rattle.std.specs.Prelude.{◌≡◌, ◌≢◌, ℕ, Bool, true, false, not, ◌&&◌, if◌then◌else◌, List, [], Option, None, Some, is_some, min}
-use Rattle.cf_types.specs.declared.events.Stage.TheVariants.{Connect, Stopping}
-use Rattle.cf_types.specs.declared.forms.Caps.{Caps}
-use Rattle.cf_types.specs.declared.forms.StrForm.{StrForm}
-use Rattle.cf_types.specs.declared.numbers.CfId.{CfId}
-use Rattle.cf_types.specs.declared.numbers.ConnId.{ConnId}
-use Rattle.cf_types.specs.Connections.{actives}
-use Rattle.cf_types.specs.ConnSets.{without_member}
-use Rattle.engine_api.specs.declared.deeds.Deeds.{Deeds}
-use Rattle.engine_api.specs.declared.deeds.Room.{Room}
-use Rattle.engine_api.specs.Instances.{Instances, no_instance}
-use Rattle.engine_api.specs.Items.{Fits}
-use Rattle.engine_api.specs.Rebuilds.{is_copy, is_switch}
-use Rattle.engine_api.specs.Shell.{Leaver, Shell, ShellOutcome, emptied, is_connect, is_drop, is_restart, no_deeds, with_primary}
-use Rattle.engine_api.specs.RebuildCore.declared.rebuild.Rebuild.{Rebuild}
-use Rattle.engine_api.specs.RebuildCore.Stages.{new_rebuild, outcome_of, rebuild_in, rebuild_onward, with_place, without_owing}
-use Rattle.shell_laws.specs.Filling.{IsFilling}
-use Rattle.shell_laws.specs.Members.{HasMembers, HasPlace, Somebody}
-use Rattle.shell_laws.specs.Steps.{rebuild_next}
-use Rattle.shell_laws.specs.Tellings.{Telling}
+use Rattle.shell_laws.proofs.Names.{◌≡◌, ◌≢◌, ℕ, Bool, true, false, not, ◌&&◌, if◌then◌else◌, List, [], Option, None, Some, is_some, min, Connect, Stopping, Caps, StrForm, CfId, ConnId, actives, without_member, Deeds, Room, Instances, no_instance, Fits, is_copy, is_switch, Leaver, Shell, ShellOutcome, emptied, is_connect, is_drop, is_restart, no_deeds, with_primary, Rebuild, new_rebuild, outcome_of, rebuild_in, rebuild_onward, with_place, without_owing, IsFilling, HasMembers, HasPlace, Somebody, rebuild_next, Telling}
 
 -- where the instances are, who is active, the rebuild under way, whether the structure has failed, and the capacity
 pub record Standing : Type 0 where

@@ -1,45 +1,14 @@
 -- Each command that isn't refused is a move, and so is a loss: what it makes of what stands, what its entry tells of a
 -- rebuild, and what its causes leave of the move.
-use Rattle.std.proofs.Common.{◌≡◌, ℕ, Bool, true, false, List, [], ◌∷◌, length, Option, None, Some, not, is_some, inl, inr, refl, sym, ap, ◌∙◌, subst, arith}
-use Rattle.std.specs.Prelude.{if◌then◌else◌, ◌||◌, ◌&&◌, unwrap_or, is_none}
-use Rattle.std.proofs.lemmas.Bool.{and_parts, both_ways, eqb-true}
-use Rattle.cf_types.specs.declared.limits.TheConstants.{CALLERS}
-use Rattle.cf_types.specs.declared.connections.ConnState.{ConnState}
+use Rattle.shell_laws.proofs.Names.{◌≡◌, ℕ, Bool, true, false, List, [], ◌∷◌, length, Option, None, Some, not, is_some, inl, inr, refl, sym, ap, ◌∙◌, subst, arith, if◌then◌else◌, ◌||◌, ◌&&◌, is_none, unwrap_or, and_parts, both_ways, eqb-true, CALLERS, ConnState, Event, Letter, Stage, Caps, StrForm, CfId, ConnId, Refusal, ShellCmd, ShellReply, Connections, actives, defined_count, is_active, is_active_state, state_of, with_connect, with_departure, with_forced, is_member, without_member, actives-with_answer, actives-with_departure, actives-with_forced, is_active-within, is_member-actives, next_event, owed_event, with_cleared, with_response, Ask, Room, Instances, is_at, no_instance, place_for, units_of, Machine, CallOutcome, command_done, content_done, departure_from, loss_step, moved_by, room_of, step, unless, Meaning, first_refusal, is_copy, Leaver, Shell, ShellOutcome, can_stop, candidates, complete_outcome, conns_answered, content_cause, departure_outcome, emptied, facility_of, fresh_made, given_outcome, goes, idle_outcome, if_connected, if_failed, if_rebuilding, if_severed, if_too_many, if_too_small, is_connect, is_drop, is_empty, is_kept, is_operator, is_restart, leaver, loss_outcome, made_at, no_deeds, rebuild_connect_outcome, refusal_when, responded, response_outcome, shell_cause, shell_causes, shell_done, shell_without, simplex_again, stop_outcome, take_event, unless_active, unless_copied_to, unless_failed, unless_owed, unless_reached, unless_rebuilding, vary_outcome, with_off, with_posted, Rebuild, is_response, rebuild_onward, rebuild_without, without_owing, HasPlace, IsPlaced, Somebody, IsEarly, IsInStage, MayBeTold, rebuild_next, Telling, mark_telling, telling, telling_of, Completes, Nothing, Responds}
 use Rattle.cf_types.specs.declared.connections.ConnState.TheVariants as conn
-use Rattle.cf_types.specs.declared.events.Event.{Event}
 use Rattle.cf_types.specs.declared.events.Event.TheVariants as event
-use Rattle.cf_types.specs.declared.events.Letter.{Letter}
-use Rattle.cf_types.specs.declared.events.Stage.{Stage}
 use Rattle.cf_types.specs.declared.events.Stage.TheVariants as stage
-use Rattle.cf_types.specs.declared.forms.Caps.{Caps}
-use Rattle.cf_types.specs.declared.forms.StrForm.{StrForm}
-use Rattle.cf_types.specs.declared.numbers.CfId.{CfId}
-use Rattle.cf_types.specs.declared.numbers.ConnId.{ConnId}
-use Rattle.cf_types.specs.declared.refusals.Refusal.{Refusal}
 use Rattle.cf_types.specs.declared.refusals.Refusal.TheVariants as refusal
-use Rattle.cf_types.specs.declared.shell_commands.ShellCmd.{ShellCmd}
 use Rattle.cf_types.specs.declared.shell_commands.ShellCmd.TheVariants as cmd
-use Rattle.cf_types.specs.declared.shell_commands.ShellReply.{ShellReply}
 use Rattle.cf_types.specs.declared.shell_commands.ShellReply.TheVariants as shown
-use Rattle.cf_types.specs.Connections.{Connections, actives, defined_count, is_active, is_active_state, state_of, with_connect, with_departure, with_forced}
-use Rattle.cf_types.specs.ConnSets.{is_member, without_member}
-use Rattle.cf_types.proofs.ConnectionLaws.{actives-with_answer, actives-with_departure, actives-with_forced, is_active-within, is_member-actives}
-use Rattle.cf_types.specs.Mailboxes.{next_event, owed_event, with_cleared, with_response}
-use Rattle.engine_api.specs.declared.asks.Ask.{Ask}
 use Rattle.engine_api.specs.declared.asks.Ask.TheVariants as ask
 use Rattle.engine_api.specs.declared.asks.What.TheVariants as what
-use Rattle.engine_api.specs.declared.deeds.Room.{Room}
-use Rattle.engine_api.specs.Instances.{Instances, is_at, no_instance, place_for, units_of}
-use Rattle.engine_api.specs.Machine.{Machine, CallOutcome, command_done, content_done, departure_from, loss_step, moved_by, room_of, step, unless}
-use Rattle.engine_api.specs.Meaning.{Meaning, first_refusal}
-use Rattle.engine_api.specs.Rebuilds.{is_copy}
-use Rattle.engine_api.specs.Shell.{Leaver, Shell, ShellOutcome, can_stop, candidates, complete_outcome, conns_answered, content_cause, departure_outcome, emptied, facility_of, fresh_made, given_outcome, goes, idle_outcome, if_connected, if_failed, if_rebuilding, if_severed, if_too_many, if_too_small, is_connect, is_drop, is_empty, is_kept, is_operator, is_restart, leaver, loss_outcome, made_at, no_deeds, rebuild_connect_outcome, refusal_when, responded, response_outcome, shell_cause, shell_causes, shell_done, shell_without, simplex_again, stop_outcome, take_event, unless_active, unless_copied_to, unless_failed, unless_owed, unless_reached, unless_rebuilding, vary_outcome, with_off, with_posted}
-use Rattle.engine_api.specs.RebuildCore.declared.rebuild.Rebuild.{Rebuild}
-use Rattle.engine_api.specs.RebuildCore.Stages.{is_response, rebuild_onward, rebuild_without, without_owing}
-use Rattle.shell_laws.specs.Members.{HasPlace, IsPlaced, Somebody}
-use Rattle.shell_laws.specs.Steps.{IsEarly, IsInStage, MayBeTold, rebuild_next}
-use Rattle.shell_laws.specs.Tellings.{Telling, mark_telling, telling, telling_of}
-use Rattle.shell_laws.specs.Tellings.Telling.{Completes, Nothing, Responds}
 use Rattle.shell_laws.proofs.CauseLaws.{NoneHolds, fits_first, idle_rebuild, none_holds, not_so, nothing_left, past_front}
 use Rattle.shell_laws.proofs.LossLaws.{loss-cases}
 use Rattle.shell_laws.proofs.PlaceLaws.{made_apart, no_switch, nobody_active, placed_for, primary-connect}

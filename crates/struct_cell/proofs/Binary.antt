@@ -1,11 +1,5 @@
 -- The bits of a word that is made of bits.
-use Rattle.std.proofs.Common.{rules, ◌≡◌, ℕ, zero, suc, ◌+◌, ◌-◌, ◌*◌, ◌%◌, ◌^◌, ◌<◌, ◌≤◌, ◌==◌, Fits, w32, Bool, true, false, refl, sym, ap, ◌∙◌, subst, arith, inl, inr, pow-suc, pow_mono}
-use Rattle.std.specs.Prelude.{if◌then◌else◌}
-use Rattle.std.specs.Int.{bit_at}
-use Rattle.std.proofs.lemmas.Bool.{cases_lt}
-use Rattle.std.proofs.lemmas.Nat.Bits.{bit_at_cat_low, bit_at_cat_high}
-use Rattle.vec_words.specs.Logged.{bit_in}
-use Rattle.struct_cell.specs.Words.{word_from, whole_word}
+use Rattle.struct_cell.proofs.Names.{rules, ◌≡◌, ℕ, zero, suc, ◌+◌, ◌-◌, ◌*◌, ◌%◌, ◌^◌, ◌<◌, ◌≤◌, ◌==◌, Fits, w32, Bool, true, false, refl, sym, ap, ◌∙◌, subst, arith, inl, inr, pow-suc, pow_mono, if◌then◌else◌, bit_at, cases_lt, bit_at_cat_low, bit_at_cat_high, bit_in, word_from, whole_word}
 
 abbrev pub one_if : Bool → ℕ
 one_if b = if b then 1 else 0

@@ -1,42 +1,6 @@
 -- What a cell keeps: at its start, and from one call to the next.
-use Rattle.std.proofs.Common.{◌≡◌, ℕ, ◌+◌, ◌/◌, ◌<◌, ◌≤◌, ◌&&◌, Bool, true, false, nat_lt, List, [], ◌∷◌, ◌++◌, length, map, All, refl, sym, ap, subst, ◌∙◌, arith}
-use Rattle.std.specs.Prelude.{Option}
-use Rattle.std.proofs.lemmas.Bool.Decides.{nat_tests}
-use Rattle.std.proofs.lemmas.List.{map-append}
-use Rattle.std.proofs.lemmas.List.Elements.{All-nil, All-push}
-use Rattle.cf_types.specs.declared.forms.StrForm.{StrForm}
-use Rattle.cf_types.specs.declared.numbers.ConnId.{ConnId}
-use Rattle.struct_machine.specs.CfLink.declared.links.Links.{Links}
-use Rattle.struct_machine.specs.CfLink.Links.{AreAsked}
-use Rattle.engine_api.specs.declared.asks.Ask.{Ask}
-use Rattle.engine_api.specs.declared.asks.Reply.{Reply}
+use Rattle.struct_cell.proofs.Names.{◌≡◌, ℕ, ◌+◌, ◌/◌, ◌<◌, ◌≤◌, ◌&&◌, Bool, true, false, nat_lt, List, [], ◌∷◌, ◌++◌, length, map, All, refl, sym, ap, subst, ◌∙◌, arith, Option, nat_tests, map-append, All-nil, All-push, StrForm, ConnId, Links, AreAsked, Ask, Reply, Entry, Meaning, Machine, opening, answers, Call, Turn, calls, replay, next_entry, with_marks, marks_by, after_turn, links_asked, answers_to, shape_of, calls-turn, call_added, legal_none, legal_turn, number_added, numbered_legal, length-turn, Mark, StructureView, stands_at, IsTurn, Logged, Committed, Place, CallRecord, commits_of, count_of, bit_in, words_of, StoresEach, IsSpared, WordTable, SeatSeen, commits-commit, count-push, stores-commits, CellKey, About, commit_of, IsCell, Shows, entered, VectorWords, AreOfTable, AreWordsOf, word_at, word_in, words_in}
 use Rattle.engine_api.specs.declared.asks.What.TheVariants as what
-use Rattle.engine_api.specs.declared.histories.Entry.{Entry}
-use Rattle.engine_api.specs.Meaning.{Meaning}
-use Rattle.engine_api.specs.Machine.{Machine, opening}
-use Rattle.engine_api.specs.Answers.{answers}
-use Rattle.engine_api.specs.History.{Call, Turn, calls, replay, next_entry, with_marks, marks_by, after_turn}
-use Rattle.engine_api.specs.LinkAsks.{links_asked, answers_to}
-use Rattle.engine_api.specs.Shapes.{shape_of}
-use Rattle.engine_api.proofs.HistoryLaws.{calls-turn, call_added, legal_none, legal_turn}
-use Rattle.engine_api.proofs.NumberLaws.{number_added, numbered_legal, length-turn}
-use Rattle.struct_machine.specs.declared.marks.Mark.{Mark}
-use Rattle.struct_machine.specs.StructureView.{StructureView, stands_at}
-use Rattle.struct_machine.specs.Turns.{IsTurn}
-use Rattle.vec_words.specs.declared.logged.Logged.{Logged}
-use Rattle.vec_words.specs.declared.logged.Logged.TheVariants.{Committed}
-use Rattle.vec_words.specs.declared.stores.Place.{Place}
-use Rattle.vec_words.specs.Logged.{CallRecord, commits_of, count_of, bit_in, words_of}
-use Rattle.vec_words.specs.Stores.{StoresEach, IsSpared}
-use Rattle.vec_words.specs.Tokens.{WordTable, SeatSeen}
-use Rattle.vec_words.proofs.Commits.{commits-commit}
-use Rattle.vec_words.proofs.Logs.{count-push}
-use Rattle.vec_words.proofs.StoreLaws.{stores-commits}
-use Rattle.struct_cell.specs.declared.inside.CellKey.{CellKey}
-use Rattle.struct_cell.specs.Cells.{About, commit_of, IsCell, Shows}
-use Rattle.struct_cell.specs.Marks.{entered}
-use Rattle.struct_cell.specs.Touches.{VectorWords, AreOfTable, AreWordsOf, word_at}
-use Rattle.struct_cell.specs.Words.{word_in, words_in}
 use Rattle.struct_cell.proofs.MirrorLaws.{stores_alike, words_alike}
 use Rattle.struct_cell.proofs.ShownLaws.{shows_next}
 use Rattle.struct_cell.proofs.TurnLaws.{length-entered, IsTaken, few_marks, turn_at, taken, links_more, links_none, room_more}

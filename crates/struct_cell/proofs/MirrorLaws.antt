@@ -1,26 +1,5 @@
 -- Words that are brought to the bits that are told.
-use Rattle.std.proofs.Common.{◌≡◌, ℕ, zero, suc, ◌+◌, ◌*◌, ◌/◌, ◌%◌, ◌^◌, ◌<◌, ◌≤◌, ◌==◌, ◌⊎◌, inl, inr, Bool, true, false, nat_lt, List, [], ◌∷◌, ◌++◌, length, get_or, set, take, fold, refl, sym, ap, ◌∙◌, subst, subst₂, arith}
-use Rattle.std.specs.Prelude.{◌≢◌, ◌&&◌, if◌then◌else◌, replicate}
-use Rattle.std.specs.Int.{bit_at}
-use Rattle.std.specs.List.{AllByRecursion}
-use Rattle.std.proofs.lemmas.Bool.Decides.{nat_tests}
-use Rattle.std.proofs.lemmas.Nat.Bits.{same_from_bits_below}
-use Rattle.std.proofs.lemmas.List.{get_or-replicate, get_or-set_other, get_or_past, length-replicate, take_more}
-use Rattle.std.proofs.lemmas.Bool.{cases_lt}
-use Rattle.std.proofs.lemmas.List.Elements.{All-push, All-weaker, recursion_from_All}
-use Rattle.std.proofs.lemmas.List.Sums.{fold_push}
-use Rattle.cf_types.specs.declared.effects.BitChange.{BitChange}
-use Rattle.cf_types.specs.declared.numbers.ConnId.{ConnId}
-use Rattle.cf_types.specs.Gains.{Bits, Gains, bits_told, difference, is_for}
-use Rattle.vec_words.specs.declared.logged.Logged.{Logged}
-use Rattle.vec_words.specs.declared.logged.Logged.TheVariants.{Stored}
-use Rattle.vec_words.specs.declared.stores.Place.{Place}
-use Rattle.vec_words.specs.Logged.{word_number, words_of}
-use Rattle.vec_words.specs.Stores.{IsAt, IsSpared, IsWithin, StoresEach, stores_of}
-use Rattle.vec_words.specs.Tokens.{SeatSeen}
-use Rattle.vec_words.proofs.Places.{word_number-same}
-use Rattle.struct_cell.specs.Touches.{AreMirrorsOf, AreWordsOf, IsEvery, MirrorWords, with_told, word_at}
-use Rattle.struct_cell.specs.Words.{bit_of, whole_word, word_from, word_in}
+use Rattle.struct_cell.proofs.Names.{◌≡◌, ℕ, zero, suc, ◌+◌, ◌*◌, ◌/◌, ◌%◌, ◌^◌, ◌<◌, ◌≤◌, ◌==◌, ◌⊎◌, inl, inr, Bool, true, false, nat_lt, List, [], ◌∷◌, ◌++◌, length, get_or, set, take, fold, refl, sym, ap, ◌∙◌, subst, subst₂, arith, ◌≢◌, ◌&&◌, if◌then◌else◌, replicate, bit_at, AllByRecursion, nat_tests, same_from_bits_below, get_or-replicate, get_or-set_other, get_or_past, length-replicate, take_more, cases_lt, All-push, All-weaker, recursion_from_All, fold_push, BitChange, ConnId, Bits, Gains, bits_told, difference, is_for, Logged, Stored, Place, word_number, words_of, IsAt, IsSpared, IsWithin, StoresEach, stores_of, SeatSeen, word_number-same, AreMirrorsOf, AreWordsOf, IsEvery, MirrorWords, with_told, word_at, bit_of, whole_word, word_from, word_in}
 use Rattle.struct_cell.proofs.Binary.{one_if, whole-small, word_place}
 use Rattle.struct_cell.proofs.PlaceLaws.{bit-past}
 

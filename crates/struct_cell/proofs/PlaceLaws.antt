@@ -1,15 +1,5 @@
 -- Words that places name, and bits whose words they are.
-use Rattle.std.proofs.Common.{◌≡◌, ℕ, ◌+◌, ◌/◌, ◌<◌, ◌≤◌, Bool, true, false, List, [], ◌∷◌, ◌++◌, take, length, get_or, Some, refl, sym, ap, subst, ◌∙◌, arith, inl, inr}
-use Rattle.std.proofs.lemmas.Bool.{cases_lt}
-use Rattle.std.specs.Prelude.{All, Contains, ◌⊎◌}
-use Rattle.std.proofs.lemmas.List.Elements.{All-pop, All-push, All-contains}
-use Rattle.std.proofs.lemmas.List.{take_more, get_or_default, get_or-take, length-take-le}
-use Rattle.std.proofs.lemmas.Bool.Decides.{nat_tests}
-use Rattle.cf_types.specs.declared.effects.BitChange.{BitChange}
-use Rattle.cf_types.specs.declared.numbers.ConnId.{ConnId}
-use Rattle.cf_types.specs.Gains.{is_for}
-use Rattle.vec_words.specs.declared.stores.Place.{Place}
-use Rattle.vec_words.specs.Stores.{IsAt, IsSpared, AreDistinct}
+use Rattle.struct_cell.proofs.Names.{◌≡◌, ℕ, ◌+◌, ◌/◌, ◌<◌, ◌≤◌, Bool, true, false, List, [], ◌∷◌, ◌++◌, take, length, get_or, Some, refl, sym, ap, subst, ◌∙◌, arith, inl, inr, All, Contains, ◌⊎◌, cases_lt, All-pop, All-push, All-contains, take_more, get_or_default, get_or-take, length-take-le, nat_tests, BitChange, ConnId, is_for, Place, IsAt, IsSpared, AreDistinct}
 
 -- no place of a list and one more
 pub spared-front : (places : List Place) (place : Place) (conn word : ℕ) → IsSpared (places ++ place ∷ []) conn word

@@ -1,23 +1,6 @@
 -- The entry of a number in a journal, and the call of that number among its caller's calls: both have the same reply.
-use Rattle.std.proofs.Common.{◌≡◌, ℕ, zero, suc, ◌+◌, ◌-◌, ◌≤◌, ◌==◌, Bool, true, false, List, [], ◌∷◌, map, None, Some, Option, refl, sym, ap, subst, ◌∙◌, arith}
-use Rattle.std.specs.Prelude.{option_and_then, slice_get}
-use Rattle.std.proofs.lemmas.Bool.Decides.{nat_tests}
-use Rattle.cf_types.specs.declared.numbers.ConnId.{ConnId}
-use Rattle.engine_api.specs.declared.asks.Ask.{Ask}
-use Rattle.engine_api.specs.declared.asks.What.{What}
+use Rattle.struct_cell.proofs.Names.{◌≡◌, ℕ, zero, suc, ◌+◌, ◌-◌, ◌≤◌, ◌==◌, Bool, true, false, List, [], ◌∷◌, map, None, Some, Option, refl, sym, ap, subst, ◌∙◌, arith, option_and_then, slice_get, nat_tests, ConnId, Ask, What, Entry, Meaning, calls, own, number_legal, StructureView, calls_in, calls_of, SeatSeen, CellKey, reply_for, reply_at, reply_to, About, own_call_of, IsCell, VectorWords}
 use Rattle.engine_api.specs.declared.asks.What.TheVariants as what
-use Rattle.engine_api.specs.declared.histories.Entry.{Entry}
-use Rattle.engine_api.specs.Meaning.{Meaning}
-use Rattle.engine_api.specs.History.{calls, own}
-use Rattle.engine_api.proofs.HistoryLaws.{number_legal}
-use Rattle.struct_machine.specs.StructureView.{StructureView}
-use Rattle.vec_words.specs.Logged.{calls_in, calls_of}
-use Rattle.vec_words.specs.Tokens.{SeatSeen}
-use Rattle.struct_cell.specs.declared.inside.CellKey.{CellKey}
-use Rattle.struct_cell.specs.Journals.{reply_for, reply_at}
-use Rattle.struct_cell.specs.Calls.{reply_to}
-use Rattle.struct_cell.specs.Cells.{About, own_call_of, IsCell}
-use Rattle.struct_cell.specs.Touches.{VectorWords}
 use Rattle.struct_cell.proofs.ToldLaws.{own_calls}
 
 module _ {C R : Type 0} where

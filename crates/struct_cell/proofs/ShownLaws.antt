@@ -1,27 +1,6 @@
 -- What the words show after one more turn: a call, and the marks before it.
-use Rattle.std.proofs.Common.{◌≡◌, ℕ, ◌+◌, ◌*◌, ◌/◌, ◌%◌, ◌<◌, ◌≤◌, inl, inr, Bool, true, false, nat_lt, List, [], ◌∷◌, ◌++◌, length, take, refl, sym, ap, subst, ◌∙◌, arith, take_all}
-use Rattle.std.proofs.lemmas.Bool.{cases_lt}
-use Rattle.std.proofs.lemmas.Bool.Decides.{nat_tests}
-use Rattle.std.proofs.lemmas.List.{take-append-le}
-use Rattle.cf_types.specs.declared.forms.StrForm.{StrForm}
-use Rattle.cf_types.specs.declared.numbers.ConnId.{ConnId}
-use Rattle.engine_api.specs.declared.histories.Entry.{Entry}
-use Rattle.engine_api.specs.Meaning.{Meaning}
-use Rattle.engine_api.specs.Machine.{Machine}
-use Rattle.engine_api.specs.History.{Turn, replay, after_turn, last_call_below, IsNumbered}
-use Rattle.engine_api.proofs.HistoryLaws.{added_turn}
-use Rattle.engine_api.proofs.NumberLaws.{number_added, number_past, last_below-turn, last_below-past, length-turn}
-use Rattle.vec_words.specs.VecWorld.Log.{bits_at}
-use Rattle.vec_words.specs.declared.logged.Logged.{Logged}
-use Rattle.vec_words.specs.declared.logged.Logged.TheVariants.{Committed}
-use Rattle.vec_words.specs.declared.stores.Place.{Place}
-use Rattle.vec_words.specs.Logged.{steps_of, word_number, bit_in}
-use Rattle.vec_words.specs.Stores.{StoresEach, IsSpared}
-use Rattle.vec_words.specs.Tokens.{SeatSeen}
-use Rattle.vec_words.proofs.Logs.{bits-commit}
-use Rattle.vec_words.proofs.StoreLaws.{stores-below, stores-from}
-use Rattle.struct_cell.specs.Words.{shown_in, words_in}
-use Rattle.struct_cell.specs.Cells.{About, Shows, shown_after, shown_below}
+use Rattle.struct_cell.proofs.Names.{◌≡◌, ℕ, ◌+◌, ◌*◌, ◌/◌, ◌%◌, ◌<◌, ◌≤◌, inl, inr, Bool, true, false, nat_lt, List, [], ◌∷◌, ◌++◌, length, take, refl, sym, ap, subst, ◌∙◌, arith, cases_lt, nat_tests, take-append-le, StrForm, ConnId, Entry, Meaning, Machine, Turn, replay, after_turn, last_call_below, IsNumbered, added_turn, number_added, number_past, last_below-turn, last_below-past, length-turn, bits_at, Logged, Committed, Place, steps_of, word_number, bit_in, StoresEach, IsSpared, SeatSeen, bits-commit, stores-below, stores-from, shown_in, words_in, About, Shows, shown_after, shown_below}
+use Rattle.std.proofs.Common.{take_all}
 use Rattle.struct_cell.proofs.Binary.{whole_bit}
 
 module _ {C R I S : Type 0} (meaning : Meaning C R I S) (form : StrForm) where

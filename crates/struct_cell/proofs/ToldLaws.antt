@@ -1,27 +1,5 @@
 -- What a cell's history tells of passes: their tests, and their calls.
-use Rattle.std.proofs.Common.{◌≡◌, ℕ, ◌+◌, ◌-◌, ◌/◌, ◌<◌, ◌≤◌, ◌==◌, inl, inr, Bool, true, false, nat_lt, List, [], ◌∷◌, length, get_or, take, map, filter, All, refl, sym, ap, subst, ◌∙◌, arith}
-use Rattle.std.specs.Prelude.{Contains, Option}
-use Rattle.std.proofs.lemmas.Bool.Decides.{nat_tests}
-use Rattle.std.proofs.lemmas.List.{length-map, get_or-map}
-use Rattle.std.proofs.lemmas.List.Elements.{All-map, All-weaker}
-use Rattle.cf_types.specs.declared.numbers.ConnId.{ConnId}
-use Rattle.struct_machine.specs.CfLink.declared.links.Links.{Links}
-use Rattle.struct_machine.specs.CfLink.Links.{AreAsked}
-use Rattle.engine_api.specs.declared.histories.Entry.{Entry}
-use Rattle.engine_api.specs.Meaning.{Meaning}
-use Rattle.engine_api.specs.Answers.{answers}
-use Rattle.engine_api.specs.History.{Call, calls, numbers, own, IsPoint, stands_after, last_call_below}
-use Rattle.struct_machine.specs.StructureView.{StructureView}
-use Rattle.vec_words.specs.VecWorld.Log.{bits_at}
-use Rattle.vec_words.specs.declared.logged.Sight.{Sight}
-use Rattle.vec_words.specs.Logged.{steps_of, calls_in, word_number, words_of, bit_in, IsIssued, IsHonest}
-use Rattle.vec_words.specs.Tokens.{WordTable, SeatSeen, PassSeen, IsShown}
-use Rattle.vec_words.proofs.Commits.{committed-all}
-use Rattle.engine_api.proofs.NumberLaws.{numbered_legal}
-use Rattle.struct_cell.specs.declared.inside.CellKey.{CellKey}
-use Rattle.struct_cell.specs.Cells.{About, own_call_of, commit_of, IsCell, shown_after, shown_below}
-use Rattle.struct_cell.specs.Touches.{VectorWords}
-use Rattle.struct_cell.specs.Telling.{IsTold}
+use Rattle.struct_cell.proofs.Names.{◌≡◌, ℕ, ◌+◌, ◌-◌, ◌/◌, ◌<◌, ◌≤◌, ◌==◌, inl, inr, Bool, true, false, nat_lt, List, [], ◌∷◌, length, get_or, take, map, filter, All, refl, sym, ap, subst, ◌∙◌, arith, Contains, Option, nat_tests, length-map, get_or-map, All-map, All-weaker, ConnId, Links, AreAsked, Entry, Meaning, answers, Call, calls, numbers, own, IsPoint, stands_after, last_call_below, StructureView, bits_at, Sight, steps_of, calls_in, word_number, words_of, bit_in, IsIssued, IsHonest, WordTable, SeatSeen, PassSeen, IsShown, committed-all, numbered_legal, CellKey, About, own_call_of, commit_of, IsCell, shown_after, shown_below, VectorWords, IsTold}
 
 module _ {C R : Type 0} where
   -- a call's number is among the numbers

@@ -1,36 +1,7 @@
 -- What a turn of the machine makes of the journal: marks are entered, and then the call.
-use Rattle.std.proofs.Common.{◌≡◌, ℕ, suc, ◌+◌, ◌<◌, ◌≤◌, Bool, List, [], ◌∷◌, ◌++◌, length, get_or, take, map, fold, refl, sym, ap, subst, ◌∙◌, arith, length-append}
-use Rattle.std.specs.Prelude.{Option}
-use Rattle.std.proofs.lemmas.List.{map-append, take_more}
-use Rattle.std.proofs.lemmas.List.Sums.{fold_push}
-use Rattle.struct_machine.specs.CfLink.declared.links.Links.{Links}
-use Rattle.struct_machine.specs.CfLink.Links.{IsAskedAll, AreAsked, link_at}
-use Rattle.struct_machine.proofs.CfLink.LinkLaws.{asked-append}
-use Rattle.cf_types.specs.declared.forms.StrForm.{StrForm}
-use Rattle.cf_types.specs.declared.numbers.CfId.{CfId}
-use Rattle.cf_types.specs.declared.numbers.ConnId.{ConnId}
-use Rattle.engine_api.specs.declared.asks.Ask.{Ask}
-use Rattle.cf_types.specs.declared.shell_commands.ShellReply.{ShellReply}
-use Rattle.engine_api.specs.declared.asks.Reply.{Reply}
+use Rattle.struct_cell.proofs.Names.{◌≡◌, ℕ, suc, ◌+◌, ◌<◌, ◌≤◌, Bool, List, [], ◌∷◌, ◌++◌, length, get_or, take, map, fold, refl, sym, ap, subst, ◌∙◌, arith, length-append, Option, map-append, take_more, fold_push, Links, IsAskedAll, AreAsked, link_at, asked-append, StrForm, CfId, ConnId, Ask, ShellReply, Reply, Entry, operator, links_asked, answers_to, Meaning, Machine, CallOutcome, step, Call, Turn, calls, numbers, replay, next_entry, next_mark, with_mark, with_marks, marks_by, after_turn, IsLegal, told_of, answers, marks_few, two_asked, answers-turn, legal_group, replay-push, by_turns, calls-turn, call_added, number_added, length-turn, reply_as, Mark, StructureView, lost_at, lost_by, behind_marks, AreTold, IsTurn, AreMadeBelow, with_entry, entered}
 use Rattle.engine_api.specs.declared.asks.Reply.TheVariants as reply
 use Rattle.engine_api.specs.declared.asks.What.TheVariants as what
-use Rattle.engine_api.specs.declared.histories.Entry.{Entry}
-use Rattle.engine_api.specs.LinkAsks.{operator, links_asked, answers_to}
-use Rattle.engine_api.specs.Meaning.{Meaning}
-use Rattle.engine_api.specs.Machine.{Machine, CallOutcome, step}
-use Rattle.engine_api.specs.History.{Call, Turn, calls, numbers, replay, next_entry, next_mark, with_mark, with_marks, marks_by, after_turn, IsLegal}
-use Rattle.engine_api.specs.Told.{told_of}
-use Rattle.engine_api.specs.Answers.{answers}
-use Rattle.engine_api.proofs.AskLaws.{marks_few, two_asked}
-use Rattle.engine_api.proofs.AnswerLaws.{answers-turn, legal_group}
-use Rattle.engine_api.proofs.HistoryLaws.{replay-push, by_turns, calls-turn, call_added}
-use Rattle.engine_api.proofs.NumberLaws.{number_added, length-turn}
-use Rattle.struct_machine.specs.PlexShell.Losses.{reply_as}
-use Rattle.struct_machine.specs.declared.marks.Mark.{Mark}
-use Rattle.struct_machine.specs.StructureView.{StructureView}
-use Rattle.struct_machine.specs.Turns.{lost_at, lost_by, behind_marks, AreTold, IsTurn}
-use Rattle.struct_cell.specs.Limits.{AreMadeBelow}
-use Rattle.struct_cell.specs.Marks.{with_entry, entered}
 
 module _ {C R : Type 0} where
   pub length-entered : (journal : List (Entry C R)) (marks : List Mark)

@@ -1,21 +1,5 @@
 -- The links that a call asks, one after another.
-use Rattle.std.proofs.Common.{◌≡◌, ℕ, ◌==◌, Bool, true, false, not, ◌&&◌, ◌||◌, List, [], ◌∷◌, ◌++◌, ◌≢◌, refl, sym, ap, subst, ◌∙◌}
-use Rattle.std.specs.Prelude.{Option, None, Some, IfSome, All, filter, is_some, if◌then◌else◌}
-use Rattle.std.proofs.lemmas.List.Elements.{All-from_recursion}
-use Rattle.std.specs.List.{AllByRecursion}
-use Rattle.duplex_pair.specs.CfLink.declared.links.Links.{Links}
-use Rattle.duplex_pair.specs.CfLink.Links.{IsAskedAll, AreAsked, link_at}
-use Rattle.duplex_pair.proofs.CfLink.LinkLaws.{asked-append}
-use Rattle.cf_types.specs.declared.numbers.CfId.{CfId}
-use Rattle.cf_types.specs.Forms.{IsFacility}
-use Rattle.engine_api.specs.LinkAsks.{Asks, AreDistinct, apart, has, reached, marks_of, answers_to, listed}
-use Rattle.engine_api.proofs.AskLaws.{filter_agreed, has_other, same_cf, itself}
-use Rattle.std.proofs.lemmas.Bool.{both_ways, eq-eqb}
-use Rattle.std.proofs.lemmas.List.Elements.{filter-append}
-use Rattle.duplex_pair.specs.CfLink.Asks.{IsAsked}
-use Rattle.struct_machine.specs.declared.asking.Asked.{Asked}
-use Rattle.struct_machine.specs.Asking.{unless_same}
-use Rattle.struct_machine.specs.Turns.{asks_in}
+use Rattle.struct_machine.proofs.Names.{◌≡◌, ℕ, ◌==◌, Bool, true, false, not, ◌&&◌, ◌||◌, List, [], ◌∷◌, ◌++◌, ◌≢◌, refl, sym, ap, subst, ◌∙◌, Option, None, Some, IfSome, All, filter, is_some, if◌then◌else◌, All-from_recursion, filter-append, AllByRecursion, Links, IsAskedAll, AreAsked, link_at, asked-append, CfId, IsFacility, Asks, AreDistinct, apart, has, reached, marks_of, answers_to, listed, filter_agreed, has_other, same_cf, itself, both_ways, eq-eqb, IsAsked, Asked, unless_same, asks_in}
 
 -- ---- two places
 

@@ -1,26 +1,6 @@
 -- What comes before a command acts, and which commands make an instance.
-use Rattle.std.proofs.Common.{◌≡◌, ℕ, ◌+◌, ◌⊎◌, inl, inr, Bool, true, false, List, Option, None, Some, refl, sym, ap, ◌∙◌, arith}
-use Rattle.std.proofs.Math.Nat.{min-le_right}
-use Rattle.std.specs.Prelude.{◌||◌, ◌&&◌, not, if◌then◌else◌, is_some, is_none, min}
-use Rattle.cf_types.specs.declared.forms.Caps.{Caps}
-use Rattle.cf_types.specs.declared.forms.StrForm.{StrForm}
-use Rattle.cf_types.specs.declared.numbers.CfId.{CfId}
-use Rattle.cf_types.specs.declared.numbers.ConnId.{ConnId}
-use Rattle.cf_types.specs.declared.shell_commands.ShellCmd.{ShellCmd}
+use Rattle.struct_machine.proofs.Names.{◌≡◌, ℕ, ◌+◌, ◌⊎◌, inl, inr, Bool, true, false, List, Option, None, Some, refl, sym, ap, ◌∙◌, arith, ◌||◌, ◌&&◌, not, if◌then◌else◌, is_some, is_none, min, min-le_right, Caps, StrForm, CfId, ConnId, ShellCmd, Deeds, Room, copied_after, Meaning, Held, Letter, fresh_of, Shell, Leaver, shell_done, leaver, with_posted, caps_made, caps_in, rebuild_connect_outcome, Fresh, caps_or, emptied, with_copied, lacking_in, Rebuild, fresh_caps, fresh_left, fresh_before, makes_empty, makes_second, copied_in, caps_of}
 use Rattle.cf_types.specs.declared.shell_commands.ShellCmd.TheVariants as cmd
-use Rattle.engine_api.specs.declared.deeds.Deeds.{Deeds}
-use Rattle.engine_api.specs.declared.deeds.Room.{Room}
-use Rattle.engine_api.specs.Machine.{copied_after}
-use Rattle.engine_api.specs.Meaning.{Meaning, Held}
-use Rattle.cf_types.specs.declared.events.Letter.{Letter}
-use Rattle.engine_api.specs.Rebuilds.{fresh_of}
-use Rattle.engine_api.specs.Shell.{Shell, Leaver, shell_done, leaver, with_posted, caps_made, caps_in, rebuild_connect_outcome}
-use Rattle.rebuild_copy.specs.Filling.{Fresh, caps_or, emptied, with_copied}
-use Rattle.struct_machine.specs.Content.{lacking_in}
-use Rattle.engine_api.specs.RebuildCore.declared.rebuild.Rebuild.{Rebuild}
-use Rattle.shell_laws.specs.Capacities.{fresh_caps}
-use Rattle.struct_machine.specs.Deeds.{fresh_left, fresh_before, makes_empty, makes_second}
-use Rattle.struct_machine.specs.Kept.{copied_in, caps_of}
 use Rattle.struct_machine.proofs.DeedLaws.{barren, emptied_caps}
 
 -- ---- the new instance before a command acts

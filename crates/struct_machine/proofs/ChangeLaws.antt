@@ -1,25 +1,6 @@
 -- Which bits stand as before.
-use Rattle.std.proofs.Common.{◌≡◌, ℕ, Bool, true, false, List, [], ◌∷◌, All, Option, None, Some, is_some, map, filter, refl, sym, ap, ◌∙◌, subst}
-use Rattle.std.specs.Prelude.{◌||◌, ◌&&◌, is_none}
-use Rattle.std.proofs.lemmas.List.Elements.{recursion_from_All}
-use Rattle.std.specs.List.{AllByRecursion}
-use Rattle.cf_types.specs.declared.effects.BitChange.{BitChange}
-use Rattle.cf_types.specs.declared.forms.StrForm.{StrForm}
-use Rattle.cf_types.specs.declared.numbers.CfId.{CfId}
-use Rattle.cf_types.specs.declared.numbers.ConnId.{ConnId}
-use Rattle.cf_types.specs.declared.refusals.Refusal.{Refusal}
-use Rattle.cf_types.proofs.GainsLaws.{gains_none}
-use Rattle.cf_types.specs.Gains.{Bits, Gains, is_for, bits_told, difference}
-use Rattle.engine_api.specs.declared.asks.Ask.{Ask}
+use Rattle.struct_machine.proofs.Names.{◌≡◌, ℕ, Bool, true, false, List, [], ◌∷◌, All, Option, None, Some, is_some, map, filter, refl, sym, ap, ◌∙◌, subst, ◌||◌, ◌&&◌, is_none, recursion_from_All, AllByRecursion, BitChange, StrForm, CfId, ConnId, Refusal, gains_none, Bits, Gains, is_for, bits_told, difference, Ask, Deeds, Machine, content_after, room_of, call_cause, bits_of, Meaning, Held, state_in, ChangeList, IsUntouched, Names, any_failure, deeds_by, may_be_any, may_change_bits, Mark}
 use Rattle.engine_api.specs.declared.asks.Ask.TheVariants as ask
-use Rattle.engine_api.specs.declared.deeds.Deeds.{Deeds}
-use Rattle.engine_api.specs.Machine.{Machine, content_after, room_of}
-use Rattle.engine_api.specs.Shell.{call_cause}
-use Rattle.duplex_pair.specs.Pairs.{bits_of}
-use Rattle.engine_api.specs.Meaning.{Meaning, Held}
-use Rattle.struct_machine.specs.Kept.{state_in}
-use Rattle.struct_machine.specs.Changes.{ChangeList, IsUntouched, Names, any_failure, deeds_by, may_be_any, may_change_bits}
-use Rattle.struct_machine.specs.declared.marks.Mark.{Mark}
 
 -- ---- what is told covers what changed
 

@@ -1,44 +1,9 @@
 -- A command that isn't refused, done to a shell and to instances of one form.
-use Rattle.std.proofs.Common.{◌≡◌, ℕ, ◌+◌, ◌⊎◌, inl, inr, Bool, true, false, ◌≢◌, [], List, Option, None, Some, IfSome, refl, sym, ap, ◌∙◌, subst, subst₂}
-use Rattle.std.proofs.lemmas.Bool.{both_ways, false_from_ne_true}
-use Rattle.std.specs.Prelude.{◌||◌, if◌then◌else◌, is_some, min}
-use Rattle.cf_types.specs.declared.forms.Caps.{Caps}
-use Rattle.cf_types.specs.declared.forms.StrForm.{StrForm}
-use Rattle.cf_types.specs.declared.numbers.CfId.{CfId}
-use Rattle.cf_types.specs.declared.numbers.ConnId.{ConnId}
-use Rattle.cf_types.specs.declared.refusals.Refusal.{Refusal}
-use Rattle.cf_types.specs.declared.shell_commands.ShellCmd.{ShellCmd}
+use Rattle.struct_machine.proofs.Names.{◌≡◌, ℕ, ◌+◌, ◌⊎◌, inl, inr, Bool, true, false, ◌≢◌, [], List, Option, None, Some, IfSome, refl, sym, ap, ◌∙◌, subst, subst₂, ◌||◌, if◌then◌else◌, is_some, min, both_ways, false_from_ne_true, Caps, StrForm, CfId, ConnId, Refusal, ShellCmd, state_of, Deeds, Machine, content_after, copied_after, moved_by, room_of, departure_from, command_done, unless, with_entered, entered_machine, CallOutcome, Meaning, Held, Departure, items_of as held_items, Fits, Instances, is_at, MayCommand, Shape, IsCaller, IsFacility, fresh_of, shape_of, Shell, ShellOutcome, Leaver, is_kept, shell_cause, leaver, with_posted, caps_made, entered, ShellView, Fresh, Kept, lacking_in, AreFitting, caps_behind, fresh_behind, fresh_caps, IsFilled, IsFilling, IsManned, capacities-command, fitting-command, filled-step, departure_empties, forced_empties, manned-step, done, Spares, AreSpares, AreAdmitted, MayMake, MayAdd, MayDrop, fresh_left, fresh_before, kept_past, places_past, makes_second, held_past, HasNone, AreOf, IsOf, machine_of, state_in, left_in, copied_in, caps_of, Gains, ChangeList, Names, may_change_bits}
 use Rattle.cf_types.specs.declared.shell_commands.ShellCmd.TheVariants as cmd
-use Rattle.cf_types.specs.Connections.{state_of}
 use Rattle.engine_api.specs.declared.asks.Ask.TheVariants as ask
 use Rattle.engine_api.specs.declared.asks.Reply.TheVariants as reply
-use Rattle.engine_api.specs.declared.deeds.Deeds.{Deeds}
-use Rattle.engine_api.specs.Machine.{Machine, content_after, copied_after, moved_by, room_of, departure_from, command_done, unless, with_entered, entered_machine, CallOutcome}
-use Rattle.engine_api.specs.Meaning.{Meaning, Held, Departure}
-use Rattle.engine_api.specs.Meaning.{items_of as held_items}
-use Rattle.engine_api.specs.Items.{Fits}
-use Rattle.engine_api.specs.Instances.{Instances, is_at}
-use Rattle.engine_api.specs.Asking.{MayCommand}
-use Rattle.engine_api.specs.declared.shapes.Shape.{Shape}
-use Rattle.cf_types.specs.Forms.{IsCaller, IsFacility}
-use Rattle.engine_api.specs.Rebuilds.{fresh_of}
-use Rattle.engine_api.specs.Shapes.{shape_of}
-use Rattle.engine_api.specs.Shell.{Shell, ShellOutcome, Leaver, is_kept, shell_cause, leaver, with_posted, caps_made, entered}
-use Rattle.plex_shell.specs.ShellView.{ShellView}
-use Rattle.rebuild_copy.specs.Filling.{Fresh}
-use Rattle.struct_machine.specs.Content.{Kept, lacking_in}
-use Rattle.shell_laws.specs.Capacities.{AreFitting, caps_behind, fresh_behind, fresh_caps}
-use Rattle.shell_laws.specs.Filling.{IsFilled, IsFilling}
-use Rattle.shell_laws.specs.Members.{IsManned}
-use Rattle.shell_laws.proofs.DeedLaws.{capacities-command, fitting-command}
-use Rattle.shell_laws.proofs.FillingLaws.{filled-step, departure_empties, forced_empties}
-use Rattle.shell_laws.proofs.MemberLaws.{manned-step}
 use Rattle.struct_machine.proofs.ToldLaws.{manned-told, filled-told}
-use Rattle.shell_laws.proofs.StepLaws.{done}
-use Rattle.struct_machine.specs.Deeds.{Spares, AreSpares, AreAdmitted, MayMake, MayAdd, MayDrop, fresh_left, fresh_before, kept_past, places_past, makes_second, held_past, HasNone}
-use Rattle.struct_machine.specs.Kept.{AreOf, IsOf, machine_of, state_in, left_in, copied_in, caps_of}
-use Rattle.cf_types.specs.Gains.{Gains}
-use Rattle.struct_machine.specs.Changes.{ChangeList, Names, may_change_bits}
 use Rattle.struct_machine.proofs.ChangeLaws.{names_deeds}
 use Rattle.struct_machine.proofs.DeedLaws.{IsEmptyOf, AreIdle, back_caller, caps_past, copied_past, of_past, state_past}
 use Rattle.struct_machine.proofs.InstanceLaws.{IsPlacing, IsSeconding, IsDropping, placing_command, facility_behind}

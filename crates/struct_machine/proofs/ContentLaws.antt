@@ -1,20 +1,5 @@
 -- What becomes of a pair that loses one of two, and of a content that somebody leaves.
-use Rattle.std.proofs.Common.{◌≡◌, Bool, true, false, ◌||◌, [], Option, None, Some, option_map, refl, sym, subst₂}
-use Rattle.std.specs.Prelude.{IsTrue, is_some, if◌then◌else◌}
-use Rattle.cf_types.specs.declared.forms.Caps.{Caps}
-use Rattle.cf_types.specs.declared.forms.Kind.{Kind}
-use Rattle.cf_types.specs.declared.numbers.CfId.{CfId}
-use Rattle.cf_types.specs.declared.numbers.ConnId.{ConnId}
-use Rattle.duplex_pair.specs.Pairs.{PairView, elsewhere, facility_of, first_left, instances_of, second_left, without_at}
-use Rattle.duplex_pair.specs.declared.placed.Placed.{Placed}
-use Rattle.engine_api.specs.declared.shapes.Shape.{Shape}
-use Rattle.engine_api.specs.Instances.{Instances, is_at}
-use Rattle.engine_api.specs.Items.{IsNoMoreOf}
-use Rattle.engine_api.specs.Meaning.{Meaning, Held, with_departure}
-use Rattle.rebuild_copy.specs.Filling.{FillingView}
-use Rattle.rebuild_copy.proofs.DepartureLaws.{copy_left}
-use Rattle.struct_machine.specs.Content.{AreStanding, IsHeldAt, begun_anew}
-use Rattle.struct_machine.specs.Deeds.{at_left}
+use Rattle.struct_machine.proofs.Names.{◌≡◌, Bool, true, false, ◌||◌, [], Option, None, Some, option_map, refl, sym, subst₂, IsTrue, is_some, if◌then◌else◌, Caps, Kind, CfId, ConnId, PairView, elsewhere, facility_of, first_left, instances_of, second_left, without_at, Placed, Shape, Instances, is_at, IsNoMoreOf, Meaning, Held, with_departure, FillingView, copy_left, AreStanding, IsHeldAt, begun_anew, at_left}
 
 -- the other is left, and is the primary
 module _ {E : Type 0} (cf : CfId) where

@@ -1,42 +1,15 @@
 -- COPY behind the marks that its links make.
-use Rattle.std.proofs.Common.{◌≡◌, ℕ, ◌+◌, ◌-◌, ◌⊎◌, inl, inr, Bool, true, false, List, [], ◌∷◌, ◌++◌, Option, None, Some, IfSome, is_some, refl, sym, ap, ◌∙◌, subst, subst₂}
-use Rattle.std.specs.Prelude.{if◌then◌else◌, min}
+use Rattle.struct_machine.proofs.Names.{◌≡◌, ℕ, ◌+◌, ◌-◌, ◌⊎◌, inl, inr, Bool, true, false, List, [], ◌∷◌, ◌++◌, Option, None, Some, IfSome, is_some, refl, sym, ap, ◌∙◌, subst, subst₂, if◌then◌else◌, min, StrForm, CfId, ConnId, Refusal, ShellReply, Lost, Reply, Room, Instances, is_at, listed, Machine, CallOutcome, command_done, copied_after, moved_by, room_of, unless, Meaning, first_refusal, fresh_of, Shell, ShellOutcome, failed_outcome, fresh_loss, idle_outcome, if_failed, if_lost, mark_outcome, primary_loss, shell_cause, shell_done, simplex_outcome, stopped_outcome, unless_active, unless_rebuilding, itself, ShellView, Rebuild, IsManned, fourth_none, IsFacility, with_copied, fresh_caps, IsFilled, Kept, lacking_in, AreOf, IsOf, caps_of, copied_in, copy_reply, judged, machine_of, state_in, AreTold, behind_marks, lost_at, marks_in, Mark}
 use Rattle.cf_types.specs.declared.events.Stage.TheVariants as stage
-use Rattle.cf_types.specs.declared.forms.StrForm.{StrForm}
-use Rattle.cf_types.specs.declared.numbers.CfId.{CfId}
-use Rattle.cf_types.specs.declared.numbers.ConnId.{ConnId}
-use Rattle.cf_types.specs.declared.refusals.Refusal.{Refusal}
 use Rattle.cf_types.specs.declared.refusals.Refusal.TheVariants as refusal
 use Rattle.cf_types.specs.declared.shell_commands.ShellCmd.TheVariants as cmd
-use Rattle.cf_types.specs.declared.shell_commands.ShellReply.{ShellReply}
 use Rattle.cf_types.specs.declared.shell_commands.ShellReply.TheVariants as shown
-use Rattle.duplex_pair.specs.declared.lost.Lost.{Lost}
 use Rattle.engine_api.specs.declared.asks.Ask.TheVariants as ask
-use Rattle.engine_api.specs.declared.asks.Reply.{Reply}
 use Rattle.engine_api.specs.declared.asks.Reply.TheVariants as reply
-use Rattle.engine_api.specs.declared.deeds.Room.{Room}
-use Rattle.engine_api.specs.Instances.{Instances, is_at}
-use Rattle.engine_api.specs.LinkAsks.{listed}
-use Rattle.engine_api.specs.Machine.{Machine, CallOutcome, command_done, copied_after, moved_by, room_of, unless}
-use Rattle.engine_api.specs.Meaning.{Meaning, first_refusal}
-use Rattle.engine_api.specs.Rebuilds.{fresh_of}
-use Rattle.engine_api.specs.Shell.{Shell, ShellOutcome, facility_of, failed_outcome, fresh_loss, idle_outcome, if_failed, if_lost, mark_outcome, primary_loss, shell_cause, shell_done, simplex_outcome, stopped_outcome, unless_active, unless_rebuilding}
-use Rattle.engine_api.proofs.AskLaws.{itself}
-use Rattle.plex_shell.specs.ShellView.{ShellView}
-use Rattle.engine_api.specs.RebuildCore.declared.rebuild.Rebuild.{Rebuild}
-use Rattle.shell_laws.specs.Members.{IsManned}
-use Rattle.shell_laws.proofs.CauseLaws.{fourth_none}
-use Rattle.cf_types.specs.Forms.{IsFacility}
-use Rattle.rebuild_copy.specs.Filling.{with_copied}
-use Rattle.shell_laws.specs.Capacities.{fresh_caps}
-use Rattle.shell_laws.specs.Filling.{IsFilled}
-use Rattle.struct_machine.specs.Content.{Kept, lacking_in}
-use Rattle.struct_machine.specs.Kept.{AreOf, IsOf, caps_of, copied_in, copy_reply, judged, machine_of, state_in}
+use Rattle.engine_api.specs.Shell.{facility_of}
 use Rattle.struct_machine.proofs.BeforeLaws.{copied_caps, copied_more, nothing_lacks}
 use Rattle.struct_machine.proofs.CommandLaws.{filled_behind}
 use Rattle.struct_machine.proofs.KeptLaws.{room_left}
-use Rattle.struct_machine.specs.Turns.{AreTold, behind_marks, lost_at, marks_in}
-use Rattle.struct_machine.specs.declared.marks.Mark.{Mark}
 
 -- a refusal among causes
 first_some : (front : List (Option Refusal)) (why : Refusal) (rest : List (Option Refusal))

@@ -1,31 +1,7 @@
 -- What a command's deeds name, and what they do.
-use Rattle.std.specs.Prelude.{if◌then◌else◌, ◌||◌, ◌&&◌}
-use Rattle.cf_types.specs.declared.forms.Caps.{Caps}
-use Rattle.std.proofs.Common.{◌≡◌, Bool, true, false, Option, None, Some, IfSome, refl, sym, ap, ◌∙◌, subst, arith, is_some}
-use Rattle.cf_types.specs.declared.forms.StrForm.{StrForm}
-use Rattle.cf_types.specs.declared.numbers.CfId.{CfId}
-use Rattle.cf_types.specs.declared.numbers.ConnId.{ConnId}
-use Rattle.cf_types.specs.declared.events.Event.{Event}
-use Rattle.cf_types.specs.declared.shell_commands.ShellCmd.{ShellCmd}
+use Rattle.struct_machine.proofs.Names.{if◌then◌else◌, ◌||◌, ◌&&◌, ◌≡◌, Bool, true, false, Option, None, Some, IfSome, refl, sym, ap, ◌∙◌, subst, arith, is_some, Caps, StrForm, CfId, ConnId, Event, ShellCmd, state_of, next_event, owed_event, IsCaller, Deeds, Room, MayCommand, shape_of, Meaning, Held, new_held, content_after, copied_after, with_back_of, Shell, caps_in, caps_made, given_outcome, no_deeds, shell_done, take_event, responded, response_outcome, stop_outcome, rebuild_connect_outcome, complete_outcome, vary_outcome, simplex_again, Rebuild, is_response, Fresh, caps_or, emptied, caps_behind, fresh_behind, fresh_caps, fresh_made, fresh_past, held_back, held_made, held_switched, held_past, copied_in, caps_of, state_in, left_in, IsOf, vary-cases}
 use Rattle.cf_types.specs.declared.shell_commands.ShellCmd.TheVariants as cmd
-use Rattle.cf_types.specs.Connections.{state_of}
-use Rattle.cf_types.specs.Mailboxes.{next_event, owed_event}
-use Rattle.cf_types.specs.Forms.{IsCaller}
-use Rattle.engine_api.specs.declared.deeds.Deeds.{Deeds}
-use Rattle.engine_api.specs.declared.deeds.Room.{Room}
-use Rattle.engine_api.specs.Asking.{MayCommand}
-use Rattle.engine_api.specs.Shapes.{shape_of}
-use Rattle.engine_api.specs.Meaning.{Meaning, Held, new_held}
-use Rattle.engine_api.specs.Machine.{content_after, copied_after, with_back_of}
 use Rattle.cf_types.specs.declared.shell_commands.ShellReply.TheVariants as shown
-use Rattle.engine_api.specs.Shell.{Shell, caps_in, caps_made, given_outcome, no_deeds, shell_done, take_event, responded, response_outcome, stop_outcome, rebuild_connect_outcome, complete_outcome, vary_outcome, simplex_again}
-use Rattle.engine_api.specs.RebuildCore.declared.rebuild.Rebuild.{Rebuild}
-use Rattle.engine_api.specs.RebuildCore.Stages.{is_response}
-use Rattle.rebuild_copy.specs.Filling.{Fresh, caps_or, emptied}
-use Rattle.shell_laws.specs.Capacities.{caps_behind, fresh_behind, fresh_caps}
-use Rattle.struct_machine.specs.Deeds.{fresh_made, fresh_past, held_back, held_made, held_switched, held_past}
-use Rattle.struct_machine.specs.Kept.{copied_in, caps_of, state_in, left_in, IsOf}
-use Rattle.shell_laws.proofs.LossLaws.{vary-cases}
 
 -- ---- commands that make no instance
 

@@ -1,25 +1,5 @@
 -- Where instances are made there is a facility.
-use Rattle.std.proofs.Common.{◌≡◌, ℕ, Bool, true, false, List, [], ◌∷◌, Option, None, Some, IfSome, refl}
-use Rattle.std.specs.Prelude.{if◌then◌else◌, unwrap_or, nat_le, filter}
-use Rattle.std.proofs.lemmas.List.Elements.{recursion_from_All}
-use Rattle.std.specs.List.{AllByRecursion}
-use Rattle.cf_types.specs.declared.events.Stage.{Stage}
-use Rattle.cf_types.specs.declared.events.Stage.TheVariants.{Connect, Copy}
-use Rattle.cf_types.specs.declared.forms.Pref.{Pref}
-use Rattle.cf_types.specs.declared.forms.StrForm.{StrForm}
-use Rattle.cf_types.specs.declared.numbers.CfId.{CfId}
-use Rattle.cf_types.specs.declared.numbers.ConnId.{ConnId}
-use Rattle.cf_types.specs.Forms.{IsFacility, IsPref, IsForm}
-use Rattle.engine_api.specs.Instances.{place_for}
-use Rattle.engine_api.specs.Rebuilds.{fresh_of}
-use Rattle.engine_api.specs.Shell.{Shell, candidates, is_candidate}
-use Rattle.engine_api.specs.RebuildCore.declared.passed.Passed.{Passed}
-use Rattle.engine_api.specs.RebuildCore.declared.passed.Passed.TheVariants.{No, Into}
-use Rattle.engine_api.specs.RebuildCore.declared.rebuild.Rebuild.{Rebuild}
-use Rattle.engine_api.specs.RebuildCore.Stages.{outcome_of, rebuild_emptied, rebuild_left, rebuild_without, with_place, without_owing}
-use Rattle.shell_laws.specs.Steps.{rebuild_next, rebuild_given}
-use Rattle.shell_laws.specs.Tellings.{Telling, is_awaited}
-use Rattle.shell_laws.specs.Tellings.Telling.{Starts, Places, Completes, Responds, Stops, Departs, Forces, Fails, Nothing}
+use Rattle.struct_machine.proofs.Names.{◌≡◌, ℕ, Bool, true, false, List, [], ◌∷◌, Option, None, Some, IfSome, refl, if◌then◌else◌, nat_le, filter, unwrap_or, recursion_from_All, AllByRecursion, Stage, Connect, Copy, Pref, StrForm, CfId, ConnId, IsFacility, IsPref, IsForm, place_for, fresh_of, Shell, candidates, is_candidate, Passed, No, Into, Rebuild, outcome_of, rebuild_emptied, rebuild_left, rebuild_without, with_place, without_owing, rebuild_next, rebuild_given, Telling, is_awaited, Starts, Places, Completes, Responds, Stops, Departs, Forces, Fails, Nothing}
 
 -- ---- places of a form
 

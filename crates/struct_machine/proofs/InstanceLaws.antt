@@ -1,36 +1,10 @@
 -- Where the instances of a structure stand behind a command, and which of its deeds may be done.
-use Rattle.std.proofs.Common.{◌≡◌, ◌≢◌, Bool, true, false, ◌==◌, ◌||◌, List, [], ◌∷◌, ◌++◌, Option, None, Some, IfSome, refl, sym, ap, ◌∙◌, subst}
-use Rattle.std.specs.Prelude.{if◌then◌else◌, is_some, is_none, unwrap_or}
-use Rattle.std.proofs.lemmas.Bool.{eq-eqb, eqb-true, false_from_ne_true}
-use Rattle.cf_types.specs.declared.events.Event.{Event}
-use Rattle.cf_types.specs.declared.events.Stage.TheVariants.{Connect, Copy}
-use Rattle.cf_types.specs.declared.forms.StrForm.{StrForm}
-use Rattle.cf_types.specs.declared.numbers.CfId.{CfId}
-use Rattle.cf_types.specs.declared.numbers.ConnId.{ConnId}
-use Rattle.cf_types.specs.declared.refusals.Refusal.{Refusal}
+use Rattle.struct_machine.proofs.Names.{◌≡◌, ◌≢◌, Bool, true, false, ◌==◌, ◌||◌, List, [], ◌∷◌, ◌++◌, Option, None, Some, IfSome, refl, sym, ap, ◌∙◌, subst, if◌then◌else◌, is_some, is_none, unwrap_or, eq-eqb, eqb-true, false_from_ne_true, Event, Connect, Copy, StrForm, CfId, ConnId, Refusal, ShellCmd, ShellReply, actives, state_of, IsFacility, IsForm, next_event, owed_event, with_cleared, with_response, Deeds, Instances, no_instance, is_at, place_for, units_of, Machine, room_of, Meaning, first_refusal, fresh_of, is_switch, Shell, ShellOutcome, candidates, complete_outcome, conns_answered, departure_outcome, failed_outcome, fresh_loss, given_outcome, goes, idle_outcome, if_connected, if_duplexed, if_failed, if_too_many, if_no_place, if_rebuilding, if_too_small, is_connect, is_kept, loss_outcome, made_at, no_deeds, primary_loss, rebuild_connect_outcome, refusal_when, responded, response_outcome, shell_cause, shell_without, simplex_again, simplex_outcome, stop_outcome, stopped_outcome, take_event, unless_active, unless_allocated, unless_copied_to, unless_owed, unless_reached, unless_rebuilding, vary_outcome, with_off, with_primary, Rebuild, is_response, outcome_of, with_place, without_owing, IsManned, IsPaired, idle_rebuild, past_first, past_second, third_none, change-command, paired-change, no_switch, placed_for, switch_copy, acting, connect_stage, done, first_none, tells_command, mark_telling, telling, places_past, at_left, at_made, at_switched}
 use Rattle.cf_types.specs.declared.refusals.Refusal.TheVariants as refusal
-use Rattle.cf_types.specs.declared.shell_commands.ShellCmd.{ShellCmd}
 use Rattle.cf_types.specs.declared.shell_commands.ShellCmd.TheVariants as cmd
-use Rattle.cf_types.specs.declared.shell_commands.ShellReply.{ShellReply}
 use Rattle.cf_types.specs.declared.shell_commands.ShellReply.TheVariants as shown
-use Rattle.cf_types.specs.Connections.{actives, state_of, with_departure}
-use Rattle.cf_types.specs.Forms.{IsFacility, IsForm}
-use Rattle.cf_types.specs.Mailboxes.{next_event, owed_event, with_cleared, with_response}
-use Rattle.engine_api.specs.declared.deeds.Deeds.{Deeds}
-use Rattle.engine_api.specs.Instances.{Instances, no_instance, is_at, place_for, units_of}
-use Rattle.engine_api.specs.Machine.{Machine, room_of}
-use Rattle.engine_api.specs.Meaning.{Meaning, first_refusal}
-use Rattle.engine_api.specs.Rebuilds.{fresh_of, is_switch}
-use Rattle.engine_api.specs.Shell.{Shell, ShellOutcome, candidates, complete_outcome, conns_answered, departure_outcome, facility_of, failed_outcome, fresh_loss, fresh_made, given_outcome, goes, idle_outcome, if_connected, if_duplexed, if_failed, if_too_many, if_no_place, if_rebuilding, if_too_small, is_connect, is_kept, loss_outcome, made_at, no_deeds, primary_loss, rebuild_connect_outcome, refusal_when, responded, response_outcome, shell_cause, shell_without, simplex_again, simplex_outcome, stop_outcome, stopped_outcome, take_event, unless_active, unless_allocated, unless_copied_to, unless_owed, unless_reached, unless_rebuilding, vary_outcome, with_off, with_primary}
-use Rattle.engine_api.specs.RebuildCore.declared.rebuild.Rebuild.{Rebuild}
-use Rattle.engine_api.specs.RebuildCore.Stages.{is_response, outcome_of, with_place, without_owing}
-use Rattle.shell_laws.specs.Members.{IsManned, IsPaired}
-use Rattle.shell_laws.proofs.CauseLaws.{idle_rebuild, past_first, past_second, third_none}
-use Rattle.shell_laws.proofs.PairLaws.{change-command, paired-change}
-use Rattle.shell_laws.proofs.PlaceLaws.{no_switch, placed_for, switch_copy}
-use Rattle.shell_laws.proofs.StepLaws.{acting, connect_stage, done, first_none, tells_command}
-use Rattle.shell_laws.specs.Tellings.{mark_telling, telling}
-use Rattle.struct_machine.specs.Deeds.{places_past, at_left, at_made, at_switched}
+use Rattle.cf_types.specs.Connections.{with_departure}
+use Rattle.engine_api.specs.Shell.{facility_of, fresh_made}
 use Rattle.struct_machine.proofs.FacilityLaws.{found_facility, facility_next, InFacility, IsPlaceTold}
 
 -- ---- what a command makes of the instances, and which deeds it has

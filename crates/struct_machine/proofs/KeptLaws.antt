@@ -1,39 +1,7 @@
 -- A shell and instances of one form.
-use Rattle.std.proofs.Common.{◌≡◌, ◌-◌, Bool, true, false, List, length, Option, None, Some, Result, IfSome, option_map, inl, refl, sym, ap, ◌∙◌, subst, arith}
-use Rattle.std.specs.Prelude.{if◌then◌else◌, is_some}
-use Rattle.cf_types.specs.declared.events.Letter.{Letter}
-use Rattle.cf_types.specs.declared.forms.Caps.{Caps}
-use Rattle.cf_types.specs.declared.forms.StrForm.{StrForm}
-use Rattle.cf_types.specs.declared.numbers.CfId.{CfId}
-use Rattle.cf_types.specs.declared.numbers.ConnId.{ConnId}
-use Rattle.engine_api.specs.declared.shapes.Shape.{Shape}
-use Rattle.engine_api.specs.Instances.{Instances}
-use Rattle.engine_api.specs.Machine.{CallOutcome, room_of, content_done, content_reply}
-use Rattle.engine_api.specs.Meaning.{Meaning, Held, Answer, answer, unless_refused, StepResult}
-use Rattle.engine_api.specs.Rebuilds.{fresh_of}
-use Rattle.engine_api.specs.Shapes.{shape_of}
-use Rattle.engine_api.specs.Shell.{Shell, opening_shell, content_cause, if_failed, if_lost, unless_active, with_posted, entered}
-use Rattle.duplex_pair.specs.Pairs.{facility_of, letters_by}
-use Rattle.duplex_pair.specs.declared.placed.Placed.{Placed}
-use Rattle.plex_shell.specs.ShellView.{ShellView}
-use Rattle.rebuild_copy.specs.Filling.{Fresh, lacking}
-use Rattle.engine_api.specs.RebuildCore.declared.rebuild.Rebuild.{Rebuild}
-use Rattle.cf_types.specs.Connections.{actives, is_active}
-use Rattle.cf_types.specs.Forms.{IsForm, IsFacility}
-use Rattle.cf_types.specs.Mailboxes.{with_letters}
-use Rattle.cf_types.specs.declared.refusals.Refusal.{Refusal}
+use Rattle.struct_machine.proofs.Names.{◌≡◌, ◌-◌, Bool, true, false, List, length, Option, None, Some, Result, IfSome, option_map, inl, refl, sym, ap, ◌∙◌, subst, arith, if◌then◌else◌, is_some, Letter, Caps, StrForm, CfId, ConnId, Shape, Instances, CallOutcome, room_of, content_done, content_reply, Meaning, Held, Answer, answer, unless_refused, StepResult, fresh_of, shape_of, Shell, opening_shell, content_cause, if_failed, if_lost, unless_active, with_posted, entered, facility_of, letters_by, Placed, ShellView, Fresh, lacking, Rebuild, actives, is_active, IsForm, IsFacility, with_letters, Refusal, fresh_caps, IsFilled, IsManned, IsBare, none_fresh_then, not_so, third_none, manned-members, manned-opening, active_member, active_of, first_none, somebody_member, false_from_ne_true, ContentView, Kept, kept_of, nothing_kept, lacking_in, AreOf, IsOf, machine_of, state_in, copied_in, caps_of}
 use Rattle.cf_types.specs.declared.refusals.Refusal.TheVariants as refusal
-use Rattle.shell_laws.specs.Capacities.{fresh_caps}
-use Rattle.shell_laws.specs.Filling.{IsFilled}
-use Rattle.shell_laws.specs.Members.{IsManned, IsBare}
-use Rattle.shell_laws.proofs.CapacityLaws.{none_fresh_then}
-use Rattle.shell_laws.proofs.CauseLaws.{not_so, third_none}
-use Rattle.shell_laws.proofs.MemberLaws.{manned-members, manned-opening}
-use Rattle.shell_laws.proofs.StepLaws.{active_member, active_of, first_none, somebody_member}
-use Rattle.std.proofs.lemmas.Bool.{false_from_ne_true}
 use Rattle.struct_machine.proofs.ToldLaws.{manned-told, filled-told}
-use Rattle.struct_machine.specs.Content.{ContentView, Kept, kept_of, nothing_kept, lacking_in}
-use Rattle.struct_machine.specs.Kept.{AreOf, IsOf, machine_of, state_in, copied_in, caps_of}
 
 -- ---- where a new instance stands
 

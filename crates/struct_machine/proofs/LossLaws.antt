@@ -1,37 +1,6 @@
 -- What a lost facility makes of shell and instances.
-use Rattle.std.proofs.Common.{◌≡◌, true, false, ◌||◌, Option, Some, IfSome, refl, sym, ap, ◌∙◌, subst}
-use Rattle.std.specs.Prelude.{is_some}
-use Rattle.cf_types.specs.declared.forms.Caps.{Caps}
-use Rattle.cf_types.specs.declared.forms.StrForm.{StrForm}
-use Rattle.cf_types.specs.declared.numbers.CfId.{CfId}
-use Rattle.cf_types.specs.Connections.{actives}
-use Rattle.cf_types.specs.Forms.{IsFacility}
-use Rattle.engine_api.specs.declared.deeds.Deeds.{Deeds}
-use Rattle.engine_api.specs.Instances.{Instances, is_at}
-use Rattle.engine_api.specs.LinkAsks.{operator}
-use Rattle.engine_api.specs.Machine.{Machine, content_after, copied_after}
-use Rattle.engine_api.specs.Meaning.{Meaning}
-use Rattle.engine_api.specs.Rebuilds.{fresh_of}
-use Rattle.engine_api.specs.Shell.{Shell, ShellOutcome, loss_outcome, mark_outcome, no_deeds}
-use Rattle.plex_shell.specs.Losses.{reply_as}
-use Rattle.plex_shell.specs.ShellView.{ShellView}
-use Rattle.plex_shell.specs.declared.lost_as.LostAs.{LostAs}
+use Rattle.struct_machine.proofs.Names.{◌≡◌, true, false, ◌||◌, Option, Some, IfSome, refl, sym, ap, ◌∙◌, subst, is_some, Caps, StrForm, CfId, actives, IsFacility, Deeds, Instances, is_at, operator, Machine, content_after, copied_after, Meaning, fresh_of, Shell, ShellOutcome, loss_outcome, mark_outcome, no_deeds, reply_as, ShellView, LostAs, Rebuild, fresh_caps, IsFilled, IsManned, capacities-loss, filled-loss, loss-cases, manned-loss, rebuild-loss, is_failure, Kept, at_left, AreOf, IsOf, machine_of, state_in, copied_in, caps_of, IsEnding, kept_without, lost_at}
 use Rattle.plex_shell.specs.declared.lost_as.LostAs.TheVariants as told
-use Rattle.engine_api.specs.RebuildCore.declared.rebuild.Rebuild.{Rebuild}
-use Rattle.shell_laws.specs.Capacities.{fresh_caps}
-use Rattle.shell_laws.specs.Filling.{IsFilled}
-use Rattle.shell_laws.specs.Members.{IsManned}
-use Rattle.shell_laws.proofs.DeedLaws.{capacities-loss}
-use Rattle.shell_laws.proofs.FillingLaws.{filled-loss}
-use Rattle.shell_laws.proofs.LossLaws.{loss-cases}
-use Rattle.shell_laws.proofs.MemberLaws.{manned-loss}
-use Rattle.shell_laws.proofs.StepLaws.{rebuild-loss}
-use Rattle.struct_machine.specs.Marks.{is_failure}
-use Rattle.struct_machine.specs.Content.{Kept}
-use Rattle.struct_machine.specs.Deeds.{at_left}
-use Rattle.struct_machine.specs.Kept.{AreOf, IsOf, machine_of, state_in, copied_in, caps_of}
-use Rattle.struct_machine.specs.Losses.{IsEnding, kept_without}
-use Rattle.struct_machine.specs.Turns.{lost_at}
 use Rattle.struct_machine.proofs.FacilityLaws.{facility_next}
 use Rattle.struct_machine.proofs.InstanceLaws.{IsPlacing, IsDropping, loss_places, mark_told}
 

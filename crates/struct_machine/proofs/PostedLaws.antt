@@ -1,14 +1,6 @@
 -- Letters that come before a command.
-use Rattle.std.proofs.Common.{◌≡◌, List, [], Option, None, refl, sym, subst}
-use Rattle.cf_types.specs.declared.events.Letter.{Letter}
-use Rattle.cf_types.specs.declared.forms.StrForm.{StrForm}
-use Rattle.cf_types.specs.declared.numbers.ConnId.{ConnId}
-use Rattle.cf_types.specs.declared.shell_commands.ShellCmd.{ShellCmd}
+use Rattle.struct_machine.proofs.Names.{◌≡◌, List, [], Option, None, refl, sym, subst, Letter, StrForm, ConnId, ShellCmd, Room, Machine, departure_from, Meaning, Shell, Leaver, shell_cause, leaver, with_posted}
 use Rattle.cf_types.specs.declared.shell_commands.ShellCmd.TheVariants as cmd
-use Rattle.engine_api.specs.declared.deeds.Room.{Room}
-use Rattle.engine_api.specs.Machine.{Machine, departure_from}
-use Rattle.engine_api.specs.Meaning.{Meaning}
-use Rattle.engine_api.specs.Shell.{Shell, Leaver, shell_cause, leaver, with_posted}
 
 -- they change no refusal: a command that looks at its caller's events brings no departure
 pub accepted_posted : (form : StrForm) (room : Room) (shell : Shell) (by : ConnId) (command : ShellCmd)

@@ -1,17 +1,7 @@
 -- What a verdict that refuses says.
-use Rattle.std.proofs.Common.{◌≡◌, Option, Some, None}
-use Rattle.cf_types.specs.declared.forms.StrForm.{StrForm}
-use Rattle.cf_types.specs.declared.numbers.ConnId.{ConnId}
-use Rattle.cf_types.specs.declared.refusals.Refusal.{Refusal}
-use Rattle.cf_types.specs.declared.shell_commands.ShellCmd.{ShellCmd}
+use Rattle.struct_machine.proofs.Names.{◌≡◌, Option, Some, None, StrForm, ConnId, Refusal, ShellCmd, Ask, Room, Shell, shell_cause, content_cause, call_cause, refused_or, doer_of, verdict, Verdict, Refuse, Content}
 use Rattle.cf_types.specs.declared.shell_commands.ShellCmd.TheVariants as cmd
-use Rattle.engine_api.specs.declared.asks.Ask.{Ask}
 use Rattle.engine_api.specs.declared.asks.Ask.TheVariants as ask
-use Rattle.engine_api.specs.declared.deeds.Room.{Room}
-use Rattle.engine_api.specs.Shell.{Shell, shell_cause, content_cause, call_cause}
-use Rattle.plex_shell.specs.Verdicts.{refused_or, doer_of, verdict}
-use Rattle.plex_shell.specs.declared.verdicts.Verdict.{Verdict}
-use Rattle.plex_shell.specs.declared.verdicts.Verdict.TheVariants.{Refuse, Content}
 
 -- who does a command refuses nothing
 does_something : (command : ShellCmd) (refusal : Refusal) → doer_of command ≡ Refuse refusal → ⊥

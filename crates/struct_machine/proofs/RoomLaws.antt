@@ -1,12 +1,6 @@
 -- No call but that of a member who connects to the new instance looks at what the content needs.
-use Rattle.std.proofs.Common.{◌≡◌, refl}
-use Rattle.cf_types.specs.declared.forms.StrForm.{StrForm}
-use Rattle.cf_types.specs.declared.numbers.ConnId.{ConnId}
-use Rattle.cf_types.specs.declared.shell_commands.ShellCmd.{ShellCmd}
+use Rattle.struct_machine.proofs.Names.{◌≡◌, refl, StrForm, ConnId, ShellCmd, Room, Shell, shell_cause, shell_done, command_looks, room_seen}
 use Rattle.cf_types.specs.declared.shell_commands.ShellCmd.TheVariants as cmd
-use Rattle.engine_api.specs.declared.deeds.Room.{Room}
-use Rattle.engine_api.specs.Shell.{Shell, shell_cause, shell_done}
-use Rattle.struct_machine.specs.Kept.{command_looks, room_seen}
 
 pub cause_seen : (form : StrForm) (room : Room) (shell : Shell) (by : ConnId) (command : ShellCmd)
     → shell_cause form (room_seen (command_looks command) room) shell by command

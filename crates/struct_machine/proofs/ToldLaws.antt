@@ -1,13 +1,5 @@
 -- Letters, and what was told of a loss: the laws of rebuilds speak of neither.
-use Rattle.std.proofs.Common.{Option}
-use Rattle.cf_types.specs.declared.forms.StrForm.{StrForm}
-use Rattle.cf_types.specs.declared.numbers.CfId.{CfId}
-use Rattle.cf_types.specs.Mailboxes.{Mailboxes}
-use Rattle.engine_api.specs.Machine.{Machine}
-use Rattle.engine_api.specs.Meaning.{Meaning}
-use Rattle.engine_api.specs.Shell.{Shell}
-use Rattle.shell_laws.specs.Filling.{IsFilled}
-use Rattle.shell_laws.specs.Members.{IsManned}
+use Rattle.struct_machine.proofs.Names.{Option, StrForm, CfId, Mailboxes, Machine, Meaning, Shell, IsFilled, IsManned}
 
 abbrev pub told_with : Mailboxes → Option CfId → Shell → Shell
 told_with mail lost shell = record shell { mail = mail; lost = lost }

@@ -1,28 +1,8 @@
 -- A call with the links that it asks, put together.
-use Rattle.std.proofs.Common.{◌≡◌, ℕ, Bool, true, false, List, [], ◌∷◌, ◌++◌, Option, None, Some, refl, sym, ap, ◌∙◌, subst, subst₂}
-use Rattle.std.specs.Prelude.{if◌then◌else◌, filter, Result, Ok, Err, IfOk}
-use Rattle.std.proofs.lemmas.List.Sums.{fold-append}
-use Rattle.duplex_pair.specs.CfLink.declared.links.Links.{Links}
-use Rattle.duplex_pair.specs.CfLink.Links.{AreAsked, IsAskedAll, link_at}
-use Rattle.cf_types.specs.declared.forms.StrForm.{StrForm}
-use Rattle.cf_types.specs.declared.numbers.CfId.{CfId}
-use Rattle.cf_types.specs.declared.numbers.ConnId.{ConnId}
-use Rattle.cf_types.specs.declared.refusals.Refusal.{Refusal}
-use Rattle.cf_types.specs.declared.shell_commands.ShellCmd.{ShellCmd}
+use Rattle.struct_machine.proofs.Names.{◌≡◌, ℕ, Bool, true, false, List, [], ◌∷◌, ◌++◌, Option, None, Some, refl, sym, ap, ◌∙◌, subst, subst₂, if◌then◌else◌, filter, Result, Ok, Err, IfOk, fold-append, Links, AreAsked, IsAskedAll, link_at, StrForm, CfId, ConnId, Refusal, ShellCmd, Lost, Ask, Reply, Asks, apart, asks_of, asks_of_command, asked_unless, has, links_asked, listed, marks_of, answers_to, reached, Machine, CallOutcome, call_done, command_done, loss_step, room_of, unless, Meaning, Shell, call_cause, content_cause, shell_cause, reply_as, Mark, is_copying, items_named, judged, AreMarked, AreTold, IsJudgedTurn, content_asks_of, copy_asks_of, marks_in, behind_marks, lost_at, lost_by}
 use Rattle.cf_types.specs.declared.shell_commands.ShellCmd.TheVariants as cmd
-use Rattle.duplex_pair.specs.declared.lost.Lost.{Lost}
-use Rattle.engine_api.specs.declared.asks.Ask.{Ask}
 use Rattle.engine_api.specs.declared.asks.Ask.TheVariants as ask
-use Rattle.engine_api.specs.declared.asks.Reply.{Reply}
 use Rattle.engine_api.specs.declared.asks.Reply.TheVariants as reply
-use Rattle.engine_api.specs.LinkAsks.{Asks, apart, asks_of, asks_of_command, asked_unless, has, links_asked, listed, marks_of, answers_to, reached}
-use Rattle.engine_api.specs.Machine.{Machine, CallOutcome, call_done, command_done, loss_step, room_of, unless}
-use Rattle.engine_api.specs.Meaning.{Meaning}
-use Rattle.engine_api.specs.Shell.{Shell, call_cause, content_cause, shell_cause}
-use Rattle.plex_shell.specs.Losses.{reply_as}
-use Rattle.struct_machine.specs.declared.marks.Mark.{Mark}
-use Rattle.struct_machine.specs.Kept.{is_copying, items_named, judged}
-use Rattle.struct_machine.specs.Turns.{AreMarked, AreTold, IsJudgedTurn, content_asks_of, copy_asks_of, marks_in, behind_marks, lost_at, lost_by}
 
 module _ {C R I S : Type 0} (meaning : Meaning C R I S) (form : StrForm) where
   -- one mark more

@@ -1,11 +1,5 @@
 -- A store and a commit keep the engine's number to its log.
-use Rattle.std.proofs.Common.{◌≡◌, ◌^◌, ◌<◌, ◌≤◌, ℕ, List, [], ◌∷◌, ◌++◌, refl, sym, subst, inl, inr, ⊎_elim}
-use Rattle.std.proofs.Common.{arith}
-use Rattle.vec_world.specs.Log.{HasStore, IsOpen}
-use Rattle.vec_words.specs.declared.logged.Logged.{Logged}
-use Rattle.vec_words.specs.declared.logged.Logged.TheVariants.{Stored, Committed}
-use Rattle.vec_words.specs.Logged.{steps_of, count_of, flying_of}
-use Rattle.vec_words.specs.Tokens.{IsBegun}
+use Rattle.vec_words.proofs.Names.{◌≡◌, ◌^◌, ◌<◌, ◌≤◌, ℕ, List, [], ◌∷◌, ◌++◌, refl, sym, subst, inl, inr, ⊎_elim, arith, HasStore, IsOpen, Logged, Stored, Committed, steps_of, count_of, flying_of, IsBegun}
 use Rattle.vec_words.proofs.Logs.{count-push, flying-push}
 use Rattle.vec_words.proofs.Sound.{orderly-idle, orderly-store, orderly-commit}
 

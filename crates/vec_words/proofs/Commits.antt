@@ -1,14 +1,5 @@
 -- The commits of a log, and the calls of one caller among them.
-use Rattle.std.proofs.Common.{◌≡◌, ◌≢◌, ℕ, List, [], ◌∷◌, ◌++◌, map, refl, ap, ◌∙◌, eq-eqb, ne_eqb, append-nil}
-use Rattle.std.specs.Prelude.{All, ⊤, if◌then◌else◌, filter, ◌==◌}
-use Rattle.std.proofs.lemmas.List.{map-append}
-use Rattle.std.proofs.lemmas.List.Elements.{filter-append, All-nil, All-cons, All-head, All-tail, All-contains}
-use Rattle.vec_world.specs.declared.step.Step.{Step}
-use Rattle.vec_world.specs.declared.step.Step.TheVariants.{Store, Commit}
-use Rattle.vec_world.specs.Log.{IsCommitted}
-use Rattle.vec_words.specs.declared.logged.Logged.{Logged}
-use Rattle.vec_words.specs.declared.logged.Logged.TheVariants.{Stored, Committed}
-use Rattle.vec_words.specs.Logged.{steps_of, CallRecord, commits_of, calls_in, calls_of}
+use Rattle.vec_words.proofs.Names.{◌≡◌, ◌≢◌, ℕ, List, [], ◌∷◌, ◌++◌, map, refl, ap, ◌∙◌, eq-eqb, ne_eqb, append-nil, All, if◌then◌else◌, filter, ◌==◌, ⊤, map-append, filter-append, All-nil, All-cons, All-head, All-tail, All-contains, Step, Store, Commit, IsCommitted, Logged, Stored, Committed, steps_of, CallRecord, commits_of, calls_in, calls_of}
 
 -- a fact of a commit's number
 abbrev OnCommit : (ℕ → Type 0) → Step → Type 0

@@ -1,20 +1,5 @@
 -- Tests stay told, and what the rule says of a view stays so, at each step.
-use Rattle.std.proofs.Common.{◌≡◌, ◌≢◌, ◌⊎◌, ◌-◌, ◌/◌, ◌<◌, ◌≤◌, ℕ, zero, suc, List, [], ◌∷◌, ◌++◌, length, set}
-use Rattle.std.proofs.Common.{refl, sym, ap, ◌∙◌, subst, inl, inr, ⊎_elim, arith}
-use Rattle.std.specs.Prelude.{max}
-use mathlib.Core.Option.{some, some-injective, some-ne-none}
-use lib.ListN.{get_elem?}
-use Rattle.atomic_table.proofs.Lists.{at_set}
-use Rattle.vec_world.specs.Log.{bits_at, IsOpen}
-use Rattle.vec_world.specs.World.{bits_of, stamp_of}
-use Rattle.vec_world.proofs.LogLaws.{Carries-at, Leaves, Moves, leaves-commit, store-cases, settled-max, settled-below}
-use Rattle.vec_words.specs.declared.logged.Logged.{Logged}
-use Rattle.vec_words.specs.declared.logged.Logged.TheVariants.{Stored, Committed}
-use Rattle.vec_words.specs.declared.logged.Sight.{Sight}
-use Rattle.vec_words.specs.declared.view.View.{View}
-use Rattle.vec_words.specs.Logged.{steps_of, count_of, flying_of, left_in, IsOrderly, Tells, bit_in, words_of}
-use Rattle.vec_words.specs.Logged.{word_number, sight}
-use Rattle.vec_words.specs.Rule.{Settled, IsKept, Roll, Fits, AllFit}
+use Rattle.vec_words.proofs.Names.{◌≡◌, ◌≢◌, ◌⊎◌, ◌-◌, ◌/◌, ◌<◌, ◌≤◌, ℕ, zero, suc, List, [], ◌∷◌, ◌++◌, length, set, refl, sym, ap, ◌∙◌, subst, inl, inr, ⊎_elim, arith, max, some, some-injective, some-ne-none, get_elem?, at_set, bits_at, IsOpen, bits_of, stamp_of, Carries-at, Leaves, Moves, leaves-commit, store-cases, settled-max, settled-below, Logged, Stored, Committed, Sight, View, steps_of, count_of, flying_of, left_in, IsOrderly, Tells, bit_in, words_of, word_number, sight, Settled, IsKept, Roll, Fits, AllFit}
 use Rattle.vec_words.proofs.Logs.{steps-push, count-push}
 use Rattle.vec_words.proofs.Sound.{CanStore, stamps_before, settled-store_now, settled-commit_now}
 

@@ -1,16 +1,5 @@
 -- What a pass is shown when it has learned the count beside the engine's log.
-use Rattle.std.proofs.Common.{◌≡◌, ◌≤◌, ℕ, List, sym, ◌∙◌, subst, inl, inr, ⊎_elim}
-use Rattle.std.specs.Prelude.{All, max}
-use Rattle.std.proofs.lemmas.List.Elements.{All-weaker}
-use Rattle.vec_world.specs.Log.{IsCommitted}
-use Rattle.vec_world.proofs.LogLaws.{settled-max}
-use Rattle.vec_words.specs.declared.logged.Logged.{Logged}
-use Rattle.vec_words.specs.declared.view.View.{View}
-use Rattle.vec_words.specs.Logged.{count_of, steps_of, flying_of, calls_of, IsIssued, IsHonest}
-use Rattle.atomic_table.specs.Seated.{TableId}
-use Rattle.vec_words.specs.Tokens.{WordTable, PassSeen, SeatSeen, pass_seen, seat_seen, IsShown, IsBegun}
-use Rattle.vec_words.specs.View.{with_log}
-use Rattle.vec_words.specs.Rule.{Settled, IsKept, Shows}
+use Rattle.vec_words.proofs.Names.{◌≡◌, ◌≤◌, ℕ, List, sym, ◌∙◌, subst, inl, inr, ⊎_elim, All, max, All-weaker, IsCommitted, settled-max, Logged, View, count_of, steps_of, flying_of, calls_of, IsIssued, IsHonest, TableId, WordTable, PassSeen, SeatSeen, pass_seen, seat_seen, IsShown, IsBegun, with_log, Settled, IsKept, Shows}
 
 module _ {D : Type 0} where
   -- a settled number is issued, beside the engine's number in flight

@@ -1,3 +1,4 @@
+pub mod Names
 pub mod Begun
 pub mod Commits
 pub mod Kept

@@ -1,18 +1,5 @@
 -- What one more store or commit does to the readings of a log.
-use Rattle.std.proofs.Common.{◌≡◌, ◌≢◌, ◌⊎◌, ◌<◌, ◌≤◌, ℕ, List, [], ◌∷◌, ◌++◌, refl, ap, ◌∙◌, subst, inl, inr, ⊎_elim}
-use Rattle.std.proofs.Common.{eq-eqb, ne_eqb}
-use Rattle.std.specs.Prelude.{if◌then◌else◌, Contains}
-use Rattle.std.proofs.lemmas.List.{map-append}
-use Rattle.std.proofs.lemmas.List.Sums.{fold-append}
-use Rattle.std.proofs.lemmas.List.Elements.{Contains-push_cases}
-use Rattle.vec_world.specs.declared.step.Step.TheVariants.{Store, Commit}
-use Rattle.vec_world.specs.Log.{bits_at, IsCommitted, HasStore}
-use Rattle.vec_world.specs.World.{word_of}
-use Rattle.vec_world.proofs.LogLaws.{bits_at-push_store, bits_at-push_above, bits_at-push_other, bits_at-push_commit}
-use Rattle.vec_words.specs.declared.logged.Logged.{Logged}
-use Rattle.vec_words.specs.declared.logged.Logged.TheVariants.{Stored, Committed}
-use Rattle.vec_words.specs.Logged.{step_of, steps_of, count_of, count_after, flying_of, flying_after, left_in}
-use Rattle.vec_words.specs.Logged.{left_after}
+use Rattle.vec_words.proofs.Names.{◌≡◌, ◌≢◌, ◌⊎◌, ◌<◌, ◌≤◌, ℕ, List, [], ◌∷◌, ◌++◌, refl, ap, ◌∙◌, subst, inl, inr, ⊎_elim, eq-eqb, ne_eqb, if◌then◌else◌, Contains, map-append, fold-append, Contains-push_cases, Store, Commit, bits_at, IsCommitted, HasStore, word_of, bits_at-push_store, bits_at-push_above, bits_at-push_other, bits_at-push_commit, Logged, Stored, Committed, step_of, steps_of, count_of, count_after, flying_of, flying_after, left_in, left_after}
 
 module _ {D : Type 0} where
   pub steps-push : (log : List (Logged D)) (x : Logged D) → steps_of (log ++ x ∷ []) ≡ steps_of log ++ step_of x ∷ []

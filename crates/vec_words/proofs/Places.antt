@@ -1,10 +1,5 @@
 -- A word of a connector's vector is a word of the table.
-use Rattle.std.proofs.Common.{◌≡◌, ◌+◌, ◌-◌, ◌*◌, ◌/◌, ◌^◌, ◌<◌, ◌≤◌, ℕ, suc, subst, sym, arith, mul-le-mul_right}
-use Rattle.std.proofs.Common.{suc-mul}
-use native.Mathlib.Decide.{dec_le}
-use Rattle.std.specs.Prelude.{All}
-use Rattle.std.proofs.lemmas.List.FromFn.{length-range_with_len, get_or-range_with_len}
-use Rattle.vec_words.specs.Logged.{words_of, word_number, indices_of}
+use Rattle.vec_words.proofs.Names.{◌≡◌, ◌+◌, ◌-◌, ◌*◌, ◌/◌, ◌^◌, ◌<◌, ◌≤◌, ℕ, suc, subst, sym, arith, mul-le-mul_right, suc-mul, All, dec_le, length-range_with_len, get_or-range_with_len, words_of, word_number, indices_of}
 
 pub within_all : (len conn conns word : ℕ) → 0 < conn → conn ≤ conns → word < words_of len
     → word_number len conn word < conns * words_of len

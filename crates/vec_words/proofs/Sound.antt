@@ -1,21 +1,6 @@
 -- One more store or commit keeps a log orderly.
-use Rattle.std.proofs.Common.{◌≡◌, ◌≢◌, ◌-◌, ◌^◌, ◌<◌, ◌≤◌, ℕ, List, [], ◌∷◌, ◌++◌, refl, sym, ap, ◌∙◌, subst, inl}
-use Rattle.std.proofs.Common.{inr, ⊎_elim, arith}
-use Rattle.std.proofs.lemmas.Bool.{cases_eq}
-use Rattle.std.proofs.lemmas.List.Elements.{Contains-append_left, Contains-push}
-use Rattle.vec_world.specs.declared.step.Step.{Step}
-use Rattle.vec_world.specs.declared.step.Step.TheVariants.{Store, Commit}
-use Rattle.vec_world.specs.Log.{IsCommitted, HasStore, IsOpen, IsSettled, StampsUpTo}
-use Rattle.vec_world.specs.World.{bits_of, stamp_of, CarriesWord}
-use Rattle.vec_world.proofs.LogLaws.{Carries-nil, Carries-push_other, Carries-push_commit, CarriesWord-push_store}
-use Rattle.vec_world.proofs.LogLaws.{stamp_of-word_of}
-use Rattle.vec_world.proofs.LogLaws.{StampsUpTo-from_each, settled-store, settled-commit, settled-below}
-use Rattle.vec_words.specs.declared.logged.Logged.{Logged}
-use Rattle.vec_words.specs.declared.logged.Logged.TheVariants.{Stored, Committed}
-use Rattle.vec_words.specs.Logged.{steps_of, count_of, flying_of, left_in, IsOrderly}
-use Rattle.vec_words.specs.Rule.{Settled}
-use Rattle.vec_words.proofs.Logs.{steps-push, count-push, flying-push, left-push, left-here, left-other}
-use Rattle.vec_words.proofs.Logs.{committed-store, committed-commit, has_store-store, has_store-commit}
+use Rattle.vec_words.proofs.Names.{◌≡◌, ◌≢◌, ◌-◌, ◌^◌, ◌<◌, ◌≤◌, ℕ, List, [], ◌∷◌, ◌++◌, refl, sym, ap, ◌∙◌, subst, inl, inr, ⊎_elim, arith, cases_eq, Contains-append_left, Contains-push, Step, Store, Commit, IsCommitted, HasStore, IsOpen, IsSettled, StampsUpTo, bits_of, stamp_of, CarriesWord, Carries-nil, Carries-push_other, Carries-push_commit, CarriesWord-push_store, stamp_of-word_of, StampsUpTo-from_each, settled-store, settled-commit, settled-below, Logged, Stored, Committed, steps_of, count_of, flying_of, left_in, IsOrderly, Settled}
+use Rattle.vec_words.proofs.Logs.{steps-push, count-push, flying-push, left-push, left-here, left-other, committed-store, committed-commit, has_store-store, has_store-commit}
 
 module _ {D : Type 0} where
   -- a number that was settled is so after a store or a commit

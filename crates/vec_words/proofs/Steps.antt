@@ -1,26 +1,5 @@
 -- Each step that stores nothing keeps the rule.
-use Rattle.std.proofs.Common.{◌≡◌, ◌≢◌, ◌==◌, ◌+◌, ◌*◌, ◌/◌, ◌^◌, ◌<◌, ◌≤◌, ℕ, zero, suc, Bool, true, false, true≢false}
-use Rattle.std.proofs.Common.{List, [], ◌∷◌}
-use Rattle.std.proofs.Common.{map, length, set, replicate, refl, sym, ap, ◌∙◌, subst, inl, ⊎_elim, arith, eq-eqb}
-use Rattle.std.proofs.Common.{ne_eqb}
-use Rattle.std.specs.Prelude.{All, max, slice_index, if◌then◌else◌}
-use Rattle.std.proofs.lemmas.List.{set-get_or, length-replicate}
-use Rattle.std.proofs.lemmas.List.Elements.{All-weaker, All-nil, All-append, All-map}
-use mathlib.Core.Option.{some, some-injective, some-ne-none}
-use lib.ListN.{get_elem?}
-use Rattle.atomic_table.specs.Table.{Me, keeps, opening, Allows, Splits, Joins}
-use Rattle.atomic_table.proofs.Lists.{at_set, set_again}
-use Rattle.vec_world.specs.World.{bits_of, stamp_of}
-use Rattle.vec_world.proofs.LogLaws.{settled-max}
-use Rattle.vec_words.specs.declared.logged.Logged.{Logged}
-use Rattle.vec_words.specs.declared.view.View.{View}
-use Rattle.vec_words.specs.declared.view.Shape.{Shape}
-use Rattle.vec_words.specs.Logged.{words_of, word_number, steps_of, count_of, flying_of, left_in, calls_of, IsOrderly}
-use Rattle.vec_words.specs.Logged.{sight}
-use Rattle.vec_words.specs.View.{note_view, blank_view, first_view, made_one, next_pass, note_of, told_of, without_log}
-use Rattle.vec_words.specs.View.{log_alone, with_log}
-use Rattle.vec_words.specs.View.{tested_of, learned_of, Becomes}
-use Rattle.vec_words.specs.Rule.{Settled, IsKept, Roll, Fits, AllFit, AreLeft, Kept, Shows}
+use Rattle.vec_words.proofs.Names.{◌≡◌, ◌≢◌, ◌==◌, ◌+◌, ◌*◌, ◌/◌, ◌^◌, ◌<◌, ◌≤◌, ℕ, zero, suc, Bool, true, false, true≢false, List, [], ◌∷◌, map, length, set, replicate, refl, sym, ap, ◌∙◌, subst, inl, ⊎_elim, arith, eq-eqb, ne_eqb, All, max, slice_index, if◌then◌else◌, set-get_or, length-replicate, All-weaker, All-nil, All-append, All-map, some, some-injective, some-ne-none, get_elem?, Me, keeps, opening, Allows, Splits, Joins, at_set, set_again, bits_of, stamp_of, settled-max, Logged, View, Shape, words_of, word_number, steps_of, count_of, flying_of, left_in, calls_of, IsOrderly, sight, note_view, blank_view, first_view, made_one, next_pass, note_of, told_of, without_log, log_alone, with_log, tested_of, learned_of, Becomes, Settled, IsKept, Roll, Fits, AllFit, AreLeft, Kept, Shows}
 use Rattle.vec_words.proofs.Sound.{orderly-nil, settled-count}
 use Rattle.vec_words.proofs.Kept.{kept-now, all_set, all_push}
 

@@ -1,20 +1,5 @@
 -- What the stores of one call do to the readings of a log.
-use Rattle.std.proofs.Common.{◌≡◌, ◌≢◌, ℕ, ◌+◌, ◌<◌, ◌≤◌, true, false, Bool, List, [], ◌∷◌, ◌++◌, length, take, get_or}
-use Rattle.std.proofs.Common.{Some, refl, sym, ap, ◌∙◌, subst}
-use Rattle.std.proofs.Common.{⊎_elim, arith, append-nil, append_assoc}
-use Rattle.std.specs.Prelude.{All, Contains, slice_get}
-use Rattle.std.proofs.lemmas.Bool.{cases_eq}
-use Rattle.std.proofs.lemmas.List.{take_more, map-append, get_or-take, length-take-le}
-use Rattle.std.proofs.lemmas.Option.{slice_get_within, get_or_from_slice_get, slice_get-get_or}
-use Rattle.std.proofs.lemmas.List.Elements.{All-nil, All-cons, All-head, All-tail, All-push, All-pop, All-contains}
-use Rattle.std.proofs.lemmas.List.Quantifiers.{all_pairs_push}
-use Rattle.vec_world.specs.Log.{bits_at, HasStore}
-use Rattle.vec_words.specs.declared.logged.Logged.{Logged}
-use Rattle.vec_words.specs.declared.logged.Logged.TheVariants.{Stored}
-use Rattle.vec_words.specs.declared.stores.Place.{Place}
-use Rattle.vec_words.specs.Logged.{words_of, word_number, steps_of, count_of, commits_of}
-use Rattle.vec_words.specs.Tokens.{SeatSeen}
-use Rattle.vec_words.specs.Stores.{IsAt, IsWithin, IsSpared, store_of, stores_of, StoresEach}
+use Rattle.vec_words.proofs.Names.{◌≡◌, ◌≢◌, ℕ, ◌+◌, ◌<◌, ◌≤◌, true, false, Bool, List, [], ◌∷◌, ◌++◌, length, take, get_or, Some, refl, sym, ap, ◌∙◌, subst, ⊎_elim, arith, append-nil, append_assoc, All, Contains, slice_get, cases_eq, take_more, map-append, get_or-take, length-take-le, slice_get_within, get_or_from_slice_get, slice_get-get_or, All-nil, All-cons, All-head, All-tail, All-push, All-pop, All-contains, all_pairs_push, bits_at, HasStore, Logged, Stored, Place, words_of, word_number, steps_of, count_of, commits_of, SeatSeen, IsAt, IsWithin, IsSpared, store_of, stores_of, StoresEach}
 use Rattle.vec_words.proofs.Logs.{count-push, bits-other, bits-above, bits-here, has_store-store}
 use Rattle.vec_words.proofs.Commits.{commits_of-append}
 use Rattle.vec_words.proofs.Places.{word_number-same}

@@ -1,7 +1,5 @@
 -- A token of this table has the table's number and form.
-use Rattle.std.proofs.Common.{◌≡◌, ◌*◌, ℕ, suc, sym, ap, ◌∙◌}
-use Rattle.vec_words.specs.Logged.{words_of}
-use Rattle.vec_words.specs.Tokens.{WordTable}
+use Rattle.vec_words.proofs.Names.{◌≡◌, ◌*◌, ℕ, suc, sym, ap, ◌∙◌, words_of, WordTable}
 
 pub id_of : (x y z : WordTable) → x ≡ y → z ≡ y → x.id ≡ z.id
 id_of x y z p q = ap (λ (t : WordTable). t.id) p ∙ sym (ap (λ (t : WordTable). t.id) q)

@@ -1,10 +1,5 @@
 -- A list that a function is applied to place by place.
-use Rattle.std.proofs.Common.{◌≡◌, ℕ, ◌+◌, ◌<◌, List, [], ◌∷◌, ◌++◌, map, length, drop, take, set, get_or, get_or-drop}
-use Rattle.std.proofs.Common.{drop-set-lt}
-use Rattle.std.proofs.Common.{drop-drop, length-set, sym, ap, ◌∙◌, subst, arith}
-use Rattle.std.specs.Prelude.{All}
-use Rattle.std.proofs.lemmas.List.{take_more, take_more_set, map-append}
-use Rattle.std.proofs.lemmas.List.Elements.{All-push}
+use Rattle.vec_words.proofs.Names.{◌≡◌, ℕ, ◌+◌, ◌<◌, List, [], ◌∷◌, ◌++◌, map, length, drop, take, set, get_or, get_or-drop, drop-set-lt, drop-drop, length-set, sym, ap, ◌∙◌, subst, arith, All, take_more, take_more_set, map-append, All-push}
 
 -- before the place the function was applied, from the place on it wasn't
 pub record IsWalked {A : Type 0} (f : A → A) (now first : List A) (i : ℕ) : Type 0 where

@@ -1,24 +1,8 @@
 -- The steps that change a word keep the rule.
-use Rattle.std.proofs.Common.{◌≡◌, ◌≢◌, ◌*◌, ◌^◌, ◌<◌, ◌≤◌, ℕ, suc, true, List, [], ◌∷◌, ◌++◌, length, set, refl, sym}
-use Rattle.std.proofs.Common.{ap, ◌∙◌, subst}
-use Rattle.std.proofs.Common.{⊎_elim, arith, length-set, get_or-set_other, get_or-set_same}
-use Rattle.std.specs.Prelude.{All, slice_index}
-use Rattle.std.proofs.lemmas.Bool.{cases_eq}
-use Rattle.std.proofs.lemmas.List.Elements.{All-weaker}
-use Rattle.atomic_table.specs.Table.{Me, keeps, Allows}
-use Rattle.vec_world.specs.Log.{IsOpen}
-use Rattle.vec_world.specs.World.{word_of}
-use Rattle.vec_words.specs.declared.logged.Logged.{Logged}
-use Rattle.vec_words.specs.declared.logged.Logged.TheVariants.{Stored, Committed}
-use Rattle.vec_words.specs.declared.view.View.{View}
-use Rattle.vec_words.specs.declared.view.Shape.{Shape}
-use Rattle.vec_words.specs.Logged.{words_of, count_of, flying_of, left_in, IsOrderly}
-use Rattle.vec_words.specs.View.{stored_to, committed_of, Becomes}
-use Rattle.vec_words.specs.Rule.{Settled, IsKept, Roll, Fits, AreLeft, Kept}
+use Rattle.vec_words.proofs.Names.{◌≡◌, ◌≢◌, ◌*◌, ◌^◌, ◌<◌, ◌≤◌, ℕ, suc, true, List, [], ◌∷◌, ◌++◌, length, set, refl, sym, ap, ◌∙◌, subst, ⊎_elim, arith, length-set, get_or-set_other, get_or-set_same, All, slice_index, cases_eq, All-weaker, Me, keeps, Allows, IsOpen, word_of, Logged, Stored, Committed, View, Shape, words_of, count_of, flying_of, left_in, IsOrderly, stored_to, committed_of, Becomes, Settled, IsKept, Roll, Fits, AreLeft, Kept}
 use Rattle.vec_words.proofs.Logs.{count-push, left-push, left-here, left-other}
 use Rattle.vec_words.proofs.Commits.{calls-store, calls-here, calls-other}
-use Rattle.vec_words.proofs.Sound.{CanStore, settled-count, settled-store_now, settled-commit_now, sound-store}
-use Rattle.vec_words.proofs.Sound.{sound-commit}
+use Rattle.vec_words.proofs.Sound.{CanStore, settled-count, settled-store_now, settled-commit_now, sound-store, sound-commit}
 use Rattle.vec_words.proofs.Kept.{kept-store, kept-commit, all_set}
 
 module _ {D : Type 0} where

@@ -1,3 +1,4 @@
+pub mod Names
 pub mod LogLaws
 pub mod WorldLaws
 pub mod LoadLaws

@@ -1,26 +1,7 @@
 -- The law of a load: what it tells stays told by every log that later steps make.
-use Rattle.std.proofs.Common.{◌≡◌, ℕ, ◌+◌, ◌-◌, ◌^◌, ◌<◌, ◌≤◌, max, List, [], ◌∷◌, ◌++◌, length, take, drop, get_or}
-use Rattle.std.proofs.Common.{set}
-use Rattle.std.proofs.Common.{Option, Some, None, refl, sym, ap, ◌∙◌, subst, inl, arith}
-use Rattle.std.specs.Prelude.{All, fold, slice_get}
-use Rattle.std.proofs.lemmas.Bool.{cond_both}
-use Rattle.std.proofs.lemmas.List.{length_push, drop-append-le, take-append-drop}
-use Rattle.std.proofs.lemmas.List.Sums.{fold-append, fold_more}
-use Rattle.std.proofs.lemmas.List.Elements.{All-drop, All-take}
-use Rattle.vec_world.specs.declared.step.Step.{Step}
-use Rattle.vec_world.specs.declared.step.Step.TheVariants.{Store, Commit, Load, LoadCount, Split, Join}
-use Rattle.vec_world.specs.declared.world.World.{World}
-use Rattle.vec_world.specs.Log.{IsOpen, FitsHalf}
-use Rattle.vec_world.specs.World.{bits_of, stamp_of, word_at, known_by, start, is_open, has_word, has_pass, can_store}
-use Rattle.vec_world.specs.World.{with_store, with_commit}
-use Rattle.vec_world.specs.World.{with_learned, with_note, with_note_told, act, world_of}
-use Rattle.vec_world.specs.Fresh.{Tells, TellsWord, EachLoadTells, known_at_load, logged_since}
-use Rattle.vec_world.proofs.LogLaws.{Carries-at, StampsUpTo-weaker, settled-store, settled-commit, settled-max}
-use Rattle.vec_world.proofs.LogLaws.{settled-below, Tells-push_commit, Tells-push_store}
-use Rattle.vec_world.proofs.WorldLaws.{Settled, IsSound, CanStore, can_store_from_test, open_from_test, stamp-above}
-use Rattle.vec_world.proofs.WorldLaws.{settled-known, settled-stamp}
-use Rattle.vec_world.proofs.WorldLaws.{sound-stored, sound-committed, sound-learned, sound-noted, sound-told, sound-act}
-use Rattle.vec_world.proofs.WorldLaws.{sound-world_of, fold-act}
+use Rattle.vec_world.proofs.Names.{◌≡◌, ℕ, ◌+◌, ◌-◌, ◌^◌, ◌<◌, ◌≤◌, max, List, [], ◌∷◌, ◌++◌, length, take, drop, get_or, set, Option, Some, None, refl, sym, ap, ◌∙◌, subst, inl, arith, All, fold, slice_get, cond_both, length_push, drop-append-le, take-append-drop, fold-append, fold_more, All-drop, All-take, Step, Store, Commit, Load, LoadCount, Split, Join, World, IsOpen, FitsHalf, bits_of, stamp_of, word_at, known_by, start, is_open, has_word, has_pass, can_store, with_store, with_commit, with_learned, with_note, with_note_told, act, world_of, Tells, TellsWord, EachLoadTells, known_at_load, logged_since}
+use Rattle.vec_world.proofs.LogLaws.{Carries-at, StampsUpTo-weaker, settled-store, settled-commit, settled-max, settled-below, Tells-push_commit, Tells-push_store}
+use Rattle.vec_world.proofs.WorldLaws.{Settled, IsSound, CanStore, can_store_from_test, open_from_test, stamp-above, settled-known, settled-stamp, sound-stored, sound-committed, sound-learned, sound-noted, sound-told, sound-act, sound-world_of, fold-act}
 
 -- A world that later steps made of `before`, as a load of `word` at `before` sees it, which found these bits and then
 -- knew this number.

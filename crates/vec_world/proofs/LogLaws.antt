@@ -1,18 +1,5 @@
 -- Laws of logs. They are said of any list of steps, so a log that no machine made may cite them too.
-use Rattle.std.proofs.Common.{◌≡◌, ◌≢◌, ◌⊎◌, ℕ, ◌-◌, ◌^◌, ◌<◌, ◌≤◌, max, List, [], ◌∷◌, ◌++◌, refl, sym, ap, ◌∙◌, subst}
-use Rattle.std.proofs.Common.{inl, inr, arith}
-use Rattle.std.specs.Prelude.{Contains, fold}
-use Rattle.std.proofs.lemmas.Bool.{cases_eq, cases_lt}
-use Rattle.std.proofs.lemmas.Bool.Decides.{nat_tests}
-use Rattle.std.proofs.lemmas.List.Sums.{fold_push}
-use Rattle.std.proofs.lemmas.List.Elements.{All-head, All-tail, All-nil, All-push, All-weaker, All-contains_itself}
-use Rattle.std.proofs.lemmas.List.Elements.{Contains-append_left, Contains-push}
-use Rattle.vec_world.specs.declared.step.Step.{Step}
-use Rattle.vec_world.specs.declared.step.Step.TheVariants.{Store, Commit}
-use Rattle.vec_world.specs.Log.{bits_after, bits_at, HasStore, IsCommitted, IsOpen, IsSettled, OnStoreTo, StampsUpTo}
-use Rattle.vec_world.specs.Log.{Carries}
-use Rattle.vec_world.specs.World.{bits_of, stamp_of, word_of, CarriesWord}
-use Rattle.vec_world.specs.Fresh.{Tells}
+use Rattle.vec_world.proofs.Names.{◌≡◌, ◌≢◌, ◌⊎◌, ℕ, ◌-◌, ◌^◌, ◌<◌, ◌≤◌, max, List, [], ◌∷◌, ◌++◌, refl, sym, ap, ◌∙◌, subst, inl, inr, arith, Contains, fold, cases_eq, cases_lt, nat_tests, fold_push, All-head, All-tail, All-nil, All-push, All-weaker, All-contains_itself, Contains-append_left, Contains-push, Step, Store, Commit, bits_after, bits_at, HasStore, IsCommitted, IsOpen, IsSettled, OnStoreTo, StampsUpTo, Carries, bits_of, stamp_of, word_of, CarriesWord, Tells}
 
 -- One more step of a log.
 

@@ -1,27 +1,6 @@
 -- What every step of the machine keeps.
-use Rattle.std.proofs.Common.{◌≡◌, ◌≢◌, ◌⊎◌, ℕ, ◌-◌, ◌^◌, ◌<◌, ◌≤◌, true, ◌&&◌, ◌||◌, not, eqb, ltb, max, List, [], ◌∷◌}
-use Rattle.std.proofs.Common.{◌++◌}
-use Rattle.std.proofs.Common.{length, take, get_or, set, replicate, Option, Some, None, refl, sym, ap, ◌∙◌, subst, inl}
-use Rattle.std.proofs.Common.{inr, arith}
-use Rattle.std.specs.Prelude.{All, fold, slice_get}
-use Rattle.std.proofs.lemmas.Bool.{cases_eq, cases_lt, and_parts, or_cases, ltb-true, eqb-true, eqb-false, not-true}
-use Rattle.std.proofs.lemmas.Bool.{cond_both}
-use Rattle.std.proofs.lemmas.Option.{slice_get_within, get_or_from_slice_get}
-use Rattle.std.proofs.lemmas.List.{get_or-set_same, get_or-set_other, get_or-replicate, get_or_past, length-replicate}
-use Rattle.std.proofs.lemmas.List.Elements.{All-nil, All-head, All-tail, All-get_or, All-push, All-set, All-take}
-use Rattle.std.proofs.lemmas.List.Elements.{All-weaker}
-use Rattle.std.proofs.lemmas.List.Elements.{All-replicate, Contains-push}
-use Rattle.vec_world.specs.declared.step.Step.{Step}
-use Rattle.vec_world.specs.declared.step.Step.TheVariants.{Store, Commit, Load, LoadCount, Split, Join}
-use Rattle.vec_world.specs.declared.world.World.{World}
-use Rattle.vec_world.specs.Log.{IsOpen, IsSettled, FitsHalf}
-use Rattle.vec_world.specs.World.{bits_of, stamp_of, word_of, CarriesWord, word_at, known_by, start, is_open, has_word}
-use Rattle.vec_world.specs.World.{has_pass}
-use Rattle.vec_world.specs.World.{can_store, with_store, with_commit, with_learned, with_note, with_note_told, act, world_of}
-use Rattle.vec_world.specs.Fresh.{IsGenuine, HasGenuineNumbers}
-use Rattle.vec_world.proofs.LogLaws.{Carries-nil, Carries-push_other, Carries-push_commit, CarriesWord-push_store}
-use Rattle.vec_world.proofs.LogLaws.{stamp_of-word_of}
-use Rattle.vec_world.proofs.LogLaws.{settled-store, settled-commit, settled-max}
+use Rattle.vec_world.proofs.Names.{◌≡◌, ◌≢◌, ◌⊎◌, ℕ, ◌-◌, ◌^◌, ◌<◌, ◌≤◌, true, ◌&&◌, ◌||◌, not, eqb, ltb, max, List, [], ◌∷◌, ◌++◌, length, take, get_or, set, replicate, Option, Some, None, refl, sym, ap, ◌∙◌, subst, inl, inr, arith, All, fold, slice_get, cases_eq, cases_lt, and_parts, or_cases, ltb-true, eqb-true, eqb-false, not-true, cond_both, slice_get_within, get_or_from_slice_get, get_or-set_same, get_or-set_other, get_or-replicate, get_or_past, length-replicate, All-nil, All-head, All-tail, All-get_or, All-push, All-set, All-take, All-weaker, All-replicate, Contains-push, Step, Store, Commit, Load, LoadCount, Split, Join, World, IsOpen, IsSettled, FitsHalf, bits_of, stamp_of, word_of, CarriesWord, word_at, known_by, start, is_open, has_word, has_pass, can_store, with_store, with_commit, with_learned, with_note, with_note_told, act, world_of, IsGenuine, HasGenuineNumbers}
+use Rattle.vec_world.proofs.LogLaws.{Carries-nil, Carries-push_other, Carries-push_commit, CarriesWord-push_store, stamp_of-word_of, settled-store, settled-commit, settled-max}
 
 -- What holds of each world that steps make.
 

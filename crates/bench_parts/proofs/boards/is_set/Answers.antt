@@ -1,5 +1,4 @@
-use Rattle.std.proofs.Common.{ap}
-use Rattle.plex_board.specs.Desks.{DeskShown}
+use Rattle.bench_parts.proofs.Names.{ap, DeskShown}
 use Rattle.bench_parts.proofs.SeatLaws.{pool-within, still-seated}
 use Rattle.bench_parts.proofs.boards.is_set.Goals as goal
 

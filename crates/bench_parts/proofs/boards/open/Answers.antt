@@ -1,4 +1,4 @@
-use Rattle.std.proofs.Common.{length}
+use Rattle.bench_parts.proofs.Names.{length}
 use Rattle.bench_parts.proofs.SeatLaws.{begun-board, begun-desks, policy_is}
 use Rattle.bench_parts.proofs.boards.open.Goals as goal
 

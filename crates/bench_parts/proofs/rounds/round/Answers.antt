@@ -1,6 +1,4 @@
-use Rattle.std.proofs.Common.{◌++◌, ◌∷◌, [], true, ap, ◌∙◌}
-use Rattle.lock_words.specs.View.{hold}
-use Rattle.lock_words.specs.Hands.{HandSeen}
+use Rattle.bench_parts.proofs.Names.{◌++◌, ◌∷◌, [], true, ap, ◌∙◌, hold, HandSeen}
 use Rattle.bench_parts.proofs.Granted.{one-held}
 use Rattle.bench_parts.proofs.rounds.round.Goals as goal
 

@@ -1,5 +1,4 @@
-use Rattle.std.proofs.Common.{◌≡◌}
-use Rattle.plex_board.specs.VecWords.Logged.{count_of}
+use Rattle.bench_parts.proofs.Names.{◌≡◌, count_of}
 use Rattle.bench_parts.proofs.vectors.make_calls.Given as goal
 
 abbrev pub invariant-loop-made : goal.invariant-loop-made

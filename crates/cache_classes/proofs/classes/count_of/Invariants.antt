@@ -1,6 +1,4 @@
-use Rattle.std.proofs.Common.{◌≡◌, ◌+◌}
-use Rattle.cache_classes.specs.Castout.{count_of}
-use Rattle.cache_classes.specs.ClassBatch.{entries_in}
+use Rattle.cache_classes.proofs.Names.{◌≡◌, ◌+◌, count_of, entries_in}
 use Rattle.cache_classes.proofs.classes.count_of.Given as goal
 
 abbrev pub invariant-loop-own : goal.invariant-loop-own

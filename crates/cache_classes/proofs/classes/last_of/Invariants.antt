@@ -1,6 +1,4 @@
-use Rattle.std.proofs.Common.{◌≡◌, ◌≤◌, length, drop}
-use Rattle.cache_classes.specs.Castout.{last_name}
-use Rattle.cache_classes.specs.ClassBatch.{classes_in}
+use Rattle.cache_classes.proofs.Names.{◌≡◌, ◌≤◌, length, drop, last_name, classes_in}
 use Rattle.cache_classes.proofs.classes.last_of.Given as goal
 
 abbrev pub invariant-loop-k : goal.invariant-loop-k

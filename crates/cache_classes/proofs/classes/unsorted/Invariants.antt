@@ -1,6 +1,4 @@
-use Rattle.std.proofs.Common.{◌≡◌, ◌++◌}
-use Rattle.cache_classes.specs.Castout.{names_in}
-use Rattle.cache_classes.specs.ClassBatch.{entries_in}
+use Rattle.cache_classes.proofs.Names.{◌≡◌, ◌++◌, names_in, entries_in}
 use Rattle.cache_classes.proofs.classes.unsorted.Given as goal
 
 abbrev pub invariant-loop-name : goal.invariant-loop-name

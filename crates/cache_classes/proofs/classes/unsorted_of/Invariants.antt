@@ -1,6 +1,4 @@
-use Rattle.std.proofs.Common.{◌≡◌, ◌++◌}
-use Rattle.cache_classes.specs.Castout.{names_of}
-use Rattle.cache_classes.specs.ClassBatch.{entries_in}
+use Rattle.cache_classes.proofs.Names.{◌≡◌, ◌++◌, names_of, entries_in}
 use Rattle.cache_classes.proofs.classes.unsorted_of.Given as goal
 
 abbrev pub invariant-loop-name : goal.invariant-loop-name

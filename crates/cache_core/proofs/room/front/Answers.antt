@@ -1,8 +1,4 @@
-use Rattle.std.proofs.Common.{◌≡◌, ◌≤◌, ◌∙◌, true, false, length, vec_len, sym, ap, arith}
-use Rattle.std.specs.declared.vec.Vec.{Vec}
-use Rattle.std.specs.declared.alloc.Global.{Global}
-use Rattle.cf_types.specs.declared.names.Name16.{Name16}
-use Rattle.cache_core.specs.Measure.{is_enough}
+use Rattle.cache_core.proofs.Names.{◌≡◌, ◌≤◌, ◌∙◌, true, false, length, vec_len, sym, ap, arith, Vec, Global, Name16, is_enough}
 use Rattle.cache_core.proofs.FrontLaws.{fronting_start, fronting_enough, fronting_fits, fronting_some, fronting_none, fronting_end}
 use Rattle.cache_core.proofs.room.front.Goals.{in-Some+in_ok-push-in-Some, in-None}
 use Rattle.cache_core.proofs.room.front.Goals as goal

@@ -1,8 +1,4 @@
-use Rattle.std.proofs.Common.{◌≡◌, true, false, length, filter, sym, refl}
-use Rattle.std.proofs.lemmas.Bool.{le-leb, lt-leb}
-use Rattle.cache_model.specs.Rows.{elements_in}
-use Rattle.cache_model.specs.Room.{is_reclaimable}
-use Rattle.cache_core.specs.Measure.{room_for, has_place, free_elements}
+use Rattle.cache_core.proofs.Names.{◌≡◌, true, false, length, filter, sym, refl, le-leb, lt-leb, elements_in, is_reclaimable, room_for, has_place, free_elements}
 use Rattle.cache_core.proofs.FrontLaws.{room_refusal-measured}
 use Rattle.cache_core.proofs.room.room_refusal.Goals as goal
 

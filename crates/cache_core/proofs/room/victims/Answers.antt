@@ -1,9 +1,4 @@
-use Rattle.std.proofs.Common.{◌≡◌, ap, ◌∙◌, List}
-use Rattle.cache_core.specs.declared.room.Room.{Room}
-use Rattle.cache_core.specs.declared.room.Reclaimable.{Reclaimable}
-use Rattle.cache_model.specs.Room.{victims}
-use Rattle.std.proofs.lemmas.Result.{IfOk-weaker}
-use Rattle.cache_core.specs.Measure.{room_for, front_names, reclaimable_from}
+use Rattle.cache_core.proofs.Names.{◌≡◌, ap, ◌∙◌, List, Room, Reclaimable, victims, IfOk-weaker, room_for, front_names, reclaimable_from}
 use Rattle.cache_core.proofs.FrontLaws.{victims-measured, reclaimable-order}
 use Rattle.cache_core.proofs.room.victims.Goals as goal
 

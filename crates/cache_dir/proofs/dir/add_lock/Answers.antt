@@ -1,5 +1,4 @@
-use Rattle.std.proofs.Common.{◌∙◌}
-use Rattle.indexmap.proofs.CallerLemmas.{insert_entry-new}
+use Rattle.cache_dir.proofs.Names.{◌∙◌, insert_entry-new}
 use Rattle.cache_dir.proofs.dir.add_lock.Goals as goal
 
 pub returns : goal.returns

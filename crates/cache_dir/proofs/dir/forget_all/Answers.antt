@@ -1,10 +1,4 @@
-use Rattle.std.proofs.Common.{ℕ, List, nat_eq, not, ◌==◌, ap, rules, ◌∙◌}
-use Rattle.std.specs.Map.{lookup}
-use Rattle.std.specs.Cmp.Lexicographic.{pointwise, nat_list_eq_equiv}
-use Rattle.std.proofs.lemmas.Map.Entries.{lookup-filter-values}
-use Rattle.indexmap.proofs.CallerLemmas.{filter-RetainsPairs}
-use Rattle.cf_types.specs.declared.numbers.ConnId.{ConnId}
-use Rattle.cache_dir.specs.RowMap.{row_at}
+use Rattle.cache_dir.proofs.Names.{ℕ, List, nat_eq, not, ◌==◌, ap, rules, ◌∙◌, lookup, pointwise, nat_list_eq_equiv, lookup-filter-values, filter-RetainsPairs, ConnId, row_at}
 use Rattle.cache_dir.proofs.LockLaws.{filtered}
 use Rattle.cache_dir.proofs.dir.forget_all.Goals as goal
 

@@ -1,8 +1,4 @@
-use Rattle.std.proofs.Common.{◌≡◌, ℕ, List, nat_eq, length, rules, ap, ◌∙◌}
-use Rattle.std.specs.Map.{lookup}
-use Rattle.std.specs.Cmp.Lexicographic.{pointwise}
-use Rattle.cache_dir.specs.declared.row.DirRow.{DirRow}
-use Rattle.cache_dir.specs.RowMap.{let_go}
+use Rattle.cache_dir.proofs.Names.{◌≡◌, ℕ, List, nat_eq, length, rules, ap, ◌∙◌, lookup, pointwise, DirRow, let_go}
 use Rattle.cache_dir.proofs.EntryLaws.{changed_values, changed-RetainsPairs, lookup-changed, length-changed}
 use Rattle.cache_dir.proofs.dir.release_each.Goals as goal
 

@@ -1,5 +1,4 @@
-use Rattle.std.proofs.Common.{◌≡◌, ◌≤◌, length}
-use Rattle.indexmap.specs.IndexMap.{spare}
+use Rattle.cache_dir.proofs.Names.{◌≡◌, ◌≤◌, length, spare}
 use Rattle.cache_dir.proofs.LockLaws.{IsReleased}
 use Rattle.cache_dir.proofs.dir.release_noted.Given as goal
 

@@ -1,6 +1,4 @@
-use Rattle.std.proofs.Common.{◌≡◌, ℕ, ◌≤◌, None, length, nat_eq}
-use Rattle.std.specs.Map.{lookup}
-use Rattle.cache_reclaim.specs.Slots.{IsFree}
+use Rattle.cache_reclaim.proofs.Names.{◌≡◌, ℕ, ◌≤◌, None, length, nat_eq, lookup, IsFree}
 use Rattle.cache_reclaim.proofs.slots.all_free.Given as goal
 
 abbrev pub invariant-loop-slot : goal.invariant-loop-slot

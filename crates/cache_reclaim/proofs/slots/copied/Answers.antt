@@ -1,5 +1,4 @@
-use Rattle.std.proofs.Common.{◌≡◌, ◌++◌, List, ℕ, Option, ap, sym, subst, ◌∙◌, append-nil, ◌<◌, length}
-use Rattle.cache_reclaim.specs.declared.used.Used.{Used}
+use Rattle.cache_reclaim.proofs.Names.{◌≡◌, ◌++◌, List, ℕ, Option, ap, sym, subst, ◌∙◌, append-nil, ◌<◌, length, Used}
 use Rattle.cache_reclaim.proofs.SlotLaws.{seam_moved, copy_missing, copy_place, copy_whole}
 use Rattle.cache_reclaim.proofs.slots.copied.Goals as goal
 

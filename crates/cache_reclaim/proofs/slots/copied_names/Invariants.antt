@@ -1,4 +1,4 @@
-use Rattle.std.proofs.Common.{◌≡◌, ◌++◌}
+use Rattle.cache_reclaim.proofs.Names.{◌≡◌, ◌++◌}
 use Rattle.cache_reclaim.proofs.slots.copied_names.Given as goal
 
 abbrev pub invariant-loop-name : goal.invariant-loop-name

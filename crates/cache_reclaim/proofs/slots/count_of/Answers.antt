@@ -1,11 +1,4 @@
-use Rattle.std.proofs.Common.{ℕ, [], ◌∷◌, List, Option, reverse, length, rules, ap, ◌∙◌, true, Bor}
-use Rattle.std.specs.List.{filter_map}
-use Rattle.std.specs.Iterator.Adapters.{rev_steps}
-use Rattle.std.specs.Map.Iter.{TakesLast, deref_pair}
-use Rattle.std.proofs.lemmas.Iterator.Consumers.{count_from_yields_List, YieldsList-from_filter_map, YieldsList-from_shown}
-use Rattle.std.proofs.lemmas.List.{reverse-append}
-use Rattle.cache_reclaim.specs.declared.used.Used.{Used}
-use Rattle.cache_reclaim.specs.Slots.{part_of}
+use Rattle.cache_reclaim.proofs.Names.{ℕ, [], ◌∷◌, List, Option, reverse, length, rules, ap, ◌∙◌, true, Bor, filter_map, rev_steps, TakesLast, deref_pair, count_from_yields_List, YieldsList-from_filter_map, YieldsList-from_shown, reverse-append, Used, part_of}
 use Rattle.cache_reclaim.proofs.SlotLaws.{used_part}
 use Rattle.cache_reclaim.proofs.slots.count_of.Goals as goal
 

@@ -1,5 +1,4 @@
-use Rattle.std.proofs.Common.{◌∙◌}
-use Rattle.indexmap.proofs.CallerLemmas.{insert_entry-new}
+use Rattle.cache_reclaim.proofs.Names.{◌∙◌, insert_entry-new}
 use Rattle.cache_reclaim.proofs.slots.lead_new.Goals as goal
 
 pub returns : goal.returns

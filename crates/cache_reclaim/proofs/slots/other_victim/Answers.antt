@@ -1,6 +1,4 @@
-use Rattle.std.proofs.Common.{true, false, filter, reverse, rules, arith}
-use Rattle.cache_reclaim.specs.LastUse.{is_in_part}
-use Rattle.cache_reclaim.specs.Slots.{used_in}
+use Rattle.cache_reclaim.proofs.Names.{true, false, filter, reverse, rules, arith, is_in_part, used_in}
 use Rattle.cache_reclaim.proofs.PlaceLaws.{past_front, victim_behind}
 use Rattle.cache_reclaim.proofs.slots.other_victim.Goals as goal
 

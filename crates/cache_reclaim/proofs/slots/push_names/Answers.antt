@@ -1,6 +1,4 @@
-use Rattle.std.proofs.Common.{◌≡◌, ◌++◌, reverse, ap, ◌∙◌}
-use Rattle.cache_reclaim.specs.LastUse.{names_in}
-use Rattle.cache_reclaim.specs.Slots.{used_in}
+use Rattle.cache_reclaim.proofs.Names.{◌≡◌, ◌++◌, reverse, ap, ◌∙◌, names_in, used_in}
 use Rattle.cache_reclaim.proofs.PlaceLaws.{names_moved, names_all}
 use Rattle.cache_reclaim.proofs.slots.push_names.Goals as goal
 

@@ -1,6 +1,4 @@
-use Rattle.std.proofs.Common.{◌≡◌, ◌++◌, reverse}
-use Rattle.cache_reclaim.specs.LastUse.{names_in}
-use Rattle.cache_reclaim.specs.Slots.{used_in}
+use Rattle.cache_reclaim.proofs.Names.{◌≡◌, ◌++◌, reverse, names_in, used_in}
 use Rattle.cache_reclaim.proofs.slots.push_names.Given as goal
 
 abbrev pub invariant-loop-used : goal.invariant-loop-used

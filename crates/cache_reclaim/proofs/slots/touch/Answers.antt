@@ -1,5 +1,4 @@
-use Rattle.std.proofs.Common.{subst, sym}
-use Rattle.cache_reclaim.specs.Slots.{IsTied}
+use Rattle.cache_reclaim.proofs.Names.{subst, sym, IsTied}
 use Rattle.cache_reclaim.proofs.SlotLaws.{touched_tied, touched_order}
 use Rattle.cache_reclaim.proofs.slots.touch.Goals as goal
 

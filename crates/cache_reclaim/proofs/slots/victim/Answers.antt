@@ -1,7 +1,4 @@
-use Rattle.std.proofs.Common.{true, false, Option, option_map, filter, reverse, sym, ap}
-use Rattle.cache_reclaim.specs.declared.used.Used.{Used}
-use Rattle.cache_reclaim.specs.LastUse.{is_in_part}
-use Rattle.cache_reclaim.specs.Slots.{used_in}
+use Rattle.cache_reclaim.proofs.Names.{true, false, Option, option_map, filter, reverse, sym, ap, Used, is_in_part, used_in}
 use Rattle.cache_reclaim.proofs.PlaceLaws.{get_front}
 use Rattle.cache_reclaim.proofs.slots.victim.Goals as goal
 

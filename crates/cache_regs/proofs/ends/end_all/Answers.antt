@@ -1,6 +1,4 @@
-use Rattle.std.proofs.Common.{◌∙◌, arith}
-use Rattle.cf_types.proofs.GainsLaws.{gains_falls}
-use Rattle.cache_regs.specs.Registrations.{is_at, stands}
+use Rattle.cache_regs.proofs.Names.{◌∙◌, arith, gains_falls, is_at, stands}
 use Rattle.cache_regs.proofs.EndLaws.{ended_falls, ended_fewer}
 use Rattle.cache_regs.proofs.ends.end_all.Goals as goal
 

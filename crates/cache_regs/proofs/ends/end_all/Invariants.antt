@@ -1,7 +1,4 @@
-use Rattle.std.proofs.Common.{◌≡◌, ◌≤◌, length}
-use Rattle.cf_types.specs.Gains.{Gains}
-use Rattle.cf_types.proofs.GainsLaws.{Falls}
-use Rattle.cache_regs.specs.Registrations.{stands}
+use Rattle.cache_regs.proofs.Names.{◌≡◌, ◌≤◌, length, Gains, Falls, stands}
 use Rattle.cache_regs.proofs.ends.end_all.Given as goal
 
 abbrev pub invariant-loop-conn : goal.invariant-loop-conn

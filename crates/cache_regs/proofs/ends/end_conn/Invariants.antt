@@ -1,5 +1,4 @@
-use Rattle.std.proofs.Common.{◌≡◌, ◌≤◌}
-use Rattle.cache_regs.specs.Ends.{is_below, HasEnded}
+use Rattle.cache_regs.proofs.Names.{◌≡◌, ◌≤◌, is_below, HasEnded}
 use Rattle.cache_regs.proofs.ends.end_conn.Given as goal
 
 abbrev pub invariant-loop-index : goal.invariant-loop-index

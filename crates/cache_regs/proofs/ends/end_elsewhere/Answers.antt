@@ -1,8 +1,4 @@
-use Rattle.std.proofs.Common.{◌≡◌, ◌==◌, true, false, refl, sym, arith}
-use Rattle.std.proofs.lemmas.Bool.Decides.{nat_tests}
-use Rattle.cache_regs.specs.declared.registrations.Registration.{Registration}
-use Rattle.cache_regs.specs.Registrations.{is_at}
-use Rattle.cache_regs.specs.Ends.{is_elsewhere}
+use Rattle.cache_regs.proofs.Names.{◌≡◌, ◌==◌, true, false, refl, sym, arith, nat_tests, Registration, is_at, is_elsewhere}
 use Rattle.cache_regs.proofs.EndLaws.{fits_same, ended_same, ended_never, ended_none, elsewhere_at, elsewhere_here, elsewhere_none}
 use Rattle.cache_regs.proofs.ends.end_elsewhere.Goals as goal
 

@@ -1,5 +1,4 @@
-use Rattle.std.proofs.Common.{sym}
-use Rattle.cache_regs.specs.Ends.{ends_of}
+use Rattle.cache_regs.proofs.Names.{sym, ends_of}
 use Rattle.cache_regs.proofs.EndLaws.{ended_never, of_spare}
 use Rattle.cache_regs.proofs.ends.end_unspared.Goals as goal
 

@@ -1,7 +1,4 @@
-use Rattle.std.proofs.Common.{◌≡◌, true, nat_lt, length, sym, ap, ◌∙◌, subst, arith}
-use Rattle.std.specs.List.{list_all}
-use Rattle.cf_types.specs.declared.limits.TheConstants.{CALLERS}
-use Rattle.cache_regs.specs.declared.registrations.Registration.{Registration}
+use Rattle.cache_regs.proofs.Names.{◌≡◌, true, nat_lt, length, sym, ap, ◌∙◌, subst, arith, list_all, CALLERS, Registration}
 use Rattle.cache_regs.proofs.ListedLaws.{count_first, count_more, count_all}
 use Rattle.cache_regs.proofs.regs.count_name.Goals as goal
 

@@ -1,8 +1,4 @@
-use Rattle.std.proofs.Common.{◌≡◌, true, nat_lt, ◌++◌, sym, ap, ◌∙◌, subst, arith}
-use Rattle.std.specs.List.{list_all}
-use Rattle.cache_regs.specs.declared.registrations.Registration.{Registration}
-use Rattle.cache_regs.specs.Registrations.{registered_at}
-use Rattle.cache_regs.specs.Places.{named_at}
+use Rattle.cache_regs.proofs.Names.{◌≡◌, true, nat_lt, ◌++◌, sym, ap, ◌∙◌, subst, arith, list_all, Registration, registered_at, named_at}
 use Rattle.cache_regs.proofs.ListedLaws.{listed_first, listed_more, listed_all}
 use Rattle.cache_regs.proofs.regs.indexes.Goals as goal
 

@@ -1,6 +1,4 @@
-use Rattle.std.proofs.Common.{◌≡◌, map, filter}
-use Rattle.cache_regs.specs.declared.registrations.Registration.{Registration}
-use Rattle.cache_regs.specs.Ends.{is_below}
+use Rattle.cache_regs.proofs.Names.{◌≡◌, map, filter, Registration, is_below}
 use Rattle.cache_regs.proofs.regs.indexes.Given as goal
 
 abbrev pub invariant-loop-index : goal.invariant-loop-index

@@ -1,8 +1,4 @@
-use Rattle.std.proofs.Common.{not, length, ap, ◌∙◌, arith}
-use Rattle.cf_lists.proofs.FilterLaws.{none_filtered, length-filter-le}
-use Rattle.cf_lists.proofs.InsertionLaws.{length-insertion}
-use Rattle.cache_regs.specs.declared.registrations.Registration.{Registration}
-use Rattle.cache_regs.specs.Registrations.{is_at, stands_before}
+use Rattle.cache_regs.proofs.Names.{not, length, ap, ◌∙◌, arith, none_filtered, length-filter-le, length-insertion, Registration, is_at, stands_before}
 use Rattle.cache_regs.proofs.EndLaws.{unnamed}
 use Rattle.cache_regs.proofs.regs.replace.Goals as goal
 

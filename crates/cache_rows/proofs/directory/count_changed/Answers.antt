@@ -1,5 +1,4 @@
-use Rattle.std.proofs.Common.{arith}
-use Rattle.cache_model.specs.CacheDir.RowMap.{row_at}
+use Rattle.cache_rows.proofs.Names.{arith, row_at}
 use Rattle.cache_rows.proofs.IndexedLaws.{counted_more, count_fits}
 use Rattle.cache_rows.proofs.directory.count_changed.Goals as goal
 

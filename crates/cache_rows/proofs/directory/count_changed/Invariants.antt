@@ -1,8 +1,4 @@
-use Rattle.std.proofs.Common.{◌≡◌, ◌+◌, length, filter, drop}
-use Rattle.cache_classes.specs.declared.changed.Changed.{Changed}
-use Rattle.cache_model.specs.CacheDir.RowMap.{row_at}
-use Rattle.cache_model.specs.Rows.{has_storage}
-use Rattle.cache_rows.specs.Listed.{row_or}
+use Rattle.cache_rows.proofs.Names.{◌≡◌, ◌+◌, length, filter, drop, Changed, row_at, has_storage, row_or}
 use Rattle.cache_rows.proofs.directory.count_changed.Given as goal
 
 abbrev pub invariant-loop-k : goal.invariant-loop-k

@@ -1,8 +1,4 @@
-use Rattle.std.proofs.Common.{◌∙◌, List, ap, arith}
-use Rattle.cache_model.specs.declared.items.CacheItem.{CacheItem}
-use Rattle.cache_model.specs.Rows.{elements_of, elements_in, rows_without}
-use Rattle.cache_model.proofs.RowLaws.{without-absent}
-use Rattle.cache_rows.specs.declared.label.Label.{Label}
+use Rattle.cache_rows.proofs.Names.{◌∙◌, List, ap, arith, CacheItem, elements_of, elements_in, rows_without, without-absent, Label}
 use Rattle.cache_rows.proofs.ChangeLaws.{put_alone, put_bare}
 use Rattle.cache_rows.proofs.rows.put_in.Goals as goal
 

@@ -1,8 +1,4 @@
-use Rattle.std.proofs.Common.{ℕ, ◌∙◌, ap, arith}
-use Rattle.std.proofs.lemmas.Bool.{le-leb}
-use Rattle.cache_model.specs.Rows.{elements_of, rows_without}
-use Rattle.cache_rows.specs.Listed.{relabeled}
-use Rattle.cache_rows.specs.Tallies.{tally_of}
+use Rattle.cache_rows.proofs.Names.{ℕ, ◌∙◌, ap, arith, le-leb, elements_of, rows_without, relabeled, tally_of}
 use Rattle.cache_rows.proofs.TallyLaws.{can_grow, tally_come}
 use Rattle.cache_rows.proofs.rows.set_row.Goals as goal
 

@@ -1,8 +1,4 @@
-use Rattle.std.proofs.Common.{ℕ, Some, ◌∙◌, ap, arith}
-use Rattle.std.proofs.lemmas.Bool.{le-leb}
-use Rattle.cache_model.specs.Rows.{elements_of, rows_without}
-use Rattle.cache_rows.specs.Stored.{item_with}
-use Rattle.cache_rows.specs.Tallies.{tally_of}
+use Rattle.cache_rows.proofs.Names.{ℕ, Some, ◌∙◌, ap, arith, le-leb, elements_of, rows_without, item_with, tally_of}
 use Rattle.cache_rows.proofs.TallyLaws.{can_grow, tally_come}
 use Rattle.cache_rows.proofs.rows.write_row.Goals as goal
 

@@ -1,5 +1,4 @@
-use Rattle.std.proofs.Common.{ap}
-use Rattle.cache_model.specs.CfPool.Pools.{Chains}
+use Rattle.cache_rows.proofs.Names.{ap, Chains}
 use Rattle.cache_rows.proofs.StoreLaws.{written_stored, written_items}
 use Rattle.cache_rows.proofs.store.write_in.Goals as goal
 

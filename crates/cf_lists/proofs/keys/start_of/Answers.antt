@@ -1,7 +1,4 @@
-use Rattle.std.proofs.Common.{rules, Bool}
-use Rattle.std.proofs.lemmas.List.Sorted.{IsPartitionPoint-from_clause}
-use Rattle.cf_types.specs.declared.resources.Resource.{Resource}
-use Rattle.cf_types.specs.Resources.{resource_before, resource_up_to}
+use Rattle.cf_lists.proofs.Names.{rules, Bool, IsPartitionPoint-from_clause, Resource, resource_before, resource_up_to}
 use Rattle.cf_lists.proofs.PlaceLaws.{partitioned, partition_is}
 use Rattle.cf_lists.proofs.EntryKeyLaws.{before_front}
 use Rattle.cf_lists.proofs.keys.start_of.Goals as goal

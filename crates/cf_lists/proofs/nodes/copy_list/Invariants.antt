@@ -1,4 +1,4 @@
-use Rattle.std.proofs.Common.{◌≡◌, ◌++◌}
+use Rattle.cf_lists.proofs.Names.{◌≡◌, ◌++◌}
 use Rattle.cf_lists.proofs.nodes.copy_list.Given as goal
 
 abbrev pub invariant-loop-value : goal.invariant-loop-value

@@ -1,5 +1,4 @@
-use Rattle.std.proofs.Common.{◌≡◌, ◌+◌}
-use Rattle.std.specs.LinkedList.{linked_list_len}
+use Rattle.cf_lists.proofs.Names.{◌≡◌, ◌+◌, linked_list_len}
 use Rattle.cf_lists.proofs.nodes.fill.Given as goal
 
 abbrev pub invariant-loop : goal.invariant-loop

@@ -1,5 +1,4 @@
-use Rattle.std.proofs.Common.{subst, sym, ◌∙◌}
-use Rattle.cf_pool.specs.Chains.{IsWithin}
+use Rattle.cf_pool.proofs.Names.{subst, sym, ◌∙◌, IsWithin}
 use Rattle.cf_pool.proofs.PoolLaws.{at_lens, at_some, at_need, at_within, unlink_last, unlink_shared, unlink_chains}
 use Rattle.cf_pool.proofs.chains.unlink.Goals as goal
 

@@ -1,5 +1,4 @@
-use Rattle.std.proofs.Common.{◌≡◌, ◌++◌, List, ℕ, OnOk, min, take, length, subst, ap, ◌∙◌, arith}
-use Rattle.std.proofs.lemmas.List.{take_min}
+use Rattle.cf_pool.proofs.Names.{◌≡◌, ◌++◌, List, ℕ, OnOk, min, take, length, subst, ap, ◌∙◌, arith, take_min}
 use Rattle.cf_pool.proofs.WalkLaws.{appended}
 use Rattle.cf_pool.proofs.elements.append.Goals as goal
 

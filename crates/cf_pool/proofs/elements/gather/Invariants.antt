@@ -1,5 +1,4 @@
-use Rattle.std.proofs.Common.{◌≡◌, ◌-◌, ◌≤◌, ◌++◌, take, length}
-use Rattle.cf_pool.specs.Chains.{IsWithin, walked}
+use Rattle.cf_pool.proofs.Names.{◌≡◌, ◌-◌, ◌≤◌, ◌++◌, take, length, IsWithin, walked}
 use Rattle.cf_pool.proofs.elements.gather.Given as goal
 
 abbrev pub invariant-loop-left : goal.invariant-loop-left

@@ -1,5 +1,4 @@
-use Rattle.std.proofs.Common.{◌≡◌, ◌-◌}
-use Rattle.cf_pool.specs.Chains.{behind, IsWithin}
+use Rattle.cf_pool.proofs.Names.{◌≡◌, ◌-◌, behind, IsWithin}
 use Rattle.cf_pool.proofs.elements.last_of.Given as goal
 
 abbrev pub invariant-loop-left : goal.invariant-loop-left

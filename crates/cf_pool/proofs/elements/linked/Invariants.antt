@@ -1,4 +1,4 @@
-use Rattle.std.proofs.Common.{◌≡◌, ℕ, ◌+◌, ◌<◌, length, get_or}
+use Rattle.cf_pool.proofs.Names.{◌≡◌, ℕ, ◌+◌, ◌<◌, length, get_or}
 use Rattle.cf_pool.proofs.elements.linked.Given as goal
 
 abbrev pub invariant-loop-at : goal.invariant-loop-at

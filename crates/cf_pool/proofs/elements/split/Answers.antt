@@ -1,6 +1,5 @@
-use Rattle.std.proofs.Common.{◌∙◌, arith}
+use Rattle.cf_pool.proofs.Names.{◌∙◌, arith, SIZE}
 use Rattle.cf_pool.proofs.WalkLaws.{front_all, rest_none}
-use Rattle.cf_pool.specs.declared.elements.TheConstants.{SIZE}
 use Rattle.cf_pool.proofs.elements.split.Goals as goal
 
 pub returns-then-bytes-lt-SIZE-clause-part : goal.returns-then-bytes-lt-SIZE-clause-part

@@ -1,6 +1,4 @@
-use Rattle.std.proofs.Common.{◌≡◌, ◌-◌, length, ◌++◌, drop, replicate, ap}
-use Rattle.std.proofs.lemmas.List.{drop-replicate}
-use Rattle.cf_types.specs.declared.limits.TheConstants.{ADJUNCT_BYTES}
+use Rattle.cf_types.proofs.Names.{◌≡◌, ◌-◌, length, ◌++◌, drop, replicate, ap, drop-replicate, ADJUNCT_BYTES}
 use Rattle.cf_types.proofs.adjuncts.filled_bytes.Goals as goal
 
 pub returns : goal.returns

@@ -1,6 +1,4 @@
-use Rattle.std.proofs.Common.{arith, refl}
-use Rattle.std.proofs.Math.Seq.{drop-append_seam}
-use Rattle.std.proofs.lemmas.List.{length-append, length-replicate}
+use Rattle.cf_types.proofs.Names.{arith, refl, drop-append_seam, length-append, length-replicate}
 use Rattle.cf_types.proofs.adjuncts.parse_adjunct.Goals as goal
 
 pub invariant_of-result : goal.invariant_of-result

@@ -1,6 +1,4 @@
-use Rattle.std.proofs.Common.{arith, refl, rules}
-use Rattle.std.proofs.lemmas.Grind.{common_steps}
-use Rattle.cf_types.specs.Term.{term_byte}
+use Rattle.cf_types.proofs.Names.{arith, refl, rules, common_steps, term_byte}
 use Rattle.cf_types.proofs.TermFaults.{passes_at_none, fails_at_some}
 use Rattle.cf_types.proofs.names.checked.Goals as goal
 

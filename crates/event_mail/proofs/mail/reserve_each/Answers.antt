@@ -1,5 +1,4 @@
-use Rattle.std.proofs.Common.{◌≡◌, ◌<◌, get_or, ◌∙◌, arith, length}
-use Rattle.std.proofs.lemmas.List.{get_or_default}
+use Rattle.event_mail.proofs.Names.{◌≡◌, ◌<◌, get_or, ◌∙◌, arith, length, get_or_default}
 use Rattle.event_mail.proofs.PostLaws.{mailboxes_of-same, room_at-set}
 use Rattle.event_mail.proofs.mail.reserve_each.Goals as goal
 

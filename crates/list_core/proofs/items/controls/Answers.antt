@@ -1,7 +1,4 @@
-use Rattle.std.proofs.Common.{◌≡◌, List, map, ap, ◌∙◌}
-use Rattle.list_model.specs.ListWatch.declared.monitors.Monitor.{Monitor}
-use Rattle.list_model.specs.declared.items.ListItem.TheVariants.{Controls}
-use Rattle.list_model.specs.Items.{triple_of}
+use Rattle.list_core.proofs.Names.{◌≡◌, List, map, ap, ◌∙◌, Monitor, Controls, triple_of}
 use Rattle.list_core.proofs.RowLaws.{map-triples}
 use Rattle.list_core.proofs.items.controls.Goals as goal
 

@@ -1,9 +1,4 @@
-use Rattle.std.proofs.Common.{◌≡◌, ℕ, ◌+◌, ◌-◌, ◌<◌, Some, length, drop, slice_get, option_map, sym, ap, ◌∙◌, arith}
-use Rattle.std.proofs.lemmas.Result.{IfOk-weaker}
-use Rattle.list_model.specs.ListStore.Lists.{Lists, records_of}
-use Rattle.list_model.specs.Items.{row_of, rows_from}
-use Rattle.list_model.proofs.ItemLaws.{row-here, row-later}
-use Rattle.list_kept.proofs.ReadLaws.{drop_lists, count_more}
+use Rattle.list_core.proofs.Names.{◌≡◌, ℕ, ◌+◌, ◌-◌, ◌<◌, Some, length, drop, slice_get, option_map, sym, ap, ◌∙◌, arith, IfOk-weaker, Lists, records_of, row_of, rows_from, row-here, row-later, drop_lists, count_more}
 use Rattle.list_core.proofs.items.copy_row.Goals as goal
 
 pub returns-then-left-len : goal.returns-then-left-len

@@ -1,6 +1,4 @@
-use Rattle.std.proofs.Common.{◌≡◌, ◌<◌, drop, slice_get}
-use Rattle.list_model.specs.ListStore.Lists.{count_of}
-use Rattle.list_model.specs.Items.{rows_from}
+use Rattle.list_core.proofs.Names.{◌≡◌, ◌<◌, drop, slice_get, count_of, rows_from}
 use Rattle.list_core.proofs.items.copy_row.Given as goal
 
 abbrev pub invariant-loop-header : goal.invariant-loop-header

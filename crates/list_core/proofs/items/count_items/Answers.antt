@@ -1,7 +1,4 @@
-use Rattle.std.proofs.Common.{◌≡◌, true, false, sym, ◌∙◌, arith}
-use Rattle.list_model.specs.ListStore.Lists.{count_of}
-use Rattle.list_model.specs.Items.{has_controls}
-use Rattle.list_model.proofs.ItemLaws.{length-items}
+use Rattle.list_core.proofs.Names.{◌≡◌, true, false, sym, ◌∙◌, arith, count_of, has_controls, length-items}
 use Rattle.list_core.proofs.RowLaws.{one_more, no_more}
 use Rattle.list_core.proofs.items.count_items.Goals as goal
 

@@ -1,14 +1,4 @@
-use Rattle.std.proofs.Common.{◌≡◌, ℕ, List, Option, map, sym, ap, ◌∙◌, subst}
-use Rattle.std.specs.List.{list_all}
-use Rattle.cf_types.specs.declared.numbers.ConnId.{ConnId}
-use Rattle.list_model.specs.ListWatch.declared.monitors.Monitor.{Monitor}
-use Rattle.list_model.specs.ListWatch.declared.monitors.Watched.{Watched}
-use Rattle.list_model.specs.ListWatch.Monitors.{AreMonitors}
-use Rattle.list_model.specs.ListWatch.Rows.{monitors_of}
-use Rattle.list_model.specs.Contents.{Content}
-use Rattle.list_model.specs.Items.{Triple, monitor_of}
-use Rattle.list_kept.specs.Told.{is_told}
-use Rattle.list_core.specs.Rows.{told_row}
+use Rattle.list_core.proofs.Names.{◌≡◌, ℕ, List, Option, map, sym, ap, ◌∙◌, subst, list_all, ConnId, Monitor, Watched, AreMonitors, monitors_of, Content, Triple, monitor_of, is_told, told_row}
 use Rattle.list_core.proofs.RowLaws.{monitors-told_rows, told-told_rows}
 use Rattle.list_core.proofs.items.place_item.Goals as goal
 

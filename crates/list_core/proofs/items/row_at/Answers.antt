@@ -1,12 +1,4 @@
-use Rattle.std.proofs.Common.{◌≡◌, Some, Bor, option_map, slice_get, sym, ap, ◌∙◌}
-use Rattle.std.proofs.lemmas.Result.{IfOk-weaker}
-use Rattle.list_model.specs.ListStore.declared.records.Rec.{Rec}
-use Rattle.list_model.specs.ListStore.Lists.{records_of}
-use Rattle.list_model.specs.ListStore.Records.{record_in}
-use Rattle.list_kept.proofs.ListStore.TiedLaws.{none_within}
-use Rattle.list_kept.proofs.ListStore.StoreLaws.{none_shown}
-use Rattle.list_model.specs.declared.items.ListItem.{ListItem}
-use Rattle.list_model.specs.Items.{row_of}
+use Rattle.list_core.proofs.Names.{◌≡◌, Some, Bor, option_map, slice_get, sym, ap, ◌∙◌, IfOk-weaker, Rec, records_of, record_in, none_within, none_shown, ListItem, row_of}
 use Rattle.list_core.proofs.items.row_at.Goals as goal
 
 pub returns : goal.returns

@@ -1,5 +1,4 @@
-use Rattle.std.proofs.Common.{◌≡◌, ◌++◌, drop, map}
-use Rattle.list_core.specs.Rows.{told_row}
+use Rattle.list_core.proofs.Names.{◌≡◌, ◌++◌, drop, map, told_row}
 use Rattle.list_core.proofs.items.rows_of.Given as goal
 
 abbrev pub invariant-loop-watch : goal.invariant-loop-watch

@@ -1,6 +1,4 @@
-use Rattle.std.proofs.Common.{◌≡◌, ◌++◌, drop, map}
-use Rattle.list_model.specs.ListWatch.declared.monitors.Watched.{Watched}
-use Rattle.list_model.specs.Items.{triple_of}
+use Rattle.list_core.proofs.Names.{◌≡◌, ◌++◌, drop, map, Watched, triple_of}
 use Rattle.list_core.proofs.items.watches_of.Given as goal
 
 abbrev pub invariant-loop-row : goal.invariant-loop-row

@@ -1,10 +1,4 @@
-use Rattle.std.proofs.Common.{ap, ◌∙◌}
-use Rattle.cf_types.proofs.GainsLaws.{gains_none}
-use Rattle.list_model.specs.ListStore.Lists.{lists_replaced}
-use Rattle.list_model.specs.Lists.{the_record}
-use Rattle.list_model.specs.Contents.{Content, stands, has_records}
-use Rattle.list_model.specs.Commands.Update.{with_new_data}
-use Rattle.list_model.proofs.StoreLaws.{full-replaced}
+use Rattle.list_core.proofs.Names.{ap, ◌∙◌, gains_none, lists_replaced, the_record, Content, stands, has_records, with_new_data, full-replaced}
 use Rattle.list_core.proofs.StandLaws.{stands-agree}
 use Rattle.list_core.proofs.plans.act.Goals as goal
 

@@ -1,12 +1,4 @@
-use Rattle.std.proofs.Common.{◌≡◌, ◌++◌, ◌∷◌, [], ℕ, Option, Some, List, Bor, length, slice_get, set, option_map, sym, ap, ◌∙◌, arith}
-use Rattle.std.specs.List.{list_any}
-use Rattle.cf_lists.proofs.FrontLaws.{front_next, front_whole, front_long, front_alone}
-use Rattle.list_store.specs.declared.records.Rec.{Rec}
-use Rattle.list_store.specs.Record.{Record}
-use Rattle.list_store.specs.Records.{record_in}
-use Rattle.list_store.specs.Lists.{record_id, is_id, records_of, all_records}
-use Rattle.list_store.proofs.TiedLaws.{none_within}
-use Rattle.list_store.proofs.StoreLaws.{none_shown}
+use Rattle.list_kept.proofs.Names.{◌≡◌, ◌++◌, ◌∷◌, [], ℕ, Option, Some, List, Bor, length, slice_get, set, option_map, sym, ap, ◌∙◌, arith, list_any, front_next, front_whole, front_long, front_alone, Rec, Record, record_in, record_id, is_id, records_of, all_records, none_within, none_shown}
 use Rattle.list_kept.proofs.copies.copy_header.Goals as goal
 
 -- the record that was found stands at its place

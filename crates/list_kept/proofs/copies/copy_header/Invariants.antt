@@ -1,5 +1,4 @@
-use Rattle.std.proofs.Common.{◌≡◌, length}
-use Rattle.cf_lists.specs.Fronts.{front}
+use Rattle.list_kept.proofs.Names.{◌≡◌, length, front}
 use Rattle.list_kept.proofs.copies.copy_header.Given as goal
 
 abbrev pub invariant-loop-place : goal.invariant-loop-place

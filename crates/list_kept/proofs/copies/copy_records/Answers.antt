@@ -1,9 +1,4 @@
-use Rattle.std.proofs.Common.{◌≡◌, ℕ, [], List, Option, None, length, replicate, sym, ap, ◌∙◌, subst, arith}
-use Rattle.std.proofs.lemmas.List.{length-replicate}
-use Rattle.cf_lists.specs.Fronts.{front}
-use Rattle.cf_lists.proofs.FrontLaws.{front_none, front_all}
-use Rattle.list_store.specs.Record.{Record}
-use Rattle.list_kept.specs.Data.{AreUsed}
+use Rattle.list_kept.proofs.Names.{◌≡◌, ℕ, [], List, Option, None, length, replicate, sym, ap, ◌∙◌, subst, arith, length-replicate, front, front_none, front_all, Record, AreUsed}
 use Rattle.list_kept.proofs.DataLaws.{no_chains}
 use Rattle.list_kept.proofs.copies.copy_records.Goals as goal
 

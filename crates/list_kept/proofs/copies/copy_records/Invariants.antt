@@ -1,6 +1,4 @@
-use Rattle.std.proofs.Common.{◌≡◌, length}
-use Rattle.cf_lists.specs.Fronts.{front}
-use Rattle.list_kept.specs.Data.{AreUsed}
+use Rattle.list_kept.proofs.Names.{◌≡◌, length, front, AreUsed}
 use Rattle.list_kept.proofs.copies.copy_records.Given as goal
 
 abbrev pub invariant-loop-header : goal.invariant-loop-header

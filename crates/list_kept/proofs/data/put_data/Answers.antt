@@ -1,4 +1,4 @@
-use Rattle.std.proofs.Common.{refl}
+use Rattle.list_kept.proofs.Names.{refl}
 use Rattle.list_kept.proofs.DataLaws.{wanting}
 use Rattle.list_kept.proofs.data.put_data.Goals as goal
 

@@ -1,7 +1,4 @@
-use Rattle.std.proofs.Common.{◌∙◌, None, ap, set}
-use Rattle.cf_lists.proofs.TableLaws.{set_same}
-use Rattle.list_store.specs.StoreView.{StoreView}
-use Rattle.list_store.proofs.HeldLaws.{set_twice}
+use Rattle.list_kept.proofs.Names.{◌∙◌, None, ap, set, set_same, StoreView, set_twice}
 use Rattle.list_kept.proofs.data.try_data.Goals as goal
 
 pub returns-in-Ok-clause-was : goal.returns-in-Ok-clause-was

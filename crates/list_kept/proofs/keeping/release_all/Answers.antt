@@ -1,6 +1,4 @@
-use Rattle.std.proofs.Common.{arith}
-use Rattle.cf_lists.proofs.MapLaws.{mapped_more}
-use Rattle.list_model.specs.Contents.{holder_without}
+use Rattle.list_kept.proofs.Names.{arith, mapped_more, holder_without}
 use Rattle.list_kept.proofs.keeping.release_all.Goals as goal
 
 pub loop-holder-preserved : goal.loop-holder-preserved

@@ -1,5 +1,4 @@
-use Rattle.std.proofs.Common.{◌≡◌, map, take, drop}
-use Rattle.list_model.specs.Contents.{holder_without}
+use Rattle.list_kept.proofs.Names.{◌≡◌, map, take, drop, holder_without}
 use Rattle.list_kept.proofs.keeping.release_all.Given as goal
 
 abbrev pub invariant-loop-holder : goal.invariant-loop-holder

@@ -1,7 +1,4 @@
-use Rattle.std.proofs.Common.{arith}
-use Rattle.std.proofs.lemmas.List.Sums.{prefix_len-le-length}
-use Rattle.list_store.specs.Lists.{records_of}
-use Rattle.list_kept.specs.ContentView.{comes_behind}
+use Rattle.list_kept.proofs.Names.{arith, prefix_len-le-length, records_of, comes_behind}
 use Rattle.list_kept.proofs.placing.place_of.Goals as goal
 
 pub loop-low-init : goal.loop-low-init

@@ -1,7 +1,4 @@
-use Rattle.std.proofs.Common.{◌≤◌, ◌-◌, length}
-use Rattle.std.specs.List.{prefix_len}
-use Rattle.list_store.specs.Lists.{records_of}
-use Rattle.list_kept.specs.ContentView.{comes_behind}
+use Rattle.list_kept.proofs.Names.{◌≤◌, ◌-◌, length, prefix_len, records_of, comes_behind}
 use Rattle.list_kept.proofs.placing.place_of.Given as goal
 
 abbrev pub invariant-loop-low : goal.invariant-loop-low

@@ -1,12 +1,4 @@
-use Rattle.std.proofs.Common.{ap, ◌∙◌}
-use Rattle.std.specs.List.{list_any, list_all}
-use Rattle.cf_lists.specs.Pairwise.{pairwise}
-use Rattle.cf_lists.proofs.FilterLaws.{found_passes}
-use Rattle.cf_lists.proofs.IdLaws.{gone}
-use Rattle.list_store.specs.Lists.{record_id, Lists, all_records, is_id}
-use Rattle.list_store.specs.Records.{record_in}
-use Rattle.list_model.specs.Records.{may_precede}
-use Rattle.list_model.proofs.ContentLaws.{ordered_without}
+use Rattle.list_kept.proofs.Names.{ap, ◌∙◌, list_any, list_all, pairwise, found_passes, gone, record_id, Lists, all_records, is_id, record_in, may_precede, ordered_without}
 use Rattle.list_kept.proofs.placing.put_again.Goals as goal
 
 pub put_record-requires-clause-alone : goal.put_record-requires-clause-alone

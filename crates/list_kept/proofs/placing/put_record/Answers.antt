@@ -1,10 +1,4 @@
-use Rattle.std.proofs.Common.{ℕ, refl, ap, ◌∙◌}
-use Rattle.list_store.specs.Lists.{lists_with}
-use Rattle.list_store.specs.Records.{record_in}
-use Rattle.cf_lists.specs.Pairwise.{pairwise}
-use Rattle.list_model.specs.Records.{may_precede}
-use Rattle.list_model.proofs.ListLaws.{one-records}
-use Rattle.list_model.proofs.StoreLaws.{placed-with}
+use Rattle.list_kept.proofs.Names.{ℕ, refl, ap, ◌∙◌, lists_with, record_in, pairwise, may_precede, one-records, placed-with}
 use Rattle.list_kept.proofs.placing.put_record.Goals as goal
 
 pub place_of-place-requires-clause-ordered : goal.place_of-place-requires-clause-ordered

@@ -1,14 +1,4 @@
-use Rattle.std.proofs.Common.{◌≤◌, ◌+◌, ◌∙◌, ℕ, List, Option, None, ap, sym, refl, subst, length}
-use Rattle.std.specs.List.{list_any}
-use Rattle.std.specs.Option.{option_or}
-use Rattle.cf_lists.proofs.IdLaws.{any-replaced, replaced_twice}
-use Rattle.list_store.specs.declared.records.Rec.{Rec}
-use Rattle.list_store.specs.Record.{Record}
-use Rattle.list_store.specs.Lists.{Lists, record_id, all_records, is_id, lists_replaced}
-use Rattle.list_store.specs.Records.{record_in, body_in, chains_less}
-use Rattle.list_model.specs.Records.{elements_in, elements_of}
-use Rattle.list_kept.specs.declared.bare.Bare.{Bare}
-use Rattle.list_kept.specs.Data.{AreUsed, blank, with_data}
+use Rattle.list_kept.proofs.Names.{◌≤◌, ◌+◌, ◌∙◌, ℕ, List, Option, None, ap, sym, refl, subst, length, list_any, option_or, any-replaced, replaced_twice, Rec, Record, Lists, record_id, all_records, is_id, lists_replaced, record_in, body_in, chains_less, elements_in, elements_of, Bare, AreUsed, blank, with_data}
 use Rattle.list_kept.proofs.DataLaws.{elements_renewed, renewed_found}
 use Rattle.list_kept.proofs.placing.renew.Goals as goal
 

@@ -1,11 +1,4 @@
-use Rattle.std.proofs.Common.{◌∙◌, ap, sym, option_map, Bor}
-use Rattle.list_store.specs.declared.records.Rec.{Rec}
-use Rattle.list_store.specs.Lists.{records_of}
-use Rattle.list_store.specs.Records.{record_in}
-use Rattle.list_store.proofs.TiedLaws.{none_within}
-use Rattle.list_store.proofs.StoreLaws.{none_shown}
-use Rattle.cf_lists.proofs.RecordPrefixLaws.{passes_first}
-use Rattle.list_kept.specs.ContentView.{comes_behind}
+use Rattle.list_kept.proofs.Names.{◌∙◌, ap, sym, option_map, Bor, Rec, records_of, record_in, none_within, none_shown, passes_first, comes_behind}
 use Rattle.list_kept.proofs.PlaceLaws.{ordered_first}
 use Rattle.list_kept.proofs.placing.stands_at.Goals as goal
 

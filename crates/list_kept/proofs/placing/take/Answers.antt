@@ -1,8 +1,4 @@
-use Rattle.std.proofs.Common.{is_some, sym, ap, ◌∙◌, option_map}
-use Rattle.std.proofs.lemmas.Bool.{false≢true}
-use Rattle.cf_lists.proofs.FilterLaws.{any_is_found}
-use Rattle.list_store.specs.Lists.{all_records, is_id}
-use Rattle.list_store.specs.Records.{record_in}
+use Rattle.list_kept.proofs.Names.{is_some, sym, ap, ◌∙◌, option_map, false≢true, any_is_found, all_records, is_id, record_in}
 use Rattle.list_kept.proofs.placing.take.Goals as goal
 
 pub returns-clause-record : goal.returns-clause-record

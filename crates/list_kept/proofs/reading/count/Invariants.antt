@@ -1,5 +1,4 @@
-use Rattle.std.proofs.Common.{◌≡◌, ◌+◌, drop}
-use Rattle.list_store.specs.Lists.{count_of}
+use Rattle.list_kept.proofs.Names.{◌≡◌, ◌+◌, drop, count_of}
 use Rattle.list_kept.proofs.reading.count.Given as goal
 
 abbrev pub invariant-loop-header : goal.invariant-loop-header

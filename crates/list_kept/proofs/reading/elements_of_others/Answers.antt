@@ -1,7 +1,4 @@
-use Rattle.std.proofs.Common.{◌≡◌, Some, None, Bor, option_map, sym, ap, ◌∙◌, arith}
-use Rattle.list_store.specs.declared.records.Rec.{Rec}
-use Rattle.list_store.specs.Records.{record_in}
-use Rattle.list_store.specs.Lists.{record_of}
+use Rattle.list_kept.proofs.Names.{◌≡◌, Some, None, Bor, option_map, sym, ap, ◌∙◌, arith, Rec, record_in, record_of}
 use Rattle.list_kept.proofs.NamedLaws.{elements_found, elements_absent}
 use Rattle.list_kept.proofs.reading.elements_of_others.Goals as goal
 

@@ -1,9 +1,4 @@
-use Rattle.std.proofs.Common.{◌≡◌, ℕ, Some, None, true, cond, Bor, option_map, slice_get, sym, ap, ◌∙◌}
-use Rattle.std.specs.List.{prefix_len}
-use Rattle.list_store.specs.Lists.{records_of}
-use Rattle.list_store.specs.declared.records.Rec.{Rec}
-use Rattle.list_store.specs.Records.{record_in}
-use Rattle.list_kept.specs.ContentView.{comes_behind}
+use Rattle.list_kept.proofs.Names.{◌≡◌, ℕ, Some, None, true, cond, Bor, option_map, slice_get, sym, ap, ◌∙◌, prefix_len, records_of, Rec, record_in, comes_behind}
 use Rattle.list_kept.proofs.KeyedLaws.{keyed, find_keyed}
 use Rattle.list_kept.proofs.reading.keyed_in.Goals as goal
 

@@ -1,11 +1,4 @@
-use Rattle.std.proofs.Common.{◌≡◌, ◌+◌, ◌-◌, ◌++◌, ◌∷◌, [], List, drop, sym, ap, ◌∙◌, arith, ℕ}
-use Rattle.std.specs.declared.vec.Vec.{Vec}
-use Rattle.std.specs.declared.alloc.Global.{Global}
-use Rattle.std.proofs.lemmas.Bool.{eqb-true}
-use Rattle.std.proofs.lemmas.List.{drop_more, length-map, nil_from_length}
-use Rattle.cf_lists.specs.Lists.{all_records}
-use Rattle.list_store.specs.Orders.{orders_in}
-use Rattle.cf_lists.proofs.AllLaws.{list_of, list_of-get_or}
+use Rattle.list_store.proofs.Names.{◌≡◌, ◌+◌, ◌-◌, ◌++◌, ◌∷◌, [], List, drop, sym, ap, ◌∙◌, arith, ℕ, Vec, Global, eqb-true, drop_more, length-map, nil_from_length, all_records, orders_in, list_of, list_of-get_or}
 use Rattle.list_store.proofs.VecLaws.{list_of-in}
 use Rattle.list_store.proofs.orders.last_header.Goals as goal
 

@@ -1,6 +1,4 @@
-use Rattle.std.proofs.Common.{◌≡◌, ◌≤◌, [], length, drop}
-use Rattle.cf_lists.specs.Lists.{all_records}
-use Rattle.list_store.specs.Orders.{orders_in}
+use Rattle.list_store.proofs.Names.{◌≡◌, ◌≤◌, [], length, drop, all_records, orders_in}
 use Rattle.list_store.proofs.orders.last_header.Given as goal
 
 abbrev pub invariant-loop-left : goal.invariant-loop-left

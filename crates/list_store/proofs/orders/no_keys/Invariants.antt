@@ -1,5 +1,4 @@
-use Rattle.std.proofs.Common.{◌≡◌, [], replicate}
-use Rattle.list_store.specs.Orders.{orders_in}
+use Rattle.list_store.proofs.Names.{◌≡◌, [], replicate, orders_in}
 use Rattle.list_store.proofs.orders.no_keys.Given as goal
 
 abbrev pub invariant-loop : goal.invariant-loop

@@ -1,6 +1,4 @@
-use Rattle.std.proofs.Common.{ℕ, ◌==◌, sym, ◌∙◌}
-use Rattle.std.proofs.lemmas.Bool.{false≢true}
-use Rattle.cf_lists.proofs.KeyLaws.{none_placed}
+use Rattle.list_store.proofs.Names.{ℕ, ◌==◌, sym, ◌∙◌, false≢true, none_placed}
 use Rattle.list_store.proofs.VecLaws.{stands_there}
 use Rattle.list_store.proofs.orders.place_of.Goals as goal
 

@@ -1,6 +1,4 @@
-use Rattle.std.proofs.Common.{List, set, sym, ap, ◌∙◌, arith, ℕ}
-use Rattle.std.specs.List.{insert}
-use Rattle.list_store.specs.Orders.{orders_in}
+use Rattle.list_store.proofs.Names.{List, set, sym, ap, ◌∙◌, arith, ℕ, insert, orders_in}
 use Rattle.list_store.proofs.VecLaws.{list_of-in, orders_in-set, few-more}
 use Rattle.list_store.proofs.orders.put.Goals as goal
 

@@ -1,7 +1,4 @@
-use Rattle.std.proofs.Common.{◌≡◌, true, take}
-use Rattle.std.specs.List.{list_all}
-use Rattle.std.specs.Vec.{vec_len}
-use Rattle.list_store.specs.Orders.{orders_in, has_place}
+use Rattle.list_store.proofs.Names.{◌≡◌, true, take, list_all, vec_len, orders_in, has_place}
 use Rattle.list_store.proofs.orders.reserve.Given as goal
 
 abbrev pub invariant-loop-header : goal.invariant-loop-header

@@ -1,5 +1,4 @@
-use Rattle.std.proofs.Common.{◌∙◌, sym}
-use Rattle.list_store.specs.Orders.{orders_in}
+use Rattle.list_store.proofs.Names.{◌∙◌, sym, orders_in}
 use Rattle.list_store.proofs.TiedLaws.{found_header, unfound_header}
 use Rattle.list_store.proofs.ties.header_of.Goals as goal
 

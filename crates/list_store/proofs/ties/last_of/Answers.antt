@@ -1,14 +1,5 @@
-use Rattle.std.proofs.Common.{◌≡◌, ℕ, arith, length}
-use Rattle.std.proofs.lemmas.List.{length-map}
-use Rattle.std.specs.declared.vec.Vec.{Vec}
-use Rattle.std.specs.declared.alloc.Global.{Global}
-use Rattle.list_store.specs.Orders.{orders_in}
-use Rattle.cf_lists.specs.Lists.{IsLastFull, all_records}
-use Rattle.list_store.specs.Tied.{lists_at}
-use Rattle.std.proofs.Common.{[], ◌<◌}
+use Rattle.list_store.proofs.Names.{◌≡◌, ℕ, arith, length, [], ◌<◌, length-map, Vec, Global, orders_in, IsLastFull, all_records, lists_at, rec_at, last-map, none-map}
 use Rattle.list_store.proofs.TiedLaws.{weaker_some, weaker_none}
-use Rattle.list_store.specs.Tied.{rec_at}
-use Rattle.cf_lists.proofs.RecordMapLaws.{last-map, none-map}
 use Rattle.list_store.proofs.ties.last_of.Goals as goal
 
 pub returns-clause-found : goal.returns-clause-found

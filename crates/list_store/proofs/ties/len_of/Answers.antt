@@ -1,8 +1,4 @@
-use Rattle.std.proofs.Common.{◌∙◌, ℕ, arith}
-use Rattle.std.proofs.lemmas.List.{length-map}
-use Rattle.std.specs.declared.vec.Vec.{Vec}
-use Rattle.std.specs.declared.alloc.Global.{Global}
-use Rattle.list_store.specs.Orders.{orders_in}
+use Rattle.list_store.proofs.Names.{◌∙◌, ℕ, arith, length-map, Vec, Global, orders_in}
 use Rattle.list_store.proofs.TiedLaws.{few-at, length-at}
 use Rattle.list_store.proofs.ties.len_of.Goals as goal
 

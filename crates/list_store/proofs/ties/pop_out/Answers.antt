@@ -1,10 +1,4 @@
-use Rattle.std.proofs.Common.{◌∙◌, ap, ℕ, arith, List, length, set}
-use Rattle.std.specs.declared.vec.Vec.{Vec}
-use Rattle.std.specs.declared.alloc.Global.{Global}
-use Rattle.list_store.specs.declared.records.Rec.{Rec}
-use Rattle.cf_lists.specs.Lists.{records_of}
-use Rattle.list_store.specs.Orders.{orders_in}
-use Rattle.list_store.specs.Tied.{lists_at}
+use Rattle.list_store.proofs.Names.{◌∙◌, ap, ℕ, arith, List, length, set, Vec, Global, Rec, records_of, orders_in, lists_at}
 use Rattle.list_store.proofs.TiedLaws.{length-at, remove_last}
 use Rattle.list_store.proofs.ties.pop_out.Goals as goal
 

@@ -1,7 +1,4 @@
-use Rattle.std.proofs.Common.{◌∙◌, ap, List, ℕ, subst, sym, is_some}
-use Rattle.list_store.specs.Orders.{orders_in}
-use Rattle.list_store.specs.Tied.{lists_at, IsTied}
-use Rattle.cf_lists.proofs.RecordOrderLaws.{stands_at}
+use Rattle.list_store.proofs.Names.{◌∙◌, ap, List, ℕ, subst, sym, is_some, orders_in, lists_at, IsTied, stands_at}
 use Rattle.list_store.proofs.TiedLaws.{held_at, found_at, key_there, pull_lists, pull_removed, pull_tied}
 use Rattle.list_store.proofs.ties.pull.Goals as goal
 

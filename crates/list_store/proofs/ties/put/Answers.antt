@@ -1,9 +1,4 @@
-use Rattle.std.proofs.Common.{◌∙◌, ap, arith, List, ℕ, subst, sym}
-use Rattle.std.proofs.lemmas.List.{length-map}
-use Rattle.std.specs.declared.vec.Vec.{Vec}
-use Rattle.std.specs.declared.alloc.Global.{Global}
-use Rattle.list_store.specs.Orders.{orders_in}
-use Rattle.list_store.specs.Tied.{lists_at, IsTied}
+use Rattle.list_store.proofs.Names.{◌∙◌, ap, arith, List, ℕ, subst, sym, length-map, Vec, Global, orders_in, lists_at, IsTied}
 use Rattle.list_store.proofs.TiedLaws.{put_lists, put_tied}
 use Rattle.list_store.proofs.ties.put.Goals as goal
 

@@ -1,6 +1,4 @@
-use Rattle.std.proofs.Common.{◌∙◌, sym}
-use Rattle.std.proofs.lemmas.Bool.{false≢true}
-use Rattle.list_store.specs.Orders.{orders_in}
+use Rattle.list_store.proofs.Names.{◌∙◌, sym, false≢true, orders_in}
 use Rattle.list_store.proofs.TiedLaws.{none_there, is_key, found_record, set_lists, set_tied}
 use Rattle.list_store.proofs.ties.put_in_place.Goals as goal
 

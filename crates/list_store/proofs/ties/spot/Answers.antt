@@ -1,11 +1,4 @@
-use Rattle.std.proofs.Common.{◌∙◌, ap, sym, ℕ, arith, option_map}
-use Rattle.std.proofs.lemmas.List.{length-map}
-use Rattle.std.specs.declared.vec.Vec.{Vec}
-use Rattle.std.specs.declared.alloc.Global.{Global}
-use Rattle.list_store.specs.Orders.{orders_in}
-use Rattle.cf_lists.proofs.RecordSpotLaws.{get_within}
-use Rattle.cf_lists.specs.Lists.{records_of}
-use Rattle.list_store.specs.Spots.{as_spot}
+use Rattle.list_store.proofs.Names.{◌∙◌, ap, sym, ℕ, arith, option_map, length-map, Vec, Global, orders_in, get_within, records_of, as_spot}
 use Rattle.list_store.proofs.TiedLaws.{key_stands, header_stands, found_spot, unfound_spot, few-at}
 use Rattle.list_store.proofs.ties.spot.Goals as goal
 

@@ -1,12 +1,4 @@
-use Rattle.std.proofs.Common.{◌∙◌, ap, sym, ℕ, arith, List, length}
-use Rattle.std.proofs.lemmas.List.{length-map}
-use Rattle.std.specs.declared.vec.Vec.{Vec}
-use Rattle.std.specs.declared.alloc.Global.{Global}
-use Rattle.list_store.specs.Orders.{orders_in}
-use Rattle.cf_lists.proofs.RecordSpotLaws.{get_within}
-use Rattle.cf_lists.specs.Lists.{records_of, lists_without}
-use Rattle.list_store.specs.Tied.{rec_id}
-use Rattle.list_store.specs.Tied.{lists_at}
+use Rattle.list_store.proofs.Names.{◌∙◌, ap, sym, ℕ, arith, List, length, length-map, Vec, Global, orders_in, get_within, records_of, lists_without, rec_id, lists_at}
 use Rattle.list_store.proofs.TiedLaws.{key_stands, header_stands, found_pulled, unfound_record, without_unfound}
 use Rattle.list_store.proofs.ties.take_out.Goals as goal
 

@@ -1,7 +1,4 @@
-use Rattle.std.proofs.Common.{◌≡◌, not, length, refl, ap, arith, rules}
-use Rattle.std.proofs.lemmas.Fn.{filter_same}
-use Rattle.std.proofs.lemmas.List.Filters.{length-filter_both}
-use Rattle.list_watch.specs.Ends.{is_ended, rows_ended}
+use Rattle.list_watch.proofs.Names.{◌≡◌, not, length, refl, ap, arith, rules, filter_same, length-filter_both, is_ended, rows_ended}
 use Rattle.list_watch.proofs.BitLaws.{gains_ended}
 use Rattle.list_watch.proofs.ends.end.Goals as goal
 

@@ -1,5 +1,4 @@
-use Rattle.std.proofs.Common.{◌≡◌, ◌+◌, ◌++◌, length, drop, filter}
-use Rattle.list_watch.specs.Ends.{is_cleared, clear_changes}
+use Rattle.list_watch.proofs.Names.{◌≡◌, ◌+◌, ◌++◌, length, drop, filter, is_cleared, clear_changes}
 use Rattle.list_watch.proofs.ends.tell.Given as goal
 
 abbrev pub invariant-loop-row : goal.invariant-loop-row

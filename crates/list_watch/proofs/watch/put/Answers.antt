@@ -1,8 +1,4 @@
-use Rattle.std.proofs.Common.{◌≡◌, ◌++◌, ◌∷◌, [], List, not, filter, ap, ◌∙◌, rules}
-use Rattle.std.proofs.lemmas.Fn.{filter_same}
-use Rattle.list_watch.specs.declared.monitors.Watched.{Watched}
-use Rattle.list_watch.specs.Monitors.{is_at}
-use Rattle.list_watch.specs.Ends.{rows_put}
+use Rattle.list_watch.proofs.Names.{◌≡◌, ◌++◌, ◌∷◌, [], List, not, filter, ap, ◌∙◌, rules, filter_same, Watched, is_at, rows_put}
 use Rattle.list_watch.proofs.BitLaws.{gains_put}
 use Rattle.list_watch.proofs.watch.put.Goals as goal
 

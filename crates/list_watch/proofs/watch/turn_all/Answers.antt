@@ -1,6 +1,4 @@
-use Rattle.std.proofs.Common.{arith}
-use Rattle.cf_lists.proofs.MapLaws.{mapped_more}
-use Rattle.list_watch.specs.Rows.{row_turned}
+use Rattle.list_watch.proofs.Names.{arith, mapped_more, row_turned}
 use Rattle.list_watch.proofs.watch.turn_all.Goals as goal
 
 pub loop-row-preserved : goal.loop-row-preserved

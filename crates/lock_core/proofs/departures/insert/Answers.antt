@@ -1,8 +1,4 @@
-use Rattle.std.proofs.Common.{arith}
-use Rattle.std.proofs.lemmas.List.Sums.{prefix_len-le-length}
-use Rattle.cf_types.specs.declared.resources.Resource.{Resource}
-use Rattle.cf_types.specs.Resources.{resource_before}
-use Rattle.cf_lists.proofs.InsertionLaws.{insert-prefix_len}
+use Rattle.lock_core.proofs.Names.{arith, prefix_len-le-length, Resource, resource_before, insert-prefix_len}
 use Rattle.lock_core.proofs.departures.insert.Goals as goal
 
 pub insert-requires : goal.insert-requires

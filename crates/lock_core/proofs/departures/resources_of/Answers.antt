@@ -1,11 +1,5 @@
-use Rattle.std.proofs.Common.{[], List, filter, fold, map, sym, ap, ◌∙◌}
-use Rattle.std.proofs.lemmas.List.Sums.{fold-append}
-use Rattle.cf_types.specs.declared.resources.Resource.{Resource}
-use Rattle.lock_queue.specs.declared.waiters.Waiter.{Waiter}
-use Rattle.lock_queue.specs.Waiters.{is_by}
+use Rattle.lock_core.proofs.Names.{[], List, filter, fold, map, sym, ap, ◌∙◌, fold-append, Resource, Waiter, is_by, Interest, resources_with}
 use Rattle.lock_model.specs.Interests as interests
-use Rattle.lock_model.specs.Interests.{Interest}
-use Rattle.lock_model.specs.Departures.{resources_with}
 use Rattle.lock_core.proofs.departures.resources_of.Goals as goal
 
 pub returns : goal.returns

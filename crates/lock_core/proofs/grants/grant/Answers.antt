@@ -1,6 +1,4 @@
-use Rattle.std.proofs.Common.{◌≡◌, ◌++◌, ◌∷◌, [], List, length, append_assoc, append-nil, sym, ap, ◌∙◌, arith}
-use Rattle.cf_types.specs.declared.events.Letter.{Letter}
-use Rattle.lock_model.specs.Grants.{Settlement, grant, with_letters_before, settlement_of, granted_letter, content_granted}
+use Rattle.lock_core.proofs.Names.{◌≡◌, ◌++◌, ◌∷◌, [], List, length, append_assoc, append-nil, sym, ap, ◌∙◌, arith, Letter, Settlement, grant, with_letters_before, settlement_of, granted_letter, content_granted}
 use Rattle.lock_core.proofs.GrantLaws.{next-waits, grant-next, grant-none}
 use Rattle.lock_core.proofs.grants.grant.Goals as goal
 

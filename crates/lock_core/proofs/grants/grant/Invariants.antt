@@ -1,6 +1,4 @@
-use Rattle.std.proofs.Common.{◌≡◌, ◌+◌, ◌++◌, length}
-use Rattle.lock_model.specs.Grants.{grant}
-use Rattle.lock_core.specs.Stock.{HasRoom}
+use Rattle.lock_core.proofs.Names.{◌≡◌, ◌+◌, ◌++◌, length, grant, HasRoom}
 use Rattle.lock_core.proofs.grants.grant.Given as goal
 
 abbrev pub invariant-loop-w : goal.invariant-loop-w

@@ -1,6 +1,4 @@
-use Rattle.std.proofs.Common.{◌≡◌, ◌+◌, ◌≤◌, ◌++◌, drop, length}
-use Rattle.lock_model.specs.Grants.{grant_each}
-use Rattle.lock_core.specs.Stock.{HasRoom}
+use Rattle.lock_core.proofs.Names.{◌≡◌, ◌+◌, ◌≤◌, ◌++◌, drop, length, grant_each, HasRoom}
 use Rattle.lock_core.proofs.grants.grant_each.Given as goal
 
 abbrev pub invariant-loop-r : goal.invariant-loop-r

@@ -1,5 +1,4 @@
-use Rattle.std.proofs.Common.{◌∙◌}
-use Rattle.lock_queue.specs.Waiters.{is_waiter}
+use Rattle.lock_core.proofs.Names.{◌∙◌, is_waiter}
 use Rattle.lock_core.proofs.ReadLaws.{any_by}
 use Rattle.lock_core.proofs.refusals.waits.Goals as goal
 

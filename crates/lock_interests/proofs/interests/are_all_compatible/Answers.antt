@@ -1,8 +1,4 @@
-use Rattle.std.proofs.Common.{rules, tests}
-use Rattle.std.proofs.lemmas.Iterator.Consumers.{YieldsList-from_first}
-use Rattle.std.proofs.lemmas.Iterator.Search.{all_from_yields_List}
-use Rattle.lock_table.specs.EntryView.{owners_left}
-use Rattle.lock_model.specs.Interests.{are_compatible}
+use Rattle.lock_interests.proofs.Names.{rules, tests, YieldsList-from_first, all_from_yields_List, owners_left, are_compatible}
 use Rattle.lock_interests.proofs.interests.are_all_compatible.Goals as goal
 
 pub returns : goal.returns

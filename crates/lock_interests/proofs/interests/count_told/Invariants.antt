@@ -1,6 +1,4 @@
-use Rattle.std.proofs.Common.{◌≡◌, ◌+◌, ◌<◌, length}
-use Rattle.lock_table.specs.EntryView.{owners_left}
-use Rattle.lock_interests.specs.InterestsView.{letters_told}
+use Rattle.lock_interests.proofs.Names.{◌≡◌, ◌+◌, ◌<◌, length, owners_left, letters_told}
 use Rattle.lock_interests.proofs.interests.count_told.Given as goal
 
 abbrev pub invariant-loop-held : goal.invariant-loop-held

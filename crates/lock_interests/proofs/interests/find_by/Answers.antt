@@ -1,8 +1,4 @@
-use Rattle.std.proofs.Common.{rules, tests, ◌==◌}
-use Rattle.std.proofs.lemmas.Iterator.Consumers.{YieldsList-from_first}
-use Rattle.std.proofs.lemmas.Iterator.Search.{find_from_yields_List}
-use Rattle.lock_table.specs.declared.holdings.Held.{Held}
-use Rattle.lock_table.specs.EntryView.{owners_left}
+use Rattle.lock_interests.proofs.Names.{rules, tests, ◌==◌, YieldsList-from_first, find_from_yields_List, Held, owners_left}
 use Rattle.lock_interests.proofs.interests.find_by.Goals as goal
 
 pub returns : goal.returns

@@ -1,7 +1,4 @@
-use Rattle.std.proofs.Common.{◌≡◌, ℕ, Bool, List, IfOk, ap, subst, ◌∙◌}
-use Rattle.std.specs.List.{filter_map}
-use Rattle.cf_types.specs.declared.resources.Resource.{Resource}
-use Rattle.lock_interests.specs.InterestsView.{read_in}
+use Rattle.lock_interests.proofs.Names.{◌≡◌, ℕ, Bool, List, IfOk, ap, subst, ◌∙◌, filter_map, Resource, read_in}
 use Rattle.lock_interests.proofs.OwnerLaws.{read_each}
 use Rattle.lock_interests.proofs.interests.read.Goals as goal
 

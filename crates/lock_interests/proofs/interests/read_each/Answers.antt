@@ -1,7 +1,4 @@
-use Rattle.std.proofs.Common.{◌++◌, ◌==◌, List, Option, find, ap, ◌∙◌}
-use Rattle.std.specs.Prelude.{option_to_list}
-use Rattle.lock_table.specs.declared.holdings.Held.{Held}
-use Rattle.lock_interests.specs.InterestsView.{held_read, read_in}
+use Rattle.lock_interests.proofs.Names.{◌++◌, ◌==◌, List, Option, find, ap, ◌∙◌, option_to_list, Held, held_read, read_in}
 use Rattle.lock_interests.proofs.OwnerLaws.{read_more}
 use Rattle.lock_interests.proofs.interests.read_each.Goals as goal
 

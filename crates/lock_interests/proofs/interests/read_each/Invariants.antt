@@ -1,6 +1,4 @@
-use Rattle.std.proofs.Common.{◌≡◌, ◌++◌, drop}
-use Rattle.std.specs.List.{filter_map}
-use Rattle.lock_interests.specs.InterestsView.{read_in}
+use Rattle.lock_interests.proofs.Names.{◌≡◌, ◌++◌, drop, filter_map, read_in}
 use Rattle.lock_interests.proofs.interests.read_each.Given as goal
 
 abbrev pub invariant-loop-r : goal.invariant-loop-r

@@ -1,7 +1,4 @@
-use Rattle.std.proofs.Common.{ℕ, ◌+◌, ◌<◌, List, Option, drop, ap, subst, ◌∙◌}
-use Rattle.cf_types.specs.Resources.{Part}
-use Rattle.lock_table.specs.declared.holdings.Held.{Held}
-use Rattle.lock_interests.specs.InterestsView.{retained_all, retained_at}
+use Rattle.lock_interests.proofs.Names.{ℕ, ◌+◌, ◌<◌, List, Option, drop, ap, subst, ◌∙◌, Part, Held, retained_all, retained_at}
 use Rattle.lock_interests.proofs.OwnerLaws.{retained_next}
 use Rattle.lock_interests.proofs.interests.retain_recorded.Goals as goal
 

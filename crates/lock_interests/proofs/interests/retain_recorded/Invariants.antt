@@ -1,5 +1,4 @@
-use Rattle.std.proofs.Common.{◌≡◌, drop}
-use Rattle.lock_interests.specs.InterestsView.{retained_all}
+use Rattle.lock_interests.proofs.Names.{◌≡◌, drop, retained_all}
 use Rattle.lock_interests.proofs.interests.retain_recorded.Given as goal
 
 abbrev pub invariant-loop-k : goal.invariant-loop-k

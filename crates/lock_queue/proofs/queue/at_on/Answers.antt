@@ -1,9 +1,4 @@
-use Rattle.std.proofs.Common.{◌∙◌, map, []}
-use Rattle.std.proofs.lemmas.List.{get_or_default}
-use Rattle.cf_lists.specs.Tables.{resource_by}
-use Rattle.cf_lists.proofs.EntryTableLaws.{found}
-use Rattle.cf_lists.proofs.RankLaws.{placed_none, placed_some}
-use Rattle.lock_queue.specs.Tables.{part_of, waiters_in}
+use Rattle.lock_queue.proofs.Names.{◌∙◌, map, [], get_or_default, resource_by, found, placed_none, placed_some, part_of, waiters_in}
 use Rattle.lock_queue.proofs.queue.at_on.Goals as goal
 
 pub returns-then-k-before : goal.returns-then-k-before

@@ -1,7 +1,4 @@
-use Rattle.std.proofs.Common.{◌∙◌, sym, []}
-use Rattle.std.proofs.lemmas.List.{get_or_default}
-use Rattle.cf_lists.proofs.EntryTableLaws.{ordered, at_is, none_past}
-use Rattle.lock_queue.specs.Tables.{part_of}
+use Rattle.lock_queue.proofs.Names.{◌∙◌, sym, [], get_or_default, ordered, at_is, none_past, part_of}
 use Rattle.lock_queue.proofs.queue.at_place.Goals as goal
 
 pub start_of-before-requires : goal.start_of-before-requires

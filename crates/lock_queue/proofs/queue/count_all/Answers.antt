@@ -1,7 +1,4 @@
-use Rattle.std.proofs.Common.{length, refl, arith, List}
-use Rattle.std.proofs.lemmas.List.{length-append}
-use Rattle.cf_lists.proofs.PassLaws.{counted_next, counted_past}
-use Rattle.lock_queue.specs.declared.waiters.Waiter.{Waiter}
+use Rattle.lock_queue.proofs.Names.{length, refl, arith, List, length-append, counted_next, counted_past, Waiter}
 use Rattle.lock_queue.proofs.queue.count_all.Goals as goal
 
 pub overflow_add-count : goal.overflow_add-count

@@ -1,9 +1,4 @@
-use Rattle.std.proofs.Common.{length, filter, refl, arith, List}
-use Rattle.cf_lists.proofs.PassLaws.{counted_next, counted_past, length-kept_append}
-use Rattle.cf_types.specs.Resources.{resource_before}
-use Rattle.cf_lists.proofs.FilterLaws.{length-filter-le}
-use Rattle.cf_lists.specs.Bins.{joined}
-use Rattle.lock_queue.specs.declared.waiters.Waiter.{Waiter}
+use Rattle.lock_queue.proofs.Names.{length, filter, refl, arith, List, counted_next, counted_past, length-kept_append, resource_before, length-filter-le, joined, Waiter}
 use Rattle.lock_queue.proofs.queue.count_all_ahead.Goals as goal
 
 pub overflow_add-count : goal.overflow_add-count

@@ -1,9 +1,4 @@
-use Rattle.std.proofs.Common.{◌∙◌, ap, List, length, map}
-use Rattle.cf_lists.specs.Tables.{resource_by}
-use Rattle.cf_lists.proofs.EntryTableLaws.{kept_in}
-use Rattle.lock_queue.specs.declared.waiters.Waiter.{Waiter}
-use Rattle.lock_queue.specs.Waiters.{is_on, waiters_of}
-use Rattle.lock_queue.specs.Tables.{part_of, waiters_in}
+use Rattle.lock_queue.proofs.Names.{◌∙◌, ap, List, length, map, resource_by, kept_in, Waiter, is_on, waiters_of, part_of, waiters_in}
 use Rattle.lock_queue.proofs.queue.count_on.Goals as goal
 
 pub returns : goal.returns

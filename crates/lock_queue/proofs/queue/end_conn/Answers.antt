@@ -1,13 +1,4 @@
-use Rattle.std.proofs.Common.{◌≡◌, ◌≤◌, List, map, not, length, ap, arith, ◌∙◌}
-use Rattle.cf_types.specs.declared.numbers.ConnId.{ConnId}
-use Rattle.cf_lists.proofs.FilterLaws.{length-filter-le}
-use Rattle.cf_lists.specs.Tables.{resource_by}
-use Rattle.cf_lists.specs.Bins.{joined}
-use Rattle.cf_lists.proofs.PassLaws.{left_seen, left_table}
-use Rattle.cf_lists.proofs.RankLaws.{length_seen}
-use Rattle.lock_queue.specs.declared.waiters.Waiter.{Waiter}
-use Rattle.lock_queue.specs.Waiters.{is_by, waiters_without_conn}
-use Rattle.lock_queue.specs.Tables.{part_of, waiters_in, AreEntries}
+use Rattle.lock_queue.proofs.Names.{◌≡◌, ◌≤◌, List, map, not, length, ap, arith, ◌∙◌, ConnId, length-filter-le, resource_by, joined, left_seen, left_table, length_seen, Waiter, is_by, waiters_without_conn, part_of, waiters_in, AreEntries}
 use Rattle.lock_queue.proofs.CountLaws.{recorded_few, recorded_seen}
 use Rattle.lock_queue.proofs.WaiterLaws.{queue-filter}
 use Rattle.lock_queue.proofs.queue.end_conn.Goals as goal

@@ -1,10 +1,4 @@
-use Rattle.std.proofs.Common.{◌∙◌, ◌==◌, ap, map}
-use Rattle.std.proofs.lemmas.Bool.{and_parts}
-use Rattle.cf_types.specs.Resources.{same_resource}
-use Rattle.cf_lists.specs.Tables.{resource_by}
-use Rattle.cf_lists.proofs.EntryTableLaws.{found_in}
-use Rattle.lock_queue.specs.Waiters.{is_waiter, waiter_of}
-use Rattle.lock_queue.specs.Tables.{part_of, waiters_in}
+use Rattle.lock_queue.proofs.Names.{◌∙◌, ◌==◌, ap, map, and_parts, same_resource, resource_by, found_in, is_waiter, waiter_of, part_of, waiters_in}
 use Rattle.lock_queue.proofs.queue.find_on.Goals as goal
 
 pub returns : goal.returns

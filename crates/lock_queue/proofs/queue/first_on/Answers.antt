@@ -1,8 +1,4 @@
-use Rattle.std.proofs.Common.{◌∙◌, ap, map}
-use Rattle.cf_lists.specs.Tables.{resource_by}
-use Rattle.cf_lists.proofs.EntryTableLaws.{found_in}
-use Rattle.lock_queue.specs.Waiters.{is_on, first_of}
-use Rattle.lock_queue.specs.Tables.{part_of, waiters_in}
+use Rattle.lock_queue.proofs.Names.{◌∙◌, ap, map, resource_by, found_in, is_on, first_of, part_of, waiters_in}
 use Rattle.lock_queue.proofs.queue.first_on.Goals as goal
 
 pub returns : goal.returns

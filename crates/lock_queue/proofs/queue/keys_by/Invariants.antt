@@ -1,7 +1,4 @@
-use Rattle.std.proofs.Common.{◌≡◌, ◌++◌, map, filter, drop}
-use Rattle.cf_lists.specs.Bins.{joined}
-use Rattle.lock_queue.specs.Waiters.{is_by}
-use Rattle.lock_queue.specs.Tables.{resource_of}
+use Rattle.lock_queue.proofs.Names.{◌≡◌, ◌++◌, map, filter, drop, joined, is_by, resource_of}
 use Rattle.lock_queue.proofs.queue.keys_by.Given as goal
 
 abbrev pub invariant-loop-waiters : goal.invariant-loop-waiters

@@ -1,8 +1,4 @@
-use Rattle.std.proofs.Common.{List, option_map, ap, sym, ◌∙◌}
-use Rattle.cf_lists.specs.Tables.{later_of, last_of}
-use Rattle.cf_lists.proofs.RankLaws.{last_more}
-use Rattle.lock_queue.specs.declared.waiters.Waiter.{Waiter}
-use Rattle.lock_queue.specs.Tables.{part_of}
+use Rattle.lock_queue.proofs.Names.{List, option_map, ap, sym, ◌∙◌, later_of, last_of, last_more, Waiter, part_of}
 use Rattle.lock_queue.proofs.queue.last_among.Goals as goal
 
 pub loop-waiter-preserved : goal.loop-waiter-preserved

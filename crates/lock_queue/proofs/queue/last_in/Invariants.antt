@@ -1,7 +1,4 @@
-use Rattle.std.proofs.Common.{◌≡◌, option_map, drop}
-use Rattle.cf_lists.specs.Bins.{joined}
-use Rattle.cf_lists.specs.Tables.{later_of, last_of}
-use Rattle.lock_queue.specs.Tables.{part_of}
+use Rattle.lock_queue.proofs.Names.{◌≡◌, option_map, drop, joined, later_of, last_of, part_of}
 use Rattle.lock_queue.proofs.queue.last_in.Given as goal
 
 abbrev pub invariant-loop-waiters : goal.invariant-loop-waiters

@@ -1,5 +1,4 @@
-use Rattle.std.proofs.Common.{◌≡◌, ◌++◌, map}
-use Rattle.lock_queue.specs.Tables.{resource_of}
+use Rattle.lock_queue.proofs.Names.{◌≡◌, ◌++◌, map, resource_of}
 use Rattle.lock_queue.proofs.queue.push_keys.Given as goal
 
 abbrev pub invariant-loop-waiter : goal.invariant-loop-waiter

@@ -1,6 +1,4 @@
-use Rattle.std.proofs.Common.{◌≡◌, ◌++◌, map, filter}
-use Rattle.lock_queue.specs.Waiters.{is_by}
-use Rattle.lock_queue.specs.Tables.{resource_of}
+use Rattle.lock_queue.proofs.Names.{◌≡◌, ◌++◌, map, filter, is_by, resource_of}
 use Rattle.lock_queue.proofs.queue.push_keys_by.Given as goal
 
 abbrev pub invariant-loop-waiter : goal.invariant-loop-waiter

@@ -1,9 +1,5 @@
-use Rattle.std.proofs.Common.{length}
-use Rattle.lock_queue.specs.declared.waiters.Waiter.{Waiter}
+use Rattle.lock_queue.proofs.Names.{length, Waiter, none_filtered, is_waiter, stands_before, waiters_in}
 use Rattle.lock_queue.proofs.CountLaws.{one_more}
-use Rattle.cf_lists.proofs.FilterLaws.{none_filtered}
-use Rattle.lock_queue.specs.Waiters.{is_waiter, stands_before}
-use Rattle.lock_queue.specs.Tables.{waiters_in}
 use Rattle.lock_queue.proofs.WaiterLaws.{queue-with}
 use Rattle.lock_queue.proofs.queue.put.Goals as goal
 

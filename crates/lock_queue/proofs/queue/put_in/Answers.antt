@@ -1,9 +1,4 @@
-use Rattle.std.proofs.Common.{◌∙◌, ap}
-use Rattle.std.specs.List.{insert}
-use Rattle.std.proofs.lemmas.List.Sums.{prefix_len-le-length}
-use Rattle.cf_lists.proofs.InsertionLaws.{insert-prefix_len}
-use Rattle.lock_queue.specs.declared.waiters.Waiter.{Waiter}
-use Rattle.lock_queue.specs.Tables.{is_ahead}
+use Rattle.lock_queue.proofs.Names.{◌∙◌, ap, insert, prefix_len-le-length, insert-prefix_len, Waiter, is_ahead}
 use Rattle.lock_queue.proofs.queue.put_in.Goals as goal
 
 pub insert_copy-requires-clause-place : goal.insert_copy-requires-clause-place

@@ -1,11 +1,4 @@
-use Rattle.std.proofs.Common.{◌≡◌, ◌+◌, ◌≤◌, ◌&&◌, ◌||◌, not, length, map, filter, ap, ◌∙◌, arith}
-use Rattle.std.proofs.lemmas.List.{length-map}
-use Rattle.cf_lists.specs.Tables.{resource_by}
-use Rattle.cf_lists.proofs.FilterLaws.{length-filter-le}
-use Rattle.cf_lists.proofs.EntryTableLaws.{of_seen, few_in, kept_in, put_seen, put_table}
-use Rattle.lock_queue.specs.declared.waiters.Waiter.{Waiter}
-use Rattle.lock_queue.specs.Waiters.{is_on, stands_before}
-use Rattle.lock_queue.specs.Tables.{part_of, waiters_in, is_ahead}
+use Rattle.lock_queue.proofs.Names.{◌≡◌, ◌+◌, ◌≤◌, ◌&&◌, ◌||◌, not, length, map, filter, ap, ◌∙◌, arith, length-map, resource_by, length-filter-le, of_seen, few_in, kept_in, put_seen, put_table, Waiter, is_on, stands_before, part_of, waiters_in, is_ahead}
 use Rattle.lock_queue.proofs.WaiterLaws.{ahead_front, ahead_stop, ahead_agree, ahead_others, counts_on}
 use Rattle.lock_queue.proofs.queue.put_new.Goals as goal
 

@@ -1,6 +1,4 @@
-use Rattle.std.proofs.Common.{ap, ◌∙◌, arith}
-use Rattle.lock_queue.specs.Waiters.{recorded_of, waiters_with}
-use Rattle.lock_queue.specs.Tables.{waiters_in}
+use Rattle.lock_queue.proofs.Names.{ap, ◌∙◌, arith, recorded_of, waiters_with, waiters_in}
 use Rattle.lock_queue.proofs.CountLaws.{recorded_less, recorded_more, recorded_few, few_with}
 use Rattle.lock_queue.proofs.queue.put_recorded.Goals as goal
 

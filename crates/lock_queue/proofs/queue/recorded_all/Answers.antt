@@ -1,7 +1,5 @@
-use Rattle.std.proofs.Common.{refl, arith}
-use Rattle.lock_queue.specs.Waiters.{recorded_in}
+use Rattle.lock_queue.proofs.Names.{refl, arith, recorded_in, counted_next, counted_past}
 use Rattle.lock_queue.proofs.CountLaws.{recorded_parts}
-use Rattle.cf_lists.proofs.PassLaws.{counted_next, counted_past}
 use Rattle.lock_queue.proofs.queue.recorded_all.Goals as goal
 
 pub overflow_add-count : goal.overflow_add-count

@@ -1,6 +1,4 @@
-use Rattle.std.proofs.Common.{◌≡◌, ◌+◌, drop}
-use Rattle.lock_queue.specs.Waiters.{recorded_in}
-use Rattle.cf_lists.specs.Bins.{joined}
+use Rattle.lock_queue.proofs.Names.{◌≡◌, ◌+◌, drop, recorded_in, joined}
 use Rattle.lock_queue.proofs.queue.recorded_all.Given as goal
 
 abbrev pub invariant-loop-waiters : goal.invariant-loop-waiters

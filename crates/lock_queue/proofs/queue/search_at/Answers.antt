@@ -1,9 +1,4 @@
-use Rattle.std.proofs.Common.{not, is_some, sym, refl, ◌∙◌}
-use Rattle.cf_lists.specs.Tables.{placed_on}
-use Rattle.cf_lists.proofs.PassLaws.{all_next, joined_past}
-use Rattle.cf_lists.proofs.RankLaws.{none_placed_on}
-use Rattle.lock_queue.specs.declared.waiters.Waiter.{Waiter}
-use Rattle.lock_queue.specs.Tables.{part_of, waiters_in}
+use Rattle.lock_queue.proofs.Names.{not, is_some, sym, refl, ◌∙◌, placed_on, all_next, joined_past, none_placed_on, Waiter, part_of, waiters_in}
 use Rattle.lock_queue.proofs.queue.search_at.Goals as goal
 
 pub loop-waiters-preserved : goal.loop-waiters-preserved

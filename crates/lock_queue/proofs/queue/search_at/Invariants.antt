@@ -1,9 +1,4 @@
-use Rattle.std.proofs.Common.{◌≡◌, not, is_some, drop}
-use Rattle.std.specs.List.{list_all}
-use Rattle.cf_lists.specs.Bins.{joined}
-use Rattle.cf_lists.specs.Tables.{placed_on}
-use Rattle.lock_queue.specs.declared.waiters.Waiter.{Waiter}
-use Rattle.lock_queue.specs.Tables.{part_of, waiters_in}
+use Rattle.lock_queue.proofs.Names.{◌≡◌, not, is_some, drop, list_all, joined, placed_on, Waiter, part_of, waiters_in}
 use Rattle.lock_queue.proofs.queue.search_at.Given as goal
 
 abbrev pub invariant-loop-waiters : goal.invariant-loop-waiters

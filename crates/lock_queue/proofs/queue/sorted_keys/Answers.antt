@@ -1,11 +1,4 @@
-use Rattle.std.proofs.Common.{List, subst, arith}
-use Rattle.std.specs.List.Sorted.{IsPermutation}
-use Rattle.cf_types.specs.declared.resources.Resource.{Resource}
-use Rattle.cf_types.specs.Resources.{same_resource, resource_before}
-use Rattle.cf_lists.specs.Bins.{joined}
-use Rattle.cf_lists.proofs.EntryKeyLaws.{resource_order}
-use Rattle.cf_lists.proofs.SortLaws.{neighbours, sorted_is}
-use Rattle.lock_queue.specs.Tables.{resource_of}
+use Rattle.lock_queue.proofs.Names.{List, subst, arith, IsPermutation, Resource, same_resource, resource_before, joined, resource_order, neighbours, sorted_is, resource_of}
 use Rattle.lock_queue.proofs.queue.sorted_keys.Goals as goal
 
 pub returns : goal.returns

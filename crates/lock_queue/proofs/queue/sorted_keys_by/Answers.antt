@@ -1,12 +1,4 @@
-use Rattle.std.proofs.Common.{List, map, filter, ap, subst, arith, ◌∙◌}
-use Rattle.std.specs.List.Sorted.{IsPermutation}
-use Rattle.cf_types.specs.declared.resources.Resource.{Resource}
-use Rattle.cf_types.specs.Resources.{same_resource, resource_before}
-use Rattle.cf_lists.specs.Bins.{joined}
-use Rattle.cf_lists.proofs.EntryKeyLaws.{resource_order}
-use Rattle.cf_lists.proofs.SortLaws.{neighbours, sorted_is, arranged-filter}
-use Rattle.lock_queue.specs.Waiters.{is_by}
-use Rattle.lock_queue.specs.Tables.{resource_of}
+use Rattle.lock_queue.proofs.Names.{List, map, filter, ap, subst, arith, ◌∙◌, IsPermutation, Resource, same_resource, resource_before, joined, resource_order, neighbours, sorted_is, arranged-filter, is_by, resource_of}
 use Rattle.lock_queue.proofs.queue.sorted_keys_by.Goals as goal
 
 pub returns : goal.returns

@@ -1,7 +1,4 @@
-use Rattle.std.proofs.Common.{◌≡◌, ◌<◌, ◌≤◌, not, cond, false, length, [], ◌∷◌, None, refl, arith}
-use Rattle.cf_lists.proofs.PassLaws.{filtered_step, pass_begins, pass_goes, pass_fits, pass_ends}
-use Rattle.lock_queue.specs.declared.waiters.Waiter.{Waiter}
-use Rattle.lock_queue.specs.Waiters.{is_by, waiters_without_conn}
+use Rattle.lock_queue.proofs.Names.{◌≡◌, ◌<◌, ◌≤◌, not, cond, false, length, [], ◌∷◌, None, refl, arith, filtered_step, pass_begins, pass_goes, pass_fits, pass_ends, Waiter, is_by, waiters_without_conn}
 use Rattle.lock_queue.proofs.queue.take_conn.Goals as goal
 
 some_waiter : Waiter

@@ -1,9 +1,4 @@
-use Rattle.std.proofs.Common.{sym, ◌∙◌}
-use Rattle.cf_lists.proofs.KeyLaws.{none_placed}
-use Rattle.cf_lists.proofs.EntrySpotLaws.{some_place}
-use Rattle.cf_lists.proofs.EntryTableLaws.{cut_out, none_out}
-use Rattle.lock_queue.specs.Waiters.{is_waiter}
-use Rattle.lock_queue.specs.Tables.{part_of}
+use Rattle.lock_queue.proofs.Names.{sym, ◌∙◌, none_placed, some_place, cut_out, none_out, is_waiter, part_of}
 use Rattle.lock_queue.proofs.queue.take_from.Goals as goal
 
 pub returns-in-Some-clause-there : goal.returns-in-Some-clause-there

@@ -1,9 +1,4 @@
-use Rattle.std.proofs.Common.{map, not, ◌∙◌}
-use Rattle.cf_lists.specs.Tables.{resource_by}
-use Rattle.lock_queue.specs.declared.waiters.Waiter.{Waiter}
-use Rattle.lock_queue.specs.Waiters.{is_waiter}
-use Rattle.lock_queue.specs.Tables.{part_of, waiters_in}
-use Rattle.cf_lists.proofs.EntryTableLaws.{entry_apart, there_in, taken_seen, taken_bins}
+use Rattle.lock_queue.proofs.Names.{map, not, ◌∙◌, resource_by, Waiter, is_waiter, part_of, waiters_in, entry_apart, there_in, taken_seen, taken_bins}
 use Rattle.lock_queue.proofs.WaiterLaws.{queue-filter}
 use Rattle.lock_queue.proofs.CountLaws.{less_one}
 use Rattle.lock_queue.proofs.queue.take_out.Goals as goal

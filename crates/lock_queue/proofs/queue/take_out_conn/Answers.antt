@@ -1,7 +1,4 @@
-use Rattle.std.proofs.Common.{arith}
-use Rattle.cf_lists.proofs.MapLaws.{mapped_more}
-use Rattle.cf_lists.proofs.PassLaws.{mapped_whole}
-use Rattle.lock_queue.specs.Waiters.{waiters_without_conn}
+use Rattle.lock_queue.proofs.Names.{arith, mapped_more, mapped_whole, waiters_without_conn}
 use Rattle.lock_queue.proofs.queue.take_out_conn.Goals as goal
 
 pub loop-waiters-preserved : goal.loop-waiters-preserved

@@ -1,5 +1,4 @@
-use Rattle.std.proofs.Common.{◌≡◌, ◌≤◌, length, map, take, drop}
-use Rattle.lock_queue.specs.Waiters.{waiters_without_conn}
+use Rattle.lock_queue.proofs.Names.{◌≡◌, ◌≤◌, length, map, take, drop, waiters_without_conn}
 use Rattle.lock_queue.proofs.queue.take_out_conn.Given as goal
 
 abbrev pub invariant-loop-waiters : goal.invariant-loop-waiters

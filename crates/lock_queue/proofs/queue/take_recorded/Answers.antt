@@ -1,6 +1,4 @@
-use Rattle.std.proofs.Common.{ap, ◌∙◌, arith}
-use Rattle.lock_queue.specs.Waiters.{recorded_of}
-use Rattle.lock_queue.specs.Tables.{waiters_in}
+use Rattle.lock_queue.proofs.Names.{ap, ◌∙◌, arith, recorded_of, waiters_in}
 use Rattle.lock_queue.proofs.CountLaws.{recorded_less}
 use Rattle.lock_queue.proofs.queue.take_recorded.Goals as goal
 

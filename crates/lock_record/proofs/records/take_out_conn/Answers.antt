@@ -1,5 +1,4 @@
-use Rattle.std.proofs.Common.{rules}
-use Rattle.indexmap.proofs.CallerLemmas.{filter-RetainsPairs}
+use Rattle.lock_record.proofs.Names.{rules, filter-RetainsPairs}
 use Rattle.lock_record.proofs.MapLaws.{departed_records}
 use Rattle.lock_record.proofs.records.take_out_conn.Goals as goal
 

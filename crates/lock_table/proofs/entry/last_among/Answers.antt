@@ -1,8 +1,4 @@
-use Rattle.std.proofs.Common.{List, option_map, ap, sym, ◌∙◌}
-use Rattle.cf_lists.specs.Tables.{later_of, last_of}
-use Rattle.cf_lists.proofs.RankLaws.{last_more}
-use Rattle.lock_table.specs.declared.holdings.Held.{Held}
-use Rattle.lock_table.specs.Tables.{part_of}
+use Rattle.lock_table.proofs.Names.{List, option_map, ap, sym, ◌∙◌, later_of, last_of, last_more, Held, part_of}
 use Rattle.lock_table.proofs.entry.last_among.Goals as goal
 
 pub loop-held-preserved : goal.loop-held-preserved

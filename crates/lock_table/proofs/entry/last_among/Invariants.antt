@@ -1,6 +1,4 @@
-use Rattle.std.proofs.Common.{◌≡◌, option_map}
-use Rattle.cf_lists.specs.Tables.{later_of, last_of}
-use Rattle.lock_table.specs.Tables.{part_of}
+use Rattle.lock_table.proofs.Names.{◌≡◌, option_map, later_of, last_of, part_of}
 use Rattle.lock_table.proofs.entry.last_among.Given as goal
 
 abbrev pub invariant-loop-held : goal.invariant-loop-held

@@ -1,5 +1,4 @@
-use Rattle.std.proofs.Common.{◌≡◌}
-use Rattle.lock_table.specs.Holdings.{owners_of}
+use Rattle.lock_table.proofs.Names.{◌≡◌, owners_of}
 use Rattle.lock_table.proofs.entry.next_on.Given as goal
 
 abbrev pub invariant-loop-held : goal.invariant-loop-held

@@ -1,7 +1,4 @@
-use Rattle.std.proofs.Common.{◌≡◌, ◌<◌, ◌≤◌, false, length, map, [], ◌∷◌, refl, arith}
-use Rattle.cf_lists.proofs.PassLaws.{mapped_step, pass_begins, pass_goes, pass_fits, pass_ends}
-use Rattle.lock_table.specs.declared.holdings.Held.{Held}
-use Rattle.lock_table.specs.Holdings.{in_retention_of}
+use Rattle.lock_table.proofs.Names.{◌≡◌, ◌<◌, ◌≤◌, false, length, map, [], ◌∷◌, refl, arith, mapped_step, pass_begins, pass_goes, pass_fits, pass_ends, Held, in_retention_of}
 use Rattle.lock_table.proofs.entry.put_retentions.Goals as goal
 
 some_held : Held

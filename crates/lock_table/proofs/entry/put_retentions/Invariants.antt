@@ -1,5 +1,4 @@
-use Rattle.std.proofs.Common.{◌≡◌, ◌≤◌, ◌++◌, ◌-◌, length, take, drop, map}
-use Rattle.lock_table.specs.Holdings.{in_retention_of}
+use Rattle.lock_table.proofs.Names.{◌≡◌, ◌≤◌, ◌++◌, ◌-◌, length, take, drop, map, in_retention_of}
 use Rattle.lock_table.proofs.entry.put_retentions.Given as goal
 
 abbrev pub invariant-loop : goal.invariant-loop

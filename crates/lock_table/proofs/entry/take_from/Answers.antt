@@ -1,7 +1,4 @@
-use Rattle.std.proofs.Common.{sym, ◌∙◌}
-use Rattle.cf_lists.proofs.KeyLaws.{none_placed}
-use Rattle.cf_lists.proofs.EntrySpotLaws.{some_place}
-use Rattle.lock_table.specs.Holdings.{is_interest}
+use Rattle.lock_table.proofs.Names.{sym, ◌∙◌, none_placed, some_place, is_interest}
 use Rattle.lock_table.proofs.EntryLaws.{masked_less, cut_out, none_out}
 use Rattle.lock_table.proofs.entry.take_from.Goals as goal
 

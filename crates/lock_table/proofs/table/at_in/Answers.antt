@@ -1,8 +1,4 @@
-use Rattle.std.proofs.Common.{◌≡◌, true, not, is_some, sym, refl, ◌∙◌}
-use Rattle.cf_lists.specs.Tables.{placed_on}
-use Rattle.cf_lists.proofs.EntryTableLaws.{in_order}
-use Rattle.cf_lists.proofs.RankLaws.{placed_here}
-use Rattle.lock_table.specs.Tables.{part_of, owners_in}
+use Rattle.lock_table.proofs.Names.{◌≡◌, true, not, is_some, sym, refl, ◌∙◌, placed_on, in_order, placed_here, part_of, owners_in}
 use Rattle.lock_table.proofs.table.at_in.Goals as goal
 
 pub returns-in-Some-at_on : goal.returns-in-Some-at_on

@@ -1,8 +1,4 @@
-use Rattle.std.proofs.Common.{◌≡◌, not, is_some}
-use Rattle.std.specs.List.{list_all}
-use Rattle.cf_lists.specs.Tables.{placed_on}
-use Rattle.lock_table.specs.declared.holdings.Held.{Held}
-use Rattle.lock_table.specs.Tables.{part_of, owners_in}
+use Rattle.lock_table.proofs.Names.{◌≡◌, not, is_some, list_all, placed_on, Held, part_of, owners_in}
 use Rattle.lock_table.proofs.table.at_in.Given as goal
 
 abbrev pub invariant-loop-held : goal.invariant-loop-held

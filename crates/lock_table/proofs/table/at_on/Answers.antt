@@ -1,10 +1,4 @@
-use Rattle.std.proofs.Common.{◌∙◌, map}
-use Rattle.std.proofs.lemmas.Iterator.Consumers.{nth_from_yields_List, YieldsList-from_first}
-use Rattle.cf_lists.specs.Tables.{resource_by}
-use Rattle.cf_lists.proofs.EntryTableLaws.{found}
-use Rattle.cf_lists.proofs.RankLaws.{placed_none, placed_some}
-use Rattle.lock_table.specs.EntryView.{owners_left}
-use Rattle.lock_table.specs.Tables.{part_of, owners_in}
+use Rattle.lock_table.proofs.Names.{◌∙◌, map, nth_from_yields_List, YieldsList-from_first, resource_by, found, placed_none, placed_some, owners_left, part_of, owners_in}
 use Rattle.lock_table.proofs.table.at_on.Goals as goal
 
 pub returns-then-k-before : goal.returns-then-k-before

@@ -1,8 +1,4 @@
-use Rattle.std.proofs.Common.{◌∙◌, sym}
-use Rattle.std.proofs.lemmas.Iterator.Consumers.{nth_from_yields_List, YieldsList-from_first}
-use Rattle.cf_lists.proofs.EntryTableLaws.{ordered, at_is, none_past}
-use Rattle.lock_table.specs.EntryView.{owners_left}
-use Rattle.lock_table.specs.Tables.{part_of}
+use Rattle.lock_table.proofs.Names.{◌∙◌, sym, nth_from_yields_List, YieldsList-from_first, ordered, at_is, none_past, owners_left, part_of}
 use Rattle.lock_table.proofs.table.at_place.Goals as goal
 
 pub start_of-before-requires : goal.start_of-before-requires

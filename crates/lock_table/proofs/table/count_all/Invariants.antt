@@ -1,5 +1,4 @@
-use Rattle.std.proofs.Common.{◌≡◌, ◌+◌, length, drop}
-use Rattle.cf_lists.specs.Bins.{joined}
+use Rattle.lock_table.proofs.Names.{◌≡◌, ◌+◌, length, drop, joined}
 use Rattle.lock_table.proofs.table.count_all.Given as goal
 
 abbrev pub invariant-loop-entry : goal.invariant-loop-entry

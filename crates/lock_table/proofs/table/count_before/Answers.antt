@@ -1,9 +1,4 @@
-use Rattle.std.proofs.Common.{length, filter, refl, arith, List}
-use Rattle.cf_lists.proofs.PassLaws.{counted_next, counted_past, length-kept_append}
-use Rattle.cf_types.specs.Resources.{resource_before}
-use Rattle.cf_lists.proofs.FilterLaws.{length-filter-le}
-use Rattle.cf_lists.specs.Bins.{joined}
-use Rattle.lock_table.specs.declared.holdings.Held.{Held}
+use Rattle.lock_table.proofs.Names.{length, filter, refl, arith, List, counted_next, counted_past, length-kept_append, resource_before, length-filter-le, joined, Held}
 use Rattle.lock_table.proofs.table.count_before.Goals as goal
 
 pub overflow_add-count : goal.overflow_add-count

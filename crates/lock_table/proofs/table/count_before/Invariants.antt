@@ -1,7 +1,4 @@
-use Rattle.std.proofs.Common.{◌≡◌, ◌+◌, length, filter, drop}
-use Rattle.cf_types.specs.Resources.{resource_before}
-use Rattle.cf_lists.specs.Bins.{joined}
-use Rattle.lock_table.specs.declared.holdings.Held.{Held}
+use Rattle.lock_table.proofs.Names.{◌≡◌, ◌+◌, length, filter, drop, resource_before, joined, Held}
 use Rattle.lock_table.proofs.table.count_before.Given as goal
 
 abbrev pub invariant-loop-entry : goal.invariant-loop-entry

@@ -1,13 +1,4 @@
-use Rattle.std.proofs.Common.{◌≡◌, ◌≤◌, ◌&&◌, List, map, not, length, ap, arith, ◌∙◌}
-use Rattle.cf_types.specs.declared.numbers.ConnId.{ConnId}
-use Rattle.cf_lists.proofs.FilterLaws.{length-filter-le}
-use Rattle.cf_lists.specs.Tables.{resource_by}
-use Rattle.cf_lists.specs.Bins.{joined}
-use Rattle.cf_lists.proofs.PassLaws.{left_seen, left_table}
-use Rattle.cf_lists.proofs.RankLaws.{length_seen}
-use Rattle.lock_table.specs.declared.holdings.Held.{Held}
-use Rattle.lock_table.specs.Holdings.{is_by, owners_without_active}
-use Rattle.lock_table.specs.Tables.{part_of, owners_in, AreEntries}
+use Rattle.lock_table.proofs.Names.{◌≡◌, ◌≤◌, ◌&&◌, List, map, not, length, ap, arith, ◌∙◌, ConnId, length-filter-le, resource_by, joined, left_seen, left_table, length_seen, Held, is_by, owners_without_active, part_of, owners_in, AreEntries}
 use Rattle.lock_table.proofs.table.end_active.Goals as goal
 
 left : (conn : ConnId) (entries new : List (List Held)) → AreEntries entries

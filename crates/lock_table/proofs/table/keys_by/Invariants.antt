@@ -1,7 +1,4 @@
-use Rattle.std.proofs.Common.{◌≡◌, ◌++◌, map, filter, drop}
-use Rattle.cf_lists.specs.Bins.{joined}
-use Rattle.lock_table.specs.Holdings.{is_by}
-use Rattle.lock_table.specs.Tables.{resource_of}
+use Rattle.lock_table.proofs.Names.{◌≡◌, ◌++◌, map, filter, drop, joined, is_by, resource_of}
 use Rattle.lock_table.proofs.table.keys_by.Given as goal
 
 abbrev pub invariant-loop-entry : goal.invariant-loop-entry

@@ -1,6 +1,4 @@
-use Rattle.std.proofs.Common.{◌≡◌, ◌++◌, map, drop}
-use Rattle.cf_lists.specs.Bins.{joined}
-use Rattle.lock_table.specs.Tables.{resource_of}
+use Rattle.lock_table.proofs.Names.{◌≡◌, ◌++◌, map, drop, joined, resource_of}
 use Rattle.lock_table.proofs.table.keys_of.Given as goal
 
 abbrev pub invariant-loop-entry : goal.invariant-loop-entry

@@ -1,5 +1,4 @@
-use Rattle.cf_lists.proofs.RankLaws.{last_next, last_past}
-use Rattle.lock_table.specs.Tables.{part_of}
+use Rattle.lock_table.proofs.Names.{last_next, last_past, part_of}
 use Rattle.lock_table.proofs.table.last_in.Goals as goal
 
 pub loop-entry-preserved : goal.loop-entry-preserved

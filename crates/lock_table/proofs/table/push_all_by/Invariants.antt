@@ -1,6 +1,4 @@
-use Rattle.std.proofs.Common.{◌≡◌, ◌++◌, map, filter}
-use Rattle.lock_table.specs.Holdings.{is_by}
-use Rattle.lock_table.specs.Tables.{resource_of}
+use Rattle.lock_table.proofs.Names.{◌≡◌, ◌++◌, map, filter, is_by, resource_of}
 use Rattle.lock_table.proofs.table.push_all_by.Given as goal
 
 abbrev pub invariant-loop-held : goal.invariant-loop-held

@@ -1,5 +1,4 @@
-use Rattle.std.proofs.Common.{◌≡◌, ◌++◌, map}
-use Rattle.lock_table.specs.Tables.{resource_of}
+use Rattle.lock_table.proofs.Names.{◌≡◌, ◌++◌, map, resource_of}
 use Rattle.lock_table.proofs.table.push_keys.Given as goal
 
 abbrev pub invariant-loop-held : goal.invariant-loop-held

@@ -1,9 +1,4 @@
-use Rattle.std.proofs.Common.{length}
-use Rattle.cf_types.specs.Resources.{resource_up_to}
-use Rattle.lock_table.specs.declared.holdings.Held.{Held}
-use Rattle.lock_table.specs.Holdings.{is_interest}
-use Rattle.lock_table.specs.Tables.{owners_in}
-use Rattle.cf_lists.proofs.FilterLaws.{none_filtered}
+use Rattle.lock_table.proofs.Names.{length, resource_up_to, Held, is_interest, owners_in, none_filtered}
 use Rattle.lock_table.proofs.CountLaws.{one_more}
 use Rattle.lock_table.proofs.table.put.Goals as goal
 

@@ -1,9 +1,4 @@
-use Rattle.std.proofs.Common.{map, length, refl, ap, ◌∙◌}
-use Rattle.std.proofs.lemmas.List.{length-map}
-use Rattle.cf_lists.specs.Tables.{resource_by}
-use Rattle.lock_table.specs.Holdings.{in_retention}
-use Rattle.lock_table.specs.Tables.{part_of, owners_in}
-use Rattle.cf_lists.proofs.EntryTableLaws.{entry_apart, changed_seen, changed_table, of_seen, not_here}
+use Rattle.lock_table.proofs.Names.{map, length, refl, ap, ◌∙◌, length-map, resource_by, in_retention, part_of, owners_in, entry_apart, changed_seen, changed_table, of_seen, not_here}
 use Rattle.lock_table.proofs.EntryLaws.{retention_else}
 use Rattle.lock_table.proofs.table.put_retention.Goals as goal
 

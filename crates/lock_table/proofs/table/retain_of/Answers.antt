@@ -1,9 +1,4 @@
-use Rattle.std.proofs.Common.{refl, map, length, ap, ◌∙◌}
-use Rattle.std.proofs.lemmas.List.{length-map}
-use Rattle.cf_lists.specs.Tables.{resource_by}
-use Rattle.cf_lists.proofs.PassLaws.{all_changed_seen, all_changed_table}
-use Rattle.lock_table.specs.Holdings.{in_retention_of}
-use Rattle.lock_table.specs.Tables.{part_of, owners_in}
+use Rattle.lock_table.proofs.Names.{refl, map, length, ap, ◌∙◌, length-map, resource_by, all_changed_seen, all_changed_table, in_retention_of, part_of, owners_in}
 use Rattle.lock_table.proofs.table.retain_of.Goals as goal
 
 pub returns-clause-kept : goal.returns-clause-kept

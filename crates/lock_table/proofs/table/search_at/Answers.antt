@@ -1,9 +1,4 @@
-use Rattle.std.proofs.Common.{not, is_some, sym, refl, ◌∙◌}
-use Rattle.cf_lists.specs.Tables.{placed_on}
-use Rattle.cf_lists.proofs.PassLaws.{all_next, joined_past}
-use Rattle.cf_lists.proofs.RankLaws.{none_placed_on}
-use Rattle.lock_table.specs.declared.holdings.Held.{Held}
-use Rattle.lock_table.specs.Tables.{part_of, owners_in}
+use Rattle.lock_table.proofs.Names.{not, is_some, sym, refl, ◌∙◌, placed_on, all_next, joined_past, none_placed_on, Held, part_of, owners_in}
 use Rattle.lock_table.proofs.table.search_at.Goals as goal
 
 pub loop-entry-preserved : goal.loop-entry-preserved

@@ -1,12 +1,4 @@
-use Rattle.std.proofs.Common.{List, map, filter, ap, subst, arith, ◌∙◌}
-use Rattle.std.specs.List.Sorted.{IsPermutation}
-use Rattle.cf_types.specs.declared.resources.Resource.{Resource}
-use Rattle.cf_types.specs.Resources.{same_resource, resource_before}
-use Rattle.cf_lists.specs.Bins.{joined}
-use Rattle.cf_lists.proofs.EntryKeyLaws.{resource_order}
-use Rattle.cf_lists.proofs.SortLaws.{neighbours, sorted_is, arranged-filter}
-use Rattle.lock_table.specs.Holdings.{is_by}
-use Rattle.lock_table.specs.Tables.{resource_of}
+use Rattle.lock_table.proofs.Names.{List, map, filter, ap, subst, arith, ◌∙◌, IsPermutation, Resource, same_resource, resource_before, joined, resource_order, neighbours, sorted_is, arranged-filter, is_by, resource_of}
 use Rattle.lock_table.proofs.table.sorted_keys_by.Goals as goal
 
 pub returns : goal.returns

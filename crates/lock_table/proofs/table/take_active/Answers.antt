@@ -1,7 +1,4 @@
-use Rattle.std.proofs.Common.{arith}
-use Rattle.cf_lists.proofs.MapLaws.{mapped_more}
-use Rattle.cf_lists.proofs.PassLaws.{mapped_whole}
-use Rattle.lock_table.specs.Holdings.{owners_without_active}
+use Rattle.lock_table.proofs.Names.{arith, mapped_more, mapped_whole, owners_without_active}
 use Rattle.lock_table.proofs.table.take_active.Goals as goal
 
 pub loop-entry-preserved : goal.loop-entry-preserved

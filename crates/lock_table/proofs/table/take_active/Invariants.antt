@@ -1,5 +1,4 @@
-use Rattle.std.proofs.Common.{◌≡◌, ◌≤◌, length, map, take, drop}
-use Rattle.lock_table.specs.Holdings.{owners_without_active}
+use Rattle.lock_table.proofs.Names.{◌≡◌, ◌≤◌, length, map, take, drop, owners_without_active}
 use Rattle.lock_table.proofs.table.take_active.Given as goal
 
 abbrev pub invariant-loop-entry : goal.invariant-loop-entry

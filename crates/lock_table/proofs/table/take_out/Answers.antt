@@ -1,7 +1,4 @@
-use Rattle.std.proofs.Common.{map, ◌∙◌}
-use Rattle.cf_lists.specs.Tables.{resource_by}
-use Rattle.lock_table.specs.Tables.{part_of, owners_in}
-use Rattle.cf_lists.proofs.EntryTableLaws.{entry_apart, there_in, taken_seen, taken_bins}
+use Rattle.lock_table.proofs.Names.{map, ◌∙◌, resource_by, part_of, owners_in, entry_apart, there_in, taken_seen, taken_bins}
 use Rattle.lock_table.proofs.CountLaws.{less_one}
 use Rattle.lock_table.proofs.table.take_out.Goals as goal
 

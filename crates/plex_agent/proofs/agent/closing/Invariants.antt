@@ -1,6 +1,4 @@
-use Rattle.std.proofs.Common.{◌≡◌, drop}
-use Rattle.plex_board.specs.Boards.{IsDeskOf}
-use Rattle.plex_board.specs.Turns.{AtWork}
+use Rattle.plex_agent.proofs.Names.{◌≡◌, drop, IsDeskOf, AtWork}
 use Rattle.plex_board.specs.Callers.{DepartsEach}
 use Rattle.plex_agent.proofs.agent.closing.Given as goal
 

@@ -1,7 +1,5 @@
-use Rattle.std.proofs.Common.{◌≡◌, drop}
-use Rattle.plex_board.specs.Boards.{IsDeskOf}
-use Rattle.plex_board.specs.Turns.{AtWork}
-use Rattle.plex_board.specs.Callers.{DoesLines, lines_by, no_items}
+use Rattle.plex_agent.proofs.Names.{◌≡◌, drop, IsDeskOf, AtWork, lines_by, no_items}
+use Rattle.plex_board.specs.Callers.{DoesLines}
 use Rattle.plex_agent.proofs.agent.serve.Given as goal
 
 abbrev pub invariant-loop-line : goal.invariant-loop-line

@@ -1,6 +1,4 @@
-use Rattle.std.proofs.Common.{◌≡◌, List, length, map, ◌∙◌, ap, arith}
-use Rattle.std.proofs.lemmas.List.{with_items_is}
-use Rattle.plex_board.specs.Turns.{AtWork}
+use Rattle.plex_agent.proofs.Names.{◌≡◌, List, length, map, ◌∙◌, ap, arith, with_items_is, AtWork}
 use Rattle.plex_agent.proofs.SeatedLaws.{new_crew, new_desks-are, callers-desks}
 use Rattle.plex_agent.proofs.CrewLaws.{crew_is_idle, lines_fit, work_each, worked-callers}
 use Rattle.plex_agent.proofs.at_once.work.Goals as goal

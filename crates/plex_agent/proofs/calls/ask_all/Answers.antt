@@ -1,10 +1,5 @@
-use Rattle.std.proofs.Common.{rules, ◌≤◌, ◌∙◌}
-use Rattle.std.specs.Option.{option_copied}
+use Rattle.plex_agent.proofs.Names.{rules, ◌≤◌, ◌∙◌, option_copied, CellShown, pass_at, cell_on, IsAsked, at_work}
 use Rattle.plex_board.specs.PlexScript.declared.transcripts.AgentEnd.TheVariants as ended
-use Rattle.plex_board.specs.Cells.{CellShown}
-use Rattle.plex_board.specs.Desks.{pass_at}
-use Rattle.plex_board.specs.Boards.{cell_on}
-use Rattle.plex_agent.specs.Calls.{IsAsked, at_work}
 use Rattle.plex_agent.proofs.CellLaws.{some_is, if_each}
 use Rattle.plex_agent.proofs.AskLaws.{asks_more, asks_refused, pass_there, asked_fewer, asked_ready, asked_owner}
 use Rattle.plex_agent.proofs.calls.ask_all.Goals as goal

@@ -1,11 +1,5 @@
-use Rattle.std.proofs.Common.{◌≡◌, Some}
-use Rattle.std.specs.Option.{option_copied}
+use Rattle.plex_agent.proofs.Names.{◌≡◌, Some, option_copied, most_asks, IsReady, CellShown, IsDeskOf, cell_on, AtWork, Asks, at_work}
 use Rattle.plex_board.specs.PlexScript.declared.transcripts.AgentEnd.TheVariants as ended
-use Rattle.plex_board.specs.PlexScript.Agent.{most_asks, IsReady}
-use Rattle.plex_board.specs.Cells.{CellShown}
-use Rattle.plex_board.specs.Boards.{IsDeskOf, cell_on}
-use Rattle.plex_board.specs.Turns.{AtWork, Asks}
-use Rattle.plex_agent.specs.Calls.{at_work}
 use Rattle.plex_agent.proofs.calls.ask_all.Given as goal
 
 abbrev pub invariant-loop-alloc : goal.invariant-loop-alloc

@@ -1,5 +1,4 @@
-use Rattle.std.proofs.Common.{rules}
-use Rattle.std.specs.Option.{option_copied}
+use Rattle.plex_agent.proofs.Names.{rules, option_copied}
 use Rattle.plex_agent.proofs.CellLaws.{ask_fits, may_ask_there}
 use Rattle.plex_agent.proofs.calls.ask_step.Goals as goal
 

@@ -1,7 +1,4 @@
-use Rattle.std.proofs.Common.{◌≡◌, ◌+◌, ◌≤◌, ◌++◌, map, length}
-use Rattle.std.specs.Vec.{vec_len, vec_capacity}
-use Rattle.std.specs.Vec.Iter.{into_iter_items}
-use Rattle.plex_agent.specs.Crews.{idle_worker}
+use Rattle.plex_agent.proofs.Names.{◌≡◌, ◌+◌, ◌≤◌, ◌++◌, map, length, vec_len, vec_capacity, into_iter_items, idle_worker}
 use Rattle.plex_agent.proofs.crew.seat.Given as goal
 
 abbrev pub invariant-loop-desk : goal.invariant-loop-desk

@@ -1,4 +1,4 @@
-use Rattle.std.proofs.Common.{◌≡◌, replicate, None}
+use Rattle.plex_agent.proofs.Names.{◌≡◌, replicate, None}
 use Rattle.plex_agent.proofs.floor.nobody.Given as goal
 
 abbrev pub invariant-loop : goal.invariant-loop

@@ -1,5 +1,4 @@
-use Rattle.std.proofs.Common.{◌≢◌, take}
-use Rattle.std.specs.Prelude.{All}
+use Rattle.plex_agent.proofs.Names.{◌≢◌, take, All}
 use Rattle.plex_board.specs.PlexScript.declared.transcripts.AgentEnd.TheVariants as ended
 use Rattle.plex_agent.proofs.in_turn.finish.Given as goal
 

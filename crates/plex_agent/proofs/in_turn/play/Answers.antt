@@ -1,9 +1,4 @@
-use Rattle.std.proofs.Common.{List, Option, length, refl, sym, ◌∙◌, ap, subst, arith}
-use Rattle.plex_board.specs.Passes.{NoteShown}
-use Rattle.plex_board.specs.Boards.{IsTrayOf}
-use Rattle.plex_board.specs.Turns.{AtWork}
-use Rattle.plex_board.specs.Floors.{Floor}
-use Rattle.plex_agent.specs.Standing.{AreCallersOf, IsFloorOf}
+use Rattle.plex_agent.proofs.Names.{List, Option, length, refl, sym, ◌∙◌, ap, subst, arith, NoteShown, IsTrayOf, AtWork, Floor, AreCallersOf, IsFloorOf}
 use Rattle.plex_agent.proofs.SeatedLaws.{new_callers, new_crew, new_desks-are, callers-desks}
 use Rattle.plex_agent.proofs.FloorLaws.{new_floor_is, new_floor_fits}
 use Rattle.plex_agent.proofs.in_turn.play.Goals as goal

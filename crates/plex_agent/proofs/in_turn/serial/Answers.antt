@@ -1,9 +1,5 @@
 -- The board that was started, played to its end and closed.
-use Rattle.std.proofs.Common.{◌≡◌}
-use Rattle.plex_board.specs.Headline.{ShowsHistories}
-use Rattle.plex_board.specs.RunLinks.{AreRunLinks}
-use Rattle.plex_board.specs.Serial.{serial_run}
-use Rattle.plex_agent.specs.Played.{IsPlayed}
+use Rattle.plex_agent.proofs.Names.{◌≡◌, ShowsHistories, AreRunLinks, serial_run, IsPlayed}
 use Rattle.plex_agent.proofs.RunLaws.{lines_playable, finished_is, links_asked, links_count, played_exact, played_shows}
 use Rattle.plex_agent.proofs.in_turn.serial.Goals as goal
 

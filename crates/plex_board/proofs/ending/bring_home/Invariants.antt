@@ -1,6 +1,4 @@
-use Rattle.std.proofs.Common.{◌≡◌}
-use Rattle.std.specs.Vec.{vec_len}
-use Rattle.plex_board.specs.Rests.{each_with, home_with, homes_shown, Fits}
+use Rattle.plex_board.proofs.Names.{◌≡◌, vec_len, each_with, home_with, homes_shown, Fits}
 use Rattle.plex_board.proofs.ending.bring_home.Given as goal
 
 abbrev pub invariant-loop-place : goal.invariant-loop-place

@@ -1,9 +1,4 @@
-use Rattle.std.proofs.Common.{◌≡◌, ◌+◌, ◌*◌, ◌≤◌, ◌++◌, List, length}
-use Rattle.std.specs.Vec.{vec_len, vec_capacity}
-use Rattle.std.specs.Vec.Iter.{into_iter_items}
-use Rattle.plex_script.specs.declared.asks.AnyHistory.{AnyHistory}
-use Rattle.plex_board.specs.Boards.{AreEachAsked}
-use Rattle.plex_board.specs.Rests.{homes_shown, AreHomes, AreEnded}
+use Rattle.plex_board.proofs.Names.{◌≡◌, ◌+◌, ◌*◌, ◌≤◌, ◌++◌, List, length, vec_len, vec_capacity, into_iter_items, AnyHistory, AreEachAsked, homes_shown, AreHomes, AreEnded}
 use Rattle.plex_board.proofs.ending.end.Given as goal
 
 abbrev pub invariant-loop-station : goal.invariant-loop-station

@@ -1,6 +1,4 @@
-use Rattle.std.proofs.Common.{◌≡◌}
-use Rattle.std.specs.Vec.Iter.{into_iter_items}
-use Rattle.plex_board.specs.Rests.{homes_shown, AllFit, homes_gathered}
+use Rattle.plex_board.proofs.Names.{◌≡◌, into_iter_items, homes_shown, AllFit, homes_gathered}
 use Rattle.plex_board.proofs.ending.gather.Given as goal
 
 abbrev pub invariant-loop-desk : goal.invariant-loop-desk

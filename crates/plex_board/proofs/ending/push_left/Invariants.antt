@@ -1,6 +1,4 @@
-use Rattle.std.proofs.Common.{◌≡◌, ◌+◌, ◌≤◌, ◌++◌}
-use Rattle.std.specs.Vec.{vec_len, vec_capacity}
-use Rattle.std.specs.Vec.Iter.{into_iter_items, into_iter_len}
+use Rattle.plex_board.proofs.Names.{◌≡◌, ◌+◌, ◌≤◌, ◌++◌, vec_len, vec_capacity, into_iter_items, into_iter_len}
 use Rattle.plex_board.proofs.ending.push_left.Given as goal
 
 abbrev pub invariant-loop-link : goal.invariant-loop-link

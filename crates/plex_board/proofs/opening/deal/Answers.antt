@@ -1,7 +1,4 @@
-use Rattle.std.proofs.Common.{◌-◌, ◌<◌, ◌≤◌, length, sym, subst, arith}
-use Rattle.std.proofs.lemmas.List.{length-set}
-use Rattle.std.proofs.Common.{◌∙◌}
-use Rattle.plex_script.specs.CfTypes.declared.limits.TheConstants.{STRUCTURES}
+use Rattle.plex_board.proofs.Names.{◌-◌, ◌<◌, ◌≤◌, length, sym, subst, arith, ◌∙◌, length-set, STRUCTURES}
 use Rattle.plex_board.proofs.DealLaws.{deal-some, deal-next, deal-desks, deal-unused, few-left}
 use Rattle.plex_board.proofs.opening.deal.Goals as goal
 

@@ -1,10 +1,4 @@
-use Rattle.std.proofs.Common.{◌≡◌, ◌<◌, ◌≤◌, ℕ, [], length, get_or}
-use Rattle.std.specs.Prelude.{All}
-use Rattle.plex_script.specs.CfTypes.declared.limits.TheConstants.{STRUCTURES}
-use Rattle.plex_board.specs.Passes.{passes_shown, type_of_passes, room_of}
-use Rattle.plex_board.specs.Desks.{DeskShown}
-use Rattle.plex_board.specs.Rests.{each_with}
-use Rattle.plex_board.specs.Openings.{desk_with}
+use Rattle.plex_board.proofs.Names.{◌≡◌, ◌<◌, ◌≤◌, ℕ, [], length, get_or, All, STRUCTURES, passes_shown, type_of_passes, room_of, DeskShown, each_with, desk_with}
 use Rattle.plex_board.proofs.opening.deal.Given as goal
 
 abbrev pub invariant-loop-pass : goal.invariant-loop-pass

@@ -1,6 +1,4 @@
-use Rattle.std.proofs.Common.{◌≡◌, map}
-use Rattle.std.specs.List.{range_with_len}
-use Rattle.plex_board.specs.Openings.{bare_desk}
+use Rattle.plex_board.proofs.Names.{◌≡◌, map, range_with_len, bare_desk}
 use Rattle.plex_board.proofs.opening.new_desks.Given as goal
 
 abbrev pub invariant-loop-owner : goal.invariant-loop-owner

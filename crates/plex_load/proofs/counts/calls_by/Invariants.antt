@@ -1,5 +1,4 @@
-use Rattle.std.proofs.Common.{◌≡◌, take}
-use Rattle.plex_load.specs.Summary.{calls_by}
+use Rattle.plex_load.proofs.Names.{◌≡◌, take, calls_by}
 use Rattle.plex_load.proofs.counts.calls_by.Given as goal
 
 abbrev pub invariant-loop-history : goal.invariant-loop-history

@@ -1,5 +1,4 @@
-use Rattle.std.proofs.Common.{◌≡◌, sum_by, take}
-use Rattle.plex_script.specs.Heard.{any_length}
+use Rattle.plex_load.proofs.Names.{◌≡◌, sum_by, take, any_length}
 use Rattle.plex_load.proofs.counts.entries.Given as goal
 
 abbrev pub invariant-loop-history : goal.invariant-loop-history

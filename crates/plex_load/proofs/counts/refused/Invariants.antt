@@ -1,5 +1,4 @@
-use Rattle.std.proofs.Common.{◌≡◌, sum_by, take}
-use Rattle.plex_load.specs.Summary.{refusals_of}
+use Rattle.plex_load.proofs.Names.{◌≡◌, sum_by, take, refusals_of}
 use Rattle.plex_load.proofs.counts.refused.Given as goal
 
 abbrev pub invariant-loop-history : goal.invariant-loop-history

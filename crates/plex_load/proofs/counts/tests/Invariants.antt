@@ -1,5 +1,4 @@
-use Rattle.std.proofs.Common.{◌≡◌, sum_by, take}
-use Rattle.plex_load.specs.Summary.{tests_of}
+use Rattle.plex_load.proofs.Names.{◌≡◌, sum_by, take, tests_of}
 use Rattle.plex_load.proofs.counts.tests.Given as goal
 
 abbrev pub invariant-loop-transcript : goal.invariant-loop-transcript

@@ -1,5 +1,4 @@
-use Rattle.std.proofs.Common.{◌≡◌}
-use Rattle.plex_load.specs.Generated.{first_number, lines_of_first}
+use Rattle.plex_load.proofs.Names.{◌≡◌, first_number, lines_of_first}
 use Rattle.plex_load.proofs.making.lines.Given as goal
 
 -- the lines of the connectors before this one stand there, and the number goes on from the last of them

@@ -1,7 +1,4 @@
-use Rattle.std.proofs.Common.{◌≡◌, ◌++◌}
-use Rattle.std.specs.List.{flat_map}
-use Rattle.plex_script.specs.PlexSpell.Words.{line_text}
-use Rattle.plex_load.specs.Summary.{calls_lines}
+use Rattle.plex_load.proofs.Names.{◌≡◌, ◌++◌, flat_map, line_text, calls_lines}
 use Rattle.plex_load.proofs.summing.put_callers.Given as goal
 
 -- the lines of the connectors before this one stand there

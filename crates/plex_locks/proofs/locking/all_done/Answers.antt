@@ -1,13 +1,4 @@
-use Rattle.std.proofs.Common.{arith, ◌≡◌, ◌<◌, ℕ, map, length, sym, ap, ◌∙◌, subst, All, List}
-use Rattle.std.proofs.lemmas.List.FromFn.{length-map-range_with_len}
-use Rattle.plex_script.specs.CfTypes.declared.names.Name16.{Name16}
-use Rattle.std.specs.Prelude.{AllPairs, slice_index}
-use Rattle.lock_words.specs.Values.{AreCompatible}
-use Rattle.lock_words.specs.Hands.{HandSeen, new_hand, AreAll, HasValue, all_held, IsOthers}
-use Rattle.plex_script.specs.declared.scripts.Line.{Line}
-use Rattle.plex_locks.specs.declared.told.HandTold.{HandTold}
-use Rattle.plex_locks.specs.Work.{AtLocks, AreIdle}
-use Rattle.plex_locks.specs.Told.{IsLocked, told_of}
+use Rattle.plex_locks.proofs.Names.{arith, ◌≡◌, ◌<◌, ℕ, map, length, sym, ap, ◌∙◌, subst, All, List, AllPairs, slice_index, length-map-range_with_len, Name16, AreCompatible, HandSeen, new_hand, AreAll, HasValue, all_held, IsOthers, Line, HandTold, AtLocks, AreIdle, IsLocked, told_of}
 use Rattle.plex_locks.proofs.ToldLaws.{length-idle, all-ready, all-hands, told-right}
 use Rattle.plex_locks.proofs.locking.all_done.Goals as goal
 

@@ -1,6 +1,4 @@
-use Rattle.std.proofs.Common.{◌≡◌, ◌⊎◌, [], length, inl, inr, ⊎_elim, sym, ap, ◌∙◌}
-use Rattle.std.proofs.lemmas.Bool.{eqb-true}
-use Rattle.plex_locks.specs.Told.{entries_of}
+use Rattle.plex_locks.proofs.Names.{◌≡◌, ◌⊎◌, [], length, inl, inr, ⊎_elim, sym, ap, ◌∙◌, eqb-true, entries_of}
 use Rattle.plex_locks.proofs.ToldLaws.{nobody-named, none-told}
 use Rattle.plex_locks.proofs.locking.locked.Goals as goal
 

@@ -1,5 +1,4 @@
-use Rattle.std.proofs.Common.{◌≡◌, ◌++◌, drop, map}
-use Rattle.plex_locks.specs.Told.{none_told}
+use Rattle.plex_locks.proofs.Names.{◌≡◌, ◌++◌, drop, map, none_told}
 use Rattle.plex_locks.proofs.locking.none_done.Given as goal
 
 -- with the connectors that are left they are all

@@ -1,6 +1,4 @@
-use Rattle.std.proofs.Common.{◌≡◌, ◌++◌, map}
-use Rattle.std.specs.Vec.Iter.{into_iter_items}
-use Rattle.plex_locks.specs.Told.{told_of}
+use Rattle.plex_locks.proofs.Names.{◌≡◌, ◌++◌, map, into_iter_items, told_of}
 use Rattle.plex_locks.proofs.locking.part.Given as goal
 
 -- with the workers that are left they are all

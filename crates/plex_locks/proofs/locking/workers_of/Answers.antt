@@ -1,6 +1,4 @@
-use Rattle.std.proofs.Common.{rules, arith, ap, ◌≡◌, ◌∷◌}
-use Rattle.std.specs.Vec.Iter.{into_iter_items}
-use Rattle.plex_locks.specs.Work.{AtLocks}
+use Rattle.plex_locks.proofs.Names.{rules, arith, ap, ◌≡◌, ◌∷◌, into_iter_items, AtLocks}
 use Rattle.plex_locks.proofs.ToldLaws.{dealt-more, first-left}
 use Rattle.plex_locks.proofs.locking.workers_of.Goals as goal
 

@@ -1,7 +1,4 @@
-use Rattle.std.proofs.Common.{◌≡◌, ℕ, length}
-use Rattle.plex_script.specs.PlexSpell.Words.{lines_of}
-use Rattle.plex_script.specs.Scripts.{line_number}
-use Rattle.plex_locks.specs.Others.{declaring}
+use Rattle.plex_locks.proofs.Names.{◌≡◌, ℕ, length, lines_of, line_number, declaring}
 use Rattle.plex_locks.proofs.others.declaring.Given as goal
 
 -- it is declared among the lines that are left

@@ -1,6 +1,4 @@
-use Rattle.std.proofs.Common.{sym}
-use Rattle.plex_script.proofs.PlexSpell.TextLaws.{rest_whole}
-use Rattle.plex_script.proofs.ReadLaws.{lines-feed, lines-last, nothing_left}
+use Rattle.plex_locks.proofs.Names.{sym, rest_whole, lines-feed, lines-last, nothing_left}
 use Rattle.plex_locks.proofs.others.first_line.Goals as goal
 
 pub returns-in-Some-clause-lines : goal.returns-in-Some-clause-lines

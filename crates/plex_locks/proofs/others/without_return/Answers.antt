@@ -1,6 +1,4 @@
-use Rattle.std.proofs.Common.{◌≡◌, ◌<◌, ◌-◌, length, sym, arith, suc}
-use Rattle.std.proofs.lemmas.Bool.Decides.{nat_tests}
-use Rattle.plex_script.proofs.ReadLaws.{return-yes, return-no}
+use Rattle.plex_locks.proofs.Names.{◌≡◌, ◌<◌, ◌-◌, length, sym, arith, suc, nat_tests, return-yes, return-no}
 use Rattle.plex_locks.proofs.others.without_return.Goals as goal
 
 pub returns-then-line-last-eq13 : goal.returns-then-line-last-eq13

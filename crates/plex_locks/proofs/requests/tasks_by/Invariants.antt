@@ -1,6 +1,4 @@
-use Rattle.std.proofs.Common.{◌≡◌, ◌++◌, drop}
-use Rattle.std.specs.List.{filter_map}
-use Rattle.plex_locks.specs.Requests.{task_by}
+use Rattle.plex_locks.proofs.Names.{◌≡◌, ◌++◌, drop, filter_map, task_by}
 use Rattle.plex_locks.proofs.requests.tasks_by.Given as goal
 
 -- with those of the lines that are left they are all

@@ -1,7 +1,4 @@
-use Rattle.std.proofs.Common.{◌≡◌, ◌++◌, drop}
-use Rattle.std.specs.List.{flat_map}
-use Rattle.plex_script.specs.PlexSpell.Words.{line_text}
-use Rattle.plex_locks.specs.Told.{word_lines}
+use Rattle.plex_locks.proofs.Names.{◌≡◌, ◌++◌, drop, flat_map, line_text, word_lines}
 use Rattle.plex_locks.proofs.told.put_words.Given as goal
 
 -- with the words that are left the text is what it is to be

@@ -1,7 +1,4 @@
-use Rattle.std.proofs.Common.{◌++◌, ◌∷◌, [], sym, ap, ◌∙◌, subst}
-use Rattle.plex_locks.specs.declared.requests.Request.{Request}
-use Rattle.plex_locks.specs.Outcomes.{word_of}
-use Rattle.plex_locks.specs.Work.{IsWorked}
+use Rattle.plex_locks.proofs.Names.{◌++◌, ◌∷◌, [], sym, ap, ◌∙◌, subst, Request, word_of, IsWorked}
 use Rattle.plex_locks.proofs.WorkLaws.{obtained, released}
 use Rattle.plex_locks.proofs.worker.attempt.Goals as goal
 

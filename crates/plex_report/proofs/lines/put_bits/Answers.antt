@@ -1,5 +1,4 @@
-use Rattle.std.proofs.Common.{◌≡◌, ◌-◌, ◌++◌, [], ◌∷◌, sym, ap, ◌∙◌, append-nil, append_assoc, arith}
-use Rattle.plex_report.specs.Lines.{binary_digits}
+use Rattle.plex_report.proofs.Names.{◌≡◌, ◌-◌, ◌++◌, [], ◌∷◌, sym, ap, ◌∙◌, append-nil, append_assoc, arith, binary_digits}
 use Rattle.plex_report.proofs.Digits.{digits_end}
 use Rattle.plex_report.proofs.lines.put_bits.Goals as goal
 

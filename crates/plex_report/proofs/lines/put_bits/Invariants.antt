@@ -1,5 +1,4 @@
-use Rattle.std.proofs.Common.{◌≡◌, ◌-◌, ◌++◌}
-use Rattle.plex_report.specs.Lines.{binary_digits}
+use Rattle.plex_report.proofs.Names.{◌≡◌, ◌-◌, ◌++◌, binary_digits}
 use Rattle.plex_report.proofs.lines.put_bits.Given as goal
 
 -- with the digits that are left the line is what it is to be

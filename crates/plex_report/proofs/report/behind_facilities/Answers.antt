@@ -1,6 +1,4 @@
-use Rattle.std.proofs.Common.{[], ◌∷◌, ◌++◌, codes, map}
-use Rattle.plex_script.specs.PlexPlain.PolicyLines.{connector_line}
-use Rattle.plex_report.specs.Report.{histories_lines, transcripts_lines}
+use Rattle.plex_report.proofs.Names.{[], ◌∷◌, ◌++◌, codes, map, connector_line, histories_lines, transcripts_lines}
 use Rattle.plex_report.proofs.Sections.{structure_spot, structures_after}
 use Rattle.plex_report.proofs.report.behind_facilities.Goals as goal
 

@@ -1,7 +1,4 @@
-use Rattle.std.proofs.Common.{◌≡◌, ◌++◌, ℕ, List, Some, map, sym, ap, ◌∙◌}
-use Rattle.std.specs.List.{slice_get}
-use Rattle.plex_script.specs.PlexSpell.Words.{line_text}
-use Rattle.plex_report.specs.Report.{report_lines}
+use Rattle.plex_report.proofs.Names.{◌≡◌, ◌++◌, ℕ, List, Some, map, sym, ap, ◌∙◌, slice_get, line_text, report_lines}
 use Rattle.plex_report.proofs.LinesAt.{text_more}
 use Rattle.plex_report.proofs.report.render.Goals as goal
 

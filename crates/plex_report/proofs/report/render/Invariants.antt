@@ -1,7 +1,4 @@
-use Rattle.std.proofs.Common.{◌≡◌, take}
-use Rattle.std.specs.List.{flat_map}
-use Rattle.plex_script.specs.PlexSpell.Words.{line_text}
-use Rattle.plex_report.specs.Report.{report_lines}
+use Rattle.plex_report.proofs.Names.{◌≡◌, take, flat_map, line_text, report_lines}
 use Rattle.plex_report.proofs.report.render.Given as goal
 
 -- the lines before this one stand there

@@ -1,5 +1,4 @@
-use Rattle.std.proofs.Common.{◌≡◌, ◌-◌, length, Some, sym, ap, ◌∙◌, arith}
-use Rattle.plex_script.specs.PlexPlain.PolicyLines.{form_line, pref_line}
+use Rattle.plex_report.proofs.Names.{◌≡◌, ◌-◌, length, Some, sym, ap, ◌∙◌, arith, form_line, pref_line}
 use Rattle.plex_report.proofs.LinesAt.{get_item}
 use Rattle.plex_report.proofs.report.structure_line.Goals as goal
 

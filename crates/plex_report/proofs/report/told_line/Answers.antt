@@ -1,6 +1,4 @@
-use Rattle.std.proofs.Common.{◌-◌, length, Some, codes, sym, ap, ◌∙◌, arith}
-use Rattle.plex_report.specs.Naming.{structure_name}
-use Rattle.plex_report.specs.Lines.{heading, entry_line}
+use Rattle.plex_report.proofs.Names.{◌-◌, length, Some, codes, sym, ap, ◌∙◌, arith, structure_name, heading, entry_line}
 use Rattle.plex_report.proofs.LinesAt.{get_read}
 use Rattle.plex_report.proofs.report.told_line.Goals as goal
 

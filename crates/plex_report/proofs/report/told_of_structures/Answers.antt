@@ -1,5 +1,4 @@
-use Rattle.std.proofs.Common.{[], ◌∷◌, ◌++◌, codes}
-use Rattle.plex_report.specs.Report.{transcripts_lines}
+use Rattle.plex_report.proofs.Names.{[], ◌∷◌, ◌++◌, codes, transcripts_lines}
 use Rattle.plex_report.proofs.Sections.{history_spot, histories_after}
 use Rattle.plex_report.proofs.report.told_of_structures.Goals as goal
 

@@ -1,5 +1,4 @@
-use Rattle.std.proofs.Common.{◌≡◌, [], ◌∷◌, codes, Some, ap, sym, ◌∙◌, arith}
-use Rattle.std.specs.List.{slice_get}
+use Rattle.plex_report.proofs.Names.{◌≡◌, [], ◌∷◌, codes, Some, ap, sym, ◌∙◌, arith, slice_get}
 use Rattle.plex_report.proofs.Sections.{transcript_spot, transcripts_after, past_end}
 use Rattle.plex_report.proofs.report.told_to_callers.Goals as goal
 

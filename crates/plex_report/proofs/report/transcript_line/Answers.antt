@@ -1,6 +1,4 @@
-use Rattle.std.proofs.Common.{◌≡◌, ◌-◌, length, Some, codes, sym, ap, ◌∙◌, arith}
-use Rattle.plex_report.specs.Naming.{caller_name}
-use Rattle.plex_report.specs.Lines.{heading, shown_line}
+use Rattle.plex_report.proofs.Names.{◌≡◌, ◌-◌, length, Some, codes, sym, ap, ◌∙◌, arith, caller_name, heading, shown_line}
 use Rattle.plex_report.proofs.LinesAt.{get_item}
 use Rattle.plex_report.proofs.report.transcript_line.Goals as goal
 

@@ -1,5 +1,4 @@
-use Rattle.std.proofs.Common.{◌≡◌, ◌∙◌, sym, false}
-use Rattle.plex_run.specs.Full.{is_full_at}
+use Rattle.plex_run.proofs.Names.{◌≡◌, ◌∙◌, sym, false, is_full_at}
 use Rattle.plex_run.proofs.Found.{find_later}
 use Rattle.plex_run.proofs.full.full_structure.Goals as goal
 

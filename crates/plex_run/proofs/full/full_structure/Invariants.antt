@@ -1,7 +1,4 @@
-use Rattle.std.proofs.Common.{◌≡◌, drop}
-use Rattle.std.specs.Prelude.{find}
-use Rattle.std.specs.List.{enumerate_from}
-use Rattle.plex_run.specs.Full.{is_full_at}
+use Rattle.plex_run.proofs.Names.{◌≡◌, drop, find, enumerate_from, is_full_at}
 use Rattle.plex_run.proofs.full.full_structure.Given as goal
 
 abbrev pub invariant-loop-place : goal.invariant-loop-place

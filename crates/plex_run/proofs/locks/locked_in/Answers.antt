@@ -1,7 +1,5 @@
-use Rattle.plex_run.specs.Written.{output}
-use Rattle.plex_run.specs.Outcome.{script_limit}
+use Rattle.plex_run.proofs.Names.{output, script_limit, locks_word}
 use Rattle.plex_run.proofs.UnreadLaws.{longer, unread_long}
-use Rattle.plex_run.specs.Locks.{locks_word}
 use Rattle.plex_run.proofs.TextLaws.{unread_ends}
 use Rattle.plex_run.proofs.locks.locked_in.Goals as goal
 

@@ -1,6 +1,4 @@
-use Rattle.std.specs.Prelude.{codes}
-use Rattle.plex_run.specs.Written.{output}
-use Rattle.plex_run.specs.Locks.{locks_word}
+use Rattle.plex_run.proofs.Names.{codes, output, locks_word}
 use Rattle.plex_run.proofs.TextLaws.{refused_ends}
 use Rattle.plex_run.proofs.OutcomeLaws.{fits}
 use Rattle.plex_run.proofs.LocksLaws.{fault_told, not_words_told, locks_fair, locks_end}

@@ -1,9 +1,5 @@
-use Rattle.std.proofs.Common.{◌≡◌}
-use Rattle.plex_run.specs.Wires.{wires}
-use Rattle.plex_run.specs.Written.{output, Gains}
-use Rattle.plex_run.specs.StatusLines.{why_word, script_line}
+use Rattle.plex_run.proofs.Names.{◌≡◌, wires, output, Gains, why_word, script_line, script_word}
 use Rattle.plex_run.proofs.RunnableLaws.{runnable}
-use Rattle.plex_run.specs.Outcome.{script_word}
 use Rattle.plex_run.proofs.TextLaws.{refused_ends}
 use Rattle.plex_run.proofs.OutcomeLaws.{fault_told, fits, run_ends, runs_fair}
 use Rattle.plex_run.proofs.program.judged.Goals as goal

@@ -1,8 +1,5 @@
-use Rattle.std.proofs.Common.{◌≡◌, ◌∙◌, Some, refl, ap}
+use Rattle.plex_run.proofs.Names.{◌≡◌, ◌∙◌, Some, refl, ap, wires, output, script_limit, script_word}
 use Rattle.plex_run.specs.declared.way.Work.TheVariants as works
-use Rattle.plex_run.specs.Wires.{wires}
-use Rattle.plex_run.specs.Written.{output}
-use Rattle.plex_run.specs.Outcome.{script_limit, script_word}
 use Rattle.plex_run.proofs.TextLaws.{unread_ends}
 use Rattle.plex_run.proofs.UnreadLaws.{longer, unread_long}
 use Rattle.plex_run.proofs.WorkLaws.{ends_as_asked, load_not_locks, not_load, not_locks, not_none, not_script, nothing_said, not_two, runs_as_asked, script_not_locks, way_found}

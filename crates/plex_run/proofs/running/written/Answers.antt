@@ -1,9 +1,4 @@
-use Rattle.std.proofs.Common.{◌≡◌, ◌++◌, Option, subst}
-use Rattle.plex_load.specs.CfTypes.declared.names.Name16.{Name16}
-use Rattle.run_laws.specs.Readings.{report_of}
-use Rattle.plex_run.specs.StatusLines.{full_line, memory_line}
-use Rattle.plex_run.specs.Outcome.{reading_of, full_of, run_text}
-use Rattle.plex_run.specs.Written.{output, GainsPrefix}
+use Rattle.plex_run.proofs.Names.{◌≡◌, ◌++◌, Option, subst, Name16, report_of, full_line, memory_line, reading_of, full_of, run_text, output, GainsPrefix}
 use Rattle.plex_run.proofs.Written.{broken_off}
 use Rattle.plex_run.proofs.running.written.Goals as goal
 

@@ -1,8 +1,4 @@
-use Rattle.std.proofs.Common.{◌≡◌, [], ◌++◌, List, ℕ, subst}
-use Rattle.std.specs.List.{concat}
-use Rattle.std.specs.Io.KnownBytes.{Appends}
-use Rattle.std.proofs.KnownBytes.{Appends-trans}
-use Rattle.plex_run.specs.Written.{GainsPrefix}
+use Rattle.plex_run.proofs.Names.{◌≡◌, [], ◌++◌, List, ℕ, subst, concat, Appends, Appends-trans, GainsPrefix}
 use Rattle.plex_run.proofs.Written.{GainsPrefix-after, GainsPrefix-before, OnErr-always, OnErr-so, OnOk-so}
 use Rattle.plex_run.proofs.writing.write_headed.Goals as goal
 

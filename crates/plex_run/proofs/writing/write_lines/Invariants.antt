@@ -1,6 +1,4 @@
-use Rattle.std.proofs.Common.{◌≡◌, ◌≤◌, ◌<◌, ◌^◌, length, take}
-use Rattle.std.specs.List.{concat}
-use Rattle.plex_run.specs.Pieces.{PassesOn}
+use Rattle.plex_run.proofs.Names.{◌≡◌, ◌≤◌, ◌<◌, ◌^◌, length, take, concat, PassesOn}
 use Rattle.plex_run.proofs.writing.write_lines.Given as goal
 
 -- the lines before this one were put

@@ -1,11 +1,4 @@
-use Rattle.std.proofs.Common.{◌≡◌, ◌++◌, ◌<◌, ◌^◌, length, ℕ, List, map, ◌∙◌, subst}
-use Rattle.std.specs.List.{concat}
-use Rattle.plex_load.specs.PlexSpell.Words.{line_text}
-use Rattle.run_laws.specs.PlexReport.Report.{report_lines}
-use Rattle.run_laws.specs.Readings.{report_of}
-use Rattle.plex_run.specs.StatusLines.{full_line}
-use Rattle.plex_run.specs.Outcome.{reading_of}
-use Rattle.plex_run.specs.Written.{output, Writes, WritesFront}
+use Rattle.plex_run.proofs.Names.{◌≡◌, ◌++◌, ◌<◌, ◌^◌, length, ℕ, List, map, ◌∙◌, subst, concat, line_text, report_lines, report_of, full_line, reading_of, output, Writes, WritesFront}
 use Rattle.plex_run.proofs.Written.{OnErr-so, OnOk-so}
 use Rattle.plex_run.proofs.ReportLaws.{report_text, headed_text}
 use Rattle.plex_run.proofs.writing.write_run.Goals as goal

@@ -1,6 +1,4 @@
-use Rattle.std.proofs.Common.{◌≡◌, drop}
-use Rattle.plex_script.specs.Causes.{units_of}
-use Rattle.plex_script.specs.Reading.{remainder}
+use Rattle.plex_script.proofs.Names.{◌≡◌, drop, units_of, remainder}
 use Rattle.plex_script.proofs.checks.less.Given as goal
 
 abbrev pub invariant-loop-pref : goal.invariant-loop-pref

@@ -1,6 +1,4 @@
-use Rattle.std.proofs.Common.{◌≡◌, drop}
-use Rattle.plex_script.specs.Causes.{units_of, all_prefs}
-use Rattle.plex_script.specs.Reading.{remainder}
+use Rattle.plex_script.proofs.Names.{◌≡◌, drop, units_of, all_prefs, remainder}
 use Rattle.plex_script.proofs.checks.less_all.Given as goal
 
 abbrev pub invariant-loop-form : goal.invariant-loop-form

@@ -1,5 +1,4 @@
-use Rattle.plex_plain.specs.PlexSpell.Words.{lines_of}
-use Rattle.plex_script.specs.Scripts.{empty_script}
+use Rattle.plex_script.proofs.Names.{lines_of, empty_script}
 use Rattle.plex_script.proofs.LineLaws.{all-one}
 use Rattle.plex_script.proofs.laws.one_script.Goals as goal
 

@@ -1,8 +1,4 @@
-use Rattle.std.proofs.Common.{◌≡◌, sym, true, false}
-use Rattle.std.proofs.lemmas.Result.{err_from_is_err_and, on_ok_weaker}
-use Rattle.plex_plain.specs.PlexSpell.Words.{words_of}
-use Rattle.plex_script.specs.Causes.{has_lines, is_twice, is_too_much}
-use Rattle.plex_script.specs.Reading.{script_of}
+use Rattle.plex_script.proofs.Names.{◌≡◌, sym, true, false, err_from_is_err_and, on_ok_weaker, words_of, has_lines, is_twice, is_too_much, script_of}
 use Rattle.plex_script.proofs.CauseLaws.{policy-fault, policy-twice, policy-space, fits-judged, room-fits, no_excess, adds-fits}
 use Rattle.plex_script.proofs.line_reader.declare.Goals as goal
 

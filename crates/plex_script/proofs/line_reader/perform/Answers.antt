@@ -1,11 +1,4 @@
-use Rattle.std.proofs.Common.{◌≡◌, ◌∙◌, sym, ap, Some, List}
-use Rattle.std.proofs.lemmas.Result.{err_from_is_err_and}
-use Rattle.cf_types.specs.declared.forms.StrForm.{StrForm}
-use Rattle.plex_plain.specs.PlexSpell.Tokens.{structure_of}
-use Rattle.plex_script.specs.declared.scripts.Line.{Line}
-use Rattle.plex_script.specs.declared.scripts.Script.{Script}
-use Rattle.plex_script.specs.Causes.{kind_of}
-use Rattle.plex_script.specs.Reading.{script_of}
+use Rattle.plex_script.proofs.Names.{◌≡◌, ◌∙◌, sym, ap, Some, List, err_from_is_err_and, StrForm, structure_of, Line, Script, kind_of, script_of}
 use Rattle.plex_script.proofs.CauseLaws.{caller-fault, adds-done}
 use Rattle.plex_script.proofs.line_reader.perform.Goals as goal
 

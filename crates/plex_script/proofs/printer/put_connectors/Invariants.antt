@@ -1,7 +1,4 @@
-use Rattle.std.proofs.Common.{◌≡◌, ◌++◌, drop, map}
-use Rattle.std.specs.List.{flat_map}
-use Rattle.plex_plain.specs.PlexSpell.Words.{line_text}
-use Rattle.plex_plain.specs.PolicyLines.{connector_line}
+use Rattle.plex_script.proofs.Names.{◌≡◌, ◌++◌, drop, map, flat_map, line_text, connector_line}
 use Rattle.plex_script.proofs.printer.put_connectors.Given as goal
 
 -- with the lines that are left the text is what it is to be

@@ -1,6 +1,5 @@
-use Rattle.std.proofs.Common.{◌++◌, List, ℕ, sym, ◌∙◌, ap}
+use Rattle.plex_script.proofs.Names.{◌++◌, List, ℕ, sym, ◌∙◌, ap, on_ok_weaker}
 use Rattle.plex_script.proofs.Spaced.{body_words, four_parts}
-use Rattle.std.proofs.lemmas.Result.{on_ok_weaker}
 use Rattle.plex_script.proofs.printer.put_line.Goals as goal
 
 pub returns : goal.returns

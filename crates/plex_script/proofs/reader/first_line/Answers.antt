@@ -1,5 +1,4 @@
-use Rattle.std.proofs.Common.{sym}
-use Rattle.plex_plain.proofs.PlexSpell.TextLaws.{rest_whole}
+use Rattle.plex_script.proofs.Names.{sym, rest_whole}
 use Rattle.plex_script.proofs.ReadLaws.{lines-feed, lines-last, nothing_left}
 use Rattle.plex_script.proofs.reader.first_line.Goals as goal
 

@@ -1,5 +1,4 @@
-use Rattle.std.proofs.Common.{rules}
-use Rattle.plex_script.specs.Reading.{script_of}
+use Rattle.plex_script.proofs.Names.{rules, script_of}
 use Rattle.plex_script.proofs.ReadLaws.{IsRead-more}
 use Rattle.plex_script.proofs.reader.read.Goals as goal
 

@@ -1,5 +1,4 @@
-use Rattle.std.proofs.Common.{length}
-use Rattle.plex_script.specs.Reading.{script_of}
+use Rattle.plex_script.proofs.Names.{length, script_of}
 use Rattle.plex_script.proofs.ReadLaws.{IsRead}
 use Rattle.plex_script.proofs.reader.read.Given as goal
 

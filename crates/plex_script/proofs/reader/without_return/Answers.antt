@@ -1,5 +1,4 @@
-use Rattle.std.proofs.Common.{◌≡◌, ◌<◌, ◌-◌, length, sym, arith, suc}
-use Rattle.std.proofs.lemmas.Bool.Decides.{nat_tests}
+use Rattle.plex_script.proofs.Names.{◌≡◌, ◌<◌, ◌-◌, length, sym, arith, suc, nat_tests}
 use Rattle.plex_script.proofs.ReadLaws.{return-yes, return-no}
 use Rattle.plex_script.proofs.reader.without_return.Goals as goal
 

@@ -1,8 +1,5 @@
 -- A member's letter is the first of those that are left.
-use Rattle.std.proofs.Common.{◌<◌, arith, sym, ap, ◌∙◌}
-use Rattle.cf_types.specs.declared.limits.TheConstants.{CALLERS}
-use Rattle.cf_types.specs.Mailboxes.{letters_to, with_letters}
-use Rattle.event_mail.specs.Post.{Post}
+use Rattle.plex_shell.proofs.Names.{◌<◌, arith, sym, ap, ◌∙◌, CALLERS, letters_to, with_letters, Post}
 use Rattle.plex_shell.proofs.CallerSets.{leads_member, leads_nobody, leads_all}
 use Rattle.plex_shell.proofs.letters.tell.Goals as goal
 use Rattle.plex_shell.proofs.letters.tell.Goals.{then-has, else-has}

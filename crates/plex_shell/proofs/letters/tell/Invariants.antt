@@ -1,6 +1,5 @@
 -- The letters so far, and those to the members that are left, are all.
-use Rattle.std.proofs.Common.{◌≡◌, ◌+◌, ◌≤◌}
-use Rattle.cf_types.specs.Mailboxes.{letters_to, with_letters}
+use Rattle.plex_shell.proofs.Names.{◌≡◌, ◌+◌, ◌≤◌, letters_to, with_letters}
 use Rattle.plex_shell.proofs.CallerSets.{members_from}
 use Rattle.plex_shell.proofs.letters.tell.Given as goal
 

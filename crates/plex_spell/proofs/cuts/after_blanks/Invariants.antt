@@ -1,5 +1,4 @@
-use Rattle.std.proofs.Common.{◌≡◌, length}
-use Rattle.plex_spell.specs.Words.{words_of}
+use Rattle.plex_spell.proofs.Names.{◌≡◌, length, words_of}
 use Rattle.plex_spell.proofs.cuts.after_blanks.Given as goal
 
 abbrev pub invariant-loop-rest : goal.invariant-loop-rest

@@ -1,4 +1,4 @@
-use Rattle.std.proofs.Common.{rules}
+use Rattle.plex_spell.proofs.Names.{rules}
 use Rattle.plex_spell.proofs.fields.number.Goals as goal
 
 -- the wrong body no_zero is refused at this goal

@@ -1,4 +1,4 @@
-use Rattle.std.proofs.Common.{◌≡◌, ◌∙◌}
+use Rattle.plex_spell.proofs.Names.{◌≡◌, ◌∙◌}
 use Rattle.plex_spell.proofs.NumberLaws.{IsUtf8-numeral, parsed-numeral}
 use Rattle.plex_spell.proofs.numerals.value.Goals as goal
 

@@ -1,6 +1,4 @@
-use Rattle.std.proofs.Common.{◌≡◌, ◌∙◌, rules}
-use Rattle.std.specs.List.{repeat}
-use Rattle.std.proofs.lemmas.List.Elements.{same_from_all_zip}
+use Rattle.plex_spell.proofs.Names.{◌≡◌, ◌∙◌, rules, repeat, same_from_all_zip}
 use Rattle.plex_spell.proofs.TextLaws.{IsTerm-repeat}
 use Rattle.plex_spell.proofs.singles.copies.Goals as goal
 

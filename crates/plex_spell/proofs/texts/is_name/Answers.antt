@@ -1,4 +1,4 @@
-use Rattle.std.proofs.Common.{rules}
+use Rattle.plex_spell.proofs.Names.{rules}
 use Rattle.plex_spell.proofs.texts.is_name.Goals as goal
 
 -- the wrong body reserved_name is refused at this goal

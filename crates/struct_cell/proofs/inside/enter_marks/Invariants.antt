@@ -1,6 +1,4 @@
-use Rattle.std.proofs.Common.{◌≡◌, ◌+◌, take}
-use Rattle.std.specs.Vec.{vec_len, vec_capacity}
-use Rattle.struct_cell.specs.Marks.{entered}
+use Rattle.struct_cell.proofs.Names.{◌≡◌, ◌+◌, take, vec_len, vec_capacity, entered}
 use Rattle.struct_cell.proofs.inside.enter_marks.Given as goal
 
 abbrev pub invariant-loop-mark : goal.invariant-loop-mark

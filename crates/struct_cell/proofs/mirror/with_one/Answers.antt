@@ -1,5 +1,4 @@
-use Rattle.std.proofs.Common.{w32}
-use Rattle.std.proofs.lemmas.Nat.Bits.{bit_at_set_same, bit_at_set_other}
+use Rattle.struct_cell.proofs.Names.{w32, bit_at_set_same, bit_at_set_other}
 use Rattle.struct_cell.proofs.mirror.with_one.Goals as goal
 
 pub returns-clause-here : goal.returns-clause-here

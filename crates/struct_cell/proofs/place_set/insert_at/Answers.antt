@@ -1,8 +1,4 @@
-use Rattle.std.proofs.Common.{rules, ◌≡◌, ℕ, List, [], ◌∷◌, ◌++◌, length, get_or, Some, subst, sym}
-use Rattle.std.specs.Prelude.{◌≢◌, slice_get, slice_set}
-use Rattle.vec_words.specs.declared.stores.Place.{Place}
-use Rattle.vec_words.specs.Stores.{IsSpared}
-use Rattle.struct_cell.specs.Touches.{AreSpotted}
+use Rattle.struct_cell.proofs.Names.{rules, ◌≡◌, ℕ, List, [], ◌∷◌, ◌++◌, length, get_or, Some, subst, sym, ◌≢◌, slice_get, slice_set, Place, IsSpared, AreSpotted}
 use Rattle.struct_cell.proofs.PlaceLaws.{spared-front}
 use Rattle.struct_cell.proofs.SpotLaws.{spotted_push}
 use Rattle.struct_cell.proofs.place_set.insert_at.Goals as goal

@@ -1,7 +1,4 @@
-use Rattle.std.proofs.Common.{◌+◌, ◌<◌, ◌≤◌, ℕ, All}
-use Rattle.vec_words.specs.Logged.{words_of}
-use Rattle.vec_words.specs.Stores.{IsWithin, IsSpared, AreDistinct}
-use Rattle.struct_cell.specs.Touches.{ComeBefore}
+use Rattle.struct_cell.proofs.Names.{◌+◌, ◌<◌, ◌≤◌, ℕ, All, words_of, IsWithin, IsSpared, AreDistinct, ComeBefore}
 use Rattle.struct_cell.proofs.touched.every_word.Given as goal
 
 abbrev pub invariant-loop-before : goal.invariant-loop-before

@@ -1,7 +1,4 @@
-use Rattle.std.proofs.Common.{List, fold, sym, subst, ◌∙◌}
-use Rattle.cf_types.specs.declared.effects.BitChange.{BitChange}
-use Rattle.struct_cell.specs.Touches.{AreWordsOf, with_told}
-use Rattle.struct_machine.specs.StructureView.{stands_at}
+use Rattle.struct_cell.proofs.Names.{List, fold, sym, subst, ◌∙◌, BitChange, AreWordsOf, with_told, stands_at}
 use Rattle.struct_cell.proofs.MirrorLaws.{looked_all, words_gained}
 use Rattle.struct_cell.proofs.touched.follow.Goals as goal
 

@@ -1,8 +1,4 @@
-use Rattle.std.proofs.Common.{◌≡◌, ◌/◌, ◌<◌, ◌≤◌, ℕ, All, take, false}
-use Rattle.cf_types.specs.Gains.{is_for}
-use Rattle.cf_types.specs.declared.numbers.ConnId.{ConnId}
-use Rattle.vec_words.specs.Stores.{IsSpared}
-use Rattle.struct_cell.specs.Touches.{IsOfTable}
+use Rattle.struct_cell.proofs.Names.{◌≡◌, ◌/◌, ◌<◌, ◌≤◌, ℕ, All, take, false, is_for, ConnId, IsSpared, IsOfTable}
 use Rattle.struct_cell.proofs.touched.name_all.Given as goal
 
 abbrev pub invariant-loop-change : goal.invariant-loop-change

@@ -1,6 +1,4 @@
-use Rattle.std.proofs.Common.{◌<◌, ℕ, All}
-use Rattle.vec_words.specs.Stores.{IsWithin, IsSpared, AreDistinct}
-use Rattle.struct_cell.specs.Touches.{ComeBefore}
+use Rattle.struct_cell.proofs.Names.{◌<◌, ℕ, All, IsWithin, IsSpared, AreDistinct, ComeBefore}
 use Rattle.struct_cell.proofs.touched.put_words.Given as goal
 
 abbrev pub invariant-loop-word : goal.invariant-loop-word

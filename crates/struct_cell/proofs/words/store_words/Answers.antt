@@ -1,10 +1,4 @@
-use Rattle.std.proofs.Common.{ℕ, take, true, subst₂}
-use Rattle.std.specs.Prelude.{All}
-use Rattle.std.proofs.lemmas.Option.{slice_get-get_or}
-use Rattle.vec_words.specs.declared.stores.Place.{Place}
-use Rattle.vec_words.specs.Stores.{IsWithin}
-use Rattle.vec_words.proofs.StoreLaws.{each-nil, each-once, each-step}
-use Rattle.struct_cell.specs.Touches.{word_at}
+use Rattle.struct_cell.proofs.Names.{ℕ, take, true, subst₂, All, slice_get-get_or, Place, IsWithin, each-nil, each-once, each-step, word_at}
 use Rattle.struct_cell.proofs.PlaceLaws.{spared-before}
 use Rattle.struct_cell.proofs.words.store_words.Goals as goal
 

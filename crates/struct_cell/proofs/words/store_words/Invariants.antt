@@ -1,6 +1,4 @@
-use Rattle.std.proofs.Common.{take}
-use Rattle.vec_words.specs.Stores.{StoresEach}
-use Rattle.struct_cell.specs.Touches.{word_at}
+use Rattle.struct_cell.proofs.Names.{take, StoresEach, word_at}
 use Rattle.struct_cell.proofs.words.store_words.Given as goal
 
 abbrev pub invariant-loop-place : goal.invariant-loop-place

@@ -1,6 +1,4 @@
-use Rattle.std.proofs.Common.{rules, ◌≡◌, ◌&&◌, false}
-use Rattle.std.specs.Prelude.{is_some}
-use Rattle.std.proofs.lemmas.Bool.{and_left, and_right}
+use Rattle.struct_machine.proofs.Names.{rules, ◌≡◌, ◌&&◌, false, is_some, and_left, and_right}
 use Rattle.struct_machine.proofs.AskingLaws.{asked_both, marks_both}
 use Rattle.struct_machine.proofs.asking.ask_links.Goals as goal
 use Rattle.struct_machine.proofs.asking.ask_links.Goals.{else-asked-via-then-asked+else-is_some, else-asked-via-else-asked}

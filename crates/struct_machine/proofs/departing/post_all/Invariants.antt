@@ -1,5 +1,4 @@
-use Rattle.std.proofs.Common.{◌≡◌, ◌≤◌, ◌+◌, drop}
-use Rattle.engine_api.specs.Shell.{with_posted}
+use Rattle.struct_machine.proofs.Names.{◌≡◌, ◌≤◌, ◌+◌, drop, with_posted}
 use Rattle.struct_machine.proofs.departing.post_all.Given as goal
 
 abbrev pub invariant-loop-letter : goal.invariant-loop-letter

@@ -1,13 +1,7 @@
 -- A call that is refused asks no link, nor does a common command but COPY.
-use Rattle.std.proofs.Common.{◌≡◌, None, false, refl, sym, ◌∙◌, rules}
+use Rattle.struct_machine.proofs.Names.{◌≡◌, None, false, refl, sym, ◌∙◌, rules, Reply, command_done, room_of, kept_of, shell_cause, is_copying, machine_of, IsJudgedTurn}
 use Rattle.engine_api.specs.declared.asks.Ask.TheVariants as ask
-use Rattle.engine_api.specs.declared.asks.Reply.{Reply}
 use Rattle.engine_api.specs.declared.asks.Reply.TheVariants as reply
-use Rattle.engine_api.specs.Machine.{command_done, room_of}
-use Rattle.struct_machine.specs.Content.{kept_of}
-use Rattle.engine_api.specs.Shell.{shell_cause}
-use Rattle.struct_machine.specs.Kept.{is_copying, machine_of}
-use Rattle.struct_machine.specs.Turns.{IsJudgedTurn}
 use Rattle.struct_machine.proofs.ChangeLaws.{refused_all}
 use Rattle.struct_machine.proofs.TurnLaws.{command_asks, command_judged, ok_map, refused_asks, refused_done, turn_quiet}
 use Rattle.struct_machine.proofs.doing.answer_judged.Goals as goal

@@ -1,9 +1,5 @@
 -- A command on the content leaves the instances where they stand.
-use Rattle.std.proofs.Common.{◌≡◌, List, ◌∙◌, subst, rules}
-use Rattle.cf_types.specs.declared.effects.BitChange.{BitChange}
-use Rattle.cf_types.specs.Gains.{Gains}
-use Rattle.duplex_pair.specs.Pairs.{bits_of, content_of, letters_by}
-use Rattle.struct_machine.specs.Content.{kept_of}
+use Rattle.struct_machine.proofs.Names.{◌≡◌, List, ◌∙◌, subst, rules, BitChange, Gains, bits_of, content_of, letters_by, kept_of}
 use Rattle.struct_machine.proofs.ChangeLaws.{gains_held}
 use Rattle.struct_machine.proofs.KeptLaws.{answered_some, content_alone, content_held, content_same, kept_content}
 use Rattle.struct_machine.proofs.doing.apply.Goals as goal

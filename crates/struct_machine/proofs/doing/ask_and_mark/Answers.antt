@@ -1,14 +1,5 @@
 -- The links of a command on the content are asked, and each that is down makes a mark.
-use Rattle.std.proofs.Common.{◌≡◌, [], sym, ap, ◌∙◌, subst, List}
-use Rattle.duplex_pair.specs.CfLink.declared.links.Links.{Links}
-use Rattle.duplex_pair.specs.CfLink.Links.{AreAsked}
-use Rattle.engine_api.specs.Instances.{Instances}
-use Rattle.engine_api.specs.LinkAsks.{answers_to, has, listed}
-use Rattle.engine_api.specs.Machine.{Machine}
-use Rattle.struct_machine.specs.Content.{ContentView, kept_of}
-use Rattle.struct_machine.specs.Kept.{machine_of}
-use Rattle.struct_machine.specs.Turns.{AreTold, asks_in, behind_marks, content_asks_of, marks_in}
-use Rattle.struct_machine.specs.declared.marks.Mark.{Mark}
+use Rattle.struct_machine.proofs.Names.{◌≡◌, [], sym, ap, ◌∙◌, subst, List, Links, AreAsked, Instances, answers_to, has, listed, Machine, ContentView, kept_of, machine_of, AreTold, asks_in, behind_marks, content_asks_of, marks_in, Mark}
 use Rattle.struct_machine.proofs.TurnLaws.{behind_both, content_places, marks_made}
 use Rattle.struct_machine.proofs.doing.ask_and_mark.Goals as goal
 

@@ -1,14 +1,5 @@
 -- A common command does to shell and instances what the machine's step does.
-use Rattle.std.proofs.Common.{◌≡◌, Option, None, is_some, refl, sym, ◌∙◌, ap, subst, subst₂, option_map}
-use Rattle.cf_types.specs.declared.forms.StrForm.{StrForm}
-use Rattle.engine_api.specs.declared.deeds.Room.{Room}
-use Rattle.engine_api.specs.Machine.{departure_from, room_of}
-use Rattle.cf_types.specs.declared.numbers.CfId.{CfId}
-use Rattle.engine_api.specs.Rebuilds.{fresh_of}
-use Rattle.engine_api.specs.Shell.{Shell, ShellOutcome, leaver, shell_cause, with_posted}
-use Rattle.struct_machine.specs.Content.{kept_of}
-use Rattle.struct_machine.specs.Deeds.{Spares}
-use Rattle.struct_machine.specs.Kept.{machine_of}
+use Rattle.struct_machine.proofs.Names.{◌≡◌, Option, None, is_some, refl, sym, ◌∙◌, ap, subst, subst₂, option_map, StrForm, Room, departure_from, room_of, CfId, fresh_of, Shell, ShellOutcome, leaver, shell_cause, with_posted, kept_of, Spares, machine_of}
 use Rattle.struct_machine.proofs.CommandLaws as law
 use Rattle.struct_machine.proofs.KeptLaws.{kept_stands}
 use Rattle.struct_machine.proofs.PostedLaws.{accepted_posted, letters_none}

@@ -1,9 +1,5 @@
 -- What changed is told: any bit where the structure failed, else those that are named.
-use Rattle.std.proofs.Common.{[], Option, subst}
-use Rattle.cf_types.specs.Gains.{Gains}
-use Rattle.duplex_pair.specs.Pairs.{content_of}
-use Rattle.engine_api.specs.Meaning.{Held}
-use Rattle.struct_machine.specs.Kept.{state_in}
+use Rattle.struct_machine.proofs.Names.{[], Option, subst, Gains, content_of, Held, state_in}
 use Rattle.struct_machine.proofs.doing.do_content.Goals as goal
 
 pub returns-clause-bits : goal.returns-clause-bits

@@ -1,27 +1,8 @@
 -- COPY is done behind the marks that its links make: with a loss it is refused, and its items have gone.
-use Rattle.std.proofs.Common.{◌≡◌, ℕ, [], None, IfSome, sym, ap, ◌∙◌, subst, subst₂, List}
-use Rattle.std.proofs.lemmas.Bool.{both_ways}
-use Rattle.std.specs.Prelude.{Option, Some, false, refl, min}
-use Rattle.cf_types.specs.declared.numbers.CfId.{CfId}
-use Rattle.cf_types.specs.declared.shell_commands.ShellCmd.{ShellCmd}
+use Rattle.struct_machine.proofs.Names.{◌≡◌, ℕ, [], None, IfSome, sym, ap, ◌∙◌, subst, subst₂, List, Option, Some, false, min, both_ways, CfId, ShellCmd, Links, AreAsked, PairView, content_of, instances_of, Ask, Room, answers_to, has, listed, Machine, moved_by, room_of, fresh_of, Shell, shell_cause, shell_done, Held, with_copied, ChangeList, ContentView, kept_of, lacking_in, copy_reply, items_named, judged, machine_of, state_in, AreTold, behind_marks, copy_asks_of, marks_in, Mark}
+use Rattle.std.specs.Prelude.{refl}
 use Rattle.cf_types.specs.declared.shell_commands.ShellCmd.TheVariants as cmd
-use Rattle.duplex_pair.specs.CfLink.declared.links.Links.{Links}
-use Rattle.duplex_pair.specs.CfLink.Links.{AreAsked}
-use Rattle.duplex_pair.specs.Pairs.{PairView, content_of, instances_of}
-use Rattle.engine_api.specs.declared.asks.Ask.{Ask}
 use Rattle.engine_api.specs.declared.asks.Ask.TheVariants as ask
-use Rattle.engine_api.specs.declared.deeds.Room.{Room}
-use Rattle.engine_api.specs.LinkAsks.{answers_to, has, listed}
-use Rattle.engine_api.specs.Machine.{Machine, moved_by, room_of}
-use Rattle.engine_api.specs.Rebuilds.{fresh_of}
-use Rattle.engine_api.specs.Shell.{Shell, shell_cause, shell_done}
-use Rattle.engine_api.specs.Meaning.{Held}
-use Rattle.rebuild_copy.specs.Filling.{with_copied}
-use Rattle.struct_machine.specs.Changes.{ChangeList}
-use Rattle.struct_machine.specs.Content.{ContentView, kept_of, lacking_in}
-use Rattle.struct_machine.specs.Kept.{copy_reply, items_named, judged, machine_of, state_in}
-use Rattle.struct_machine.specs.Turns.{AreTold, behind_marks, copy_asks_of, marks_in}
-use Rattle.struct_machine.specs.declared.marks.Mark.{Mark}
 use Rattle.struct_machine.proofs.ChangeLaws.{names_nothing}
 use Rattle.struct_machine.proofs.CopyLaws.{copied_machine, copy_done, kept_copied, told_before, with_items}
 use Rattle.struct_machine.proofs.TurnLaws.{behind_both, copy_asks, copy_is, turn_made}

@@ -1,8 +1,5 @@
 -- What a lost facility makes of the parts is what the mark's step makes of the machine.
-use Rattle.std.proofs.Common.{ap, ◌∙◌}
-use Rattle.cf_types.specs.declared.forms.StrForm.{StrForm}
-use Rattle.engine_api.specs.Shell.{mark_outcome}
-use Rattle.struct_machine.specs.Content.{kept_of}
+use Rattle.struct_machine.proofs.Names.{ap, ◌∙◌, StrForm, mark_outcome, kept_of}
 use Rattle.struct_machine.proofs.KeptLaws.{kept_stands}
 use Rattle.struct_machine.proofs.LossLaws.{ending, held_lost, kept_lost, lost_same}
 use Rattle.struct_machine.proofs.losing.lose.Goals as goal

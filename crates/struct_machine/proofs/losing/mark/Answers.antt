@@ -1,12 +1,6 @@
 -- One mark more tells what becomes of the machine behind the marks before it.
-use Rattle.std.proofs.Common.{List, sym, ap, subst, append-nil}
-use Rattle.cf_types.specs.declared.numbers.CfId.{CfId}
-use Rattle.cf_types.specs.declared.shell_commands.ShellReply.{ShellReply}
-use Rattle.engine_api.specs.declared.asks.Reply.{Reply}
+use Rattle.struct_machine.proofs.Names.{List, sym, ap, subst, append-nil, CfId, ShellReply, Reply, kept_of, machine_of, AreTold}
 use Rattle.engine_api.specs.declared.asks.Reply.TheVariants as reply
-use Rattle.struct_machine.specs.Content.{kept_of}
-use Rattle.struct_machine.specs.Kept.{machine_of}
-use Rattle.struct_machine.specs.Turns.{AreTold}
 use Rattle.struct_machine.proofs.TurnLaws.{told_more}
 use Rattle.struct_machine.proofs.losing.mark.Goals as goal
 

@@ -1,4 +1,4 @@
-use Rattle.std.proofs.Common.{rules}
+use Rattle.vec_words.proofs.Names.{rules}
 use Rattle.vec_words.proofs.StoreLaws.{spared-below, contains-below}
 use Rattle.vec_words.proofs.stores.is_first.Goals as goal
 

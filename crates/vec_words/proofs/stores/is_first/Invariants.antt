@@ -1,7 +1,4 @@
-use Rattle.std.proofs.Common.{◌≡◌, ◌<◌, ◌≤◌, ℕ, Some}
-use Rattle.std.specs.Prelude.{slice_get}
-use Rattle.vec_words.specs.declared.stores.Place.{Place}
-use Rattle.vec_words.specs.Stores.{IsAt}
+use Rattle.vec_words.proofs.Names.{◌≡◌, ◌<◌, ◌≤◌, ℕ, Some, slice_get, Place, IsAt}
 use Rattle.vec_words.proofs.stores.is_first.Given as goal
 
 -- no place from here up to this one is the same word

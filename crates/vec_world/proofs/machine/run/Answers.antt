@@ -1,8 +1,4 @@
-use Rattle.std.proofs.Common.{◌<◌, length, subst, sym, take}
-use Rattle.std.specs.Prelude.{All}
-use Rattle.std.proofs.lemmas.List.{take_all}
-use Rattle.std.proofs.lemmas.List.Elements.{All-more}
-use Rattle.vec_world.specs.Log.{FitsHalf}
+use Rattle.vec_world.proofs.Names.{◌<◌, length, subst, sym, take, All, take_all, All-more, FitsHalf}
 use Rattle.vec_world.proofs.WorldLaws.{IsSound, sound-world_of, genuine_from_sound}
 use Rattle.vec_world.proofs.LoadLaws.{each_load_tells, world_of-more}
 use Rattle.vec_world.proofs.machine.run.Goals as goal

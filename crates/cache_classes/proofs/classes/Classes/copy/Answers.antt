@@ -1,6 +1,4 @@
-use Rattle.std.proofs.Common.{◌≡◌, ap, ◌∙◌, rules}
-use Rattle.std.proofs.lemmas.List.Elements.{same_from_all_zip}
-use Rattle.cache_classes.specs.ClassBatch.{ClassBatch, classes_in}
+use Rattle.cache_classes.proofs.Names.{◌≡◌, ap, ◌∙◌, rules, same_from_all_zip, ClassBatch, classes_in}
 use Rattle.cache_classes.proofs.classes.Classes.copy.Goals as goal
 
 pub returns : goal.returns

@@ -1,6 +1,4 @@
-use Rattle.std.proofs.Common.{ap, ◌∙◌}
-use Rattle.cache_classes.specs.Castout.{is_of_class, count_of}
-use Rattle.cache_classes.specs.ClassBatch.{ClassBatch}
+use Rattle.cache_classes.proofs.Names.{ap, ◌∙◌, is_of_class, count_of, ClassBatch}
 use Rattle.cache_classes.proofs.WalkLaws.{alike_in}
 use Rattle.cache_classes.proofs.classes.Classes.count.Goals as goal
 

@@ -1,6 +1,4 @@
-use Rattle.std.proofs.Common.{◌≡◌, Bool, length, filter, sym, ap, subst, ◌∙◌}
-use Rattle.cache_classes.specs.declared.changed.Changed.{Changed}
-use Rattle.cache_classes.specs.ClassBatch.{ClassBatch}
+use Rattle.cache_classes.proofs.Names.{◌≡◌, Bool, length, filter, sym, ap, subst, ◌∙◌, Changed, ClassBatch}
 use Rattle.cache_classes.proofs.MapLaws.{length_in}
 use Rattle.cache_classes.proofs.WalkLaws.{alike_in}
 use Rattle.cache_classes.proofs.classes.Classes.len.Goals as goal

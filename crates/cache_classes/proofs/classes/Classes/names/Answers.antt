@@ -1,10 +1,4 @@
-use Rattle.std.proofs.Common.{List, ap, subst, arith, ◌∙◌}
-use Rattle.std.specs.List.Sorted.{IsPermutation}
-use Rattle.cf_types.specs.declared.names.Name16.{Name16}
-use Rattle.cf_types.specs.Name.{same_name, name_before}
-use Rattle.cf_lists.proofs.SortLaws.{neighbours}
-use Rattle.cache_classes.specs.Castout.{names_of}
-use Rattle.cache_classes.specs.ClassBatch.{ClassBatch}
+use Rattle.cache_classes.proofs.Names.{List, ap, subst, arith, ◌∙◌, IsPermutation, Name16, same_name, name_before, neighbours, names_of, ClassBatch}
 use Rattle.cache_classes.proofs.NameOrder.{name_order}
 use Rattle.cache_classes.proofs.WalkLaws.{sorted_of}
 use Rattle.cache_classes.proofs.classes.Classes.names.Goals as goal

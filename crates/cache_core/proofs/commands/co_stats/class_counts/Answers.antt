@@ -1,4 +1,4 @@
-use Rattle.std.proofs.Common.{arith}
+use Rattle.cache_core.proofs.Names.{arith}
 use Rattle.cache_core.proofs.EndLaws.{class_turn}
 use Rattle.cache_core.proofs.commands.co_stats.class_counts.Goals as goal
 

@@ -1,6 +1,4 @@
-use Rattle.std.proofs.Common.{◌≡◌, ◌++◌, ◌-◌}
-use Rattle.std.specs.List.{range_with_len}
-use Rattle.cache_model.specs.Commands.CoStats.{class_counts}
+use Rattle.cache_core.proofs.Names.{◌≡◌, ◌++◌, ◌-◌, range_with_len, class_counts}
 use Rattle.cache_core.proofs.commands.co_stats.class_counts.Given as goal
 
 abbrev pub invariant-loop-class : goal.invariant-loop-class

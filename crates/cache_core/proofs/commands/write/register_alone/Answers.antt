@@ -1,10 +1,4 @@
-use Rattle.std.proofs.Common.{not, Some, ap, arith}
-use Rattle.cf_types.proofs.GainsLaws.{gains_falls}
-use Rattle.cf_lists.proofs.FilterLaws.{length-filter-le}
-use Rattle.cache_model.specs.CacheRegs.declared.registrations.Registration.{Registration}
-use Rattle.cache_model.specs.CacheRegs.Registrations.{regs_with, regs_without_name, ends_with_name, stands}
-use Rattle.cache_rows.proofs.CacheRegs.BitLaws.{falls_filter, gains_then_falls}
-use Rattle.cache_model.specs.Contents.{is_among, regs_spared}
+use Rattle.cache_core.proofs.Names.{not, Some, ap, arith, gains_falls, length-filter-le, Registration, regs_with, regs_without_name, ends_with_name, stands, falls_filter, gains_then_falls, is_among, regs_spared}
 use Rattle.cache_core.proofs.EndLaws.{stands_kept_twice, falls_twice, own_spared}
 use Rattle.cache_core.proofs.commands.write.register_alone.Goals as goal
 

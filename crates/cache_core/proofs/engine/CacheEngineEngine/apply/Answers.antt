@@ -1,11 +1,5 @@
-use Rattle.std.proofs.Common.{◌≡◌, Some, List, refl, ap, sym, ◌∙◌, subst}
-use Rattle.cf_types.specs.declared.names.Name16.{Name16}
-use Rattle.cf_types.proofs.GainsLaws.{gains_none}
-use Rattle.cache_model.specs.Contents.{Content, IsContent}
-use Rattle.cache_model.specs.Step.{after, victims}
-use Rattle.cache_model.proofs.ContentLaws.{content-done}
-use Rattle.cache_core.specs.Plans.{plan_for, IsIndexed}
-use Rattle.cache_core.specs.EngineView.{EngineView, content_of}
+use Rattle.cache_core.proofs.Names.{◌≡◌, Some, List, refl, ap, sym, ◌∙◌, subst, Name16, gains_none, Content, IsContent, after, content-done, plan_for, IsIndexed, EngineView, content_of}
+use Rattle.cache_model.specs.Step.{victims}
 use Rattle.cache_core.proofs.PlanLaws.{plan_taken, plan_accepted, spared_victims, indexed}
 use Rattle.cache_core.proofs.engine.CacheEngineEngine.apply.Goals as goal
 

@@ -1,10 +1,4 @@
-use Rattle.std.proofs.Common.{◌≡◌, Some, map, slice_get, sym, subst, ap, List, ◌∙◌}
-use Rattle.std.proofs.lemmas.Result.{IfOk-weaker}
-use Rattle.cf_types.specs.declared.names.Name16.{Name16}
-use Rattle.cache_model.specs.declared.items.CacheItem.{CacheItem}
-use Rattle.cache_model.specs.Rows.{row_of}
-use Rattle.cache_rows.proofs.LookupLaws.{named-row, named-has}
-use Rattle.cache_core.specs.EngineView.{EngineView}
+use Rattle.cache_core.proofs.Names.{◌≡◌, Some, map, slice_get, sym, subst, ap, List, ◌∙◌, IfOk-weaker, Name16, CacheItem, row_of, named-row, named-has, EngineView}
 use Rattle.cache_core.proofs.NextLaws.{named_at}
 use Rattle.cache_core.proofs.engine.CacheEngineEngine.item_in.Goals as goal
 

@@ -1,8 +1,4 @@
-use Rattle.std.proofs.Common.{◌≤◌, ◌∙◌, length, sym, subst, arith}
-use Rattle.cf_lists.proofs.FilterLaws.{length-filter-le}
-use Rattle.cache_model.specs.CacheRegs.Registrations.{is_of}
-use Rattle.cache_model.proofs.ContentLaws.{content-without}
-use Rattle.cache_core.specs.EngineView.{EngineView, content_of}
+use Rattle.cache_core.proofs.Names.{◌≤◌, ◌∙◌, length, sym, subst, arith, length-filter-le, is_of, content-without, EngineView, content_of}
 use Rattle.cache_core.proofs.engine.CacheEngineEngine.leave.Goals as goal
 
 pub drop_conn-requires : goal.drop_conn-requires

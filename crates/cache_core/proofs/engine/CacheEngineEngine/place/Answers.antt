@@ -1,13 +1,4 @@
-use Rattle.std.proofs.Common.{◌≡◌, ◌∙◌, ◌++◌, ◌∷◌, [], IsTrue, List, sym, subst, true}
-use Rattle.cf_types.specs.Forms.{is_cache}
-use Rattle.engine_api.proofs.FrontLaws.{content-placed}
-use Rattle.cf_lists.specs.Pairwise.{pairwise}
-use Rattle.cache_model.specs.declared.items.CacheItem.{CacheItem}
-use Rattle.cache_model.specs.Rows.{may_precede, names_apart}
-use Rattle.cache_model.specs.Contents.{IsContent, content_with}
-use Rattle.cache_model.specs.Meaning.{cache_meaning}
-use Rattle.cache_model.proofs.EngineLaws.{alone-next, cache-fronts}
-use Rattle.cache_core.specs.EngineView.{EngineView, content_of}
+use Rattle.cache_core.proofs.Names.{◌≡◌, ◌∙◌, ◌++◌, ◌∷◌, [], IsTrue, List, sym, subst, true, is_cache, content-placed, pairwise, CacheItem, may_precede, names_apart, IsContent, content_with, cache_meaning, alone-next, cache-fronts, EngineView, content_of}
 use Rattle.cache_core.proofs.NextLaws.{before_next}
 use Rattle.cache_core.proofs.PlanLaws.{either_way}
 use Rattle.cache_core.proofs.engine.CacheEngineEngine.place.Goals as goal

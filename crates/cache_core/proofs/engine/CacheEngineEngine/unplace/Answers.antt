@@ -1,10 +1,4 @@
-use Rattle.std.proofs.Common.{◌≡◌, sym, subst, ap, ◌∙◌}
-use Rattle.engine_api.specs.Items.{IsAlone}
-use Rattle.engine_api.specs.Meaning.{without_last_item}
-use Rattle.cache_model.specs.Contents.{Content, IsContent, content_without_last}
-use Rattle.cache_model.specs.Meaning.{cache_meaning}
-use Rattle.cache_model.proofs.EngineLaws.{content-without_last}
-use Rattle.cache_core.specs.EngineView.{EngineView, content_of}
+use Rattle.cache_core.proofs.Names.{◌≡◌, sym, subst, ap, ◌∙◌, IsAlone, without_last_item, Content, IsContent, content_without_last, cache_meaning, content-without_last, EngineView, content_of}
 use Rattle.cache_core.proofs.NextLaws.{unplaced}
 use Rattle.cache_core.proofs.engine.CacheEngineEngine.unplace.Goals as goal
 

@@ -1,6 +1,4 @@
-use Rattle.std.proofs.Common.{◌≡◌, ℕ, List, Option, arith}
-use Rattle.cache_reclaim.specs.declared.used.Used.{Used}
-use Rattle.cache_reclaim.specs.Slots.{IsTied}
+use Rattle.cache_reclaim.proofs.Names.{◌≡◌, ℕ, List, Option, arith, Used, IsTied}
 use Rattle.cache_reclaim.proofs.order.Order.copy.Goals as goal
 
 same_tied : (es fs : List (ℕ × Option Used)) (ns ms : List (List ℕ × ℕ)) (cap most : ℕ) → fs ≡ es → ms ≡ ns

@@ -1,5 +1,4 @@
-use Rattle.std.proofs.Common.{◌≡◌, ◌<◌, false, subst, sym, length, arith}
-use Rattle.cache_reclaim.specs.LastUse.{has_name}
+use Rattle.cache_reclaim.proofs.Names.{◌≡◌, ◌<◌, false, subst, sym, length, arith, has_name}
 use Rattle.cache_reclaim.proofs.SlotLaws.{place_for}
 use Rattle.cache_reclaim.proofs.order.Order.touch.Goals as goal
 

@@ -1,6 +1,4 @@
-use Rattle.std.proofs.Common.{ap, ◌∙◌}
-use Rattle.cache_regs.specs.Registrations.{registered_at}
-use Rattle.cache_regs.specs.Maps.{RegList}
+use Rattle.cache_regs.proofs.Names.{ap, ◌∙◌, registered_at, RegList}
 use Rattle.cache_regs.proofs.MapLaws.{at_law}
 use Rattle.cache_regs.proofs.maps.Maps.at.Goals as goal
 

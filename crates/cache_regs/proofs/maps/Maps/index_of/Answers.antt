@@ -1,6 +1,4 @@
-use Rattle.std.proofs.Common.{ap, ◌∙◌, subst, IfSome}
-use Rattle.cache_regs.specs.Registrations.{index_for}
-use Rattle.cache_regs.specs.Maps.{RegList, IsAloneFor}
+use Rattle.cache_regs.proofs.Names.{ap, ◌∙◌, subst, IfSome, index_for, RegList, IsAloneFor}
 use Rattle.cache_regs.proofs.AgreeLaws.{index_law, alone_found}
 use Rattle.cache_regs.proofs.maps.Maps.index_of.Goals as goal
 

@@ -1,7 +1,4 @@
-use Rattle.std.proofs.Common.{ap, ◌∙◌}
-use Rattle.std.specs.List.{list_any}
-use Rattle.cache_regs.specs.Registrations.{is_for}
-use Rattle.cache_regs.specs.Maps.{RegList}
+use Rattle.cache_regs.proofs.Names.{ap, ◌∙◌, list_any, is_for, RegList}
 use Rattle.cache_regs.proofs.AgreeLaws.{named_law}
 use Rattle.cache_regs.proofs.maps.Maps.is_registered.Goals as goal
 

@@ -1,5 +1,4 @@
-use Rattle.std.proofs.Common.{length, sym, ap, ◌∙◌}
-use Rattle.cache_regs.specs.Maps.{RegList}
+use Rattle.cache_regs.proofs.Names.{length, sym, ap, ◌∙◌, RegList}
 use Rattle.cache_regs.proofs.MapLaws.{length-in}
 use Rattle.cache_regs.proofs.maps.Maps.len.Goals as goal
 

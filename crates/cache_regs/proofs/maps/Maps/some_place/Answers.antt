@@ -1,6 +1,4 @@
-use Rattle.std.proofs.Common.{◌≡◌, true, subst}
-use Rattle.cache_regs.specs.Registrations.{stands}
-use Rattle.cache_regs.specs.Maps.{RegList}
+use Rattle.cache_regs.proofs.Names.{◌≡◌, true, subst, stands, RegList}
 use Rattle.cache_regs.proofs.MapLaws.{entry_stands}
 use Rattle.cache_regs.proofs.maps.Maps.some_place.Goals as goal
 

@@ -1,6 +1,4 @@
-use Rattle.std.proofs.Common.{ap, ◌∙◌}
-use Rattle.cache_regs.specs.Registrations.{stands}
-use Rattle.cache_regs.specs.Maps.{RegList}
+use Rattle.cache_regs.proofs.Names.{ap, ◌∙◌, stands, RegList}
 use Rattle.cache_regs.proofs.MapLaws.{stands_law}
 use Rattle.cache_regs.proofs.maps.Maps.stands.Goals as goal
 

@@ -1,8 +1,4 @@
-use Rattle.std.proofs.Common.{◌≤◌, ◌-◌, min, not, length, filter, sym, subst, arith}
-use Rattle.cf_lists.proofs.FilterLaws.{list_all-filter}
-use Rattle.cache_regs.specs.declared.registrations.Registration.{Registration}
-use Rattle.cache_regs.specs.Registrations.{is_of}
-use Rattle.cache_regs.specs.Registry.{Registry, is_callers, is_within}
+use Rattle.cache_regs.proofs.Names.{◌≤◌, ◌-◌, min, not, length, filter, sym, subst, arith, list_all-filter, Registration, is_of, Registry, is_callers, is_within}
 use Rattle.cache_regs.proofs.RegLaws.{registry-filter}
 use Rattle.cache_regs.proofs.EndLaws.{fits_few, left_counted}
 use Rattle.cache_regs.proofs.regs.Regs.drop_conn.Goals as goal

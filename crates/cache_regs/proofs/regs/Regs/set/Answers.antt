@@ -1,12 +1,4 @@
-use Rattle.std.proofs.Common.{◌≡◌, ◌≤◌, ◌<◌, ◌+◌, ◌-◌, min, length, ap, sym, subst, arith}
-use Rattle.std.proofs.lemmas.Bool.{lt-ltb}
-use Rattle.cf_types.specs.declared.limits.TheConstants.{CALLERS}
-use Rattle.cf_lists.specs.Insertions.{insertion}
-use Rattle.cf_lists.proofs.FilterLaws.{none_filtered}
-use Rattle.cache_regs.specs.declared.registrations.Registration.{Registration}
-use Rattle.cache_regs.specs.Registrations.{stands_before, regs_with}
-use Rattle.cache_regs.specs.Registry.{Registry, is_callers, is_within}
-use Rattle.cache_regs.specs.Ends.{is_elsewhere}
+use Rattle.cache_regs.proofs.Names.{◌≡◌, ◌≤◌, ◌<◌, ◌+◌, ◌-◌, min, length, ap, sym, subst, arith, lt-ltb, CALLERS, insertion, none_filtered, Registration, stands_before, regs_with, Registry, is_callers, is_within, is_elsewhere}
 use Rattle.cache_regs.proofs.RegLaws.{one_elsewhere, filter-replaced, registry-with}
 use Rattle.cache_regs.proofs.BitLaws.{gains_with}
 use Rattle.cache_regs.proofs.EndLaws.{fits_few, left_few, left_counted}

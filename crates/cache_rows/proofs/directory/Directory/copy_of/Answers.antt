@@ -1,7 +1,4 @@
-use Rattle.std.proofs.Common.{◌≡◌, true, sym, subst, ◌∙◌}
-use Rattle.std.proofs.lemmas.Bool.{false≢true}
-use Rattle.cache_model.specs.Rows.{has_row}
-use Rattle.cache_rows.specs.Listed.{Listed}
+use Rattle.cache_rows.proofs.Names.{◌≡◌, true, sym, subst, ◌∙◌, false≢true, has_row, Listed}
 use Rattle.cache_rows.proofs.IndexedLaws.{missing}
 use Rattle.cache_rows.proofs.directory.Directory.copy_of.Goals as goal
 

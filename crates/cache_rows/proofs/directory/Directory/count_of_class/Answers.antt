@@ -1,7 +1,4 @@
-use Rattle.std.proofs.Common.{◌∙◌, ap, List}
-use Rattle.cache_classes.specs.declared.changed.Changed.{Changed}
-use Rattle.cache_classes.specs.Castout.{count_of}
-use Rattle.cache_rows.specs.Listed.{listed_of}
+use Rattle.cache_rows.proofs.Names.{◌∙◌, ap, List, Changed, count_of, listed_of}
 use Rattle.cache_rows.proofs.LookupLaws.{count-classes_of}
 use Rattle.cache_rows.proofs.directory.Directory.count_of_class.Goals as goal
 

@@ -1,9 +1,4 @@
-use Rattle.std.proofs.Common.{◌∙◌, ◌+◌, ap, Option}
-use Rattle.cache_model.specs.CacheDir.RowMap.{row_at}
-use Rattle.cache_model.specs.declared.items.CacheItem.{CacheItem}
-use Rattle.cache_model.specs.Rows.{rows_without}
-use Rattle.cache_rows.specs.Stored.{elements_of_row}
-use Rattle.cache_rows.specs.Listed.{Listed, IsIndexed, listed_of}
+use Rattle.cache_rows.proofs.Names.{◌∙◌, ◌+◌, ap, Option, row_at, CacheItem, rows_without, elements_of_row, Listed, IsIndexed, listed_of}
 use Rattle.cache_rows.proofs.IndexedLaws.{taken, listed, listed_is}
 use Rattle.cache_rows.proofs.directory.Directory.end.Goals as goal
 

@@ -1,5 +1,4 @@
-use Rattle.std.proofs.Common.{◌≡◌, ◌-◌, length, sym, subst, arith}
-use Rattle.cache_rows.specs.Listed.{Listed}
+use Rattle.cache_rows.proofs.Names.{◌≡◌, ◌-◌, length, sym, subst, arith, Listed}
 use Rattle.cache_rows.proofs.IndexedLaws.{name_behind, last_in_front}
 use Rattle.cache_rows.proofs.directory.Directory.last_name.Goals as goal
 

@@ -1,5 +1,4 @@
-use Rattle.std.proofs.Common.{◌++◌, ◌∙◌, ap, List}
-use Rattle.cf_types.specs.declared.names.Name16.{Name16}
+use Rattle.cache_rows.proofs.Names.{◌++◌, ◌∙◌, ap, List, Name16}
 use Rattle.cache_reclaim.specs.LastUse as last_use
 use Rattle.cache_rows.proofs.IndexedLaws.{names_are}
 use Rattle.cache_rows.proofs.directory.Directory.names.Goals as goal

@@ -1,10 +1,4 @@
-use Rattle.std.proofs.Common.{◌≡◌, ◌∙◌, ap, List, filter, map}
-use Rattle.std.proofs.lemmas.Result.{IfOk-weaker}
-use Rattle.cache_classes.specs.declared.changed.Changed.{Changed}
-use Rattle.cache_classes.specs.Castout.{names_of}
-use Rattle.cache_model.specs.declared.items.CacheItem.{CacheItem}
-use Rattle.cache_model.specs.Rows.{has_class}
-use Rattle.cache_rows.specs.Listed.{listed_of}
+use Rattle.cache_rows.proofs.Names.{◌≡◌, ◌∙◌, ap, List, filter, map, IfOk-weaker, Changed, names_of, CacheItem, has_class, listed_of}
 use Rattle.cache_rows.proofs.LookupLaws.{names-classes_of}
 use Rattle.cache_rows.proofs.directory.Directory.names_of_class.Goals as goal
 

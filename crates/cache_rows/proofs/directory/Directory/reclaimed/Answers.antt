@@ -1,7 +1,4 @@
-use Rattle.std.proofs.Common.{◌∙◌, ap, List}
-use Rattle.cache_reclaim.specs.declared.used.Used.{Used}
-use Rattle.cache_reclaim.specs.LastUse.{victim}
-use Rattle.cache_rows.specs.Listed.{listed_of}
+use Rattle.cache_rows.proofs.Names.{◌∙◌, ap, List, Used, victim, listed_of}
 use Rattle.cache_rows.proofs.LookupLaws.{reclaimed-row, reclaimed-none}
 use Rattle.cache_rows.proofs.directory.Directory.reclaimed.Goals as goal
 

@@ -1,7 +1,4 @@
-use Rattle.std.proofs.Common.{◌∙◌, ap, map}
-use Rattle.cache_model.specs.CacheDir.RowMap.{row_at}
-use Rattle.cache_model.specs.Contents.{without_hold}
-use Rattle.cache_rows.specs.Listed.{Listed, IsIndexed, listed_of}
+use Rattle.cache_rows.proofs.Names.{◌∙◌, ap, map, row_at, without_hold, Listed, IsIndexed, listed_of}
 use Rattle.cache_rows.proofs.IndexedLaws.{released, listed, listed_is}
 use Rattle.cache_rows.proofs.directory.Directory.release.Goals as goal
 

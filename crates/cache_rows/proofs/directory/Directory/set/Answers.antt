@@ -1,7 +1,4 @@
-use Rattle.std.proofs.Common.{◌∙◌, ◌<◌, ap, length, subst, sym, arith}
-use Rattle.cache_model.specs.CacheDir.RowMap.{row_at}
-use Rattle.cache_model.specs.Rows.{rows_replaced}
-use Rattle.cache_rows.specs.Listed.{Listed, IsIndexed, listed_of, relabeled}
+use Rattle.cache_rows.proofs.Names.{◌∙◌, ◌<◌, ap, length, subst, sym, arith, row_at, rows_replaced, Listed, IsIndexed, listed_of, relabeled}
 use Rattle.cache_rows.proofs.IndexedLaws.{relabeled_in, fewer_unchanged, listed, listed_is}
 use Rattle.cache_rows.proofs.directory.Directory.set.Goals as goal
 

@@ -1,10 +1,5 @@
-use Rattle.std.proofs.Common.{◌∙◌, ◌+◌, ◌≤◌, ◌<◌, Option, Some, ap, length, subst, sym, arith}
+use Rattle.cache_rows.proofs.Names.{◌∙◌, ◌+◌, ◌≤◌, ◌<◌, Option, Some, ap, length, subst, sym, arith, row_at, CacheItem, row_of, rows_replaced, item_with, elements_of_row, Listed, IsIndexed, listed_of}
 use Rattle.cf_types.specs.Stored.{elements_of}
-use Rattle.cache_model.specs.CacheDir.RowMap.{row_at}
-use Rattle.cache_model.specs.declared.items.CacheItem.{CacheItem}
-use Rattle.cache_model.specs.Rows.{row_of, rows_replaced}
-use Rattle.cache_rows.specs.Stored.{item_with, elements_of_row}
-use Rattle.cache_rows.specs.Listed.{Listed, IsIndexed, listed_of}
 use Rattle.cache_rows.proofs.IndexedLaws.{replaced, fewer_unchanged, listed, listed_is}
 use Rattle.cache_rows.proofs.directory.Directory.write.Goals as goal
 

@@ -1,7 +1,4 @@
-use Rattle.std.proofs.Common.{◌<◌, ◌^◌, sym, subst, length, arith}
-use Rattle.cf_lists.proofs.FilterLaws.{length-filter-le}
-use Rattle.cache_model.specs.Rows.{has_storage}
-use Rattle.cache_rows.specs.RowBatch.{RowBatch}
+use Rattle.cache_rows.proofs.Names.{◌<◌, ◌^◌, sym, subst, length, arith, length-filter-le, has_storage, RowBatch}
 use Rattle.cache_rows.proofs.rows.Rows.count_of_storage.Goals as goal
 
 pub overflow_cast-result : goal.overflow_cast-result

@@ -1,7 +1,4 @@
-use Rattle.std.proofs.Common.{◌∙◌, ap, Some, false}
-use Rattle.cache_model.specs.Rows.{row_or_new, rows_replaced}
-use Rattle.cache_rows.specs.declared.label.Label.{Label}
-use Rattle.cache_rows.specs.Stored.{item_with}
+use Rattle.cache_rows.proofs.Names.{◌∙◌, ap, Some, false, row_or_new, rows_replaced, Label, item_with}
 use Rattle.cache_rows.proofs.ChangeLaws.{relabeled_same}
 use Rattle.cache_rows.proofs.rows.Rows.hold.Goals as goal
 

@@ -1,7 +1,4 @@
-use Rattle.std.proofs.Common.{◌≡◌, ◌<◌, Some, slice_get, length, sym, subst, ◌∙◌}
-use Rattle.std.proofs.lemmas.Result.{IfOk-weaker}
-use Rattle.cache_model.specs.Rows.{row_of}
-use Rattle.cache_rows.specs.RowBatch.{RowBatch}
+use Rattle.cache_rows.proofs.Names.{◌≡◌, ◌<◌, Some, slice_get, length, sym, subst, ◌∙◌, IfOk-weaker, row_of, RowBatch}
 use Rattle.cache_rows.proofs.LookupLaws.{named-row, named-has, past-named}
 use Rattle.cache_rows.proofs.rows.Rows.item.Goals as goal
 

@@ -1,6 +1,4 @@
-use Rattle.std.proofs.Common.{sym, ap, ◌∙◌}
-use Rattle.cache_model.proofs.RowLaws.{found_named}
-use Rattle.cache_rows.specs.declared.label.Label.{Label}
+use Rattle.cache_rows.proofs.Names.{sym, ap, ◌∙◌, found_named, Label}
 use Rattle.cache_rows.proofs.rows.Rows.label_or_new.Goals as goal
 
 pub returns-in-Some-clause-named : goal.returns-in-Some-clause-named

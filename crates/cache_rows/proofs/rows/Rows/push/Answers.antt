@@ -1,6 +1,4 @@
-use Rattle.std.proofs.Common.{◌∙◌, ap, List}
-use Rattle.cache_model.specs.declared.items.CacheItem.{CacheItem}
-use Rattle.cache_model.specs.Rows.{rows_with}
+use Rattle.cache_rows.proofs.Names.{◌∙◌, ap, List, CacheItem, rows_with}
 use Rattle.cache_rows.proofs.IndexLaws.{with-last}
 use Rattle.cache_rows.proofs.rows.Rows.push.Goals as goal
 

@@ -1,8 +1,4 @@
-use Rattle.std.proofs.Common.{◌∙◌, ap}
-use Rattle.cache_model.specs.Rows.{row_or_new, rows_replaced}
-use Rattle.cache_model.specs.Contents.{rows_spared}
-use Rattle.cache_rows.specs.declared.label.Label.{Label}
-use Rattle.cache_rows.specs.Stored.{item_with}
+use Rattle.cache_rows.proofs.Names.{◌∙◌, ap, row_or_new, rows_replaced, rows_spared, Label, item_with}
 use Rattle.cache_rows.proofs.ChangeLaws.{relabeled_spared}
 use Rattle.cache_rows.proofs.rows.Rows.read.Goals as goal
 

@@ -1,7 +1,4 @@
-use Rattle.std.proofs.Common.{◌≡◌, ◌+◌, ◌<◌, ◌^◌, filter, sym, subst, arith}
-use Rattle.cache_model.specs.Rows.{elements_in}
-use Rattle.cache_model.specs.Room.{is_reclaimable}
-use Rattle.cache_rows.specs.RowBatch.{RowBatch}
+use Rattle.cache_rows.proofs.Names.{◌≡◌, ◌+◌, ◌<◌, ◌^◌, filter, sym, subst, arith, elements_in, is_reclaimable, RowBatch}
 use Rattle.cache_rows.proofs.TallyLaws.{elements_taken, elements_same, reclaimable_fits}
 use Rattle.cache_rows.proofs.rows.Rows.reclaimable_elements.Goals as goal
 

@@ -1,5 +1,4 @@
-use Rattle.std.proofs.Common.{◌∙◌, subst, sym, arith}
-use Rattle.cache_rows.specs.Tallies.{IsTally}
+use Rattle.cache_rows.proofs.Names.{◌∙◌, subst, sym, arith, IsTally}
 use Rattle.cache_rows.proofs.TallyLaws.{tally_released}
 use Rattle.cache_rows.proofs.rows.Rows.release.Goals as goal
 

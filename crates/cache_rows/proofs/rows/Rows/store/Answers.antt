@@ -1,8 +1,4 @@
-use Rattle.std.proofs.Common.{◌≤◌, Some, sym, subst, arith}
-use Rattle.cache_model.specs.Rows.{elements_in, rows_replaced}
-use Rattle.cache_model.proofs.RowLaws.{elements-replaced}
-use Rattle.cache_rows.specs.RowBatch.{RowBatch}
-use Rattle.cache_rows.specs.Stored.{item_with}
+use Rattle.cache_rows.proofs.Names.{◌≤◌, Some, sym, subst, arith, elements_in, rows_replaced, elements-replaced, RowBatch, item_with}
 use Rattle.cache_rows.proofs.rows.Rows.store.Goals as goal
 
 pub write_row-requires-clause-fits : goal.write_row-requires-clause-fits

@@ -1,7 +1,4 @@
-use Rattle.std.proofs.Common.{◌∙◌, ap}
-use Rattle.cache_model.specs.Rows.{row_or_new, rows_replaced}
-use Rattle.cache_rows.specs.declared.label.Label.{Label}
-use Rattle.cache_rows.specs.Stored.{item_with, label_unlocked}
+use Rattle.cache_rows.proofs.Names.{◌∙◌, ap, row_or_new, rows_replaced, Label, item_with, label_unlocked}
 use Rattle.cache_rows.proofs.ChangeLaws.{relabeled_same}
 use Rattle.cache_rows.proofs.rows.Rows.unlock.Goals as goal
 

@@ -1,6 +1,4 @@
-use Rattle.std.proofs.Common.{◌≤◌, ◌∙◌, List, sym, subst}
-use Rattle.cache_model.specs.declared.items.CacheItem.{CacheItem}
-use Rattle.cache_model.specs.Rows.{elements_in, row_or_new}
+use Rattle.cache_rows.proofs.Names.{◌≤◌, ◌∙◌, List, sym, subst, CacheItem, elements_in, row_or_new}
 use Rattle.cache_rows.proofs.ChangeLaws.{written_same}
 use Rattle.cache_rows.proofs.rows.Rows.write.Goals as goal
 

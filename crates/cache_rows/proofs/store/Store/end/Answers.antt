@@ -1,6 +1,4 @@
-use Rattle.std.proofs.Common.{◌∙◌, ◌+◌, Option, ap, sym}
-use Rattle.cache_model.specs.declared.items.CacheItem.{CacheItem}
-use Rattle.cache_rows.specs.Stored.{elements_of_row}
+use Rattle.cache_rows.proofs.Names.{◌∙◌, ◌+◌, Option, ap, sym, CacheItem, elements_of_row}
 use Rattle.cache_rows.proofs.StoreLaws.{shown_at, shown_writes}
 use Rattle.cache_rows.proofs.store.Store.end.Goals as goal
 

@@ -1,5 +1,4 @@
-use Rattle.std.proofs.Common.{Some, option_map, ◌∙◌, ap, sym}
-use Rattle.cache_rows.specs.Stored.{item_in}
+use Rattle.cache_rows.proofs.Names.{Some, option_map, ◌∙◌, ap, sym, item_in}
 use Rattle.cache_rows.proofs.StoreLaws.{shown_at}
 use Rattle.cache_rows.proofs.store.Store.find.Goals as goal
 

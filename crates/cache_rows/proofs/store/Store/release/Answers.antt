@@ -1,6 +1,4 @@
-use Rattle.std.proofs.Common.{option_map, ◌∙◌, ap, sym}
-use Rattle.cache_model.specs.CacheDir.RowMap.{row_at}
-use Rattle.cache_model.specs.Contents.{without_hold}
+use Rattle.cache_rows.proofs.Names.{option_map, ◌∙◌, ap, sym, row_at, without_hold}
 use Rattle.cache_rows.proofs.StoreLaws.{released_items, shown_at}
 use Rattle.cache_rows.proofs.store.Store.release.Goals as goal
 

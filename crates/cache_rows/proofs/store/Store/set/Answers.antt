@@ -1,8 +1,4 @@
-use Rattle.std.proofs.Common.{Option, Some, cond, ◌∙◌, ap, sym}
-use Rattle.cf_types.specs.Name.{same_name}
-use Rattle.cache_model.specs.CacheDir.RowMap.{row_at}
-use Rattle.cache_model.specs.declared.items.CacheItem.{CacheItem}
-use Rattle.cache_rows.specs.Stored.{item_at, item_with, body_of}
+use Rattle.cache_rows.proofs.Names.{Option, Some, cond, ◌∙◌, ap, sym, same_name, row_at, CacheItem, item_at, item_with, body_of}
 use Rattle.cache_rows.proofs.StoreLaws.{set_items, shown_at, shown_writes}
 use Rattle.cache_rows.proofs.store.Store.set.Goals as goal
 

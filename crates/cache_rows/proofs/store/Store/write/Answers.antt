@@ -1,9 +1,5 @@
-use Rattle.std.proofs.Common.{◌+◌, ◌≤◌, Some, Option, ◌∙◌, ap, sym, subst, arith}
+use Rattle.cache_rows.proofs.Names.{◌+◌, ◌≤◌, Some, Option, ◌∙◌, ap, sym, subst, arith, row_at, CacheItem, item_at, item_with, elements_of_row, StoreView}
 use Rattle.cf_types.specs.Stored.{elements_of}
-use Rattle.cache_model.specs.CacheDir.RowMap.{row_at}
-use Rattle.cache_model.specs.declared.items.CacheItem.{CacheItem}
-use Rattle.cache_rows.specs.Stored.{item_at, item_with, elements_of_row}
-use Rattle.cache_rows.specs.StoreView.{StoreView}
 use Rattle.cache_rows.proofs.StoreLaws.{shown_at, shown_writes, writes_twice}
 use Rattle.cache_rows.proofs.store.Store.write.Goals as goal
 

@@ -1,5 +1,4 @@
-use Rattle.std.proofs.Common.{arith, ◌≡◌, ◌≤◌, length, take, drop, length-drop}
-use Rattle.std.proofs.lemmas.Grind.{common_steps}
+use Rattle.cf_io.proofs.Names.{arith, ◌≡◌, ◌≤◌, length, take, drop, length-drop, common_steps}
 use Rattle.cf_io.proofs.Pieces.{drop-read}
 use Rattle.cf_io.proofs.mem_source.MemSourceSource.read.Goals as goal
 

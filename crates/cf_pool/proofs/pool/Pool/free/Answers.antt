@@ -1,5 +1,4 @@
-use Rattle.std.proofs.Common.{◌≡◌, ◌+◌, subst, sum_by, length}
-use Rattle.cf_pool.specs.Pools.{need_at}
+use Rattle.cf_pool.proofs.Names.{◌≡◌, ◌+◌, subst, sum_by, length, need_at}
 use Rattle.cf_pool.proofs.PoolLaws.{all_chains}
 use Rattle.cf_pool.proofs.pool.Pool.free.Goals as goal
 

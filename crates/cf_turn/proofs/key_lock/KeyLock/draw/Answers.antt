@@ -1,5 +1,4 @@
-use Rattle.std.proofs.Common.{◌∷◌, Some, ap, sym, ◌∙◌}
-use Rattle.atomic_table.specs.Table.{rest}
+use Rattle.cf_turn.proofs.Names.{◌∷◌, Some, ap, sym, ◌∙◌, rest}
 use Rattle.cf_turn.proofs.key_lock.KeyLock.draw.Goals as goal
 
 pub exchange-requires : goal.exchange-requires

@@ -1,5 +1,4 @@
-use Rattle.std.proofs.Common.{rules, [], ap, ◌∙◌}
-use Rattle.cf_turn.specs.Turns.{stand_waiting}
+use Rattle.cf_turn.proofs.Names.{rules, [], ap, ◌∙◌, stand_waiting}
 use Rattle.cf_turn.proofs.Steps.{enters}
 use Rattle.cf_turn.proofs.key_lock.KeyLock.enter.Goals as goal
 

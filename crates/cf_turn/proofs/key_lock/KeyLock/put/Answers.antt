@@ -1,5 +1,4 @@
-use Rattle.std.proofs.Common.{◌∷◌, ap, sym, ◌∙◌}
-use Rattle.atomic_table.specs.Table.{rest}
+use Rattle.cf_turn.proofs.Names.{◌∷◌, ap, sym, ◌∙◌, rest}
 use Rattle.cf_turn.proofs.key_lock.KeyLock.put.Goals as goal
 
 pub exchange-requires : goal.exchange-requires

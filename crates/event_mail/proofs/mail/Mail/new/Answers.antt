@@ -1,6 +1,4 @@
-use Rattle.std.proofs.Common.{◌≡◌, ℕ, replicate, ◌∙◌, ap, arith}
-use Rattle.cf_types.specs.declared.limits.TheConstants.{CALLERS}
-use Rattle.cf_types.specs.Mailboxes.{Mailboxes, no_events, empty_mail}
+use Rattle.event_mail.proofs.Names.{◌≡◌, ℕ, replicate, ◌∙◌, ap, arith, CALLERS, Mailboxes, no_events, empty_mail}
 use Rattle.event_mail.proofs.mail.Mail.new.Goals as goal
 
 all_empty : (n : ℕ) (mail : Mailboxes) → n ≡ CALLERS → mail ≡ replicate n no_events → mail ≡ empty_mail

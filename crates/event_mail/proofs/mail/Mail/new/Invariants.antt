@@ -1,6 +1,4 @@
-use Rattle.std.proofs.Common.{◌≡◌, replicate}
-use Rattle.cf_types.specs.Mailboxes.{no_events}
-use Rattle.event_mail.specs.Post.{mailboxes_of}
+use Rattle.event_mail.proofs.Names.{◌≡◌, replicate, no_events, mailboxes_of}
 use Rattle.event_mail.proofs.mail.Mail.new.Given as goal
 
 -- so many mailboxes without events

@@ -1,6 +1,4 @@
-use Rattle.std.proofs.Common.{ap, arith}
-use Rattle.cf_types.specs.Mailboxes.{box_taken}
-use Rattle.event_mail.specs.Post.{Post}
+use Rattle.event_mail.proofs.Names.{ap, arith, box_taken, Post}
 use Rattle.event_mail.proofs.PostLaws.{mailboxes_of-set}
 use Rattle.event_mail.proofs.mail.Mail.next.Goals as goal
 

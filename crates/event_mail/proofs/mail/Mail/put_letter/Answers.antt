@@ -1,6 +1,4 @@
-use Rattle.std.proofs.Common.{[], ◌∷◌, ◌++◌, ap, arith}
-use Rattle.cf_types.specs.Mailboxes.{Mailbox}
-use Rattle.event_mail.specs.Post.{Post}
+use Rattle.event_mail.proofs.Names.{[], ◌∷◌, ◌++◌, ap, arith, Mailbox, Post}
 use Rattle.event_mail.proofs.PostLaws.{mailboxes_of-set}
 use Rattle.event_mail.proofs.mail.Mail.put_letter.Goals as goal
 

@@ -1,9 +1,4 @@
-use Rattle.std.proofs.Common.{sym, ap, ◌∙◌, subst}
-use Rattle.cf_types.specs.declared.numbers.EntryId.{EntryId}
-use Rattle.list_model.specs.ListStore.Lists.{Lists, record_of, lists_without}
-use Rattle.list_kept.specs.ContentView.{put_back}
-use Rattle.list_kept.specs.Orderly.{IsOrderly}
-use Rattle.list_kept.proofs.ToldLaws.{content_at}
+use Rattle.list_core.proofs.Names.{sym, ap, ◌∙◌, subst, EntryId, Lists, record_of, lists_without, put_back, IsOrderly, content_at}
 use Rattle.list_core.proofs.FoundLaws.{found-any, found-put_back}
 use Rattle.list_core.proofs.commands.move_record.act.Goals as goal
 

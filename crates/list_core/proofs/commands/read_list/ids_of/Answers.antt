@@ -1,13 +1,4 @@
-use Rattle.std.proofs.Common.{◌≡◌, ◌++◌, ◌∷◌, [], Some, Bor, List, map, take, option_map, slice_get, sym, ap, ◌∙◌, arith}
-use Rattle.std.proofs.lemmas.List.{map-append, take_all}
-use Rattle.cf_lists.proofs.TakeLaws.{take_next}
-use Rattle.cf_types.specs.declared.numbers.EntryId.{EntryId}
-use Rattle.list_model.specs.ListStore.declared.records.Rec.{Rec}
-use Rattle.list_model.specs.ListStore.Lists.{records_of}
-use Rattle.list_model.specs.ListStore.Record.{Record}
-use Rattle.list_model.specs.ListStore.Records.{record_in}
-use Rattle.list_kept.proofs.ListStore.TiedLaws.{none_within}
-use Rattle.list_kept.proofs.ListStore.StoreLaws.{none_shown}
+use Rattle.list_core.proofs.Names.{◌≡◌, ◌++◌, ◌∷◌, [], Some, Bor, List, map, take, option_map, slice_get, sym, ap, ◌∙◌, arith, map-append, take_all, take_next, EntryId, Rec, records_of, Record, record_in, none_within, none_shown}
 use Rattle.list_core.proofs.commands.read_list.ids_of.Goals as goal
 
 pub unreachable-requires : goal.unreachable-requires

@@ -1,6 +1,4 @@
-use Rattle.std.proofs.Common.{◌≡◌, take, map}
-use Rattle.list_model.specs.ListStore.Record.{Record}
-use Rattle.list_model.specs.ListStore.Lists.{records_of}
+use Rattle.list_core.proofs.Names.{◌≡◌, take, map, Record, records_of}
 use Rattle.list_core.proofs.commands.read_list.ids_of.Given as goal
 
 abbrev pub invariant-loop-place : goal.invariant-loop-place

@@ -1,11 +1,4 @@
-use Rattle.std.proofs.Common.{◌≡◌, ◌∙◌, ap, sym, subst}
-use Rattle.std.specs.Prelude.{IfSome}
-use Rattle.list_model.specs.ListStore.Record.{Record}
-use Rattle.list_model.specs.ListStore.Lists.{record_of, lists_replaced}
-use Rattle.list_kept.specs.declared.bare.Bare.{Bare}
-use Rattle.list_kept.specs.Data.{renewed}
-use Rattle.list_kept.specs.Orderly.{IsOrderly}
-use Rattle.list_kept.proofs.ToldLaws.{content_at}
+use Rattle.list_core.proofs.Names.{◌≡◌, ◌∙◌, ap, sym, subst, IfSome, Record, record_of, lists_replaced, Bare, renewed, IsOrderly, content_at}
 use Rattle.list_core.proofs.FoundLaws.{found-any, found-named, found-renewed}
 use Rattle.list_core.proofs.commands.update.act.Goals as goal
 

@@ -1,9 +1,4 @@
-use Rattle.std.proofs.Common.{◌≡◌, not, List, ap, ◌∙◌}
-use Rattle.cf_lists.proofs.FilterLaws.{filter_all, all_from_none}
-use Rattle.list_model.specs.ListStore.Record.{Record}
-use Rattle.list_model.specs.ListStore.Lists.{all_records, records_without, is_id}
-use Rattle.list_model.specs.Refusals.{elements_refusal}
-use Rattle.list_model.specs.Commands.Write.{new_id}
+use Rattle.list_core.proofs.Names.{◌≡◌, not, List, ap, ◌∙◌, filter_all, all_from_none, Record, all_records, records_without, is_id, elements_refusal, new_id}
 use Rattle.list_core.proofs.commands.write.room_refusal.Goals as goal
 
 pub returns : goal.returns

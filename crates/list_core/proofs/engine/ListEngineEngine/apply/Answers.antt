@@ -1,9 +1,4 @@
-use Rattle.std.proofs.Common.{◌≡◌, ◌∙◌, ℕ, Some, refl, sym, subst, arith}
-use Rattle.cf_types.proofs.GainsLaws.{gains_none}
-use Rattle.list_model.specs.Contents.{Content, IsContent}
-use Rattle.list_model.proofs.ContentLaws.{content-done}
-use Rattle.list_core.specs.Plans.{plan_for, IsPossible}
-use Rattle.list_core.specs.EngineView.{EngineView}
+use Rattle.list_core.proofs.Names.{◌≡◌, ◌∙◌, ℕ, Some, refl, sym, subst, arith, gains_none, Content, IsContent, content-done, plan_for, IsPossible, EngineView}
 use Rattle.list_core.proofs.PlanLaws.{plan_taken, plan_accepted, possible}
 use Rattle.list_core.proofs.engine.ListEngineEngine.apply.Goals as goal
 

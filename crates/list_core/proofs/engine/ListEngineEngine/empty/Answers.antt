@@ -1,8 +1,4 @@
-use Rattle.std.proofs.Common.{sym, ap, ◌∙◌, subst}
-use Rattle.engine_api.specs.declared.shapes.Shape.{Shape}
-use Rattle.list_model.specs.Contents.{Content, IsContent}
-use Rattle.list_model.proofs.EngineLaws.{content-nothing}
-use Rattle.cf_types.specs.Forms.{is_list}
+use Rattle.list_core.proofs.Names.{sym, ap, ◌∙◌, subst, Shape, Content, IsContent, content-nothing, is_list}
 use Rattle.list_core.proofs.engine.ListEngineEngine.empty.Goals as goal
 
 pub invariant_of-result : goal.invariant_of-result

@@ -1,6 +1,4 @@
-use Rattle.std.proofs.Common.{◌∙◌, sym, subst}
-use Rattle.list_model.specs.Contents.{Content, IsContent}
-use Rattle.list_model.proofs.EngineLaws.{leave-content}
+use Rattle.list_core.proofs.Names.{◌∙◌, sym, subst, Content, IsContent, leave-content}
 use Rattle.list_core.proofs.engine.ListEngineEngine.leave.Goals as goal
 
 pub invariant_of-self : goal.invariant_of-self

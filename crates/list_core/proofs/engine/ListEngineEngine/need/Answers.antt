@@ -1,12 +1,4 @@
-use Rattle.std.proofs.Common.{◌≡◌, ℕ, not, List, sym, ap, ◌∙◌}
-use Rattle.cf_types.specs.declared.forms.Caps.{Caps}
-use Rattle.cf_lists.proofs.FilterLaws.{filter_all, all_from_none}
-use Rattle.list_model.specs.ListStore.Record.{Record}
-use Rattle.list_model.specs.ListStore.Lists.{all_records, records_without, is_id, count_of}
-use Rattle.list_model.specs.Records.{elements_in}
-use Rattle.list_model.specs.Commands.Write.{new_id}
-use Rattle.list_model.proofs.StoreLaws.{new-alone}
-use Rattle.list_model.proofs.EngineLaws.{need-items}
+use Rattle.list_core.proofs.Names.{◌≡◌, ℕ, not, List, sym, ap, ◌∙◌, Caps, filter_all, all_from_none, Record, all_records, records_without, is_id, count_of, elements_in, new_id, new-alone, need-items}
 use Rattle.list_core.proofs.engine.ListEngineEngine.need.Goals as goal
 
 pub returns : goal.returns

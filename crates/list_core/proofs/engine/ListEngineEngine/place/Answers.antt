@@ -1,17 +1,4 @@
-use Rattle.std.proofs.Common.{◌≡◌, ◌∙◌, ℕ, IsTrue, sym, subst, arith}
-use Rattle.engine_api.specs.declared.shapes.Shape.{Shape}
-use Rattle.cf_types.specs.declared.forms.Caps.{Caps}
-use Rattle.cf_types.specs.Forms.{is_list}
-use Rattle.engine_api.specs.Items.{IsNextItem}
-use Rattle.engine_api.proofs.FrontLaws.{content-placed}
-use Rattle.list_model.specs.declared.items.ListItem.{ListItem}
-use Rattle.list_model.specs.declared.items.ListItem.TheVariants.{Controls, Row}
-use Rattle.list_model.specs.Contents.{Content, IsContent}
-use Rattle.list_model.specs.Items.{content_with}
-use Rattle.list_model.specs.Meaning.{list_meaning}
-use Rattle.list_model.proofs.EngineLaws.{next-fits, list-fronts}
-use Rattle.list_core.specs.Rows.{IsPlaceable}
-use Rattle.list_core.specs.EngineView.{EngineView}
+use Rattle.list_core.proofs.Names.{◌≡◌, ◌∙◌, ℕ, IsTrue, sym, subst, arith, Shape, Caps, is_list, IsNextItem, content-placed, ListItem, Controls, Row, Content, IsContent, content_with, list_meaning, next-fits, list-fronts, IsPlaceable, EngineView}
 use Rattle.list_core.proofs.PlanLaws.{either_way}
 use Rattle.list_core.proofs.engine.ListEngineEngine.place.Goals as goal
 

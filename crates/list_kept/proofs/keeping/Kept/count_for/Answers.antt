@@ -1,9 +1,4 @@
-use Rattle.std.proofs.Common.{List, length, filter, sym, ap, ◌∙◌}
-use Rattle.std.proofs.lemmas.List.{length-map}
-use Rattle.list_watch.specs.declared.monitors.Monitor.{Monitor}
-use Rattle.list_watch.specs.declared.monitors.Watched.{Watched}
-use Rattle.list_watch.specs.Monitors.{is_for}
-use Rattle.list_watch.proofs.MonitorLaws.{filter-map}
+use Rattle.list_kept.proofs.Names.{List, length, filter, sym, ap, ◌∙◌, length-map, Monitor, Watched, is_for, filter-map}
 use Rattle.list_kept.proofs.keeping.Kept.count_for.Goals as goal
 
 pub returns : goal.returns

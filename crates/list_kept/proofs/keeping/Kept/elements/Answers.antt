@@ -1,5 +1,4 @@
-use Rattle.std.proofs.Common.{arith}
-use Rattle.list_store.specs.Lists.{all_records}
+use Rattle.list_kept.proofs.Names.{arith, all_records}
 use Rattle.list_kept.proofs.DataLaws.{free_elements}
 use Rattle.list_kept.proofs.keeping.Kept.elements.Goals as goal
 

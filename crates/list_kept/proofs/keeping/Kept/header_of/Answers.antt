@@ -1,8 +1,4 @@
-use Rattle.std.proofs.Common.{◌≡◌, ℕ, Option, None, false, length, nat_lt, position, unwrap_or, refl, sym, ap, ◌∙◌}
-use Rattle.std.specs.List.{position_or_len}
-use Rattle.cf_lists.proofs.KeyLaws.{any_is_placed}
-use Rattle.list_store.specs.Lists.{has_id}
-use Rattle.list_store.proofs.SpotLaws.{unplaced}
+use Rattle.list_kept.proofs.Names.{◌≡◌, ℕ, Option, None, false, length, nat_lt, position, unwrap_or, refl, sym, ap, ◌∙◌, position_or_len, any_is_placed, has_id, unplaced}
 use Rattle.list_kept.proofs.keeping.Kept.header_of.Goals as goal
 
 pub returns-in-None : goal.returns-in-None

@@ -1,13 +1,4 @@
-use Rattle.std.proofs.Common.{◌≡◌, true, not, if◌then◌else◌, List, Option, map, ap, ◌∙◌}
-use Rattle.std.specs.List.{list_all}
-use Rattle.cf_types.specs.declared.numbers.ConnId.{ConnId}
-use Rattle.list_watch.specs.declared.monitors.Monitor.{Monitor}
-use Rattle.list_watch.specs.declared.monitors.Watched.{Watched}
-use Rattle.list_watch.specs.Monitors.{is_of}
-use Rattle.list_watch.specs.Rows.{monitors_of}
-use Rattle.list_watch.proofs.MonitorLaws.{monitors_of-others}
-use Rattle.list_model.specs.Contents.{holder_without}
-use Rattle.list_kept.specs.Told.{is_told}
+use Rattle.list_kept.proofs.Names.{◌≡◌, true, not, if◌then◌else◌, List, Option, map, ap, ◌∙◌, list_all, ConnId, Monitor, Watched, is_of, monitors_of, monitors_of-others, holder_without, is_told}
 use Rattle.list_kept.proofs.ToldLaws.{told-filter, gains-told, content_at}
 use Rattle.list_kept.proofs.keeping.Kept.leave.Goals as goal
 

@@ -1,10 +1,4 @@
-use Rattle.std.proofs.Common.{◌≡◌, true, List, ap, ◌∙◌}
-use Rattle.std.specs.List.{list_all}
-use Rattle.list_watch.specs.declared.monitors.Monitor.{Monitor}
-use Rattle.list_watch.specs.declared.monitors.Watched.{Watched}
-use Rattle.list_watch.specs.Rows.{monitors_of, rows_with}
-use Rattle.list_watch.proofs.MonitorLaws.{monitors_of-with}
-use Rattle.list_kept.specs.Told.{is_told}
+use Rattle.list_kept.proofs.Names.{◌≡◌, true, List, ap, ◌∙◌, list_all, Monitor, Watched, monitors_of, rows_with, monitors_of-with, is_told}
 use Rattle.list_kept.proofs.ToldLaws.{told-with, gains-told, content_at}
 use Rattle.list_kept.proofs.keeping.Kept.monitor.Goals as goal
 

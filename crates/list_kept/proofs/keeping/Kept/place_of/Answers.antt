@@ -1,11 +1,4 @@
-use Rattle.std.proofs.Common.{◌≡◌, Some, [], List, refl, sym, ap, arith}
-use Rattle.std.specs.List.{prefix_len}
-use Rattle.cf_lists.specs.Pairwise.{pairwise}
-use Rattle.list_store.specs.Record.{Record}
-use Rattle.list_store.specs.Lists.{records_of}
-use Rattle.list_model.specs.Records.{may_precede}
-use Rattle.list_model.proofs.ListLaws.{one-records}
-use Rattle.list_kept.specs.ContentView.{comes_behind}
+use Rattle.list_kept.proofs.Names.{◌≡◌, Some, [], List, refl, sym, ap, arith, prefix_len, pairwise, Record, records_of, may_precede, one-records, comes_behind}
 use Rattle.list_kept.proofs.PlaceLaws.{none_past}
 use Rattle.list_kept.proofs.keeping.Kept.place_of.Goals as goal
 

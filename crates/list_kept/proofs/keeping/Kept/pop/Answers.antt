@@ -1,9 +1,4 @@
-use Rattle.std.proofs.Common.{◌≡◌, ℕ, ◌-◌, ◌==◌, [], None, not, true, false, Option, length, replicate, sym, ap, ◌∙◌, arith}
-use Rattle.cf_types.specs.declared.numbers.ConnId.{ConnId}
-use Rattle.list_store.specs.Lists.{Lists, count_of}
-use Rattle.list_model.specs.Lists.{first_records}
-use Rattle.list_model.specs.Contents.{Content, headers_of}
-use Rattle.list_model.proofs.ItemLaws.{first-all}
+use Rattle.list_kept.proofs.Names.{◌≡◌, ℕ, ◌-◌, ◌==◌, [], None, not, true, false, Option, length, replicate, sym, ap, ◌∙◌, arith, ConnId, Lists, count_of, first_records, Content, headers_of, first-all}
 use Rattle.list_kept.proofs.LastLaws.{none_test, zero_test}
 use Rattle.list_kept.proofs.ToldLaws.{content_at}
 use Rattle.list_kept.proofs.keeping.Kept.pop.Goals as goal

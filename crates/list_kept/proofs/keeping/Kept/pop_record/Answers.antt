@@ -1,23 +1,5 @@
-use Rattle.std.proofs.Common.{◌≡◌, ◌-◌, ◌==◌, not, List, length, take, sym, ap, ◌∙◌, subst, arith}
-use Rattle.std.specs.List.{list_all}
-use Rattle.list_store.specs.Record.{Record}
-use Rattle.list_store.specs.StoreView.{StoreView}
-use Rattle.list_store.specs.Lists.{Lists, all_records, records_of, lists_without, count_of}
-use Rattle.std.proofs.Common.{Option, ℕ}
-use Rattle.cf_lists.specs.Lists.{lists_popped}
-use Rattle.list_store.specs.Records.{record_in}
-use Rattle.list_kept.specs.Data.{AreUsed}
-use Rattle.list_kept.specs.Named.{AreNamed}
+use Rattle.list_kept.proofs.Names.{◌≡◌, ◌-◌, ◌==◌, not, List, length, take, sym, ap, ◌∙◌, subst, arith, Option, ℕ, list_all, Record, StoreView, Lists, all_records, records_of, lists_without, count_of, lists_popped, record_in, AreUsed, AreNamed, Monitor, Watched, monitors_of, rows_turned, monitors-turned, has_records, records-elsewhere, first-all, IsOrderly, is_told}
 use Rattle.list_kept.proofs.NamedLaws.{named_less, taken}
-use Rattle.list_watch.specs.declared.monitors.Monitor.{Monitor}
-use Rattle.list_watch.specs.declared.monitors.Watched.{Watched}
-use Rattle.list_watch.specs.Rows.{monitors_of, rows_turned}
-use Rattle.list_watch.proofs.BitLaws.{monitors-turned}
-use Rattle.list_model.specs.Contents.{has_records}
-use Rattle.list_model.proofs.StoreLaws.{records-elsewhere}
-use Rattle.list_model.proofs.ItemLaws.{first-all}
-use Rattle.list_kept.specs.Orderly.{IsOrderly}
-use Rattle.list_kept.specs.Told.{is_told}
 use Rattle.list_kept.proofs.PlaceLaws.{orderly-without}
 use Rattle.list_kept.proofs.ToldLaws.{told-one, sym_test, content_at}
 use Rattle.list_kept.proofs.LastLaws.{last-count, last-gone, some_test}

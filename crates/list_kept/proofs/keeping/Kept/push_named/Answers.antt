@@ -1,20 +1,5 @@
-use Rattle.std.proofs.Common.{◌≡◌, ℕ, ◌<◌, ◌==◌, ◌++◌, ◌∷◌, [], not, List, length, sym, ap, ◌∙◌, subst}
-use Rattle.std.specs.List.{list_all}
-use Rattle.list_store.specs.Record.{Record}
-use Rattle.list_store.specs.Lists.{Lists, all_records, records_of, with_records}
-use Rattle.list_kept.specs.declared.keeping.Kept.TheInside.{Inside}
-use Rattle.list_kept.specs.Data.{AreUsed, with_data}
-use Rattle.list_kept.specs.Named.{AreNamed}
+use Rattle.list_kept.proofs.Names.{◌≡◌, ℕ, ◌<◌, ◌==◌, ◌++◌, ◌∷◌, [], not, List, length, sym, ap, ◌∙◌, subst, list_all, Record, Lists, all_records, records_of, with_records, Inside, AreUsed, with_data, AreNamed, Monitor, Watched, monitors_of, rows_turned, monitors-turned, has_records, records-elsewhere, ContentView, content_view, IsOrderly, is_told, AreTold}
 use Rattle.list_kept.proofs.NamedLaws.{named_new, named_more, came_last}
-use Rattle.list_watch.specs.declared.monitors.Monitor.{Monitor}
-use Rattle.list_watch.specs.declared.monitors.Watched.{Watched}
-use Rattle.list_watch.specs.Rows.{monitors_of, rows_turned}
-use Rattle.list_watch.proofs.BitLaws.{monitors-turned}
-use Rattle.list_model.specs.Contents.{has_records}
-use Rattle.list_model.proofs.StoreLaws.{records-elsewhere}
-use Rattle.list_kept.specs.ContentView.{ContentView, content_view}
-use Rattle.list_kept.specs.Orderly.{IsOrderly}
-use Rattle.list_kept.specs.Told.{is_told, AreTold}
 use Rattle.list_kept.proofs.ToldLaws.{told-one, sym_test, content_at}
 use Rattle.list_kept.proofs.keeping.Kept.push_named.Goals as goal
 

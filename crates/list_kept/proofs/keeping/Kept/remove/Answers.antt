@@ -1,23 +1,5 @@
-use Rattle.std.proofs.Common.{◌≡◌, ℕ, ◌==◌, true, List, sym, ap, ◌∙◌, subst}
-use Rattle.std.specs.List.{list_any, list_all}
-use Rattle.std.proofs.lemmas.Bool.{false≢true}
-use Rattle.list_store.specs.Lists.{Lists, all_records, is_id, lists_without}
-use Rattle.std.proofs.Common.{Option, length}
-use Rattle.list_store.specs.Records.{record_in}
-use Rattle.list_kept.specs.Data.{AreUsed}
-use Rattle.list_kept.specs.Named.{AreNamed}
+use Rattle.list_kept.proofs.Names.{◌≡◌, ℕ, ◌==◌, true, List, sym, ap, ◌∙◌, subst, Option, length, list_any, list_all, false≢true, Lists, all_records, is_id, lists_without, record_in, AreUsed, AreNamed, any_all, unplaced, spot_with, Monitor, Watched, monitors_of, rows_turned, monitors-turned, has_records, full-others, ContentView, IsOrderly, is_told}
 use Rattle.list_kept.proofs.NamedLaws.{named_less, taken}
-use Rattle.cf_lists.proofs.AllLaws.{any_all}
-use Rattle.list_store.proofs.SpotLaws.{unplaced, spot_with}
-use Rattle.list_watch.specs.declared.monitors.Monitor.{Monitor}
-use Rattle.list_watch.specs.declared.monitors.Watched.{Watched}
-use Rattle.list_watch.specs.Rows.{monitors_of, rows_turned}
-use Rattle.list_watch.proofs.BitLaws.{monitors-turned}
-use Rattle.list_model.specs.Contents.{has_records}
-use Rattle.list_model.proofs.StoreLaws.{full-others}
-use Rattle.list_kept.specs.ContentView.{ContentView}
-use Rattle.list_kept.specs.Orderly.{IsOrderly}
-use Rattle.list_kept.specs.Told.{is_told}
 use Rattle.list_kept.proofs.PlaceLaws.{orderly-without}
 use Rattle.list_kept.proofs.ToldLaws.{told-one, gains-told, sym_test, content_at}
 use Rattle.list_kept.proofs.keeping.Kept.remove.Goals as goal

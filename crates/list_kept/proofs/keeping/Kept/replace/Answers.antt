@@ -1,13 +1,4 @@
-use Rattle.std.proofs.Common.{◌≡◌, true, sym, ap, ◌∙◌, subst, arith}
-use Rattle.std.specs.Prelude.{IfSome}
-use Rattle.std.specs.List.{list_any}
-use Rattle.list_store.specs.Lists.{Lists, all_records, is_id, record_of, lists_replaced}
-use Rattle.list_model.specs.Contents.{has_records}
-use Rattle.list_model.proofs.StoreLaws.{full-replaced}
-use Rattle.list_kept.specs.ContentView.{ContentView}
-use Rattle.list_kept.specs.Data.{AreUsed, renewed}
-use Rattle.list_kept.specs.Named.{AreNamed}
-use Rattle.list_kept.specs.Orderly.{IsOrderly}
+use Rattle.list_kept.proofs.Names.{◌≡◌, true, sym, ap, ◌∙◌, subst, arith, IfSome, list_any, Lists, all_records, is_id, record_of, lists_replaced, has_records, full-replaced, ContentView, AreUsed, renewed, AreNamed, IsOrderly}
 use Rattle.list_kept.proofs.DataLaws.{named-renewed}
 use Rattle.list_kept.proofs.ToldLaws.{told-same}
 use Rattle.list_kept.proofs.keeping.Kept.replace.Goals as goal

@@ -1,22 +1,5 @@
-use Rattle.std.proofs.Common.{◌≡◌, ℕ, ◌<◌, ◌==◌, true, List, length, refl, sym, ap, ◌∙◌, subst}
-use Rattle.std.specs.List.{list_any, list_all}
-use Rattle.std.proofs.lemmas.Bool.{false≢true, eqb-true}
-use Rattle.list_store.specs.Lists.{Lists, all_records, is_id, record_of, lists_without}
-use Rattle.cf_lists.proofs.AllLaws.{any_all}
-use Rattle.list_store.proofs.SpotLaws.{unplaced, spot_with}
-use Rattle.list_watch.specs.declared.monitors.Monitor.{Monitor}
-use Rattle.list_watch.specs.declared.monitors.Watched.{Watched}
-use Rattle.list_watch.specs.Rows.{monitors_of, rows_turned}
-use Rattle.list_watch.proofs.BitLaws.{monitors-turned, gains_two}
-use Rattle.list_model.specs.Contents.{has_records}
-use Rattle.list_kept.specs.ContentView.{ContentView, put_back}
-use Rattle.list_model.specs.Commands.Move.{with_new_key}
-use Rattle.std.proofs.Common.{Option}
-use Rattle.list_kept.specs.Data.{AreUsed}
-use Rattle.list_kept.specs.Named.{AreNamed}
-use Rattle.list_kept.specs.Orderly.{IsOrderly}
+use Rattle.list_kept.proofs.Names.{◌≡◌, ℕ, ◌<◌, ◌==◌, true, List, length, refl, sym, ap, ◌∙◌, subst, Option, list_any, list_all, false≢true, eqb-true, Lists, all_records, is_id, record_of, lists_without, any_all, unplaced, spot_with, Monitor, Watched, monitors_of, rows_turned, monitors-turned, gains_two, has_records, ContentView, put_back, with_new_key, AreUsed, AreNamed, IsOrderly, is_told}
 use Rattle.list_kept.proofs.NamedLaws.{named_other, taken, came_back, some_found}
-use Rattle.list_kept.specs.Told.{is_told}
 use Rattle.list_kept.proofs.ToldLaws.{told-two, gains-told, content_at, full-put_back}
 use Rattle.list_kept.proofs.keeping.Kept.shift.Goals as goal
 

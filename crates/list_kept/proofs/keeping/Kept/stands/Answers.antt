@@ -1,4 +1,4 @@
-use Rattle.std.proofs.Common.{sym, ◌∙◌}
+use Rattle.list_kept.proofs.Names.{sym, ◌∙◌}
 use Rattle.list_kept.proofs.ToldLaws.{told-stands}
 use Rattle.list_kept.proofs.keeping.Kept.stands.Goals as goal
 

@@ -1,11 +1,4 @@
-use Rattle.std.proofs.Common.{◌≡◌, true, not, List, ap, ◌∙◌}
-use Rattle.std.specs.List.{list_all}
-use Rattle.list_watch.specs.declared.monitors.Monitor.{Monitor}
-use Rattle.list_watch.specs.declared.monitors.Watched.{Watched}
-use Rattle.list_watch.specs.Monitors.{is_for}
-use Rattle.list_watch.specs.Rows.{monitors_of}
-use Rattle.list_watch.proofs.MonitorLaws.{monitors_of-without}
-use Rattle.list_kept.specs.Told.{is_told}
+use Rattle.list_kept.proofs.Names.{◌≡◌, true, not, List, ap, ◌∙◌, list_all, Monitor, Watched, is_for, monitors_of, monitors_of-without, is_told}
 use Rattle.list_kept.proofs.ToldLaws.{told-filter, gains-told, content_at}
 use Rattle.list_kept.proofs.keeping.Kept.unmonitor.Goals as goal
 

@@ -1,12 +1,4 @@
-use Rattle.std.proofs.Common.{ℕ, List, Option, None, length, sym, ap, ◌∙◌, subst}
-use Rattle.std.specs.List.{list_all}
-use Rattle.std.proofs.lemmas.List.{length-replicate}
-use Rattle.list_watch.specs.declared.monitors.Watched.{Watched}
-use Rattle.list_kept.specs.Told.{is_told}
-use Rattle.list_store.specs.Lists.{Lists, all_records}
-use Rattle.list_kept.specs.Data.{AreUsed}
-use Rattle.list_kept.specs.Named.{AreNamed}
-use Rattle.list_kept.specs.Orderly.{IsOrderly}
+use Rattle.list_kept.proofs.Names.{ℕ, List, Option, None, length, sym, ap, ◌∙◌, subst, list_all, length-replicate, Watched, is_told, Lists, all_records, AreUsed, AreNamed, IsOrderly}
 use Rattle.list_kept.proofs.DataLaws.{no_chains}
 use Rattle.list_kept.proofs.PlaceLaws.{orderly-none, named_none}
 use Rattle.list_kept.proofs.keeping.Kept.with_names.Goals as goal

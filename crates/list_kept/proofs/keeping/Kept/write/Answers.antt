@@ -1,21 +1,5 @@
-use Rattle.std.proofs.Common.{◌≡◌, ℕ, ◌+◌, ◌<◌, Bool, true, List, length, sym, ap, ◌∙◌, subst, arith}
-use Rattle.std.specs.List.{list_all}
-use Rattle.list_store.specs.Record.{Record}
-use Rattle.list_store.specs.Lists.{Lists, all_records}
-use Rattle.list_kept.specs.declared.keeping.Kept.TheInside.{Inside}
-use Rattle.list_kept.specs.Data.{AreUsed, with_data}
-use Rattle.list_kept.specs.Named.{AreNamed}
+use Rattle.list_kept.proofs.Names.{◌≡◌, ℕ, ◌+◌, ◌<◌, Bool, true, List, length, sym, ap, ◌∙◌, subst, arith, list_all, Record, Lists, all_records, Inside, AreUsed, with_data, AreNamed, Monitor, Watched, monitors_of, rows_turned, monitors-turned, has_records, full-elsewhere, with_record, ContentView, content_view, IsOrderly, is_told}
 use Rattle.list_kept.proofs.NamedLaws.{named_new, named_more, came, elements_with}
-use Rattle.list_watch.specs.declared.monitors.Monitor.{Monitor}
-use Rattle.list_watch.specs.declared.monitors.Watched.{Watched}
-use Rattle.list_watch.specs.Rows.{monitors_of, rows_turned}
-use Rattle.list_watch.proofs.BitLaws.{monitors-turned}
-use Rattle.list_model.specs.Contents.{has_records}
-use Rattle.list_model.proofs.StoreLaws.{full-elsewhere}
-use Rattle.list_model.specs.Lists.{with_record}
-use Rattle.list_kept.specs.ContentView.{ContentView, content_view}
-use Rattle.list_kept.specs.Orderly.{IsOrderly}
-use Rattle.list_kept.specs.Told.{is_told}
 use Rattle.list_kept.proofs.ToldLaws.{told-one, gains-told, sym_test, content_at}
 use Rattle.list_kept.proofs.keeping.Kept.write.Goals as goal
 

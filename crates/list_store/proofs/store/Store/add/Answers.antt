@@ -1,12 +1,5 @@
-use Rattle.std.proofs.Common.{◌≡◌, ◌∙◌, ◌<◌, ap, sym, subst, arith, refl, false, List, length, map}
-use Rattle.std.specs.List.{list_any}
-use Rattle.std.proofs.lemmas.List.{length-map}
-use Rattle.cf_lists.proofs.RecordMapLaws.{with-map, any-map}
-use Rattle.list_store.specs.declared.records.Rec.{Rec}
-use Rattle.list_store.specs.StoreView.{StoreView}
-use Rattle.list_store.specs.Tied.{rec_id}
-use Rattle.list_store.specs.Lists.{record_id, is_id, all_records}
-use Rattle.list_store.specs.Records.{record_in, HasChain, AreHeld, loose_in}
+use Rattle.list_store.proofs.Names.{◌≡◌, ◌∙◌, ◌<◌, ap, sym, subst, arith, refl, false, List, length, map, list_any, length-map, with-map, any-map, Rec, StoreView, rec_id, record_id, is_id, record_in, HasChain, AreHeld, loose_in}
+use Rattle.list_store.specs.Lists.{all_records}
 use Rattle.list_store.proofs.StoreLaws.{added_held, added_loose}
 use Rattle.list_store.proofs.store.Store.add.Goals as goal
 

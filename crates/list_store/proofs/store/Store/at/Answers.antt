@@ -1,11 +1,4 @@
-use Rattle.std.proofs.Common.{◌∙◌, ap, sym, refl, option_map}
-use Rattle.cf_lists.specs.Lists.{records_of}
-use Rattle.cf_lists.proofs.RecordMapLaws.{records_of-map, get-map, apart-map}
-use Rattle.list_store.specs.Record.{Record}
-use Rattle.list_store.specs.Lists.{record_id}
-use Rattle.list_store.specs.Records.{record_in}
-use Rattle.list_store.specs.Tied.{rec_id}
-use Rattle.std.proofs.Common.{List, slice_get}
+use Rattle.list_store.proofs.Names.{◌∙◌, ap, sym, refl, option_map, List, slice_get, records_of, records_of-map, get-map, apart-map, Record, record_id, record_in, rec_id}
 use Rattle.list_store.proofs.StoreLaws.{chain_at, shown_option}
 use Rattle.list_store.proofs.store.Store.at.Goals as goal
 

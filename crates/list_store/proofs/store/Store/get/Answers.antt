@@ -1,8 +1,4 @@
-use Rattle.std.proofs.Common.{◌∙◌, ap, sym, refl, option_map}
-use Rattle.cf_lists.proofs.RecordMapLaws.{record-map, apart-map}
-use Rattle.list_store.specs.Tied.{rec_id}
-use Rattle.list_store.specs.Lists.{record_id}
-use Rattle.list_store.specs.Records.{record_in}
+use Rattle.list_store.proofs.Names.{◌∙◌, ap, sym, refl, option_map, record-map, apart-map, rec_id, record_id, record_in}
 use Rattle.list_store.proofs.StoreLaws.{chain_of, shown_option}
 use Rattle.list_store.proofs.store.Store.get.Goals as goal
 

@@ -1,8 +1,4 @@
-use Rattle.std.proofs.Common.{◌∙◌, ℕ, ap, sym, refl, option_map}
-use Rattle.cf_lists.proofs.RecordMapLaws.{spot-map, apart-map}
-use Rattle.list_store.specs.Tied.{rec_id}
-use Rattle.list_store.specs.Lists.{record_id}
-use Rattle.list_store.specs.Records.{record_in}
+use Rattle.list_store.proofs.Names.{◌∙◌, ℕ, ap, sym, refl, option_map, spot-map, apart-map, rec_id, record_id, record_in}
 use Rattle.list_store.proofs.SpotLaws.{header_is}
 use Rattle.list_store.proofs.StoreLaws.{shown}
 use Rattle.list_store.proofs.store.Store.header_of.Goals as goal

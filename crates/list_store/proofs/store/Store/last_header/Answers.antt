@@ -1,7 +1,4 @@
-use Rattle.std.proofs.Common.{◌≡◌, []}
-use Rattle.cf_lists.specs.Lists.{IsLastFull, all_records}
-use Rattle.cf_lists.proofs.RecordMapLaws.{last-map, none-map}
-use Rattle.list_store.specs.Records.{record_in}
+use Rattle.list_store.proofs.Names.{◌≡◌, [], IsLastFull, all_records, last-map, none-map, record_in}
 use Rattle.list_store.proofs.TiedLaws.{weaker_some, weaker_none}
 use Rattle.list_store.proofs.StoreLaws.{shown}
 use Rattle.list_store.proofs.store.Store.last_header.Goals as goal

@@ -1,6 +1,4 @@
-use Rattle.std.proofs.Common.{◌∙◌, ap, List, map}
-use Rattle.list_store.specs.declared.records.Rec.{Rec}
-use Rattle.list_store.specs.Records.{record_in}
+use Rattle.list_store.proofs.Names.{◌∙◌, ap, List, map, Rec, record_in}
 use Rattle.list_store.proofs.StoreLaws.{shown_none, held_none, whole_none}
 use Rattle.list_store.proofs.store.Store.new.Goals as goal
 

@@ -1,11 +1,6 @@
-use Rattle.std.proofs.Common.{◌≡◌, ◌∙◌, ◌-◌, [], Some, refl, ap, List, take, length, option_map}
-use Rattle.cf_lists.specs.Lists.{IsLastFull}
+use Rattle.list_store.proofs.Names.{◌≡◌, ◌∙◌, ◌-◌, [], Some, refl, ap, List, take, length, option_map, IsLastFull, last-map, none-map, popped-map, record-map, without-map, apart-map, Rec, rec_id, record_id, with_records, record_in}
 use Rattle.cf_lists.specs.Lists as generic
-use Rattle.cf_lists.proofs.RecordMapLaws.{last-map, none-map, popped-map, record-map, without-map, apart-map}
-use Rattle.list_store.specs.declared.records.Rec.{Rec}
-use Rattle.list_store.specs.Tied.{rec_id}
-use Rattle.list_store.specs.Lists.{record_id, all_records, records_of, with_records, record_of, lists_without}
-use Rattle.list_store.specs.Records.{record_in}
+use Rattle.list_store.specs.Lists.{all_records, records_of, record_of, lists_without}
 use Rattle.list_store.proofs.TiedLaws.{weaker_some, weaker_none}
 use Rattle.list_store.proofs.StoreLaws.{shown, PoppedOut, popped_out}
 use Rattle.list_store.proofs.store.Store.pop.Goals as goal

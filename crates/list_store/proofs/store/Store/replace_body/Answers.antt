@@ -1,8 +1,4 @@
-use Rattle.std.proofs.Common.{sym, subst}
-use Rattle.cf_pool.specs.Pools.{IsChain}
-use Rattle.cf_lists.specs.Lists.{all_records}
-use Rattle.list_store.specs.Records.{loose_in}
-use Rattle.list_store.specs.StoreView.{StoreView}
+use Rattle.list_store.proofs.Names.{sym, subst, IsChain, all_records, loose_in, StoreView}
 use Rattle.list_store.proofs.StoreLaws.{loose_chain, replace_held, replace_view, replace_whole}
 use Rattle.list_store.proofs.store.Store.replace_body.Goals as goal
 

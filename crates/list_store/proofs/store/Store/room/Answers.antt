@@ -1,7 +1,4 @@
-use Rattle.std.proofs.Common.{List, sym, subst}
-use Rattle.cf_lists.specs.Lists.{all_records}
-use Rattle.list_store.specs.declared.records.Rec.{Rec}
-use Rattle.list_store.specs.Records.{AreHeld}
+use Rattle.list_store.proofs.Names.{List, sym, subst, all_records, Rec, AreHeld}
 use Rattle.list_store.proofs.store.Store.room.Goals as goal
 
 pub invariant_of-self : goal.invariant_of-self

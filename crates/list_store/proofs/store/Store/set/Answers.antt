@@ -1,12 +1,6 @@
-use Rattle.std.proofs.Common.{◌≡◌, ◌∙◌, ap, sym, subst, refl, ℕ, true, List, Some, map, option_map}
-use Rattle.std.specs.List.{list_any}
+use Rattle.list_store.proofs.Names.{◌≡◌, ◌∙◌, ap, sym, subst, refl, ℕ, true, List, Some, map, option_map, list_any, replaced-map, record-map, any-map, apart-map, Rec, StoreView, rec_id, record_id, is_id, record_in, HasChain, chains_less, AreHeld, loose_in}
 use Rattle.cf_lists.specs.Lists as generic
-use Rattle.cf_lists.proofs.RecordMapLaws.{replaced-map, record-map, any-map, apart-map}
-use Rattle.list_store.specs.declared.records.Rec.{Rec}
-use Rattle.list_store.specs.StoreView.{StoreView}
-use Rattle.list_store.specs.Tied.{rec_id}
-use Rattle.list_store.specs.Lists.{record_id, is_id, all_records}
-use Rattle.list_store.specs.Records.{record_in, HasChain, chains_less, AreHeld, loose_in}
+use Rattle.list_store.specs.Lists.{all_records}
 use Rattle.list_store.proofs.StoreLaws.{replaced_held, replaced_chain, replaced_was}
 use Rattle.list_store.proofs.store.Store.set.Goals as goal
 

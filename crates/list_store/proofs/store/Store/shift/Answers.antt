@@ -1,10 +1,5 @@
-use Rattle.std.proofs.Common.{◌∙◌, ap, sym, is_some, option_map}
-use Rattle.std.specs.List.{list_any}
-use Rattle.std.proofs.lemmas.Bool.{false≢true}
-use Rattle.cf_lists.proofs.FilterLaws.{found_passes, any_is_found}
-use Rattle.cf_lists.proofs.IdLaws.{gone}
-use Rattle.list_store.specs.Lists.{Lists, record_id, is_id, all_records}
-use Rattle.list_store.specs.Records.{record_in}
+use Rattle.list_store.proofs.Names.{◌∙◌, ap, sym, is_some, option_map, list_any, false≢true, found_passes, any_is_found, gone, Lists, record_id, is_id, record_in}
+use Rattle.list_store.specs.Lists.{all_records}
 use Rattle.list_store.proofs.store.Store.shift.Goals as goal
 
 pub add-requires-clause-alone : goal.add-requires-clause-alone

@@ -1,9 +1,4 @@
-use Rattle.std.proofs.Common.{◌∙◌, ap, sym, refl, List, map, option_map}
-use Rattle.cf_lists.proofs.RecordMapLaws.{without-map, record-map, apart-map}
-use Rattle.list_store.specs.declared.records.Rec.{Rec}
-use Rattle.list_store.specs.Tied.{rec_id}
-use Rattle.list_store.specs.Lists.{record_id}
-use Rattle.list_store.specs.Records.{record_in}
+use Rattle.list_store.proofs.Names.{◌∙◌, ap, sym, refl, List, map, option_map, without-map, record-map, apart-map, Rec, rec_id, record_id, record_in}
 use Rattle.list_store.proofs.StoreLaws.{TakenOut, taken_out}
 use Rattle.list_store.proofs.store.Store.take.Goals as goal
 

@@ -1,9 +1,4 @@
-use Rattle.std.proofs.Common.{◌∙◌, ap, sym, refl, option_map}
-use Rattle.cf_lists.proofs.RecordMapLaws.{spot-map, apart-map}
-use Rattle.list_store.specs.Tied.{rec_id}
-use Rattle.list_store.specs.Spots.{as_spot}
-use Rattle.list_store.specs.Lists.{record_id}
-use Rattle.list_store.specs.Records.{record_in}
+use Rattle.list_store.proofs.Names.{◌∙◌, ap, sym, refl, option_map, spot-map, apart-map, rec_id, as_spot, record_id, record_in}
 use Rattle.list_store.proofs.SpotLaws.{spot_is}
 use Rattle.list_store.proofs.StoreLaws.{shown}
 use Rattle.list_store.proofs.store.Store.whereabouts.Goals as goal

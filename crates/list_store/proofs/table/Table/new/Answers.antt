@@ -1,14 +1,5 @@
-use Rattle.std.proofs.Common.{◌≡◌, ◌∙◌, ap, ℕ, arith, List, length}
-use Rattle.std.proofs.lemmas.List.{length-map}
-use Rattle.std.specs.declared.vec.Vec.{Vec}
-use Rattle.std.specs.declared.alloc.Global.{Global}
-use Rattle.list_store.specs.Orders.{orders_in}
-use Rattle.std.proofs.Common.{replicate, []}
-use Rattle.std.specs.List.{list_all}
-use Rattle.std.proofs.lemmas.List.{length-replicate}
-use Rattle.list_store.specs.Orders.{is_few}
+use Rattle.list_store.proofs.Names.{◌≡◌, ◌∙◌, ap, ℕ, arith, List, length, replicate, [], length-map, length-replicate, Vec, Global, orders_in, is_few, list_all, lists_at}
 use Rattle.list_store.proofs.VecLaws.{few-replicate}
-use Rattle.list_store.specs.Tied.{lists_at}
 use Rattle.list_store.proofs.TiedLaws.{new_tied, no_lists}
 use Rattle.list_store.proofs.table.Table.new.Goals as goal
 

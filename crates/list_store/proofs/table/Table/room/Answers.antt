@@ -1,8 +1,4 @@
-use Rattle.std.proofs.Common.{◌∙◌, ap, ℕ, arith, List}
-use Rattle.list_store.specs.Orders.{orders_in}
-use Rattle.std.proofs.Common.{refl}
-use Rattle.std.specs.List.{list_all}
-use Rattle.list_store.specs.Orders.{is_few}
+use Rattle.list_store.proofs.Names.{◌∙◌, ap, ℕ, arith, List, refl, orders_in, is_few, list_all}
 use Rattle.list_store.proofs.TiedLaws.{same_tied}
 use Rattle.list_store.proofs.table.Table.room.Goals as goal
 

@@ -1,7 +1,4 @@
-use Rattle.std.proofs.Common.{◌≡◌, option_map, Option, List, find, sym, ap, ◌∙◌, refl}
-use Rattle.list_watch.specs.declared.monitors.Monitor.{Monitor}
-use Rattle.list_watch.specs.declared.monitors.Watched.{Watched}
-use Rattle.list_watch.specs.Monitors.{is_at}
+use Rattle.list_watch.proofs.Names.{◌≡◌, option_map, Option, List, find, sym, ap, ◌∙◌, refl, Monitor, Watched, is_at}
 use Rattle.list_watch.proofs.MonitorLaws.{find-map}
 use Rattle.list_watch.proofs.watch.Watch.at.Goals as goal
 

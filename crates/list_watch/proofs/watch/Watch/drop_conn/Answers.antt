@@ -1,9 +1,4 @@
-use Rattle.std.proofs.Common.{◌≤◌, ◌&&◌, not, List, length, sym, subst, arith}
-use Rattle.cf_lists.proofs.FilterLaws.{length-filter-le}
-use Rattle.list_watch.specs.declared.monitors.Watched.{Watched}
-use Rattle.list_watch.specs.Monitors.{is_of, AreMonitors}
-use Rattle.list_watch.specs.Rows.{monitors_of}
-use Rattle.list_watch.specs.WatchView.{WatchView}
+use Rattle.list_watch.proofs.Names.{◌≤◌, ◌&&◌, not, List, length, sym, subst, arith, length-filter-le, Watched, is_of, AreMonitors, monitors_of, WatchView}
 use Rattle.list_watch.proofs.MonitorLaws.{monitors-filter}
 use Rattle.list_watch.proofs.watch.Watch.drop_conn.Goals as goal
 

@@ -1,7 +1,4 @@
-use Rattle.std.proofs.Common.{◌≡◌, ◌≤◌, sym, subst, arith}
-use Rattle.list_watch.specs.declared.monitors.Watched.{Watched}
-use Rattle.list_watch.specs.Rows.{rows_with}
-use Rattle.list_watch.specs.WatchView.{WatchView}
+use Rattle.list_watch.proofs.Names.{◌≡◌, ◌≤◌, sym, subst, arith, Watched, rows_with, WatchView}
 use Rattle.list_watch.proofs.BitLaws.{gains_with}
 use Rattle.list_watch.proofs.MonitorLaws.{one_elsewhere, rows-with, monitors-with}
 use Rattle.list_watch.proofs.watch.Watch.set.Goals as goal

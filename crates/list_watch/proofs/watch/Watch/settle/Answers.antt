@@ -1,7 +1,4 @@
-use Rattle.std.proofs.Common.{List, sym, subst, arith}
-use Rattle.list_watch.specs.declared.monitors.Watched.{Watched}
-use Rattle.list_watch.specs.Monitors.{AreMonitors}
-use Rattle.list_watch.specs.Rows.{monitors_of}
+use Rattle.list_watch.proofs.Names.{List, sym, subst, arith, Watched, AreMonitors, monitors_of}
 use Rattle.list_watch.proofs.MonitorLaws.{monitors-turn}
 use Rattle.list_watch.proofs.watch.Watch.settle.Goals as goal
 

@@ -1,10 +1,4 @@
-use Rattle.std.proofs.Common.{◌≤◌, List, length, sym, subst, arith}
-use Rattle.cf_lists.proofs.FilterLaws.{length-filter-le}
-use Rattle.list_watch.specs.declared.monitors.Watched.{Watched}
-use Rattle.list_watch.specs.Monitors.{AreMonitors}
-use Rattle.list_watch.specs.Rows.{monitors_of}
-use Rattle.list_watch.specs.Ends.{is_turned}
-use Rattle.list_watch.specs.WatchView.{WatchView}
+use Rattle.list_watch.proofs.Names.{◌≤◌, List, length, sym, subst, arith, length-filter-le, Watched, AreMonitors, monitors_of, is_turned, WatchView}
 use Rattle.list_watch.proofs.BitLaws.{gains_turned}
 use Rattle.list_watch.proofs.MonitorLaws.{monitors-turn}
 use Rattle.list_watch.proofs.watch.Watch.turned.Goals as goal

@@ -1,5 +1,4 @@
-use Rattle.std.proofs.Common.{◌∙◌}
-use Rattle.lock_queue.specs.Waiters.{is_on}
+use Rattle.lock_core.proofs.Names.{◌∙◌, is_on}
 use Rattle.lock_core.proofs.ReadLaws.{any_by}
 use Rattle.lock_core.proofs.commands.obtain.is_awaited.Goals as goal
 

@@ -1,6 +1,4 @@
-use Rattle.std.proofs.Common.{[], ◌∷◌, Option, ap, sym, ◌∙◌}
-use Rattle.cf_types.specs.declared.refusals.Refusal.{Refusal}
-use Rattle.engine_api.specs.Meaning.{first_refusal}
+use Rattle.lock_core.proofs.Names.{[], ◌∷◌, Option, ap, sym, ◌∙◌, Refusal, first_refusal}
 use Rattle.lock_model.specs.Commands.RtDelete as rt_delete
 use Rattle.lock_core.proofs.ReadLaws.{first_of_one, record_refusal-any}
 use Rattle.lock_core.proofs.commands.rt_delete.refusal.Goals as goal

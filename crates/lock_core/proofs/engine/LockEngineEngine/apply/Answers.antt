@@ -1,8 +1,4 @@
-use Rattle.std.proofs.Common.{◌≡◌, ◌<◌, ◌+◌, length, Some, None, sym, subst, ◌∙◌, arith}
-use Rattle.lock_model.specs.Step.{cause}
-use Rattle.lock_model.proofs.CommandLaws.{content-done, items-done}
-use Rattle.lock_core.specs.Plans.{plan_for}
-use Rattle.lock_core.specs.EngineView.{EngineView}
+use Rattle.lock_core.proofs.Names.{◌≡◌, ◌<◌, ◌+◌, length, Some, None, sym, subst, ◌∙◌, arith, cause, content-done, items-done, plan_for, EngineView}
 use Rattle.lock_core.proofs.EngineLaws.{taken_is, plan_accepted}
 use Rattle.lock_core.proofs.engine.LockEngineEngine.apply.Goals as goal
 

@@ -1,5 +1,4 @@
-use Rattle.std.proofs.Common.{◌∙◌}
-use Rattle.lock_model.proofs.EngineLaws.{back-content}
+use Rattle.lock_core.proofs.Names.{◌∙◌, back-content}
 use Rattle.lock_core.proofs.EngineLaws.{counted-returned}
 use Rattle.lock_core.proofs.engine.LockEngineEngine.back.Goals as goal
 

@@ -1,13 +1,4 @@
-use Rattle.std.proofs.Common.{◌≡◌, List, Some, sym, ap, subst, ◌∙◌, arith}
-use Rattle.cf_types.specs.declared.resources.Resource.{Resource}
-use Rattle.lock_model.specs.Contents.{Content, IsContent}
-use Rattle.lock_queue.specs.declared.waiters.Waiter.{Waiter}
-use Rattle.lock_queue.specs.Waiters.{waiters_without_conn}
-use Rattle.lock_model.specs.Interests.{Interest}
-use Rattle.lock_model.specs.Departures.{departure_of, interests_left, resources_of}
-use Rattle.lock_model.specs.Grants.{grant_each}
-use Rattle.lock_model.proofs.DepartureLaws.{led_departed}
-use Rattle.lock_core.specs.EngineView.{EngineView, IsCounted}
+use Rattle.lock_core.proofs.Names.{◌≡◌, List, Some, sym, ap, subst, ◌∙◌, arith, Resource, Content, IsContent, Waiter, waiters_without_conn, Interest, departure_of, interests_left, resources_of, grant_each, led_departed, EngineView, IsCounted}
 use Rattle.lock_core.proofs.EngineLaws.{taken_is}
 use Rattle.lock_core.proofs.engine.LockEngineEngine.leave.Goals as goal
 

@@ -1,11 +1,4 @@
-use Rattle.std.proofs.Common.{◌≡◌, ◌++◌, ◌∷◌, IsTrue, sym, ap, subst, ◌∙◌}
-use Rattle.cf_types.specs.Forms.{is_lock}
-use Rattle.engine_api.specs.Meaning.{Held}
-use Rattle.engine_api.proofs.FrontLaws.{content-placed}
-use Rattle.lock_model.specs.Contents.{Content, IsContent, content_with, items}
-use Rattle.lock_model.specs.Meaning.{lock_meaning}
-use Rattle.lock_model.proofs.ItemLaws.{lock-fronts}
-use Rattle.lock_core.specs.EngineView.{EngineView}
+use Rattle.lock_core.proofs.Names.{◌≡◌, ◌++◌, ◌∷◌, IsTrue, sym, ap, subst, ◌∙◌, is_lock, Held, content-placed, Content, IsContent, content_with, items, lock_meaning, lock-fronts, EngineView}
 use Rattle.lock_core.proofs.EngineLaws.{placed-next, kept_either, ok_weaker}
 use Rattle.lock_core.proofs.engine.LockEngineEngine.place.Goals as goal
 

@@ -1,5 +1,4 @@
-use Rattle.std.proofs.Common.{◌∙◌}
-use Rattle.lock_model.proofs.ItemLaws.{content-without_last}
+use Rattle.lock_core.proofs.Names.{◌∙◌, content-without_last}
 use Rattle.lock_core.proofs.EngineLaws.{counted-last}
 use Rattle.lock_core.proofs.engine.LockEngineEngine.unplace.Goals as goal
 

@@ -1,10 +1,4 @@
-use Rattle.std.proofs.Common.{◌≡◌, ◌-◌, ◌<◌, List, Some, None, [], ◌∷◌, length, get_or, sym, ap, subst, ◌∙◌, arith}
-use Rattle.std.specs.List.{slice_get}
-use Rattle.std.proofs.lemmas.Option.{slice_get-get_or}
-use Rattle.lock_queue.specs.declared.waiters.Waiter.{Waiter}
-use Rattle.lock_model.specs.Contents.{Content, without_last}
-use Rattle.lock_model.proofs.ItemLaws.{waiters_without-last}
-use Rattle.lock_core.specs.Stock.{Stock}
+use Rattle.lock_core.proofs.Names.{◌≡◌, ◌-◌, ◌<◌, List, Some, None, [], ◌∷◌, length, get_or, sym, ap, subst, ◌∙◌, arith, slice_get, slice_get-get_or, Waiter, Content, without_last, waiters_without-last, Stock}
 use Rattle.lock_core.proofs.locks.Locks.drop_last_waiter.Goals as goal
 
 pub returns-in-Some-clause-content : goal.returns-in-Some-clause-content

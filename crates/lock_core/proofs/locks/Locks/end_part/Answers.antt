@@ -1,6 +1,4 @@
-use Rattle.std.proofs.Common.{◌≤◌, length, sym, subst, arith}
-use Rattle.lock_core.specs.Stock.{Stock, HasRoom}
-use Rattle.lock_model.specs.Contents.{records_waiting}
+use Rattle.lock_core.proofs.Names.{◌≤◌, length, sym, subst, arith, Stock, HasRoom, records_waiting}
 use Rattle.lock_core.proofs.GrantLaws.{fewer-without}
 use Rattle.lock_core.proofs.locks.Locks.end_part.Goals as goal
 

@@ -1,7 +1,4 @@
-use Rattle.std.proofs.Common.{◌≡◌, ◌+◌, Some, length, sym, subst, arith}
-use Rattle.lock_queue.specs.Waiters.{IsQueue, waiter_of}
-use Rattle.lock_model.specs.Contents.{records_of, records_waiting}
-use Rattle.lock_core.specs.Stock.{Stock, HasRoom}
+use Rattle.lock_core.proofs.Names.{◌≡◌, ◌+◌, Some, length, sym, subst, arith, IsQueue, waiter_of, records_of, records_waiting, Stock, HasRoom}
 use Rattle.lock_core.proofs.GrantLaws.{length-waits, records-waits}
 use Rattle.lock_core.proofs.locks.Locks.grant_one.Goals as goal
 use Rattle.lock_core.proofs.locks.Locks.grant_one.Goals.{After-push}

@@ -1,6 +1,4 @@
-use Rattle.std.proofs.Common.{map, sym, ap, ◌∙◌}
-use Rattle.lock_model.specs.Interests.{Interest}
-use Rattle.lock_interests.specs.InterestsView.{InterestsView}
+use Rattle.lock_interests.proofs.Names.{map, sym, ap, ◌∙◌, Interest, InterestsView}
 use Rattle.lock_interests.proofs.OwnerLaws.{keys-joined}
 use Rattle.lock_interests.proofs.interests.Interests.at_in.Goals as goal
 

@@ -1,6 +1,5 @@
-use Rattle.std.proofs.Common.{false, subst, sym}
+use Rattle.lock_interests.proofs.Names.{false, subst, sym, AreOwned}
 use Rattle.lock_interests.proofs.JoinLaws.{joined-retained}
-use Rattle.lock_interests.specs.InterestsView.{AreOwned}
 use Rattle.lock_interests.proofs.CountLaws.{owned-retained}
 use Rattle.lock_interests.proofs.interests.Interests.back.Goals as goal
 

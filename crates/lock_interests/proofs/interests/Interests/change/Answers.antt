@@ -1,9 +1,5 @@
-use Rattle.std.proofs.Common.{◌≡◌, true, false, sym, subst₂, ap, ◌∙◌}
-use Rattle.lock_table.specs.Holdings.{has_interest}
+use Rattle.lock_interests.proofs.Names.{◌≡◌, true, false, sym, subst₂, ap, ◌∙◌, has_interest, interests_changed, with_alteration, InterestsView, AreOwned}
 use Rattle.lock_model.specs.Interests as interests
-use Rattle.lock_model.specs.Interests.{interests_changed}
-use Rattle.lock_model.specs.Grants.{with_alteration}
-use Rattle.lock_interests.specs.InterestsView.{InterestsView, AreOwned}
 use Rattle.lock_interests.proofs.JoinLaws.{joined-changed}
 use Rattle.lock_interests.proofs.CountLaws.{has-joined, changed_none, owned-altered}
 use Rattle.lock_interests.proofs.interests.Interests.change.Goals as goal

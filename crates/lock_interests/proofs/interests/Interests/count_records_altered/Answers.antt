@@ -1,6 +1,5 @@
-use Rattle.std.proofs.Common.{◌≡◌, ◌&&◌, true, false, is_some, sym, ap, ◌∙◌}
+use Rattle.lock_interests.proofs.Names.{◌≡◌, ◌&&◌, true, false, is_some, sym, ap, ◌∙◌, InterestsView, interests_of}
 use Rattle.lock_model.specs.Interests as interests
-use Rattle.lock_interests.specs.InterestsView.{InterestsView, interests_of}
 use Rattle.lock_interests.proofs.CountLaws.{counted-given, counted-ungiven}
 use Rattle.lock_interests.proofs.interests.Interests.count_records_altered.Goals as goal
 

@@ -1,8 +1,4 @@
-use Rattle.std.proofs.Common.{List, length, ap, ◌∙◌, arith}
-use Rattle.cf_types.specs.declared.events.Letter.{Letter}
-use Rattle.cf_lists.proofs.FilterLaws.{length-filter-le}
-use Rattle.lock_table.specs.declared.holdings.Held.{Held}
-use Rattle.lock_table.specs.Holdings.{is_on}
+use Rattle.lock_interests.proofs.Names.{List, length, ap, ◌∙◌, arith, Letter, length-filter-le, Held, is_on}
 use Rattle.lock_interests.proofs.OwnerLaws.{told_left}
 use Rattle.lock_interests.proofs.interests.Interests.count_told.Goals as goal
 

@@ -1,9 +1,4 @@
-use Rattle.std.proofs.Common.{◌≡◌, ◌<◌, ◌-◌, Some, length, sym, ap, subst, ◌∙◌, arith}
-use Rattle.std.specs.List.{slice_get}
-use Rattle.std.proofs.lemmas.List.{length-map}
-use Rattle.lock_model.specs.Interests.{AreInterests}
-use Rattle.lock_model.proofs.ItemLaws.{interests_without-last}
-use Rattle.lock_interests.specs.InterestsView.{InterestsView, with_record, interests_of}
+use Rattle.lock_interests.proofs.Names.{◌≡◌, ◌<◌, ◌-◌, Some, length, sym, ap, subst, ◌∙◌, arith, slice_get, length-map, AreInterests, interests_without-last, InterestsView, with_record, interests_of}
 use Rattle.lock_interests.proofs.ReadLaws.{last-joined, last_there}
 use Rattle.lock_interests.proofs.interests.Interests.drop_last.Goals as goal
 

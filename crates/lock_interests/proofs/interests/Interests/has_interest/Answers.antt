@@ -1,6 +1,4 @@
-use Rattle.std.proofs.Common.{◌==◌, ◌∙◌, ap, find}
-use Rattle.lock_table.specs.declared.holdings.Held.{Held}
-use Rattle.lock_table.specs.Holdings.{is_interest}
+use Rattle.lock_interests.proofs.Names.{◌==◌, ◌∙◌, ap, find, Held, is_interest}
 use Rattle.lock_interests.proofs.OwnerLaws.{find_both, found_any}
 use Rattle.lock_interests.proofs.CountLaws.{has-joined}
 use Rattle.lock_interests.proofs.interests.Interests.has_interest.Goals as goal

@@ -1,6 +1,4 @@
-use Rattle.std.proofs.Common.{◌==◌, ◌∙◌, ap, find}
-use Rattle.lock_table.specs.declared.holdings.Held.{Held}
-use Rattle.lock_interests.specs.InterestsView.{is_held_retained}
+use Rattle.lock_interests.proofs.Names.{◌==◌, ◌∙◌, ap, find, Held, is_held_retained}
 use Rattle.lock_interests.proofs.OwnerLaws.{find_both, retained-found}
 use Rattle.lock_interests.proofs.ReadLaws.{retained-joined}
 use Rattle.lock_interests.proofs.interests.Interests.is_retained.Goals as goal

@@ -1,7 +1,5 @@
-use Rattle.std.proofs.Common.{◌≡◌, ◌+◌, ◌++◌, List, length, ap, subst, ◌∙◌, arith}
-use Rattle.cf_types.specs.declared.events.Letter.{Letter}
+use Rattle.lock_interests.proofs.Names.{◌≡◌, ◌+◌, ◌++◌, List, length, ap, subst, ◌∙◌, arith, Letter, InterestsView}
 use Rattle.lock_model.specs.Commands.Decide as decide
-use Rattle.lock_interests.specs.InterestsView.{InterestsView}
 use Rattle.lock_interests.proofs.OwnerLaws.{told_left}
 use Rattle.lock_interests.proofs.interests.Interests.notify.Goals as goal
 

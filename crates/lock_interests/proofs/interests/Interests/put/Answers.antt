@@ -1,6 +1,5 @@
-use Rattle.std.proofs.Common.{sym, subst₂}
+use Rattle.lock_interests.proofs.Names.{sym, subst₂, AreOwned}
 use Rattle.lock_interests.proofs.JoinLaws.{joined-with}
-use Rattle.lock_interests.specs.InterestsView.{AreOwned}
 use Rattle.lock_interests.proofs.CountLaws.{owned-with}
 use Rattle.lock_interests.proofs.interests.Interests.put.Goals as goal
 

@@ -1,6 +1,5 @@
-use Rattle.std.proofs.Common.{subst, sym}
+use Rattle.lock_interests.proofs.Names.{subst, sym, AreOwned}
 use Rattle.lock_interests.proofs.JoinLaws.{joined-unrecorded}
-use Rattle.lock_interests.specs.InterestsView.{AreOwned}
 use Rattle.lock_interests.proofs.CountLaws.{owned-unrecorded}
 use Rattle.lock_interests.proofs.interests.Interests.unrecord.Goals as goal
 

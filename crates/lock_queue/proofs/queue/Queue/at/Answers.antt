@@ -1,7 +1,4 @@
-use Rattle.std.proofs.Common.{◌≡◌, length, ap, sym, ◌∙◌, arith}
-use Rattle.cf_lists.proofs.RankLaws.{length_seen}
-use Rattle.lock_queue.specs.QueueView.{QueueView}
-use Rattle.lock_queue.specs.Tables.{part_of, waiters_in}
+use Rattle.lock_queue.proofs.Names.{◌≡◌, length, ap, sym, ◌∙◌, arith, length_seen, QueueView, part_of, waiters_in}
 use Rattle.lock_queue.proofs.queue.Queue.at.Goals as goal
 
 pub search_at-requires-clause-few : goal.search_at-requires-clause-few

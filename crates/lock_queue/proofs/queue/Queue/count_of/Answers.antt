@@ -1,9 +1,4 @@
-use Rattle.std.proofs.Common.{◌≡◌, List, length, ap, sym, ◌∙◌, arith}
-use Rattle.cf_lists.proofs.FilterLaws.{length-filter-le}
-use Rattle.lock_queue.specs.declared.waiters.Waiter.{Waiter}
-use Rattle.lock_queue.specs.Waiters.{is_on, waiters_of}
-use Rattle.lock_queue.specs.QueueView.{QueueView}
-use Rattle.lock_queue.specs.Tables.{waiters_in}
+use Rattle.lock_queue.proofs.Names.{◌≡◌, List, length, ap, sym, ◌∙◌, arith, length-filter-le, Waiter, is_on, waiters_of, QueueView, waiters_in}
 use Rattle.lock_queue.proofs.queue.Queue.count_of.Goals as goal
 
 pub returns-clause-few : goal.returns-clause-few

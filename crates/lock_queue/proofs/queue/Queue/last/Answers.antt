@@ -1,6 +1,4 @@
-use Rattle.std.proofs.Common.{◌∙◌}
-use Rattle.cf_lists.proofs.RankLaws.{last_seen}
-use Rattle.lock_queue.specs.Tables.{part_of}
+use Rattle.lock_queue.proofs.Names.{◌∙◌, last_seen, part_of}
 use Rattle.lock_queue.proofs.queue.Queue.last.Goals as goal
 
 pub returns : goal.returns

@@ -1,6 +1,4 @@
-use Rattle.std.proofs.Common.{◌∙◌, ap, arith, refl}
-use Rattle.cf_lists.proofs.EntryTableLaws.{seen_none, table_none, of_seen}
-use Rattle.lock_queue.specs.Tables.{part_of, waiters_in}
+use Rattle.lock_queue.proofs.Names.{◌∙◌, ap, arith, refl, seen_none, table_none, of_seen, part_of, waiters_in}
 use Rattle.lock_queue.proofs.queue.Queue.new.Goals as goal
 
 pub invariant_of-result : goal.invariant_of-result

@@ -1,6 +1,4 @@
-use Rattle.std.proofs.Common.{◌≡◌, ap, ◌∙◌, rules}
-use Rattle.std.proofs.lemmas.List.Elements.{same_from_all_zip}
-use Rattle.lock_record.specs.Book.{Book, records_in}
+use Rattle.lock_record.proofs.Names.{◌≡◌, ap, ◌∙◌, rules, same_from_all_zip, Book, records_in}
 use Rattle.lock_record.proofs.records.Records.copy.Goals as goal
 
 pub returns-clause-records : goal.returns-clause-records

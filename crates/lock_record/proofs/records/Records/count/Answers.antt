@@ -1,8 +1,4 @@
-use Rattle.std.proofs.Common.{◌≡◌, Bool, length, sym, ap, subst, ◌∙◌}
-use Rattle.std.specs.List.{list_any}
-use Rattle.lock_record.specs.declared.recorded.Record.{Record}
-use Rattle.lock_record.specs.Book.{Book}
-use Rattle.lock_record.specs.Recorded.{AreRecords}
+use Rattle.lock_record.proofs.Names.{◌≡◌, Bool, length, sym, ap, subst, ◌∙◌, list_any, Record, Book, AreRecords}
 use Rattle.lock_record.proofs.MapLaws.{length_in, records_are}
 use Rattle.lock_record.proofs.WalkLaws.{any_in}
 use Rattle.lock_record.proofs.records.Records.count.Goals as goal

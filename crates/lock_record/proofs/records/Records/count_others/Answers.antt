@@ -1,5 +1,4 @@
-use Rattle.std.proofs.Common.{◌≡◌, is_some, true, false, sym, ap, arith, ◌∙◌}
-use Rattle.lock_record.specs.Recorded.{has_record}
+use Rattle.lock_record.proofs.Names.{◌≡◌, is_some, true, false, sym, ap, arith, ◌∙◌, has_record}
 use Rattle.lock_record.proofs.MapLaws.{as_many, fewer_by_one, some_mapped, there_is}
 use Rattle.lock_record.proofs.records.Records.count_others.Goals as goal
 

@@ -1,6 +1,4 @@
-use Rattle.std.proofs.Common.{ap, ◌∙◌}
-use Rattle.lock_record.specs.Book.{Book}
-use Rattle.lock_record.specs.Recorded.{record_of}
+use Rattle.lock_record.proofs.Names.{ap, ◌∙◌, Book, record_of}
 use Rattle.lock_record.proofs.MapLaws.{looked_up}
 use Rattle.lock_record.proofs.records.Records.get.Goals as goal
 

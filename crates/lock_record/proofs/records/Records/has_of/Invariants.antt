@@ -1,6 +1,4 @@
-use Rattle.std.proofs.Common.{◌≡◌, drop}
-use Rattle.std.specs.List.{list_any}
-use Rattle.lock_record.specs.Recorded.{is_of}
+use Rattle.lock_record.proofs.Names.{◌≡◌, drop, list_any, is_of}
 use Rattle.lock_record.proofs.records.Records.has_of.Given as goal
 
 abbrev pub invariant-loop-k : goal.invariant-loop-k

@@ -1,11 +1,4 @@
-use Rattle.std.proofs.Common.{List, sym, ap, subst, arith, ◌∙◌}
-use Rattle.std.specs.List.Sorted.{IsPermutation}
-use Rattle.cf_types.specs.declared.resources.Resource.{Resource}
-use Rattle.cf_types.specs.Resources.{same_resource, resource_before}
-use Rattle.cf_lists.proofs.EntryKeyLaws.{resource_order}
-use Rattle.cf_lists.proofs.SortLaws.{neighbours}
-use Rattle.lock_record.specs.declared.recorded.Record.{Record}
-use Rattle.lock_record.specs.Recorded.{resources_by}
+use Rattle.lock_record.proofs.Names.{List, sym, ap, subst, arith, ◌∙◌, IsPermutation, Resource, same_resource, resource_before, resource_order, neighbours, Record, resources_by}
 use Rattle.lock_record.proofs.WalkLaws.{sorted_resources}
 use Rattle.lock_record.proofs.records.Records.of.Goals as goal
 

@@ -1,8 +1,4 @@
-use Rattle.std.proofs.Common.{ℕ, ◌+◌, ◌<◌, ◌++◌, List, Option, drop, sym, ap, subst, ◌∙◌}
-use Rattle.std.proofs.lemmas.List.{append_assoc}
-use Rattle.cf_types.specs.declared.resources.Resource.{Resource}
-use Rattle.cf_types.specs.Resources.{Part}
-use Rattle.lock_record.specs.Recorded.{resource_at, resources_by}
+use Rattle.lock_record.proofs.Names.{ℕ, ◌+◌, ◌<◌, ◌++◌, List, Option, drop, sym, ap, subst, ◌∙◌, append_assoc, Resource, Part, resource_at, resources_by}
 use Rattle.lock_record.proofs.WalkLaws.{listed_next}
 use Rattle.lock_record.proofs.records.Records.unsorted.Goals as goal
 

@@ -1,5 +1,4 @@
-use Rattle.std.proofs.Common.{◌≡◌, ◌++◌, drop}
-use Rattle.lock_record.specs.Recorded.{resources_by}
+use Rattle.lock_record.proofs.Names.{◌≡◌, ◌++◌, drop, resources_by}
 use Rattle.lock_record.proofs.records.Records.unsorted.Given as goal
 
 abbrev pub invariant-loop-k : goal.invariant-loop-k

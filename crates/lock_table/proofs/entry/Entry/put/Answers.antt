@@ -1,6 +1,4 @@
-use Rattle.std.proofs.Common.{◌≡◌, ◌∷◌, [], ◌++◌, ◌∙◌, ap}
-use Rattle.std.specs.List.{insert}
-use Rattle.cf_lists.proofs.NodeLaws.{insert_last}
+use Rattle.lock_table.proofs.Names.{◌≡◌, ◌∷◌, [], ◌++◌, ◌∙◌, ap, insert, insert_last}
 use Rattle.lock_table.proofs.EntryLaws.{masked_more}
 use Rattle.lock_table.proofs.entry.Entry.put.Goals as goal
 

@@ -1,7 +1,4 @@
-use Rattle.std.proofs.Common.{◌≡◌, map, false, refl, sym, ◌∙◌}
-use Rattle.cf_lists.proofs.KeyLaws.{none_placed}
-use Rattle.lock_table.specs.declared.holdings.Held.{Held}
-use Rattle.lock_table.specs.Holdings.{is_interest, in_state}
+use Rattle.lock_table.proofs.Names.{◌≡◌, map, false, refl, sym, ◌∙◌, none_placed, Held, is_interest, in_state}
 use Rattle.lock_table.proofs.EntryLaws.{masked_same, state_put, state_none}
 use Rattle.lock_table.proofs.entry.Entry.set.Goals as goal
 

@@ -1,7 +1,4 @@
-use Rattle.std.proofs.Common.{◌≡◌, length, ap, sym, ◌∙◌, arith}
-use Rattle.cf_lists.proofs.RankLaws.{length_seen}
-use Rattle.lock_table.specs.TableView.{TableView}
-use Rattle.lock_table.specs.Tables.{part_of, owners_in}
+use Rattle.lock_table.proofs.Names.{◌≡◌, length, ap, sym, ◌∙◌, arith, length_seen, TableView, part_of, owners_in}
 use Rattle.lock_table.proofs.table.Table.at.Goals as goal
 
 pub search_at-requires-clause-few : goal.search_at-requires-clause-few

@@ -1,6 +1,4 @@
-use Rattle.std.proofs.Common.{◌∙◌}
-use Rattle.cf_lists.proofs.RankLaws.{last_seen}
-use Rattle.lock_table.specs.Tables.{part_of}
+use Rattle.lock_table.proofs.Names.{◌∙◌, last_seen, part_of}
 use Rattle.lock_table.proofs.table.Table.last.Goals as goal
 
 pub returns : goal.returns

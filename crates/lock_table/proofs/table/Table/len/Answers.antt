@@ -1,5 +1,4 @@
-use Rattle.lock_table.specs.Tables.{part_of}
-use Rattle.cf_lists.proofs.EntryTableLaws.{in_order}
+use Rattle.lock_table.proofs.Names.{part_of, in_order}
 use Rattle.lock_table.proofs.table.Table.len.Goals as goal
 
 pub returns-clause-owners : goal.returns-clause-owners

@@ -1,6 +1,4 @@
-use Rattle.std.proofs.Common.{◌∙◌, ap, arith, refl}
-use Rattle.cf_lists.proofs.EntryTableLaws.{seen_none, table_none, of_seen}
-use Rattle.lock_table.specs.Tables.{part_of, owners_in}
+use Rattle.lock_table.proofs.Names.{◌∙◌, ap, arith, refl, seen_none, table_none, of_seen, part_of, owners_in}
 use Rattle.lock_table.proofs.table.Table.new.Goals as goal
 
 pub invariant_of-result : goal.invariant_of-result

@@ -1,7 +1,4 @@
-use Rattle.std.proofs.Common.{◌∙◌, map}
-use Rattle.cf_lists.specs.Tables.{resource_by}
-use Rattle.cf_lists.proofs.EntryTableLaws.{found}
-use Rattle.lock_table.specs.Tables.{part_of, owners_in}
+use Rattle.lock_table.proofs.Names.{◌∙◌, map, resource_by, found, part_of, owners_in}
 use Rattle.lock_table.proofs.table.Table.owners.Goals as goal
 
 pub returns : goal.returns

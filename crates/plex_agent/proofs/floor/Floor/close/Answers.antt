@@ -1,8 +1,4 @@
-use Rattle.std.proofs.Common.{◌≡◌, ◌<◌, ◌≤◌, List, Option, Some, length, sym, ◌∙◌, ap, subst, arith}
-use Rattle.std.proofs.lemmas.List.{with_items_is}
-use Rattle.plex_board.specs.CfTypes.declared.numbers.ConnId.{ConnId}
-use Rattle.plex_board.specs.Floors.{Floor, heard_all, with_worker}
-use Rattle.plex_agent.specs.Standing.{IsFloorOf}
+use Rattle.plex_agent.proofs.Names.{◌≡◌, ◌<◌, ◌≤◌, List, Option, Some, length, sym, ◌∙◌, ap, subst, arith, with_items_is, ConnId, Floor, heard_all, with_worker, IsFloorOf}
 use Rattle.plex_agent.proofs.FloorLaws.{has_desk, changed_all, worker_fits, everywhere_fits, filled_more}
 use Rattle.plex_agent.proofs.PlayLaws.{hears_more, heard_everywhere, closes_one, closes_nothing}
 use Rattle.plex_agent.proofs.floor.Floor.close.Goals as goal

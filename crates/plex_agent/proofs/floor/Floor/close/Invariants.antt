@@ -1,7 +1,4 @@
-use Rattle.std.proofs.Common.{◌≡◌, ◌++◌, ◌-◌, Some, drop, fold, length, replicate}
-use Rattle.std.specs.List.{range_with_len}
-use Rattle.plex_board.specs.Floors.{with_worker, worker_of, heard_from_last, heard_all}
-use Rattle.plex_agent.specs.Standing.{IsFloorOf}
+use Rattle.plex_agent.proofs.Names.{◌≡◌, ◌++◌, ◌-◌, Some, drop, fold, length, replicate, range_with_len, with_worker, worker_of, heard_from_last, heard_all, IsFloorOf}
 use Rattle.plex_agent.proofs.floor.Floor.close.Given as goal
 
 abbrev pub invariant-loop-place : goal.invariant-loop-place

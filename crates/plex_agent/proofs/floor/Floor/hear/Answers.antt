@@ -1,7 +1,4 @@
-use Rattle.std.proofs.Common.{sym, ◌∙◌, subst, arith}
-use Rattle.std.proofs.lemmas.List.{with_items_is}
-use Rattle.plex_board.specs.Floors.{Floor}
-use Rattle.plex_agent.specs.Standing.{IsFloorOf}
+use Rattle.plex_agent.proofs.Names.{sym, ◌∙◌, subst, arith, with_items_is, Floor, IsFloorOf}
 use Rattle.plex_agent.proofs.FloorLaws.{hears_before, hears_behind, cut_length, heard_fits}
 use Rattle.plex_agent.proofs.floor.Floor.hear.Goals as goal
 

@@ -1,8 +1,4 @@
-use Rattle.std.proofs.Common.{◌≡◌, ◌<◌, List, length, get_or, sym, ◌∙◌, ap, subst, arith}
-use Rattle.plex_board.specs.PlexScript.declared.scripts.Line.{Line}
-use Rattle.plex_board.specs.Serial.{connectors}
-use Rattle.plex_board.specs.Floors.{Plays}
-use Rattle.plex_agent.specs.Standing.{IsPlayable}
+use Rattle.plex_agent.proofs.Names.{◌≡◌, ◌<◌, List, length, get_or, sym, ◌∙◌, ap, subst, arith, Line, connectors, Plays, IsPlayable}
 use Rattle.plex_agent.proofs.PlayLaws.{lines_more, closings_more}
 use Rattle.plex_agent.proofs.floor.Floor.play.Goals as goal
 

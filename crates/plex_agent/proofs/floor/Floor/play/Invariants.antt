@@ -1,7 +1,4 @@
-use Rattle.std.proofs.Common.{◌+◌, ◌-◌, drop, length}
-use Rattle.plex_board.specs.Serial.{connectors}
-use Rattle.plex_board.specs.Floors.{Floor, Plays, PlaysLines, ClosesAll}
-use Rattle.plex_agent.specs.Standing.{IsFloorOf, conns_from}
+use Rattle.plex_agent.proofs.Names.{◌+◌, ◌-◌, drop, length, connectors, Floor, Plays, PlaysLines, ClosesAll, IsFloorOf, conns_from}
 use Rattle.plex_agent.proofs.floor.Floor.play.Given as goal
 
 abbrev pub invariant-loop-line : goal.invariant-loop-line

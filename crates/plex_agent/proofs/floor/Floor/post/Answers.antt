@@ -1,10 +1,4 @@
-use Rattle.std.proofs.Common.{Some, slice_set, sym, ◌∙◌, ap, subst}
-use Rattle.std.proofs.lemmas.Option.{slice_get_within}
-use Rattle.plex_board.specs.Passes.{note_of}
-use Rattle.plex_board.specs.Desks.{DeskShown, pass_at}
-use Rattle.plex_board.specs.Boards.{IsDeskOf}
-use Rattle.plex_board.specs.Floors.{Floor, with_worker}
-use Rattle.plex_agent.specs.Standing.{IsFloorOf}
+use Rattle.plex_agent.proofs.Names.{Some, slice_set, sym, ◌∙◌, ap, subst, slice_get_within, note_of, DeskShown, pass_at, IsDeskOf, Floor, with_worker, IsFloorOf}
 use Rattle.plex_agent.proofs.FloorLaws.{has_desk, changed, worker_fits, tray_fits}
 use Rattle.plex_agent.proofs.PlayLaws.{on_ok, posts}
 use Rattle.plex_agent.proofs.floor.Floor.post.Goals as goal

@@ -1,10 +1,4 @@
-use Rattle.std.proofs.Common.{List, Option, set, ◌∙◌, ap}
-use Rattle.std.proofs.lemmas.Option.{slice_get_within}
-use Rattle.plex_board.specs.Passes.{NoteShown}
-use Rattle.plex_board.specs.Notes.{with_any_note}
-use Rattle.plex_board.specs.Desks.{DeskShown, pass_at, with_pass}
-use Rattle.plex_board.specs.Boards.{note_in}
-use Rattle.plex_board.specs.Floors.{Floor}
+use Rattle.plex_agent.proofs.Names.{List, Option, set, ◌∙◌, ap, slice_get_within, NoteShown, with_any_note, DeskShown, pass_at, with_pass, note_in, Floor}
 use Rattle.plex_agent.proofs.FloorLaws.{has_desk, changed_only, changed_fits}
 use Rattle.plex_agent.proofs.PlayLaws.{on_ok, takes}
 use Rattle.plex_agent.proofs.floor.Floor.take.Goals as goal

@@ -1,7 +1,4 @@
-use Rattle.std.proofs.Common.{◌<◌, length, sym, ap, subst, arith}
-use Rattle.std.proofs.lemmas.Option.{slice_get_within}
-use Rattle.plex_board.specs.Floors.{Floor}
-use Rattle.plex_agent.specs.Standing.{IsFloorOf}
+use Rattle.plex_agent.proofs.Names.{◌<◌, length, sym, ap, subst, arith, slice_get_within, Floor, IsFloorOf}
 use Rattle.plex_agent.proofs.FloorLaws.{acted, acted_fits}
 use Rattle.plex_agent.proofs.PlayLaws.{plays_counted, plays_uncounted}
 use Rattle.plex_agent.proofs.floor.Floor.turn.Goals as goal

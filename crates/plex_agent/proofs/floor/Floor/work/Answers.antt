@@ -1,5 +1,4 @@
-use Rattle.std.proofs.Common.{sym, ap, arith}
-use Rattle.plex_board.specs.CfTypes.declared.numbers.ConnId.{ConnId}
+use Rattle.plex_agent.proofs.Names.{sym, ap, arith, ConnId}
 use Rattle.plex_agent.proofs.FloorLaws.{has_desk, changed_only, changed_fits}
 use Rattle.plex_agent.proofs.PlayLaws.{takes_turn}
 use Rattle.plex_agent.proofs.floor.Floor.work.Goals as goal

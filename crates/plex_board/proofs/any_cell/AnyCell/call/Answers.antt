@@ -1,9 +1,7 @@
-use Rattle.std.proofs.Common.{ap, refl}
+use Rattle.plex_board.proofs.Names.{ap, refl, OfCache, OfList, OfLock, pass_shown}
 use Rattle.plex_script.specs.declared.scripts.AnyAsk.TheVariants as ask
-use Rattle.plex_board.specs.Types.{OfCache, OfList, OfLock}
 use Rattle.plex_board.specs.declared.any_pass.AnyPass.TheVariants as pass
 use Rattle.plex_board.specs.declared.any_reply.AnyReply.TheVariants as reply
-use Rattle.plex_board.specs.Passes.{pass_shown}
 use Rattle.plex_board.proofs.CallLaws.{told_answered}
 use Rattle.plex_board.proofs.any_cell.AnyCell.call.Goals as goal
 

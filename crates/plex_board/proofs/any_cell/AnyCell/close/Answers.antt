@@ -1,15 +1,7 @@
-use Rattle.std.proofs.Common.{◌≤◌, ap, length}
-use Rattle.cache_core.specs.CacheModel.Meaning.{cache_meaning}
-use Rattle.list_core.specs.ListModel.Meaning.{list_meaning}
-use Rattle.lock_core.specs.LockModel.Meaning.{lock_meaning}
-use Rattle.plex_script.specs.EngineApi.History.{calls, numbers, IsPoint}
+use Rattle.plex_board.proofs.Names.{◌≤◌, ap, length, cache_meaning, list_meaning, lock_meaning, calls, numbers, IsPoint, any_answers, OfCache, OfList, OfLock, passes_shown, cell_shown}
 use Rattle.plex_script.specs.declared.scripts.AnyAsk.TheVariants as ask
 use Rattle.plex_script.specs.declared.asks.AnyHistory.TheVariants as history
-use Rattle.plex_board.specs.Kinds.{any_answers}
-use Rattle.plex_board.specs.Types.{OfCache, OfList, OfLock}
 use Rattle.plex_board.specs.declared.any_reply.AnyReply.TheVariants as reply
-use Rattle.plex_board.specs.Passes.{passes_shown}
-use Rattle.plex_board.specs.Cells.{cell_shown}
 use Rattle.plex_board.proofs.ShownLaws.{shown_tables, shown_callers, shown_mine, shown_replies, shown_tests, shown_known, shown_room, shown_links}
 use Rattle.plex_board.proofs.any_cell.AnyCell.close.Goals as goal
 

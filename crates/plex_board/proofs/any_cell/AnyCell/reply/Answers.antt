@@ -1,8 +1,6 @@
-use Rattle.std.proofs.Common.{ap}
+use Rattle.plex_board.proofs.Names.{ap, OfCache, OfList, OfLock, pass_shown}
 use Rattle.plex_script.specs.declared.scripts.AnyAsk.TheVariants as ask
-use Rattle.plex_board.specs.Types.{OfCache, OfList, OfLock}
 use Rattle.plex_board.specs.declared.any_reply.AnyReply.TheVariants as reply
-use Rattle.plex_board.specs.Passes.{pass_shown}
 use Rattle.plex_board.proofs.ShownLaws.{told_reply, told_own}
 use Rattle.plex_board.proofs.any_cell.AnyCell.reply.Goals as goal
 

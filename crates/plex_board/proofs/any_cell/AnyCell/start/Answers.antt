@@ -1,7 +1,5 @@
-use Rattle.std.proofs.Common.{rules, ◌+◌}
+use Rattle.plex_board.proofs.Names.{rules, ◌+◌, new_pass, OfCache, OfList, OfLock}
 use Rattle.plex_script.specs.declared.scripts.AnyAsk.TheVariants as ask
-use Rattle.struct_cell.specs.VecWords.Tokens.{new_pass}
-use Rattle.plex_board.specs.Types.{OfCache, OfList, OfLock}
 use Rattle.plex_board.specs.declared.any_reply.AnyReply.TheVariants as reply
 use Rattle.plex_board.proofs.ShownLaws.{shown_new, room_for}
 use Rattle.plex_board.proofs.any_cell.AnyCell.start.Goals as goal

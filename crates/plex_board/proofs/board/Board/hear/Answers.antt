@@ -1,5 +1,4 @@
-use Rattle.std.proofs.Common.{sym, ap}
-use Rattle.plex_board.specs.Desks.{fixed_of}
+use Rattle.plex_board.proofs.Names.{sym, ap, fixed_of}
 use Rattle.plex_board.proofs.PlaceLaws.{place-is, changed-of_board}
 use Rattle.plex_board.proofs.board.Board.hear.Goals as goal
 

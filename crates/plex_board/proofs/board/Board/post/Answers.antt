@@ -1,4 +1,4 @@
-use Rattle.std.proofs.Common.{sym}
+use Rattle.plex_board.proofs.Names.{sym}
 use Rattle.plex_board.proofs.PlaceLaws.{place-is}
 use Rattle.plex_board.proofs.board.Board.post.Goals as goal
 

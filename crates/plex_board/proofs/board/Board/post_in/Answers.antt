@@ -1,7 +1,4 @@
-use Rattle.std.proofs.Common.{sym, ap, subst, ◌∙◌}
-use Rattle.std.specs.Prelude.{Some}
-use Rattle.plex_board.specs.Passes.{note_of}
-use Rattle.plex_board.specs.Boards.{IsTrayOf}
+use Rattle.plex_board.proofs.Names.{sym, ap, subst, ◌∙◌, Some, note_of, IsTrayOf}
 use Rattle.plex_board.proofs.PlaceLaws.{place-is}
 use Rattle.plex_board.proofs.TrayLaws.{tray-after, tray-set}
 use Rattle.plex_board.proofs.board.Board.post_in.Goals as goal

@@ -1,8 +1,4 @@
-use Rattle.std.proofs.Common.{◌≡◌, sym, ap, subst}
-use Rattle.std.specs.Prelude.{IfOk, is_some}
-use Rattle.plex_script.specs.Heard.{call_numbered}
-use Rattle.plex_board.specs.Passes.{PassShown, reply_numbered}
-use Rattle.plex_board.specs.Desks.{fixed_of}
+use Rattle.plex_board.proofs.Names.{◌≡◌, sym, ap, subst, IfOk, is_some, call_numbered, PassShown, reply_numbered, fixed_of}
 use Rattle.plex_board.proofs.PlaceLaws.{place-is, changed-of_board, unread-on}
 use Rattle.plex_board.proofs.board.Board.reply.Goals as goal
 

@@ -1,6 +1,4 @@
-use Rattle.std.proofs.Common.{length, ap, ◌∙◌, arith}
-use Rattle.std.proofs.lemmas.List.{take_all}
-use Rattle.std.specs.Vec.Iter.{into_iter_items}
+use Rattle.plex_board.proofs.Names.{length, ap, ◌∙◌, arith, take_all, into_iter_items}
 use Rattle.plex_board.proofs.StartLaws.{item-formed, forms-more, links-more, start-none, count-more, opened-forms, opened-cells, opened-links, opened-desks}
 use Rattle.plex_board.proofs.board.Board.start.Goals as goal
 

@@ -1,9 +1,4 @@
-use Rattle.std.proofs.Common.{◌≡◌, ◌+◌, ◌*◌, ◌++◌, length, map, take}
-use Rattle.std.specs.List.{flat_map}
-use Rattle.std.specs.Vec.Iter.{into_iter_items, into_iter_len}
-use Rattle.plex_script.specs.CfTypes.declared.limits.TheConstants.{LINKS}
-use Rattle.plex_board.specs.Boards.{four_of}
-use Rattle.plex_board.specs.Openings.{IsOpening}
+use Rattle.plex_board.proofs.Names.{◌≡◌, ◌+◌, ◌*◌, ◌++◌, length, map, take, flat_map, into_iter_items, into_iter_len, LINKS, four_of, IsOpening}
 use Rattle.plex_board.proofs.board.Board.start.Given as goal
 
 abbrev pub invariant-loop-form : goal.invariant-loop-form

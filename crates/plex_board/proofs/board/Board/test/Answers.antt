@@ -1,5 +1,4 @@
-use Rattle.std.proofs.Common.{◌<◌, sym, subst, ap}
-use Rattle.plex_board.specs.Desks.{fixed_of}
+use Rattle.plex_board.proofs.Names.{◌<◌, sym, subst, ap, fixed_of}
 use Rattle.plex_board.proofs.PlaceLaws.{place-is, cell-is, cell-some, changed-of_board}
 use Rattle.plex_board.proofs.board.Board.test.Goals as goal
 

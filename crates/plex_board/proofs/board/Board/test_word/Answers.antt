@@ -1,6 +1,4 @@
-use Rattle.std.proofs.Common.{◌<◌, sym, subst, ap}
-use Rattle.struct_cell.specs.VecWords.Logged.{words_of}
-use Rattle.plex_board.specs.Desks.{fixed_of}
+use Rattle.plex_board.proofs.Names.{◌<◌, sym, subst, ap, words_of, fixed_of}
 use Rattle.plex_board.proofs.PlaceLaws.{place-is, cell-is, cell-some, changed-of_board}
 use Rattle.plex_board.proofs.board.Board.test_word.Goals as goal
 

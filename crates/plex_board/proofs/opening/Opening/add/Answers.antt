@@ -1,6 +1,4 @@
-use Rattle.std.proofs.Common.{◌+◌, ◌≤◌, sym, subst, ap, ◌∙◌, arith}
-use Rattle.std.proofs.lemmas.List.{length-map}
-use Rattle.plex_board.specs.Rests.{home_shown}
+use Rattle.plex_board.proofs.Names.{◌+◌, ◌≤◌, sym, subst, ap, ◌∙◌, arith, length-map, home_shown}
 use Rattle.plex_board.proofs.StationLaws.{started-passes}
 use Rattle.plex_board.proofs.HomeLaws.{count-of-homes}
 use Rattle.plex_board.proofs.UnusedLaws.{desks-few}

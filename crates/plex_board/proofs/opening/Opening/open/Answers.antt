@@ -1,6 +1,4 @@
-use Rattle.std.proofs.Common.{sym, subst}
-use Rattle.plex_board.specs.Rests.{homes_shown}
-use Rattle.plex_board.specs.Openings.{IsUnused}
+use Rattle.plex_board.proofs.Names.{sym, subst, homes_shown, IsUnused}
 use Rattle.plex_board.proofs.UnusedLaws.{opening-unused}
 use Rattle.plex_board.proofs.opening.Opening.open.Goals as goal
 

@@ -1,6 +1,4 @@
-use Rattle.std.proofs.Common.{◌≡◌, ◌≤◌, ◌+◌, length}
-use Rattle.plex_seat.specs.Seats.{IsSame, pass_of}
-use Rattle.plex_seat.specs.Answers.{HasAskedForEvents}
+use Rattle.plex_seat.proofs.Names.{◌≡◌, ◌≤◌, ◌+◌, length, IsSame, pass_of, HasAskedForEvents}
 use Rattle.plex_seat.proofs.seat.Seat.await_event.Given as goal
 
 abbrev pub invariant-loop : goal.invariant-loop

@@ -1,6 +1,4 @@
-use Rattle.std.proofs.Common.{◌<◌, ◌≤◌}
-use Rattle.plex_board.specs.Desks.{IsLaterOn}
-use Rattle.plex_seat.specs.Seats.{IsSame, pass_of}
+use Rattle.plex_seat.proofs.Names.{◌<◌, ◌≤◌, IsLaterOn, IsSame, pass_of}
 use Rattle.plex_seat.proofs.seat.Seat.wait_past.Given as goal
 
 abbrev pub invariant-loop : goal.invariant-loop

@@ -1,7 +1,5 @@
 -- The greatest so far, and those that are left, give the greatest of all.
-use Rattle.std.proofs.Common.{◌≡◌, filter, drop, fold, map, max}
-use Rattle.engine_api.specs.Instances.{greatest_units}
-use Rattle.engine_api.specs.Shell.{is_candidate, candidates}
+use Rattle.plex_shell.proofs.Names.{◌≡◌, filter, drop, fold, map, max, greatest_units, is_candidate, candidates}
 use Rattle.plex_shell.proofs.shell.Shell.greatest_units.Given as goal
 
 abbrev pub invariant-loop-pref : goal.invariant-loop-pref

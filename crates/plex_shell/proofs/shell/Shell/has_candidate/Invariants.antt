@@ -1,6 +1,5 @@
 -- None of the facilities so far is a candidate.
-use Rattle.std.proofs.Common.{◌≡◌, filter, drop}
-use Rattle.engine_api.specs.Shell.{is_candidate, candidates}
+use Rattle.plex_shell.proofs.Names.{◌≡◌, filter, drop, is_candidate, candidates}
 use Rattle.plex_shell.proofs.shell.Shell.has_candidate.Given as goal
 
 abbrev pub invariant-loop-pref : goal.invariant-loop-pref

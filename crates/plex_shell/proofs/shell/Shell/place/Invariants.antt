@@ -1,7 +1,5 @@
 -- The facilities that are left give what all of them give.
-use Rattle.std.proofs.Common.{◌≡◌, filter, drop}
-use Rattle.engine_api.specs.Instances.{place_for}
-use Rattle.engine_api.specs.Shell.{is_candidate, candidates}
+use Rattle.plex_shell.proofs.Names.{◌≡◌, filter, drop, place_for, is_candidate, candidates}
 use Rattle.plex_shell.proofs.shell.Shell.place.Given as goal
 
 abbrev pub invariant-loop-pref : goal.invariant-loop-pref

@@ -1,5 +1,4 @@
-use Rattle.std.proofs.Common.{◌≡◌}
-use Rattle.rebuild_copy.specs.Copies.{with_next}
+use Rattle.rebuild_copy.proofs.Names.{◌≡◌, with_next}
 use Rattle.rebuild_copy.proofs.copying.Copying.copy_next.Given as goal
 
 abbrev pub invariant-loop-k : goal.invariant-loop-k

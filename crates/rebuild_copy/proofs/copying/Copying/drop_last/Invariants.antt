@@ -1,4 +1,4 @@
-use Rattle.std.proofs.Common.{◌≡◌, ◌-◌, length, take}
+use Rattle.rebuild_copy.proofs.Names.{◌≡◌, ◌-◌, length, take}
 use Rattle.rebuild_copy.proofs.copying.Copying.drop_last.Given as goal
 
 abbrev pub invariant-loop : goal.invariant-loop

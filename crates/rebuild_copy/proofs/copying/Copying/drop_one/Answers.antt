@@ -1,4 +1,4 @@
-use Rattle.std.proofs.Common.{rules}
+use Rattle.rebuild_copy.proofs.Names.{rules}
 use Rattle.rebuild_copy.proofs.CopyLaws.{ItemLaws, dropped-filled, dropped-one}
 use Rattle.rebuild_copy.proofs.copying.Copying.drop_one.Goals as goal
 

@@ -1,9 +1,4 @@
-use Rattle.std.proofs.Common.{rules, arith, ◌≡◌, ◌<◌, ◌≤◌, ◌+◌, length, refl, ap, sym, subst, ◌∙◌}
-use Rattle.std.specs.Vec.{vec_len}
-use Rattle.vec_words.specs.Logged.{count_of}
-use Rattle.struct_machine.specs.StructureView.{stands_at}
-use Rattle.struct_machine.proofs.ChangeLaws.{untouched_same}
-use Rattle.struct_cell.specs.Marks.{entered}
+use Rattle.struct_cell.proofs.Names.{rules, arith, ◌≡◌, ◌<◌, ◌≤◌, ◌+◌, length, refl, ap, sym, subst, ◌∙◌, vec_len, count_of, stands_at, untouched_same, entered}
 use Rattle.struct_cell.proofs.KeptLaws.{cell_answered}
 use Rattle.struct_cell.proofs.TurnLaws.{told-number, number-later, count-entered, few_marks}
 use Rattle.struct_cell.proofs.ToldLaws.{issued_within}

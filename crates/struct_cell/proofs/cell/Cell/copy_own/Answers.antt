@@ -1,6 +1,4 @@
-use Rattle.std.proofs.Common.{ap, sym, ◌∙◌}
-use Rattle.vec_words.specs.Logged.{calls_of}
-use Rattle.struct_cell.specs.Journals.{reply_at}
+use Rattle.struct_cell.proofs.Names.{ap, sym, ◌∙◌, calls_of, reply_at}
 use Rattle.struct_cell.proofs.ReplyLaws.{reply_own}
 use Rattle.struct_cell.proofs.cell.Cell.copy_own.Goals as goal
 

@@ -1,9 +1,4 @@
-use Rattle.std.proofs.Common.{◌≡◌, ◌⊎◌, List, arith, subst, ◌∙◌}
-use Rattle.std.proofs.lemmas.List.{take_all}
-use Rattle.vec_words.specs.declared.stores.Place.{Place}
-use Rattle.vec_words.specs.Stores.{IsSpared}
-use Rattle.struct_cell.specs.Touches.{word_at}
-use Rattle.struct_cell.specs.Words.{words_in}
+use Rattle.struct_cell.proofs.Names.{◌≡◌, ◌⊎◌, List, arith, subst, ◌∙◌, take_all, Place, IsSpared, word_at, words_in}
 use Rattle.struct_cell.proofs.MirrorLaws.{looked_more}
 use Rattle.struct_cell.proofs.mirror.Mirror.look_up.Goals as goal
 

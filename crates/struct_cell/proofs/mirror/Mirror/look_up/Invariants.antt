@@ -1,8 +1,4 @@
-use Rattle.std.proofs.Common.{◌≡◌, ℕ, ◌<◌, ◌⊎◌, take}
-use Rattle.vec_words.specs.Logged.{words_of}
-use Rattle.vec_words.specs.Stores.{IsSpared}
-use Rattle.struct_cell.specs.Touches.{AreMirrorsOf, word_at}
-use Rattle.struct_cell.specs.Words.{words_in}
+use Rattle.struct_cell.proofs.Names.{◌≡◌, ℕ, ◌<◌, ◌⊎◌, take, words_of, IsSpared, AreMirrorsOf, word_at, words_in}
 use Rattle.struct_cell.proofs.mirror.Mirror.look_up.Given as goal
 
 abbrev pub invariant-loop-place : goal.invariant-loop-place

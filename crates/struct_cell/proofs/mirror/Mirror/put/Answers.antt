@@ -1,7 +1,4 @@
-use Rattle.std.proofs.Common.{◌<◌, ap, sym, subst, ◌∙◌}
-use Rattle.vec_words.specs.Logged.{words_of}
-use Rattle.vec_words.specs.Stores.{IsWithin}
-use Rattle.struct_cell.specs.Touches.{MirrorWords, word_at}
+use Rattle.struct_cell.proofs.Names.{◌<◌, ap, sym, subst, ◌∙◌, words_of, IsWithin, MirrorWords, word_at}
 use Rattle.struct_cell.proofs.MirrorLaws.{put_other}
 use Rattle.struct_cell.proofs.mirror.Mirror.put.Goals as goal
 

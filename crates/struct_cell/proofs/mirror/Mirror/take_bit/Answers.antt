@@ -1,5 +1,4 @@
-use Rattle.std.proofs.Common.{◌≡◌, ◌<◌, ◌≤◌, ◌⊎◌, subst, ◌∙◌}
-use Rattle.struct_cell.specs.Touches.{MirrorWords}
+use Rattle.struct_cell.proofs.Names.{◌≡◌, ◌<◌, ◌≤◌, ◌⊎◌, subst, ◌∙◌, MirrorWords}
 use Rattle.struct_cell.proofs.MirrorLaws.{bit_taken, words_past}
 use Rattle.struct_cell.proofs.mirror.Mirror.take_bit.Goals as goal
 

@@ -1,8 +1,4 @@
-use Rattle.std.proofs.Common.{take, fold, List, subst, arith, ◌∙◌}
-use Rattle.std.proofs.lemmas.List.{take_all}
-use Rattle.cf_types.specs.declared.effects.BitChange.{BitChange}
-use Rattle.cf_types.specs.Gains.{Bits}
-use Rattle.struct_cell.specs.Touches.{AreWordsOf, with_told}
+use Rattle.struct_cell.proofs.Names.{take, fold, List, subst, arith, ◌∙◌, take_all, BitChange, Bits, AreWordsOf, with_told}
 use Rattle.struct_cell.proofs.MirrorLaws.{told_more}
 use Rattle.struct_cell.proofs.mirror.Mirror.take_over.Goals as goal
 

@@ -1,6 +1,4 @@
-use Rattle.std.proofs.Common.{fold, take}
-use Rattle.cf_types.specs.Gains.{Bits}
-use Rattle.struct_cell.specs.Touches.{AreMirrorsOf, AreWordsOf, with_told}
+use Rattle.struct_cell.proofs.Names.{fold, take, Bits, AreMirrorsOf, AreWordsOf, with_told}
 use Rattle.struct_cell.proofs.mirror.Mirror.take_over.Given as goal
 
 abbrev pub invariant-loop-change : goal.invariant-loop-change

@@ -1,7 +1,4 @@
-use Rattle.std.proofs.Common.{ℕ, ◌<◌, ◌≤◌, List, subst}
-use Rattle.vec_words.specs.declared.stores.Place.{Place}
-use Rattle.vec_words.specs.Logged.{words_of}
-use Rattle.vec_words.specs.Stores.{IsSpared}
+use Rattle.struct_cell.proofs.Names.{ℕ, ◌<◌, ◌≤◌, List, subst, Place, words_of, IsSpared}
 use Rattle.struct_cell.proofs.touched.Touched.note.Goals as goal
 
 pub follow-requires-clause-every : goal.follow-requires-clause-every

@@ -1,8 +1,4 @@
-use Rattle.std.proofs.Common.{List, sym, ap, ◌∙◌, subst}
-use Rattle.cf_types.specs.declared.numbers.CfId.{CfId}
-use Rattle.engine_api.specs.LinkAsks.{Asks, AreDistinct, listed}
-use Rattle.engine_api.proofs.AskLaws.{distinct_apart}
-use Rattle.std.specs.Prelude.{Option, ◌++◌}
+use Rattle.struct_machine.proofs.Names.{List, sym, ap, ◌∙◌, subst, Option, ◌++◌, CfId, Asks, AreDistinct, listed, distinct_apart}
 use Rattle.struct_machine.proofs.AskingLaws.{apart_both, places_both}
 use Rattle.struct_machine.proofs.asking.Asked.both.Goals as goal
 

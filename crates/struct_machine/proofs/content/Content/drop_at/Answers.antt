@@ -1,8 +1,5 @@
 -- Of two instances the other one is left, and holds the same.
-use Rattle.std.proofs.Common.{Option, is_some, sym, ap, ◌∙◌, subst}
-use Rattle.duplex_pair.specs.Pairs.{PairView, content_of, instances_of, without_at}
-use Rattle.engine_api.specs.Meaning.{Held}
-use Rattle.struct_machine.specs.Content.{AreStanding, ContentView}
+use Rattle.struct_machine.proofs.Names.{Option, is_some, sym, ap, ◌∙◌, subst, PairView, content_of, instances_of, without_at, Held, AreStanding, ContentView}
 use Rattle.struct_machine.proofs.ContentLaws.{left_places}
 use Rattle.struct_machine.proofs.content.Content.drop_at.Goals as goal
 

@@ -1,6 +1,4 @@
-use Rattle.std.proofs.Common.{◌<◌, sym, ap, ◌∙◌, subst}
-use Rattle.vec_words.specs.Logged.{count_of}
-use Rattle.vec_words.specs.Tokens.{SeatSeen, IsBegun}
+use Rattle.vec_words.proofs.Names.{◌<◌, sym, ap, ◌∙◌, subst, count_of, SeatSeen, IsBegun}
 use Rattle.vec_words.proofs.Begun.{begun-begin, fresh}
 use Rattle.vec_words.proofs.vectors.Vectors.begin.Goals as goal
 

@@ -1,7 +1,4 @@
-use Rattle.std.proofs.Common.{◌<◌, [], ◌∷◌, sym, ap, ◌∙◌, subst, arith}
-use Rattle.vec_words.specs.declared.view.View.{View}
-use Rattle.vec_words.specs.Tokens.{SeatSeen, IsBegun}
-use Rattle.vec_words.specs.View.{committed_of}
+use Rattle.vec_words.proofs.Names.{◌<◌, [], ◌∷◌, sym, ap, ◌∙◌, subst, arith, View, SeatSeen, IsBegun, committed_of}
 use Rattle.vec_words.proofs.Begun.{begun-commit}
 use Rattle.vec_words.proofs.vectors.Vectors.commit_of.Goals as goal
 

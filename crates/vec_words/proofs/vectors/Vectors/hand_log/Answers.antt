@@ -1,8 +1,4 @@
-use Rattle.std.proofs.Common.{ap, sym, ◌∙◌, arith}
-use Rattle.atomic_table.specs.Table.{Me}
-use Rattle.vec_words.specs.declared.view.View.{View}
-use Rattle.std.specs.Prelude.{ℕ}
-use Rattle.vec_words.specs.Tokens.{WordTable}
+use Rattle.vec_words.proofs.Names.{ap, sym, ◌∙◌, arith, ℕ, Me, View, WordTable}
 use Rattle.vec_words.proofs.Steps.{splits_log, joins_log}
 use Rattle.vec_words.proofs.vectors.Vectors.hand_log.Goals as goal
 

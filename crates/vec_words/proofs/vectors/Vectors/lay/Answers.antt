@@ -1,5 +1,4 @@
-use Rattle.std.proofs.Common.{◌≡◌, ◌+◌, ◌*◌, ℕ, suc, replicate, ap, ◌∙◌, arith}
-use Rattle.vec_words.specs.Logged.{words_of}
+use Rattle.vec_words.proofs.Names.{◌≡◌, ◌+◌, ◌*◌, ℕ, suc, replicate, ap, ◌∙◌, arith, words_of}
 use Rattle.vec_words.proofs.Steps.{starts}
 use Rattle.vec_words.proofs.vectors.Vectors.lay.Goals as goal
 

@@ -1,6 +1,4 @@
-use Rattle.std.proofs.Common.{ap, refl, ◌∙◌}
-use Rattle.vec_words.specs.declared.view.View.{View}
-use Rattle.vec_words.specs.View.{without_log, learned_of}
+use Rattle.vec_words.proofs.Names.{ap, refl, ◌∙◌, View, without_log, learned_of}
 use Rattle.vec_words.proofs.Learned.{shown}
 use Rattle.vec_words.proofs.vectors.Vectors.learn.Goals as goal
 

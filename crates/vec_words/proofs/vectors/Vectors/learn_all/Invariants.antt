@@ -1,6 +1,4 @@
-use Rattle.std.proofs.Common.{◌≡◌, take, All}
-use Rattle.vec_words.specs.Logged.{count_of}
-use Rattle.vec_words.specs.Tokens.{learned_pass, IsShown}
+use Rattle.vec_words.proofs.Names.{◌≡◌, take, All, count_of, learned_pass, IsShown}
 use Rattle.vec_words.proofs.Walked.{IsWalked}
 use Rattle.vec_words.proofs.vectors.Vectors.learn_all.Given as goal
 

@@ -1,5 +1,4 @@
-use Rattle.std.proofs.Common.{ap, sym, ◌∙◌, arith}
-use Rattle.vec_words.specs.Tokens.{WordTable}
+use Rattle.vec_words.proofs.Names.{ap, sym, ◌∙◌, arith, WordTable}
 use Rattle.vec_words.proofs.Steps.{learns}
 use Rattle.vec_words.proofs.vectors.Vectors.load_count.Goals as goal
 

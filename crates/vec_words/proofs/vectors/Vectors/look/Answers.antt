@@ -1,6 +1,4 @@
-use Rattle.std.proofs.Common.{◌≡◌, ◌*◌, ◌/◌, ◌<◌, ◌≤◌, ℕ, suc, ap, sym, ◌∙◌, subst, arith}
-use Rattle.vec_words.specs.Tokens.{WordTable, PassSeen}
-use Rattle.vec_words.specs.Logged.{words_of, word_number}
+use Rattle.vec_words.proofs.Names.{◌≡◌, ◌*◌, ◌/◌, ◌<◌, ◌≤◌, ℕ, suc, ap, sym, ◌∙◌, subst, arith, WordTable, PassSeen, words_of, word_number}
 use Rattle.vec_words.proofs.Steps.{looks}
 use Rattle.vec_words.proofs.Tables.{id_of, words_here}
 use Rattle.vec_words.proofs.vectors.Vectors.look.Goals as goal

@@ -1,6 +1,4 @@
-use Rattle.std.proofs.Common.{ap, sym, ◌∙◌, arith}
-use Rattle.vec_words.specs.declared.view.View.{View}
-use Rattle.vec_words.specs.Tokens.{WordTable}
+use Rattle.vec_words.proofs.Names.{ap, sym, ◌∙◌, arith, View, WordTable}
 use Rattle.vec_words.proofs.Steps.{splits_pass}
 use Rattle.vec_words.proofs.vectors.Vectors.next_pass.Goals as goal
 

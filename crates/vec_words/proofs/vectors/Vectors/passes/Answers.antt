@@ -1,7 +1,4 @@
-use Rattle.std.proofs.Common.{[], ◌∷◌, ◌++◌, map, ap, sym, ◌∙◌, arith}
-use Rattle.std.specs.List.{range_with_len}
-use Rattle.std.proofs.lemmas.List.FromFn.{map-range_with_len_more}
-use Rattle.vec_words.specs.Tokens.{PassSeen, new_pass}
+use Rattle.vec_words.proofs.Names.{[], ◌∷◌, ◌++◌, map, ap, sym, ◌∙◌, arith, range_with_len, map-range_with_len_more, PassSeen, new_pass}
 use Rattle.vec_words.proofs.vectors.Vectors.passes.Goals as goal
 
 pub loop-number-preserved : goal.loop-number-preserved

@@ -1,6 +1,4 @@
-use Rattle.std.proofs.Common.{◌≡◌, map}
-use Rattle.std.specs.List.{range_with_len}
-use Rattle.vec_words.specs.Tokens.{IsFirst, new_pass}
+use Rattle.vec_words.proofs.Names.{◌≡◌, map, range_with_len, IsFirst, new_pass}
 use Rattle.vec_words.proofs.vectors.Vectors.passes.Given as goal
 
 abbrev pub invariant-loop-number : goal.invariant-loop-number

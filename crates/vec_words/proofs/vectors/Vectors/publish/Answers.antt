@@ -1,7 +1,4 @@
-use Rattle.std.proofs.Common.{ap, sym, ◌∙◌, subst, arith}
-use Rattle.vec_world.specs.Log.{IsOpen}
-use Rattle.vec_words.specs.Logged.{count_of, flying_of}
-use Rattle.vec_words.specs.Tokens.{WordTable}
+use Rattle.vec_words.proofs.Names.{ap, sym, ◌∙◌, subst, arith, IsOpen, count_of, flying_of, WordTable}
 use Rattle.vec_words.proofs.Begun.{open_begun}
 use Rattle.vec_words.proofs.Writes.{publishes}
 use Rattle.vec_words.proofs.vectors.Vectors.publish.Goals as goal

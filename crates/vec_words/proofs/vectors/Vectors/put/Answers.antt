@@ -1,7 +1,4 @@
-use Rattle.std.proofs.Common.{◌≡◌, ◌*◌, ◌^◌, ◌<◌, ℕ, suc, ap, sym, ◌∙◌, subst, arith}
-use Rattle.vec_world.specs.World.{word_of}
-use Rattle.vec_words.specs.Tokens.{WordTable}
-use Rattle.vec_words.specs.Logged.{words_of}
+use Rattle.vec_words.proofs.Names.{◌≡◌, ◌*◌, ◌^◌, ◌<◌, ℕ, suc, ap, sym, ◌∙◌, subst, arith, word_of, WordTable, words_of}
 use Rattle.vec_words.proofs.Begun.{open_begun}
 use Rattle.vec_words.proofs.Writes.{puts}
 use Rattle.vec_words.proofs.Tables.{words_here}

@@ -1,5 +1,4 @@
-use Rattle.std.proofs.Common.{ap, ◌∙◌, arith}
-use Rattle.vec_words.specs.Tokens.{PassSeen}
+use Rattle.vec_words.proofs.Names.{ap, ◌∙◌, arith, PassSeen}
 use Rattle.vec_words.proofs.Steps.{splits_note}
 use Rattle.vec_words.proofs.Tables.{id_of}
 use Rattle.vec_words.proofs.vectors.Vectors.tell.Goals as goal

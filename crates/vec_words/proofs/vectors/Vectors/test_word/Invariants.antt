@@ -1,5 +1,4 @@
-use Rattle.std.proofs.Common.{◌/◌}
-use Rattle.vec_words.specs.Logged.{indices_of}
+use Rattle.vec_words.proofs.Names.{◌/◌, indices_of}
 use Rattle.vec_words.proofs.vectors.Vectors.test_word.Given as goal
 
 abbrev pub ghosts-look : goal.ghosts-look

@@ -1,6 +1,4 @@
-use Rattle.std.proofs.Common.{◌≡◌, ◌*◌, ◌+◌, ◌-◌, ◌^◌, ◌<◌, ℕ, ap, sym, ◌∙◌, subst, arith}
-use Rattle.vec_words.specs.Tokens.{WordTable}
-use Rattle.vec_words.specs.Logged.{words_of, word_number}
+use Rattle.vec_words.proofs.Names.{◌≡◌, ◌*◌, ◌+◌, ◌-◌, ◌^◌, ◌<◌, ℕ, ap, sym, ◌∙◌, subst, arith, WordTable, words_of, word_number}
 use Rattle.vec_words.proofs.Places.{within_all, small}
 use Rattle.vec_words.proofs.vectors.Vectors.word_number.Goals as goal
 
