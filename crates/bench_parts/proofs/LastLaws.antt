@@ -1,5 +1,5 @@
 -- The last of two things.
-use Rattle.bench_parts.proofs.Names.{◌≡◌, ◌+◌, ◌<◌, List, arith, [], ◌∷◌, ◌++◌, length, get_or, map, refl, sym, ap, subst, ◌∙◌, suc, Option, Some, None, IfSome, option_to_list, range_with_len, length-append, PassSeen, WordTable, new_pass}
+use Rattle.bench_parts.proofs.Imports.{◌≡◌, ◌+◌, ◌<◌, List, arith, [], ◌∷◌, ◌++◌, length, get_or, map, refl, sym, ap, subst, ◌∙◌, suc, Option, Some, None, IfSome, option_to_list, range_with_len, length-append, PassSeen, WordTable, new_pass}
 
 -- the last of two
 last-of_two : {X : Type 0} (a b : X) (front : List X) (x : X) → a ∷ b ∷ [] ≡ front ++ x ∷ [] → b ≡ x

@@ -1,4 +1,4 @@
-pub mod Names
+pub mod Imports
 pub mod LastLaws
 pub mod SeatLaws
 pub mod Granted

@@ -1,4 +1,4 @@
-pub mod Names
+pub mod Imports
 pub mod NameOrder
 pub mod MapLaws
 pub mod WalkLaws

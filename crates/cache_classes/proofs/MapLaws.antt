@@ -1,5 +1,5 @@
 -- The entries of a map by name, in the order of names.
-use Rattle.cache_classes.proofs.Names.{◌≡◌, ℕ, Bool, true, false, not, ◌&&◌, cond, List, [], ◌∷◌, Option, Some, None, option_map, length, filter, refl, sym, ap, ◌∙◌, subst, nat_eq, option_to_list, IsDistinct, keys_of, lookup, nat_list_eq_equiv, pointwise, false≢true, not-true, length-map, lookup-none, none_past_head, Name16, same_name, name_before, insertion, pairwise, filter_absorbed, filter-filter, filter_nothing, filter_swap, list_all_always, filter-insertion_out, FindsPlace, pairwise-filter, pairwise-insertion, arranged, in_turn, arranged_in_turn, keyed-arranged, ordered_filters, length_arranged, Changed, is_named, name_of, names_without, names_with, Entry, changed_at, entries_in, classes_in, Writes}
+use Rattle.cache_classes.proofs.Imports.{◌≡◌, ℕ, Bool, true, false, not, ◌&&◌, cond, List, [], ◌∷◌, Option, Some, None, option_map, length, filter, refl, sym, ap, ◌∙◌, subst, nat_eq, option_to_list, IsDistinct, keys_of, lookup, nat_list_eq_equiv, pointwise, false≢true, not-true, length-map, lookup-none, none_past_head, Name16, same_name, name_before, insertion, pairwise, filter_absorbed, filter-filter, filter_nothing, filter_swap, list_all_always, filter-insertion_out, FindsPlace, pairwise-filter, pairwise-insertion, arranged, in_turn, arranged_in_turn, keyed-arranged, ordered_filters, length_arranged, Changed, is_named, name_of, names_without, names_with, Entry, changed_at, entries_in, classes_in, Writes}
 use Rattle.cache_classes.proofs.NameOrder.{name_order}
 
 -- ---- the entries of a name

@@ -1,5 +1,5 @@
 -- The order of names: it is strict, and of two names one comes first, or they are the same.
-use Rattle.cache_classes.proofs.Names.{◌≡◌, Bool, true, false, Ordering, refl, sym, ap, ◌∙◌, subst, nat_cmp, is_lt, is_eq, ordering_reverse, Less, Equal, Greater, slice_cmp, texts_ties, nat_list_cmp_total, false≢true, Name16, same_name, name_before, same_name-eq, same_name-refl, IsKeyOrder}
+use Rattle.cache_classes.proofs.Imports.{◌≡◌, Bool, true, false, Ordering, refl, sym, ap, ◌∙◌, subst, nat_cmp, is_lt, is_eq, ordering_reverse, Less, Equal, Greater, slice_cmp, texts_ties, nat_list_cmp_total, false≢true, Name16, same_name, name_before, same_name-eq, same_name-refl, IsKeyOrder}
 
 less : (o : Ordering) → is_lt o ≡ true → o ≡ Less
 less Less h = refl

@@ -1,5 +1,5 @@
 -- Entries one after another.
-use Rattle.cache_classes.proofs.Names.{◌≡◌, ℕ, ◌+◌, ◌≤◌, ◌==◌, Bool, true, false, cond, List, ◌∷◌, filter, map, length, sym, ap, ◌∙◌, arith, IsPermutation, length-map, Name16, same_name, name_before, pairwise, length-filter-le, in_turn, arranged-filter, sorted_is, length_arranged, Changed, is_of_class, name_of, names_in, names_of, count_of, Entry, changed_at, entries_in, classes_in}
+use Rattle.cache_classes.proofs.Imports.{◌≡◌, ℕ, ◌+◌, ◌≤◌, ◌==◌, Bool, true, false, cond, List, ◌∷◌, filter, map, length, sym, ap, ◌∙◌, arith, IsPermutation, length-map, Name16, same_name, name_before, pairwise, length-filter-le, in_turn, arranged-filter, sorted_is, length_arranged, Changed, is_of_class, name_of, names_in, names_of, count_of, Entry, changed_at, entries_in, classes_in}
 use Rattle.cache_classes.proofs.NameOrder.{name_order}
 
 -- as many pass a test as they lie in the map as in their order

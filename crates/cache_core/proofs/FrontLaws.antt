@@ -1,5 +1,5 @@
 -- The names of the rows that are reclaimed, counted a row at a time.
-use Rattle.cache_core.proofs.Names.{◌≡◌, ℕ, suc, zero, Option, None, option_map, slice_get, append-nil, subst, ◌+◌, ◌≤◌, Bool, true, false, not, cond, List, [], ◌∷◌, ◌++◌, append_assoc, length, length-append, drop, filter, map, sum_by, refl, sym, ap, ◌∙◌, arith, Some, option_to_list, drop_all, length-map, filter-append, sum_by-cons, sum_by-append, length-filter_both, sum_by-filter_both, fold-map, shortest_prefix, filter-filter, filter_swap, sum_by-filter-le, length-filter-le, shortest_prefix-nil, shortest_prefix_agree, shortest_prefix-map, Caps, Name16, CacheItem, Request, Room, Reclaimable, is_row_of, has_storage, elements_in, is_reclaimable, reclaim_order, victims, DirectoryFull, is_unchanged, reclaimed_for, room_for, is_enough, is_enough_of, reclaimable_of, reclaimable_from, size}
+use Rattle.cache_core.proofs.Imports.{◌≡◌, ℕ, suc, zero, Option, None, option_map, slice_get, append-nil, subst, ◌+◌, ◌≤◌, Bool, true, false, not, cond, List, [], ◌∷◌, ◌++◌, append_assoc, length, length-append, drop, filter, map, sum_by, refl, sym, ap, ◌∙◌, arith, Some, option_to_list, drop_all, length-map, filter-append, sum_by-cons, sum_by-append, length-filter_both, sum_by-filter_both, fold-map, shortest_prefix, filter-filter, filter_swap, sum_by-filter-le, length-filter-le, shortest_prefix-nil, shortest_prefix_agree, shortest_prefix-map, Caps, Name16, CacheItem, Request, Room, Reclaimable, is_row_of, has_storage, elements_in, is_reclaimable, reclaim_order, victims, DirectoryFull, is_unchanged, reclaimed_for, room_for, is_enough, is_enough_of, reclaimable_of, reclaimable_from, size}
 use Rattle.cache_model.specs.Room as room
 use Rattle.cache_core.specs.Measure as measure
 

@@ -1,7 +1,7 @@
 pub use Rattle.cache_model.proofs as CacheModel
 pub use Rattle.cache_rows.proofs.CacheRegs as CacheRegs
 pub use Rattle.cf_lists.proofs as CfLists
-pub mod Names
+pub mod Imports
 pub mod NextLaws
 pub mod EndLaws
 pub mod FrontLaws

@@ -1,5 +1,5 @@
 -- What stands before the next of a list, and what the last row leaves when it goes.
-use Rattle.cache_core.proofs.Names.{◌≡◌, ◌++◌, ◌∷◌, [], ◌&&◌, ◌-◌, Bool, true, List, Option, None, Some, fold, length, map, option_map, take, slice_get, ℕ, ap, refl, sym, ◌∙◌, list_all, and_parts, and_from, list_all-append, slice_get-map, Name16, pairwise, Registration, CacheItem, Content, no_content, content_with, regs_without_row, content_without_last}
+use Rattle.cache_core.proofs.Imports.{◌≡◌, ◌++◌, ◌∷◌, [], ◌&&◌, ◌-◌, Bool, true, List, Option, None, Some, fold, length, map, option_map, take, slice_get, ℕ, ap, refl, sym, ◌∙◌, list_all, and_parts, and_from, list_all-append, slice_get-map, Name16, pairwise, Registration, CacheItem, Content, no_content, content_with, regs_without_row, content_without_last}
 
 pub before_next : {X : Type 0} (relation : X → X → Bool) (xs : List X) (y : X) (ys : List X)
     → pairwise relation (xs ++ y ∷ ys) ≡ true

@@ -1,5 +1,5 @@
 -- The entries of a map: copied in their order, and changed.
-use Rattle.cache_dir.proofs.Names.{◌≡◌, ℕ, suc, Bool, true, false, nat_eq, cond, List, [], ◌∷◌, ◌++◌, Option, None, Some, option_map, map, length, refl, sym, ap, ◌∙◌, subst, append_assoc, append-nil, IsDistinct, keys_of, lookup, RetainsPairs, pointwise, nat_list_eq_equiv, false≢true, NonePasses, none_past_head}
+use Rattle.cache_dir.proofs.Imports.{◌≡◌, ℕ, suc, Bool, true, false, nat_eq, cond, List, [], ◌∷◌, ◌++◌, Option, None, Some, option_map, map, length, refl, sym, ap, ◌∙◌, subst, append_assoc, append-nil, IsDistinct, keys_of, lookup, RetainsPairs, pointwise, nat_list_eq_equiv, false≢true, NonePasses, none_past_head}
 
 abbrev pub Entries : Type 0 → Type 0
 Entries X = List (List ℕ × X)

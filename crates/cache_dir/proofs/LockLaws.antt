@@ -1,5 +1,5 @@
 -- Castout locks that are noted by the names of their rows, and released.
-use Rattle.cache_dir.proofs.Names.{◌≡◌, ℕ, Bool, true, false, not, ◌==◌, cond, List, Option, None, Some, option_map, refl, option_filter, Name16, ConnId, DirRow, row_at, let_go, lock_without}
+use Rattle.cache_dir.proofs.Imports.{◌≡◌, ℕ, Bool, true, false, not, ◌==◌, cond, List, Option, None, Some, option_map, refl, option_filter, Name16, ConnId, DirRow, row_at, let_go, lock_without}
 
 -- a lock is this connector's
 abbrev is_of : ConnId → Option ConnId → Bool

@@ -1,5 +1,5 @@
 -- A valid bit tells a fresh copy: what a registered connector has at the index is what the name's row has.
-use Rattle.cache_model.proofs.Names.{◌≡◌, ℕ, Bool, true, false, not, ◌&&◌, ◌||◌, ◌==◌, cond, List, [], ◌∷◌, ◌++◌, Option, Some, None, option_map, unwrap_or, filter, find, map, refl, sym, ap, ◌∙◌, subst, arith, option_and_then, option_or, and_parts, or_parts, not-true, false≢true, eqb-true, nat_tests, find-append, Caps, Name16, ConnId, Refusal, CacheCmd, Read, Write, CrossInval, RegList, Castout, Unlock, CoClass, CoStats, DirInfo, Delete, StgStats, same_name, unless_refused, insertion, find-filter, find_none, none_filtered, find-insertion_past, find-insertion_here, Registration, is_of, is_at, is_for, is_replaced, registered_at, stands_before as before, regs_with, regs_without_name, ends_with_name, same_name-eq, same_name-refl, same_name-sym, CacheItem, is_row_of, is_changed, row_of, has_row, rows_without, rows_replaced, new_row, row_or_new, IsDirectory, Content, IsContent, no_content, content_without, without_hold, is_among, rows_spared, cause, done, after, Copy, Copies, Deed, after_deed, after_run, row_copy, copy_in, reply_copy, copies_with, copies_done, copies_unless, copies_after, copies_run, Calls, Leaves, Forgets}
+use Rattle.cache_model.proofs.Imports.{◌≡◌, ℕ, Bool, true, false, not, ◌&&◌, ◌||◌, ◌==◌, cond, List, [], ◌∷◌, ◌++◌, Option, Some, None, option_map, unwrap_or, filter, find, map, refl, sym, ap, ◌∙◌, subst, arith, option_and_then, option_or, and_parts, or_parts, not-true, false≢true, eqb-true, nat_tests, find-append, Caps, Name16, ConnId, Refusal, CacheCmd, Read, Write, CrossInval, RegList, Castout, Unlock, CoClass, CoStats, DirInfo, Delete, StgStats, same_name, unless_refused, insertion, find-filter, find_none, none_filtered, find-insertion_past, find-insertion_here, Registration, is_of, is_at, is_for, is_replaced, registered_at, stands_before as before, regs_with, regs_without_name, ends_with_name, same_name-eq, same_name-refl, same_name-sym, CacheItem, is_row_of, is_changed, row_of, has_row, rows_without, rows_replaced, new_row, row_or_new, IsDirectory, Content, IsContent, no_content, content_without, without_hold, is_among, rows_spared, cause, done, after, Copy, Copies, Deed, after_deed, after_run, row_copy, copy_in, reply_copy, copies_with, copies_done, copies_unless, copies_after, copies_run, Calls, Leaves, Forgets}
 use Rattle.cache_model.specs.Rows.{stands_before}
 use Rattle.cache_model.specs.Commands.Read as read
 use Rattle.cache_model.specs.Commands.Write as write

@@ -1,5 +1,5 @@
 -- The laws of the engine's meaning.
-use Rattle.cache_model.proofs.Names.{◌≡◌, ℕ, ◌+◌, ◌-◌, ◌≤◌, Bool, IsTrue, true, false, not, ◌&&◌, List, [], ◌∷◌, ◌++◌, append-nil, append_assoc, Option, None, Some, length, length-append, filter, take, drop, slice_get, fold, ◌⊎◌, inl, inr, ⊎_elim, refl, sym, ap, subst, ◌∙◌, arith, list_all, and_parts, or_from, or_left, or_cases, not-true, false≢true, same_name, Name16, filter_all, list_all_weaker, list_all_both, list_all-filter, list_all-filter_same, split_next, length-map, take_all, take_at, take-append-drop, drop_all, slice_get_cases, list_all-append, list_any-append, sum_by-append, is_cache, Caps, Kind, ConnId, Shape, Fits, IsNoMore, IsNoMoreOf, FrontLaws, fronts, pairwise, pairwise_front, Registration, regs_for_others, same_name-eq, same_name-sym, registry-filter, CacheItem, is_row_of, elements_in, has_row, may_precede, names_apart, is_sound, Content, IsContent, no_content, content_without, content_forgotten, content_with, content_without_last, regs_without_row, need_of, without_hold, cache_meaning}
+use Rattle.cache_model.proofs.Imports.{◌≡◌, ℕ, ◌+◌, ◌-◌, ◌≤◌, Bool, IsTrue, true, false, not, ◌&&◌, List, [], ◌∷◌, ◌++◌, append-nil, append_assoc, Option, None, Some, length, length-append, filter, take, drop, slice_get, fold, ◌⊎◌, inl, inr, ⊎_elim, refl, sym, ap, subst, ◌∙◌, arith, list_all, and_parts, or_from, or_left, or_cases, not-true, false≢true, same_name, Name16, filter_all, list_all_weaker, list_all_both, list_all-filter, list_all-filter_same, split_next, length-map, take_all, take_at, take-append-drop, drop_all, slice_get_cases, list_all-append, list_any-append, sum_by-append, is_cache, Caps, Kind, ConnId, Shape, Fits, IsNoMore, IsNoMoreOf, FrontLaws, fronts, pairwise, pairwise_front, Registration, regs_for_others, same_name-eq, same_name-sym, registry-filter, CacheItem, is_row_of, elements_in, has_row, may_precede, names_apart, is_sound, Content, IsContent, no_content, content_without, content_forgotten, content_with, content_without_last, regs_without_row, need_of, without_hold, cache_meaning}
 use Rattle.cf_types.specs.declared.forms.Kind.TheVariants as kind
 use Rattle.cache_model.proofs.RowLaws.{size, elements-without_hold}
 use Rattle.cache_model.proofs.ContentLaws as laws

@@ -1,4 +1,4 @@
-pub mod Names
+pub mod Imports
 pub mod RowLaws
 pub mod RoomLaws
 pub mod ContentLaws

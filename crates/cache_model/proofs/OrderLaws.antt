@@ -1,5 +1,5 @@
 -- Whatever is done to a content at whatever capacity, its rows and registrations stay in order.
-use Rattle.cache_model.proofs.Names.{◌≡◌, ℕ, false, not, ◌&&◌, ◌||◌, List, Option, Some, None, is_none, refl, arith, Caps, Name16, ConnId, Refusal, CacheCmd, Read, Write, CrossInval, RegList, Castout, Unlock, CoClass, CoStats, DirInfo, Delete, StgStats, same_name, unless_refused, list_all-filter, all_found, Registration, regs_with, regs_without_name, ends_with_name, registry-with, registry-filter, is_row_of, row_of, has_row, row_or_new, is_sound, Content, IsContent, IsOrderly, content_without, content_forgotten, need_of, is_changed_row, cause, done, Deed, after_deed, Calls, Leaves, Forgets}
+use Rattle.cache_model.proofs.Imports.{◌≡◌, ℕ, false, not, ◌&&◌, ◌||◌, List, Option, Some, None, is_none, refl, arith, Caps, Name16, ConnId, Refusal, CacheCmd, Read, Write, CrossInval, RegList, Castout, Unlock, CoClass, CoStats, DirInfo, Delete, StgStats, same_name, unless_refused, list_all-filter, all_found, Registration, regs_with, regs_without_name, ends_with_name, registry-with, registry-filter, is_row_of, row_of, has_row, row_or_new, is_sound, Content, IsContent, IsOrderly, content_without, content_forgotten, need_of, is_changed_row, cause, done, Deed, after_deed, Calls, Leaves, Forgets}
 use Rattle.cache_model.specs.Commands.Read as read
 use Rattle.cache_model.specs.Commands.Write as write
 use Rattle.cache_model.specs.Step.{victims}

@@ -1,5 +1,5 @@
 -- The rows that are reclaimed, and what room they leave.
-use Rattle.cache_model.proofs.Names.{◌≡◌, ℕ, ◌+◌, Bool, true, false, not, ◌&&◌, cond, List, Some, None, is_some, length, filter, nat_le, refl, sym, ap, ◌∙◌, subst, list_all, and_parts, and_from, list_all-append, Caps, Name16, DirectoryFull, NoElements, same_name, pairwise, shortest_prefix, list_any-map, list_all-filter, list_all_weaker, list_all-filter_same, none_from_all, any_is_found, filter-filter, pairwise-filter, pairwise_split, list_all-shortest_prefix, pairwise-shortest_prefix, shortest_prefix-enough, AllFound, found_filter, found_append, found_prefix, sum_by_spared, length_spared, find-spared, apart_sym, same_name-eq, same_name-refl, CacheItem, Request, is_row_of, is_changed, has_storage, elements_in, row_of, has_row, names_apart, IsDirectory, is_among, rows_spared, is_reclaimable, reclaim_order, has_place, free_elements, has_room, victims, elements_refusal, room_refusal}
+use Rattle.cache_model.proofs.Imports.{◌≡◌, ℕ, ◌+◌, Bool, true, false, not, ◌&&◌, cond, List, Some, None, is_some, length, filter, nat_le, refl, sym, ap, ◌∙◌, subst, list_all, and_parts, and_from, list_all-append, Caps, Name16, DirectoryFull, NoElements, same_name, pairwise, shortest_prefix, list_any-map, list_all-filter, list_all_weaker, list_all-filter_same, none_from_all, any_is_found, filter-filter, pairwise-filter, pairwise_split, list_all-shortest_prefix, pairwise-shortest_prefix, shortest_prefix-enough, AllFound, found_filter, found_append, found_prefix, sum_by_spared, length_spared, find-spared, apart_sym, same_name-eq, same_name-refl, CacheItem, Request, is_row_of, is_changed, has_storage, elements_in, row_of, has_row, names_apart, IsDirectory, is_among, rows_spared, is_reclaimable, reclaim_order, has_place, free_elements, has_room, victims, elements_refusal, room_refusal}
 use Rattle.cache_model.proofs.RowLaws.{name_of, size}
 
 -- the rows that go

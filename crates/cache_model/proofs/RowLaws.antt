@@ -1,5 +1,5 @@
 -- A directory stays one when a row takes the place of the row of its name.
-use Rattle.cache_model.proofs.Names.{◌≡◌, ℕ, ◌+◌, ◌≤◌, Bool, true, false, not, ◌&&◌, ◌||◌, cond, List, [], ◌∷◌, ◌++◌, Option, Some, None, is_some, is_none, unwrap_or, length, length-append, filter, map, refl, sym, ap, ◌∙◌, subst, arith, list_all, and_parts, and_from, or_left, not-true, false≢true, list_all-append, list_any-append, list_all-map, fold-map, sum_by_push, any-filter_same, Name16, ConnId, same_name, name_before, pairwise, insertion, list_all-filter, list_all_weaker, list_all_always, list_all-filter_same, none_filtered, all_from_none, filter_all, all_found, found_passes, list_all-insertion, list_any-insertion, length-insertion, sum_by-insertion, FindsPlace, pairwise-filter, pairwise_push, pairwise-insertion, pairwise-insertion_any, pairwise-map, sum_by_without, length_without, same_name-eq, same_name-refl, same_name-sym, name_before-trans, name_before-else, CacheItem, is_row_of, is_changed, is_held_by, elements_of, elements_in, row_of, has_row, rows_without, rows_with, rows_replaced, new_row, row_or_new, may_precede, names_apart, is_sound, IsDirectory, without_hold}
+use Rattle.cache_model.proofs.Imports.{◌≡◌, ℕ, ◌+◌, ◌≤◌, Bool, true, false, not, ◌&&◌, ◌||◌, cond, List, [], ◌∷◌, ◌++◌, Option, Some, None, is_some, is_none, unwrap_or, length, length-append, filter, map, refl, sym, ap, ◌∙◌, subst, arith, list_all, and_parts, and_from, or_left, not-true, false≢true, list_all-append, list_any-append, list_all-map, fold-map, sum_by_push, any-filter_same, Name16, ConnId, same_name, name_before, pairwise, insertion, list_all-filter, list_all_weaker, list_all_always, list_all-filter_same, none_filtered, all_from_none, filter_all, all_found, found_passes, list_all-insertion, list_any-insertion, length-insertion, sum_by-insertion, FindsPlace, pairwise-filter, pairwise_push, pairwise-insertion, pairwise-insertion_any, pairwise-map, sum_by_without, length_without, same_name-eq, same_name-refl, same_name-sym, name_before-trans, name_before-else, CacheItem, is_row_of, is_changed, is_held_by, elements_of, elements_in, row_of, has_row, rows_without, rows_with, rows_replaced, new_row, row_or_new, may_precede, names_apart, is_sound, IsDirectory, without_hold}
 use Rattle.cache_model.specs.Rows.{stands_before}
 
 abbrev pub name_of : CacheItem → Name16

@@ -1,6 +1,6 @@
 -- A row that was written as changed stays, changed and with the data that were written, until it is cast out or
 -- deleted.
-use Rattle.cache_model.proofs.Names.{◌≡◌, ℕ, Bool, true, false, not, ◌&&◌, ◌||◌, cond, List, [], ◌∷◌, Option, Some, None, is_some, is_none, unwrap_or, option_map, map, refl, sym, ap, ◌∙◌, subst, list_any, list_all, and_parts, not-true, false≢true, Caps, Name16, ConnId, Refusal, NotHeld, CacheCmd, Read, Write, CrossInval, RegList, Castout, Unlock, CoClass, CoStats, DirInfo, Delete, StgStats, same_name, unless_refused, first_refusal, list_any-map, same_name-eq, CacheItem, Holder, Request, is_row_of, is_changed, is_held_by, row_of, rows_without, rows_replaced, new_row, row_or_new, IsDirectory, Content, IsContent, no_content, without_hold, is_among, rows_spared, victims, entry_refusal, not_held_refusal, is_changed_row, cause, done, after, Deed, after_deed, after_run, Calls, Leaves, Forgets, Uncast, Uncasts, uncast_with, uncast_written, uncast_cast, uncast_unlocked, uncast_done, uncast_unless, uncast_after, uncast_run, is_settled, HasWritten, Kept}
+use Rattle.cache_model.proofs.Imports.{◌≡◌, ℕ, Bool, true, false, not, ◌&&◌, ◌||◌, cond, List, [], ◌∷◌, Option, Some, None, is_some, is_none, unwrap_or, option_map, map, refl, sym, ap, ◌∙◌, subst, list_any, list_all, and_parts, not-true, false≢true, Caps, Name16, ConnId, Refusal, NotHeld, CacheCmd, Read, Write, CrossInval, RegList, Castout, Unlock, CoClass, CoStats, DirInfo, Delete, StgStats, same_name, unless_refused, first_refusal, list_any-map, same_name-eq, CacheItem, Holder, Request, is_row_of, is_changed, is_held_by, row_of, rows_without, rows_replaced, new_row, row_or_new, IsDirectory, Content, IsContent, no_content, without_hold, is_among, rows_spared, victims, entry_refusal, not_held_refusal, is_changed_row, cause, done, after, Deed, after_deed, after_run, Calls, Leaves, Forgets, Uncast, Uncasts, uncast_with, uncast_written, uncast_cast, uncast_unlocked, uncast_done, uncast_unless, uncast_after, uncast_run, is_settled, HasWritten, Kept}
 use Rattle.cache_model.specs.Commands.Read as read
 use Rattle.cache_model.specs.Commands.Write as write
 use Rattle.cache_model.specs.Commands.Castout as castout

@@ -1,5 +1,5 @@
 -- A place in one list behind another.
-use Rattle.cache_reclaim.proofs.Names.{◌≡◌, ℕ, ◌+◌, ◌<◌, suc, zero, ◌++◌, slice_get, List, [], ◌∷◌, length, ap, refl, arith}
+use Rattle.cache_reclaim.proofs.Imports.{◌≡◌, ℕ, ◌+◌, ◌<◌, suc, zero, ◌++◌, slice_get, List, [], ◌∷◌, length, ap, refl, arith}
 
 pub slice_get-front : {X : Type 0} (xs ys : List X) (k : ℕ) → k < length xs → slice_get (xs ++ ys) k ≡ slice_get xs k
 slice_get-front [] ys k h = absurd (omega arith)

@@ -1,4 +1,4 @@
-pub mod Names
+pub mod Imports
 pub mod NameKeys
 pub mod LastUseLaws
 pub mod MapLaws

@@ -1,5 +1,5 @@
 -- A map of names that is copied in its order.
-use Rattle.cache_reclaim.proofs.Names.{◌≡◌, ℕ, Bool, true, false, nat_eq, cond, List, [], ◌∷◌, ◌++◌, None, Some, refl, sym, ap, ◌∙◌, subst, append_assoc, append-nil, IsDistinct, keys_of, lookup, pointwise, nat_list_eq_equiv, false≢true, NonePasses, none_past_head}
+use Rattle.cache_reclaim.proofs.Imports.{◌≡◌, ℕ, Bool, true, false, nat_eq, cond, List, [], ◌∷◌, ◌++◌, None, Some, refl, sym, ap, ◌∙◌, subst, append_assoc, append-nil, IsDistinct, keys_of, lookup, pointwise, nat_list_eq_equiv, false≢true, NonePasses, none_past_head}
 
 abbrev pub Entries : Type 0
 Entries = List (List ℕ × ℕ)

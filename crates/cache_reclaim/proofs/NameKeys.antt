@@ -1,5 +1,5 @@
 -- Names as keys.
-use Rattle.cache_reclaim.proofs.Names.{◌≡◌, ℕ, Bool, true, false, List, refl, sym, ap, ◌≢◌, bytes_decides, Name16, same_name}
+use Rattle.cache_reclaim.proofs.Imports.{◌≡◌, ℕ, Bool, true, false, List, refl, sym, ap, ◌≢◌, bytes_decides, Name16, same_name}
 
 pub same_name-eq : (a b : Name16) → same_name a b ≡ true → a ≡ b
 same_name-eq a b h =

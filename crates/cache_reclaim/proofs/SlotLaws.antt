@@ -1,5 +1,5 @@
 -- A slot that is written, and one that is freed.
-use Rattle.cache_reclaim.proofs.Names.{◌≡◌, ◌≢◌, ℕ, suc, ◌-◌, ◌<◌, Bool, true, false, not, nat_eq, cond, List, [], ◌∷◌, ◌++◌, reverse, length, filter, get_or, Option, Some, None, IsSome, Result, Ok, Err, OnOk, IsOk, is_some, refl, sym, ap, ◌∙◌, subst, arith, IsDistinct, cons_option, filter_map, keys_of, lookup, lookup_entry, remove_entry, nat_eq_equiv, false≢true, eqb-true, eq-eqb, reverse-append, length-append, length-reverse, take_all, filter_map-append, filter-append, NonePasses, lookup-remove_entry, lookup-none, none_past_head, lookup_from_place, slice_get-get_or, LruCache, lru_cache, put_entries, last_entry, AllocFailed, list_any-IsPermutation, IsPermutation-reverse, Used, Name16, same_name, order_without, order_touched, has_name, is_in_part, used_in, part_of, by_name, IsFree, EndsFree, ends_free, IsTied, IsSlotOf, WritesName}
+use Rattle.cache_reclaim.proofs.Imports.{◌≡◌, ◌≢◌, ℕ, suc, ◌-◌, ◌<◌, Bool, true, false, not, nat_eq, cond, List, [], ◌∷◌, ◌++◌, reverse, length, filter, get_or, Option, Some, None, IsSome, Result, Ok, Err, OnOk, IsOk, is_some, refl, sym, ap, ◌∙◌, subst, arith, IsDistinct, cons_option, filter_map, keys_of, lookup, lookup_entry, remove_entry, nat_eq_equiv, false≢true, eqb-true, eq-eqb, reverse-append, length-append, length-reverse, take_all, filter_map-append, filter-append, NonePasses, lookup-remove_entry, lookup-none, none_past_head, lookup_from_place, slice_get-get_or, LruCache, lru_cache, put_entries, last_entry, AllocFailed, list_any-IsPermutation, IsPermutation-reverse, Used, Name16, same_name, order_without, order_touched, has_name, is_in_part, used_in, part_of, by_name, IsFree, EndsFree, ends_free, IsTied, IsSlotOf, WritesName}
 use Rattle.std.specs.List.{slice_get}
 use Rattle.std.proofs.lemmas.List.{append_assoc, append-nil}
 use Rattle.cache_reclaim.proofs.NameKeys.{same_name-eq, same_name-from, same_name-sym, same_name-ne}

@@ -1,5 +1,5 @@
 -- Two maps that agree, with one registration less or more.
-use Rattle.cache_regs.proofs.Names.{◌≡◌, ℕ, Bool, true, false, not, ◌&&◌, cond, List, [], ◌∷◌, Option, Some, None, is_some, option_map, IfSome, find, refl, sym, ap, ◌∙◌, subst, list_any, list_all, IsDistinct, keys_of, lookup, and_parts, false≢true, Name16, ConnId, insertion, pairwise, find-insertion_past, find-insertion_here, all_from_none, all_found, any_is_found, found_passes, pairwise-insertion, Registration, is_at, is_for, index_for, stands, stands_before, place_eq, named_eq, at_place, at_name, regs_in, WritesPlace, WritesName, IsAgreed, IsAloneFor}
+use Rattle.cache_regs.proofs.Imports.{◌≡◌, ℕ, Bool, true, false, not, ◌&&◌, cond, List, [], ◌∷◌, Option, Some, None, is_some, option_map, IfSome, find, refl, sym, ap, ◌∙◌, subst, list_any, list_all, IsDistinct, keys_of, lookup, and_parts, false≢true, Name16, ConnId, insertion, pairwise, find-insertion_past, find-insertion_here, all_from_none, all_found, any_is_found, found_passes, pairwise-insertion, Registration, is_at, is_for, index_for, stands, stands_before, place_eq, named_eq, at_place, at_name, regs_in, WritesPlace, WritesName, IsAgreed, IsAloneFor}
 use Rattle.cache_regs.proofs.RegLaws.{finds_place, places_apart}
 use Rattle.cache_regs.proofs.MapLaws.{place_laws, named_laws, same_place, same_named, registration, same_regs, find_in, ordered_in, none_found, same_filter}
 

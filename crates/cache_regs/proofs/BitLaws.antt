@@ -1,5 +1,5 @@
 -- The bits that change when registrations come and end.
-use Rattle.cache_regs.proofs.Names.{◌≡◌, ℕ, Bool, true, false, not, ◌&&◌, ◌||◌, ◌==◌, List, [], ◌∷◌, ◌++◌, filter, append-nil, refl, sym, ap, ◌∙◌, subst₂, inl, inr, ◌⊎◌, arith, list_any, and_parts, false≢true, eqb-true, eq-eqb, nat_tests, any-filter_same, Name16, ConnId, BitChange, Gains, Falls, gains_none, gains_one, gains_then, any-filter, list_any-insertion, list_any-insertion_kept, Registration, is_of, is_at, is_for, is_replaced, regs_with, stands, stands_before, with_reg, set_changes}
+use Rattle.cache_regs.proofs.Imports.{◌≡◌, ℕ, Bool, true, false, not, ◌&&◌, ◌||◌, ◌==◌, List, [], ◌∷◌, ◌++◌, filter, append-nil, refl, sym, ap, ◌∙◌, subst₂, inl, inr, ◌⊎◌, arith, list_any, and_parts, false≢true, eqb-true, eq-eqb, nat_tests, any-filter_same, Name16, ConnId, BitChange, Gains, Falls, gains_none, gains_one, gains_then, any-filter, list_any-insertion, list_any-insertion_kept, Registration, is_of, is_at, is_for, is_replaced, regs_with, stands, stands_before, with_reg, set_changes}
 
 -- ---- one registration goes or comes
 

@@ -1,5 +1,5 @@
 -- Ends of registrations, one after another.
-use Rattle.cache_regs.proofs.Names.{◌≡◌, ℕ, ◌+◌, ◌≤◌, ◌<◌, Bool, true, false, not, ◌&&◌, ◌||◌, ◌==◌, nat_lt, cond, List, [], ◌∷◌, ◌++◌, Option, Some, None, is_some, option_map, find, length, filter, refl, sym, ap, ◌∙◌, subst, arith, list_any, list_all, and_parts, false≢true, nat_tests, filter_agree, length-filter_both, BitChange, Name16, ConnId, same_name, Falls, gains_none, gains_falls, filter-filter, filter_swap, filter_absorbed, filter_all, all_from_none, none_from_all, list_all_weaker, list_all_both, any_is_found, list_all-filter, list_all-filter_same, length-filter-le, Registration, is_of, is_at, is_for, index_for, ends_with_name, stands, is_elsewhere, is_below, spares, ends_of, ends_below, FitsEnds, HasEnded, IsAloneFor}
+use Rattle.cache_regs.proofs.Imports.{◌≡◌, ℕ, ◌+◌, ◌≤◌, ◌<◌, Bool, true, false, not, ◌&&◌, ◌||◌, ◌==◌, nat_lt, cond, List, [], ◌∷◌, ◌++◌, Option, Some, None, is_some, option_map, find, length, filter, refl, sym, ap, ◌∙◌, subst, arith, list_any, list_all, and_parts, false≢true, nat_tests, filter_agree, length-filter_both, BitChange, Name16, ConnId, same_name, Falls, gains_none, gains_falls, filter-filter, filter_swap, filter_absorbed, filter_all, all_from_none, none_from_all, list_all_weaker, list_all_both, any_is_found, list_all-filter, list_all-filter_same, length-filter-le, Registration, is_of, is_at, is_for, index_for, ends_with_name, stands, is_elsewhere, is_below, spares, ends_of, ends_below, FitsEnds, HasEnded, IsAloneFor}
 use Rattle.cache_regs.proofs.BitLaws.{falls_filter, gains_taken}
 
 -- ---- filters

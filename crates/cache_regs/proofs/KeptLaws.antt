@@ -1,5 +1,5 @@
 -- What is true of each registration stays so.
-use Rattle.cache_regs.proofs.Names.{◌≡◌, ℕ, Bool, true, not, List, filter, ◌∙◌, list_all, and_from, Name16, ConnId, list_all-filter, list_all-insertion, Registration, is_replaced, regs_with, stands_before}
+use Rattle.cache_regs.proofs.Imports.{◌≡◌, ℕ, Bool, true, not, List, filter, ◌∙◌, list_all, and_from, Name16, ConnId, list_all-filter, list_all-insertion, Registration, is_replaced, regs_with, stands_before}
 
 -- where it is true of the new one
 pub all_with : (p : Registration → Bool) (conn : ConnId) (index : ℕ) (name : Name16) (regs : List Registration)

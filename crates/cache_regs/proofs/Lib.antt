@@ -1,4 +1,4 @@
-pub mod Names
+pub mod Imports
 pub mod NameLaws
 pub mod RegLaws
 pub mod BitLaws

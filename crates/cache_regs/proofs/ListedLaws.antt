@@ -1,5 +1,5 @@
 -- Registrations, listed by index and counted by connector.
-use Rattle.cache_regs.proofs.Names.{◌≡◌, ℕ, ◌+◌, Bool, true, false, not, ◌&&◌, ◌||◌, ◌==◌, nat_lt, cond, List, [], ◌∷◌, ◌++◌, Option, Some, None, is_some, option_map, length, filter, find, map, append-nil, refl, sym, ap, ◌∙◌, arith, list_any, list_all, and_parts, nat_tests, filter_agree, length-filter_both, Name16, ConnId, pairwise, filter-filter, filter_none, filter_nothing, none_from_all, list_all_weaker, all_from_none, any_is_found, Registration, is_of, is_at, is_for, registered_at, stands_before, names_apart, ends_with_name, named_at, is_below, ends_of, ends_below, spares}
+use Rattle.cache_regs.proofs.Imports.{◌≡◌, ℕ, ◌+◌, Bool, true, false, not, ◌&&◌, ◌||◌, ◌==◌, nat_lt, cond, List, [], ◌∷◌, ◌++◌, Option, Some, None, is_some, option_map, length, filter, find, map, append-nil, refl, sym, ap, ◌∙◌, arith, list_any, list_all, and_parts, nat_tests, filter_agree, length-filter_both, Name16, ConnId, pairwise, filter-filter, filter_none, filter_nothing, none_from_all, list_all_weaker, all_from_none, any_is_found, Registration, is_of, is_at, is_for, registered_at, stands_before, names_apart, ends_with_name, named_at, is_below, ends_of, ends_below, spares}
 use Rattle.cache_regs.proofs.RegLaws.{one_for_name}
 use Rattle.cache_regs.proofs.EndLaws.{filter_within, any_counted, of_spare, name_first, below_first}
 

@@ -1,5 +1,5 @@
 -- The entries of a map by connector and index, in order.
-use Rattle.cache_regs.proofs.Names.{◌≡◌, ℕ, zero, suc, ◌+◌, Bool, true, false, not, ◌&&◌, ◌||◌, cond, nat_lt, nat_eq, ◌==◌, List, [], ◌∷◌, Option, Some, None, is_some, option_map, length, slice_get, filter, find, refl, sym, ap, ◌∙◌, subst, arith, list_any, list_all, IsDistinct, keys_of, lookup, IsEquivalence, nat_eq_equiv, and_equiv, on_equiv, nat_list_eq_equiv, pointwise, bytes_decides, and_parts, and_from, eqb-true, eq-eqb, nat_tests, lookup-none, none_past_head, option_filter, Name16, ConnId, pairwise, length-insertion, find-insertion_past, find-insertion_here, any_is_found, all_from_none, find_none, none_from_all, list_all_weaker, pairwise-filter, pairwise-insertion, Registration, is_at, registered_at, stands, stands_before, place_eq, named_eq, at_place, reg_of, regs_in, WritesPlace, ordered_same}
+use Rattle.cache_regs.proofs.Imports.{◌≡◌, ℕ, zero, suc, ◌+◌, Bool, true, false, not, ◌&&◌, ◌||◌, cond, nat_lt, nat_eq, ◌==◌, List, [], ◌∷◌, Option, Some, None, is_some, option_map, length, slice_get, filter, find, refl, sym, ap, ◌∙◌, subst, arith, list_any, list_all, IsDistinct, keys_of, lookup, IsEquivalence, nat_eq_equiv, and_equiv, on_equiv, nat_list_eq_equiv, pointwise, bytes_decides, and_parts, and_from, eqb-true, eq-eqb, nat_tests, lookup-none, none_past_head, option_filter, Name16, ConnId, pairwise, length-insertion, find-insertion_past, find-insertion_here, any_is_found, all_from_none, find_none, none_from_all, list_all_weaker, pairwise-filter, pairwise-insertion, Registration, is_at, registered_at, stands, stands_before, place_eq, named_eq, at_place, reg_of, regs_in, WritesPlace, ordered_same}
 use Rattle.cache_regs.proofs.RegLaws.{finds_place, places_apart}
 
 pub place_laws : IsEquivalence place_eq

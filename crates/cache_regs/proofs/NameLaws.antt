@@ -1,5 +1,5 @@
 -- Names: equality and order.
-use Rattle.cache_regs.proofs.Names.{◌≡◌, ℕ, Bool, true, false, List, Ordering, refl, sym, ap, ◌∙◌, subst, nat_cmp, is_lt, is_eq, ordering_reverse, Less, Equal, Greater, bytes_decides, slice_cmp, texts_ties, nat_list_cmp_total, false≢true, Name16, same_name, name_before}
+use Rattle.cache_regs.proofs.Imports.{◌≡◌, ℕ, Bool, true, false, List, Ordering, refl, sym, ap, ◌∙◌, subst, nat_cmp, is_lt, is_eq, ordering_reverse, Less, Equal, Greater, bytes_decides, slice_cmp, texts_ties, nat_list_cmp_total, false≢true, Name16, same_name, name_before}
 
 -- names with the same bytes are the same
 pub same_name-eq : (a b : Name16) → same_name a b ≡ true → a ≡ b

@@ -1,5 +1,5 @@
 -- Registrations stay in order, with one for an index and one for a name.
-use Rattle.cache_regs.proofs.Names.{◌≡◌, ℕ, ◌≤◌, Bool, true, false, not, ◌&&◌, ◌||◌, ◌==◌, nat_lt, cond, List, [], ◌∷◌, length, filter, refl, ◌∙◌, subst₂, arith, list_all, and_parts, false≢true, eqb-true, nat_tests, filter_agree, Name16, ConnId, same_name, pairwise, filter-filter, filter_none, length-filter-le, none_from_all, list_all_weaker, list_all-filter_same, FindsPlace, pairwise-filter, pairwise-insertion, pairwise-insertion_any, Registration, is_of, is_at, is_for, is_replaced, regs_with, stands_before, names_apart, IsRegistry}
+use Rattle.cache_regs.proofs.Imports.{◌≡◌, ℕ, ◌≤◌, Bool, true, false, not, ◌&&◌, ◌||◌, ◌==◌, nat_lt, cond, List, [], ◌∷◌, length, filter, refl, ◌∙◌, subst₂, arith, list_all, and_parts, false≢true, eqb-true, nat_tests, filter_agree, Name16, ConnId, same_name, pairwise, filter-filter, filter_none, length-filter-le, none_from_all, list_all_weaker, list_all-filter_same, FindsPlace, pairwise-filter, pairwise-insertion, pairwise-insertion_any, Registration, is_of, is_at, is_for, is_replaced, regs_with, stands_before, names_apart, IsRegistry}
 use Rattle.cache_regs.proofs.NameLaws.{same_name-eq, same_name-sym}
 
 -- ---- the order

@@ -1,5 +1,5 @@
 -- What commands do to the row of a name, and the rows that they end for it.
-use Rattle.cache_rows.proofs.Names.{◌≡◌, ℕ, ◌+◌, ◌≤◌, Bool, true, false, not, ◌&&◌, ◌||◌, List, [], ◌∷◌, Option, Some, None, unwrap_or, length, drop, get_or, refl, sym, ap, ◌∙◌, subst, arith, or_left, false≢true, drop_more, drop_all, filter_agree, Name16, same_name, filter-filter, filter_all, find-filter, find_none, list_all_always, same_name-eq, CacheItem, is_row_of, row_of, has_row, rows_without, rows_with, rows_replaced, new_row, row_or_new, is_among, rows_spared, row_with, without-absent, Label, label_of, label_written, item_with, body_of, relabeled, rows_but}
+use Rattle.cache_rows.proofs.Imports.{◌≡◌, ℕ, ◌+◌, ◌≤◌, Bool, true, false, not, ◌&&◌, ◌||◌, List, [], ◌∷◌, Option, Some, None, unwrap_or, length, drop, get_or, refl, sym, ap, ◌∙◌, subst, arith, or_left, false≢true, drop_more, drop_all, filter_agree, Name16, same_name, filter-filter, filter_all, find-filter, find_none, list_all_always, same_name-eq, CacheItem, is_row_of, row_of, has_row, rows_without, rows_with, rows_replaced, new_row, row_or_new, is_among, rows_spared, row_with, without-absent, Label, label_of, label_written, item_with, body_of, relabeled, rows_but}
 
 -- ---- rows that go, but for one
 

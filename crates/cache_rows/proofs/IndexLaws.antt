@@ -1,5 +1,5 @@
 -- The indexes stay those of the rows.
-use Rattle.cache_rows.proofs.Names.{◌≡◌, ℕ, ◌≤◌, Bool, true, false, not, ◌&&◌, ◌||◌, cond, List, [], ◌∷◌, ◌++◌, append-nil, Option, Some, None, is_some, unwrap_or, filter, map, refl, sym, ap, ◌∙◌, arith, list_all, and_parts, or_left, or_right, false≢true, map-append, filter-append, Name16, ConnId, same_name, name_before, pairwise, insertion, filter_swap, filter_none, none_from_all, list_all_weaker, list_all_always, filter-insertion_out, FindsPlace, pairwise-insertion, pairwise_push, Changed, names_without, names_with, names_set, room_taken, Used, order_without, order_touched, same_name-refl, CacheItem, is_row_of, is_changed, has_row, rows_without, stands_before, rows_with, may_precede, names_apart, without_hold, without-absent, alone-next, is_unchanged, changed_of, classes_of, used_of, order_of, order_with, changed_first}
+use Rattle.cache_rows.proofs.Imports.{◌≡◌, ℕ, ◌≤◌, Bool, true, false, not, ◌&&◌, ◌||◌, cond, List, [], ◌∷◌, ◌++◌, append-nil, Option, Some, None, is_some, unwrap_or, filter, map, refl, sym, ap, ◌∙◌, arith, list_all, and_parts, or_left, or_right, false≢true, map-append, filter-append, Name16, ConnId, same_name, name_before, pairwise, insertion, filter_swap, filter_none, none_from_all, list_all_weaker, list_all_always, filter-insertion_out, FindsPlace, pairwise-insertion, pairwise_push, Changed, names_without, names_with, names_set, room_taken, Used, order_without, order_touched, same_name-refl, CacheItem, is_row_of, is_changed, has_row, rows_without, stands_before, rows_with, may_precede, names_apart, without_hold, without-absent, alone-next, is_unchanged, changed_of, classes_of, used_of, order_of, order_with, changed_first}
 use Rattle.cache_classes.specs.Castout as castout
 use Rattle.cache_reclaim.specs.LastUse as last_use
 

@@ -1,5 +1,5 @@
 -- A map from names and two indexes hold one list of rows, as rows come and go.
-use Rattle.cache_rows.proofs.Names.{◌≡◌, ℕ, zero, suc, ◌+◌, ◌-◌, ◌≤◌, ◌<◌, Bool, true, false, not, ◌&&◌, cond, List, [], ◌∷◌, ◌++◌, Option, Some, None, option_map, option_to_list, slice_get, is_some, unwrap_or, length, length-append, filter, find, map, drop, refl, sym, ap, ◌∙◌, subst, arith, option_or, list_all, and_parts, map-append, length-map, drop_all, filter-append, find-append, slice_get-map, Name16, ConnId, same_name, pairwise, insertion, filter-filter, filter_swap, find-filter, find_none, any_is_found, length-filter-le, find-insertion_past, find-insertion_here, found_filter, pairwise-filter, pairwise-map, Changed, names_without, names_set, Writes, Used, order_without, slice_get-front, slice_get-behind, same_name-eq, same_name-refl, same_name-sym, CacheItem, is_row_of, is_changed, row_of, has_row, rows_without, stands_before, rows_with, rows_replaced, new_row, names_apart, has_storage, without_hold, name_of, apart-with, alone-without, is_unchanged, changed_of, used_of, order_with, changed_first, Label, item_with, body_of, row_or, changed_in, unchanged_in, rows_in, IsIndexed, counts_at, relabeled}
+use Rattle.cache_rows.proofs.Imports.{◌≡◌, ℕ, zero, suc, ◌+◌, ◌-◌, ◌≤◌, ◌<◌, Bool, true, false, not, ◌&&◌, cond, List, [], ◌∷◌, ◌++◌, Option, Some, None, option_map, option_to_list, slice_get, is_some, unwrap_or, length, length-append, filter, find, map, drop, refl, sym, ap, ◌∙◌, subst, arith, option_or, list_all, and_parts, map-append, length-map, drop_all, filter-append, find-append, slice_get-map, Name16, ConnId, same_name, pairwise, insertion, filter-filter, filter_swap, find-filter, find_none, any_is_found, length-filter-le, find-insertion_past, find-insertion_here, found_filter, pairwise-filter, pairwise-map, Changed, names_without, names_set, Writes, Used, order_without, slice_get-front, slice_get-behind, same_name-eq, same_name-refl, same_name-sym, CacheItem, is_row_of, is_changed, row_of, has_row, rows_without, stands_before, rows_with, rows_replaced, new_row, names_apart, has_storage, without_hold, name_of, apart-with, alone-without, is_unchanged, changed_of, used_of, order_with, changed_first, Label, item_with, body_of, row_or, changed_in, unchanged_in, rows_in, IsIndexed, counts_at, relabeled}
 use Rattle.cache_classes.specs.Castout as castout
 use Rattle.cache_reclaim.specs.LastUse as last_use
 use Rattle.cache_rows.proofs.IndexLaws.{filter-map, map_same, unchanged_behind, classes-without, order-without, classes-put, order-put, front-put, classes-released, order-released}

@@ -1,5 +1,5 @@
 pub use Rattle.cache_regs.proofs as CacheRegs
-pub mod Names
+pub mod Imports
 pub mod IndexLaws
 pub mod StoreLaws
 pub mod LookupLaws

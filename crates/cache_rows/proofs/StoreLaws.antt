@@ -1,5 +1,5 @@
 -- Rows whose data lie in a pool, as they come and go.
-use Rattle.cache_rows.proofs.Names.{◌≡◌, ℕ, Bool, true, false, cond, nat_eq, List, [], ◌∷◌, set, get_or, slice_get, Option, Some, None, option_map, refl, sym, ap, ◌∙◌, subst, get_or-set_other, pointwise, false≢true, get_or_from_slice_get, Name16, ConnId, same_name, Chain, get-set_other, same_name-eq, DirRow, row_at, let_go, Writes, CacheItem, without_hold, Label, item_with, row_of_label, body_of, body_in, item_in, entries_in, item_at, chains_without, HasBytes, HasData, chain_of, head_of, AreStored}
+use Rattle.cache_rows.proofs.Imports.{◌≡◌, ℕ, Bool, true, false, cond, nat_eq, List, [], ◌∷◌, set, get_or, slice_get, Option, Some, None, option_map, refl, sym, ap, ◌∙◌, subst, get_or-set_other, pointwise, false≢true, get_or_from_slice_get, Name16, ConnId, same_name, Chain, get-set_other, same_name-eq, DirRow, row_at, let_go, Writes, CacheItem, without_hold, Label, item_with, row_of_label, body_of, body_in, item_in, entries_in, item_at, chains_without, HasBytes, HasData, chain_of, head_of, AreStored}
 
 abbrev Chains : Type 0
 Chains = List (Option (List ℕ))

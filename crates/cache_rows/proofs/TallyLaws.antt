@@ -1,5 +1,5 @@
 -- What is counted of rows, as rows come and go.
-use Rattle.cache_rows.proofs.Names.{◌≡◌, ℕ, ◌+◌, ◌*◌, ◌≤◌, ◌<◌, Bool, true, false, not, ◌&&◌, cond, List, [], ◌∷◌, ◌++◌, Option, Some, None, is_some, is_none, length, length-append, filter, map, sum_by, refl, sym, ap, ◌∙◌, subst, arith, list_all, and_parts, and_from, leb-true, length-map, list_all-append, list_all-map, fold-map, sum_by-cons, sum_by_push, Name16, ConnId, same_name, pairwise, insertion, any_is_found, list_all-filter, filter-filter, filter_swap, length-insertion, sum_by-insertion, list_all-insertion, sum_by_without, length_without, same_name-eq, same_name-refl, CacheItem, is_row_of, is_changed, elements_of, elements_in, row_of, has_row, rows_without, stands_before, rows_with, names_apart, is_reclaimable, without_hold, name_of, size, without-absent, Tally, is_unchanged, one_unchanged, elements_unchanged, is_small, tally_of, tally_with, IsTally, CanGrow, CanShrink}
+use Rattle.cache_rows.proofs.Imports.{◌≡◌, ℕ, ◌+◌, ◌*◌, ◌≤◌, ◌<◌, Bool, true, false, not, ◌&&◌, cond, List, [], ◌∷◌, ◌++◌, Option, Some, None, is_some, is_none, length, length-append, filter, map, sum_by, refl, sym, ap, ◌∙◌, subst, arith, list_all, and_parts, and_from, leb-true, length-map, list_all-append, list_all-map, fold-map, sum_by-cons, sum_by_push, Name16, ConnId, same_name, pairwise, insertion, any_is_found, list_all-filter, filter-filter, filter_swap, length-insertion, sum_by-insertion, list_all-insertion, sum_by_without, length_without, same_name-eq, same_name-refl, CacheItem, is_row_of, is_changed, elements_of, elements_in, row_of, has_row, rows_without, stands_before, rows_with, names_apart, is_reclaimable, without_hold, name_of, size, without-absent, Tally, is_unchanged, one_unchanged, elements_unchanged, is_small, tally_of, tally_with, IsTally, CanGrow, CanShrink}
 
 -- ---- sums of a row more, and of a row less
 

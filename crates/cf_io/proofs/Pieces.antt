@@ -1,5 +1,5 @@
 -- Bytes that go piece by piece.
-use Rattle.cf_io.proofs.Names.{◌≡◌, ℕ, ◌+◌, ◌≤◌, Option, List, ◌++◌, length, take, drop, sym, ap, ◌∙◌, subst, arith, length-append, length-take, take_at, drop-drop, length-take-le, take-append-drop, take-add, Appends, Appends-trans}
+use Rattle.cf_io.proofs.Imports.{◌≡◌, ℕ, ◌+◌, ◌≤◌, Option, List, ◌++◌, length, take, drop, sym, ap, ◌∙◌, subst, arith, length-append, length-take, take_at, drop-drop, length-take-le, take-append-drop, take-add, Appends, Appends-trans}
 
 -- what took the first m bytes of a text, and then the first n of the rest, took the first m + n
 pub Appends-more : (a b c : Option (List ℕ)) (text rest : List ℕ) (m n : ℕ) → rest ≡ drop m text

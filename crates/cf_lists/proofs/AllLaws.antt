@@ -1,5 +1,5 @@
 -- Lists of lists: all records, one list replaced, the last record gone.
-use Rattle.cf_lists.proofs.Names.{◌≡◌, ℕ, ◌+◌, ◌-◌, ◌<◌, Bool, true, false, not, ◌&&◌, ◌||◌, nat_lt, cond, List, [], ◌∷◌, ◌++◌, length, map, filter, get_or, take, drop, set, position, Option, Some, None, is_some, refl, sym, ap, ◌∙◌, arith, suc, zero, list_any, list_all, position_or_len, option_or, and_parts, and_from, false≢true, append_assoc, map-append, length-map, length-append, nil_from_length, take_all, list_any-append, list_all-append, filter-append, pairwise, records_of, all_records, IsLastFull}
+use Rattle.cf_lists.proofs.Imports.{◌≡◌, ℕ, ◌+◌, ◌-◌, ◌<◌, Bool, true, false, not, ◌&&◌, ◌||◌, nat_lt, cond, List, [], ◌∷◌, ◌++◌, length, map, filter, get_or, take, drop, set, position, Option, Some, None, is_some, refl, sym, ap, ◌∙◌, arith, suc, zero, list_any, list_all, position_or_len, option_or, and_parts, and_from, false≢true, append_assoc, map-append, length-map, length-append, nil_from_length, take_all, list_any-append, list_all-append, filter-append, pairwise, records_of, all_records, IsLastFull}
 use Rattle.cf_lists.proofs.FilterLaws.{none_from_all, list_all_weaker}
 
 module _ {X : Type 0} where

@@ -1,5 +1,5 @@
 -- What is kept in table entries is seen in order, and a change of one entry is a change of what is seen.
-use Rattle.cf_lists.proofs.Names.{◌≡◌, ◌≢◌, ℕ, zero, suc, ◌<◌, ◌==◌, Bool, true, false, not, cond, List, [], ◌∷◌, ◌++◌, filter, length, get_or, set, refl, sym, ap, ◌∙◌, subst, arith, list_all, eqb-true, eq-eqb, not-true, false≢true, append-nil, get_or-set_same, get_or-set_other, filter-append, insertion, pairwise, is_keyed, in_turn, arranged, joined, AreAtHome, IsKeyOrder}
+use Rattle.cf_lists.proofs.Imports.{◌≡◌, ◌≢◌, ℕ, zero, suc, ◌<◌, ◌==◌, Bool, true, false, not, cond, List, [], ◌∷◌, ◌++◌, filter, length, get_or, set, refl, sym, ap, ◌∙◌, subst, arith, list_all, eqb-true, eq-eqb, not-true, false≢true, append-nil, get_or-set_same, get_or-set_other, filter-append, insertion, pairwise, is_keyed, in_turn, arranged, joined, AreAtHome, IsKeyOrder}
 use Rattle.cf_lists.proofs.FilterLaws.{filter_none, none_from_all, list_all_weaker, list_all_always}
 use Rattle.cf_lists.proofs.PairwiseLaws.{FindsPlace, pairwise-insertion}
 use Rattle.cf_lists.proofs.InsertionLaws.{filter-insertion_out}

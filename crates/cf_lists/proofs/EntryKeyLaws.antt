@@ -1,5 +1,5 @@
 -- Resources in order.
-use Rattle.cf_lists.proofs.Names.{◌≡◌, Bool, true, false, not, refl, sym, ap, ◌∙◌, Ordering, Less, Equal, Greater, is_lt, is_eq, ordering_reverse, not-true, not_from_false, false≢true, Resource, same_resource, resource_cmp, resource_before, resource_up_to, same_resource-eq, same_resource-refl, resource_cmp_total, resource_up_to-trans, resource_up_to-either, same_resource-is, IsKeyOrder}
+use Rattle.cf_lists.proofs.Imports.{◌≡◌, Bool, true, false, not, refl, sym, ap, ◌∙◌, Ordering, Less, Equal, Greater, is_lt, is_eq, ordering_reverse, not-true, not_from_false, false≢true, Resource, same_resource, resource_cmp, resource_before, resource_up_to, same_resource-eq, same_resource-refl, resource_cmp_total, resource_up_to-trans, resource_up_to-either, same_resource-is, IsKeyOrder}
 
 equal_from : (o : Ordering) → is_lt o ≡ false → is_lt (ordering_reverse o) ≡ false → is_eq o ≡ true
 equal_from Less h e = absurd (false≢true (sym h))

@@ -1,5 +1,5 @@
 -- Filters of a list with one more element in its place.
-use Rattle.cf_lists.proofs.Names.{◌≡◌, Bool, true, false, not, cond, List, [], ◌∷◌, ◌++◌, filter, refl, sym, ap, list_all, and_parts, false≢true, insertion, pairwise}
+use Rattle.cf_lists.proofs.Imports.{◌≡◌, Bool, true, false, not, cond, List, [], ◌∷◌, ◌++◌, filter, refl, sym, ap, list_all, and_parts, false≢true, insertion, pairwise}
 use Rattle.cf_lists.proofs.FilterLaws.{filter_none, none_from_all, list_all_weaker}
 
 in_step : {X : Type 0} (p b : X → Bool) (s t : Bool) (x y : X) (ys : List X) → b y ≡ s → p y ≡ t → p x ≡ true

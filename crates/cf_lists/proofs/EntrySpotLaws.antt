@@ -1,5 +1,5 @@
 -- The place of the one element that has a key.
-use Rattle.cf_lists.proofs.Names.{◌≡◌, ℕ, suc, ◌+◌, Bool, true, false, not, cond, List, [], ◌∷◌, Some, None, map, filter, position, get_or, set, length, nat_lt, is_some, refl, sym, ap, ◌∙◌, subst, arith, list_any, list_all, position_or_len, and_parts, false≢true, pairwise}
+use Rattle.cf_lists.proofs.Imports.{◌≡◌, ℕ, suc, ◌+◌, Bool, true, false, not, cond, List, [], ◌∷◌, Some, None, map, filter, position, get_or, set, length, nat_lt, is_some, refl, sym, ap, ◌∙◌, subst, arith, list_any, list_all, position_or_len, and_parts, false≢true, pairwise}
 use Rattle.cf_lists.proofs.FilterLaws.{all_from_none, any_is_found, find-filter}
 use Rattle.cf_lists.proofs.KeyLaws.{any_is_placed, none_later, later_apart}
 

@@ -1,5 +1,5 @@
 -- Table entries: what is seen of a resource lies in its entry, and a change of that entry is a change of what is seen.
-use Rattle.cf_lists.proofs.Names.{◌≡◌, ◌≢◌, ℕ, zero, suc, ◌-◌, ◌<◌, ◌≤◌, ◌==◌, Bool, true, false, not, ◌&&◌, List, [], ◌∷◌, ◌++◌, Option, Some, None, filter, find, map, length, get_or, set, slice_get, option_map, replicate, position, is_some, ◌+◌, refl, sym, ap, ◌∙◌, subst, list_any, list_all, prefix_len, remove, and_parts, and_from, eqb-true, eq-eqb, not-true, false≢true, length-replicate, length-set, get_or_default, Resource, Part, same_part, same_resource, resource_before, resource_up_to, same_resource-eq, same_resource-refl, same_part-eq, same_part-refl, same_part_comm, insertion, pairwise, in_turn, arranged, joined, AreAtHome, resource_by, is_on, is_part, are_apart, slot_in, seen_in, IsTable}
+use Rattle.cf_lists.proofs.Imports.{◌≡◌, ◌≢◌, ℕ, zero, suc, ◌-◌, ◌<◌, ◌≤◌, ◌==◌, Bool, true, false, not, ◌&&◌, List, [], ◌∷◌, ◌++◌, Option, Some, None, filter, find, map, length, get_or, set, slice_get, option_map, replicate, position, is_some, ◌+◌, refl, sym, ap, ◌∙◌, subst, list_any, list_all, prefix_len, remove, and_parts, and_from, eqb-true, eq-eqb, not-true, false≢true, length-replicate, length-set, get_or_default, Resource, Part, same_part, same_resource, resource_before, resource_up_to, same_resource-eq, same_resource-refl, same_part-eq, same_part-refl, same_part_comm, insertion, pairwise, in_turn, arranged, joined, AreAtHome, resource_by, is_on, is_part, are_apart, slot_in, seen_in, IsTable}
 use Rattle.cf_lists.proofs.FilterLaws.{list_all_weaker, list_all_always, list_all-filter, all_from_none, filter_all, find-filter, filter_swap, filter_absorbed, any_is_found}
 use Rattle.cf_lists.proofs.KeyLaws.{remove_placed, length_without}
 use Rattle.cf_lists.proofs.PairwiseLaws.{pairwise-filter, pairwise-insertion_any, pairwise-map}

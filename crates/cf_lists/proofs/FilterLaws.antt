@@ -1,5 +1,5 @@
 -- Filters, and what holds of all elements, of some, or of the first that passes.
-use Rattle.cf_lists.proofs.Names.{◌≡◌, ℕ, ◌≤◌, Bool, true, false, not, ◌&&◌, ◌||◌, cond, List, [], ◌∷◌, Option, Some, None, length, filter, find, sum_by, is_some, map, refl, sym, ap, ◌∙◌, subst, arith, list_any, list_all, and_parts, and_from, or_right, false≢true, filter_agree, length-filter_both, sum_by-filter_both}
+use Rattle.cf_lists.proofs.Imports.{◌≡◌, ℕ, ◌≤◌, Bool, true, false, not, ◌&&◌, ◌||◌, cond, List, [], ◌∷◌, Option, Some, None, length, filter, find, sum_by, is_some, map, refl, sym, ap, ◌∙◌, subst, arith, list_any, list_all, and_parts, and_from, or_right, false≢true, filter_agree, length-filter_both, sum_by-filter_both}
 
 -- ---- two filters
 

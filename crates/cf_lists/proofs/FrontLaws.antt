@@ -1,5 +1,5 @@
 -- The records up to one of them, and with that one.
-use Rattle.cf_lists.proofs.Names.{◌≡◌, ℕ, zero, suc, ◌+◌, ◌<◌, ◌≤◌, ◌||◌, not, Bool, true, false, List, [], ◌∷◌, ◌++◌, length, take, drop, set, replicate, slice_get, Some, refl, sym, ap, ◌∙◌, subst, arith, list_any, false≢true, eq-eqb, append_assoc, take_all, length-replicate, list_any-append, pairwise, all_records, records_of, is_id, ids_apart, front, emptied}
+use Rattle.cf_lists.proofs.Imports.{◌≡◌, ℕ, zero, suc, ◌+◌, ◌<◌, ◌≤◌, ◌||◌, not, Bool, true, false, List, [], ◌∷◌, ◌++◌, length, take, drop, set, replicate, slice_get, Some, refl, sym, ap, ◌∙◌, subst, arith, list_any, false≢true, eq-eqb, append_assoc, take_all, length-replicate, list_any-append, pairwise, all_records, records_of, is_id, ids_apart, front, emptied}
 use Rattle.cf_lists.proofs.TakeLaws.{take_next, split_next}
 use Rattle.cf_lists.proofs.AllLaws.{none_behind, any_all, pairwise_back}
 use Rattle.cf_lists.proofs.IdLaws.{once}

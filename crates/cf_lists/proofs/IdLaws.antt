@@ -1,5 +1,5 @@
 -- Lists of records with ids: one with an id is in one place at most.
-use Rattle.cf_lists.proofs.Names.{◌≡◌, ℕ, ◌+◌, ◌<◌, ◌≤◌, Bool, true, false, not, ◌&&◌, ◌||◌, ◌==◌, nat_lt, if◌then◌else◌, cond, List, [], ◌∷◌, ◌++◌, length, map, filter, find, take, drop, set, slice_get, position, Option, Some, refl, sym, ap, ◌∙◌, subst, arith, suc, list_any, list_all, position_or_len, insert, remove, option_or, and_parts, false≢true, eq-eqb, eqb-true, nat_tests, append_assoc, take-append-drop, find-append, find_at, pairwise, all_records, is_id, has_id, record_of, lists_without, lists_with, lists_replaced, replaced_by, ids_apart}
+use Rattle.cf_lists.proofs.Imports.{◌≡◌, ℕ, ◌+◌, ◌<◌, ◌≤◌, Bool, true, false, not, ◌&&◌, ◌||◌, ◌==◌, nat_lt, if◌then◌else◌, cond, List, [], ◌∷◌, ◌++◌, length, map, filter, find, take, drop, set, slice_get, position, Option, Some, refl, sym, ap, ◌∙◌, subst, arith, suc, list_any, list_all, position_or_len, insert, remove, option_or, and_parts, false≢true, eq-eqb, eqb-true, nat_tests, append_assoc, take-append-drop, find-append, find_at, pairwise, all_records, is_id, has_id, record_of, lists_without, lists_with, lists_replaced, replaced_by, ids_apart}
 use Rattle.cf_lists.proofs.FilterLaws.{any_is_found, find_none, none_filtered, list_all_weaker, filter_all, all_from_none}
 use Rattle.cf_lists.proofs.KeyLaws.{any_is_placed, remove_placed}
 use Rattle.cf_lists.proofs.PairwiseLaws.{pairwise_front, pairwise_weaker, pairwise-filter, pairwise-map}

@@ -1,5 +1,5 @@
 -- Maps of lists that are filtered, or have one more element in its place.
-use Rattle.cf_lists.proofs.Names.{◌≡◌, Bool, true, false, cond, List, [], ◌∷◌, filter, map, refl, sym, ap, ◌∙◌, insertion}
+use Rattle.cf_lists.proofs.Imports.{◌≡◌, Bool, true, false, cond, List, [], ◌∷◌, filter, map, refl, sym, ap, ◌∙◌, insertion}
 
 filtered_step : {Y : Type 0} (b : Bool) (x y : Y) (xs ys : List Y) → (b ≡ true → x ≡ y) → xs ≡ ys
     → cond b (x ∷ xs) xs ≡ cond b (y ∷ ys) ys

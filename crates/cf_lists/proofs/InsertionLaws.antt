@@ -1,5 +1,5 @@
 -- A list with one more element in its place.
-use Rattle.cf_lists.proofs.Names.{◌≡◌, ℕ, ◌+◌, Bool, true, false, ◌&&◌, ◌||◌, cond, List, [], ◌∷◌, Some, length, filter, find, sum_by, refl, sym, ap, ◌∙◌, arith, suc, list_any, list_all, prefix_len, insert, false≢true, or_right, sum_by-cons, insertion}
+use Rattle.cf_lists.proofs.Imports.{◌≡◌, ℕ, ◌+◌, Bool, true, false, ◌&&◌, ◌||◌, cond, List, [], ◌∷◌, Some, length, filter, find, sum_by, refl, sym, ap, ◌∙◌, arith, suc, list_any, list_all, prefix_len, insert, false≢true, or_right, sum_by-cons, insertion}
 
 insert_later : {X : Type 0} (x y : X) (xs : List X) (i : ℕ) → insert (y ∷ xs) (1 + i) x ≡ y ∷ insert xs i x
 insert_later x y xs i = let e : 1 + i ≡ suc i = omega arith in rw e refl

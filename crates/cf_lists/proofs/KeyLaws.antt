@@ -1,5 +1,5 @@
 -- Lists whose elements have keys of their own.
-use Rattle.cf_lists.proofs.Names.{◌≡◌, ℕ, ◌+◌, Bool, true, false, not, ◌&&◌, ◌||◌, cond, List, [], ◌∷◌, ◌++◌, map, Some, None, length, filter, find, sum_by, position, nat_lt, refl, sym, ap, ◌∙◌, subst, arith, suc, list_any, list_all, position_or_len, remove, and_parts, not-true, false≢true, lt-ltb, nat_tests, filter_agree, sum_by-cons, pairwise, shortest_prefix}
+use Rattle.cf_lists.proofs.Imports.{◌≡◌, ℕ, ◌+◌, Bool, true, false, not, ◌&&◌, ◌||◌, cond, List, [], ◌∷◌, ◌++◌, map, Some, None, length, filter, find, sum_by, position, nat_lt, refl, sym, ap, ◌∙◌, subst, arith, suc, list_any, list_all, position_or_len, remove, and_parts, not-true, false≢true, lt-ltb, nat_tests, filter_agree, sum_by-cons, pairwise, shortest_prefix}
 use Rattle.cf_lists.proofs.PairwiseLaws.{pairwise-filter}
 use Rattle.cf_lists.proofs.FilterLaws.{filter_all, filter-filter, find-filter, list_all-filter, list_all_always, none_from_all, all_from_none, list_all_weaker}
 

@@ -1,4 +1,4 @@
-pub mod Names
+pub mod Imports
 pub mod FilterLaws
 pub mod InsertionLaws
 pub mod PairwiseLaws

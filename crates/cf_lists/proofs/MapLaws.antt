@@ -1,5 +1,5 @@
 -- A map in place, an element at a time.
-use Rattle.cf_lists.proofs.Names.{◌≡◌, ℕ, ◌+◌, ◌<◌, List, ◌∷◌, [], ◌++◌, length, length-drop, take, drop, set, suc, drop-cons, map, get_or, sym, ap, ◌∙◌, arith, take_more, take_more_set, map-append, drop-set-lt}
+use Rattle.cf_lists.proofs.Imports.{◌≡◌, ℕ, ◌+◌, ◌<◌, List, ◌∷◌, [], ◌++◌, length, length-drop, take, drop, set, suc, drop-cons, map, get_or, sym, ap, ◌∙◌, arith, take_more, take_more_set, map-append, drop-set-lt}
 
 -- the elements so far are mapped, and the others stay
 pub mapped_more : {X : Type 0} (f : X → X) (xs ys : List X) (i : ℕ) (x y : X)

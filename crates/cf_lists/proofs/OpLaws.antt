@@ -1,5 +1,5 @@
 -- What an entry loses, gets or changes is lost, got or changed in what is seen.
-use Rattle.cf_lists.proofs.Names.{◌≡◌, ◌≢◌, ℕ, ◌<◌, ◌==◌, Bool, true, false, not, List, [], ◌∷◌, filter, map, length, get_or, set, refl, sym, ap, ◌∙◌, subst, list_all, and_parts, and_from, eq-eqb, not-true, false≢true, list_all-map, insertion, pairwise, is_keyed, in_turn, arranged, joined, AreAtHome, IsKeyOrder}
+use Rattle.cf_lists.proofs.Imports.{◌≡◌, ◌≢◌, ℕ, ◌<◌, ◌==◌, Bool, true, false, not, List, [], ◌∷◌, filter, map, length, get_or, set, refl, sym, ap, ◌∙◌, subst, list_all, and_parts, and_from, eq-eqb, not-true, false≢true, list_all-map, insertion, pairwise, is_keyed, in_turn, arranged, joined, AreAtHome, IsKeyOrder}
 use Rattle.cf_lists.proofs.FilterLaws.{list_all_weaker, list_all_always, list_all-filter, filter_swap, filter_absorbed, list_all-filter_same}
 use Rattle.cf_lists.proofs.ImageLaws.{map-filtered}
 use Rattle.cf_lists.proofs.PairwiseLaws.{FindsPlace, pairwise-insertion, pairwise-filter, pairwise-map}

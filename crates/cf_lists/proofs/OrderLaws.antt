@@ -1,5 +1,5 @@
 -- Lists in order by key are equal where they are found alike.
-use Rattle.cf_lists.proofs.Names.{◌≡◌, Bool, true, false, not, List, [], ◌∷◌, Some, None, find, refl, sym, ap, ◌∙◌, subst, list_all, and_parts, pairwise}
+use Rattle.cf_lists.proofs.Imports.{◌≡◌, Bool, true, false, not, List, [], ◌∷◌, Some, None, find, refl, sym, ap, ◌∙◌, subst, list_all, and_parts, pairwise}
 use Rattle.cf_lists.proofs.FilterLaws.{all_found, find_none, none_from_all, list_all_weaker}
 
 module _ {X K : Type 0} (key : X → K) (same : K → K → Bool) (before : X → X → Bool)

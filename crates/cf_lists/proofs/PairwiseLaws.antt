@@ -1,5 +1,5 @@
 -- What holds between each element of a list and each later one.
-use Rattle.cf_lists.proofs.Names.{◌≡◌, Bool, true, false, not, ◌&&◌, cond, List, [], ◌∷◌, ◌++◌, filter, map, refl, sym, ap, ◌∙◌, list_all, and_parts, and_from, list_all-append, list_all-map, insertion, pairwise}
+use Rattle.cf_lists.proofs.Imports.{◌≡◌, Bool, true, false, not, ◌&&◌, cond, List, [], ◌∷◌, ◌++◌, filter, map, refl, sym, ap, ◌∙◌, list_all, and_parts, and_from, list_all-append, list_all-map, insertion, pairwise}
 use Rattle.cf_lists.proofs.FilterLaws.{list_all-filter, list_all_both, list_all_weaker}
 use Rattle.cf_lists.proofs.InsertionLaws.{list_all-insertion}
 

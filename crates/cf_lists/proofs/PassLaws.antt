@@ -1,5 +1,5 @@
 -- What goes over all: a list whose elements go from its front to its end, one after another, and all entries.
-use Rattle.cf_lists.proofs.Names.{◌≡◌, ℕ, zero, suc, ◌+◌, ◌-◌, ◌<◌, ◌≤◌, ◌==◌, Bool, true, false, ◌&&◌, cond, List, [], ◌∷◌, ◌++◌, filter, map, length, take, drop, get_or, refl, sym, ap, ◌∙◌, subst, arith, list_all, append_assoc, append-nil, take-append-le, drop-append-le, map-append, length-map, length-append, drop_all, take_all, filter-append, list_all-map, Resource, Part, same_resource, resource_before, insertion, arranged, joined, resource_by, are_apart, slot_in, seen_in, IsTable}
+use Rattle.cf_lists.proofs.Imports.{◌≡◌, ℕ, zero, suc, ◌+◌, ◌-◌, ◌<◌, ◌≤◌, ◌==◌, Bool, true, false, ◌&&◌, cond, List, [], ◌∷◌, ◌++◌, filter, map, length, take, drop, get_or, refl, sym, ap, ◌∙◌, subst, arith, list_all, append_assoc, append-nil, take-append-le, drop-append-le, map-append, length-map, length-append, drop_all, take_all, filter-append, list_all-map, Resource, Part, same_resource, resource_before, insertion, arranged, joined, resource_by, are_apart, slot_in, seen_in, IsTable}
 use Rattle.std.proofs.lemmas.List.{length-drop}
 use Rattle.cf_lists.proofs.FilterLaws.{list_all-filter, list_all_weaker}
 use Rattle.cf_lists.proofs.ImageLaws.{map-insertion}

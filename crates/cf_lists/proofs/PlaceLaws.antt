@@ -1,5 +1,5 @@
 -- A place in a list in order.
-use Rattle.cf_lists.proofs.Names.{nat_lt, ◌≡◌, ℕ, zero, suc, ◌<◌, ◌≤◌, Bool, true, false, List, [], ◌∷◌, length, get_or, refl, sym, subst, arith, list_all, prefix_len, IsPartitionPoint, IsPartitionedBy, and_parts, nat_tests, prefix_len_is, pairwise}
+use Rattle.cf_lists.proofs.Imports.{nat_lt, ◌≡◌, ℕ, zero, suc, ◌<◌, ◌≤◌, Bool, true, false, List, [], ◌∷◌, length, get_or, refl, sym, subst, arith, list_all, prefix_len, IsPartitionPoint, IsPartitionedBy, and_parts, nat_tests, prefix_len_is, pairwise}
 
 all_at : {X : Type 0} (p : X → Bool) (xs : List X) (i : ℕ) (d : X) → list_all p xs ≡ true → i < length xs
     → p (get_or xs i d) ≡ true

@@ -1,5 +1,5 @@
 -- Shortest prefixes that are enough.
-use Rattle.cf_lists.proofs.Names.{◌≡◌, Bool, true, false, cond, List, [], ◌∷◌, map, refl, ap, list_all, and_parts, and_from, pairwise, shortest_prefix}
+use Rattle.cf_lists.proofs.Imports.{◌≡◌, Bool, true, false, cond, List, [], ◌∷◌, map, refl, ap, list_all, and_parts, and_from, pairwise, shortest_prefix}
 
 all_step : {X : Type 0} (p : X → Bool) (b : Bool) (x : X) (ys : List X) → p x ≡ true → list_all p ys ≡ true
     → list_all p (cond b [] (x ∷ ys)) ≡ true

@@ -1,5 +1,5 @@
 -- The element at a place, found by its resource; and the last of all.
-use Rattle.cf_lists.proofs.Names.{◌≡◌, ℕ, zero, suc, ◌+◌, ◌-◌, ◌<◌, ◌≤◌, nat_lt, Bool, true, false, not, ◌&&◌, cond, if◌then◌else◌, drop, get_or, List, [], ◌∷◌, ◌++◌, Option, Some, None, is_some, filter, length, slice_get, refl, sym, ap, ◌∙◌, subst, arith, list_all, and_parts, not-true, false≢true, lt-ltb, nat_tests, Resource, Part, same_resource, resource_before, same_resource-eq, same_resource-refl, insertion, pairwise, in_turn, arranged, joined, is_on, placed_on, later_of, last_of, seen_in}
+use Rattle.cf_lists.proofs.Imports.{◌≡◌, ℕ, zero, suc, ◌+◌, ◌-◌, ◌<◌, ◌≤◌, nat_lt, Bool, true, false, not, ◌&&◌, cond, if◌then◌else◌, drop, get_or, List, [], ◌∷◌, ◌++◌, Option, Some, None, is_some, filter, length, slice_get, refl, sym, ap, ◌∙◌, subst, arith, list_all, and_parts, not-true, false≢true, lt-ltb, nat_tests, Resource, Part, same_resource, resource_before, same_resource-eq, same_resource-refl, insertion, pairwise, in_turn, arranged, joined, is_on, placed_on, later_of, last_of, seen_in}
 use Rattle.cf_lists.proofs.FilterLaws.{filter_none, none_from_all, list_all_weaker}
 use Rattle.cf_lists.proofs.InsertionLaws.{list_all-insertion}
 use Rattle.cf_lists.proofs.EntryKeyLaws.{resource_order}

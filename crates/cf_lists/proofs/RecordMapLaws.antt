@@ -1,5 +1,5 @@
 -- What a change of the lists is, seen through a map of the records that keeps ids.
-use Rattle.cf_lists.proofs.Names.{◌≡◌, ℕ, ◌+◌, ◌-◌, Bool, true, false, not, ◌||◌, ◌&&◌, ◌==◌, nat_lt, if◌then◌else◌, cond, List, [], ◌∷◌, ◌++◌, length, map, find, take, drop, set, slice_get, position, Option, Some, None, option_map, refl, sym, ap, ◌∙◌, arith, suc, zero, list_any, list_all, position_or_len, insert, remove, pairwise, map-append, length-map, map-set, all_records, records_of, is_id, has_id, record_of, spot_of, spot_in, place_in, lists_with, lists_without, lists_replaced, records_without, replaced_by, ids_apart, with_records, IsLastFull}
+use Rattle.cf_lists.proofs.Imports.{◌≡◌, ℕ, ◌+◌, ◌-◌, Bool, true, false, not, ◌||◌, ◌&&◌, ◌==◌, nat_lt, if◌then◌else◌, cond, List, [], ◌∷◌, ◌++◌, length, map, find, take, drop, set, slice_get, position, Option, Some, None, option_map, refl, sym, ap, ◌∙◌, arith, suc, zero, list_any, list_all, position_or_len, insert, remove, pairwise, map-append, length-map, map-set, all_records, records_of, is_id, has_id, record_of, spot_of, spot_in, place_in, lists_with, lists_without, lists_replaced, records_without, replaced_by, ids_apart, with_records, IsLastFull}
 use Rattle.cf_lists.proofs.ImageLaws.{map-filtered}
 use Rattle.cf_lists.proofs.AllLaws.{all-map, position-map}
 

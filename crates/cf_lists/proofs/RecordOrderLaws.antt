@@ -1,5 +1,5 @@
 -- Keys that stand in the orders of headers.
-use Rattle.cf_lists.proofs.Names.{◌≡◌, ◌≢◌, ◌⊎◌, inl, inr, ℕ, ◌+◌, ◌<◌, Bool, true, false, ◌||◌, ◌==◌, List, [], ◌∷◌, ◌++◌, length, map, take, drop, set, slice_get, get_or, Some, refl, sym, ap, ◌∙◌, subst, arith, suc, zero, list_any, insert, remove, or_right, false≢true, eq-eqb, eqb-true, eqb_tells, take-append-drop, list_any-append, records_of, all_records, stands}
+use Rattle.cf_lists.proofs.Imports.{◌≡◌, ◌≢◌, ◌⊎◌, inl, inr, ℕ, ◌+◌, ◌<◌, Bool, true, false, ◌||◌, ◌==◌, List, [], ◌∷◌, ◌++◌, length, map, take, drop, set, slice_get, get_or, Some, refl, sym, ap, ◌∙◌, subst, arith, suc, zero, list_any, insert, remove, or_right, false≢true, eq-eqb, eqb-true, eqb_tells, take-append-drop, list_any-append, records_of, all_records, stands}
 use Rattle.std.proofs.Common.{get_or-set_same, get_or-set_other}
 use Rattle.cf_lists.proofs.TakeLaws.{split_next}
 use Rattle.cf_lists.proofs.AllLaws.{list_of-get_or}

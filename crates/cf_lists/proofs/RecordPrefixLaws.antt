@@ -1,5 +1,5 @@
 -- Where those that pass stand in front, one passes exactly where it is among that many.
-use Rattle.cf_lists.proofs.Names.{◌≡◌, ℕ, zero, suc, ◌+◌, Bool, true, false, not, ◌||◌, cond, nat_lt, List, [], ◌∷◌, slice_get, Some, refl, sym, ◌∙◌, subst, arith, list_all, prefix_len, and_parts, false≢true, lt-ltb, nat_tests, pairwise, goes_first}
+use Rattle.cf_lists.proofs.Imports.{◌≡◌, ℕ, zero, suc, ◌+◌, Bool, true, false, not, ◌||◌, cond, nat_lt, List, [], ◌∷◌, slice_get, Some, refl, sym, ◌∙◌, subst, arith, list_all, prefix_len, and_parts, false≢true, lt-ltb, nat_tests, pairwise, goes_first}
 use Rattle.cf_lists.proofs.RecordSpotLaws.{all_at}
 
 later : (k n : ℕ) → nat_lt (suc k) (1 + n) ≡ nat_lt k n

@@ -1,5 +1,5 @@
 -- A record with an id that stands somewhere: that is where it is found.
-use Rattle.cf_lists.proofs.Names.{◌≡◌, ℕ, ◌+◌, ◌<◌, Bool, true, false, not, ◌==◌, nat_lt, cond, List, [], ◌∷◌, ◌++◌, length, slice_get, position, Option, Some, None, option_map, refl, sym, ap, ◌∙◌, subst, arith, suc, zero, list_any, list_all, position_or_len, and_parts, or_right, false≢true, eq-eqb, eqb-true, pairwise, all_records, is_id, has_id, spot_of, spot_in, ids_apart}
+use Rattle.cf_lists.proofs.Imports.{◌≡◌, ℕ, ◌+◌, ◌<◌, Bool, true, false, not, ◌==◌, nat_lt, cond, List, [], ◌∷◌, ◌++◌, length, slice_get, position, Option, Some, None, option_map, refl, sym, ap, ◌∙◌, subst, arith, suc, zero, list_any, list_all, position_or_len, and_parts, or_right, false≢true, eq-eqb, eqb-true, pairwise, all_records, is_id, has_id, spot_of, spot_in, ids_apart}
 use Rattle.cf_lists.proofs.KeyLaws.{any_is_placed}
 use Rattle.cf_lists.proofs.AllLaws.{list_of, none_behind, any_all}
 use Rattle.cf_lists.proofs.IdLaws.{IsPlaced, once, apart-list}

@@ -1,6 +1,6 @@
 -- The keys of a list in order: the element at a place is found by its key and its place among those of that key; where
 -- the one element of a kind goes, one of its key goes.
-use Rattle.cf_lists.proofs.Names.{◌≡◌, ℕ, zero, suc, ◌+◌, ◌-◌, Bool, true, false, not, cond, List, [], ◌∷◌, Some, filter, map, slice_get, refl, sym, ap, ◌∙◌, subst, arith, list_all, prefix_len, and_parts, and_from, not-true, false≢true, insertion, pairwise, is_keyed, in_turn, IsKeyOrder}
+use Rattle.cf_lists.proofs.Imports.{◌≡◌, ℕ, zero, suc, ◌+◌, ◌-◌, Bool, true, false, not, cond, List, [], ◌∷◌, Some, filter, map, slice_get, refl, sym, ap, ◌∙◌, subst, arith, list_all, prefix_len, and_parts, and_from, not-true, false≢true, insertion, pairwise, is_keyed, in_turn, IsKeyOrder}
 
 module _ {X K : Type 0} (key : X → K) (same before : K → K → Bool) (is : IsKeyOrder same before) where
   -- none of these is before a key

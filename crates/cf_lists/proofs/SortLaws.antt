@@ -1,5 +1,5 @@
 -- A sort of keys gives the keys of what is seen.
-use Rattle.cf_lists.proofs.Names.{◌≡◌, ℕ, suc, ◌+◌, ◌<◌, Bool, true, false, not, cond, List, [], ◌∷◌, filter, map, length, get_or, sum_by, refl, sym, ap, ◌∙◌, subst, arith, list_all, IsPermutation, and_parts, and_from, not-true, sum_by-cons, sum_by-IsPermutation, insertion, pairwise, is_keyed, in_turn, arranged, IsKeyOrder}
+use Rattle.cf_lists.proofs.Imports.{◌≡◌, ℕ, suc, ◌+◌, ◌<◌, Bool, true, false, not, cond, List, [], ◌∷◌, filter, map, length, get_or, sum_by, refl, sym, ap, ◌∙◌, subst, arith, list_all, IsPermutation, and_parts, and_from, not-true, sum_by-cons, sum_by-IsPermutation, insertion, pairwise, is_keyed, in_turn, arranged, IsKeyOrder}
 use Rattle.cf_lists.proofs.FilterLaws.{list_all_weaker, list_all-filter_same, filter_swap}
 use Rattle.cf_lists.proofs.PairwiseLaws.{pairwise-filter}
 use Rattle.cf_lists.proofs.TieLaws.{ordered_filters}

@@ -1,5 +1,5 @@
 -- All records with one more, one less, or one in place of another: the records before it and behind it.
-use Rattle.cf_lists.proofs.Names.{◌≡◌, ℕ, ◌<◌, Bool, true, false, not, ◌==◌, cond, List, [], ◌∷◌, ◌++◌, length, map, find, take, drop, slice_get, Some, refl, sym, ap, ◌∙◌, subst, suc, zero, list_all, insert, and_parts, append_assoc, take-append-drop, pairwise, all_records, records_of, lists_with, records_without, is_id, has_id, replaced_by, ids_apart}
+use Rattle.cf_lists.proofs.Imports.{◌≡◌, ℕ, ◌<◌, Bool, true, false, not, ◌==◌, cond, List, [], ◌∷◌, ◌++◌, length, map, find, take, drop, slice_get, Some, refl, sym, ap, ◌∙◌, subst, suc, zero, list_all, insert, and_parts, append_assoc, take-append-drop, pairwise, all_records, records_of, lists_with, records_without, is_id, has_id, replaced_by, ids_apart}
 use Rattle.cf_lists.proofs.FilterLaws.{none_from_all, list_all_weaker, filter_all}
 use Rattle.cf_lists.proofs.AllLaws.{all-split, all-set}
 use Rattle.cf_lists.proofs.IdLaws.{once, unchanged}

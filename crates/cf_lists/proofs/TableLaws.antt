@@ -1,5 +1,5 @@
 -- Lists as tables: an element is replaced at its place.
-use Rattle.cf_lists.proofs.Names.{◌≡◌, ◌≢◌, ℕ, zero, suc, ◌<◌, List, [], ◌∷◌, length, Some, refl, ap, arith, slice_get, set}
+use Rattle.cf_lists.proofs.Imports.{◌≡◌, ◌≢◌, ℕ, zero, suc, ◌<◌, List, [], ◌∷◌, length, Some, refl, ap, arith, slice_get, set}
 
 -- an element within a list
 pub get_within : {X : Type 0} (xs : List X) (i : ℕ) → i < length xs → (x : X) × (slice_get xs i ≡ Some x)

@@ -1,5 +1,5 @@
 -- Lists in order by key, with several elements of one key, are equal where their filters per key are.
-use Rattle.cf_lists.proofs.Names.{◌≡◌, Bool, true, false, not, List, [], ◌∷◌, filter, refl, sym, ap, ◌∙◌, subst, list_all, and_parts, false≢true, not-true, pairwise}
+use Rattle.cf_lists.proofs.Imports.{◌≡◌, Bool, true, false, not, List, [], ◌∷◌, filter, refl, sym, ap, ◌∙◌, subst, list_all, and_parts, false≢true, not-true, pairwise}
 use Rattle.cf_lists.proofs.FilterLaws.{list_all-filter}
 
 module _ {X K : Type 0} (key : X → K) (same : K → K → Bool) (before : X → X → Bool) (same-refl : (k : K) → same k k ≡ true)

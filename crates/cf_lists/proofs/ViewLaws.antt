@@ -1,5 +1,5 @@
 -- What is seen of table entries, and lists by key.
-use Rattle.cf_lists.proofs.Names.{◌≡◌, ℕ, zero, suc, ◌+◌, ◌≤◌, Bool, true, false, ◌&&◌, cond, List, [], ◌∷◌, filter, map, length, get_or, refl, ap, ◌∙◌, arith, list_all, and_parts, and_from, length-append, length-map, pairwise, is_keyed, arranged, joined}
+use Rattle.cf_lists.proofs.Imports.{◌≡◌, ℕ, zero, suc, ◌+◌, ◌≤◌, Bool, true, false, ◌&&◌, cond, List, [], ◌∷◌, filter, map, length, get_or, refl, ap, ◌∙◌, arith, list_all, and_parts, and_from, length-append, length-map, pairwise, is_keyed, arranged, joined}
 use Rattle.cf_lists.proofs.InsertionLaws.{length-insertion}
 
 pub length_arranged : {X K : Type 0} (key : X → K) (before : K → K → Bool) (xs : List X)

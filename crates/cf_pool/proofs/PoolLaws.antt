@@ -1,5 +1,5 @@
 -- What a chain more, or one less, does to a pool.
-use Rattle.cf_pool.proofs.Names.{◌≡◌, ◌≢◌, ℕ, zero, suc, ◌+◌, ◌-◌, ◌*◌, ◌<◌, ◌≤◌, ◌⊎◌, inl, inr, Bool, true, false, ◌&&◌, cond, eqb, leb, List, [], Option, None, Some, map, take, drop, length, get_or, set, sum_by, sum, subst, sym, refl, ap, ◌∙◌, arith, get_or-set_same, get_or-set_other, length-set, zero-add, replicate, enumerate_from, slice_get, and_from, and_left, and_right, eq-eqb, ne_eqb, le-leb, lt-leb, cases_lt, eqb_tells, same_lists, length-replicate, get_or-replicate, get_or_past, get_or-map, length-map, length-take, length-take-le, length-drop, length-append, get_or-enumerate_from, length-enumerate_from, sum_by-replicate, sum_by-set, sum-map, slice_get-get_or, get_or_from_slice_get, slice_get_past, SIZE, need_of, behind, IsWithin, walked, written, stored, chain_at, chains_in, IsRun, IsShared, need_at, need_in, IsChain}
+use Rattle.cf_pool.proofs.Imports.{◌≡◌, ◌≢◌, ℕ, zero, suc, ◌+◌, ◌-◌, ◌*◌, ◌<◌, ◌≤◌, ◌⊎◌, inl, inr, Bool, true, false, ◌&&◌, cond, eqb, leb, List, [], Option, None, Some, map, take, drop, length, get_or, set, sum_by, sum, subst, sym, refl, ap, ◌∙◌, arith, get_or-set_same, get_or-set_other, length-set, zero-add, replicate, enumerate_from, slice_get, and_from, and_left, and_right, eq-eqb, ne_eqb, le-leb, lt-leb, cases_lt, eqb_tells, same_lists, length-replicate, get_or-replicate, get_or_past, get_or-map, length-map, length-take, length-take-le, length-drop, length-append, get_or-enumerate_from, length-enumerate_from, sum_by-replicate, sum_by-set, sum-map, slice_get-get_or, get_or_from_slice_get, slice_get_past, SIZE, need_of, behind, IsWithin, walked, written, stored, chain_at, chains_in, IsRun, IsShared, need_at, need_in, IsChain}
 use Rattle.cf_pool.proofs.WalkLaws.{within_fewer}
 use Rattle.cf_pool.proofs.RunLaws.{within_run, kept_run, front_run, back_run, last_run, joined_run, same_walk, stored_outside, length-stored, stored_back}
 

@@ -1,5 +1,5 @@
 -- Elements of one owner, each with its rank.
-use Rattle.cf_pool.proofs.Names.{◌≡◌, ◌≢◌, ℕ, zero, suc, ◌+◌, ◌*◌, ◌<◌, ◌≤◌, List, [], ◌∷◌, ◌++◌, take, drop, length, get_or, set, subst, sym, refl, ap, ◌∙◌, inl, inr, arith, get_or-set_same, get_or-set_other, length-set, take-append-add, take_all, take_at, take-append-le, take-take, length-take, length-take-le, length-drop, length-append, take-append-drop, cases_lt, SIZE, behind, IsWithin, walked, written, stored, IsRun}
+use Rattle.cf_pool.proofs.Imports.{◌≡◌, ◌≢◌, ℕ, zero, suc, ◌+◌, ◌*◌, ◌<◌, ◌≤◌, List, [], ◌∷◌, ◌++◌, take, drop, length, get_or, set, subst, sym, refl, ap, ◌∙◌, inl, inr, arith, get_or-set_same, get_or-set_other, length-set, take-append-add, take_all, take_at, take-append-le, take-take, length-take, length-take-le, length-drop, length-append, take-append-drop, cases_lt, SIZE, behind, IsWithin, walked, written, stored, IsRun}
 
 pub within_run : (owner rank : ℕ → ℕ) (next : List ℕ) (label n at : ℕ) → IsRun owner rank next label n at
     → IsWithin next n at

@@ -1,5 +1,5 @@
 -- One element more at the front of those that follow each other.
-use Rattle.cf_pool.proofs.Names.{◌≡◌, ℕ, zero, suc, ◌+◌, ◌-◌, ◌<◌, ◌≤◌, min, List, [], ◌∷◌, ◌++◌, take, drop, length, get_or, set, subst, sym, refl, ap, append_assoc, ◌∙◌, arith, if◌then◌else◌, is_ok, Result, Ok, Err, OnOk, take_all, drop_all, length-take, length-append, SIZE, behind, IsWithin, walked, written, stored}
+use Rattle.cf_pool.proofs.Imports.{◌≡◌, ℕ, zero, suc, ◌+◌, ◌-◌, ◌<◌, ◌≤◌, min, List, [], ◌∷◌, ◌++◌, take, drop, length, get_or, set, subst, sym, refl, ap, append_assoc, ◌∙◌, arith, if◌then◌else◌, is_ok, Result, Ok, Err, OnOk, take_all, drop_all, length-take, length-append, SIZE, behind, IsWithin, walked, written, stored}
 
 pub behind-step : (next : List ℕ) (n m at : ℕ) → n ≡ suc m → behind next n at ≡ behind next m (get_or next at 0)
 behind-step next n m at e = rw e refl

@@ -1,5 +1,5 @@
 -- Each step on the lock's word keeps the rule.
-use Rattle.cf_turn.proofs.Names.{◌≡◌, ℕ, zero, suc, ◌+◌, ◌<◌, ◌≤◌, eqb, List, [], ◌∷◌, ◌++◌, set, get_or, Option, Some, unwrap_or, sym, refl, ap, ◌∙◌, subst, inl, inr, ⊎_elim, arith, sum_by-cons, sum_by-append, some, none, some-injective, some-ne-none, either, get_elem?, at_set, at_snoc, set_else, State, Me, Act, step, keeps, takes, gives, Valid, carried_after, homes_after, put_back, Allows, Enters, Splits, Joins, Stand, stand_waiting, stand_in_turn, stand_spent, without_turns, both, turns_of, Knows, AllKnow, IsFree, IsTaken, Kept, Starts, Tries}
+use Rattle.cf_turn.proofs.Imports.{◌≡◌, ℕ, zero, suc, ◌+◌, ◌<◌, ◌≤◌, eqb, List, [], ◌∷◌, ◌++◌, set, get_or, Option, Some, unwrap_or, sym, refl, ap, ◌∙◌, subst, inl, inr, ⊎_elim, arith, sum_by-cons, sum_by-append, some, none, some-injective, some-ne-none, either, get_elem?, at_set, at_snoc, set_else, State, Me, Act, step, keeps, takes, gives, Valid, carried_after, homes_after, put_back, Allows, Enters, Splits, Joins, Stand, stand_waiting, stand_in_turn, stand_spent, without_turns, both, turns_of, Knows, AllKnow, IsFree, IsTaken, Kept, Starts, Tries}
 
 module _ {K : Type 0} where
   abbrev turns : Stand K → ℕ

@@ -1,6 +1,6 @@
 -- Connections: what each change leaves at the same and at other connectors, who is active then, and how many are
 -- defined.
-use Rattle.cf_types.proofs.Names.{◌≡◌, ◌≢◌, ℕ, zero, suc, ◌<◌, ◌≤◌, Bool, true, false, cond, IsTrue, map, List, [], ◌∷◌, length, get_or, set, Option, Some, None, is_some, slice_get, slice_set, refl, sym, ap, ◌∙◌, ⊎_elim, arith, false≢true, cases_eq, cases_lt, length-set, length-map, get_or-set_same, get_or-set_other, get_or_past, set-get_or, get_or-le-sum_by, unwrap_or-slice_get, unwrap_or, CALLERS, ConnId, ConnState, Active, Leaving, Failed, is_member, without_member, Connections, no_connections, state_of, is_active_state, is_leaving_state, is_active, is_leaving, actives, defined_count, departed_state, excused_state, with_departure, with_answer, with_forced}
+use Rattle.cf_types.proofs.Imports.{◌≡◌, ◌≢◌, ℕ, zero, suc, ◌<◌, ◌≤◌, Bool, true, false, cond, IsTrue, map, List, [], ◌∷◌, length, get_or, set, Option, Some, None, is_some, slice_get, slice_set, refl, sym, ap, ◌∙◌, ⊎_elim, arith, false≢true, cases_eq, cases_lt, length-set, length-map, get_or-set_same, get_or-set_other, get_or_past, set-get_or, get_or-le-sum_by, unwrap_or-slice_get, unwrap_or, CALLERS, ConnId, ConnState, Active, Leaving, Failed, is_member, without_member, Connections, no_connections, state_of, is_active_state, is_leaving_state, is_active, is_leaving, actives, defined_count, departed_state, excused_state, with_departure, with_answer, with_forced}
 use Rattle.cf_types.proofs.ConnSetLaws.{filter_agree_from, is_member-from, without_member-from}
 
 -- ---- one connector's state

@@ -1,5 +1,5 @@
 -- What is told of changed bits, one change after another.
-use Rattle.cf_types.proofs.Names.{◌≡◌, ℕ, ◌==◌, ◌&&◌, Bool, true, false, List, [], ◌∷◌, ◌++◌, refl, sym, ap, ◌∙◌, append_assoc, map, filter, ◌⊎◌, inl, inr, arith, subst₂, map-append, filter-append, nat_tests, ConnId, BitChange, Bits, Gains, is_for, bits_told, difference}
+use Rattle.cf_types.proofs.Imports.{◌≡◌, ℕ, ◌==◌, ◌&&◌, Bool, true, false, List, [], ◌∷◌, ◌++◌, refl, sym, ap, ◌∙◌, append_assoc, map, filter, ◌⊎◌, inl, inr, arith, subst₂, map-append, filter-append, nat_tests, ConnId, BitChange, Bits, Gains, is_for, bits_told, difference}
 use Rattle.std.proofs.Common.{append-nil}
 
 difference_none : (b : Bool) → [] ≡ difference b b

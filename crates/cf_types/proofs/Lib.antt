@@ -1,4 +1,4 @@
-pub mod Names
+pub mod Imports
 pub mod TermFaults
 pub mod GainsLaws
 pub mod ConnSetLaws

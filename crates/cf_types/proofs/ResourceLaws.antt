@@ -1,5 +1,5 @@
 -- Resources as keys, and their order.
-use Rattle.cf_types.proofs.Names.{◌≡◌, ℕ, ◌==◌, ◌&&◌, Bool, true, false, not, List, refl, sym, ap, ◌∙◌, subst, arith, nat_eq, nat_tests, Ordering, Less, Equal, Greater, nat_cmp, is_lt, is_gt, is_eq, ordering_reverse, ordering_then, IsTotalOrder, bytes_decides, pointwise, slice_cmp, nat_list_cmp_total, upto, on_total, then_total, nat_cmp_total, same_from_slice_cmp, and_parts, and_from, eqb-true, eq-eqb, not-true, false≢true, Name16, ConnId, Resource, same_name, same_resource, resource_cmp, resource_before, resource_up_to, Part, same_part}
+use Rattle.cf_types.proofs.Imports.{◌≡◌, ℕ, ◌==◌, ◌&&◌, Bool, true, false, not, List, refl, sym, ap, ◌∙◌, subst, arith, nat_eq, nat_tests, Ordering, Less, Equal, Greater, nat_cmp, is_lt, is_gt, is_eq, ordering_reverse, ordering_then, IsTotalOrder, bytes_decides, pointwise, slice_cmp, nat_list_cmp_total, upto, on_total, then_total, nat_cmp_total, same_from_slice_cmp, and_parts, and_from, eqb-true, eq-eqb, not-true, false≢true, Name16, ConnId, Resource, same_name, same_resource, resource_cmp, resource_before, resource_up_to, Part, same_part}
 
 -- names with the same bytes are the same
 pub same_name-eq : (a b : Name16) → same_name a b ≡ true → a ≡ b

@@ -1,5 +1,5 @@
 -- A text has a byte that is no term character exactly where it isn't made of term characters.
-use Rattle.cf_types.proofs.Names.{◌≡◌, ℕ, ◌<◌, ◌+◌, Bool, true, false, not, List, [], ◌∷◌, length, Some, None, position, ◌⊎◌, inl, inr, refl, cond, ◌&&◌, suc, arith, list_all, position_or_len, common_steps}
+use Rattle.cf_types.proofs.Imports.{◌≡◌, ℕ, ◌<◌, ◌+◌, Bool, true, false, not, List, [], ◌∷◌, length, Some, None, position, ◌⊎◌, inl, inr, refl, cond, ◌&&◌, suc, arith, list_all, position_or_len, common_steps}
 
 one_more : (v : Bool) {a : Bool} {n m : ℕ} → ((a ≡ true) × (n ≡ m)) ⊎ ((a ≡ false) × (n < m))
     → ((v && a ≡ true) × (cond (not (not v)) (1 + n) 0 ≡ suc m))

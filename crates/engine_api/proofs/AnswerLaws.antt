@@ -1,5 +1,5 @@
 -- What a legal history tells of the answers of links, turn by turn.
-use Rattle.engine_api.proofs.Names.{◌≡◌, ℕ, ◌+◌, ◌==◌, Bool, true, false, List, [], ◌∷◌, ◌++◌, length, refl, sym, ap, ◌∙◌, arith, append_assoc, append-nil, length-append, fold, filter, Option, None, Some, fold_push, filter-append, CfId, Entry, links_asked, asked_unless, asks_of, Asks, AreDistinct, has, marks_of, answers_to, StrForm, Refusal, Meaning, Machine, opening, room_of, call_cause, Turn, replay, next_mark, next_entry, with_mark, with_marks, marks_by, after_turn, IsLegal, Reading, begun, read_entry, read_all, answers_in, answers_from, answers, is_mark_as, marks_at, trues}
+use Rattle.engine_api.proofs.Imports.{◌≡◌, ℕ, ◌+◌, ◌==◌, Bool, true, false, List, [], ◌∷◌, ◌++◌, length, refl, sym, ap, ◌∙◌, arith, append_assoc, append-nil, length-append, fold, filter, Option, None, Some, fold_push, filter-append, CfId, Entry, links_asked, asked_unless, asks_of, Asks, AreDistinct, has, marks_of, answers_to, StrForm, Refusal, Meaning, Machine, opening, room_of, call_cause, Turn, replay, next_mark, next_entry, with_mark, with_marks, marks_by, after_turn, IsLegal, Reading, begun, read_entry, read_all, answers_in, answers_from, answers, is_mark_as, marks_at, trues}
 use Rattle.engine_api.proofs.AskLaws.{answers_marked, times, marked_once, distinct_apart}
 use Rattle.engine_api.proofs.HistoryLaws.{replay-push, by_turns}
 

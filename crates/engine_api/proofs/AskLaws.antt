@@ -1,5 +1,5 @@
 -- Which links are asked, and which marks that makes.
-use Rattle.engine_api.proofs.Names.{◌≡◌, ◌≤◌, ℕ, ◌==◌, Bool, true, false, not, ◌&&◌, ◌||◌, List, [], ◌∷◌, length, refl, sym, ap, subst, ◌∙◌, arith, filter, if◌then◌else◌, Option, None, Some, ◌++◌, eq-eqb, eqb-true, CfId, StrForm, ConnId, Refusal, ShellCmd, Ask, Meaning, Machine, room_of, fresh_of, Shell, call_cause, listed, asks_of_command, asks_of, asked_unless, links_asked, Asks, has, AreDistinct, apart, reached, reached_in, marks_of, answers_to, trues}
+use Rattle.engine_api.proofs.Imports.{◌≡◌, ◌≤◌, ℕ, ◌==◌, Bool, true, false, not, ◌&&◌, ◌||◌, List, [], ◌∷◌, length, refl, sym, ap, subst, ◌∙◌, arith, filter, if◌then◌else◌, Option, None, Some, ◌++◌, eq-eqb, eqb-true, CfId, StrForm, ConnId, Refusal, ShellCmd, Ask, Meaning, Machine, room_of, fresh_of, Shell, call_cause, listed, asks_of_command, asks_of, asked_unless, links_asked, Asks, has, AreDistinct, apart, reached, reached_in, marks_of, answers_to, trues}
 use Rattle.cf_types.specs.declared.shell_commands.ShellCmd.TheVariants as cmd
 use Rattle.engine_api.specs.declared.asks.Ask.TheVariants as ask
 

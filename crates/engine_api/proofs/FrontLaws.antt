@@ -1,6 +1,6 @@
 -- What the first items of a content make: what follows from the laws on it, and how it follows from laws on one item
 -- that is placed behind others.
-use Rattle.engine_api.proofs.Names.{◌≡◌, Bool, IsTrue, List, [], ◌∷◌, ◌++◌, sym, ap, ◌∙◌, subst, append-nil, append_assoc, fold-append, Caps, Kind, Shape, Fits, IsAlone, IsNextItem, content_of_items, Meaning}
+use Rattle.engine_api.proofs.Imports.{◌≡◌, Bool, IsTrue, List, [], ◌∷◌, ◌++◌, sym, ap, ◌∙◌, subst, append-nil, append_assoc, fold-append, Caps, Kind, Shape, Fits, IsAlone, IsNextItem, content_of_items, Meaning}
 
 module _ {C R I S : Type 0} (meaning : Meaning C R I S) (is_kind : Kind → Bool)
     (IsContent : Shape → Caps → S → Type 0) where

@@ -1,5 +1,5 @@
 -- Legal histories: what one more turn does to one, and what is known of each of its entries.
-use Rattle.engine_api.proofs.Names.{◌≡◌, ℕ, zero, suc, ◌+◌, ◌<◌, ◌≤◌, inl, inr, List, [], ◌∷◌, ◌++◌, length, take, slice_get, Some, refl, sym, ap, subst, ◌∙◌, arith, append_assoc, append-nil, length-append, fold, take-append-le, length-take, map-append, fold_push, filter_map-append, CfId, What, Entry, StrForm, Meaning, opening, step, Call, Turn, call_of, calls, machine_after, replay, next_mark, next_entry, with_mark, with_marks, marks_by, after_turn, IsLegal, IsNext, IsNextAs, IsEachNext, Continues}
+use Rattle.engine_api.proofs.Imports.{◌≡◌, ℕ, zero, suc, ◌+◌, ◌<◌, ◌≤◌, inl, inr, List, [], ◌∷◌, ◌++◌, length, take, slice_get, Some, refl, sym, ap, subst, ◌∙◌, arith, append_assoc, append-nil, length-append, fold, take-append-le, length-take, map-append, fold_push, filter_map-append, CfId, What, Entry, StrForm, Meaning, opening, step, Call, Turn, call_of, calls, machine_after, replay, next_mark, next_entry, with_mark, with_marks, marks_by, after_turn, IsLegal, IsNext, IsNextAs, IsEachNext, Continues}
 use Rattle.std.proofs.lemmas.List as lists
 use Rattle.engine_api.specs.declared.asks.What.TheVariants as what
 use Rattle.engine_api.proofs.Pushed.{Each, each_none, each_push, cut_push}

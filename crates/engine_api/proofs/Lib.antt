@@ -1,4 +1,4 @@
-pub mod Names
+pub mod Imports
 pub mod Pushed
 pub mod HistoryLaws
 pub mod AskLaws

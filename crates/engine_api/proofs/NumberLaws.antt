@@ -1,5 +1,5 @@
 -- The numbers of calls, where marks stand between them.
-use Rattle.engine_api.proofs.Names.{◌≡◌, ℕ, ◌+◌, ◌*◌, ◌<◌, ◌≤◌, ◌⊎◌, inl, inr, Bool, true, false, nat_lt, List, [], ◌∷◌, ◌++◌, length, fold, filter, map, refl, sym, ap, subst, ◌∙◌, arith, append-nil, length-append, Contains, if◌then◌else◌, cases_lt, nat_tests, map-append, fold_push, filter-append, Contains-push_cases, CfId, Entry, links_asked, Asks, marks_of, StrForm, ConnId, Ask, Meaning, Machine, Call, Turn, calls, replay, with_mark, with_marks, next_entry, next_mark, marks_by, after_turn, IsLegal, numbers, IsPoint, last_number, last_call_below, IsNumbered}
+use Rattle.engine_api.proofs.Imports.{◌≡◌, ℕ, ◌+◌, ◌*◌, ◌<◌, ◌≤◌, ◌⊎◌, inl, inr, Bool, true, false, nat_lt, List, [], ◌∷◌, ◌++◌, length, fold, filter, map, refl, sym, ap, subst, ◌∙◌, arith, append-nil, length-append, Contains, if◌then◌else◌, cases_lt, nat_tests, map-append, fold_push, filter-append, Contains-push_cases, CfId, Entry, links_asked, Asks, marks_of, StrForm, ConnId, Ask, Meaning, Machine, Call, Turn, calls, replay, with_mark, with_marks, next_entry, next_mark, marks_by, after_turn, IsLegal, numbers, IsPoint, last_number, last_call_below, IsNumbered}
 use Rattle.engine_api.proofs.AskLaws.{marks_few, two_asked}
 use Rattle.engine_api.proofs.HistoryLaws.{by_turns, calls-turn, call_added}
 

@@ -1,5 +1,5 @@
 -- Legality by turns, and point by point.
-use Rattle.engine_api.proofs.Names.{◌≡◌, ℕ, ◌+◌, ◌≤◌, ◌==◌, ◌⊎◌, inl, inr, Bool, true, false, ◌&&◌, ◌||◌, List, [], ◌∷◌, ◌++◌, length, take, slice_get, Some, refl, sym, ap, subst, ◌∙◌, arith, take_at, append_assoc, append-nil, filter, if◌then◌else◌, fold_push, CfId, What, Entry, links_asked, asks_of, Asks, AreDistinct, has, reached, marks_of, StrForm, ConnId, Reply, Meaning, Machine, room_of, call_cause, Turn, replay, next_mark, next_entry, with_mark, with_marks, with_call, after_turn, IsLegal, IsNextAs, Reading, read_all, AreSome, AreMarksOf, MayEnd, IsReplied, IsByPoints}
+use Rattle.engine_api.proofs.Imports.{◌≡◌, ℕ, ◌+◌, ◌≤◌, ◌==◌, ◌⊎◌, inl, inr, Bool, true, false, ◌&&◌, ◌||◌, List, [], ◌∷◌, ◌++◌, length, take, slice_get, Some, refl, sym, ap, subst, ◌∙◌, arith, take_at, append_assoc, append-nil, filter, if◌then◌else◌, fold_push, CfId, What, Entry, links_asked, asks_of, Asks, AreDistinct, has, reached, marks_of, StrForm, ConnId, Reply, Meaning, Machine, room_of, call_cause, Turn, replay, next_mark, next_entry, with_mark, with_marks, with_call, after_turn, IsLegal, IsNextAs, Reading, read_all, AreSome, AreMarksOf, MayEnd, IsReplied, IsByPoints}
 use Rattle.engine_api.specs.declared.asks.What.TheVariants as what
 use Rattle.engine_api.proofs.Pushed.{Each, each_none, each_push}
 use Rattle.engine_api.proofs.AskLaws.{Agree, agree_tail, itself, or_true, same_cf}

@@ -1,5 +1,5 @@
 -- Engines that are ready with some effects, and with others that have more room.
-use Rattle.engine_api.proofs.Names.{ℕ, ◌≤◌, arith, Effects, ConnId, Wish, ForCmd, ForLeave, ForForget}
+use Rattle.engine_api.proofs.Imports.{ℕ, ◌≤◌, arith, Effects, ConnId, Wish, ForCmd, ForLeave, ForForget}
 
 pub le-trans : {a b c : ℕ} → a ≤ b → b ≤ c → a ≤ c
 le-trans one two = omega (arith, one, two)

@@ -1,5 +1,5 @@
 -- What calls do to the connections: who is active after each, and that refused calls change nothing.
-use Rattle.engine_api.proofs.Names.{◌≡◌, Bool, true, false, cond, List, [], ◌∷◌, length, Option, Some, None, refl, ap, ◌∙◌, fold, map, length-set, length-map, CALLERS, Event, Letter, StrForm, CfId, ConnId, Refusal, ShellCmd, Connections, no_connections, state_of, excused_state, with_departure, next_event, owed_event, Ask, What, Room, Entry, after_what, machine_after, replay, next_entry, with_call, next_reply, Machine, opening, unless, content_reply, content_done, capacity, room_of, departure_from, command_done, step, entered_machine, Meaning, Outcome, unless_refused, is_at, Shell, shell_cause, content_cause, shell_done, leaver, with_posted, no_deeds, facility_of, given_outcome, stop_outcome, rebuild_connect_outcome, complete_outcome, conns_answered, take_event, responded, response_outcome, is_kept, fresh_loss, primary_loss, loss_outcome, vary_outcome, simplex_again, stopped_outcome, simplex_outcome, idle_outcome, with_off, Rebuild, is_response}
+use Rattle.engine_api.proofs.Imports.{◌≡◌, Bool, true, false, cond, List, [], ◌∷◌, length, Option, Some, None, refl, ap, ◌∙◌, fold, map, length-set, length-map, CALLERS, Event, Letter, StrForm, CfId, ConnId, Refusal, ShellCmd, Connections, no_connections, state_of, excused_state, with_departure, next_event, owed_event, Ask, What, Room, Entry, after_what, machine_after, replay, next_entry, with_call, next_reply, Machine, opening, unless, content_reply, content_done, capacity, room_of, departure_from, command_done, step, entered_machine, Meaning, Outcome, unless_refused, is_at, Shell, shell_cause, content_cause, shell_done, leaver, with_posted, no_deeds, facility_of, given_outcome, stop_outcome, rebuild_connect_outcome, complete_outcome, conns_answered, take_event, responded, response_outcome, is_kept, fresh_loss, primary_loss, loss_outcome, vary_outcome, simplex_again, stopped_outcome, simplex_outcome, idle_outcome, with_off, Rebuild, is_response}
 use Rattle.cf_types.specs.declared.events.Event.TheVariants as event
 use Rattle.cf_types.specs.declared.shell_commands.ShellCmd.TheVariants as cmd
 use Rattle.cf_types.specs.declared.shell_commands.ShellReply.TheVariants as answer

@@ -1,3 +1,3 @@
-pub mod Names
+pub mod Imports
 pub mod PostLaws
 pub mod RemovalLaws

@@ -1,5 +1,5 @@
 -- A list from which one element is removed.
-use Rattle.event_mail.proofs.Names.{◌≡◌, ℕ, zero, suc, List, [], ◌∷◌, take, drop, remove, refl, ap, drop_more}
+use Rattle.event_mail.proofs.Imports.{◌≡◌, ℕ, zero, suc, List, [], ◌∷◌, take, drop, remove, refl, ap, drop_more}
 
 -- the elements in front of it stay
 pub take-remove : {X : Type 0} (xs : List X) (n : ℕ) → take n (remove xs n) ≡ take n xs

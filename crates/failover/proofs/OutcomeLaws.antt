@@ -1,5 +1,5 @@
 -- What the closed board says of the structure, of its links, and of the reader's last test.
-use Rattle.failover.proofs.Names.{◌≡◌, ℕ, ◌+◌, ◌<◌, ◌++◌, List, [], ◌∷◌, length, map, Some, slice_get, get_or, sym, ap, subst, ◌∙◌, arith, All, Bool, Option, option_map, unwrap_or, flat_map, range_with_len, get_or-append_seam, length-append, slice_get_within, slice_get-get_or, slice_get-map, get_or_from_slice_get, Links, ListLink, AreAsked, IsAskedAll, IsAsTold, calls_after, asked_calls, asked_told, StrForm, ConnId, AnyHistory, Script, Tested, any_answers, CellShown, IsAnyTold, DeskShown, pass_at, BoardShown, IsAccount, AreClosed, AreEachAsked, AreLinksAsked, links_of, four_of, new_desk, desk-pass_owner, AreDownOnce, IsDownAt, HasPool, AreSeated, HasTested, gbp, sight_of, IsOpened, IsOutcome, WasAsked, reader, cf1, cf2, down_once}
+use Rattle.failover.proofs.Imports.{◌≡◌, ℕ, ◌+◌, ◌<◌, ◌++◌, List, [], ◌∷◌, length, map, Some, slice_get, get_or, sym, ap, subst, ◌∙◌, arith, All, Bool, Option, option_map, unwrap_or, flat_map, range_with_len, get_or-append_seam, length-append, slice_get_within, slice_get-get_or, slice_get-map, get_or_from_slice_get, Links, ListLink, AreAsked, IsAskedAll, IsAsTold, calls_after, asked_calls, asked_told, StrForm, ConnId, AnyHistory, Script, Tested, any_answers, CellShown, IsAnyTold, DeskShown, pass_at, BoardShown, IsAccount, AreClosed, AreEachAsked, AreLinksAsked, links_of, four_of, new_desk, desk-pass_owner, AreDownOnce, IsDownAt, HasPool, AreSeated, HasTested, gbp, sight_of, IsOpened, IsOutcome, WasAsked, reader, cf1, cf2, down_once}
 use Rattle.plex_board.specs.PlexScript.declared.asks.AnyHistory.TheVariants as history
 use Rattle.failover.proofs.SeatLaws.{seat_owner, seat_of_board, seated}
 

@@ -1,5 +1,5 @@
 -- The desks of the operator and of the members: as the board begins, and once one of them was used.
-use Rattle.failover.proofs.Names.{◌≡◌, ℕ, ◌+◌, ◌<◌, ◌≤◌, List, [], ◌∷◌, length, map, ◌++◌, set, get_or, get_or-set_same, Some, sym, ap, subst, ◌∙◌, arith, refl, IfSome, slice_get, range_with_len, map-set_same, length-map, length-set, get_or-map, slice_get_within, slice_get_read, length-range_with_len, length-map-range_with_len, get_or-range_with_len, All-nil, All-cons, All-same, All-set, Kind, ConnId, Script, IsScript, script-formed, Tested, type_of_kind, PassShown, CellShown, DeskShown, pass_at, with_pass, BoardShown, IsPolicy, IsDeskOf, cell_on, new_desk, new_desk-of_board, desk-length, pass_at-with_pass_same, HasPool, AreSeated, HasTested, gbp, owner_of, sight_of}
+use Rattle.failover.proofs.Imports.{◌≡◌, ℕ, ◌+◌, ◌<◌, ◌≤◌, List, [], ◌∷◌, length, map, ◌++◌, set, get_or, get_or-set_same, Some, sym, ap, subst, ◌∙◌, arith, refl, IfSome, slice_get, range_with_len, map-set_same, length-map, length-set, get_or-map, slice_get_within, slice_get_read, length-range_with_len, length-map-range_with_len, get_or-range_with_len, All-nil, All-cons, All-same, All-set, Kind, ConnId, Script, IsScript, script-formed, Tested, type_of_kind, PassShown, CellShown, DeskShown, pass_at, with_pass, BoardShown, IsPolicy, IsDeskOf, cell_on, new_desk, new_desk-of_board, desk-length, pass_at-with_pass_same, HasPool, AreSeated, HasTested, gbp, owner_of, sight_of}
 use Rattle.plex_board.specs.CfTypes.declared.forms.Kind.TheVariants as kind
 
 -- what a text says states a policy

@@ -1,5 +1,5 @@
 -- What is known of a record that a command names.
-use Rattle.list_core.proofs.Names.{◌≡◌, ℕ, Bool, true, List, Option, Some, None, is_some, unwrap_or, refl, sym, ap, ◌∙◌, subst, IfSome, list_any, false≢true, any_is_found, At, Key16, Record, Lists, all_records, is_id, record_of, lists_without, record_at, the_record, no_record, with_record, with_new_key, put_back, with_new_data, renewed, IsFound, updated_with}
+use Rattle.list_core.proofs.Imports.{◌≡◌, ℕ, Bool, true, List, Option, Some, None, is_some, unwrap_or, refl, sym, ap, ◌∙◌, subst, IfSome, list_any, false≢true, any_is_found, At, Key16, Record, Lists, all_records, is_id, record_of, lists_without, record_at, the_record, no_record, with_record, with_new_key, put_back, with_new_data, renewed, IsFound, updated_with}
 
 pub found-any : (lists : Lists) (at : At) → IsFound lists at → list_any (is_id (the_record lists at).id)
     (all_records lists) ≡ true

@@ -1,5 +1,5 @@
 pub use Rattle.list_model.proofs as ListModel
-pub mod Names
+pub mod Imports
 pub mod FoundLaws
 pub mod PlanLaws
 pub mod RowLaws

@@ -1,5 +1,5 @@
 -- What a plan that isn't refused says.
-use Rattle.list_core.proofs.Names.{◌≡◌, ℕ, ◌<◌, Option, None, Some, Result, Ok, Err, Bool, true, false, if◌then◌else◌, nat_le, is_some, unwrap_or, length, refl, sym, ap, ◌∙◌, subst, OnOk, OnErr, Caps, ConnId, Refusal, BadLock, BadHeader, BadIndex, At, ListCmd, Write, Update, Read, Move, Delete, ReadList, LockSet, LockReset, LockTest, LControls, SetLimit, Unmonitor, ListReply, Shape, pairwise, Record, Lists, all_records, ids_apart, record_of, record_at, no_record, Content, IsContent, headers_of, locks_of, record_refusal, lock_refusal, index_refusal, causes, cause, none_hold, header_there, record_of-at, new-alone, Plan, IsFound, plan_unless, plan_for, IsPossible}
+use Rattle.list_core.proofs.Imports.{◌≡◌, ℕ, ◌<◌, Option, None, Some, Result, Ok, Err, Bool, true, false, if◌then◌else◌, nat_le, is_some, unwrap_or, length, refl, sym, ap, ◌∙◌, subst, OnOk, OnErr, Caps, ConnId, Refusal, BadLock, BadHeader, BadIndex, At, ListCmd, Write, Update, Read, Move, Delete, ReadList, LockSet, LockReset, LockTest, LControls, SetLimit, Unmonitor, ListReply, Shape, pairwise, Record, Lists, all_records, ids_apart, record_of, record_at, no_record, Content, IsContent, headers_of, locks_of, record_refusal, lock_refusal, index_refusal, causes, cause, none_hold, header_there, record_of-at, new-alone, Plan, IsFound, plan_unless, plan_for, IsPossible}
 use Rattle.cf_types.specs.declared.list_commands.ListCmd.TheVariants.{Monitor}
 
 -- the plan that is taken is the one that was wanted

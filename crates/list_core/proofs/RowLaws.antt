@@ -1,5 +1,5 @@
 -- Monitors as triples, and back.
-use Rattle.list_core.proofs.Names.{◌≡◌, ℕ, ◌+◌, Bool, true, false, not, cond, List, [], ◌∷◌, map, refl, sym, ap, arith, list_all, and_from, false≢true, Lists, Monitor, Watched, monitors_of, differs, has_records, Triple, triple_of, monitor_of, is_told, told_row}
+use Rattle.list_core.proofs.Imports.{◌≡◌, ℕ, ◌+◌, Bool, true, false, not, cond, List, [], ◌∷◌, map, refl, sym, ap, arith, list_all, and_from, false≢true, Lists, Monitor, Watched, monitors_of, differs, has_records, Triple, triple_of, monitor_of, is_told, told_row}
 
 pub map-triples : (rows : List Watched) → map (λ (row : Watched). triple_of row.monitor) rows ≡ map triple_of
     (monitors_of rows)

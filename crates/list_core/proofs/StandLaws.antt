@@ -1,5 +1,5 @@
 -- The bits that stand, where the same headers have records.
-use Rattle.list_core.proofs.Names.{◌≡◌, ℕ, Bool, ◌&&◌, ◌||◌, List, [], ◌∷◌, refl, ap, ◌∙◌, ConnId, Monitor, is_at}
+use Rattle.list_core.proofs.Imports.{◌≡◌, ℕ, Bool, ◌&&◌, ◌||◌, List, [], ◌∷◌, refl, ap, ◌∙◌, ConnId, Monitor, is_at}
 use Rattle.list_model.specs.ListWatch.Monitors as watch
 
 pub stands-agree : (monitors : List Monitor) (f g : ℕ → Bool) → ((header : ℕ) → f header ≡ g header)

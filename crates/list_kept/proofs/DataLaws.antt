@@ -1,5 +1,5 @@
 -- Records and the chains in which their data lie.
-use Rattle.list_kept.proofs.Names.{◌≡◌, ℕ, zero, suc, ◌+◌, ◌≤◌, ◌<◌, true, List, [], ◌∷◌, length, replicate, sum_by, Option, None, Some, refl, sym, ap, subst, arith, IfSome, is_none, option_or, list_all, list_any, sum_by-cons, need_at, pairwise, found_passes, Named, Record, Lists, is_id, ids_apart, all_records, record_of, lists_replaced, StoreView, names_apart, elements_in, elements_of, Bare, AreUsed, blank, with_data, renewed, AreNamed}
+use Rattle.list_kept.proofs.Imports.{◌≡◌, ℕ, zero, suc, ◌+◌, ◌≤◌, ◌<◌, true, List, [], ◌∷◌, length, replicate, sum_by, Option, None, Some, refl, sym, ap, subst, arith, IfSome, is_none, option_or, list_all, list_any, sum_by-cons, need_at, pairwise, found_passes, Named, Record, Lists, is_id, ids_apart, all_records, record_of, lists_replaced, StoreView, names_apart, elements_in, elements_of, Bare, AreUsed, blank, with_data, renewed, AreNamed}
 use Rattle.list_store.specs.Records as store
 use Rattle.list_kept.proofs.NamedLaws.{replaced, named_other, elements_with, same_id, some_found}
 

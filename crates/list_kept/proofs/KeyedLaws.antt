@@ -1,5 +1,5 @@
 -- The first record with a key, among records in order.
-use Rattle.list_kept.proofs.Names.{◌≡◌, ℕ, suc, ◌+◌, Bool, true, false, not, cond, List, [], ◌∷◌, Option, Some, None, Ordering, Less, Equal, Greater, is_lt, is_gt, nat_cmp, find, slice_get, refl, sym, ap, ◌∙◌, arith, is_eq, bytes_decides, slice_cmp, texts_ties, list_all, prefix_len, and_parts, not-true, false≢true, Key16, pairwise, find_none, none_from_all, list_all_weaker, Record, key_up_to, key_before, same_key, has_key, may_precede, key_back, key_up_to-either, not_false, comes_behind}
+use Rattle.list_kept.proofs.Imports.{◌≡◌, ℕ, suc, ◌+◌, Bool, true, false, not, cond, List, [], ◌∷◌, Option, Some, None, Ordering, Less, Equal, Greater, is_lt, is_gt, nat_cmp, find, slice_get, refl, sym, ap, ◌∙◌, arith, is_eq, bytes_decides, slice_cmp, texts_ties, list_all, prefix_len, and_parts, not-true, false≢true, Key16, pairwise, find_none, none_from_all, list_all_weaker, Record, key_up_to, key_before, same_key, has_key, may_precede, key_back, key_up_to-either, not_false, comes_behind}
 
 -- a key that is given, if one is
 abbrev is_key : Key16 → Option Key16 → Bool

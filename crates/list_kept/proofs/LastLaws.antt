@@ -1,5 +1,5 @@
 -- The last record, and where there is none.
-use Rattle.list_kept.proofs.Names.{◌≡◌, ℕ, ◌-◌, ◌<◌, ◌==◌, ◌++◌, ◌∷◌, [], not, true, false, List, length, length-append, take, drop, suc, refl, ap, ◌∙◌, arith, nat_tests, Record, Lists, all_records, records_of, with_records, count_of, IsLastFull, all-split, popped, first_records}
+use Rattle.list_kept.proofs.Imports.{◌≡◌, ℕ, ◌-◌, ◌<◌, ◌==◌, ◌++◌, ◌∷◌, [], not, true, false, List, length, length-append, take, drop, suc, refl, ap, ◌∙◌, arith, nat_tests, Record, Lists, all_records, records_of, with_records, count_of, IsLastFull, all-split, popped, first_records}
 use Rattle.cf_lists.proofs.AllLaws as store
 
 pub some_test : (n : ℕ) → 0 < n → not (n == 0) ≡ true

@@ -1,5 +1,5 @@
 pub use Rattle.list_store.proofs as ListStore
-pub mod Names
+pub mod Imports
 pub mod ToldLaws
 pub mod ReadLaws
 pub mod LastLaws

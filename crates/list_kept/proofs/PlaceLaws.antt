@@ -1,5 +1,5 @@
 -- Where a record comes to stand among records in order.
-use Rattle.list_kept.proofs.Names.{◌≡◌, ℕ, ◌≤◌, Bool, true, false, not, ◌||◌, Option, List, [], length, replicate, zero, suc, option_map, find, refl, sym, ap, ◌∙◌, arith, list_all, false≢true, get_or_past, Key16, EntryId, pairwise, pairwise_weaker, pairwise-filter, goes_first, list_of-get_or, Record, Lists, records_of, all_records, is_id, lists_without, all-replicate, key_up_to, may_precede, names_apart, has_name, elements_in, key_up_to-trans, all-without, ordered_without, comes_behind, Named, id_of, AreNamed, IsOrderly}
+use Rattle.list_kept.proofs.Imports.{◌≡◌, ℕ, ◌≤◌, Bool, true, false, not, ◌||◌, Option, List, [], length, replicate, zero, suc, option_map, find, refl, sym, ap, ◌∙◌, arith, list_all, false≢true, get_or_past, Key16, EntryId, pairwise, pairwise_weaker, pairwise-filter, goes_first, list_of-get_or, Record, Lists, records_of, all_records, is_id, lists_without, all-replicate, key_up_to, may_precede, names_apart, has_name, elements_in, key_up_to-trans, all-without, ordered_without, comes_behind, Named, id_of, AreNamed, IsOrderly}
 use Rattle.list_kept.proofs.ReadLaws.{elements_fewer}
 
 behind_too : (head : Bool) (key : Option Key16) (x y : Record) → may_precede x y ≡ true

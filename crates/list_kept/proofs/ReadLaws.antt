@@ -1,5 +1,5 @@
 -- Records counted and looked for, a header at a time.
-use Rattle.list_kept.proofs.Names.{◌≡◌, ℕ, ◌+◌, ◌≤◌, ◌<◌, not, List, [], ◌∷◌, ◌++◌, length, length-append, drop, sym, ap, ◌∙◌, drop_more, sum_by-filter-le, EntryId, Record, Lists, all_records, records_of, records_without, is_id, count_of, list_of-get_or, elements_in, size}
+use Rattle.list_kept.proofs.Imports.{◌≡◌, ℕ, ◌+◌, ◌≤◌, ◌<◌, not, List, [], ◌∷◌, ◌++◌, length, length-append, drop, sym, ap, ◌∙◌, drop_more, sum_by-filter-le, EntryId, Record, Lists, all_records, records_of, records_without, is_id, count_of, list_of-get_or, elements_in, size}
 
 pub drop_lists : (lists : Lists) (h : ℕ) → h < length lists → drop h lists ≡ records_of lists h ∷ drop (h + 1) lists
 drop_lists lists h lt =

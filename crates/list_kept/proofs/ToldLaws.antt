@@ -1,5 +1,5 @@
 -- The bits that connectors were told stay those that stand.
-use Rattle.list_kept.proofs.Names.{◌≡◌, ℕ, Bool, true, false, not, ◌&&◌, ◌||◌, ◌==◌, if◌then◌else◌, Option, Some, None, List, [], ◌∷◌, filter, refl, sym, ap, ◌∙◌, arith, list_all, and_parts, and_from, false≢true, eqb-true, nat_tests, list_all-append, ConnId, BitChange, Bits, Gains, difference, list_all-filter, Lists, all_records, ids_apart, record_of, spot_of, lists_without, Monitor, Watched, is_at, is_replaced, monitors_of, is_lit, bit_of, row_turned, rows_turned, rows_with, differs, Content, has_records, Key16, EntryId, pairwise, Record, Spot, with_new_key, full-elsewhere, full-others, put_back, is_told}
+use Rattle.list_kept.proofs.Imports.{◌≡◌, ℕ, Bool, true, false, not, ◌&&◌, ◌||◌, ◌==◌, if◌then◌else◌, Option, Some, None, List, [], ◌∷◌, filter, refl, sym, ap, ◌∙◌, arith, list_all, and_parts, and_from, false≢true, eqb-true, nat_tests, list_all-append, ConnId, BitChange, Bits, Gains, difference, list_all-filter, Lists, all_records, ids_apart, record_of, spot_of, lists_without, Monitor, Watched, is_at, is_replaced, monitors_of, is_lit, bit_of, row_turned, rows_turned, rows_with, differs, Content, has_records, Key16, EntryId, pairwise, Record, Spot, with_new_key, full-elsewhere, full-others, put_back, is_told}
 use Rattle.list_watch.specs.Monitors as watch
 
 -- ---- the bits that stand

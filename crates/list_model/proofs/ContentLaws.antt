@@ -1,5 +1,5 @@
 -- Every command and departure leads from content to content.
-use Rattle.list_model.proofs.Names.{◌≡◌, ℕ, ◌+◌, ◌-◌, ◌<◌, ◌≤◌, ◌==◌, ◌&&◌, Bool, true, false, not, cond, List, [], ◌∷◌, ◌++◌, Option, Some, None, is_some, is_none, unwrap_or, length, filter, find, map, set, length-set, nat_lt, nat_le, sum_by, refl, sym, ap, ◌∙◌, subst, arith, list_all, option_or, and_parts, and_from, not-true, false≢true, nat_tests, length-map, filter-append, list_all-map, sum_by-cons, Caps, Refs, At, Cond, ListCmd, Write, Update, Read, Move, Delete, ReadList, LockSet, LockReset, LockTest, LControls, SetLimit, Unmonitor, Key16, Name16, ConnId, EntryId, Refusal, Shape, first_refusal, insertion, pairwise, list_all-filter, list_all_weaker, list_all_always, list_all-filter_same, filter_all, length-filter-le, sum_by-filter-le, any_is_found, all_from_none, pairwise-filter, pairwise-map, Record, Lists, records_of, all_records, is_id, records_without, lists_without, replaced_by, lists_replaced, ids_apart, is_of, is_for, monitors_with, AreMonitors, has_name, elements_of, next_version, is_reference, is_known, names_apart, may_precede, record_at, the_record, no_record, stands_before, with_record, Content, IsContent, is_given, headers_of, locks_of, refs_of, is_within, content_without, holder_without, header_refusal, new_key_refusal, record_refusal, taken_refusal, name_refusal, entries_refusal, elements_refusal, index_refusal, cause, done}
+use Rattle.list_model.proofs.Imports.{◌≡◌, ℕ, ◌+◌, ◌-◌, ◌<◌, ◌≤◌, ◌==◌, ◌&&◌, Bool, true, false, not, cond, List, [], ◌∷◌, ◌++◌, Option, Some, None, is_some, is_none, unwrap_or, length, filter, find, map, set, length-set, nat_lt, nat_le, sum_by, refl, sym, ap, ◌∙◌, subst, arith, list_all, option_or, and_parts, and_from, not-true, false≢true, nat_tests, length-map, filter-append, list_all-map, sum_by-cons, Caps, Refs, At, Cond, ListCmd, Write, Update, Read, Move, Delete, ReadList, LockSet, LockReset, LockTest, LControls, SetLimit, Unmonitor, Key16, Name16, ConnId, EntryId, Refusal, Shape, first_refusal, insertion, pairwise, list_all-filter, list_all_weaker, list_all_always, list_all-filter_same, filter_all, length-filter-le, sum_by-filter-le, any_is_found, all_from_none, pairwise-filter, pairwise-map, Record, Lists, records_of, all_records, is_id, records_without, lists_without, replaced_by, lists_replaced, ids_apart, is_of, is_for, monitors_with, AreMonitors, has_name, elements_of, next_version, is_reference, is_known, names_apart, may_precede, record_at, the_record, no_record, stands_before, with_record, Content, IsContent, is_given, headers_of, locks_of, refs_of, is_within, content_without, holder_without, header_refusal, new_key_refusal, record_refusal, taken_refusal, name_refusal, entries_refusal, elements_refusal, index_refusal, cause, done}
 use Rattle.cf_types.specs.declared.forms.Refs.TheVariants as refs
 use Rattle.cf_types.specs.declared.list_commands.At.TheVariants as ref
 use Rattle.cf_types.specs.declared.list_commands.ListCmd.TheVariants.{Monitor}

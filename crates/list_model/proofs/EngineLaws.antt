@@ -1,5 +1,5 @@
 -- The laws of the engine's meaning.
-use Rattle.list_model.proofs.Names.{◌&&◌, ◌≡◌, ℕ, zero, suc, ◌+◌, ◌-◌, ◌<◌, ◌≤◌, IsTrue, ◌==◌, ◌||◌, Bool, true, false, not, cond, List, [], ◌∷◌, ◌++◌, Option, None, is_some, length, length-append, length-take, map, take, drop, take-append-drop, replicate, sum_by, ◌⊎◌, inl, inr, refl, sym, ap, ◌∙◌, subst, append_assoc, arith, list_all, list_any, and_parts, and_from, or_from, nat_tests, length-replicate, sum_by-cons, sum_by-append, slice_get_within, is_list, Caps, Kind, ConnId, Key16, Name16, EntryId, Shape, Fits, IsNoMore, IsNoMoreOf, IsNextItem, content_of_items, FrontLaws, pairwise, pairwise_front, take_next, none_from_all, list_all_weaker, Record, Lists, all_records, count_of, ids_apart, records_of, with_records, is_id, ListItem, Row, elements_in, is_known, names_apart, may_precede, first_records, Content, IsContent, is_given, no_content, headers_of, locks_of, refs_of, content_without, has_controls, controls_of, row_of, rows_from, items_of, content_with, content_without_last, entries_for, elements_for, need_of, list_meaning}
+use Rattle.list_model.proofs.Imports.{◌&&◌, ◌≡◌, ℕ, zero, suc, ◌+◌, ◌-◌, ◌<◌, ◌≤◌, IsTrue, ◌==◌, ◌||◌, Bool, true, false, not, cond, List, [], ◌∷◌, ◌++◌, Option, None, is_some, length, length-append, length-take, map, take, drop, take-append-drop, replicate, sum_by, ◌⊎◌, inl, inr, refl, sym, ap, ◌∙◌, subst, append_assoc, arith, list_all, list_any, and_parts, and_from, or_from, nat_tests, length-replicate, sum_by-cons, sum_by-append, slice_get_within, is_list, Caps, Kind, ConnId, Key16, Name16, EntryId, Shape, Fits, IsNoMore, IsNoMoreOf, IsNextItem, content_of_items, FrontLaws, pairwise, pairwise_front, take_next, none_from_all, list_all_weaker, Record, Lists, all_records, count_of, ids_apart, records_of, with_records, is_id, ListItem, Row, elements_in, is_known, names_apart, may_precede, first_records, Content, IsContent, is_given, no_content, headers_of, locks_of, refs_of, content_without, has_controls, controls_of, row_of, rows_from, items_of, content_with, content_without_last, entries_for, elements_for, need_of, list_meaning}
 use Rattle.cf_types.specs.declared.forms.Kind.TheVariants as kind
 use Rattle.engine_api.proofs.FrontLaws as front
 use Rattle.list_model.proofs.RecordLaws.{ids_apart-sym}

@@ -1,4 +1,4 @@
-pub mod Names
+pub mod Imports
 pub mod RecordLaws
 pub mod ListLaws
 pub mod MonitorLaws

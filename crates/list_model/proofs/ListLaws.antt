@@ -1,5 +1,5 @@
 -- Lists of records for each header: a record more, one taken out, one changed.
-use Rattle.list_model.proofs.Names.{◌≡◌, ℕ, zero, suc, ◌+◌, ◌<◌, ◌&&◌, Bool, true, false, not, cond, List, [], ◌∷◌, ◌++◌, Option, Some, length, length-append, find, map, slice_get, sum_by, refl, sym, ap, ◌∙◌, subst, append_assoc, arith, list_all, and_parts, and_from, map-append, filter-append, sum_by-cons, sum_by-append, EntryId, insertion, pairwise, list_all_weaker, Record, Lists, records_of, with_records, all_records, is_id, records_without, lists_without}
+use Rattle.list_model.proofs.Imports.{◌≡◌, ℕ, zero, suc, ◌+◌, ◌<◌, ◌&&◌, Bool, true, false, not, cond, List, [], ◌∷◌, ◌++◌, Option, Some, length, length-append, find, map, slice_get, sum_by, refl, sym, ap, ◌∙◌, subst, append_assoc, arith, list_all, and_parts, and_from, map-append, filter-append, sum_by-cons, sum_by-append, EntryId, insertion, pairwise, list_all_weaker, Record, Lists, records_of, with_records, all_records, is_id, records_without, lists_without}
 
 -- ---- a list with one more element somewhere
 

@@ -1,5 +1,5 @@
 -- Records: the order of their keys, and names and ids apart.
-use Rattle.list_model.proofs.Names.{◌≡◌, ℕ, ◌==◌, Bool, true, false, not, List, Option, Some, None, Ordering, Less, Equal, Greater, is_lt, is_gt, nat_cmp, refl, sym, ap, ◌∙◌, subst, arith, ordering_reverse, slice_cmp, nat_list_cmp_total, not-true, false≢true, nat_tests, upto, Key16, Name16, same_name, same_name-eq, same_name-refl, insertion, pairwise, list_all_always, FindsPlace, pairwise-insertion, Record, is_id, ids_apart, key_before, key_up_to, names_apart, may_precede, stands_before}
+use Rattle.list_model.proofs.Imports.{◌≡◌, ℕ, ◌==◌, Bool, true, false, not, List, Option, Some, None, Ordering, Less, Equal, Greater, is_lt, is_gt, nat_cmp, refl, sym, ap, ◌∙◌, subst, arith, ordering_reverse, slice_cmp, nat_list_cmp_total, not-true, false≢true, nat_tests, upto, Key16, Name16, same_name, same_name-eq, same_name-refl, insertion, pairwise, list_all_always, FindsPlace, pairwise-insertion, Record, is_id, ids_apart, key_before, key_up_to, names_apart, may_precede, stands_before}
 
 -- ---- the order of keys
 

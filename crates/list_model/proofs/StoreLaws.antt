@@ -1,6 +1,6 @@
 -- What an engine over a store of records goes by: the record that is named by its id, where a record comes to stand,
 -- which headers have records then, and how many records and elements there are.
-use Rattle.list_model.proofs.Names.{◌≡◌, ℕ, zero, suc, ◌==◌, ◌&&◌, ◌||◌, Bool, true, false, not, cond, List, [], ◌∷◌, ◌++◌, Option, Some, None, option_map, length, find, map, position, nat_lt, refl, sym, ap, ◌∙◌, subst, arith, list_all, list_any, position_or_len, prefix_len, and_parts, not-true, or_right, false≢true, nat_tests, length-map, Caps, At, EntryId, Shape, insertion, pairwise, none_from_all, list_all_weaker, filter_all, all_from_none, any_is_placed, insert-prefix_len, Record, Spot, record_id, Lists, records_of, with_records, all_records, is_id, has_id, record_of, spot_in, spot_of, records_without, lists_without, lists_with, replaced_by, lists_replaced, ids_apart, none_behind, pairwise_back, once, record_at, stands_before, with_record, Content, IsContent, is_given, has_records}
+use Rattle.list_model.proofs.Imports.{◌≡◌, ℕ, zero, suc, ◌==◌, ◌&&◌, ◌||◌, Bool, true, false, not, cond, List, [], ◌∷◌, ◌++◌, Option, Some, None, option_map, length, find, map, position, nat_lt, refl, sym, ap, ◌∙◌, subst, arith, list_all, list_any, position_or_len, prefix_len, and_parts, not-true, or_right, false≢true, nat_tests, length-map, Caps, At, EntryId, Shape, insertion, pairwise, none_from_all, list_all_weaker, filter_all, all_from_none, any_is_placed, insert-prefix_len, Record, Spot, record_id, Lists, records_of, with_records, all_records, is_id, has_id, record_of, spot_in, spot_of, records_without, lists_without, lists_with, replaced_by, lists_replaced, ids_apart, none_behind, pairwise_back, once, record_at, stands_before, with_record, Content, IsContent, is_given, has_records}
 use Rattle.list_model.specs.Commands.Write as write
 use Rattle.list_model.proofs.RecordLaws.{is_id-refl, ids_apart-sym}
 use Rattle.list_model.proofs.ListLaws.{with-pairwise, IsIn}

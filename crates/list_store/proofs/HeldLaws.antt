@@ -1,5 +1,5 @@
 -- The chains of records, and those that no record has.
-use Rattle.list_store.proofs.Names.{◌≡◌, ◌≢◌, ℕ, zero, suc, ◌+◌, List, [], ◌∷◌, ◌++◌, set, get_or, slice_get, sum_by, Option, None, Some, refl, sym, ap, ◌∙◌, subst, arith, get_or-set_other, get_or_from_slice_get, get-set_other, sum_by-set, sum_by-cons, get_within, Every, Chain, IsChain, need_at, Rec, Record, record_in, body_in, HasChain, chains_less, loose_in, AreHeld}
+use Rattle.list_store.proofs.Imports.{◌≡◌, ◌≢◌, ℕ, zero, suc, ◌+◌, List, [], ◌∷◌, ◌++◌, set, get_or, slice_get, sum_by, Option, None, Some, refl, sym, ap, ◌∙◌, subst, arith, get_or-set_other, get_or_from_slice_get, get-set_other, sum_by-set, sum_by-cons, get_within, Every, Chain, IsChain, need_at, Rec, Record, record_in, body_in, HasChain, chains_less, loose_in, AreHeld}
 
 -- ---- one list of chains
 

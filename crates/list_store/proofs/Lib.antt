@@ -1,4 +1,4 @@
-pub mod Names
+pub mod Imports
 pub mod VecLaws
 pub mod TiedLaws
 pub mod SpotLaws

@@ -1,5 +1,5 @@
 -- A header and a place as a spot.
-use Rattle.list_store.proofs.Names.{◌≡◌, ℕ, true, false, [], Option, Some, None, option_map, position, refl, sym, ap, ◌∙◌, list_any, false≢true, position-Some, none_placed, list_of-get_or, EntryId, Spot, Lists, record_id, is_id, has_id, spot_of, spot_in, as_spot}
+use Rattle.list_store.proofs.Imports.{◌≡◌, ℕ, true, false, [], Option, Some, None, option_map, position, refl, sym, ap, ◌∙◌, list_any, false≢true, position-Some, none_placed, list_of-get_or, EntryId, Spot, Lists, record_id, is_id, has_id, spot_of, spot_in, as_spot}
 use Rattle.cf_lists.specs.Lists as generic
 use Rattle.list_store.specs.Lists.{records_of}
 

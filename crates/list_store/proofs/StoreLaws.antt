@@ -1,5 +1,5 @@
 -- What a call does to the records that are shown, and to the chains that no record has.
-use Rattle.list_store.proofs.Names.{◌≡◌, ℕ, zero, suc, ◌+◌, ◌-◌, ◌<◌, true, false, not, List, [], ◌∷◌, ◌++◌, map, set, slice_get, replicate, sum_by, length, Option, None, Some, is_some, option_map, Result, Ok, Err, refl, sym, ap, ◌∙◌, subst, arith, Bor, IfSome, IfNone, IfOk, OnErr, nat_le, ◌≤◌, get_or, sum_by-cons, pairwise, all_records, records_of, record_of, lists_with, lists_without, lists_replaced, replaced_by, ids_apart, list_any, list_all, any_is_found, any_all, all-filter, all-map, without_absent, every_at, every_found, all_with, agree_all, IsSplit, split_found, Chain, NoElements, need_of, Chains, IsChain, need_at, need_in, with_chain, without_chain, Rec, TableView, rec_id, Record, record_in, HasChain, chains_less, loose_in, is_data, AreHeld, elements_in, StoreView, and_from, and_parts, le-leb, leb-true, get_or_from_slice_get, get_within}
+use Rattle.list_store.proofs.Imports.{◌≡◌, ℕ, zero, suc, ◌+◌, ◌-◌, ◌<◌, true, false, not, List, [], ◌∷◌, ◌++◌, map, set, slice_get, replicate, sum_by, length, Option, None, Some, is_some, option_map, Result, Ok, Err, refl, sym, ap, ◌∙◌, subst, arith, Bor, IfSome, IfNone, IfOk, OnErr, nat_le, ◌≤◌, get_or, sum_by-cons, pairwise, all_records, records_of, record_of, lists_with, lists_without, lists_replaced, replaced_by, ids_apart, list_any, list_all, any_is_found, any_all, all-filter, all-map, without_absent, every_at, every_found, all_with, agree_all, IsSplit, split_found, Chain, NoElements, need_of, Chains, IsChain, need_at, need_in, with_chain, without_chain, Rec, TableView, rec_id, Record, record_in, HasChain, chains_less, loose_in, is_data, AreHeld, elements_in, StoreView, and_from, and_parts, le-leb, leb-true, get_or_from_slice_get, get_within}
 use Rattle.cf_lists.specs.Lists.{is_id, has_id}
 use Rattle.list_store.proofs.VecLaws.{list_all-set, list_all-get_or}
 use Rattle.list_store.proofs.HeldLaws.{less_swap, has_swap, loose_middle, held_middle, loose_sub, each_chain, elsewhere_fresh, elsewhere_loose, loose_change, held_change, record_change, counted, loose_fresh}

@@ -1,5 +1,5 @@
 -- A record more or less in the slab, the orders and the map at once.
-use Rattle.list_store.proofs.Names.{◌≡◌, ◌≢◌, inl, inr, ℕ, ◌<◌, ◌≤◌, Bool, true, false, cond, ◌==◌, List, [], ◌∷◌, ◌++◌, ◌-◌, length, map, set, take, replicate, slice_get, zero, suc, Option, Some, None, is_some, option_map, unwrap_or, refl, sym, ap, ◌∙◌, subst, arith, IsSome, IfSome, IfNone, slice_index_or, list_all, list_any, remove, false≢true, eq-eqb, eqb-true, ltb-true, eqb_tells, length-map, drop_all, append-nil, Slab, get, Updates, pairwise, find_none, all_records, records_of, record_of, lists_with, lists_without, lists_replaced, replaced_by, ids_apart, stands, any_all, list_of-get_or, IsPlaced, record_there, taken_there, without_absent, apart-with, apart-without, apart-changed, gone, placed_at, spot_there, no_spot, header_within, records_of-map, get-map, with-map, removed-map, stands_new, stands_more, stands_either, stands_at, stands_still, stands_before, place_stands, agree, any_stands, any_key, twice, Rec, rec_id, no_rec, rec_at, lists_at, spot_for, Writes, IsHeld, IsFound, IsTied, is_few}
+use Rattle.list_store.proofs.Imports.{◌≡◌, ◌≢◌, inl, inr, ℕ, ◌<◌, ◌≤◌, Bool, true, false, cond, ◌==◌, List, [], ◌∷◌, ◌++◌, ◌-◌, length, map, set, take, replicate, slice_get, zero, suc, Option, Some, None, is_some, option_map, unwrap_or, refl, sym, ap, ◌∙◌, subst, arith, IsSome, IfSome, IfNone, slice_index_or, list_all, list_any, remove, false≢true, eq-eqb, eqb-true, ltb-true, eqb_tells, length-map, drop_all, append-nil, Slab, get, Updates, pairwise, find_none, all_records, records_of, record_of, lists_with, lists_without, lists_replaced, replaced_by, ids_apart, stands, any_all, list_of-get_or, IsPlaced, record_there, taken_there, without_absent, apart-with, apart-without, apart-changed, gone, placed_at, spot_there, no_spot, header_within, records_of-map, get-map, with-map, removed-map, stands_new, stands_more, stands_either, stands_at, stands_still, stands_before, place_stands, agree, any_stands, any_key, twice, Rec, rec_id, no_rec, rec_at, lists_at, spot_for, Writes, IsHeld, IsFound, IsTied, is_few}
 use Rattle.cf_lists.specs.Lists.{is_id, spot_of}
 use Rattle.list_store.proofs.VecLaws.{list_all-get_or}
 

@@ -1,5 +1,5 @@
 -- Vectors of slab keys, seen as lists.
-use Rattle.list_store.proofs.Names.{◌≡◌, ℕ, ◌+◌, ◌<◌, ◌≤◌, true, ◌&&◌, Bool, nat_lt, List, [], ◌∷◌, length, get_or, set, take, replicate, zero, suc, refl, sym, ap, ◌∙◌, arith, ◌==◌, position, slice_get, Some, list_all, remove, vec_len, vec_capacity, Vec, Global, and_parts, and_from, ltb-true, lt-ltb, eqb-true, length-map, get_or-map, map-set, set-get_or, take_more_set, length-remove, list_all-append, position-Some, slice_get-get_or, all_records, orders_in, has_place, is_few, list_of, list_of-get_or}
+use Rattle.list_store.proofs.Imports.{◌≡◌, ℕ, ◌+◌, ◌<◌, ◌≤◌, true, ◌&&◌, Bool, nat_lt, List, [], ◌∷◌, length, get_or, set, take, replicate, zero, suc, refl, sym, ap, ◌∙◌, arith, ◌==◌, position, slice_get, Some, list_all, remove, vec_len, vec_capacity, Vec, Global, and_parts, and_from, ltb-true, lt-ltb, eqb-true, length-map, get_or-map, map-set, set-get_or, take_more_set, length-remove, list_all-append, position-Some, slice_get-get_or, all_records, orders_in, has_place, is_few, list_of, list_of-get_or}
 
 pub list_all-set : {X : Type 0} (p : X → Bool) (xs : List X) (i : ℕ) (y : X) → list_all p xs ≡ true → p y ≡ true
     → list_all p (set xs i y) ≡ true

@@ -1,5 +1,5 @@
 -- The bits that change when monitors come, turn and end.
-use Rattle.list_watch.proofs.Names.{◌≡◌, ℕ, Bool, true, false, not, ◌&&◌, ◌||◌, ◌==◌, if◌then◌else◌, List, [], ◌∷◌, ◌++◌, filter, map, refl, sym, ap, ◌∙◌, subst₂, inl, inr, ◌⊎◌, arith, list_any, list_all, and_parts, false≢true, eqb-true, eq-eqb, nat_tests, map-id, list_all-map, list_any-append, any-filter_same, ConnId, BitChange, Gains, bits_told, difference, gains_none, gains_one, gains_then, pairwise, none_from_all, list_all_weaker, Monitor, Watched, is_at, is_for, places_apart, monitors_of, is_lit, bit_of, row_turned, change_to, differs, is_turned, turn_changes, rows_put}
+use Rattle.list_watch.proofs.Imports.{◌≡◌, ℕ, Bool, true, false, not, ◌&&◌, ◌||◌, ◌==◌, if◌then◌else◌, List, [], ◌∷◌, ◌++◌, filter, map, refl, sym, ap, ◌∙◌, subst₂, inl, inr, ◌⊎◌, arith, list_any, list_all, and_parts, false≢true, eqb-true, eq-eqb, nat_tests, map-id, list_all-map, list_any-append, any-filter_same, ConnId, BitChange, Gains, bits_told, difference, gains_none, gains_one, gains_then, pairwise, none_from_all, list_all_weaker, Monitor, Watched, is_at, is_for, places_apart, monitors_of, is_lit, bit_of, row_turned, change_to, differs, is_turned, turn_changes, rows_put}
 
 -- ---- one monitor at most at an index
 

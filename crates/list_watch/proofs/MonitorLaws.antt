@@ -1,5 +1,5 @@
 -- Monitors stay one for an index and one for a header.
-use Rattle.list_watch.proofs.Names.{◌≡◌, ℕ, ◌≤◌, Bool, true, false, not, ◌&&◌, ◌||◌, ◌==◌, cond, List, [], ◌∷◌, ◌++◌, filter, map, length, find, Option, option_map, refl, sym, ap, ◌∙◌, subst, arith, list_all, and_parts, nat_tests, map-append, list_all-map, filter_agree, ConnId, pairwise, filter-filter, list_all_weaker, list_all-filter_same, length-filter-le, filter_none, none_from_all, pairwise-filter, pairwise_push, Monitor, Watched, is_at, is_of, is_for, is_replaced, monitors_with, monitors_without, monitors_of_others, places_apart, headers_apart, AreMonitors, monitors_of, rows_turned, rows_with, rows_without, rows_of_others, rows_put}
+use Rattle.list_watch.proofs.Imports.{◌≡◌, ℕ, ◌≤◌, Bool, true, false, not, ◌&&◌, ◌||◌, ◌==◌, cond, List, [], ◌∷◌, ◌++◌, filter, map, length, find, Option, option_map, refl, sym, ap, ◌∙◌, subst, arith, list_all, and_parts, nat_tests, map-append, list_all-map, filter_agree, ConnId, pairwise, filter-filter, list_all_weaker, list_all-filter_same, length-filter-le, filter_none, none_from_all, pairwise-filter, pairwise_push, Monitor, Watched, is_at, is_of, is_for, is_replaced, monitors_with, monitors_without, monitors_of_others, places_apart, headers_apart, AreMonitors, monitors_of, rows_turned, rows_with, rows_without, rows_of_others, rows_put}
 use Rattle.list_watch.proofs.BitLaws.{is_elsewhere, monitors-turned}
 
 -- ---- rows as monitors

@@ -1,5 +1,5 @@
 -- What the engine keeps of its content.
-use Rattle.lock_core.proofs.Names.{◌≡◌, ℕ, ◌+◌, ◌-◌, ◌≤◌, ◌<◌, [], ◌∷◌, List, Option, Some, None, false, Result, Ok, Err, OnOk, OnErr, ◌++◌, length, length-append, sym, ap, subst, ◌∙◌, arith, length-map, length-take, Caps, ConnId, LockCmd, Waiter, Interest, Content, IsContent, records_in, items, need_of, content_with, content_without_last, with_returned, with_retained, cause, items_in, elements-items, entries-items, Plan, plan_for, LockItem, Owner, Waits, owner-next, waiter-next, content_placed, IsCounted}
+use Rattle.lock_core.proofs.Imports.{◌≡◌, ℕ, ◌+◌, ◌-◌, ◌≤◌, ◌<◌, [], ◌∷◌, List, Option, Some, None, false, Result, Ok, Err, OnOk, OnErr, ◌++◌, length, length-append, sym, ap, subst, ◌∙◌, arith, length-map, length-take, Caps, ConnId, LockCmd, Waiter, Interest, Content, IsContent, records_in, items, need_of, content_with, content_without_last, with_returned, with_retained, cause, items_in, elements-items, entries-items, Plan, plan_for, LockItem, Owner, Waits, owner-next, waiter-next, content_placed, IsCounted}
 
 -- the need of a content is the number of its interests, and of its record data
 pub need-content : (content : Content)

@@ -1,5 +1,5 @@
 -- Waiters that are granted one after another.
-use Rattle.lock_core.proofs.Names.{◌≡◌, ◌+◌, Bool, true, false, cond, ◌∷◌, [], List, Option, Some, None, length, filter, find, refl, sym, ap, ◌∙◌, subst, ◌≤◌, not, Resource, Part, same_part, same_part-eq, same_part-refl, length-filter-le, sum_by-filter-le, ConnId, Waiter, IsQueue, is_by, waiters_without_conn, is_on, is_waiter, waiter_of, first_of, waiters_without, may_own, Content, records_of, records_waiting, settlement_of, with_letters_before, grants, grant, held_by, content_granted, granted_letter, waiters_of-first, if_grantable, next_of}
+use Rattle.lock_core.proofs.Imports.{◌≡◌, ◌+◌, Bool, true, false, cond, ◌∷◌, [], List, Option, Some, None, length, filter, find, refl, sym, ap, ◌∙◌, subst, ◌≤◌, not, Resource, Part, same_part, same_part-eq, same_part-refl, length-filter-le, sum_by-filter-le, ConnId, Waiter, IsQueue, is_by, waiters_without_conn, is_on, is_waiter, waiter_of, first_of, waiters_without, may_own, Content, records_of, records_waiting, settlement_of, with_letters_before, grants, grant, held_by, content_granted, granted_letter, waiters_of-first, if_grantable, next_of}
 use Rattle.cf_lists.proofs.KeyLaws as keys
 
 abbrev part_of : Waiter → Part

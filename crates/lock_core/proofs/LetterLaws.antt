@@ -1,5 +1,5 @@
 -- How many letters a command sends at most.
-use Rattle.lock_core.proofs.Names.{◌+◌, ◌≤◌, Bool, true, false, not, if◌then◌else◌, ◌∷◌, [], List, Option, Some, None, length, filter, ap, arith, ConnId, Resource, Deny, filter_swap, length-filter-le, Waiter, is_on, is_waiter, waiters_of, waiters_without, may_own, manager_of, interests_without, Content, Settlement, settlement_of, with_letters_before, grants, grant, held_by, content_granted, granted_letter}
+use Rattle.lock_core.proofs.Imports.{◌+◌, ◌≤◌, Bool, true, false, not, if◌then◌else◌, ◌∷◌, [], List, Option, Some, None, length, filter, ap, arith, ConnId, Resource, Deny, filter_swap, length-filter-le, Waiter, is_on, is_waiter, waiters_of, waiters_without, may_own, manager_of, interests_without, Content, Settlement, settlement_of, with_letters_before, grants, grant, held_by, content_granted, granted_letter}
 use Rattle.lock_model.specs.Requests as requests
 use Rattle.lock_model.specs.Commands.Obtain as obtain
 use Rattle.lock_model.specs.Commands.Alter as alter

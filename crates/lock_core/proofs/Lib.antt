@@ -1,5 +1,5 @@
 pub use Rattle.lock_model.proofs as LockModel
-pub mod Names
+pub mod Imports
 pub mod ReadLaws
 pub mod GrantLaws
 pub mod LetterLaws

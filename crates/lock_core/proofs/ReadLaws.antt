@@ -1,5 +1,5 @@
 -- What is read of waiters and of interests, and what is found among them.
-use Rattle.lock_core.proofs.Names.{◌≡◌, ℕ, ◌+◌, ◌≤◌, Bool, true, false, ◌||◌, cond, if◌then◌else◌, List, [], ◌∷◌, Option, Some, None, is_some, option_map, filter, find, refl, sym, ap, ◌∙◌, arith, list_any, sum_by-cons, any_is_found, Waiter, waiter_of, waiters_with, recorded_by, recorded_of, recorded_in, IsQueue, recorded_less, recorded_more, Interest, records_of, records_waiting, record_refusal, Refusal, NoRecord, first_refusal}
+use Rattle.lock_core.proofs.Imports.{◌≡◌, ℕ, ◌+◌, ◌≤◌, Bool, true, false, ◌||◌, cond, if◌then◌else◌, List, [], ◌∷◌, Option, Some, None, is_some, option_map, filter, find, refl, sym, ap, ◌∙◌, arith, list_any, sum_by-cons, any_is_found, Waiter, waiter_of, waiters_with, recorded_by, recorded_of, recorded_in, IsQueue, recorded_less, recorded_more, Interest, records_of, records_waiting, record_refusal, Refusal, NoRecord, first_refusal}
 
 -- ---- one that is found
 

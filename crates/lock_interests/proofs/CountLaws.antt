@@ -1,5 +1,5 @@
 -- Record data are as many as the interests that have them, where each is of an owner.
-use Rattle.lock_interests.proofs.Names.{◌≡◌, ℕ, suc, ◌+◌, Bool, true, false, not, ◌&&◌, ◌||◌, ◌==◌, cond, List, [], ◌∷◌, Option, Some, None, is_some, option_map, filter, find, map, length, refl, sym, ap, ◌∙◌, subst, arith, list_any, list_all, and_parts, and_from, false≢true, filter_agree, length-filter_both, ConnId, Resource, Part, same_part, resource_up_to, same_part-eq, same_part-refl, same_part_comm, pairwise, filter_nothing, any_is_found, find-filter, list_any-map, list_all_weaker, list_all-filter, list_all-insertion, list_any-insertion, length-insertion, none_later, length_without, Held, is_interest, has_interest, owners_with, owners_without, in_state, in_retention_of, IsOwners, owners-with, owners-in_state, Waiter, Record, stands_before, is_record, is_of, record_of, has_record, records_with, records_without, records_without_conn, AreRecords, records-filter, records-with, Interest, interests_with, interests_changed, records_of, records_owned, stays, with_alteration, with_record, interests_of, records_put, records_given, AreOwned}
+use Rattle.lock_interests.proofs.Imports.{◌≡◌, ℕ, suc, ◌+◌, Bool, true, false, not, ◌&&◌, ◌||◌, ◌==◌, cond, List, [], ◌∷◌, Option, Some, None, is_some, option_map, filter, find, map, length, refl, sym, ap, ◌∙◌, subst, arith, list_any, list_all, and_parts, and_from, false≢true, filter_agree, length-filter_both, ConnId, Resource, Part, same_part, resource_up_to, same_part-eq, same_part-refl, same_part_comm, pairwise, filter_nothing, any_is_found, find-filter, list_any-map, list_all_weaker, list_all-filter, list_all-insertion, list_any-insertion, length-insertion, none_later, length_without, Held, is_interest, has_interest, owners_with, owners_without, in_state, in_retention_of, IsOwners, owners-with, owners-in_state, Waiter, Record, stands_before, is_record, is_of, record_of, has_record, records_with, records_without, records_without_conn, AreRecords, records-filter, records-with, Interest, interests_with, interests_changed, records_of, records_owned, stays, with_alteration, with_record, interests_of, records_put, records_given, AreOwned}
 use Rattle.lock_record.specs.Recorded as book
 use Rattle.lock_model.specs.Interests as interests
 use Rattle.lock_interests.proofs.JoinLaws.{joined-with, joined-changed}

@@ -1,5 +1,5 @@
 -- Interests with their record data, as owners and record data come, change and go.
-use Rattle.lock_interests.proofs.Names.{◌≡◌, ℕ, Bool, true, false, not, ◌&&◌, ◌||◌, ◌==◌, cond, List, Option, Some, None, is_some, option_map, filter, map, refl, sym, ap, subst, ◌∙◌, option_or, false≢true, ConnId, Resource, Part, same_part, resource_up_to, same_part-eq, same_part-refl, same_part_comm, insertion, find-filter, find_none, none_filtered, find-insertion_past, find-insertion_here, Held, is_interest, owners_with, owners_without, in_state, in_retention_of, Waiter, Record, stands_before, is_record, is_of, record_of, records_with, records_without, records_without_conn, Interest, interests_with, interests_without, interests_changed, with_alteration, stays, with_retained, interests_left, without_record, with_record, interests_of, records_put, records_given, map-filtered, map-insertion, map-either, map-both}
+use Rattle.lock_interests.proofs.Imports.{◌≡◌, ℕ, Bool, true, false, not, ◌&&◌, ◌||◌, ◌==◌, cond, List, Option, Some, None, is_some, option_map, filter, map, refl, sym, ap, subst, ◌∙◌, option_or, false≢true, ConnId, Resource, Part, same_part, resource_up_to, same_part-eq, same_part-refl, same_part_comm, insertion, find-filter, find_none, none_filtered, find-insertion_past, find-insertion_here, Held, is_interest, owners_with, owners_without, in_state, in_retention_of, Waiter, Record, stands_before, is_record, is_of, record_of, records_with, records_without, records_without_conn, Interest, interests_with, interests_without, interests_changed, with_alteration, stays, with_retained, interests_left, without_record, with_record, interests_of, records_put, records_given, map-filtered, map-insertion, map-either, map-both}
 use Rattle.lock_model.specs.Interests as interests
 
 -- ---- record data of one part, and of others

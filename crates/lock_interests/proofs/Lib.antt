@@ -1,4 +1,4 @@
-pub mod Names
+pub mod Imports
 pub mod JoinLaws
 pub mod ReadLaws
 pub mod CountLaws

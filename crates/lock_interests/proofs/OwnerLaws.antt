@@ -1,5 +1,5 @@
 -- What is read of the owners of one resource, and of the resources of one connector; and what a departure leaves.
-use Rattle.lock_interests.proofs.Names.{◌≡◌, ℕ, zero, suc, ◌+◌, ◌<◌, ◌++◌, arith, length, drop, get_or, Bool, true, false, not, ◌&&◌, ◌||◌, ◌==◌, cond, if◌then◌else◌, List, [], ◌∷◌, Option, Some, None, is_some, option_map, filter, find, map, refl, sym, ap, ◌∙◌, subst, option_to_list, list_any, list_all, filter_map, cons_option, append_assoc, filter_agree, and_parts, and_from, eqb-true, false≢true, ConnId, Resource, Part, same_part, same_resource, same_part-eq, same_part-refl, same_resource_comm, pairwise, any_is_found, all_found, found_passes, filter_swap, filter_absorbed, none_later, later_apart, AllFound, found_filter, Held, is_on, is_by, is_interest, has_interest, owners_of, owners_retained, owners_without_active, in_retention, in_retention_of, are_apart, resource_of, Record, is_record, is_of, has_record, record_of, Interest, stays, with_record, interests_of, letters_told, record_read, records_read, held_read, read_in, is_held_retained, retained_at, retained_all, AreOwned}
+use Rattle.lock_interests.proofs.Imports.{◌≡◌, ℕ, zero, suc, ◌+◌, ◌<◌, ◌++◌, arith, length, drop, get_or, Bool, true, false, not, ◌&&◌, ◌||◌, ◌==◌, cond, if◌then◌else◌, List, [], ◌∷◌, Option, Some, None, is_some, option_map, filter, find, map, refl, sym, ap, ◌∙◌, subst, option_to_list, list_any, list_all, filter_map, cons_option, append_assoc, filter_agree, and_parts, and_from, eqb-true, false≢true, ConnId, Resource, Part, same_part, same_resource, same_part-eq, same_part-refl, same_resource_comm, pairwise, any_is_found, all_found, found_passes, filter_swap, filter_absorbed, none_later, later_apart, AllFound, found_filter, Held, is_on, is_by, is_interest, has_interest, owners_of, owners_retained, owners_without_active, in_retention, in_retention_of, are_apart, resource_of, Record, is_record, is_of, has_record, record_of, Interest, stays, with_record, interests_of, letters_told, record_read, records_read, held_read, read_in, is_held_retained, retained_at, retained_all, AreOwned}
 use Rattle.std.proofs.Common.{slice_get}
 use Rattle.lock_model.specs.Interests as interests
 use Rattle.lock_model.specs.Commands.Decide as decide

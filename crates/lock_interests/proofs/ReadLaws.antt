@@ -1,5 +1,5 @@
 -- What is read of interests is read of their owners and their record data.
-use Rattle.lock_interests.proofs.Names.{◌≡◌, ℕ, ◌+◌, ◌≤◌, ◌<◌, ◌-◌, get_or, Bool, true, false, not, ◌&&◌, ◌||◌, ◌==◌, cond, List, [], ◌∷◌, Option, Some, None, is_some, option_map, length, filter, find, map, refl, sym, ap, ◌∙◌, arith, list_any, list_all, filter_map, cons_option, slice_get, false≢true, sum_by-cons, length-map, slice_get-map, slice_get-get_or, ConnId, Resource, same_resource, same_resource_comm, list_any-map, Held, is_on, is_interest, owners_of, Record, record_of, Interest, are_compatible, may_own, is_managing, manager_of, interest_of, interests_with, interests_without, interests_changed, records_of, records_owned, Letter, Inside, InterestsView, interests_view, with_record, interests_of, letters_told, record_read, records_read}
+use Rattle.lock_interests.proofs.Imports.{◌≡◌, ℕ, ◌+◌, ◌≤◌, ◌<◌, ◌-◌, get_or, Bool, true, false, not, ◌&&◌, ◌||◌, ◌==◌, cond, List, [], ◌∷◌, Option, Some, None, is_some, option_map, length, filter, find, map, refl, sym, ap, ◌∙◌, arith, list_any, list_all, filter_map, cons_option, slice_get, false≢true, sum_by-cons, length-map, slice_get-map, slice_get-get_or, ConnId, Resource, same_resource, same_resource_comm, list_any-map, Held, is_on, is_interest, owners_of, Record, record_of, Interest, are_compatible, may_own, is_managing, manager_of, interest_of, interests_with, interests_without, interests_changed, records_of, records_owned, Letter, Inside, InterestsView, interests_view, with_record, interests_of, letters_told, record_read, records_read}
 use Rattle.lock_model.specs.Interests as interests
 use Rattle.lock_model.specs.Interests.{is_by}
 use Rattle.lock_model.specs.Commands.RtRead as rt_read

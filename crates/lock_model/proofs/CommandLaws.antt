@@ -1,5 +1,5 @@
 -- Every command leads from content to content.
-use Rattle.lock_model.proofs.Names.{◌≡◌, ℕ, ◌+◌, ◌≤◌, Bool, true, false, not, cond, List, [], ◌∷◌, Option, Some, None, is_some, length, map, nat_le, refl, ap, ◌∙◌, arith, list_all, and_parts, and_from, not-true, leb-true, length-map, Caps, ConnId, Refusal, StillPending, RecordsFull, Resource, Decision, Keep, Deny, Notify, LockCmd, Obtain, Alter, Release, Decide, RtRead, RtDelete, same_part, first_refusal, list_all-filter, list_all-filter_same, list_all_always, all_from_none, any_is_found, length-filter-le, sum_by-filter-le, list_all-insertion, length-insertion, Waiter, is_waiter, waits, waiters_without, stands_before, Interest, is_of, interest_of, has_interest, interests_with, interests_without, interests_changed, may_own, Content, IsContent, is_due, records_of, records_in, settlement_of, held_by, interests_granted, grant, interested_refusal, interest_refusal, records_refusal, content_asked, wait_settlement, cause, done, queue-filter, queue-with}
+use Rattle.lock_model.proofs.Imports.{◌≡◌, ℕ, ◌+◌, ◌≤◌, Bool, true, false, not, cond, List, [], ◌∷◌, Option, Some, None, is_some, length, map, nat_le, refl, ap, ◌∙◌, arith, list_all, and_parts, and_from, not-true, leb-true, length-map, Caps, ConnId, Refusal, StillPending, RecordsFull, Resource, Decision, Keep, Deny, Notify, LockCmd, Obtain, Alter, Release, Decide, RtRead, RtDelete, same_part, first_refusal, list_all-filter, list_all-filter_same, list_all_always, all_from_none, any_is_found, length-filter-le, sum_by-filter-le, list_all-insertion, length-insertion, Waiter, is_waiter, waits, waiters_without, stands_before, Interest, is_of, interest_of, has_interest, interests_with, interests_without, interests_changed, may_own, Content, IsContent, is_due, records_of, records_in, settlement_of, held_by, interests_granted, grant, interested_refusal, interest_refusal, records_refusal, content_asked, wait_settlement, cause, done, queue-filter, queue-with}
 use Rattle.lock_model.specs.Grants as grants
 use Rattle.lock_model.specs.Commands.Obtain as obtain
 use Rattle.lock_model.specs.Commands.Alter as alter

@@ -1,5 +1,5 @@
 -- The grant rule leads from content to content, with no more record data and no more items.
-use Rattle.lock_model.proofs.Names.{◌≡◌, ℕ, ◌+◌, ◌≤◌, Bool, true, false, not, ◌&&◌, cond, List, [], ◌∷◌, Some, length, find, refl, ap, ◌∙◌, arith, list_all, and_parts, not-true, length-map, Caps, Letter, Resource, same_part, same_part-eq, same_part-refl, same_part_comm, pairwise, list_all-filter, list_all-filter_same, list_all_weaker, list_all_both, pairwise-filter, Waiter, is_on, is_waiter, waiters_of, waiters_without, are_apart, Interest, AreInterests, has_interest, interests_with, interests_changed, may_own, parts_apart, Content, IsContent, is_due, records_of, records_owned, records_in, held_by, with_alteration, interests_granted, content_granted, granted_letter, Settlement, settlement_of, with_letters_before, grants, grant, grant_each, queue-filter}
+use Rattle.lock_model.proofs.Imports.{◌≡◌, ℕ, ◌+◌, ◌≤◌, Bool, true, false, not, ◌&&◌, cond, List, [], ◌∷◌, Some, length, find, refl, ap, ◌∙◌, arith, list_all, and_parts, not-true, length-map, Caps, Letter, Resource, same_part, same_part-eq, same_part-refl, same_part_comm, pairwise, list_all-filter, list_all-filter_same, list_all_weaker, list_all_both, pairwise-filter, Waiter, is_on, is_waiter, waiters_of, waiters_without, are_apart, Interest, AreInterests, has_interest, interests_with, interests_changed, may_own, parts_apart, Content, IsContent, is_due, records_of, records_owned, records_in, held_by, with_alteration, interests_granted, content_granted, granted_letter, Settlement, settlement_of, with_letters_before, grants, grant, grant_each, queue-filter}
 use Rattle.cf_lists.proofs.KeyLaws as keys
 use Rattle.lock_model.proofs.InterestLaws.{has-map, has-with, interests-with, records-with, length-with}
 use Rattle.lock_model.proofs.GrantLaws.{waiter_part as part_of, alteration, alteration-keeps, interests-altered, records-altered}

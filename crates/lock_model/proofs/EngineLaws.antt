@@ -1,5 +1,5 @@
 -- The laws of the engine's meaning.
-use Rattle.lock_model.proofs.Names.{◌≡◌, ◌-◌, ◌≤◌, Bool, true, false, List, [], ◌∷◌, ◌++◌, append-nil, append_assoc, length, length-append, fold, map, sum_by, refl, sym, ap, ◌∙◌, arith, list_any, or_right, false≢true, map-append, take_at, list_any-append, sum_by-append, sum_by-cons, Caps, Kind, ConnId, is_lock, Shape, Fits, IsNoMore, IsNoMoreOf, Waiter, LockItem, Owner, Waits, Interest, Content, IsContent, no_content, records_of, records_in, owner, items, content_with, content_without_last, without_last, entries_of_item, records_of_item, need_of, with_returned, lock_meaning}
+use Rattle.lock_model.proofs.Imports.{◌≡◌, ◌-◌, ◌≤◌, Bool, true, false, List, [], ◌∷◌, ◌++◌, append-nil, append_assoc, length, length-append, fold, map, sum_by, refl, sym, ap, ◌∙◌, arith, list_any, or_right, false≢true, map-append, take_at, list_any-append, sum_by-append, sum_by-cons, Caps, Kind, ConnId, is_lock, Shape, Fits, IsNoMore, IsNoMoreOf, Waiter, LockItem, Owner, Waits, Interest, Content, IsContent, no_content, records_of, records_in, owner, items, content_with, content_without_last, without_last, entries_of_item, records_of_item, need_of, with_returned, lock_meaning}
 use Rattle.cf_types.specs.declared.forms.Kind.TheVariants as kind
 use Rattle.lock_model.proofs.DepartureLaws as departures
 

@@ -1,6 +1,6 @@
 -- Items that come and go one after another: what a content is meanwhile, and where the one that is added or taken
 -- away stands.
-use Rattle.lock_model.proofs.Names.{◌≡◌, ◌+◌, ◌-◌, Bool, true, false, not, cond, List, [], ◌∷◌, ◌++◌, append-nil, append_assoc, Some, length, filter, map, take, drop, sum_by, refl, sym, ap, ◌∙◌, subst, arith, list_all, slice_get, and_parts, and_from, false≢true, take-append-drop, take_all, take_more, filter-append, list_all-append, sum_by-append, get_or_from_slice_get, is_lock, Caps, Resource, same_part, same_part-eq, same_part-refl, FrontLaws, fronts, pairwise, insertion, filter_all, filter_swap, all_from_none, pairwise-filter, pairwise_front, Waiter, is_on, is_waiter, waiters_of, waiters_without, waiters_with, stands_before, are_apart, IsQueue, LockItem, Owner, Waits, Interest, AreInterests, is_of, interests_with, interests_without, stands_up_to, parts_apart, owners_agree, Content, IsContent, is_due, records_of, owner, items, content_with, content_without_last, without_last, lock_meaning}
+use Rattle.lock_model.proofs.Imports.{◌≡◌, ◌+◌, ◌-◌, Bool, true, false, not, cond, List, [], ◌∷◌, ◌++◌, append-nil, append_assoc, Some, length, filter, map, take, drop, sum_by, refl, sym, ap, ◌∙◌, subst, arith, list_all, slice_get, and_parts, and_from, false≢true, take-append-drop, take_all, take_more, filter-append, list_all-append, sum_by-append, get_or_from_slice_get, is_lock, Caps, Resource, same_part, same_part-eq, same_part-refl, FrontLaws, fronts, pairwise, insertion, filter_all, filter_swap, all_from_none, pairwise-filter, pairwise_front, Waiter, is_on, is_waiter, waiters_of, waiters_without, waiters_with, stands_before, are_apart, IsQueue, LockItem, Owner, Waits, Interest, AreInterests, is_of, interests_with, interests_without, stands_up_to, parts_apart, owners_agree, Content, IsContent, is_due, records_of, owner, items, content_with, content_without_last, without_last, lock_meaning}
 use Rattle.cf_lists.proofs.KeyLaws as keys
 use Rattle.lock_model.proofs.InterestLaws.{part_of}
 use Rattle.lock_model.proofs.GrantLaws.{waiter_part}

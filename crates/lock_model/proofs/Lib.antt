@@ -1,4 +1,4 @@
-pub mod Names
+pub mod Imports
 pub mod InterestLaws
 pub mod GrantLaws
 pub mod ContentLaws

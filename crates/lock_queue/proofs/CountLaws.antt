@@ -1,5 +1,5 @@
 -- How many interests there are.
-use Rattle.lock_queue.proofs.Names.{◌≡◌, ℕ, zero, suc, ◌+◌, ◌<◌, ◌≤◌, Bool, true, false, not, if◌then◌else◌, Option, Some, None, is_some, sum_by, List, [], ◌∷◌, ◌++◌, map, filter, drop, get_or, length, refl, sym, ap, ◌∙◌, arith, append_assoc, append-nil, map-append, drop_all, filter-append, arranged, joined, ConnId, Resource, insertion, pairwise, length-insertion, sum_by-insertion, sum_by_without, any_is_found, length-filter-le, list_any, sum_by-append, sum_by-cons, same_part, resource_before, same_part-eq, same_part-refl, one_less, none_out, Waiter, is_waiter, waits, waiter_of, waiters_without, waiters_with, stands_before, are_apart, recorded_by, recorded_of, recorded_in, part_of, resource_of, waiters_in, one_where}
+use Rattle.lock_queue.proofs.Imports.{◌≡◌, ℕ, zero, suc, ◌+◌, ◌<◌, ◌≤◌, Bool, true, false, not, if◌then◌else◌, Option, Some, None, is_some, sum_by, List, [], ◌∷◌, ◌++◌, map, filter, drop, get_or, length, refl, sym, ap, ◌∙◌, arith, append_assoc, append-nil, map-append, drop_all, filter-append, arranged, joined, ConnId, Resource, insertion, pairwise, length-insertion, sum_by-insertion, sum_by_without, any_is_found, length-filter-le, list_any, sum_by-append, sum_by-cons, same_part, resource_before, same_part-eq, same_part-refl, one_less, none_out, Waiter, is_waiter, waits, waiter_of, waiters_without, waiters_with, stands_before, are_apart, recorded_by, recorded_of, recorded_in, part_of, resource_of, waiters_in, one_where}
 
 pub less_one : (r : Resource) (conn : ConnId) (waiters : List Waiter) (b : Bool) → b ≡ waits r conn waiters
     → pairwise are_apart waiters ≡ true → length (waiters_without r conn waiters) + one_where b ≡ length waiters

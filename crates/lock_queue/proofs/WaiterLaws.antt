@@ -1,5 +1,5 @@
 -- Waiters stay in order, with one of a connector for a resource.
-use Rattle.lock_queue.proofs.Names.{◌≡◌, Bool, true, false, not, ◌&&◌, ◌||◌, List, filter, refl, sym, ap, ◌∙◌, Ordering, Less, Equal, Greater, is_lt, ordering_reverse, and_from, and_parts, not-true, false≢true, Resource, resource_cmp, same_resource, resource_before, resource_up_to, resource_cmp_total, same_part_comm, same_resource-eq, list_all_weaker, list_all-filter_same, list_all_always, FindsPlace, pairwise-filter, pairwise-insertion, pairwise-insertion_any, resource_order, is_ahead, Waiter, is_on, is_waiter, waiters_with, waiters_without, stands_before, are_apart, IsQueue}
+use Rattle.lock_queue.proofs.Imports.{◌≡◌, Bool, true, false, not, ◌&&◌, ◌||◌, List, filter, refl, sym, ap, ◌∙◌, Ordering, Less, Equal, Greater, is_lt, ordering_reverse, and_from, and_parts, not-true, false≢true, Resource, resource_cmp, same_resource, resource_before, resource_up_to, resource_cmp_total, same_part_comm, same_resource-eq, list_all_weaker, list_all-filter_same, list_all_always, FindsPlace, pairwise-filter, pairwise-insertion, pairwise-insertion_any, resource_order, is_ahead, Waiter, is_on, is_waiter, waiters_with, waiters_without, stands_before, are_apart, IsQueue}
 
 pub queue-filter : (q : Waiter → Bool) (waiters : List Waiter) → IsQueue waiters → IsQueue (filter q waiters)
 queue-filter q waiters is =

@@ -1,4 +1,4 @@
-pub mod Names
+pub mod Imports
 pub mod PartLaws
 pub mod RecordLaws
 pub mod MapLaws

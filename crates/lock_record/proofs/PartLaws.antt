@@ -1,5 +1,5 @@
 -- Parts in order: by resource, and of one resource by connector.
-use Rattle.lock_record.proofs.Names.{◌≡◌, ℕ, ◌&&◌, ◌||◌, ◌==◌, nat_lt, Bool, true, false, refl, sym, ◌∙◌, subst, arith, and_from, false≢true, nat_tests, Part, resource_before, same_part, same_resource, same_part-eq, same_part-refl, same_resource-eq, same_resource-refl, IsKeyOrder, resource_order, part_before}
+use Rattle.lock_record.proofs.Imports.{◌≡◌, ℕ, ◌&&◌, ◌||◌, ◌==◌, nat_lt, Bool, true, false, refl, sym, ◌∙◌, subst, arith, and_from, false≢true, nat_tests, Part, resource_before, same_part, same_resource, same_part-eq, same_part-refl, same_resource-eq, same_resource-refl, IsKeyOrder, resource_order, part_before}
 
 never : (b s : Bool) (n : ℕ) → b ≡ false → b || (s && nat_lt n n) ≡ false
 never b s n e = grind (arith, nat_tests)

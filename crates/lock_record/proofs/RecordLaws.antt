@@ -1,5 +1,5 @@
 -- Record data stay in order, with those of a connector for a resource once.
-use Rattle.lock_record.proofs.Names.{◌≡◌, Bool, true, not, ◌&&◌, List, filter, refl, ap, ◌∙◌, and_from, not-true, same_part_comm, list_all_weaker, list_all-filter_same, list_all_always, FindsPlace, pairwise-filter, pairwise-insertion, pairwise-insertion_any, Record, is_record, part_of, records_with, records_without, stands_before, in_order, are_apart, AreRecords}
+use Rattle.lock_record.proofs.Imports.{◌≡◌, Bool, true, not, ◌&&◌, List, filter, refl, ap, ◌∙◌, and_from, not-true, same_part_comm, list_all_weaker, list_all-filter_same, list_all_always, FindsPlace, pairwise-filter, pairwise-insertion, pairwise-insertion_any, Record, is_record, part_of, records_with, records_without, stands_before, in_order, are_apart, AreRecords}
 use Rattle.lock_record.proofs.PartLaws.{part_order}
 
 pub records-filter : (q : Record → Bool) (records : List Record) → AreRecords records → AreRecords (filter q records)

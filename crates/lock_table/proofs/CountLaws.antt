@@ -1,5 +1,5 @@
 -- How many interests there are.
-use Rattle.lock_table.proofs.Names.{◌≡◌, ℕ, zero, suc, ◌+◌, ◌<◌, ◌≤◌, Bool, true, false, not, List, [], ◌∷◌, ◌++◌, map, filter, drop, get_or, length, refl, sym, ap, ◌∙◌, arith, append_assoc, append-nil, map-append, drop_all, filter-append, joined, ConnId, Resource, insertion, pairwise, length-insertion, one_less, none_out, Held, has_interest, owners_without, are_apart, part_of, resource_of, one_where}
+use Rattle.lock_table.proofs.Imports.{◌≡◌, ℕ, zero, suc, ◌+◌, ◌<◌, ◌≤◌, Bool, true, false, not, List, [], ◌∷◌, ◌++◌, map, filter, drop, get_or, length, refl, sym, ap, ◌∙◌, arith, append_assoc, append-nil, map-append, drop_all, filter-append, joined, ConnId, Resource, insertion, pairwise, length-insertion, one_less, none_out, Held, has_interest, owners_without, are_apart, part_of, resource_of, one_where}
 
 pub less_one : (r : Resource) (conn : ConnId) (owners : List Held) (b : Bool) → b ≡ has_interest r conn owners
     → pairwise are_apart owners ≡ true → length (owners_without r conn owners) + one_where b ≡ length owners

@@ -1,5 +1,5 @@
 -- A table entry: its mask, and the place of an interest in it.
-use Rattle.lock_table.proofs.Names.{◌≡◌, ◌≢◌, ℕ, ◌==◌, Bool, true, false, not, ◌&&◌, ◌||◌, if◌then◌else◌, cond, nat_lt, List, [], ◌∷◌, ◌++◌, Some, None, map, filter, position, get_or, set, refl, sym, ap, ◌∙◌, subst, arith, list_any, list_all, remove, and_parts, not-true, eqb-true, eq-eqb, false≢true, lt-ltb, list_any-append, position-Some, SET_NUMBERS, ConnId, Resource, same_part, same_resource, is_member, with_member, without_member, same_part-eq, same_part-refl, pairwise, filter_all, filter_none, all_from_none, any-filter, list_any-map, list_all_weaker, remove_placed, no_place, any_kept, set_placed, map_placed, Held, is_by, is_interest, are_apart, owners_without, owners_without_active, in_state, in_retention, in_retention_of, part_of, IsMasked}
+use Rattle.lock_table.proofs.Imports.{◌≡◌, ◌≢◌, ℕ, ◌==◌, Bool, true, false, not, ◌&&◌, ◌||◌, if◌then◌else◌, cond, nat_lt, List, [], ◌∷◌, ◌++◌, Some, None, map, filter, position, get_or, set, refl, sym, ap, ◌∙◌, subst, arith, list_any, list_all, remove, and_parts, not-true, eqb-true, eq-eqb, false≢true, lt-ltb, list_any-append, position-Some, SET_NUMBERS, ConnId, Resource, same_part, same_resource, is_member, with_member, without_member, same_part-eq, same_part-refl, pairwise, filter_all, filter_none, all_from_none, any-filter, list_any-map, list_all_weaker, remove_placed, no_place, any_kept, set_placed, map_placed, Held, is_by, is_interest, are_apart, owners_without, owners_without_active, in_state, in_retention, in_retention_of, part_of, IsMasked}
 use Rattle.lock_table.proofs.MaskLaws.{is_member-with_member_same, is_member-with_member_other, is_member-without_member_same, is_member-without_member_other}
 
 or_false : (a : Bool) → a ≡ a || false

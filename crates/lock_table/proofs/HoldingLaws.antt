@@ -1,5 +1,5 @@
 -- Interests stay in order, with one of a connector in a resource.
-use Rattle.lock_table.proofs.Names.{◌≡◌, Bool, true, not, ◌&&◌, List, filter, map, refl, ap, ◌∙◌, and_from, ConnId, Resource, resource_up_to, resource_up_to-trans, resource_up_to-either, same_part_comm, list_all_weaker, list_all-filter_same, list_all_always, FindsPlace, pairwise-filter, pairwise-insertion, pairwise-insertion_any, pairwise-map, Held, is_interest, owners_with, owners_without, in_state, are_apart, IsOwners}
+use Rattle.lock_table.proofs.Imports.{◌≡◌, Bool, true, not, ◌&&◌, List, filter, map, refl, ap, ◌∙◌, and_from, ConnId, Resource, resource_up_to, resource_up_to-trans, resource_up_to-either, same_part_comm, list_all_weaker, list_all-filter_same, list_all_always, FindsPlace, pairwise-filter, pairwise-insertion, pairwise-insertion_any, pairwise-map, Held, is_interest, owners_with, owners_without, in_state, are_apart, IsOwners}
 use Rattle.lock_table.specs.Holdings.{in_order}
 
 pub owners-filter : (q : Held → Bool) (owners : List Held) → IsOwners owners → IsOwners (filter q owners)

@@ -1,4 +1,4 @@
-pub mod Names
+pub mod Imports
 pub mod HoldingLaws
 pub mod MaskLaws
 pub mod EntryLaws

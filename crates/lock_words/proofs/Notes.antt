@@ -1,5 +1,5 @@
 -- What a hand's notes tell of the locks that it holds.
-use Rattle.lock_words.proofs.Names.{◌≡◌, ◌≢◌, ◌==◌, ◌+◌, ◌*◌, ◌<◌, ℕ, suc, Bool, true, false, not, List, [], ◌∷◌, ◌++◌, length, set, get_or, filter, Option, Some, None, refl, sym, ap, ◌∙◌, subst, arith, eq-eqb, ne_eqb, if◌then◌else◌, get_or-set_same, get_or-set_other, length-set, All-push, dite, ℕ_discrete, Me, TableId, Hold, Reading, Grant, View, tally, held_as, noted, says_excl, hold, reading, grant, looked, granted, tried, released, Becomes, Size, IsHand, IsLocks, HandSeen, LocksSeen, hand_seen}
+use Rattle.lock_words.proofs.Imports.{◌≡◌, ◌≢◌, ◌==◌, ◌+◌, ◌*◌, ◌<◌, ℕ, suc, Bool, true, false, not, List, [], ◌∷◌, ◌++◌, length, set, get_or, filter, Option, Some, None, refl, sym, ap, ◌∙◌, subst, arith, eq-eqb, ne_eqb, if◌then◌else◌, get_or-set_same, get_or-set_other, length-set, All-push, dite, ℕ_discrete, Me, TableId, Hold, Reading, Grant, View, tally, held_as, noted, says_excl, hold, reading, grant, looked, granted, tried, released, Becomes, Size, IsHand, IsLocks, HandSeen, LocksSeen, hand_seen}
 use Rattle.lock_words.proofs.Tallies.{one, tally-push, one-other, one-same, one-opposite, tally-released, tally-spared, held-as}
 
 module _ (notes : List (Option Bool)) (table : TableId) (me : Me ℕ View) (hand : IsHand notes table me) where

@@ -1,5 +1,5 @@
 -- A seat is split, and a seat takes in another.
-use Rattle.lock_words.proofs.Names.{◌≡◌, ◌≢◌, ◌+◌, ◌<◌, ◌≤◌, ◌⊎◌, ℕ, zero, suc, Bool, true, false, List, [], ◌∷◌, ◌++◌, length, set, get_or, Contains, refl, sym, ap, ◌∙◌, subst, inl, inr, ⊎_elim, arith, true≢false, length-append, length-set, sum_by_push, All-weaker, All-nil, All-cons, All-append, Contains-append_left, Contains-append_right, some, some-injective, some-ne-none, dite, ℕ_discrete, get_elem?, Me, Allows, Splits, Joins, at_set, set_here, set_else, at_longer, Hold, Reading, Grant, View, Size, tally, says_excl, grant, spent_view, without_right, next_view, joined, total, IsSpent, IsOwn, IsAnswered, IsLive, AllFit, Kept}
+use Rattle.lock_words.proofs.Imports.{◌≡◌, ◌≢◌, ◌+◌, ◌<◌, ◌≤◌, ◌⊎◌, ℕ, zero, suc, Bool, true, false, List, [], ◌∷◌, ◌++◌, length, set, get_or, Contains, refl, sym, ap, ◌∙◌, subst, inl, inr, ⊎_elim, arith, true≢false, length-append, length-set, sum_by_push, All-weaker, All-nil, All-cons, All-append, Contains-append_left, Contains-append_right, some, some-injective, some-ne-none, dite, ℕ_discrete, get_elem?, Me, Allows, Splits, Joins, at_set, set_here, set_else, at_longer, Hold, Reading, Grant, View, Size, tally, says_excl, grant, spent_view, without_right, next_view, joined, total, IsSpent, IsOwn, IsAnswered, IsLive, AllFit, Kept}
 use Rattle.lock_words.proofs.Tallies.{tally-append, sum-set, value-same, value-sum}
 use Rattle.lock_words.proofs.Steps.{within, same-at, not-spent, moved, fit-set}
 

@@ -1,5 +1,5 @@
 -- Each step keeps the rule.
-use Rattle.lock_words.proofs.Names.{◌≡◌, ◌≢◌, ◌==◌, ◌+◌, ◌-◌, ◌*◌, ◌%◌, ◌^◌, ◌<◌, ◌≤◌, ◌⊎◌, ℕ, zero, suc, Bool, true, false, not, cond, List, [], ◌∷◌, ◌++◌, length, set, get_or, Contains, refl, sym, ap, ◌∙◌, subst, inl, inr, ⊎_elim, arith, if◌then◌else◌, eqb-true, length-set, All-weaker, All-push, All-filter, All-contains, Contains-append_left, Contains-push, some, some-injective, some-ne-none, dite, ℕ_discrete, either, get_elem?, State, Me, keeps, Allows, at_set, set_here, set_else, Hold, Reading, Grant, View, Size, tally, IsValue, says_excl, Admits, Adds, hold, reading, grant, spent_view, looked, granted, tried, released, Becomes, total, IsSpent, IsOwn, IsAnswered, IsLive, AllFit, Kept}
+use Rattle.lock_words.proofs.Imports.{◌≡◌, ◌≢◌, ◌==◌, ◌+◌, ◌-◌, ◌*◌, ◌%◌, ◌^◌, ◌<◌, ◌≤◌, ◌⊎◌, ℕ, zero, suc, Bool, true, false, not, cond, List, [], ◌∷◌, ◌++◌, length, set, get_or, Contains, refl, sym, ap, ◌∙◌, subst, inl, inr, ⊎_elim, arith, if◌then◌else◌, eqb-true, length-set, All-weaker, All-push, All-filter, All-contains, Contains-append_left, Contains-push, some, some-injective, some-ne-none, dite, ℕ_discrete, either, get_elem?, State, Me, keeps, Allows, at_set, set_here, set_else, Hold, Reading, Grant, View, Size, tally, IsValue, says_excl, Admits, Adds, hold, reading, grant, spent_view, looked, granted, tried, released, Becomes, total, IsSpent, IsOwn, IsAnswered, IsLive, AllFit, Kept}
 use Rattle.lock_words.proofs.Tallies.{one, tally-push, one-other, one-same, one-opposite, tally-released, tally-spared, counted, sum-set, somewhere, value-sum, value-is, value-same, value-state, values-set, taken-off}
 
 pub within : (vs : List View) (i : ℕ) (v : View) → get_elem? vs i ≡ some v → i < length vs

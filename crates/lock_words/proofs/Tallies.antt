@@ -1,5 +1,5 @@
 -- Counts of items over one list and over all seats.
-use Rattle.lock_words.proofs.Names.{◌≡◌, ◌≢◌, ◌==◌, ◌+◌, ◌-◌, ◌*◌, ◌%◌, ◌^◌, ◌<◌, ◌≤◌, ◌&&◌, ℕ, zero, suc, Bool, true, false, not, cond, List, [], ◌∷◌, ◌++◌, length, set, get_or, filter, All, AllPairs, Option, Some, None, sum_by, refl, sym, ap, ◌∙◌, subst, inl, inr, ⊎_elim, arith, eq-eqb, ne_eqb, eq-zero-or-pos, if◌then◌else◌, eqb-true, eqb-false, get_or-set_same, get_or-set_other, sum_by-cons, sum_by-append, sum_by_push, get_or-le-sum_by, All-head, All-tail, some, some-injective, some-ne-none, dite, ℕ_discrete, get_elem?, Hold, View, is_hold, tally, IsValue, AreCompatible, held_as, says_excl, noted, hold, total}
+use Rattle.lock_words.proofs.Imports.{◌≡◌, ◌≢◌, ◌==◌, ◌+◌, ◌-◌, ◌*◌, ◌%◌, ◌^◌, ◌<◌, ◌≤◌, ◌&&◌, ℕ, zero, suc, Bool, true, false, not, cond, List, [], ◌∷◌, ◌++◌, length, set, get_or, filter, All, AllPairs, Option, Some, None, sum_by, refl, sym, ap, ◌∙◌, subst, inl, inr, ⊎_elim, arith, eq-eqb, ne_eqb, eq-zero-or-pos, if◌then◌else◌, eqb-true, eqb-false, get_or-set_same, get_or-set_other, sum_by-cons, sum_by-append, sum_by_push, get_or-le-sum_by, All-head, All-tail, some, some-injective, some-ne-none, dite, ℕ_discrete, get_elem?, Hold, View, is_hold, tally, IsValue, AreCompatible, held_as, says_excl, noted, hold, total}
 
 abbrev bit : Bool → ℕ
 bit b = cond b 1 0

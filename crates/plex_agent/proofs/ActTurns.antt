@@ -1,5 +1,5 @@
 -- What a line's act shows, whichever it is.
-use Rattle.plex_agent.proofs.Names.{◌≡◌, ℕ, ◌*◌, ◌<◌, inl, inr, nat_lt, Bool, true, false, List, [], ◌∷◌, length, Some, None, refl, sym, ap, subst, ◌∙◌, append-nil, slice_get, MatchBool, ltb-true, StrForm, ConnId, StrNo, AnyHistory, Act, AgentEnd, Shown, Transcript, first_step, call_of, calls_on, RunsUpTo, ShowsAct, PassShown, Rising, pass_at, AtWork, Tests, TestsWord, ShowsOnly, RunsOut, Acts, ShowsUpTo}
+use Rattle.plex_agent.proofs.Imports.{◌≡◌, ℕ, ◌*◌, ◌<◌, inl, inr, nat_lt, Bool, true, false, List, [], ◌∷◌, length, Some, None, refl, sym, ap, subst, ◌∙◌, append-nil, slice_get, MatchBool, ltb-true, StrForm, ConnId, StrNo, AnyHistory, Act, AgentEnd, Shown, Transcript, first_step, call_of, calls_on, RunsUpTo, ShowsAct, PassShown, Rising, pass_at, AtWork, Tests, TestsWord, ShowsOnly, RunsOut, Acts, ShowsUpTo}
 use Rattle.plex_board.specs.PlexScript.declared.agents.Step.TheVariants as step
 use Rattle.plex_board.specs.PlexScript.declared.scripts.Act.TheVariants as act
 use Rattle.plex_board.specs.PlexScript.declared.transcripts.AgentEnd.TheVariants as ended

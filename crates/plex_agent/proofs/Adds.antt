@@ -1,5 +1,5 @@
 -- What each kind of item does to a pass: calls, tests, posts and takes.
-use Rattle.plex_agent.proofs.Names.{◌≡◌, ℕ, ◌+◌, ◌*◌, ◌^◌, ◌≤◌, ◌<◌, ◌==◌, ◌&&◌, nat_lt, inl, inr, Bool, true, false, List, [], ◌∷◌, ◌++◌, map, Some, None, refl, sym, ap, ◌∙◌, arith, append-nil, slice_get, cond, All, bit_at, ltb-false, map-append, All-head, All-tail, StrForm, ConnId, StrNo, Entry, Told, Meaning, Tells, cache_meaning, list_meaning, lock_meaning, AnyAsk, AnyHistory, Shown, AnyCall, numbers_on, surest_on, seen_on, TellsBit, TellsWord, place_of, Sight, bit_in, sight, indices_of, IsTold, AnyReply, PassShown, IsLater, with_call, IsAnyTold, told_past, each_sight, bit_in_word, AnyTells, all_bits}
+use Rattle.plex_agent.proofs.Imports.{◌≡◌, ℕ, ◌+◌, ◌*◌, ◌^◌, ◌≤◌, ◌<◌, ◌==◌, ◌&&◌, nat_lt, inl, inr, Bool, true, false, List, [], ◌∷◌, ◌++◌, map, Some, None, refl, sym, ap, ◌∙◌, arith, append-nil, slice_get, cond, All, bit_at, ltb-false, map-append, All-head, All-tail, StrForm, ConnId, StrNo, Entry, Told, Meaning, Tells, cache_meaning, list_meaning, lock_meaning, AnyAsk, AnyHistory, Shown, AnyCall, numbers_on, surest_on, seen_on, TellsBit, TellsWord, place_of, Sight, bit_in, sight, indices_of, IsTold, AnyReply, PassShown, IsLater, with_call, IsAnyTold, told_past, each_sight, bit_in_word, AnyTells, all_bits}
 use Rattle.plex_board.specs.PlexScript.declared.asks.AnyHistory.TheVariants as history
 use Rattle.plex_board.specs.PlexScript.declared.transcripts.Shown.TheVariants as shown
 use Rattle.plex_agent.proofs.Fronts.{itself, front_same, front_more}

@@ -1,5 +1,5 @@
 -- What the run by the machine alone has to do with what was done at a structure.
-use Rattle.plex_agent.proofs.Names.{◌≡◌, ◌≢◌, ℕ, ◌≤◌, ◌==◌, max, fold, Bool, true, false, cond, List, [], ◌∷◌, ◌++◌, Option, None, Some, refl, sym, ap, subst, ◌∙◌, arith, unwrap_or, filter_map, cons_option, filter_map-append, fold-append, ConnId, StrNo, AnyHistory, Shown, Transcript, AnyCall, any_take, end_of, shown_on, seen_on, PassShown, NoteShown}
+use Rattle.plex_agent.proofs.Imports.{◌≡◌, ◌≢◌, ℕ, ◌≤◌, ◌==◌, max, fold, Bool, true, false, cond, List, [], ◌∷◌, ◌++◌, Option, None, Some, refl, sym, ap, subst, ◌∙◌, arith, unwrap_or, filter_map, cons_option, filter_map-append, fold-append, ConnId, StrNo, AnyHistory, Shown, Transcript, AnyCall, any_take, end_of, shown_on, seen_on, PassShown, NoteShown}
 use Rattle.plex_board.specs.PlexScript.declared.transcripts.AgentEnd.TheVariants as ended
 use Rattle.plex_agent.proofs.Spots.{conn, str, put, put_all, same_number, other_number, Spot}
 

@@ -1,5 +1,5 @@
 -- A caller that hears of nobody between its turns.
-use Rattle.plex_agent.proofs.Names.{◌≡◌, ℕ, ◌+◌, ◌==◌, Bool, true, false, MatchBool, List, [], ◌∷◌, sym, ap, subst, ConnId, Line, CellShown, BoardShown, AtWork, lines_by, Hears, DoesLines, DepartsEach, Closes, Serves}
+use Rattle.plex_agent.proofs.Imports.{◌≡◌, ℕ, ◌+◌, ◌==◌, Bool, true, false, MatchBool, List, [], ◌∷◌, sym, ap, subst, ConnId, Line, CellShown, BoardShown, AtWork, lines_by, Hears, DoesLines, DepartsEach, Closes, Serves}
 use Rattle.plex_board.specs.Callers as alone
 use Rattle.plex_agent.proofs.Hearings.{hears_none}
 use Rattle.plex_agent.proofs.Keeping.{Keeps, keeps_same, keeps_then, turns_keep}

@@ -1,5 +1,5 @@
 -- The calls of a line, put together from its steps.
-use Rattle.plex_agent.proofs.Names.{◌≡◌, ◌≢◌, ℕ, suc, ◌<◌, ◌≤◌, List, [], ◌∷◌, ◌++◌, length, map, Option, refl, sym, ap, subst, ◌∙◌, append-nil, append_assoc, arith, IfSome, set-set, Kind, StrNo, CallRefused, Step, AnyAsk, AgentEnd, Shown, most_asks, step_after, IsReady, PassShown, with_call, CellShown, DeskShown, pass_at, with_pass, IsLaterOn, BoardShown, IsDeskOf, cell_on, pass_at-with_pass_same, with_pass-pass_at, desk-length, AtWork, Asks, Steps, EndsAt, Halts, call_item, IsAsked, at_work, asks_some, fewer_asks, ready_after}
+use Rattle.plex_agent.proofs.Imports.{◌≡◌, ◌≢◌, ℕ, suc, ◌<◌, ◌≤◌, List, [], ◌∷◌, ◌++◌, length, map, Option, refl, sym, ap, subst, ◌∙◌, append-nil, append_assoc, arith, IfSome, set-set, Kind, StrNo, CallRefused, Step, AnyAsk, AgentEnd, Shown, most_asks, step_after, IsReady, PassShown, with_call, CellShown, DeskShown, pass_at, with_pass, IsLaterOn, BoardShown, IsDeskOf, cell_on, pass_at-with_pass_same, with_pass-pass_at, desk-length, AtWork, Asks, Steps, EndsAt, Halts, call_item, IsAsked, at_work, asks_some, fewer_asks, ready_after}
 use Rattle.plex_board.specs.StructCell.declared.refused.CallRefused.TheVariants as refused
 use Rattle.plex_board.specs.PlexScript.declared.agents.Step.TheVariants as step
 use Rattle.plex_board.specs.PlexScript.declared.transcripts.AgentEnd.TheVariants as ended

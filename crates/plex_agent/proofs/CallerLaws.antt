@@ -1,5 +1,5 @@
 -- A caller's whole work, one line and one departure after another.
-use Rattle.plex_agent.proofs.Names.{◌≡◌, ℕ, suc, ◌+◌, ◌<◌, ◌==◌, true, false, List, ◌∷◌, length, drop, get_or, sym, subst, arith, IfSome, All, drop-cons, All-get_or, get_or_from_slice_get, ConnId, Line, BoardShown, cell_on, AtWork, Turns, Departs, IsLineFor, lines_by}
+use Rattle.plex_agent.proofs.Imports.{◌≡◌, ℕ, suc, ◌+◌, ◌<◌, ◌==◌, true, false, List, ◌∷◌, length, drop, get_or, sym, subst, arith, IfSome, All, drop-cons, All-get_or, get_or_from_slice_get, ConnId, Line, BoardShown, cell_on, AtWork, Turns, Departs, IsLineFor, lines_by}
 use Rattle.plex_board.specs.Callers.{DoesLines, DepartsEach}
 use Rattle.plex_agent.proofs.CellLaws.{some_is, cell_there}
 

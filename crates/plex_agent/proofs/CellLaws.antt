@@ -1,5 +1,5 @@
 -- The cell of a structure that is there.
-use Rattle.plex_agent.proofs.Names.{◌≡◌, ℕ, ◌<◌, List, [], ◌∷◌, length, get_or, Some, None, Option, refl, sym, subst, ◌∙◌, slice_get, arith, IfSome, slice_get-get_or, Kind, ConnId, StrNo, Step, AnyAsk, asked_by, type_of_kind, MayAskAny, CellShown, IsAskOf, BoardShown, cell_on, IsAskable}
+use Rattle.plex_agent.proofs.Imports.{◌≡◌, ℕ, ◌<◌, List, [], ◌∷◌, length, get_or, Some, None, Option, refl, sym, subst, ◌∙◌, slice_get, arith, IfSome, slice_get-get_or, Kind, ConnId, StrNo, Step, AnyAsk, asked_by, type_of_kind, MayAskAny, CellShown, IsAskOf, BoardShown, cell_on, IsAskable}
 use Rattle.plex_agent.proofs.StepLaws.{may_ask}
 
 pub some_is : {X : Type 0} (P : X → Type 0) (o : Option X) (x : X) → o ≡ Some x → IfSome o P → P x

@@ -1,5 +1,5 @@
 -- A connector's closing: its departures, from one structure after another.
-use Rattle.plex_agent.proofs.Names.{◌≡◌, ℕ, suc, ◌+◌, ◌≤◌, ◌<◌, ◌==◌, Bool, true, false, List, [], ◌∷◌, ◌++◌, length, map, take, Some, None, Option, refl, sym, ap, subst, ◌∙◌, arith, append-nil, slice_get, MatchBool, nat_tests, slice_get_within, Kind, ConnId, StrNo, AnyAsk, AnyHistory, AgentEnd, Shown, Transcript, shell_ask, AnyCall, is_linked, calls_on, length_on, Runs, RunsUpTo, is_linked_by, ShowsClosing, ShowsClosings, CellShown, PassShown, DeskShown, pass_at, BoardShown, AtWork, Asks, Departs, is_done_as, DepartsEach, Hears}
+use Rattle.plex_agent.proofs.Imports.{◌≡◌, ℕ, suc, ◌+◌, ◌≤◌, ◌<◌, ◌==◌, Bool, true, false, List, [], ◌∷◌, ◌++◌, length, map, take, Some, None, Option, refl, sym, ap, subst, ◌∙◌, arith, append-nil, slice_get, MatchBool, nat_tests, slice_get_within, Kind, ConnId, StrNo, AnyAsk, AnyHistory, AgentEnd, Shown, Transcript, shell_ask, AnyCall, is_linked, calls_on, length_on, Runs, RunsUpTo, is_linked_by, ShowsClosing, ShowsClosings, CellShown, PassShown, DeskShown, pass_at, BoardShown, AtWork, Asks, Departs, is_done_as, DepartsEach, Hears}
 use Rattle.plex_board.specs.CfTypes.declared.shell_commands.ShellCmd.TheVariants as cmd
 use Rattle.plex_board.specs.PlexScript.declared.agents.Step.TheVariants as step
 use Rattle.plex_board.specs.PlexScript.declared.transcripts.AgentEnd.TheVariants as ended

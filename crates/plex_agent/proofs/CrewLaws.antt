@@ -1,5 +1,5 @@
 -- The callers of a board, each at work on its own: as they begin, and what their work shows.
-use Rattle.plex_agent.proofs.Names.{◌≡◌, ℕ, ◌+◌, ◌≤◌, ◌<◌, List, length, Some, slice_get, get_or, sym, ap, subst, ◌∙◌, arith, All, range_with_len, All-map, All-same, All-weaker, length-range_with_len, get_or-range_with_len, CONNECTORS, AnyHistory, Line, Script, Transcript, ShowsHistories, DeskShown, BoardShown, AreClosed, new_desk, AtWork, IsLineFor, no_items, new_desk-of_board, AreCallersOf, IsPlayable, IsBoardOf, IsIdle, IsServed, WorkEach, idle_worker, crew_of}
+use Rattle.plex_agent.proofs.Imports.{◌≡◌, ℕ, ◌+◌, ◌≤◌, ◌<◌, List, length, Some, slice_get, get_or, sym, ap, subst, ◌∙◌, arith, All, range_with_len, All-map, All-same, All-weaker, length-range_with_len, get_or-range_with_len, CONNECTORS, AnyHistory, Line, Script, Transcript, ShowsHistories, DeskShown, BoardShown, AreClosed, new_desk, AtWork, IsLineFor, no_items, new_desk-of_board, AreCallersOf, IsPlayable, IsBoardOf, IsIdle, IsServed, WorkEach, idle_worker, crew_of}
 use Rattle.plex_board.specs.Callers.{Serves}
 use Rattle.plex_agent.proofs.ServeLaw.{serves_right}
 use Rattle.plex_agent.proofs.Alone.{alone_serves}

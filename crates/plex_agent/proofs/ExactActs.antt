@@ -1,5 +1,5 @@
 -- Tests, posts and takes: what each keeps, and what the run by the machine alone shows for it.
-use Rattle.plex_agent.proofs.Names.{◌+◌, ◌≡◌, ◌≢◌, ℕ, ◌*◌, ◌^◌, ◌≤◌, ◌<◌, ◌==◌, max, nat_lt, Bool, true, false, List, [], ◌∷◌, ◌++◌, map, slice_get, Option, None, Some, refl, sym, ap, subst, ◌∙◌, arith, All, if◌then◌else◌, nat_tests, All-nil, All-cons, All-head, All-tail, get_or_from_slice_get, StrNo, AnyHistory, Shown, Transcript, any_length, IsAnyPoint, any_take, any_stands, any_word, end_of, IsFrontOf, shown_on, seen_on, with_shown, test_shown, word_shown, post_made, take_made, Sight, sight, indices_of, PassShown, NoteShown, note_of, IsAnyTold, with_any_note, with_item, set_same, each_sight}
+use Rattle.plex_agent.proofs.Imports.{◌+◌, ◌≡◌, ◌≢◌, ℕ, ◌*◌, ◌^◌, ◌≤◌, ◌<◌, ◌==◌, max, nat_lt, Bool, true, false, List, [], ◌∷◌, ◌++◌, map, slice_get, Option, None, Some, refl, sym, ap, subst, ◌∙◌, arith, All, if◌then◌else◌, nat_tests, All-nil, All-cons, All-head, All-tail, get_or_from_slice_get, StrNo, AnyHistory, Shown, Transcript, any_length, IsAnyPoint, any_take, any_stands, any_word, end_of, IsFrontOf, shown_on, seen_on, with_shown, test_shown, word_shown, post_made, take_made, Sight, sight, indices_of, PassShown, NoteShown, note_of, IsAnyTold, with_any_note, with_item, set_same, each_sight}
 use Rattle.plex_board.specs.PlexScript.declared.transcripts.AgentEnd.TheVariants as ended
 use Rattle.plex_board.specs.PlexScript.declared.transcripts.Shown.TheVariants as shown
 use Rattle.plex_agent.proofs.TestLaws.{told_bit, told_word, told_point}

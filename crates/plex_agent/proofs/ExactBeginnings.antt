@@ -1,5 +1,5 @@
 -- A board as its script begins: its stage, and that nothing has been done.
-use Rattle.plex_agent.proofs.Names.{◌≡◌, ℕ, zero, suc, ◌+◌, ◌≤◌, ◌<◌, false, List, [], ◌∷◌, length, map, slice_get, replicate, Option, None, Some, refl, sym, ap, subst, ◌∙◌, arith, All, option_map, unwrap_or, get_or-replicate, length-replicate, length-map, length-map-range_with_len, get_or-map-range_with_len, All-nil, All-cons, All-weaker, All-map, slice_get-map, slice_get_within, slice_get-get_or, get_or_from_slice_get, get_within, StrForm, Kind, CfId, ConnId, Telling, AreMadeBelow, AnyHistory, Line, Script, AnyCall, IsOfKind, AreAnyAsTold, no_calls, numbers_from, any_take, any_numbers, take_none, start, connectors, IsRunnable, IsRunnableLine, type_of_kind, type_of_history, PassShown, unused_pass, CellShown, pass_at, no_pass, BoardShown, IsStarted, new_desk, IsClosed, no_items, AtWork, worker_of, no_worker, new_floor}
+use Rattle.plex_agent.proofs.Imports.{◌≡◌, ℕ, zero, suc, ◌+◌, ◌≤◌, ◌<◌, false, List, [], ◌∷◌, length, map, slice_get, replicate, Option, None, Some, refl, sym, ap, subst, ◌∙◌, arith, All, option_map, unwrap_or, get_or-replicate, length-replicate, length-map, length-map-range_with_len, get_or-map-range_with_len, All-nil, All-cons, All-weaker, All-map, slice_get-map, slice_get_within, slice_get-get_or, get_or_from_slice_get, get_within, StrForm, Kind, CfId, ConnId, Telling, AreMadeBelow, AnyHistory, Line, Script, AnyCall, IsOfKind, AreAnyAsTold, no_calls, numbers_from, any_take, any_numbers, take_none, start, connectors, IsRunnable, IsRunnableLine, type_of_kind, type_of_history, PassShown, unused_pass, CellShown, pass_at, no_pass, BoardShown, IsStarted, new_desk, IsClosed, no_items, AtWork, worker_of, no_worker, new_floor}
 use Rattle.plex_board.specs.CfTypes.declared.forms.Kind.TheVariants as kind
 use Rattle.plex_board.specs.PlexScript.declared.asks.AnyHistory.TheVariants as history
 use Rattle.plex_agent.proofs.Spots.{conn, str, Spot, IsKnownPass}

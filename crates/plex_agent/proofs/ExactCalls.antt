@@ -1,5 +1,5 @@
 -- The calls of one line: what they keep, and the steps of the run by the machine alone that go with them.
-use Rattle.plex_agent.proofs.Names.{◌≡◌, ◌≢◌, ℕ, zero, suc, ◌≤◌, ◌<◌, nat_le, true, false, List, [], ◌∷◌, ◌++◌, map, slice_get, Option, Some, refl, sym, ap, subst, ◌∙◌, arith, append-nil, append_assoc, nat_tests, StrForm, Kind, CfId, ConnId, Telling, StrNo, Told, Step, AnyAsk, AnyHistory, AgentEnd, Shown, Transcript, step_after, most_asks, asked_by, rests, fewer_asks, some_goes, any_length, any_take, any_told, end_of, Run, stopped_at, steps_made, AnyReply, PassShown, IsLater, with_call, Steps, call_item}
+use Rattle.plex_agent.proofs.Imports.{◌≡◌, ◌≢◌, ℕ, zero, suc, ◌≤◌, ◌<◌, nat_le, true, false, List, [], ◌∷◌, ◌++◌, map, slice_get, Option, Some, refl, sym, ap, subst, ◌∙◌, arith, append-nil, append_assoc, nat_tests, StrForm, Kind, CfId, ConnId, Telling, StrNo, Told, Step, AnyAsk, AnyHistory, AgentEnd, Shown, Transcript, step_after, most_asks, asked_by, rests, fewer_asks, some_goes, any_length, any_take, any_told, end_of, Run, stopped_at, steps_made, AnyReply, PassShown, IsLater, with_call, Steps, call_item}
 use Rattle.plex_board.specs.PlexScript.declared.agents.Step.TheVariants as step
 use Rattle.plex_board.specs.PlexScript.declared.transcripts.AgentEnd.TheVariants as ended
 use Rattle.plex_board.specs.PlexScript.declared.transcripts.Shown.TheVariants as shown

@@ -1,5 +1,5 @@
 -- The closings of a script at a board, against the run by the machine alone.
-use Rattle.plex_agent.proofs.Names.{inl, inr, ◌≡◌, ◌≢◌, ℕ, zero, suc, ◌+◌, ◌≤◌, ◌<◌, Bool, true, false, List, [], ◌∷◌, ◌++◌, length, map, fold, slice_get, replicate, Option, None, Some, MatchBool, refl, sym, ap, subst, ◌∙◌, arith, length-set, append_assoc, length-append, All, slice_index_or, range_with_len, enumerate_from, get_or-replicate, length-replicate, All-head, All-tail, StrForm, ConnId, AnyAsk, Script, AgentEnd, Transcript, shell_ask, AnyCall, any_calls, own_calls, is_linked, cases_eq, IsAnyPoint, any_take, end_of, IsFrontOf, Run, is_done, after_departure, after_closing, all_steps_made, PassShown, CellShown, IsAnyTold, pass_at, with_pass, BoardShown, note_in, AtWork, Asks, Departs, is_done_as, Floor, worker_of, with_worker, heard_from_last, heard_all, ClosesAll}
+use Rattle.plex_agent.proofs.Imports.{inl, inr, ◌≡◌, ◌≢◌, ℕ, zero, suc, ◌+◌, ◌≤◌, ◌<◌, Bool, true, false, List, [], ◌∷◌, ◌++◌, length, map, fold, slice_get, replicate, Option, None, Some, MatchBool, refl, sym, ap, subst, ◌∙◌, arith, length-set, append_assoc, length-append, All, slice_index_or, range_with_len, enumerate_from, get_or-replicate, length-replicate, All-head, All-tail, StrForm, ConnId, AnyAsk, Script, AgentEnd, Transcript, shell_ask, AnyCall, any_calls, own_calls, is_linked, cases_eq, IsAnyPoint, any_take, end_of, IsFrontOf, Run, is_done, after_departure, after_closing, all_steps_made, PassShown, CellShown, IsAnyTold, pass_at, with_pass, BoardShown, note_in, AtWork, Asks, Departs, is_done_as, Floor, worker_of, with_worker, heard_from_last, heard_all, ClosesAll}
 use Rattle.plex_board.specs.CfTypes.declared.shell_commands.ShellCmd.TheVariants as cmd
 use Rattle.plex_board.specs.PlexScript.declared.agents.Step.TheVariants as step
 use Rattle.plex_board.specs.PlexScript.declared.transcripts.AgentEnd.TheVariants as ended

@@ -1,6 +1,6 @@
 -- The law of a script's work at one board on one thread: the callers were shown what the run by the machine alone
 -- shows, and the histories that the closed structures left are the run's.
-use Rattle.plex_agent.proofs.Names.{◌≡◌, ◌≢◌, ℕ, ◌≤◌, ◌<◌, List, [], length, map, fold, get_or, slice_get, Some, sym, ap, subst, ◌∙◌, arith, append-nil, All, option_map, length-map, get_or-map, slice_get-map, slice_get-get_or, CfId, ConnId, Telling, AnyHistory, Script, Transcript, any_calls, any_length, own_calls, AreAnyAsTold, any_take, end_of, calls_rise, same_calls, take_all, end_length, Run, start, connectors, after_line, after_closing, serial_run, IsRunnable, CellShown, IsAnyTold, DeskShown, pass_at, BoardShown, IsStarted, IsAccount, AreClosed, AtWork, Floor, Plays, worker_of, no_worker}
+use Rattle.plex_agent.proofs.Imports.{◌≡◌, ◌≢◌, ℕ, ◌≤◌, ◌<◌, List, [], length, map, fold, get_or, slice_get, Some, sym, ap, subst, ◌∙◌, arith, append-nil, All, option_map, length-map, get_or-map, slice_get-map, slice_get-get_or, CfId, ConnId, Telling, AnyHistory, Script, Transcript, any_calls, any_length, own_calls, AreAnyAsTold, any_take, end_of, calls_rise, same_calls, take_all, end_length, Run, start, connectors, after_line, after_closing, serial_run, IsRunnable, CellShown, IsAnyTold, DeskShown, pass_at, BoardShown, IsStarted, IsAccount, AreClosed, AtWork, Floor, Plays, worker_of, no_worker}
 use Rattle.plex_board.specs.PlexScript.declared.transcripts.AgentEnd.TheVariants as ended
 use Rattle.plex_agent.proofs.Spots.{conn, str, Spot, IsKnownPass}
 use Rattle.plex_agent.proofs.Agreements.{AgreesAt}

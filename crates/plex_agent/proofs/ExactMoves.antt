@@ -1,6 +1,6 @@
 -- What one step of a caller at a structure keeps, and the run that goes with it: a hearing, a call, and a
 -- next call that wasn't made.
-use Rattle.plex_agent.proofs.Names.{◌≡◌, ◌≢◌, ℕ, ◌≤◌, ◌<◌, ◌==◌, max, true, false, [], ◌∷◌, ◌++◌, set, slice_get, None, Some, refl, sym, ap, subst, ◌∙◌, arith, All, nat_tests, fold_push, StrForm, CfId, Telling, Told, AnyAsk, AnyHistory, AgentEnd, Transcript, any_length, IsAnyPoint, any_take, any_next, end_of, last_number, calls_rise, IsFrontOf, point_end, shown_on, seen_on, Run, shown_to, stopped_at, transcript_of, transcript_at, AnyReply, PassShown, with_call, IsLater, IsAnyTold, set_same}
+use Rattle.plex_agent.proofs.Imports.{◌≡◌, ◌≢◌, ℕ, ◌≤◌, ◌<◌, ◌==◌, max, true, false, [], ◌∷◌, ◌++◌, set, slice_get, None, Some, refl, sym, ap, subst, ◌∙◌, arith, All, nat_tests, fold_push, StrForm, CfId, Telling, Told, AnyAsk, AnyHistory, AgentEnd, Transcript, any_length, IsAnyPoint, any_take, any_next, end_of, last_number, calls_rise, IsFrontOf, point_end, shown_on, seen_on, Run, shown_to, stopped_at, transcript_of, transcript_at, AnyReply, PassShown, with_call, IsLater, IsAnyTold, set_same}
 use Rattle.plex_board.specs.PlexScript.declared.transcripts.AgentEnd.TheVariants as ended
 use Rattle.plex_board.specs.PlexScript.declared.transcripts.Shown.TheVariants as shown
 use Rattle.plex_agent.proofs.Spots.{conn, str, put, put_same, put_other, is_other, Spot, IsKnown, LastKnows, event, moved, called, known_moved, known_called}

@@ -1,5 +1,5 @@
 -- A floor of a board: as it begins, as one caller changes or hears, and as who acted last changes.
-use Rattle.plex_agent.proofs.Names.{◌≡◌, ◌≢◌, ℕ, ◌+◌, ◌<◌, ◌≤◌, ◌==◌, inl, inr, Bool, true, false, if◌then◌else◌, List, ◌∷◌, ◌++◌, [], append_assoc, append-nil, drop, replicate, length, length-append, Option, Some, None, get_or, set, refl, sym, ◌∙◌, ap, subst, arith, drop-cons, set-append_seam, map-set_same, get_or-append_seam, add-one, eqb-true, get_or_read, get_or_append_left, set-append_left, set-get_or, length-replicate, replicate_more, All-replicate, All-get_or, slice_get_within, slice_get-get_or, get_or_from_slice_get, CONNECTORS, ConnId, StrNo, Transcript, NoteShown, note_of, with_note, DeskShown, no_pass, fixed_of, pass_at, with_pass, BoardShown, IsDeskOf, IsTrayOf, no_notes, AtWork, Floor, no_worker, new_floor, worker_of, with_worker, heard_from_last, heard_from, told_by, IsFloorOf, crew_of}
+use Rattle.plex_agent.proofs.Imports.{◌≡◌, ◌≢◌, ℕ, ◌+◌, ◌<◌, ◌≤◌, ◌==◌, inl, inr, Bool, true, false, if◌then◌else◌, List, ◌∷◌, ◌++◌, [], append_assoc, append-nil, drop, replicate, length, length-append, Option, Some, None, get_or, set, refl, sym, ◌∙◌, ap, subst, arith, drop-cons, set-append_seam, map-set_same, get_or-append_seam, add-one, eqb-true, get_or_read, get_or_append_left, set-append_left, set-get_or, length-replicate, replicate_more, All-replicate, All-get_or, slice_get_within, slice_get-get_or, get_or_from_slice_get, CONNECTORS, ConnId, StrNo, Transcript, NoteShown, note_of, with_note, DeskShown, no_pass, fixed_of, pass_at, with_pass, BoardShown, IsDeskOf, IsTrayOf, no_notes, AtWork, Floor, no_worker, new_floor, worker_of, with_worker, heard_from_last, heard_from, told_by, IsFloorOf, crew_of}
 use Rattle.std.proofs.Common.{unwrap_or}
 use Rattle.std.proofs.Math.ListN.{length-set}
 use Rattle.plex_agent.proofs.SeatedLaws.{own_desk, callers-set, slice_get-set, new_callers}

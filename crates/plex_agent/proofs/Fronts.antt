@@ -1,5 +1,5 @@
 -- Lists that another list begins with; and a caller's own calls, heard by their numbers.
-use Rattle.plex_agent.proofs.Names.{◌≡◌, ℕ, ◌<◌, ◌==◌, Bool, true, false, List, [], ◌∷◌, ◌++◌, length, take, Some, refl, sym, ap, subst, ◌∙◌, arith, append-nil, append_assoc, take-append_seam, nat_tests, ConnId, AnyCall, call_numbered, own_calls, Rising}
+use Rattle.plex_agent.proofs.Imports.{◌≡◌, ℕ, ◌<◌, ◌==◌, Bool, true, false, List, [], ◌∷◌, ◌++◌, length, take, Some, refl, sym, ap, subst, ◌∙◌, arith, append-nil, append_assoc, take-append_seam, nat_tests, ConnId, AnyCall, call_numbered, own_calls, Rising}
 
 -- a list, and one that begins with it
 pub record IsFront {X : Type 0} (xs ys : List X) : Type 0 where

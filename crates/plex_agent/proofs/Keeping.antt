@@ -1,5 +1,5 @@
 -- Turns leave a desk its owner and its passes; and where no pass has seen more complete than it knows, none comes to.
-use Rattle.plex_agent.proofs.Names.{◌≡◌, ℕ, zero, suc, ◌+◌, ◌*◌, ◌≤◌, nat_lt, inl, inr, Bool, true, false, MatchBool, List, [], ◌∷◌, length, Option, None, Some, get_or, set, refl, sym, ap, subst, ◌∙◌, arith, Kind, StrForm, ConnId, StrNo, Told, Step, AnyAsk, Act, Line, AgentEnd, step_after, is_linked, PassShown, NoteShown, with_call, CellShown, DeskShown, no_pass, pass_at, with_pass, AtWork, Steps, Halts, EndsAt, Asks, Tests, TestsWord, ShowsOnly, Acts, Turns, Departs, is_done_as}
+use Rattle.plex_agent.proofs.Imports.{◌≡◌, ℕ, zero, suc, ◌+◌, ◌*◌, ◌≤◌, nat_lt, inl, inr, Bool, true, false, MatchBool, List, [], ◌∷◌, length, Option, None, Some, get_or, set, refl, sym, ap, subst, ◌∙◌, arith, Kind, StrForm, ConnId, StrNo, Told, Step, AnyAsk, Act, Line, AgentEnd, step_after, is_linked, PassShown, NoteShown, with_call, CellShown, DeskShown, no_pass, pass_at, with_pass, AtWork, Steps, Halts, EndsAt, Asks, Tests, TestsWord, ShowsOnly, Acts, Turns, Departs, is_done_as}
 use Rattle.std.proofs.lemmas.List.{length-set}
 use Rattle.plex_board.specs.PlexScript.declared.agents.Step.TheVariants as step
 use Rattle.plex_board.specs.PlexScript.declared.scripts.Act.TheVariants as act

@@ -1,5 +1,5 @@
 pub use Rattle.plex_board.proofs.CfLists as CfLists
-pub mod Names
+pub mod Imports
 pub mod StepLaws
 pub mod CellLaws
 pub mod AskLaws

@@ -1,5 +1,5 @@
 -- All lines of a script at a board, against the run by the machine alone.
-use Rattle.plex_agent.proofs.Names.{◌≡◌, ℕ, ◌*◌, ◌≤◌, ◌<◌, ◌==◌, nat_lt, Bool, true, false, List, [], ◌∷◌, length, fold, set, slice_get, Option, None, Some, MatchBool, ◌⊎◌, inl, inr, refl, sym, ap, subst, ◌∙◌, arith, All, if◌then◌else◌, slice_index_or, All-head, All-tail, slice_get_within, StrForm, ConnId, StrNo, Act, Line, Script, AgentEnd, Shown, Transcript, first_step, Run, act_made, after_line, is_done, test_shown, word_shown, CellShown, BoardShown, cell_on, AtWork, Acts, Tests, TestsWord, ShowsOnly, RunsOut, IfDone, is_done_as, any_word, any_length, Floor, worker_of, with_worker, heard_from, told_by, heard_from_last, is_counted, PlaysAct, is_working, PlaysLine, PlaysLines}
+use Rattle.plex_agent.proofs.Imports.{◌≡◌, ℕ, ◌*◌, ◌≤◌, ◌<◌, ◌==◌, nat_lt, Bool, true, false, List, [], ◌∷◌, length, fold, set, slice_get, Option, None, Some, MatchBool, ◌⊎◌, inl, inr, refl, sym, ap, subst, ◌∙◌, arith, All, if◌then◌else◌, slice_index_or, All-head, All-tail, slice_get_within, StrForm, ConnId, StrNo, Act, Line, Script, AgentEnd, Shown, Transcript, first_step, Run, act_made, after_line, is_done, test_shown, word_shown, CellShown, BoardShown, cell_on, AtWork, Acts, Tests, TestsWord, ShowsOnly, RunsOut, IfDone, is_done_as, any_word, any_length, Floor, worker_of, with_worker, heard_from, told_by, heard_from_last, is_counted, PlaysAct, is_working, PlaysLine, PlaysLines}
 use Rattle.plex_board.specs.PlexScript.declared.agents.Step.TheVariants as step
 use Rattle.plex_board.specs.PlexScript.declared.scripts.Act.TheVariants as act
 use Rattle.plex_board.specs.PlexScript.declared.transcripts.AgentEnd.TheVariants as ended

@@ -1,5 +1,5 @@
 -- A line of a script at a board, and all lines, against the run by the machine alone.
-use Rattle.plex_agent.proofs.Names.{◌≡◌, ◌≢◌, ℕ, ◌*◌, ◌≤◌, ◌<◌, nat_lt, true, List, [], ◌∷◌, length, map, set, slice_get, Option, None, Some, refl, sym, ap, subst, ◌∙◌, arith, length-set, slice_index_or, nat_tests, set-get_or, ConnId, Step, AnyAsk, Shown, Transcript, AnyHistory, sight, indices_of, shown_on, Run, act_made, all_steps_made, with_shown, post_made, take_made, PassShown, NoteShown, note_of, with_any_note, DeskShown, pass_at, with_pass, no_pass, note_in, AtWork, Asks, Tests, TestsWord, ShowsOnly, RunsOut, Posts, with_item, Floor, worker_of, heard_from_last, worker_after_take}
+use Rattle.plex_agent.proofs.Imports.{◌≡◌, ◌≢◌, ℕ, ◌*◌, ◌≤◌, ◌<◌, nat_lt, true, List, [], ◌∷◌, length, map, set, slice_get, Option, None, Some, refl, sym, ap, subst, ◌∙◌, arith, length-set, slice_index_or, nat_tests, set-get_or, ConnId, Step, AnyAsk, Shown, Transcript, AnyHistory, sight, indices_of, shown_on, Run, act_made, all_steps_made, with_shown, post_made, take_made, PassShown, NoteShown, note_of, with_any_note, DeskShown, pass_at, with_pass, no_pass, note_in, AtWork, Asks, Tests, TestsWord, ShowsOnly, RunsOut, Posts, with_item, Floor, worker_of, heard_from_last, worker_after_take}
 use Rattle.plex_board.specs.PlexScript.declared.agents.Step.TheVariants as step
 use Rattle.plex_board.specs.PlexScript.declared.scripts.Act.TheVariants as act
 use Rattle.plex_board.specs.PlexScript.declared.transcripts.AgentEnd.TheVariants as ended

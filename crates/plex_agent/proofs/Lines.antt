@@ -1,5 +1,5 @@
 -- A caller's lines, one after another.
-use Rattle.plex_agent.proofs.Names.{◌≡◌, ℕ, ◌≤◌, ◌<◌, ◌==◌, Bool, true, false, List, [], ◌∷◌, ◌++◌, length, Some, refl, sym, ap, subst, ◌∙◌, arith, append_assoc, append-nil, slice_get, MatchBool, slice_get_within, StrForm, ConnId, StrNo, AnyHistory, Line, AgentEnd, Shown, Transcript, first_step, call_of, calls_on, length_on, RunsUpTo, ShowsLines, CellShown, Rising, DeskShown, pass_at, BoardShown, cell_on, AtWork, Acts, Turns, is_done_as, lines_by, DoesLines, Hears}
+use Rattle.plex_agent.proofs.Imports.{◌≡◌, ℕ, ◌≤◌, ◌<◌, ◌==◌, Bool, true, false, List, [], ◌∷◌, ◌++◌, length, Some, refl, sym, ap, subst, ◌∙◌, arith, append_assoc, append-nil, slice_get, MatchBool, slice_get_within, StrForm, ConnId, StrNo, AnyHistory, Line, AgentEnd, Shown, Transcript, first_step, call_of, calls_on, length_on, RunsUpTo, ShowsLines, CellShown, Rising, DeskShown, pass_at, BoardShown, cell_on, AtWork, Acts, Turns, is_done_as, lines_by, DoesLines, Hears}
 use Rattle.plex_board.specs.PlexScript.declared.transcripts.AgentEnd.TheVariants as ended
 use Rattle.plex_agent.proofs.Passes.{Caller}
 use Rattle.plex_agent.proofs.Moves.{same_number, AreWithin, Goes, goes_then, moves_go, hears_go}

@@ -1,5 +1,5 @@
 -- What the links of a closed board have to do with its histories: structure by structure, link by link.
-use Rattle.plex_agent.proofs.Names.{◌≡◌, ℕ, zero, suc, ◌+◌, ◌*◌, ◌-◌, ◌≤◌, ◌<◌, List, [], ◌∷◌, ◌++◌, length, map, slice_get, Option, Some, refl, sym, ap, subst, ◌∙◌, arith, append_assoc, unwrap_or, flat_map, length-map, slice_get_within, RisesBy, IsFacility, StrForm, CfId, Links, Telling, AreAsked, IsAskedAll, link_at, TellsEnough, asked_faults, asked_calls, asked_told, trues, marks_counted, cache_meaning, list_meaning, lock_meaning, AnyHistory, IsAnyLegal, AreAnyAsTold, any_answers, any_marks_at, links_told, link_place, AreTelling, IsLinkOf, AreRunLinks, CellShown, BoardShown, AreEachAsked, AreLinksAsked, four_of, links_of}
+use Rattle.plex_agent.proofs.Imports.{◌≡◌, ℕ, zero, suc, ◌+◌, ◌*◌, ◌-◌, ◌≤◌, ◌<◌, List, [], ◌∷◌, ◌++◌, length, map, slice_get, Option, Some, refl, sym, ap, subst, ◌∙◌, arith, append_assoc, unwrap_or, flat_map, length-map, slice_get_within, RisesBy, IsFacility, StrForm, CfId, Links, Telling, AreAsked, IsAskedAll, link_at, TellsEnough, asked_faults, asked_calls, asked_told, trues, marks_counted, cache_meaning, list_meaning, lock_meaning, AnyHistory, IsAnyLegal, AreAnyAsTold, any_answers, any_marks_at, links_told, link_place, AreTelling, IsLinkOf, AreRunLinks, CellShown, BoardShown, AreEachAsked, AreLinksAsked, four_of, links_of}
 use Rattle.plex_board.specs.CfLink.Links.{Tells}
 use Rattle.plex_board.specs.PlexScript.declared.asks.AnyHistory.TheVariants as history
 

@@ -1,5 +1,5 @@
 -- Elements of lists by their places; and the kinds of histories.
-use Rattle.plex_agent.proofs.Names.{◌≡◌, ℕ, zero, suc, List, [], ◌∷◌, map, Some, refl, ap, subst, slice_get, All, All-head, All-tail, Kind, AnyHistory, type_of_kind, type_of_history, IsOfKind}
+use Rattle.plex_agent.proofs.Imports.{◌≡◌, ℕ, zero, suc, List, [], ◌∷◌, map, Some, refl, ap, subst, slice_get, All, All-head, All-tail, Kind, AnyHistory, type_of_kind, type_of_history, IsOfKind}
 use Rattle.plex_board.specs.CfTypes.declared.forms.Kind.TheVariants as kind
 use Rattle.plex_board.specs.PlexScript.declared.asks.AnyHistory.TheVariants as history
 

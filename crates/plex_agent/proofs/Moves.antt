@@ -1,5 +1,5 @@
 -- What a caller at work does to its desk and its transcript, at one structure and at all.
-use Rattle.plex_agent.proofs.Names.{◌≡◌, ◌≢◌, ℕ, ◌<◌, ◌==◌, Bool, true, false, List, [], ◌++◌, length, refl, sym, ap, subst, ◌∙◌, arith, append-nil, append_assoc, nat_tests, get_or-set_same, get_or-set_other, StrNo, Shown, Transcript, PassShown, DeskShown, no_pass, pass_at, with_pass, AtWork, Hears}
+use Rattle.plex_agent.proofs.Imports.{◌≡◌, ◌≢◌, ℕ, ◌<◌, ◌==◌, Bool, true, false, List, [], ◌++◌, length, refl, sym, ap, subst, ◌∙◌, arith, append-nil, append_assoc, nat_tests, get_or-set_same, get_or-set_other, StrNo, Shown, Transcript, PassShown, DeskShown, no_pass, pass_at, with_pass, AtWork, Hears}
 use Rattle.std.proofs.lemmas.List.{length-set}
 use Rattle.plex_agent.proofs.ShownItems.{Each}
 use Rattle.plex_agent.proofs.Passes.{Caller, IsShown, IsGood, IsWithin, Advances, advances_later}

@@ -1,5 +1,5 @@
 -- What a caller's pass to a structure has to do with the items that it was shown, and goes on having as both grow.
-use Rattle.plex_agent.proofs.Names.{◌≡◌, ℕ, ◌≤◌, ◌==◌, false, List, [], ◌∷◌, ◌++◌, length, map, take, max, fold, Some, None, refl, sym, ap, subst, ◌∙◌, arith, append-nil, append_assoc, slice_get, All, filter_map-append, All-take, All-same, StrForm, ConnId, StrNo, AnyHistory, Shown, AnyCall, own_calls, calls_on, length_on, number_on, numbers_on, sure_on, surest_on, IsNote, shown_on, seen_on, TellsOf, place_of, PassShown, IsLater, IsAnyTold}
+use Rattle.plex_agent.proofs.Imports.{◌≡◌, ℕ, ◌≤◌, ◌==◌, false, List, [], ◌∷◌, ◌++◌, length, map, take, max, fold, Some, None, refl, sym, ap, subst, ◌∙◌, arith, append-nil, append_assoc, slice_get, All, filter_map-append, All-take, All-same, StrForm, ConnId, StrNo, AnyHistory, Shown, AnyCall, own_calls, calls_on, length_on, number_on, numbers_on, sure_on, surest_on, IsNote, shown_on, seen_on, TellsOf, place_of, PassShown, IsLater, IsAnyTold}
 use Rattle.plex_agent.proofs.Fronts.{IsFront, front_same, front_then, take_front}
 use Rattle.plex_agent.proofs.ShownItems.{Each, each_push, greatest_push, unread_push}
 

@@ -1,5 +1,5 @@
 -- What the steps of a line and of a closing come to.
-use Rattle.plex_agent.proofs.Names.{◌≡◌, ◌≢◌, ℕ, zero, suc, ◌+◌, ◌-◌, ◌<◌, ◌≤◌, ◌==◌, Bool, true, false, if◌then◌else◌, MatchBool, List, [], ◌∷◌, ◌++◌, length, fold, drop, replicate, Option, Some, None, IfSome, Result, Ok, Err, OnOk, get_or, set, slice_set, slice_index_or, refl, sym, ◌∙◌, ap, subst, arith, range_with_len, drop-cons, add-one, eqb-false, eqb-true, get_or-set_same, get_or-set_other, slice_get_within, StrForm, ConnId, StrNo, Act, Line, Shown, Transcript, PassShown, note_of, with_note, with_any_note, DeskShown, pass_at, with_pass, CellShown, BoardShown, cell_on, note_in, AtWork, Turns, Posts, with_item, IsLineFor, Floor, no_worker, worker_of, with_worker, heard_from_last, heard_from, heard_all, told_by, worker_ready, worker_after_take, last_after, is_counted, is_working, PlaysAct, PlaysLine, PlaysLines, ClosesOne, ClosesAll, desk-length, pass_at-with_pass_same, IsTurn, TakesTurn, PlaysActOn, conns_from}
+use Rattle.plex_agent.proofs.Imports.{◌≡◌, ◌≢◌, ℕ, zero, suc, ◌+◌, ◌-◌, ◌<◌, ◌≤◌, ◌==◌, Bool, true, false, if◌then◌else◌, MatchBool, List, [], ◌∷◌, ◌++◌, length, fold, drop, replicate, Option, Some, None, IfSome, Result, Ok, Err, OnOk, get_or, set, slice_set, slice_index_or, refl, sym, ◌∙◌, ap, subst, arith, range_with_len, drop-cons, add-one, eqb-false, eqb-true, get_or-set_same, get_or-set_other, slice_get_within, StrForm, ConnId, StrNo, Act, Line, Shown, Transcript, PassShown, note_of, with_note, with_any_note, DeskShown, pass_at, with_pass, CellShown, BoardShown, cell_on, note_in, AtWork, Turns, Posts, with_item, IsLineFor, Floor, no_worker, worker_of, with_worker, heard_from_last, heard_from, heard_all, told_by, worker_ready, worker_after_take, last_after, is_counted, is_working, PlaysAct, PlaysLine, PlaysLines, ClosesOne, ClosesAll, desk-length, pass_at-with_pass_same, IsTurn, TakesTurn, PlaysActOn, conns_from}
 use Rattle.plex_board.specs.PlexScript.declared.scripts.Act.TheVariants as act
 use Rattle.plex_board.specs.PlexScript.declared.transcripts.Shown.TheVariants as shown
 use Rattle.plex_board.specs.Callers.{DepartsEach, Closes}

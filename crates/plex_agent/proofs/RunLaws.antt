@@ -1,5 +1,5 @@
 -- A script that may be run, and the board that was started for it.
-use Rattle.plex_agent.proofs.Names.{Vec, Global, ◌≡◌, ◌≢◌, ℕ, ◌≤◌, List, length, map, Option, Some, None, Result, Ok, Err, IfOk, IsOkAnd, All, slice_get, refl, sym, ◌∙◌, ap, subst, arith, length-map, get_or-map, All-get_or, slice_get-map, slice_get_within, get_or_from_slice_get, Kind, StrForm, NoMemory, CfId, ConnId, Telling, TellsEnough, AnyAsk, Act, Line, Script, AnyHistory, Transcript, IsRunnable, IsRunnableLine, IsRunnableAct, AreTelling, AreRunLinks, serial_run, type_of_kind, type_of_ask, CellShown, DeskShown, BoardShown, IsStarted, AreClosed, AreLinksAsked, links_of, AtWork, MayAct, Finished, IsPlayable, IsBoardOf, IsPlayed, ShowsHistories}
+use Rattle.plex_agent.proofs.Imports.{Vec, Global, ◌≡◌, ◌≢◌, ℕ, ◌≤◌, List, length, map, Option, Some, None, Result, Ok, Err, IfOk, IsOkAnd, All, slice_get, refl, sym, ◌∙◌, ap, subst, arith, length-map, get_or-map, All-get_or, slice_get-map, slice_get_within, get_or_from_slice_get, Kind, StrForm, NoMemory, CfId, ConnId, Telling, TellsEnough, AnyAsk, Act, Line, Script, AnyHistory, Transcript, IsRunnable, IsRunnableLine, IsRunnableAct, AreTelling, AreRunLinks, serial_run, type_of_kind, type_of_ask, CellShown, DeskShown, BoardShown, IsStarted, AreClosed, AreLinksAsked, links_of, AtWork, MayAct, Finished, IsPlayable, IsBoardOf, IsPlayed, ShowsHistories}
 use Rattle.std.specs.Option.{option_map}
 use Rattle.plex_board.specs.CfTypes.declared.forms.Kind.TheVariants as kind
 use Rattle.plex_board.specs.PlexScript.declared.scripts.AnyAsk.TheVariants as ask

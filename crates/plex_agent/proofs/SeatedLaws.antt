@@ -1,5 +1,5 @@
 -- The callers of a board, each at its own desk: as they begin, as one of them changes, and the desks that they leave.
-use Rattle.plex_agent.proofs.Names.{◌≡◌, ℕ, zero, suc, ◌+◌, ◌<◌, ◌⊎◌, inl, inr, ◌≤◌, List, [], ◌∷◌, length, map, Some, slice_get, get_or, set, refl, sym, ◌∙◌, ap, subst, arith, range_with_len, All-map, All-same, length-map-range_with_len, get_or-map-range_with_len, slice_get_within, slice_get-get_or, get_or_from_slice_get, map-map, ConnId, DeskShown, BoardShown, IsDeskOf, new_desk, AtWork, no_worker, new_desk-of_board, AreCallersOf, AreDesksOf, idle_worker, crew_of}
+use Rattle.plex_agent.proofs.Imports.{◌≡◌, ℕ, zero, suc, ◌+◌, ◌<◌, ◌⊎◌, inl, inr, ◌≤◌, List, [], ◌∷◌, length, map, Some, slice_get, get_or, set, refl, sym, ◌∙◌, ap, subst, arith, range_with_len, All-map, All-same, length-map-range_with_len, get_or-map-range_with_len, slice_get_within, slice_get-get_or, get_or_from_slice_get, map-map, ConnId, DeskShown, BoardShown, IsDeskOf, new_desk, AtWork, no_worker, new_desk-of_board, AreCallersOf, AreDesksOf, idle_worker, crew_of}
 use Rattle.std.proofs.Math.ListN.{length-set}
 
 abbrev pub desk_of : AtWork → DeskShown

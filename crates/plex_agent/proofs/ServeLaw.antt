@@ -1,6 +1,6 @@
 -- Callers at work at one board, whatever the schedule was: each works at its own desk, and what is known of the
 -- others is what the histories say.
-use Rattle.plex_agent.proofs.Names.{◌≡◌, ◌≢◌, ℕ, ◌+◌, ◌≤◌, ◌<◌, inl, inr, List, [], length, map, Some, None, Option, refl, sym, ap, subst, ◌∙◌, arith, append-nil, slice_get, All, cases_lt, length-map, get_or_past, All-nil, slice_get_within, get_within, StrForm, ConnId, StrNo, AnyHistory, Script, AgentEnd, Shown, Transcript, AnyCall, any_calls, any_length, own_calls, calls_of, calls_on, length_of, length_on, AgreesWith, numbers_on, TestsTell, EndsRight, IsHistoryOf, ShowsHistories, CellShown, IsAnyTold, Rising, calls_rise, DeskShown, no_pass, pass_at, BoardShown, IsStarted, IsClosed, IsAccount, AreClosed, new_desk, AtWork, no_items, Serves, WorkEnds, ShowsWork}
+use Rattle.plex_agent.proofs.Imports.{◌≡◌, ◌≢◌, ℕ, ◌+◌, ◌≤◌, ◌<◌, inl, inr, List, [], length, map, Some, None, Option, refl, sym, ap, subst, ◌∙◌, arith, append-nil, slice_get, All, cases_lt, length-map, get_or_past, All-nil, slice_get_within, get_within, StrForm, ConnId, StrNo, AnyHistory, Script, AgentEnd, Shown, Transcript, AnyCall, any_calls, any_length, own_calls, calls_of, calls_on, length_of, length_on, AgreesWith, numbers_on, TestsTell, EndsRight, IsHistoryOf, ShowsHistories, CellShown, IsAnyTold, Rising, calls_rise, DeskShown, no_pass, pass_at, BoardShown, IsStarted, IsClosed, IsAccount, AreClosed, new_desk, AtWork, no_items, Serves, WorkEnds, ShowsWork}
 use Rattle.plex_board.specs.PlexScript.declared.transcripts.AgentEnd.TheVariants as ended
 use Rattle.plex_agent.proofs.Passes.{Caller, IsWithin}
 use Rattle.plex_agent.proofs.Moves.{AreWithin, IsTranscript}

@@ -1,5 +1,5 @@
 -- Items one after another: what holds of each, by those before it; and the greatest number that they show.
-use Rattle.plex_agent.proofs.Names.{◌≡◌, ℕ, zero, suc, ◌≤◌, ◌<◌, ◌⊎◌, inl, inr, List, [], ◌∷◌, ◌++◌, length, take, max, fold, Some, None, Option, refl, sym, ap, subst, ◌∙◌, arith, append-nil, slice_get, filter_map, take-append-le, filter_map-append, fold-append, take-append_seam, pushed_cases}
+use Rattle.plex_agent.proofs.Imports.{◌≡◌, ℕ, zero, suc, ◌≤◌, ◌<◌, ◌⊎◌, inl, inr, List, [], ◌∷◌, ◌++◌, length, take, max, fold, Some, None, Option, refl, sym, ap, subst, ◌∙◌, arith, append-nil, slice_get, filter_map, take-append-le, filter_map-append, fold-append, take-append_seam, pushed_cases}
 
 -- ---- what holds of each
 

@@ -1,5 +1,5 @@
 -- What has been done at one structure, by all callers, and what is known of it while a script runs.
-use Rattle.plex_agent.proofs.Names.{◌≡◌, ◌≢◌, ℕ, ◌+◌, ◌≤◌, ◌<◌, ◌==◌, Bool, true, false, cond, List, [], ◌∷◌, ◌++◌, Option, None, Some, refl, sym, ap, subst, ◌∙◌, arith, append-nil, All, nat_tests, All-head, All-tail, All-push, All-weaker, filter-append, ConnId, StrNo, Told, AnyAsk, AnyCall, own_calls, Rising, AnyReply, PassShown, NoteShown, with_call}
+use Rattle.plex_agent.proofs.Imports.{◌≡◌, ◌≢◌, ℕ, ◌+◌, ◌≤◌, ◌<◌, ◌==◌, Bool, true, false, cond, List, [], ◌∷◌, ◌++◌, Option, None, Some, refl, sym, ap, subst, ◌∙◌, arith, append-nil, All, nat_tests, All-head, All-tail, All-push, All-weaker, filter-append, ConnId, StrNo, Told, AnyAsk, AnyCall, own_calls, Rising, AnyReply, PassShown, NoteShown, with_call}
 
 abbrev pub conn : ℕ → ConnId
 conn c = record { 0 = c }

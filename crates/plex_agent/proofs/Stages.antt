@@ -1,6 +1,6 @@
 -- What has been done at all structures, and the steps of it: what each keeps, what it says of what was done before,
 -- and that the run by the machine alone goes with it.
-use Rattle.plex_agent.proofs.Names.{◌≡◌, ◌≢◌, ℕ, ◌+◌, ◌≤◌, ◌<◌, inl, inr, List, length, set, slice_get, Some, sym, ap, subst, ◌∙◌, length-set, StrForm, CfId, Telling, cases_eq, AnyHistory, Transcript, IsAnyLegal, AreAnyAsTold, IsAnyPoint, any_take, any_numbers, end_of, AreMadeBelow, seen_on, Run, get-set_same, get-set_other, PassShown}
+use Rattle.plex_agent.proofs.Imports.{◌≡◌, ◌≢◌, ℕ, ◌+◌, ◌≤◌, ◌<◌, inl, inr, List, length, set, slice_get, Some, sym, ap, subst, ◌∙◌, length-set, StrForm, CfId, Telling, cases_eq, AnyHistory, Transcript, IsAnyLegal, AreAnyAsTold, IsAnyPoint, any_take, any_numbers, end_of, AreMadeBelow, seen_on, Run, get-set_same, get-set_other, PassShown}
 use Rattle.plex_board.specs.PlexScript.declared.transcripts.AgentEnd.TheVariants as ended
 use Rattle.plex_agent.proofs.Spots.{str, put, put_all, put_same, put_other, Spot, IsKnown}
 use Rattle.plex_agent.proofs.Fits.{put_back, FitsAt}

@@ -1,5 +1,5 @@
 -- What the steps of a line ask may be asked.
-use Rattle.plex_agent.proofs.Names.{◌≡◌, Some, None, Option, refl, sym, subst, Kind, ConnId, ShellCmd, MayCommand, Step, AnyAsk, asked_by, shell_ask, type_of_kind, MayAskAny, CellShown, IsAskOf, IsAskable}
+use Rattle.plex_agent.proofs.Imports.{◌≡◌, Some, None, Option, refl, sym, subst, Kind, ConnId, ShellCmd, MayCommand, Step, AnyAsk, asked_by, shell_ask, type_of_kind, MayAskAny, CellShown, IsAskOf, IsAskable}
 use Rattle.plex_board.specs.CfTypes.declared.forms.Kind.TheVariants as kind
 use Rattle.plex_board.specs.CfTypes.declared.shell_commands.ShellCmd.TheVariants as cmd
 use Rattle.plex_board.specs.PlexScript.declared.agents.Step.TheVariants as step

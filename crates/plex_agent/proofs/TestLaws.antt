@@ -1,5 +1,5 @@
 -- What a caller's tests show of its structure's history, where they aren't behind what it had seen complete.
-use Rattle.plex_agent.proofs.Names.{◌≡◌, ℕ, ◌+◌, ◌*◌, ◌^◌, ◌<◌, ◌≤◌, ◌==◌, ◌&&◌, nat_lt, inl, inr, Bool, true, false, List, take, map, refl, sym, ◌∙◌, arith, All, bit_at, ltb-true, ltb-false, StrForm, ConnId, Entry, Meaning, stands_after, cache_meaning, list_meaning, lock_meaning, AnyHistory, Sight, bit_in, sight, indices_of, IsTold, IsAnyTold, told_past, each_sight, bit_in_word, IsAnyPoint, any_take, any_stands, any_word, all_bits}
+use Rattle.plex_agent.proofs.Imports.{◌≡◌, ℕ, ◌+◌, ◌*◌, ◌^◌, ◌<◌, ◌≤◌, ◌==◌, ◌&&◌, nat_lt, inl, inr, Bool, true, false, List, take, map, refl, sym, ◌∙◌, arith, All, bit_at, ltb-true, ltb-false, StrForm, ConnId, Entry, Meaning, stands_after, cache_meaning, list_meaning, lock_meaning, AnyHistory, Sight, bit_in, sight, indices_of, IsTold, IsAnyTold, told_past, each_sight, bit_in_word, IsAnyPoint, any_take, any_stands, any_word, all_bits}
 use Rattle.plex_board.specs.PlexScript.declared.asks.AnyHistory.TheVariants as history
 
 -- ---- one bit

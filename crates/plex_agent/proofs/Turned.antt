@@ -1,5 +1,5 @@
 -- A step at one structure, as the workers of a floor see it; hearings; and work that ends for want of memory.
-use Rattle.plex_agent.proofs.Names.{◌≡◌, ◌≢◌, ℕ, ◌≤◌, ◌<◌, ◌==◌, Bool, true, false, List, length, set, Option, None, Some, refl, sym, ap, ◌∙◌, arith, length-set, slice_index_or, if◌then◌else◌, get_or-set_same, get_or-set_other, set-get_or, ConnId, Transcript, Run, PassShown, NoteShown, note_of, with_note, DeskShown, pass_at, with_pass, no_pass, note_in, AtWork, Floor, worker_of, heard_from, heard_from_last}
+use Rattle.plex_agent.proofs.Imports.{◌≡◌, ◌≢◌, ℕ, ◌≤◌, ◌<◌, ◌==◌, Bool, true, false, List, length, set, Option, None, Some, refl, sym, ap, ◌∙◌, arith, length-set, slice_index_or, if◌then◌else◌, get_or-set_same, get_or-set_other, set-get_or, ConnId, Transcript, Run, PassShown, NoteShown, note_of, with_note, DeskShown, pass_at, with_pass, no_pass, note_in, AtWork, Floor, worker_of, heard_from, heard_from_last}
 use Rattle.plex_board.specs.PlexScript.declared.transcripts.AgentEnd.TheVariants as ended
 use Rattle.plex_agent.proofs.Spots.{conn, str, put, put_same, put_other, Spot, LastKnows, noticed, known_noticed}
 use Rattle.plex_agent.proofs.Fits.{fits_put, heard_as, heard_pass}

@@ -1,5 +1,5 @@
 -- A caller's turn at a structure: what it does to desk and transcript, and what its items show by the histories.
-use Rattle.plex_agent.proofs.Names.{◌≡◌, ℕ, ◌≤◌, ◌<◌, List, [], ◌∷◌, ◌++◌, length, map, Some, Option, refl, sym, ap, subst, ◌∙◌, arith, append-nil, append_assoc, Kind, ConnId, StrNo, Told, Step, AnyAsk, AgentEnd, Shown, step_after, asked_by, AnyCall, call_numbered, calls_on, length_on, IsHeard, Runs, RunsUpTo, AnyReply, PassShown, with_call, Rising, DeskShown, pass_at, with_pass, AtWork, call_item, Steps, Halts, EndsAt, Asks}
+use Rattle.plex_agent.proofs.Imports.{◌≡◌, ℕ, ◌≤◌, ◌<◌, List, [], ◌∷◌, ◌++◌, length, map, Some, Option, refl, sym, ap, subst, ◌∙◌, arith, append-nil, append_assoc, Kind, ConnId, StrNo, Told, Step, AnyAsk, AgentEnd, Shown, step_after, asked_by, AnyCall, call_numbered, calls_on, length_on, IsHeard, Runs, RunsUpTo, AnyReply, PassShown, with_call, Rising, DeskShown, pass_at, with_pass, AtWork, call_item, Steps, Halts, EndsAt, Asks}
 use Rattle.std.proofs.lemmas.List.{length-set}
 use Rattle.plex_board.specs.PlexScript.declared.agents.Step.TheVariants as step
 use Rattle.plex_board.specs.PlexScript.declared.transcripts.AgentEnd.TheVariants as ended

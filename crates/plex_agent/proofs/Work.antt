@@ -1,5 +1,5 @@
 -- The whole work of a caller: its lines, and then its closing.
-use Rattle.plex_agent.proofs.Names.{◌≡◌, ◌≢◌, ℕ, zero, suc, ◌+◌, ◌<◌, ◌==◌, inl, inr, Bool, true, false, List, [], ◌∷◌, ◌++◌, length, map, take, get_or, refl, sym, ap, subst, ◌∙◌, arith, append-nil, slice_get, MatchBool, length-map, nat_tests, StrForm, ConnId, AnyHistory, Script, AgentEnd, Shown, Transcript, AnyCall, own_calls, is_linked, calls_on, AgreesWith, ShowsLines, ShowsClosings, lines_of, numbers_on, PassShown, unused_pass, CellShown, no_pass, pass_at, BoardShown, AtWork, is_done_as, Serves, DepartsEach, Hears, WorkEnds, beginner}
+use Rattle.plex_agent.proofs.Imports.{◌≡◌, ◌≢◌, ℕ, zero, suc, ◌+◌, ◌<◌, ◌==◌, inl, inr, Bool, true, false, List, [], ◌∷◌, ◌++◌, length, map, take, get_or, refl, sym, ap, subst, ◌∙◌, arith, append-nil, slice_get, MatchBool, length-map, nat_tests, StrForm, ConnId, AnyHistory, Script, AgentEnd, Shown, Transcript, AnyCall, own_calls, is_linked, calls_on, AgreesWith, ShowsLines, ShowsClosings, lines_of, numbers_on, PassShown, unused_pass, CellShown, no_pass, pass_at, BoardShown, AtWork, is_done_as, Serves, DepartsEach, Hears, WorkEnds, beginner}
 use Rattle.plex_board.specs.PlexScript.declared.transcripts.AgentEnd.TheVariants as ended
 use Rattle.plex_agent.proofs.Fronts.{take_front}
 use Rattle.plex_agent.proofs.ShownItems.{each_none}

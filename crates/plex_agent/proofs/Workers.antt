@@ -1,5 +1,5 @@
 -- The callers at work at a board, and what has been done at its structures.
-use Rattle.plex_agent.proofs.Names.{◌≡◌, ◌≢◌, ℕ, ◌+◌, ◌≤◌, ◌<◌, ◌==◌, Bool, true, false, List, ◌++◌, length, map, set, get_or, Option, None, Some, refl, sym, ap, subst, ◌∙◌, arith, length-set, slice_index_or, get_or-set_same, get_or-set_other, set-set, Kind, Step, AnyAsk, AgentEnd, Shown, Transcript, most_asks, all_steps_made, PassShown, IsLater, DeskShown, pass_at, with_pass, no_pass, note_in, AtWork, Asks, EndsAt, Halts, Steps, call_item, Floor, worker_of, no_worker}
+use Rattle.plex_agent.proofs.Imports.{◌≡◌, ◌≢◌, ℕ, ◌+◌, ◌≤◌, ◌<◌, ◌==◌, Bool, true, false, List, ◌++◌, length, map, set, get_or, Option, None, Some, refl, sym, ap, subst, ◌∙◌, arith, length-set, slice_index_or, get_or-set_same, get_or-set_other, set-set, Kind, Step, AnyAsk, AgentEnd, Shown, Transcript, most_asks, all_steps_made, PassShown, IsLater, DeskShown, pass_at, with_pass, no_pass, note_in, AtWork, Asks, EndsAt, Halts, Steps, call_item, Floor, worker_of, no_worker}
 use Rattle.plex_board.specs.PlexScript.declared.agents.Step.TheVariants as step
 use Rattle.plex_board.specs.PlexScript.declared.transcripts.AgentEnd.TheVariants as ended
 use Rattle.plex_agent.proofs.Spots.{conn, str, same_number, other_number, Spot}

@@ -1,5 +1,5 @@
 -- A call that was answered, as it is shown.
-use Rattle.plex_board.proofs.Names.{◌≡◌, ℕ, List, [], ◌∷◌, ◌++◌, sym, ap, ◌∙◌, IfOk, Ok, Err, Result, map-append, ConnId, Ask, Reply, Told, AnyAsk, AnyCall, any_call, PassSeen, CallRefused, About, StrType, AnyReply, PassShown, Replied, IsAnswered, call_by, heard_by, reply_by, replies_by, shown_as, with_call}
+use Rattle.plex_board.proofs.Imports.{◌≡◌, ℕ, List, [], ◌∷◌, ◌++◌, sym, ap, ◌∙◌, IfOk, Ok, Err, Result, map-append, ConnId, Ask, Reply, Told, AnyAsk, AnyCall, any_call, PassSeen, CallRefused, About, StrType, AnyReply, PassShown, Replied, IsAnswered, call_by, heard_by, reply_by, replies_by, shown_as, with_call}
 use Rattle.struct_cell.specs.Calls as calls
 
 module _ {C R : Type 0} (str_type : StrType) (of : Ask C → AnyAsk) (told : Reply R → AnyReply) where

@@ -1,5 +1,5 @@
 -- What is known when a board is closed.
-use Rattle.plex_board.proofs.Names.{◌≡◌, ℕ, ◌+◌, List, length, map, sym, ap, subst, ◌∙◌, arith, All, Option, range_with_len, length-map, length-range_with_len, AnyHistory, DeskShown, no_pass, BoardShown, IsDeskOf, AreClosed, AreEachAsked, AreLinksAsked, Rest, HomeShown, homes_shown, AllFit, homes_gathered, AreHomes, AreEmpty, AreEnded, IsReady}
+use Rattle.plex_board.proofs.Imports.{◌≡◌, ℕ, ◌+◌, List, length, map, sym, ap, subst, ◌∙◌, arith, All, Option, range_with_len, length-map, length-range_with_len, AnyHistory, DeskShown, no_pass, BoardShown, IsDeskOf, AreClosed, AreEachAsked, AreLinksAsked, Rest, HomeShown, homes_shown, AllFit, homes_gathered, AreHomes, AreEmpty, AreEnded, IsReady}
 use Rattle.plex_board.proofs.HomeLaws.{desks-fit, homes-gathered, accounts-at, count-of-homes, count-of-histories}
 use Rattle.plex_board.proofs.OpenLaws.{homes-fewer}
 

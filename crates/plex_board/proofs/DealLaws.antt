@@ -1,5 +1,5 @@
 -- What is known where the last pass is dealt to its desk.
-use Rattle.plex_board.proofs.Names.{◌≡◌, ℕ, ◌+◌, ◌-◌, ◌<◌, ◌≤◌, List, [], ◌∷◌, ◌++◌, length, get_or, set, get_or-set_other, map, sym, ap, subst, ◌∙◌, arith, All, Some, range_with_len, length-append, map-range_with_len_more, All-pop, PassShown, DeskShown, each_with, bare_desk, desk_with}
+use Rattle.plex_board.proofs.Imports.{◌≡◌, ℕ, ◌+◌, ◌-◌, ◌<◌, ◌≤◌, List, [], ◌∷◌, ◌++◌, length, get_or, set, get_or-set_other, map, sym, ap, subst, ◌∙◌, arith, All, Some, range_with_len, length-append, map-range_with_len_more, All-pop, PassShown, DeskShown, each_with, bare_desk, desk_with}
 use Rattle.plex_board.proofs.RowLaws.{each_with-last}
 
 module _ (all front : List PassShown) (pass : PassShown) (owner : ℕ) (all_is : all ≡ front ++ pass ∷ [])

@@ -1,5 +1,5 @@
 -- A desk's passes: what replaces one does to the desk, and what a desk of a board has.
-use Rattle.plex_board.proofs.Names.{◌≡◌, ℕ, ◌<◌, List, length, get_or, sym, ap, ◌∙◌, arith, get_or-set_same, Some, length-map, set-get_or, get_or-map, slice_get_within, get_or_from_slice_get, map-map, StrNo, PassShown, unused_pass, CellShown, IsPassOf, DeskShown, Fixed, fixed_of, no_pass, pass_at, with_pass, BoardShown, cell_on, fixed_at, IsDeskOf, new_desk}
+use Rattle.plex_board.proofs.Imports.{◌≡◌, ℕ, ◌<◌, List, length, get_or, sym, ap, ◌∙◌, arith, get_or-set_same, Some, length-map, set-get_or, get_or-map, slice_get_within, get_or_from_slice_get, map-map, StrNo, PassShown, unused_pass, CellShown, IsPassOf, DeskShown, Fixed, fixed_of, no_pass, pass_at, with_pass, BoardShown, cell_on, fixed_at, IsDeskOf, new_desk}
 
 -- ---- the desk with another pass
 

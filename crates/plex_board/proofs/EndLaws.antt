@@ -1,5 +1,5 @@
 -- What is known as stations end one after the other.
-use Rattle.plex_board.proofs.Names.{◌≡◌, ℕ, ◌+◌, ◌≤◌, List, [], ◌∷◌, ◌++◌, length, refl, sym, ap, subst, ◌∙◌, arith, append_assoc, All, Option, Some, option_to_list, append-nil, Links, AnyHistory, any_calls, any_length, own_calls, AnyPasses, PassShown, passes_shown, CellShown, IsAnyTold, own_replies, AreAsked, IsAnyPoint, any_answers, IsClosed, IsAccount, AreEachAsked, four_of, HomeShown, home_shown, homes_shown, AreHomes, AreEnded}
+use Rattle.plex_board.proofs.Imports.{◌≡◌, ℕ, ◌+◌, ◌≤◌, List, [], ◌∷◌, ◌++◌, length, refl, sym, ap, subst, ◌∙◌, arith, append_assoc, All, Option, Some, option_to_list, append-nil, Links, AnyHistory, any_calls, any_length, own_calls, AnyPasses, PassShown, passes_shown, CellShown, IsAnyTold, own_replies, AreAsked, IsAnyPoint, any_answers, IsClosed, IsAccount, AreEachAsked, four_of, HomeShown, home_shown, homes_shown, AreHomes, AreEnded}
 use Rattle.plex_board.proofs.OpenLaws.{ended-step}
 
 -- what was taken out stood first

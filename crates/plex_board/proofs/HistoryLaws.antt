@@ -1,5 +1,5 @@
 -- What a history of whatever kind says of its calls: how many there are, and that their numbers rise.
-use Rattle.plex_board.proofs.Names.{◌≡◌, ℕ, suc, ◌*◌, ◌<◌, ◌≤◌, ◌==◌, Bool, true, false, List, [], ◌∷◌, length, map, refl, sym, ap, subst, ◌∙◌, arith, suc-le-suc, zero-lt-suc, All, eq-eqb, ne_eqb, false≢true, StrForm, Kind, ConnId, Ask, Entry, Meaning, Call, calls, IsLegal, RisesTo, numbers_rise, three_each, cache_meaning, list_meaning, lock_meaning, AnyAsk, AnyHistory, AnyCall, any_call, any_calls, any_length, own_calls, IsOfKind, IsAnyLegal, Rising, any_take, no_calls}
+use Rattle.plex_board.proofs.Imports.{◌≡◌, ℕ, suc, ◌*◌, ◌<◌, ◌≤◌, ◌==◌, Bool, true, false, List, [], ◌∷◌, length, map, refl, sym, ap, subst, ◌∙◌, arith, suc-le-suc, zero-lt-suc, All, eq-eqb, ne_eqb, false≢true, StrForm, Kind, ConnId, Ask, Entry, Meaning, Call, calls, IsLegal, RisesTo, numbers_rise, three_each, cache_meaning, list_meaning, lock_meaning, AnyAsk, AnyHistory, AnyCall, any_call, any_calls, any_length, own_calls, IsOfKind, IsAnyLegal, Rising, any_take, no_calls}
 use Rattle.std.proofs.lemmas.List as lists
 use Rattle.plex_script.specs.CfTypes.declared.forms.Kind.TheVariants as kind
 use Rattle.plex_script.specs.declared.scripts.AnyAsk.TheVariants as ask

@@ -1,5 +1,5 @@
 -- The homes of a board's structures, as passes come home.
-use Rattle.plex_board.proofs.Names.{◌≡◌, ℕ, suc, zero, ◌<◌, List, [], ◌∷◌, ◌++◌, length, get_or, map, refl, sym, ap, subst, ◌∙◌, arith, append_assoc, All, slice_get, Some, length-append, append-nil, All-push, All-nil, All-cons, All-head, All-tail, slice_get_within, ConnId, AnyHistory, OfCache, PassShown, CellShown, IsPassOf, DeskShown, fixed_of, IsClosed, IsAccount, fixed_at, each_with, HomeShown, home_with, Fits, homes_gathered, AllFit, IsHomeOf, AreHomes, AreEnded, ArePasses}
+use Rattle.plex_board.proofs.Imports.{◌≡◌, ℕ, suc, zero, ◌<◌, List, [], ◌∷◌, ◌++◌, length, get_or, map, refl, sym, ap, subst, ◌∙◌, arith, append_assoc, All, slice_get, Some, length-append, append-nil, All-push, All-nil, All-cons, All-head, All-tail, slice_get_within, ConnId, AnyHistory, OfCache, PassShown, CellShown, IsPassOf, DeskShown, fixed_of, IsClosed, IsAccount, fixed_at, each_with, HomeShown, home_with, Fits, homes_gathered, AllFit, IsHomeOf, AreHomes, AreEnded, ArePasses}
 use Rattle.plex_board.proofs.RowLaws.{each_with-length}
 
 -- a home has what it had, and then each desk's pass

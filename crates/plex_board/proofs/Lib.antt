@@ -8,7 +8,7 @@ pub use Rattle.lock_core.proofs.LockModel as LockModel
 pub use Rattle.plex_script.proofs as PlexScript
 pub use Rattle.struct_cell.proofs.ShellLaws as ShellLaws
 pub use Rattle.struct_cell.proofs.VecWords as VecWords
-pub mod Names
+pub mod Imports
 mod CallLaws
 mod ShownLaws
 pub mod UnusedPassLaws

@@ -1,5 +1,5 @@
 -- What is known as structures are made one after the other.
-use Rattle.plex_board.proofs.Names.{◌≡◌, ℕ, ◌≤◌, List, [], ◌∷◌, ◌++◌, length, map, refl, sym, ap, subst, ◌∙◌, arith, append_assoc, All, map-append, All-push, All-nil, All-map, StrForm, Links, AnyHistory, AnyPasses, StrType, type_of_kind, PassShown, unused_pass, passes_shown, type_of_passes, room_of, CellShown, IsPassOf, WordTable, DeskShown, IsClosed, IsAccount, IsStarted, each_with, HomeShown, home_shown, homes_shown, IsHomeOf, AreHomes, AreEmpty, AreEnded, desk_with, desk_at}
+use Rattle.plex_board.proofs.Imports.{◌≡◌, ℕ, ◌≤◌, List, [], ◌∷◌, ◌++◌, length, map, refl, sym, ap, subst, ◌∙◌, arith, append_assoc, All, map-append, All-push, All-nil, All-map, StrForm, Links, AnyHistory, AnyPasses, StrType, type_of_kind, PassShown, unused_pass, passes_shown, type_of_passes, room_of, CellShown, IsPassOf, WordTable, DeskShown, IsClosed, IsAccount, IsStarted, each_with, HomeShown, home_shown, homes_shown, IsHomeOf, AreHomes, AreEmpty, AreEnded, desk_with, desk_at}
 
 -- a caller that has seen nothing hasn't called
 pub unused-calls : (str_type : StrType) (words : WordTable) (passes : List PassShown) (owners : List ℕ)

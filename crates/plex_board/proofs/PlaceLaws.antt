@@ -1,5 +1,5 @@
 -- What is known where a call of a board is a call of one of its stations, with one of a desk's places.
-use Rattle.plex_board.proofs.Names.{◌≡◌, ◌≢◌, ℕ, ◌<◌, ◌≤◌, List, length, get_or, set, refl, sym, ap, subst, ◌∙◌, arith, get_or-set_same, Some, None, Ok, Err, Option, Result, slice_get, IfOk, IfErr, IfSome, map-set_same, set-get_or, slice_get_read, get_or_from_slice_get, StrNo, Told, AnyAsk, CallRefused, PassShown, NoteShown, IsAnswered, IsLater, with_call, with_any_note, CellShown, IsPassOf, DeskShown, IsAnsweredOn, fixed_of, no_pass, pass_at, with_pass, BoardShown, cell_on, IsDeskOf}
+use Rattle.plex_board.proofs.Imports.{◌≡◌, ◌≢◌, ℕ, ◌<◌, ◌≤◌, List, length, get_or, set, refl, sym, ap, subst, ◌∙◌, arith, get_or-set_same, Some, None, Ok, Err, Option, Result, slice_get, IfOk, IfErr, IfSome, map-set_same, set-get_or, slice_get_read, get_or_from_slice_get, StrNo, Told, AnyAsk, CallRefused, PassShown, NoteShown, IsAnswered, IsLater, with_call, with_any_note, CellShown, IsPassOf, DeskShown, IsAnsweredOn, fixed_of, no_pass, pass_at, with_pass, BoardShown, cell_on, IsDeskOf}
 use Rattle.struct_cell.specs.declared.refused.CallRefused.TheVariants as refused
 use Rattle.plex_board.proofs.DeskLaws.{desk-length, desk-pass_is, desk-pass_owner}
 

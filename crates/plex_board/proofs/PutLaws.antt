@@ -1,5 +1,5 @@
 -- What is known where the last pass is put into its home.
-use Rattle.plex_board.proofs.Names.{◌≡◌, ℕ, ◌<◌, List, [], ◌∷◌, ◌++◌, length, get_or, set, sym, ap, subst, ◌∙◌, arith, length-map, get_or-map, map-set, AnyPasses, StrType, PassShown, passes_shown, type_of_passes, room_of, each_with, HomeShown, home_shown, homes_shown, home_with, Fits}
+use Rattle.plex_board.proofs.Imports.{◌≡◌, ℕ, ◌<◌, List, [], ◌∷◌, ◌++◌, length, get_or, set, sym, ap, subst, ◌∙◌, arith, length-map, get_or-map, map-set, AnyPasses, StrType, PassShown, passes_shown, type_of_passes, room_of, each_with, HomeShown, home_shown, homes_shown, home_with, Fits}
 use Rattle.plex_board.proofs.RowLaws.{each_with-last, FitsLast, fits-last}
 
 same-home : (str_type other : StrType) (passes others : List PassShown) (room most : ℕ) → str_type ≡ other

@@ -1,5 +1,5 @@
 -- What is known of passes that go from desks to homes, and of the homes when structures end.
-use Rattle.plex_board.proofs.Names.{◌≡◌, suc, ◌<◌, List, [], ◌∷◌, ◌++◌, length, get_or, set, refl, ap, arith, PassShown, each_with, HomeShown, Fits}
+use Rattle.plex_board.proofs.Imports.{◌≡◌, suc, ◌<◌, List, [], ◌∷◌, ◌++◌, length, get_or, set, refl, ap, arith, PassShown, each_with, HomeShown, Fits}
 
 -- ---- the last partner first
 

@@ -1,6 +1,6 @@
 -- Where a call of a history stands: the entries up to its number are the next ones of those up to the number of the
 -- call before it.
-use Rattle.plex_board.proofs.Names.{◌≡◌, ℕ, zero, suc, ◌<◌, ◌≤◌, ◌⊎◌, inl, inr, List, [], ◌∷◌, ◌++◌, length, take, map, fold, refl, sym, ap, subst, ◌∙◌, arith, append_assoc, Contains, append_cancel_left, fold_push, StrForm, CfId, Telling, Ask, Entry, Meaning, told_of, Call, Turn, calls, numbers, after_turn, IsLegal, by_turns, calls-turn, call_added, IsMade, call_made, length-turn, cache_meaning, list_meaning, lock_meaning, AnyAsk, AnyHistory, AnyCall, any_call, any_calls, any_length, next_by, told_by, after_call, down_of, IsAnyLegal, AreAnyAsTold, IsAnyPoint, Rising, any_take, any_next, any_told, any_numbers, end_of, last_number}
+use Rattle.plex_board.proofs.Imports.{◌≡◌, ℕ, zero, suc, ◌<◌, ◌≤◌, ◌⊎◌, inl, inr, List, [], ◌∷◌, ◌++◌, length, take, map, fold, refl, sym, ap, subst, ◌∙◌, arith, append_assoc, Contains, append_cancel_left, fold_push, StrForm, CfId, Telling, Ask, Entry, Meaning, told_of, Call, Turn, calls, numbers, after_turn, IsLegal, by_turns, calls-turn, call_added, IsMade, call_made, length-turn, cache_meaning, list_meaning, lock_meaning, AnyAsk, AnyHistory, AnyCall, any_call, any_calls, any_length, next_by, told_by, after_call, down_of, IsAnyLegal, AreAnyAsTold, IsAnyPoint, Rising, any_take, any_next, any_told, any_numbers, end_of, last_number}
 use Rattle.plex_script.specs.EngineApi.History as histories
 use Rattle.plex_script.specs.declared.scripts.AnyAsk.TheVariants as ask
 use Rattle.plex_script.specs.declared.asks.AnyHistory.TheVariants as history

@@ -1,5 +1,5 @@
 -- What holds of passes and calls by the type of their structure holds of them as they are shown.
-use Rattle.plex_board.proofs.Names.{◌≡◌, ℕ, ◌<◌, ◌≤◌, ◌==◌, Bool, true, false, List, [], ◌∷◌, length, map, get_or, All, refl, sym, ap, subst, ◌∙◌, arith, Option, is_some, option_map, nat_tests, map-map, length-map, get_or-map, range_with_len, length-range_with_len, All-map, All-weaker, Links, AreAsked, StrForm, CfId, ConnId, Ask, Reply, Entry, Meaning, Call, calls, own, map-filtered, AnyAsk, AnyCall, any_call, call_numbered, own_calls, Sight, WordTable, PassSeen, new_pass, CellKey, reply_to, About, own_call_of, AreMadeBelow, IsTold, StrType, AnyReply, PassShown, call_by, heard_by, replies_by, reply_by, reply_numbered, shown_as, unused_pass, CellShown, keyed_as, replied, IsPassOf}
+use Rattle.plex_board.proofs.Imports.{◌≡◌, ℕ, ◌<◌, ◌≤◌, ◌==◌, Bool, true, false, List, [], ◌∷◌, length, map, get_or, All, refl, sym, ap, subst, ◌∙◌, arith, Option, is_some, option_map, nat_tests, map-map, length-map, get_or-map, range_with_len, length-range_with_len, All-map, All-weaker, Links, AreAsked, StrForm, CfId, ConnId, Ask, Reply, Entry, Meaning, Call, calls, own, map-filtered, AnyAsk, AnyCall, any_call, call_numbered, own_calls, Sight, WordTable, PassSeen, new_pass, CellKey, reply_to, About, own_call_of, AreMadeBelow, IsTold, StrType, AnyReply, PassShown, call_by, heard_by, replies_by, reply_by, reply_numbered, shown_as, unused_pass, CellShown, keyed_as, replied, IsPassOf}
 
 -- a vector of so many has room for so many
 pub room_for : {X : Type 0} (of : ℕ → X) (n : ℕ) (items : List X) (len cap : ℕ) → (len ≡ length items) × (len ≤ cap)

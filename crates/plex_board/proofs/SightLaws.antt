@@ -1,5 +1,5 @@
 -- The tests of a word's indices, one by one; and tests past the vector.
-use Rattle.plex_board.proofs.Names.{◌≡◌, ℕ, ◌+◌, ◌*◌, ◌%◌, ◌<◌, ◌≤◌, ◌==◌, false, List, length, map, refl, sym, ap, subst, arith, All, bit_at, range_with_len, length-map-range_with_len, get_or-map-range_with_len, StrForm, ConnId, AnyHistory, Sight, bit_in, sight, indices_of, IsAnyTold}
+use Rattle.plex_board.proofs.Imports.{◌≡◌, ℕ, ◌+◌, ◌*◌, ◌%◌, ◌<◌, ◌≤◌, ◌==◌, false, List, length, map, refl, sym, ap, subst, arith, All, bit_at, range_with_len, length-map-range_with_len, get_or-map-range_with_len, StrForm, ConnId, AnyHistory, Sight, bit_in, sight, indices_of, IsAnyTold}
 use Rattle.plex_script.specs.declared.asks.AnyHistory.TheVariants as history
 
 -- past the vector a test shows nothing

@@ -1,5 +1,5 @@
 -- What is known as a board's structures are made in the order of the script.
-use Rattle.plex_board.proofs.Names.{◌≡◌, ℕ, Vec, ◌+◌, ◌<◌, List, arith, [], ◌∷◌, ◌++◌, length, get_or, map, take, sym, ap, subst, ◌∙◌, append_assoc, All, Result, Ok, Err, IfOk, flat_map, range_with_len, take_more, length-map, length-append, All-get_or, StrForm, IsForm, CellShown, DeskShown, BoardShown, IsStarted, four_of, links_of, new_desk, desk_at}
+use Rattle.plex_board.proofs.Imports.{◌≡◌, ℕ, Vec, ◌+◌, ◌<◌, List, arith, [], ◌∷◌, ◌++◌, length, get_or, map, take, sym, ap, subst, ◌∙◌, append_assoc, All, Result, Ok, Err, IfOk, flat_map, range_with_len, take_more, length-map, length-append, All-get_or, StrForm, IsForm, CellShown, DeskShown, BoardShown, IsStarted, four_of, links_of, new_desk, desk_at}
 
 -- four links more are those of one structure more
 pub links-regroup : {X : Type 0} (front four left rest all : List X) → front ++ left ≡ all → left ≡ four ++ rest

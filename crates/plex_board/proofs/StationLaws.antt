@@ -1,5 +1,5 @@
 -- What is known of the passes of a new cell, and of a caller that has called.
-use Rattle.plex_board.proofs.Names.{◌≡◌, ℕ, ◌+◌, ◌<◌, ◌≤◌, List, [], ◌∷◌, ◌++◌, length, map, sym, ap, subst, ◌∙◌, arith, refl, All, Option, Some, IfSome, range_with_len, get_or-append_seam, length-append, length-map, length-range_with_len, All-get_or, All-map, StrForm, Links, WordTable, AnyPass, StrType, type_of_kind, PassShown, unused_pass, CellShown, IsPassOf}
+use Rattle.plex_board.proofs.Imports.{◌≡◌, ℕ, ◌+◌, ◌<◌, ◌≤◌, List, [], ◌∷◌, ◌++◌, length, map, sym, ap, subst, ◌∙◌, arith, refl, All, Option, Some, IfSome, range_with_len, get_or-append_seam, length-append, length-map, length-range_with_len, All-get_or, All-map, StrForm, Links, WordTable, AnyPass, StrType, type_of_kind, PassShown, unused_pass, CellShown, IsPassOf}
 
 -- the passes of a new cell, by the cell
 pub started-passes : {L : Type 0} (cell : CellShown L) (form : StrForm) (callers limit : ℕ) (links : Links L)

@@ -1,5 +1,5 @@
 -- Where links tell which calls are down, a history is that of the run with these.
-use Rattle.plex_board.proofs.Names.{◌≡◌, ℕ, ◌+◌, ◌==◌, ◌≤◌, ◌⊎◌, inl, inr, Bool, true, List, [], ◌∷◌, ◌++◌, length, refl, sym, ap, subst, ◌∙◌, arith, append_assoc, fold, take, drop, Option, ◌↔◌, if◌then◌else◌, Decides, list_any, same_from_decides, Decides-by_or, Decides-eqb, cases_lt, length-take, take-append-drop, fold_push, Decides-contains, IsListed, TellsEnough, IsFacility, Links, CfId, Entry, links_asked, Asks, reached_in, marks_of, answers_to, StrForm, Meaning, Machine, Call, Turn, calls, replay, with_marks, after_turn, IsLegal, answers, answers_from, read_all, link_at, calls_after, Telling, IsAsTold, AreAsked, Tells, is_listed, down_of, next_by, after_call, Agree, marks_agree, by_turns, calls-turn, call_added, legal_turn, IsMade, call_made, IsAtGroup, group-turn, answers-turn, answers-append, asked_told}
+use Rattle.plex_board.proofs.Imports.{◌≡◌, ℕ, ◌+◌, ◌==◌, ◌≤◌, ◌⊎◌, inl, inr, Bool, true, List, [], ◌∷◌, ◌++◌, length, refl, sym, ap, subst, ◌∙◌, arith, append_assoc, fold, take, drop, Option, ◌↔◌, if◌then◌else◌, Decides, list_any, same_from_decides, Decides-by_or, Decides-eqb, cases_lt, length-take, take-append-drop, fold_push, Decides-contains, IsListed, TellsEnough, IsFacility, Links, CfId, Entry, links_asked, Asks, reached_in, marks_of, answers_to, StrForm, Meaning, Machine, Call, Turn, calls, replay, with_marks, after_turn, IsLegal, answers, answers_from, read_all, link_at, calls_after, Telling, IsAsTold, AreAsked, Tells, is_listed, down_of, next_by, after_call, Agree, marks_agree, by_turns, calls-turn, call_added, legal_turn, IsMade, call_made, IsAtGroup, group-turn, answers-turn, answers-append, asked_told}
 use Rattle.plex_script.specs.EngineApi.History.{with_call}
 
 listed_decides : (downs : List ℕ) (count : ℕ) → Decides (is_listed downs count) (IsListed downs count)

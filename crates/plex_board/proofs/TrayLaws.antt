@@ -1,5 +1,5 @@
 -- What is known of a tray whose slot on a structure is read or written.
-use Rattle.plex_board.proofs.Names.{◌≡◌, ℕ, zero, suc, ◌<◌, List, [], ◌∷◌, length, get_or, set, map, refl, sym, ap, subst, ◌∙◌, arith, ◌⊎◌, inl, inr, Some, None, Option, slice_get, IfSome, option_map, length-set, length-map, map-set, map-set_same, slice_get_read, slice_get-map, slice_get_within, StrNo, AnyNote, NoteShown, note_shown, CellShown, IsNoteOf, BoardShown, cell_on, IsTrayOf}
+use Rattle.plex_board.proofs.Imports.{◌≡◌, ℕ, zero, suc, ◌<◌, List, [], ◌∷◌, length, get_or, set, map, refl, sym, ap, subst, ◌∙◌, arith, ◌⊎◌, inl, inr, Some, None, Option, slice_get, IfSome, option_map, length-set, length-map, map-set, map-set_same, slice_get_read, slice_get-map, slice_get_within, StrNo, AnyNote, NoteShown, note_shown, CellShown, IsNoteOf, BoardShown, cell_on, IsTrayOf}
 
 -- an element after one was written: the written one, or what was there
 element-after : {X : Type 0} (xs : List X) (i x : ℕ) (v w : X) → slice_get (set xs i v) x ≡ Some w

@@ -1,5 +1,5 @@
 -- Structures that nobody has called yet, as they end.
-use Rattle.plex_board.proofs.Names.{◌≡◌, ℕ, suc, ◌+◌, ◌<◌, ◌≤◌, List, [], ◌∷◌, ◌++◌, length, get_or, map, All, refl, sym, ap, subst, ◌∙◌, arith, append_assoc, Option, Some, slice_get, flat_map, range_with_len, length-map, get_or-map, length-range_with_len, get_or-map-range_with_len, All-map, All-weaker, slice_get_within, get_or_from_slice_get, ConnId, Links, AreAsked, AnyHistory, any_calls, own_calls, any_answers, PassShown, unused_pass, CellShown, DeskShown, no_pass, fixed_of, IsStarted, IsClosed, IsAccount, AreEachAsked, four_of, fixed_at, Opening, HomeShown, homes_shown, AllFit, homes_gathered, AreHomes, AreEnded, IsOpening, IsUnused, desk_at}
+use Rattle.plex_board.proofs.Imports.{◌≡◌, ℕ, suc, ◌+◌, ◌<◌, ◌≤◌, List, [], ◌∷◌, ◌++◌, length, get_or, map, All, refl, sym, ap, subst, ◌∙◌, arith, append_assoc, Option, Some, slice_get, flat_map, range_with_len, length-map, get_or-map, length-range_with_len, get_or-map-range_with_len, All-map, All-weaker, slice_get_within, get_or_from_slice_get, ConnId, Links, AreAsked, AnyHistory, any_calls, own_calls, any_answers, PassShown, unused_pass, CellShown, DeskShown, no_pass, fixed_of, IsStarted, IsClosed, IsAccount, AreEachAsked, four_of, fixed_at, Opening, HomeShown, homes_shown, AllFit, homes_gathered, AreHomes, AreEnded, IsOpening, IsUnused, desk_at}
 use Rattle.plex_board.proofs.UnusedPassLaws.{unused_links}
 use Rattle.plex_board.proofs.DeskLaws.{new_desk-of_board}
 use Rattle.plex_board.proofs.HomeLaws.{desks-fit, homes-gathered, accounts-at, count-of-homes}

@@ -1,5 +1,5 @@
 -- A structure that nobody has called: its links were asked nothing.
-use Rattle.plex_board.proofs.Names.{◌≡◌, ℕ, ◌+◌, ◌<◌, ◌≤◌, ◌==◌, Bool, true, false, List, [], ◌∷◌, ◌++◌, length, get_or, map, All, refl, sym, ap, subst, ◌∙◌, arith, Option, eq-eqb, range_with_len, All-head, length-map-range_with_len, get_or-map-range_with_len, StrForm, CfId, ConnId, Links, IsAskedAll, AreAsked, link_at, Entry, Meaning, calls, IsLegal, by_turns, calls-turn, call_added, cache_meaning, list_meaning, lock_meaning, AnyHistory, AnyCall, any_call, any_calls, own_calls, WordTable, StrType, IsAnyLegal, any_answers, PassShown, unused_pass, CellShown}
+use Rattle.plex_board.proofs.Imports.{◌≡◌, ℕ, ◌+◌, ◌<◌, ◌≤◌, ◌==◌, Bool, true, false, List, [], ◌∷◌, ◌++◌, length, get_or, map, All, refl, sym, ap, subst, ◌∙◌, arith, Option, eq-eqb, range_with_len, All-head, length-map-range_with_len, get_or-map-range_with_len, StrForm, CfId, ConnId, Links, IsAskedAll, AreAsked, link_at, Entry, Meaning, calls, IsLegal, by_turns, calls-turn, call_added, cache_meaning, list_meaning, lock_meaning, AnyHistory, AnyCall, any_call, any_calls, own_calls, WordTable, StrType, IsAnyLegal, any_answers, PassShown, unused_pass, CellShown}
 use Rattle.std.proofs.Common.{length-append}
 use Rattle.plex_script.specs.declared.scripts.AnyAsk.TheVariants as ask
 use Rattle.plex_script.specs.declared.asks.AnyHistory.TheVariants as history

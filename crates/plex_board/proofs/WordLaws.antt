@@ -1,5 +1,5 @@
 -- Words made of bits, which are added one after another; and a number is the sum of its bits' worths.
-use Rattle.plex_board.proofs.Names.{◌≡◌, ℕ, zero, suc, ◌+◌, ◌*◌, ◌^◌, ◌%◌, ◌<◌, ◌≤◌, ◌==◌, Bool, true, false, if◌then◌else◌, List, [], ◌∷◌, ◌++◌, refl, sym, ap, ◌∙◌, arith, add-zero, mod-eq_of_lt, bit_at, sum_by, sum_by_push, mod-pow-add, bit_at-lt, pow-suc, pow_mono, numbers_from}
+use Rattle.plex_board.proofs.Imports.{◌≡◌, ℕ, zero, suc, ◌+◌, ◌*◌, ◌^◌, ◌%◌, ◌<◌, ◌≤◌, ◌==◌, Bool, true, false, if◌then◌else◌, List, [], ◌∷◌, ◌++◌, refl, sym, ap, ◌∙◌, arith, add-zero, mod-eq_of_lt, bit_at, sum_by, sum_by_push, mod-pow-add, bit_at-lt, pow-suc, pow_mono, numbers_from}
 
 pub numbers_from-suc : (first n : ℕ) → numbers_from first (suc n) ≡ numbers_from first n ++ (first + n) ∷ []
 numbers_from-suc first zero = ap (λ (m : ℕ). m ∷ []) (sym (add-zero first))

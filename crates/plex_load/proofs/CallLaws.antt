@@ -1,5 +1,5 @@
 -- The calls of a connector are entries that are counted one by one.
-use Rattle.plex_load.proofs.Names.{◌≡◌, ℕ, ◌+◌, ◌==◌, ◌&&◌, Bool, true, false, cond, List, [], ◌∷◌, length, map, refl, sym, ap, ◌∙◌, arith, count_by, cons_option, sum_by-cons, CacheCmd, CacheReply, ListCmd, ListReply, LockCmd, LockReply, ConnId, Ask, What, Entry, Call, call_told, calls, AnyAsk, any_call, own_calls, is_call, is_call_by}
+use Rattle.plex_load.proofs.Imports.{◌≡◌, ℕ, ◌+◌, ◌==◌, ◌&&◌, Bool, true, false, cond, List, [], ◌∷◌, length, map, refl, sym, ap, ◌∙◌, arith, count_by, cons_option, sum_by-cons, CacheCmd, CacheReply, ListCmd, ListReply, LockCmd, LockReply, ConnId, Ask, What, Entry, Call, call_told, calls, AnyAsk, any_call, own_calls, is_call, is_call_by}
 use Rattle.plex_script.specs.EngineApi.declared.asks.What.TheVariants as what
 use Rattle.plex_script.specs.declared.scripts.AnyAsk.TheVariants as ask
 

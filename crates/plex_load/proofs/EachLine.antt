@@ -1,5 +1,5 @@
 -- What holds of each line of a load.
-use Rattle.plex_load.proofs.Names.{◌≡◌, ℕ, ◌+◌, ◌≤◌, ◌<◌, [], ◌++◌, length, get_or, map, refl, sym, ap, ◌∙◌, subst, arith, length-append, All, range_with_len, All-nil, All-cons, All-append, All-map, length-range_with_len, length-map-range_with_len, get_or-range_with_len, Line, number_after, index_of, lines_each, own_line, work, connect_line, work_line, connector_lines, first_number, own_lines, lines_of_first, load_script}
+use Rattle.plex_load.proofs.Imports.{◌≡◌, ℕ, ◌+◌, ◌≤◌, ◌<◌, [], ◌++◌, length, get_or, map, refl, sym, ap, ◌∙◌, subst, arith, length-append, All, range_with_len, All-nil, All-cons, All-append, All-map, length-range_with_len, length-map-range_with_len, get_or-range_with_len, Line, number_after, index_of, lines_each, own_line, work, connect_line, work_line, connector_lines, first_number, own_lines, lines_of_first, load_script}
 
 pub each-is : lines_each ≡ 1000
 unfolding lines_each

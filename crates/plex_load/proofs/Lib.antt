@@ -1,5 +1,5 @@
 pub use Rattle.plex_script.proofs.PlexSpell as PlexSpell
-pub mod Names
+pub mod Imports
 pub mod NumberLaws
 pub mod TermLaws
 pub mod CallLaws

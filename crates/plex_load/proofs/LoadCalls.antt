@@ -1,5 +1,5 @@
 -- How many calls the lines of a load make.
-use Rattle.plex_load.proofs.Names.{◌≡◌, ℕ, ◌+◌, ◌*◌, ◌%◌, ◌≤◌, ◌==◌, zero, suc, Bool, true, false, cond, [], ◌++◌, map, refl, ap, ◌∙◌, arith, range_with_len, nat_tests, sum_by-map-range_with_len_more, sum_by-append, sum_by-cons, StrNo, first_step, most_asks, number_after, index_of, lines_each, read, write, work, connect_line, work_line, connector_lines, first_number, own_lines, lines_of_first, load_script, asks_on, asks_of}
+use Rattle.plex_load.proofs.Imports.{◌≡◌, ℕ, ◌+◌, ◌*◌, ◌%◌, ◌≤◌, ◌==◌, zero, suc, Bool, true, false, cond, [], ◌++◌, map, refl, ap, ◌∙◌, arith, range_with_len, nat_tests, sum_by-map-range_with_len_more, sum_by-append, sum_by-cons, StrNo, first_step, most_asks, number_after, index_of, lines_each, read, write, work, connect_line, work_line, connector_lines, first_number, own_lines, lines_of_first, load_script, asks_on, asks_of}
 use Rattle.std.specs.List.{sum_by}
 use Rattle.plex_script.specs.declared.scripts.Act.TheVariants as act
 use Rattle.plex_load.proofs.EachLine.{each-is, four_parts}

@@ -1,5 +1,5 @@
 -- A load keeps the forms, the ranges and the limits of the language.
-use Rattle.plex_load.proofs.Names.{◌≡◌, ℕ, ◌+◌, ◌≤◌, ◌<◌, ◌==◌, ◌%◌, zero, suc, Bool, true, false, not, cond, List, [], ◌∷◌, ◌++◌, length, codes, get_or, refl, sym, ap, ◌∙◌, subst, arith, All, decimal, nat_tests, All-nil, All-cons, get_or-map-range_with_len, Pref, Name16, IsForm, IsPref, IsPadded, Declared, is_term, is_name, is_declared, Term, NewName, IsNamed, AreNames, AreWithin, words-within, Act, MayDo, class_in, line_tokens, AreFacilities, HasRoom, IsStructureIn, IsLineIn, KeepsLimits, named, letter, page, read, write, connect, work, own_line, index_of, load_facility, load_pref, load_form, load_connectors, lines_of_first, load_script}
+use Rattle.plex_load.proofs.Imports.{◌≡◌, ℕ, ◌+◌, ◌≤◌, ◌<◌, ◌==◌, ◌%◌, zero, suc, Bool, true, false, not, cond, List, [], ◌∷◌, ◌++◌, length, codes, get_or, refl, sym, ap, ◌∙◌, subst, arith, All, decimal, nat_tests, All-nil, All-cons, get_or-map-range_with_len, Pref, Name16, IsForm, IsPref, IsPadded, Declared, is_term, is_name, is_declared, Term, NewName, IsNamed, AreNames, AreWithin, words-within, Act, MayDo, class_in, line_tokens, AreFacilities, HasRoom, IsStructureIn, IsLineIn, KeepsLimits, named, letter, page, read, write, connect, work, own_line, index_of, load_facility, load_pref, load_form, load_connectors, lines_of_first, load_script}
 use Rattle.plex_script.specs.CfTypes.declared.forms.Kind.TheVariants as kind
 use Rattle.plex_script.specs.declared.scripts.Act.TheVariants as act
 use Rattle.plex_load.proofs.EachLine.{each_line}

@@ -1,5 +1,5 @@
 -- Numbers that go on from others, and the lines that stand for them.
-use Rattle.plex_load.proofs.Names.{◌≡◌, ℕ, ◌+◌, ◌*◌, ◌%◌, zero, suc, List, [], ◌∷◌, ◌++◌, map, refl, sym, ap, ◌∙◌, arith, add-zero, add-suc, add-one, append_assoc, flat_map, range_with_len, flat_map_more, map-id, map-range_with_len_more, Line, next_number, number_after, index_of, lines_each, own_line, work, work_line, connector_lines, first_number, lines_of_first}
+use Rattle.plex_load.proofs.Imports.{◌≡◌, ℕ, ◌+◌, ◌*◌, ◌%◌, zero, suc, List, [], ◌∷◌, ◌++◌, map, refl, sym, ap, ◌∙◌, arith, add-zero, add-suc, add-one, append_assoc, flat_map, range_with_len, flat_map_more, map-id, map-range_with_len_more, Line, next_number, number_after, index_of, lines_each, own_line, work, work_line, connector_lines, first_number, lines_of_first}
 
 -- ---- numbers
 

@@ -1,5 +1,5 @@
 -- The lines of a load have the numbers that they have in its text.
-use Rattle.plex_load.proofs.Names.{◌≡◌, ℕ, ◌+◌, ◌*◌, ◌≤◌, ◌<◌, zero, suc, List, [], ◌∷◌, ◌++◌, length, map, refl, sym, ap, ◌∙◌, subst, arith, range_with_len, Line, numbered_behind, with_line_numbers, line_number, lines_each, place_of, work_line, connector_lines, first_number, own_lines, lines_of_first, load_script}
+use Rattle.plex_load.proofs.Imports.{◌≡◌, ℕ, ◌+◌, ◌*◌, ◌≤◌, ◌<◌, zero, suc, List, [], ◌∷◌, ◌++◌, length, map, refl, sym, ap, ◌∙◌, subst, arith, range_with_len, Line, numbered_behind, with_line_numbers, line_number, lines_each, place_of, work_line, connector_lines, first_number, own_lines, lines_of_first, load_script}
 use Rattle.plex_load.proofs.EachLine.{each-is, four_parts, length-connector}
 
 -- each line has the number that it has behind so many others

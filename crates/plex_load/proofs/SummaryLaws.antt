@@ -1,5 +1,5 @@
 -- Lines that are put one behind another.
-use Rattle.plex_load.proofs.Names.{◌≡◌, ℕ, ◌+◌, List, ◌++◌, map, sym, ap, ◌∙◌, arith, flat_map, range_with_len, append-nil, flat_map_more, map-range_with_len_more, line_text, AnyHistory, calls_line, calls_lines}
+use Rattle.plex_load.proofs.Imports.{◌≡◌, ℕ, ◌+◌, List, ◌++◌, map, sym, ap, ◌∙◌, arith, flat_map, range_with_len, append-nil, flat_map_more, map-range_with_len_more, line_text, AnyHistory, calls_line, calls_lines}
 
 -- the lines of no connector, and of one more
 pub calls_none : (histories : List AnyHistory) (text : List ℕ)

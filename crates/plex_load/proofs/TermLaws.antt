@@ -1,5 +1,5 @@
 -- Names and data that are made of a text and a number.
-use Rattle.plex_load.proofs.Names.{◌≡◌, ℕ, ◌+◌, ◌≤◌, ◌<◌, ◌^◌, zero, suc, true, List, ◌++◌, length, codes, refl, arith, length-append, is_ascii_digit, decimal, list_all, nat_tests, length-decimal-le, decimal_nonempty, digits_decimal, IsTerm, term_byte, own, all-append, all-weaker, letter}
+use Rattle.plex_load.proofs.Imports.{◌≡◌, ℕ, ◌+◌, ◌≤◌, ◌<◌, ◌^◌, zero, suc, true, List, ◌++◌, length, codes, refl, arith, length-append, is_ascii_digit, decimal, list_all, nat_tests, length-decimal-le, decimal_nonempty, digits_decimal, IsTerm, term_byte, own, all-append, all-weaker, letter}
 
 digit-term : (b : ℕ) → is_ascii_digit b ≡ true → term_byte b ≡ true
 digit-term b h = grind (arith, nat_tests)

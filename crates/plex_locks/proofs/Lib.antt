@@ -1,3 +1,3 @@
-pub mod Names
+pub mod Imports
 pub mod WorkLaws
 pub mod ToldLaws

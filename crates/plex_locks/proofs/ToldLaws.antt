@@ -1,5 +1,5 @@
 -- What is told of connectors that have worked.
-use Rattle.plex_locks.proofs.Names.{◌≡◌, ◌+◌, ◌<◌, ◌⊎◌, ℕ, zero, suc, Bool, List, [], ◌∷◌, ◌++◌, Option, None, Some, Contains, All, AllPairs, map, length, drop, slice_get, get_or, Result, Ok, Err, refl, sym, ap, ◌∙◌, subst, inl, ⊎_elim, arith, append_assoc, length-append, replicate, slice_index, IfOk, range_with_len, flat_map, option_map, get_or-map, length-map, map-append, length-replicate, All-push, All-nil, All-head, All-contains, All-replicate, get_or-map-range_with_len, length-map-range_with_len, get_or-range_with_len, slice_get-map, slice_get_within, slice_get-get_or, get_or_from_slice_get, none-some, ConnId, Name16, StrForm, IsForm, Hold, Grant, AreCompatible, says_excl, hold, grant, reading, HandSeen, LocksSeen, new_hand, AreAll, IsOthers, HasValue, all_held, Line, Script, IsWellFormed, IsLineOf, Outcome, Granted, Held, Contended, Raced, Freed, NotHeld, Done, HandTold, Locked, tasks_by, word_of, resource_of, left_by, granted_by, FollowsOwn, HasOther, IsOfOthers, AtLocks, AreIdle, IsDealt, IsReady, HasRead, ReadsDone, HaveWorked, asked_by, asked_in, IsHandTold, IsLocked, told_of, none_told, entries_of, dones_of, all_left}
+use Rattle.plex_locks.proofs.Imports.{◌≡◌, ◌+◌, ◌<◌, ◌⊎◌, ℕ, zero, suc, Bool, List, [], ◌∷◌, ◌++◌, Option, None, Some, Contains, All, AllPairs, map, length, drop, slice_get, get_or, Result, Ok, Err, refl, sym, ap, ◌∙◌, subst, inl, ⊎_elim, arith, append_assoc, length-append, replicate, slice_index, IfOk, range_with_len, flat_map, option_map, get_or-map, length-map, map-append, length-replicate, All-push, All-nil, All-head, All-contains, All-replicate, get_or-map-range_with_len, length-map-range_with_len, get_or-range_with_len, slice_get-map, slice_get_within, slice_get-get_or, get_or_from_slice_get, none-some, ConnId, Name16, StrForm, IsForm, Hold, Grant, AreCompatible, says_excl, hold, grant, reading, HandSeen, LocksSeen, new_hand, AreAll, IsOthers, HasValue, all_held, Line, Script, IsWellFormed, IsLineOf, Outcome, Granted, Held, Contended, Raced, Freed, NotHeld, Done, HandTold, Locked, tasks_by, word_of, resource_of, left_by, granted_by, FollowsOwn, HasOther, IsOfOthers, AtLocks, AreIdle, IsDealt, IsReady, HasRead, ReadsDone, HaveWorked, asked_by, asked_in, IsHandTold, IsLocked, told_of, none_told, entries_of, dones_of, all_left}
 
 abbrev name_of : AtLocks → Name16
 name_of w = w.name

@@ -1,5 +1,5 @@
 -- One outcome more of a connector at work.
-use Rattle.plex_locks.proofs.Names.{◌≡◌, ◌==◌, ◌<◌, ℕ, Bool, true, false, not, List, [], ◌∷◌, ◌++◌, Option, None, Some, Contains, map, filter, refl, sym, ap, ◌∙◌, subst, ⊎_elim, arith, append_assoc, append-nil, eq-zero-or-pos, MatchOption, map-append, flat_map-append, All-push, All-weaker, Contains-append_left, Contains-push, Resource, Hold, Reading, Grant, Admits, held_as, hold, grant, reading, HandSeen, hand_released, Request, Obtain, Release, Outcome, Granted, Held, Contended, Raced, Freed, NotHeld, Done, word_of, resource_of, then_holds, left_by, grant_in, granted_by, IsTry, IsOutcome, FollowsOwn, IsTried, HasRead, ReadsDone, IsWorked}
+use Rattle.plex_locks.proofs.Imports.{◌≡◌, ◌==◌, ◌<◌, ℕ, Bool, true, false, not, List, [], ◌∷◌, ◌++◌, Option, None, Some, Contains, map, filter, refl, sym, ap, ◌∙◌, subst, ⊎_elim, arith, append_assoc, append-nil, eq-zero-or-pos, MatchOption, map-append, flat_map-append, All-push, All-weaker, Contains-append_left, Contains-push, Resource, Hold, Reading, Grant, Admits, held_as, hold, grant, reading, HandSeen, hand_released, Request, Obtain, Release, Outcome, Granted, Held, Contended, Raced, Freed, NotHeld, Done, word_of, resource_of, then_holds, left_by, grant_in, granted_by, IsTry, IsOutcome, FollowsOwn, IsTried, HasRead, ReadsDone, IsWorked}
 
 abbrev done_as : Request → Outcome → Done
 done_as request outcome = record { request = request; outcome = outcome }

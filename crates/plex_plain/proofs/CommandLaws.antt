@@ -1,5 +1,5 @@
 -- The words of commands with options.
-use Rattle.plex_plain.proofs.Names.{◌≡◌, ℕ, Bool, true, false, List, [], ◌∷◌, ◌++◌, Option, None, Some, codes, refl, sym, ap, ◌∙◌, if◌then◌else◌, Name16, Key16, Resource, CacheCmd, At, Cond, NotHeld, HeldBy, ListCmd, Token, name_word, Literal, OnResource, all_tokens, disposition, references, number, end, state, option_tokens, flag_tokens, name_tokens, key_tokens, short_tokens, data_tokens, number_tokens, version_tokens, Refs, StrForm, form_tokens, class_tokens, cache_tokens, at_tokens, cond_tokens, list_tokens, resource_word, plain_word, plain_words, storage_told, class_told, castout_words, keep_word, end_word, cache_words, list_words, state_word, refs_word, told_words, number_words, text_words, name_words, key_words}
+use Rattle.plex_plain.proofs.Imports.{◌≡◌, ℕ, Bool, true, false, List, [], ◌∷◌, ◌++◌, Option, None, Some, codes, refl, sym, ap, ◌∙◌, if◌then◌else◌, Name16, Key16, Resource, CacheCmd, At, Cond, NotHeld, HeldBy, ListCmd, Token, name_word, Literal, OnResource, all_tokens, disposition, references, number, end, state, option_tokens, flag_tokens, name_tokens, key_tokens, short_tokens, data_tokens, number_tokens, version_tokens, Refs, StrForm, form_tokens, class_tokens, cache_tokens, at_tokens, cond_tokens, list_tokens, resource_word, plain_word, plain_words, storage_told, class_told, castout_words, keep_word, end_word, cache_words, list_words, state_word, refs_word, told_words, number_words, text_words, name_words, key_words}
 use Rattle.std.specs.Fmt.{decimal}
 use Rattle.cf_types.specs.declared.cache_commands.CacheCmd.TheVariants as cache
 use Rattle.cf_types.specs.declared.list_commands.At.TheVariants as at

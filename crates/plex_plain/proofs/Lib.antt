@@ -1,5 +1,5 @@
 pub use Rattle.plex_spell.proofs as PlexSpell
-pub mod Names
+pub mod Imports
 pub mod TokenLaws
 pub mod CommandLaws
 pub mod Tests

@@ -1,5 +1,5 @@
 -- Where a name stands among names.
-use Rattle.plex_plain.proofs.Names.{◌≡◌, ◌≢◌, ℕ, ◌-◌, ◌<◌, ◌≤◌, ◌==◌, ◌||◌, Bool, true, false, nat_lt, List, [], ◌∷◌, ◌++◌, length, length-append, get_or, Option, Some, position, decimal, refl, sym, ap, ◌∙◌, arith, zero, suc, position_or_len, list_any, option_map_or, nat_tests, slice_get-get_or, Name16, block_of, same_word, name_word, same_word-refl, word-same, caller_name, IsNamed}
+use Rattle.plex_plain.proofs.Imports.{◌≡◌, ◌≢◌, ℕ, ◌-◌, ◌<◌, ◌≤◌, ◌==◌, ◌||◌, Bool, true, false, nat_lt, List, [], ◌∷◌, ◌++◌, length, length-append, get_or, Option, Some, position, decimal, refl, sym, ap, ◌∙◌, arith, zero, suc, position_or_len, list_any, option_map_or, nat_tests, slice_get-get_or, Name16, block_of, same_word, name_word, same_word-refl, word-same, caller_name, IsNamed}
 
 -- ---- the first place at which a test holds
 

@@ -1,5 +1,5 @@
 -- Plain words are words, and how many bytes they take in a line.
-use Rattle.plex_plain.proofs.Names.{◌≡◌, ℕ, ◌+◌, ◌-◌, ◌≤◌, ◌<◌, ◌^◌, Bool, true, false, nat_le, List, [], ◌∷◌, ◌++◌, length, get_or, Option, Some, None, codes, decimal, refl, arith, zero, suc, length-append, is_ascii_digit, list_all, and_parts, and_from, nat_tests, length-decimal-le, decimal_nonempty, digits_decimal, Name16, CfId, Resource, IsTerm, IsPadded, text_in_block, term_byte, is_nonempty, tail_of, Declared, Token, name_word, Literal, Number, Term, Short, Data, OnResource, Record, OfFacility, OfConnector, OfStructure, NewFacility, NewName, option_tokens, flag_tokens, own, facility_word, resource_word, caller_name, plain_word, plain_words, AreNames, IsWithin, AreWithin}
+use Rattle.plex_plain.proofs.Imports.{◌≡◌, ℕ, ◌+◌, ◌-◌, ◌≤◌, ◌<◌, ◌^◌, Bool, true, false, nat_le, List, [], ◌∷◌, ◌++◌, length, get_or, Option, Some, None, codes, decimal, refl, arith, zero, suc, length-append, is_ascii_digit, list_all, and_parts, and_from, nat_tests, length-decimal-le, decimal_nonempty, digits_decimal, Name16, CfId, Resource, IsTerm, IsPadded, text_in_block, term_byte, is_nonempty, tail_of, Declared, Token, name_word, Literal, Number, Term, Short, Data, OnResource, Record, OfFacility, OfConnector, OfStructure, NewFacility, NewName, option_tokens, flag_tokens, own, facility_word, resource_word, caller_name, plain_word, plain_words, AreNames, IsWithin, AreWithin}
 use Rattle.plex_plain.proofs.Places.{caller-word}
 use Rattle.plex_plain.proofs.Said.{solid, is_short_word, is_plain, small_high}
 use Rattle.plex_plain.proofs.Tests.{all-append, all-weaker}

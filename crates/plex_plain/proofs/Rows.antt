@@ -1,5 +1,5 @@
 -- The tokens of each command: which they are made of, and how much room their words take.
-use Rattle.plex_plain.proofs.Names.{ℕ, Bool, true, false, List, [], ◌∷◌, Option, Some, None, codes, refl, arith, Name16, Key16, Resource, ShellCmd, Connect, Disconnect, Fail, Next, Respond, RebuildStart, RebuildStop, RebuildConnect, Copy, RebuildComplete, ForceConn, ForceStr, LoseConn, RestoreConn, Vary, DuplexStart, DuplexStop, CacheCmd, At, Cond, NotHeld, HeldBy, ListCmd, Keep, Deny, Notify, LockCmd, Token, Literal, Term, Data, OnResource, number, end, state, name_tokens, key_tokens, number_tokens, version_tokens, short_tokens, data_tokens, option_tokens, shell_tokens, class_tokens, cache_tokens, at_tokens, cond_tokens, list_tokens, lock_tokens}
+use Rattle.plex_plain.proofs.Imports.{ℕ, Bool, true, false, List, [], ◌∷◌, Option, Some, None, codes, refl, arith, Name16, Key16, Resource, ShellCmd, Connect, Disconnect, Fail, Next, Respond, RebuildStart, RebuildStop, RebuildConnect, Copy, RebuildComplete, ForceConn, ForceStr, LoseConn, RestoreConn, Vary, DuplexStart, DuplexStop, CacheCmd, At, Cond, NotHeld, HeldBy, ListCmd, Keep, Deny, Notify, LockCmd, Token, Literal, Term, Data, OnResource, number, end, state, name_tokens, key_tokens, number_tokens, version_tokens, short_tokens, data_tokens, option_tokens, shell_tokens, class_tokens, cache_tokens, at_tokens, cond_tokens, list_tokens, lock_tokens}
 use Rattle.cf_types.specs.declared.cache_commands.CacheCmd.TheVariants as cache
 use Rattle.cf_types.specs.declared.list_commands.At.TheVariants as at
 use Rattle.cf_types.specs.declared.list_commands.ListCmd.TheVariants as list

@@ -1,5 +1,5 @@
 -- A plain word stands for its token, where that is in its range.
-use Rattle.plex_plain.proofs.Names.{◌≡◌, ℕ, ◌+◌, ◌-◌, ◌<◌, ◌≤◌, ◌^◌, ◌==◌, ◌&&◌, Bool, true, false, not, nat_le, nat_lt, List, [], ◌∷◌, ◌++◌, length, get_or, Some, option_map, codes, decimal, refl, ap, ◌∙◌, arith, zero, suc, inl, append_assoc, lit<, list_all, and_parts, nat_tests, decimal_digit, Name16, CfId, ConnId, Resource, IsFacility, IsTerm, IsPadded, text_in_block, term_byte, Names, Declared, Token, IsWord, IsText, IsNumber, IsName, IsResource, Spells, is_term, name_word, facility_of, connector_of, Literal, Number, Term, Short, Data, OnResource, Record, OfFacility, OfConnector, OfStructure, NewFacility, NewName, numeral-decimal, term_from, facility_word, resource_word, caller_name, plain_word, plain_words, IsNamed, AreNames, IsWithin, AreWithin}
+use Rattle.plex_plain.proofs.Imports.{◌≡◌, ℕ, ◌+◌, ◌-◌, ◌<◌, ◌≤◌, ◌^◌, ◌==◌, ◌&&◌, Bool, true, false, not, nat_le, nat_lt, List, [], ◌∷◌, ◌++◌, length, get_or, Some, option_map, codes, decimal, refl, ap, ◌∙◌, arith, zero, suc, inl, append_assoc, lit<, list_all, and_parts, nat_tests, decimal_digit, Name16, CfId, ConnId, Resource, IsFacility, IsTerm, IsPadded, text_in_block, term_byte, Names, Declared, Token, IsWord, IsText, IsNumber, IsName, IsResource, Spells, is_term, name_word, facility_of, connector_of, Literal, Number, Term, Short, Data, OnResource, Record, OfFacility, OfConnector, OfStructure, NewFacility, NewName, numeral-decimal, term_from, facility_word, resource_word, caller_name, plain_word, plain_words, IsNamed, AreNames, IsWithin, AreWithin}
 use Rattle.plex_plain.proofs.Tests.{all-weaker}
 use Rattle.plex_plain.proofs.Places.{HaveNames, name-place, caller-word}
 

@@ -1,5 +1,5 @@
 -- Tests of each element of a list.
-use Rattle.plex_plain.proofs.Names.{◌≡◌, Bool, true, false, List, [], ◌∷◌, ◌++◌, refl, All, list_all, and_parts, and_from, All-nil, All-cons}
+use Rattle.plex_plain.proofs.Imports.{◌≡◌, Bool, true, false, List, [], ◌∷◌, ◌++◌, refl, All, list_all, and_parts, and_from, All-nil, All-cons}
 
 module _ {X : Type 0} (p : X → Bool) where
   pub all-append : (xs ys : List X) → list_all p xs ≡ true → list_all p ys ≡ true → list_all p (xs ++ ys) ≡ true

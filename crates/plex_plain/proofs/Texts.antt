@@ -1,5 +1,5 @@
 -- Words of a line, and lines of a text, are read back.
-use Rattle.plex_plain.proofs.Names.{◌≡◌, ℕ, ◌≤◌, ◌==◌, Bool, true, false, nat_lt, List, [], ◌∷◌, ◌++◌, length, refl, ap, ◌∙◌, arith, append_assoc, list_all, flat_map, filter, slice_split, and_parts, nat_tests, append-nil, slice_split_at, slice_split_none, is_blank, is_nonempty, words_of, without_return, lines_in, lines_of, tail_of, line_of, line_text}
+use Rattle.plex_plain.proofs.Imports.{◌≡◌, ℕ, ◌≤◌, ◌==◌, Bool, true, false, nat_lt, List, [], ◌∷◌, ◌++◌, length, refl, ap, ◌∙◌, arith, append_assoc, list_all, flat_map, filter, slice_split, and_parts, nat_tests, append-nil, slice_split_at, slice_split_none, is_blank, is_nonempty, words_of, without_return, lines_in, lines_of, tail_of, line_of, line_text}
 use Rattle.plex_plain.proofs.Said.{solid}
 use Rattle.plex_plain.proofs.Tests.{all-append, all-weaker, all-fail}
 

@@ -1,5 +1,5 @@
 -- The words that lists of tokens are printed as.
-use Rattle.plex_plain.proofs.Names.{◌≡◌, ℕ, Bool, true, false, List, [], ◌∷◌, ◌++◌, Option, None, Some, refl, ap, ◌∙◌, if◌then◌else◌, map-append, Token, all_tokens, option_tokens, flag_tokens, Name16, plain_word, plain_words, told_words}
+use Rattle.plex_plain.proofs.Imports.{◌≡◌, ℕ, Bool, true, false, List, [], ◌∷◌, ◌++◌, Option, None, Some, refl, ap, ◌∙◌, if◌then◌else◌, map-append, Token, all_tokens, option_tokens, flag_tokens, Name16, plain_word, plain_words, told_words}
 
 pub words_option : {X : Type 0} (connectors : List Name16) (word : List ℕ) (tokens : X → List Token) (o : Option X)
     → plain_words [] connectors (option_tokens word tokens o) ≡ told_words word

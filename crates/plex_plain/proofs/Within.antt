@@ -1,5 +1,5 @@
 -- What words stand for is in its form and its range.
-use Rattle.plex_plain.proofs.Names.{◌≡◌, ℕ, ◌+◌, ◌*◌, ◌-◌, ◌≤◌, ◌<◌, ◌==◌, Bool, true, false, not, cond, nat_lt, List, [], ◌∷◌, ◌++◌, Option, Some, None, length, codes, refl, sym, ap, ◌∙◌, arith, subst, zero, suc, inl, inr, replicate, position, list_all, position_or_len, option_map_or, and_parts, nat_tests, take_while-cons, Name16, CfId, ConnId, StrNo, StrForm, IsFacility, IsTerm, IsPadded, block_of, text_in_block, term_byte, Names, same_word, Declared, Token, IsWord, IsText, IsData, IsRecord, Spells, is_term, is_name, facility_of, connector_of, structure_of, name_word, Literal, Number, Term, Short, Data, OnResource, Record, OfFacility, OfConnector, OfStructure, NewFacility, NewName, mapped, Words, characters-term, IsTerm-whole, IsTerm-repeat, length-repeat, term-name, IsOneOf, IsNamed, IsWithin, AreWithin}
+use Rattle.plex_plain.proofs.Imports.{◌≡◌, ℕ, ◌+◌, ◌*◌, ◌-◌, ◌≤◌, ◌<◌, ◌==◌, Bool, true, false, not, cond, nat_lt, List, [], ◌∷◌, ◌++◌, Option, Some, None, length, codes, refl, sym, ap, ◌∙◌, arith, subst, zero, suc, inl, inr, replicate, position, list_all, position_or_len, option_map_or, and_parts, nat_tests, take_while-cons, Name16, CfId, ConnId, StrNo, StrForm, IsFacility, IsTerm, IsPadded, block_of, text_in_block, term_byte, Names, same_word, Declared, Token, IsWord, IsText, IsData, IsRecord, Spells, is_term, is_name, facility_of, connector_of, structure_of, name_word, Literal, Number, Term, Short, Data, OnResource, Record, OfFacility, OfConnector, OfStructure, NewFacility, NewName, mapped, Words, characters-term, IsTerm-whole, IsTerm-repeat, length-repeat, term-name, IsOneOf, IsNamed, IsWithin, AreWithin}
 use Rattle.std.specs.Bool.{if◌then◌else◌}
 
 -- ---- names and data

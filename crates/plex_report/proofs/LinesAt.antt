@@ -1,5 +1,5 @@
 -- Which line stands where in lists of lines that follow each other.
-use Rattle.plex_report.proofs.Names.{◌≡◌, ℕ, add-one, ◌+◌, ◌<◌, ◌≤◌, zero, suc, List, [], ◌∷◌, ◌++◌, length, get_or, take, map, Option, Some, option_map, unwrap_or, append-nil, refl, sym, ap, ◌∙◌, arith, append_assoc, slice_get, sum_by, flat_map, option_map_or, sum_by-cons, length-map, slice_get-map, slice_get-get_or, slice_get_read, line_text, lines_each}
+use Rattle.plex_report.proofs.Imports.{◌≡◌, ℕ, add-one, ◌+◌, ◌<◌, ◌≤◌, zero, suc, List, [], ◌∷◌, ◌++◌, length, get_or, take, map, Option, Some, option_map, unwrap_or, append-nil, refl, sym, ap, ◌∙◌, arith, append_assoc, slice_get, sum_by, flat_map, option_map_or, sum_by-cons, length-map, slice_get-map, slice_get-get_or, slice_get_read, line_text, lines_each}
 
 -- ---- lists
 

@@ -1,5 +1,5 @@
 -- Which line stands where in the sections of a report.
-use Rattle.plex_report.proofs.Names.{◌≡◌, ℕ, ◌+◌, ◌<◌, ◌≤◌, zero, suc, List, [], ◌∷◌, ◌++◌, length, get_or, take, None, codes, arith, refl, slice_get, sum_by, option_map_or, StrForm, AnyHistory, Script, Transcript, caller_name, structure_name, cache_words, list_words, lock_words, cache_reply_words, list_reply_words, lock_reply_words, form_line, pref_line, structure_lines, heading, entry_line, history_lines, any_length, shown_line, transcript_lines, structures_lines, histories_lines, transcripts_lines}
+use Rattle.plex_report.proofs.Imports.{◌≡◌, ℕ, ◌+◌, ◌<◌, ◌≤◌, zero, suc, List, [], ◌∷◌, ◌++◌, length, get_or, take, None, codes, arith, refl, slice_get, sum_by, option_map_or, StrForm, AnyHistory, Script, Transcript, caller_name, structure_name, cache_words, list_words, lock_words, cache_reply_words, list_reply_words, lock_reply_words, form_line, pref_line, structure_lines, heading, entry_line, history_lines, any_length, shown_line, transcript_lines, structures_lines, histories_lines, transcripts_lines}
 use Rattle.plex_script.specs.declared.asks.AnyHistory.TheVariants as any
 use Rattle.plex_report.proofs.LinesAt.{get_spot, get_after, length-under}
 

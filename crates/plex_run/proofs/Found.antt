@@ -1,5 +1,5 @@
 -- Searches that go on.
-use Rattle.plex_run.proofs.Names.{◌≡◌, ℕ, zero, suc, ◌+◌, ◌<◌, Bool, false, List, [], ◌∷◌, length, drop, refl, ap, ◌∙◌, sym, add-one, arith, find, enumerate_from}
+use Rattle.plex_run.proofs.Imports.{◌≡◌, ℕ, zero, suc, ◌+◌, ◌<◌, Bool, false, List, [], ◌∷◌, length, drop, refl, ap, ◌∙◌, sym, add-one, arith, find, enumerate_from}
 
 later_from : {X : Type 0} (p : ℕ → Bool) (m n : ℕ) (xs : List X) → n < length xs → p m ≡ false
     → find (λ (place : ℕ × X). p place.0) (enumerate_from m (drop n xs)) ≡ find (λ (place : ℕ × X). p place.0)

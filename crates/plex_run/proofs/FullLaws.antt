@@ -1,5 +1,5 @@
 -- The structure whose journal got full in a run: the script can fill it.
-use Rattle.plex_run.proofs.Names.{◌≡◌, ℕ, ◌+◌, ◌≤◌, ◌<◌, Bool, true, List, Option, Some, None, option_map, length, slice_get, get_or, refl, sym, ap, subst, ◌∙◌, arith, find, enumerate_from, position_or_len, nat_tests, Any-from_list_any, find_at, get_or-enumerate_from, length-enumerate_from, passes_at_first, get_or_from_slice_get, slice_get-get_or, slice_get_read, slice_get_within, StrForm, ConnId, StrNo, AnyHistory, Script, AgentEnd, Shown, Transcript, length_on, EndsRight, ShowsHistories, IsWithinScript, most_entries, Reading, ends_full_at, is_full_at, CanFill, ShowsRun, full_of, journal_limit}
+use Rattle.plex_run.proofs.Imports.{◌≡◌, ℕ, ◌+◌, ◌≤◌, ◌<◌, Bool, true, List, Option, Some, None, option_map, length, slice_get, get_or, refl, sym, ap, subst, ◌∙◌, arith, find, enumerate_from, position_or_len, nat_tests, Any-from_list_any, find_at, get_or-enumerate_from, length-enumerate_from, passes_at_first, get_or_from_slice_get, slice_get-get_or, slice_get_read, slice_get_within, StrForm, ConnId, StrNo, AnyHistory, Script, AgentEnd, Shown, Transcript, length_on, EndsRight, ShowsHistories, IsWithinScript, most_entries, Reading, ends_full_at, is_full_at, CanFill, ShowsRun, full_of, journal_limit}
 use Rattle.plex_load.specs.PlexScript.declared.transcripts.AgentEnd.TheVariants as ended
 
 -- whatever a run shows, no history is longer than the script can make it

@@ -1,4 +1,4 @@
-pub mod Names
+pub mod Imports
 pub mod Written
 pub mod Passing
 pub mod StatusLaws

@@ -1,5 +1,5 @@
 -- The run of a load: its script can be run, and fills no journal.
-use Rattle.plex_run.proofs.Names.{◌≡◌, ℕ, ◌≤◌, ◌⊎◌, inr, Option, Some, None, refl, subst, arith, Result, Ok, Err, IfOk, Name16, Script, script_text, IsRunnable, most_calls, Reading, load_script, IsLoad, Wires, CanFill, IsRun, IsRunOf, full_of, journal_limit, Output, HasFailed, Writes, WritesFront, Gains, memory_line, IsLoadRun, EndsLoad, loading, summary_of}
+use Rattle.plex_run.proofs.Imports.{◌≡◌, ℕ, ◌≤◌, ◌⊎◌, inr, Option, Some, None, refl, subst, arith, Result, Ok, Err, IfOk, Name16, Script, script_text, IsRunnable, most_calls, Reading, load_script, IsLoad, Wires, CanFill, IsRun, IsRunOf, full_of, journal_limit, Output, HasFailed, Writes, WritesFront, Gains, memory_line, IsLoadRun, EndsLoad, loading, summary_of}
 use Rattle.plex_run.specs.declared.way.Way.TheVariants as ways
 use Rattle.plex_run.proofs.TextLaws.{task_without_memory, task_told}
 use Rattle.plex_run.proofs.FullLaws.{AreWithin, can_fill}

@@ -1,5 +1,5 @@
 -- Which texts are taken for lock words, and what their status tells.
-use Rattle.plex_run.proofs.Names.{◌≡◌, ◌≢◌, ℕ, ◌≤◌, ◌⊎◌, inl, inr, List, length, Some, None, refl, sym, ◌∙◌, subst, arith, codes, Why, Script, IsScript, SaysOne, IsExclusive, Locked, first_other, IsLocked, locks_text, Untaken, Output, HasFailed, Writes, WritesFront, Gains, why_word, memory_line, script_limit, IsTaken, IsUntakenAt, TellsUntaken, EndsLocks, locking, locks_word}
+use Rattle.plex_run.proofs.Imports.{◌≡◌, ◌≢◌, ℕ, ◌≤◌, ◌⊎◌, inl, inr, List, length, Some, None, refl, sym, ◌∙◌, subst, arith, codes, Why, Script, IsScript, SaysOne, IsExclusive, Locked, first_other, IsLocked, locks_text, Untaken, Output, HasFailed, Writes, WritesFront, Gains, why_word, memory_line, script_limit, IsTaken, IsUntakenAt, TellsUntaken, EndsLocks, locking, locks_word}
 use Rattle.plex_run.specs.declared.locks.Untaken.TheVariants as untaken
 use Rattle.plex_run.proofs.TextLaws.{IsFair, task_told, done_ends}
 use Rattle.plex_run.proofs.OutcomeLaws.{fits}

@@ -1,5 +1,5 @@
 -- Which texts are scripts, and what their status tells.
-use Rattle.plex_run.proofs.Names.{◌≡◌, ◌≢◌, ℕ, ◌≤◌, ◌<◌, ◌⊎◌, inl, inr, true, false, List, length, Option, Some, None, refl, sym, ◌∙◌, subst, arith, is_some, CfId, Telling, Why, ReadFault, TellsFault, Script, IsScript, SaysOne, IsExclusive, AnyHistory, Transcript, ShowsHistories, ShowsFresh, Reading, IsOnlyReading, Way, Output, Wires, why_word, EndsTask, IsRefused, IsRun, WritesRun, EndsRun, IsSerialStatus, IsTooLong, script_limit, script_word, running, journal_limit, full_of, full_in_run, run_status, serial_status}
+use Rattle.plex_run.proofs.Imports.{◌≡◌, ◌≢◌, ℕ, ◌≤◌, ◌<◌, ◌⊎◌, inl, inr, true, false, List, length, Option, Some, None, refl, sym, ◌∙◌, subst, arith, is_some, CfId, Telling, Why, ReadFault, TellsFault, Script, IsScript, SaysOne, IsExclusive, AnyHistory, Transcript, ShowsHistories, ShowsFresh, Reading, IsOnlyReading, Way, Output, Wires, why_word, EndsTask, IsRefused, IsRun, WritesRun, EndsRun, IsSerialStatus, IsTooLong, script_limit, script_word, running, journal_limit, full_of, full_in_run, run_status, serial_status}
 use Rattle.plex_load.specs.PlexScript.declared.faults.ReadFault.TheVariants as faults
 use Rattle.plex_run.specs.declared.way.Way.TheVariants as ways
 use Rattle.plex_run.specs.Outcome.{EndsRight}

@@ -1,5 +1,5 @@
 -- What a sink gains by texts that were put into a piece.
-use Rattle.plex_run.proofs.Names.{◌≡◌, List, ℕ, [], ◌++◌, Option, sym, ap, ◌∙◌, subst, append_assoc, Appends, Appends-trans, GainsPrefix, PassesOn}
+use Rattle.plex_run.proofs.Imports.{◌≡◌, List, ℕ, [], ◌++◌, Option, sym, ap, ◌∙◌, subst, append_assoc, Appends, Appends-trans, GainsPrefix, PassesOn}
 use Rattle.plex_run.proofs.Written.{GainsPrefix-after}
 
 -- what stood in the piece was written

@@ -1,5 +1,5 @@
 -- Where no journal got full each caller's work was done, and the report can be read in one way.
-use Rattle.plex_run.proofs.Names.{◌≡◌, ℕ, zero, suc, ◌+◌, ◌<◌, ◌==◌, ◌^◌, Bool, true, false, List, [], ◌∷◌, length, Some, None, slice_get, get_or, refl, sym, ap, ◌∙◌, arith, find, if◌then◌else◌, enumerate_from, nat_tests, list_any_at, get_or_from_slice_get, slice_get_within, StrForm, AnyHistory, Script, AgentEnd, Transcript, length_on, IsScript, ShowsHistories, EndsRight, Reading, IsReading, IsTheReading, IsOnlyReading, report_of, is_reading, ends_full_at, is_full_at, full_structure, ShowsRun, AreMarked, full_of, journal_limit}
+use Rattle.plex_run.proofs.Imports.{◌≡◌, ℕ, zero, suc, ◌+◌, ◌<◌, ◌==◌, ◌^◌, Bool, true, false, List, [], ◌∷◌, length, Some, None, slice_get, get_or, refl, sym, ap, ◌∙◌, arith, find, if◌then◌else◌, enumerate_from, nat_tests, list_any_at, get_or_from_slice_get, slice_get_within, StrForm, AnyHistory, Script, AgentEnd, Transcript, length_on, IsScript, ShowsHistories, EndsRight, Reading, IsReading, IsTheReading, IsOnlyReading, report_of, is_reading, ends_full_at, is_full_at, full_structure, ShowsRun, AreMarked, full_of, journal_limit}
 use Rattle.plex_load.specs.PlexScript.declared.transcripts.AgentEnd.TheVariants as ended
 use Rattle.plex_run.proofs.RunnableLaws.{none_mapped}
 

@@ -1,5 +1,5 @@
 -- A report whose lines are put one after another.
-use Rattle.plex_run.proofs.Names.{◌≡◌, ℕ, add-one, zero, suc, ◌+◌, ◌<◌, List, [], ◌∷◌, ◌++◌, length, length-append, take, drop, map, Option, None, Some, append-nil, unwrap_or, refl, sym, ap, ◌∙◌, subst, append_assoc, arith, concat, flat_map, Appends, concat-append, take-append-drop, line_text, GainsPrefix, PassesOn}
+use Rattle.plex_run.proofs.Imports.{◌≡◌, ℕ, add-one, zero, suc, ◌+◌, ◌<◌, List, [], ◌∷◌, ◌++◌, length, length-append, take, drop, map, Option, None, Some, append-nil, unwrap_or, refl, sym, ap, ◌∙◌, subst, append_assoc, arith, concat, flat_map, Appends, concat-append, take-append-drop, line_text, GainsPrefix, PassesOn}
 use Rattle.std.specs.List.{slice_get}
 use Rattle.plex_run.proofs.Written.{GainsPrefix-before}
 use Rattle.plex_run.proofs.Passing.{passes-both, passed-all, passed-part, passed-front}

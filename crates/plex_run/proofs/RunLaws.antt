@@ -1,5 +1,5 @@
 -- What the runs on one thread and on many leave is what a run leaves.
-use Rattle.plex_run.proofs.Names.{◌≡◌, ℕ, List, length, Option, Result, Ok, Err, IfOk, sym, ap, ◌∙◌, arith, slice_get_within, get_within, NoMemory, CfId, Telling, AnyHistory, Script, Transcript, ShowsHistories, AreTelling, AreRunLinks, serial_run, Finished, Reading, marks_facilities, Way, wires, IsRunOf, AreMarked, journal_limit, reading_of}
+use Rattle.plex_run.proofs.Imports.{◌≡◌, ℕ, List, length, Option, Result, Ok, Err, IfOk, sym, ap, ◌∙◌, arith, slice_get_within, get_within, NoMemory, CfId, Telling, AnyHistory, Script, Transcript, ShowsHistories, AreTelling, AreRunLinks, serial_run, Finished, Reading, marks_facilities, Way, wires, IsRunOf, AreMarked, journal_limit, reading_of}
 use Rattle.plex_run.specs.declared.way.Way.TheVariants as ways
 
 module _ {L : Type 0} (calls : L → Option ℕ) (downs : L → Option (List ℕ)) (faults : L → ℕ) (old new : List L)

@@ -1,5 +1,5 @@
 -- A script can be run.
-use Rattle.plex_run.proofs.Names.{◌≡◌, Option, Some, None, option_map, refl, IsTrue, Kind, StrForm, ConnId, AnyAsk, Act, Line, Script, is_ask_of, IsWellFormed, IsLineOf, IsActOf, MayAskAny, IsAskOf, IsRunnable, IsRunnableLine, IsRunnableAct}
+use Rattle.plex_run.proofs.Imports.{◌≡◌, Option, Some, None, option_map, refl, IsTrue, Kind, StrForm, ConnId, AnyAsk, Act, Line, Script, is_ask_of, IsWellFormed, IsLineOf, IsActOf, MayAskAny, IsAskOf, IsRunnable, IsRunnableLine, IsRunnableAct}
 use Rattle.plex_load.specs.CfTypes.declared.forms.Kind.TheVariants as kind
 use Rattle.plex_load.specs.PlexScript.declared.scripts.AnyAsk.TheVariants as any
 use Rattle.plex_load.specs.PlexScript.declared.scripts.Act.TheVariants as act

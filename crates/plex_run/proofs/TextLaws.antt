@@ -1,5 +1,5 @@
 -- How tasks, and words that read a text, end: each way once, whatever the task and the word.
-use Rattle.plex_run.proofs.Names.{◌≡◌, ◌≢◌, ℕ, ◌<◌, ◌⊎◌, inl, inr, List, Option, None, Some, refl, arith, IfSome, Output, HasFailed, Writes, WritesFront, Gains, script_line, memory_line, Task, EndsTask, Word, EndsText, OfText}
+use Rattle.plex_run.proofs.Imports.{◌≡◌, ◌≢◌, ℕ, ◌<◌, ◌⊎◌, inl, inr, List, Option, None, Some, refl, arith, IfSome, Output, HasFailed, Writes, WritesFront, Gains, script_line, memory_line, Task, EndsTask, Word, EndsText, OfText}
 
 -- ---- tasks
 

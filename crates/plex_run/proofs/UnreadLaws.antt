@@ -1,5 +1,5 @@
 -- What the status tells where no text came: 7 of a text that is too long.
-use Rattle.plex_run.proofs.Names.{◌≡◌, ℕ, ◌+◌, List, length, Option, arith, ◌<◌, IfSome, replicate, length-replicate, HasCause, ReadEnd, read_status}
+use Rattle.plex_run.proofs.Imports.{◌≡◌, ℕ, ◌+◌, List, length, Option, arith, ◌<◌, IfSome, replicate, length-replicate, HasCause, ReadEnd, read_status}
 use Rattle.plex_agent.specs.CfIo.declared.read_end.ReadEnd.TheVariants as ends
 
 -- more bytes were left than the limit allows

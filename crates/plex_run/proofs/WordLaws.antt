@@ -1,5 +1,5 @@
 -- Words that ask for a load.
-use Rattle.plex_run.proofs.Names.{◌≡◌, ℕ, List, [], ◌∷◌, length, get_or, map, Some, sym, ap, ◌∙◌, subst, arith, codes, String, string_bytes, Say, number_said}
+use Rattle.plex_run.proofs.Imports.{◌≡◌, ℕ, List, [], ◌∷◌, length, get_or, map, Some, sym, ap, ◌∙◌, subst, arith, codes, String, string_bytes, Say, number_said}
 use Rattle.plex_run.specs.declared.way.Work.TheVariants as works
 
 -- a list of two

@@ -1,5 +1,5 @@
 -- Work that words ask for is of one kind.
-use Rattle.plex_run.proofs.Names.{◌≡◌, ℕ, ◌⊎◌, inl, inr, List, Option, None, Some, sym, ap, subst, ◌∙◌, arith, String, Way, Work, Say, Wires, Output, EndsLoad}
+use Rattle.plex_run.proofs.Imports.{◌≡◌, ℕ, ◌⊎◌, inl, inr, List, Option, None, Some, sym, ap, subst, ◌∙◌, arith, String, Way, Work, Say, Wires, Output, EndsLoad}
 use Rattle.plex_run.specs.declared.way.Way.TheVariants as ways
 use Rattle.plex_run.specs.declared.way.Work.TheVariants as works
 use Rattle.plex_run.specs.Outcome.{EndsRight}

@@ -1,5 +1,5 @@
 -- What a sink gains by several writes.
-use Rattle.plex_run.proofs.Names.{◌≡◌, ℕ, ◌-◌, ◌^◌, ◌<◌, ◌≤◌, ◌⊎◌, inl, inr, List, ◌++◌, length, take, drop, Option, sym, ap, ◌∙◌, subst, append_assoc, arith, Result, Ok, Err, OnOk, OnErr, take-append_seam, take-append-drop, Appends-trans, cases_lt, Appends, Rises, Output, GainsPrefix, Gains, BreaksOff}
+use Rattle.plex_run.proofs.Imports.{◌≡◌, ℕ, ◌-◌, ◌^◌, ◌<◌, ◌≤◌, ◌⊎◌, inl, inr, List, ◌++◌, length, take, drop, Option, sym, ap, ◌∙◌, subst, append_assoc, arith, Result, Ok, Err, OnOk, OnErr, take-append_seam, take-append-drop, Appends-trans, cases_lt, Appends, Rises, Output, GainsPrefix, Gains, BreaksOff}
 
 -- a part that a text begins with is a prefix of it
 pub GainsPrefix-part : (old new : Option (List ℕ)) (part rest text : List ℕ) → text ≡ part ++ rest

@@ -1,5 +1,5 @@
 -- What is read of a whole line of a caller is spelled so, and what is spelled so is read.
-use Rattle.plex_script.proofs.Names.{◌≡◌, ℕ, ◌==◌, ◌&&◌, ◌<◌, Bool, true, false, cond, List, [], ◌∷◌, ◌++◌, Option, Some, None, option_map, unwrap_or, codes, refl, sym, ap, ◌∙◌, arith, lit<, nat_le, ◌≤◌, subst, nat_tests, ConnId, Kind, Rigour, Form, Limits, Names, digits_value, and_parts, within_limits, is_names, on_first, number_of, same_word, begins_with, words_behind, Declared, Spells, Literal, Number, is_operator, number_at, tokens_at, pick, not_some, mapped, bound, word-same, same_word-of, Words, FindsAll, Spells-append, Spells-split, led, led-by, number_at-sound, number_at-complete, is_tail, is_own, any_ask_at, retry_at, call_at, own_at, done_at, act_at, whole_read, value-sound, value-complete, Amount, AnOption, number, AnyAsk, Act, Call, Test, TestWord, Post, Take, Events, ask_tokens, act_tokens, retry_tokens, MayAsk, MayDo, is_ask_of, has_vectors, SaysDone}
+use Rattle.plex_script.proofs.Imports.{◌≡◌, ℕ, ◌==◌, ◌&&◌, ◌<◌, Bool, true, false, cond, List, [], ◌∷◌, ◌++◌, Option, Some, None, option_map, unwrap_or, codes, refl, sym, ap, ◌∙◌, arith, lit<, nat_le, ◌≤◌, subst, nat_tests, ConnId, Kind, Rigour, Form, Limits, Names, digits_value, and_parts, within_limits, is_names, on_first, number_of, same_word, begins_with, words_behind, Declared, Spells, Literal, Number, is_operator, number_at, tokens_at, pick, not_some, mapped, bound, word-same, same_word-of, Words, FindsAll, Spells-append, Spells-split, led, led-by, number_at-sound, number_at-complete, is_tail, is_own, any_ask_at, retry_at, call_at, own_at, done_at, act_at, whole_read, value-sound, value-complete, Amount, AnOption, number, AnyAsk, Act, Call, Test, TestWord, Post, Take, Events, ask_tokens, act_tokens, retry_tokens, MayAsk, MayDo, is_ask_of, has_vectors, SaysDone}
 use Rattle.plex_script.proofs.AskLaws.{any_ask-sound, any_ask-complete, ask-not_own, not_operator, operator_not}
 
 -- ---- once more

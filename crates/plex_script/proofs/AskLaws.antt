@@ -1,5 +1,5 @@
 -- What is read of what a caller does is spelled so, and what is spelled so is read.
-use Rattle.plex_script.proofs.Names.{◌≡◌, ℕ, Bool, true, false, not, Option, Some, None, option_map, refl, sym, ap, ◌∙◌, ConnId, Kind, ShellCmd, CacheCmd, ListCmd, LockCmd, Ask, Shell, Content, Rigour, Declared, Spells, shell_tokens, may_give, is_operator, shell_at, cache_at, list_at, lock_at, pick, not_some, mapped, Words, FindsAll, is_tail, shell-sound, shell-complete, cache-sound, cache-complete, list-sound, list-complete, lock-sound, lock-complete, is_own, ask_at, cache_ask_at, list_ask_at, lock_ask_at, any_ask_at, AnyAsk, ask_tokens, MayAsk, is_ask_of}
+use Rattle.plex_script.proofs.Imports.{◌≡◌, ℕ, Bool, true, false, not, Option, Some, None, option_map, refl, sym, ap, ◌∙◌, ConnId, Kind, ShellCmd, CacheCmd, ListCmd, LockCmd, Ask, Shell, Content, Rigour, Declared, Spells, shell_tokens, may_give, is_operator, shell_at, cache_at, list_at, lock_at, pick, not_some, mapped, Words, FindsAll, is_tail, shell-sound, shell-complete, cache-sound, cache-complete, list-sound, list-complete, lock-sound, lock-complete, is_own, ask_at, cache_ask_at, list_ask_at, lock_ask_at, any_ask_at, AnyAsk, ask_tokens, MayAsk, is_ask_of}
 use Rattle.cf_types.specs.declared.forms.Kind.TheVariants as kind
 use Rattle.plex_script.specs.declared.scripts.AnyAsk.TheVariants as any
 use Rattle.plex_script.proofs.FirstWords.{gives, shell-not_own, cache-content, list-content, lock-content}

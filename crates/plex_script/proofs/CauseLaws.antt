@@ -1,5 +1,5 @@
 -- What is wrong with a line, from what was read of it.
-use Rattle.plex_script.proofs.Names.{◌≡◌, ℕ, ◌<◌, ◌||◌, Bool, true, false, not, List, [], ◌∷◌, ◌++◌, Option, Some, None, refl, sym, ap, ◌∙◌, arith, inl, inr, Ok, Err, IsTrue, codes, length, is_some, CONNECTORS, ConnId, Kind, Rigour, Form, Limits, Names, Declared, structure_of, Words, Spells-limits, Spells-form, Declaration, Why, Late, Syntax, Limit, Unknown, Twice, Space, Act, Script, SaysDone, act_tokens, retry_tokens, Declares, declaration_tokens, act_at, declaration_at, declared_in, kind_of, has_lines, is_full, is_twice, is_too_much, PolicyCause, DoneCause, CallerCause, IsFirst, rank, with_declaration, AddsDeclaration, AddsLine, AddsOfCaller, LineFault, Wrong, NoMemory, StrNo, nat_tests, unread_why, Judged, IsFaultBy, HasRoom}
+use Rattle.plex_script.proofs.Imports.{◌≡◌, ℕ, ◌<◌, ◌||◌, Bool, true, false, not, List, [], ◌∷◌, ◌++◌, Option, Some, None, refl, sym, ap, ◌∙◌, arith, inl, inr, Ok, Err, IsTrue, codes, length, is_some, CONNECTORS, ConnId, Kind, Rigour, Form, Limits, Names, Declared, structure_of, Words, Spells-limits, Spells-form, Declaration, Why, Late, Syntax, Limit, Unknown, Twice, Space, Act, Script, SaysDone, act_tokens, retry_tokens, Declares, declaration_tokens, act_at, declaration_at, declared_in, kind_of, has_lines, is_full, is_twice, is_too_much, PolicyCause, DoneCause, CallerCause, IsFirst, rank, with_declaration, AddsDeclaration, AddsLine, AddsOfCaller, LineFault, Wrong, NoMemory, StrNo, nat_tests, unread_why, Judged, IsFaultBy, HasRoom}
 use Rattle.plex_script.specs.declared.declarations.Declaration.TheVariants as declaration
 use Rattle.plex_script.proofs.ActLaws.{act-sound, act-complete}
 use Rattle.plex_script.proofs.PolicyLaws.{declaration-sound, declaration-complete}

@@ -1,5 +1,5 @@
 -- Lines that are read one after another.
-use Rattle.plex_script.proofs.Names.{◌≡◌, ℕ, ◌+◌, true, List, [], ◌∷◌, ◌++◌, length, map, sym, ap, ◌∙◌, arith, append_assoc, length-append, subst, list_all, flat_map, append-nil, clear, AreClear, clear-append, Script, line_number, Adds, AddsAll}
+use Rattle.plex_script.proofs.Imports.{◌≡◌, ℕ, ◌+◌, true, List, [], ◌∷◌, ◌++◌, length, map, sym, ap, ◌∙◌, arith, append_assoc, length-append, subst, list_all, flat_map, append-nil, clear, AreClear, clear-append, Script, line_number, Adds, AddsAll}
 
 -- behind `count` lines, these lines have no line feeds and no returns, and lead from one script to another
 pub record Leads (script : Script) (count : ℕ) (lines : List (List ℕ)) (after : Script) : Type 0 where

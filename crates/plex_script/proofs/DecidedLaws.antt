@@ -1,5 +1,5 @@
 -- Each line leads on, or has a cause.
-use Rattle.plex_script.proofs.Names.{◌≡◌, ℕ, ◌<◌, ◌+◌, ◌||◌, Bool, true, false, not, List, [], ◌∷◌, ◌++◌, length, nat_lt, Option, Some, None, IsTrue, refl, ap, arith, inl, inr, ◌⊎◌, MatchBool, MatchOption, is_some, ConnId, StrNo, Form, Limits, Names, words_of, lines_of, is_name, structure_of, Words, Declaration, Why, Late, Syntax, Limit, Unknown, Twice, Space, Act, Script, act_at, declaration_at, declared_in, kind_of, has_lines, is_full, is_twice, is_too_much, is_long, is_long_name, is_comment, is_policy_word, caller_of, EmptyCause, PolicyCause, StrangeCause, NoStructureCause, DoneCause, CallerCause, LineCause, IsFirst, rank, strange_why, with_declaration, AddsDeclaration, AddsLine, AddsOfCaller, AddsWords, Adds, AddsAll, line_number, empty_script, IsScript, IsFault, unread_why}
+use Rattle.plex_script.proofs.Imports.{◌≡◌, ℕ, ◌<◌, ◌+◌, ◌||◌, Bool, true, false, not, List, [], ◌∷◌, ◌++◌, length, nat_lt, Option, Some, None, IsTrue, refl, ap, arith, inl, inr, ◌⊎◌, MatchBool, MatchOption, is_some, ConnId, StrNo, Form, Limits, Names, words_of, lines_of, is_name, structure_of, Words, Declaration, Why, Late, Syntax, Limit, Unknown, Twice, Space, Act, Script, act_at, declaration_at, declared_in, kind_of, has_lines, is_full, is_twice, is_too_much, is_long, is_long_name, is_comment, is_policy_word, caller_of, EmptyCause, PolicyCause, StrangeCause, NoStructureCause, DoneCause, CallerCause, LineCause, IsFirst, rank, strange_why, with_declaration, AddsDeclaration, AddsLine, AddsOfCaller, AddsWords, Adds, AddsAll, line_number, empty_script, IsScript, IsFault, unread_why}
 use Rattle.plex_script.proofs.ActLaws.{act-sound}
 use Rattle.plex_script.proofs.PolicyLaws.{declaration-sound}
 use Rattle.plex_script.proofs.CauseLaws.{policy-late, policy-unread, policy-twice, policy-space, done-unread}

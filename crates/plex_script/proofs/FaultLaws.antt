@@ -1,5 +1,5 @@
 -- A text has one fault.
-use Rattle.plex_script.proofs.Names.{◌≡◌, ℕ, suc, ◌+◌, ◌<◌, ◌==◌, Bool, true, false, nat_lt, List, [], ◌∷◌, ◌++◌, drop, length, refl, sym, ap, subst, ◌∙◌, arith, nat_tests, lines_of, Why, Late, Syntax, Limit, Unknown, Twice, Space, Script, IsFirst, IsCause, LineCause, rank, Adds, AddsAll, IsFault, empty_script, line_number}
+use Rattle.plex_script.proofs.Imports.{◌≡◌, ℕ, suc, ◌+◌, ◌<◌, ◌==◌, Bool, true, false, nat_lt, List, [], ◌∷◌, ◌++◌, drop, length, refl, sym, ap, subst, ◌∙◌, arith, nat_tests, lines_of, Why, Late, Syntax, Limit, Unknown, Twice, Space, Script, IsFirst, IsCause, LineCause, rank, Adds, AddsAll, IsFault, empty_script, line_number}
 use Rattle.std.proofs.Common.{if◌then◌else◌}
 use Rattle.plex_script.proofs.LineLaws.{adds-one, line-clean}
 

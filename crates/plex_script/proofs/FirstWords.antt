@@ -1,5 +1,5 @@
 -- Which commands their first words tell apart.
-use Rattle.plex_script.proofs.Names.{◌≡◌, ℕ, ◌||◌, Bool, true, false, not, cond, List, [], ◌∷◌, Option, None, codes, refl, ConnId, ShellCmd, CacheCmd, ListCmd, LockCmd, Rigour, begins_with, words_behind, Declared, Token, Spells, Literal, shell_tokens, may_give, is_operator, cache_tokens, list_tokens, lock_tokens, shell_at, Words, is_own}
+use Rattle.plex_script.proofs.Imports.{◌≡◌, ℕ, ◌||◌, Bool, true, false, not, cond, List, [], ◌∷◌, Option, None, codes, refl, ConnId, ShellCmd, CacheCmd, ListCmd, LockCmd, Rigour, begins_with, words_behind, Declared, Token, Spells, Literal, shell_tokens, may_give, is_operator, cache_tokens, list_tokens, lock_tokens, shell_at, Words, is_own}
 use Rattle.cf_types.specs.declared.shell_commands.ShellCmd.TheVariants as shell
 use Rattle.cf_types.specs.declared.cache_commands.CacheCmd.TheVariants as cache
 use Rattle.cf_types.specs.declared.list_commands.ListCmd.TheVariants as list

@@ -1,5 +1,5 @@
 -- What a declaration adds to a script keeps it well formed.
-use Rattle.plex_script.proofs.Names.{◌≡◌, ◌≢◌, ℕ, ◌+◌, ◌≤◌, ◌<◌, ◌==◌, ◌||◌, Bool, true, false, not, List, [], ◌∷◌, ◌++◌, Option, Some, None, length, codes, refl, sym, ap, ◌∙◌, arith, subst, slice_get, slice_set, get_or, All, AllPairs, nat_le, option_map_or, nat_tests, length-set, length_push, All-nil, All-push, All-set, list_any_at, all_pairs_push, get_or_from_slice_get, slice_get_within, CONNECTORS, StrNo, Kind, Pref as Set, StrForm, IsPref, IsKind, IsVectorOf, IsForm, Names, Declared, is_declared, Words, Declaration, Facility, Structure, Connector, Line, Script, form_tokens, declaration_tokens, IsVectorTold, Declares, declared_in, has_lines, is_full, is_twice, has_pref, with_pref, with_declaration, AddsDeclaration, IsLineOf, IsWellFormed, AreWithin, words-within}
+use Rattle.plex_script.proofs.Imports.{◌≡◌, ◌≢◌, ℕ, ◌+◌, ◌≤◌, ◌<◌, ◌==◌, ◌||◌, Bool, true, false, not, List, [], ◌∷◌, ◌++◌, Option, Some, None, length, codes, refl, sym, ap, ◌∙◌, arith, subst, slice_get, slice_set, get_or, All, AllPairs, nat_le, option_map_or, nat_tests, length-set, length_push, All-nil, All-push, All-set, list_any_at, all_pairs_push, get_or_from_slice_get, slice_get_within, CONNECTORS, StrNo, Kind, Pref as Set, StrForm, IsPref, IsKind, IsVectorOf, IsForm, Names, Declared, is_declared, Words, Declaration, Facility, Structure, Connector, Line, Script, form_tokens, declaration_tokens, IsVectorTold, Declares, declared_in, has_lines, is_full, is_twice, has_pref, with_pref, with_declaration, AddsDeclaration, IsLineOf, IsWellFormed, AreWithin, words-within}
 use Rattle.cf_types.specs.declared.forms.Kind.TheVariants as kind
 use Rattle.plex_script.specs.declared.declarations.Declaration.TheVariants.{Pref}
 

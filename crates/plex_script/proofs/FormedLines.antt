@@ -1,5 +1,5 @@
 -- What a line adds to a script keeps it well formed, and so does a whole text.
-use Rattle.plex_script.proofs.Names.{◌≡◌, ℕ, ◌≤◌, ◌==◌, Bool, true, false, not, List, [], ◌∷◌, ◌++◌, Option, Some, length, codes, refl, sym, ap, ◌∙◌, arith, subst, slice_get, All, if◌then◌else◌, nat_tests, All-nil, All-push, All-weaker, CONNECTORS, ConnId, StrNo, Kind, StrForm, ShellCmd, IsForm, IsConnector, Shell, Content, IsOperator, MayCommand, Declared, Literal, Number, shell_tokens, may_give, is_operator, Words, AnyAsk, Act, Call, Test, TestWord, Post, Take, Events, Line, Script, ask_tokens, act_tokens, retry_tokens, MayAsk, MayDo, declared_in, kind_of, AddsLine, IsScript, empty_script, MayAskAny, IsActOf, IsLineOf, IsWellFormed, IsOneOf, AreWithin, words-within, within-front, within-back}
+use Rattle.plex_script.proofs.Imports.{◌≡◌, ℕ, ◌≤◌, ◌==◌, Bool, true, false, not, List, [], ◌∷◌, ◌++◌, Option, Some, length, codes, refl, sym, ap, ◌∙◌, arith, subst, slice_get, All, if◌then◌else◌, nat_tests, All-nil, All-push, All-weaker, CONNECTORS, ConnId, StrNo, Kind, StrForm, ShellCmd, IsForm, IsConnector, Shell, Content, IsOperator, MayCommand, Declared, Literal, Number, shell_tokens, may_give, is_operator, Words, AnyAsk, Act, Call, Test, TestWord, Post, Take, Events, Line, Script, ask_tokens, act_tokens, retry_tokens, MayAsk, MayDo, declared_in, kind_of, AddsLine, IsScript, empty_script, MayAskAny, IsActOf, IsLineOf, IsWellFormed, IsOneOf, AreWithin, words-within, within-front, within-back}
 use Rattle.cf_types.specs.declared.shell_commands.ShellCmd.TheVariants as cmd
 use Rattle.plex_script.specs.declared.scripts.AnyAsk.TheVariants as any
 use Rattle.plex_script.proofs.FormLaws.{declaration-keeps}

@@ -1,7 +1,7 @@
 pub use Rattle.engine_api.proofs as EngineApi
 pub use Rattle.plex_plain.proofs as PlexPlain
 pub use Rattle.plex_plain.proofs.PlexSpell as PlexSpell
-pub mod Names
+pub mod Imports
 pub mod FirstWords
 pub mod AskLaws
 pub mod ActLaws

@@ -1,5 +1,5 @@
 -- Lines lead to one script, or are wrong, and not both.
-use Rattle.plex_script.proofs.Names.{◌≡◌, ℕ, ◌+◌, ◌||◌, Bool, true, false, not, List, [], ◌∷◌, ◌++◌, Option, Some, None, refl, sym, ap, ◌∙◌, arith, inl, inr, MatchBool, MatchOption, ConnId, StrNo, Kind, Names, words_of, Declared, structure_of, Words, Why, Late, Syntax, Limit, Unknown, Twice, Space, Act, Script, SaysDone, declared_in, kind_of, has_lines, is_full, is_twice, is_too_much, is_long, is_comment, is_policy_word, caller_of, EmptyCause, PolicyCause, StrangeCause, NoStructureCause, DoneCause, CallerCause, LineCause, with_declaration, AddsDeclaration, AddsLine, AddsOfCaller, AddsWords, Adds, AddsAll, line_number}
+use Rattle.plex_script.proofs.Imports.{◌≡◌, ℕ, ◌+◌, ◌||◌, Bool, true, false, not, List, [], ◌∷◌, ◌++◌, Option, Some, None, refl, sym, ap, ◌∙◌, arith, inl, inr, MatchBool, MatchOption, ConnId, StrNo, Kind, Names, words_of, Declared, structure_of, Words, Why, Late, Syntax, Limit, Unknown, Twice, Space, Act, Script, SaysDone, declared_in, kind_of, has_lines, is_full, is_twice, is_too_much, is_long, is_comment, is_policy_word, caller_of, EmptyCause, PolicyCause, StrangeCause, NoStructureCause, DoneCause, CallerCause, LineCause, with_declaration, AddsDeclaration, AddsLine, AddsOfCaller, AddsWords, Adds, AddsAll, line_number}
 use Rattle.plex_script.proofs.ActLaws.{act-complete}
 use Rattle.plex_script.proofs.CauseLaws.{Declares-one, SaysDone-limits, SaysDone-form, policy-read}
 

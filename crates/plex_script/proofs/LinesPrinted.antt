@@ -1,5 +1,5 @@
 -- The printed lines of callers do the same again.
-use Rattle.plex_script.proofs.Names.{◌≡◌, ℕ, ◌+◌, ◌≤◌, ◌==◌, ◌||◌, Bool, true, false, not, cond, List, [], ◌∷◌, ◌++◌, length, map, Option, Some, option_map, position, slice_get, codes, decimal, refl, sym, ap, ◌∙◌, arith, zero, suc, length-append, subst, All, MatchBool, list_any, MatchOption, option_map_or, and_parts, nat_tests, get_or_from_slice_get, slice_get_within, is_ascii_uppercase, Name16, ConnId, StrNo, Kind, StrForm, IsPadded, Shell, Content, same_word, line_of, tail_of, name_word, is_name, is_capital, reserved_words, connector_of, structure_of, Literal, Number, caller_name, structure_name, plain_words, AreNames, HaveNames, name-place, words-said, connector-said, AreGood, IsRow, row-append, words-good, name-good, caller-good, shell-row, cache-row, list-row, lock-row, Act, Call, Test, TestWord, Post, Take, Events, Line, Script, act_tokens, retry_tokens, MayDo, declared_in, caller_of, is_comment, is_policy_word, line_number, AddsWords, AddsLine, class_in, line_tokens, body_line, numbered_behind, IsLineIn}
+use Rattle.plex_script.proofs.Imports.{◌≡◌, ℕ, ◌+◌, ◌≤◌, ◌==◌, ◌||◌, Bool, true, false, not, cond, List, [], ◌∷◌, ◌++◌, length, map, Option, Some, option_map, position, slice_get, codes, decimal, refl, sym, ap, ◌∙◌, arith, zero, suc, length-append, subst, All, MatchBool, list_any, MatchOption, option_map_or, and_parts, nat_tests, get_or_from_slice_get, slice_get_within, is_ascii_uppercase, Name16, ConnId, StrNo, Kind, StrForm, IsPadded, Shell, Content, same_word, line_of, tail_of, name_word, is_name, is_capital, reserved_words, connector_of, structure_of, Literal, Number, caller_name, structure_name, plain_words, AreNames, HaveNames, name-place, words-said, connector-said, AreGood, IsRow, row-append, words-good, name-good, caller-good, shell-row, cache-row, list-row, lock-row, Act, Call, Test, TestWord, Post, Take, Events, Line, Script, act_tokens, retry_tokens, MayDo, declared_in, caller_of, is_comment, is_policy_word, line_number, AddsWords, AddsLine, class_in, line_tokens, body_line, numbered_behind, IsLineIn}
 use Rattle.plex_script.specs.declared.scripts.AnyAsk.TheVariants as any
 use Rattle.plex_script.proofs.Chains.{Leads, LeadsOne, leads-each}
 use Rattle.plex_script.proofs.FormedLines.{kind-known}

@@ -1,5 +1,5 @@
 -- What is read of a line of a policy is spelled so, and what is spelled so is read.
-use Rattle.plex_script.proofs.Names.{◌≡◌, ℕ, Bool, true, false, List, [], ◌∷◌, Option, Some, codes, refl, sym, ap, ◌∙◌, lit<, subst, Name16, Caps, Kind, Pref as Set, StrForm, Rigour, same_word, begins_with, words_behind, Declared, Spells, Literal, NewName, is_names, on_first, new_name_of, Place, Values, tokens_of, values_at, ANewName, pick, not_some, bound, word-same, new_name-sound, new_name-complete, Words, FindsAll, Spells-append, Spells-split, single-sound, single-complete, led, led-by, ArePlaces, are_rows, values-sound, values-complete, verb-sound, command-complete, led-complete, AreFree-tail, all_lack_retry, Declaration, Facility, Structure, Connector, form_tokens, declaration_tokens, IsDeclaration, IsVectorTold, Declares, whole_read, facility_places, facility_from, pref_places, pref_from, cache_places, cache_from, list_places, list_from, lock_places, lock_from, form_at, structure_at, declared_at, declaration_at}
+use Rattle.plex_script.proofs.Imports.{◌≡◌, ℕ, Bool, true, false, List, [], ◌∷◌, Option, Some, codes, refl, sym, ap, ◌∙◌, lit<, subst, Name16, Caps, Kind, Pref as Set, StrForm, Rigour, same_word, begins_with, words_behind, Declared, Spells, Literal, NewName, is_names, on_first, new_name_of, Place, Values, tokens_of, values_at, ANewName, pick, not_some, bound, word-same, new_name-sound, new_name-complete, Words, FindsAll, Spells-append, Spells-split, single-sound, single-complete, led, led-by, ArePlaces, are_rows, values-sound, values-complete, verb-sound, command-complete, led-complete, AreFree-tail, all_lack_retry, Declaration, Facility, Structure, Connector, form_tokens, declaration_tokens, IsDeclaration, IsVectorTold, Declares, whole_read, facility_places, facility_from, pref_places, pref_from, cache_places, cache_from, list_places, list_from, lock_places, lock_from, form_at, structure_at, declared_at, declaration_at}
 use Rattle.cf_types.specs.declared.forms.Kind.TheVariants as kind
 use Rattle.plex_script.specs.declared.declarations.Declaration.TheVariants.{Pref}
 use Rattle.plex_script.proofs.ActLaws.{ended-is}

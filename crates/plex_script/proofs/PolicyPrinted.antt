@@ -1,5 +1,5 @@
 -- The printed lines of a policy declare it again.
-use Rattle.plex_script.proofs.Names.{◌≡◌, ◌≢◌, ℕ, ◌+◌, ◌<◌, ◌≤◌, ◌==◌, Bool, true, false, not, cond, nat_le, nat_lt, List, [], ◌∷◌, ◌++◌, length, map, get_or, Option, Some, option_map, slice_get, slice_set, codes, decimal, refl, sym, ap, ◌∙◌, arith, length-append, subst, All, lit<, list_any, flat_map, option_map_or, get_or-append_seam, set-append_seam, nat_tests, flat_map-append, get_or_append_left, get_or-map, length-map, list_any_none, sum_by-append, sum_by-cons, slice_get-get_or, CAPACITY, CONNECTORS, VECTOR_BITS, HEADERS, LIST_LOCKS, Name16, CfId, StrNo, Kind, Refs, Pref as Set, StrForm, IsForm, IsPref, IsKind, IsVectorOf, Names, same_word, line_of, tail_of, form_tokens, disposition, references, Declared, Token, Spells, name_word, is_declared, structure_of, Literal, Number, same_word-refl, facility_word, plain_words, facility_line, form_line, pref_line, connector_line, structure_lines, IsNamed, AreNames, AreWithin, apart_words, HaveNames, position-seam, words-said, number-said, facility-said, name-said, connectors-named, AreGood, words-back, line-clear, IsRow, row-append, row-wider, words-good, name-good, number-good, facility-good, Facility, Structure, Connector, Script, IsVectorTold, declared_in, is_long, has_pref, facility_units, units_of, all_prefs, with_pref, AddsWords, line_number, AreFacilities, IsStructureIn}
+use Rattle.plex_script.proofs.Imports.{◌≡◌, ◌≢◌, ℕ, ◌+◌, ◌<◌, ◌≤◌, ◌==◌, Bool, true, false, not, cond, nat_le, nat_lt, List, [], ◌∷◌, ◌++◌, length, map, get_or, Option, Some, option_map, slice_get, slice_set, codes, decimal, refl, sym, ap, ◌∙◌, arith, length-append, subst, All, lit<, list_any, flat_map, option_map_or, get_or-append_seam, set-append_seam, nat_tests, flat_map-append, get_or_append_left, get_or-map, length-map, list_any_none, sum_by-append, sum_by-cons, slice_get-get_or, CAPACITY, CONNECTORS, VECTOR_BITS, HEADERS, LIST_LOCKS, Name16, CfId, StrNo, Kind, Refs, Pref as Set, StrForm, IsForm, IsPref, IsKind, IsVectorOf, Names, same_word, line_of, tail_of, form_tokens, disposition, references, Declared, Token, Spells, name_word, is_declared, structure_of, Literal, Number, same_word-refl, facility_word, plain_words, facility_line, form_line, pref_line, connector_line, structure_lines, IsNamed, AreNames, AreWithin, apart_words, HaveNames, position-seam, words-said, number-said, facility-said, name-said, connectors-named, AreGood, words-back, line-clear, IsRow, row-append, row-wider, words-good, name-good, number-good, facility-good, Facility, Structure, Connector, Script, IsVectorTold, declared_in, is_long, has_pref, facility_units, units_of, all_prefs, with_pref, AddsWords, line_number, AreFacilities, IsStructureIn}
 use Rattle.cf_types.specs.declared.forms.Kind.TheVariants as kind
 use Rattle.cf_types.specs.declared.forms.Refs.TheVariants as refs
 use Rattle.plex_script.specs.declared.declarations.Declaration.TheVariants.{Pref}

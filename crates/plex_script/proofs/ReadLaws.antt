@@ -1,5 +1,5 @@
 -- Reading a text line by line.
-use Rattle.plex_script.proofs.Names.{◌≡◌, ◌≢◌, ℕ, ◌<◌, ◌+◌, ◌-◌, ◌==◌, ◌||◌, Bool, true, false, min, nat_lt, List, [], ◌∷◌, ◌++◌, length, get_or, take, drop, Some, None, position, refl, sym, ap, ◌∙◌, arith, zero, suc, append_assoc, length-append, slice_split, list_any, position_or_len, before_first, after_first, nat_tests, append-nil, slice_split_first, is_nonempty, without_return, lines_in, lines_of, any-some, any-none, any-place, Script, LineFault, Wrong, NoMemory, LineCause, empty_script, Adds, AddsAll, line_number, IsScript, IsFaultBy, fault_at, TellsFault}
+use Rattle.plex_script.proofs.Imports.{◌≡◌, ◌≢◌, ℕ, ◌<◌, ◌+◌, ◌-◌, ◌==◌, ◌||◌, Bool, true, false, min, nat_lt, List, [], ◌∷◌, ◌++◌, length, get_or, take, drop, Some, None, position, refl, sym, ap, ◌∙◌, arith, zero, suc, append_assoc, length-append, slice_split, list_any, position_or_len, before_first, after_first, nat_tests, append-nil, slice_split_first, is_nonempty, without_return, lines_in, lines_of, any-some, any-none, any-place, Script, LineFault, Wrong, NoMemory, LineCause, empty_script, Adds, AddsAll, line_number, IsScript, IsFaultBy, fault_at, TellsFault}
 
 -- ---- carriage returns
 

@@ -1,5 +1,5 @@
 -- The steps of a line: each call leaves fewer, they go with the line's call, and only where nothing is left they rest.
-use Rattle.plex_script.proofs.Names.{◌≡◌, ◌≢◌, ℕ, zero, suc, ◌+◌, ◌*◌, ◌≤◌, Bool, true, false, cond, Some, None, Option, refl, ap, arith, Kind, Told, Step, AnyAsk, step_after, most_asks, asks_behind, asked_by, round_step, after_round, shell_ask, IsReady}
+use Rattle.plex_script.proofs.Imports.{◌≡◌, ◌≢◌, ℕ, zero, suc, ◌+◌, ◌*◌, ◌≤◌, Bool, true, false, cond, Some, None, Option, refl, ap, arith, Kind, Told, Step, AnyAsk, step_after, most_asks, asks_behind, asked_by, round_step, after_round, shell_ask, IsReady}
 use Rattle.cf_types.specs.declared.shell_commands.ShellCmd.TheVariants as cmd
 use Rattle.plex_script.specs.declared.agents.Step.TheVariants as step
 

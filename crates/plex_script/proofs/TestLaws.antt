@@ -1,5 +1,5 @@
 -- Which calls a line's items show: a test of a bit or a word shows none, and a run shows those on its structure alone.
-use Rattle.plex_script.proofs.Names.{◌≡◌, ℕ, ◌*◌, ◌==◌, Bool, true, false, List, [], ◌∷◌, Option, refl, ap, nat_lt, Kind, StrForm, ConnId, StrNo, Step, AnyAsk, Shown, step_after, AnyCall, Runs, ShowsTest, ShowsWord, numbers_on}
+use Rattle.plex_script.proofs.Imports.{◌≡◌, ℕ, ◌*◌, ◌==◌, Bool, true, false, List, [], ◌∷◌, Option, refl, ap, nat_lt, Kind, StrForm, ConnId, StrNo, Step, AnyAsk, Shown, step_after, AnyCall, Runs, ShowsTest, ShowsWord, numbers_on}
 use Rattle.std.proofs.Common.{MatchBool}
 use Rattle.plex_script.specs.declared.transcripts.Shown.TheVariants as shown
 

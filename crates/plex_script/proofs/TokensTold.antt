@@ -1,5 +1,5 @@
 -- A line that writes storage class 1 out says the same without it.
-use Rattle.plex_script.proofs.Names.{◌≡◌, ℕ, ◌≤◌, ◌==◌, Bool, true, false, cond, List, [], ◌++◌, Option, Some, None, codes, refl, arith, unwrap_or, nat_tests, ConnId, Kind, CacheCmd, Shell, Content, Declared, Token, option_tokens, flag_tokens, name_tokens, number_tokens, short_tokens, class_tokens, cache_tokens, IsGiven, class_told, storage_told, AreWithin, within-front, within-back, within-append, Act, Call, Test, TestWord, Post, Take, Events, act_tokens, MayDo, class_in}
+use Rattle.plex_script.proofs.Imports.{◌≡◌, ℕ, ◌≤◌, ◌==◌, Bool, true, false, cond, List, [], ◌++◌, Option, Some, None, codes, refl, arith, unwrap_or, nat_tests, ConnId, Kind, CacheCmd, Shell, Content, Declared, Token, option_tokens, flag_tokens, name_tokens, number_tokens, short_tokens, class_tokens, cache_tokens, IsGiven, class_told, storage_told, AreWithin, within-front, within-back, within-append, Act, Call, Test, TestWord, Post, Take, Events, act_tokens, MayDo, class_in}
 use Rattle.cf_types.specs.declared.cache_commands.CacheCmd.TheVariants as cache
 use Rattle.plex_script.specs.declared.scripts.AnyAsk.TheVariants as any
 

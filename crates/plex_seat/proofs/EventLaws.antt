@@ -1,5 +1,5 @@
 -- A member that asks for events: what it asked for adds up.
-use Rattle.plex_seat.proofs.Names.{◌≡◌, ℕ, ◌+◌, ◌<◌, ◌≤◌, ◌++◌, List, [], ◌∷◌, length, zero, suc, append_assoc, sym, ap, subst, ◌∙◌, arith, All, slice_index_or, slice_set, option_map_or, length-append, set-set, All-push, StrNo, AnyAsk, AnyCall, StrType, OfCache, PassShown, with_call, CellShown, DeskShown, IsLaterOn, no_pass, pass_at, with_pass, BoardShown, cell_on, Unanswered, OtherKind, NotMade, Unread, SeatShown, IsSame, pass_of, type_at, common_ask, HasCalled, HasFault, HasAskedForEvents}
+use Rattle.plex_seat.proofs.Imports.{◌≡◌, ℕ, ◌+◌, ◌<◌, ◌≤◌, ◌++◌, List, [], ◌∷◌, length, zero, suc, append_assoc, sym, ap, subst, ◌∙◌, arith, All, slice_index_or, slice_set, option_map_or, length-append, set-set, All-push, StrNo, AnyAsk, AnyCall, StrType, OfCache, PassShown, with_call, CellShown, DeskShown, IsLaterOn, no_pass, pass_at, with_pass, BoardShown, cell_on, Unanswered, OtherKind, NotMade, Unread, SeatShown, IsSame, pass_of, type_at, common_ask, HasCalled, HasFault, HasAskedForEvents}
 use Rattle.plex_board.specs.CfTypes.declared.shell_commands.ShellCmd.TheVariants as cmd
 use Rattle.plex_seat.proofs.DeskLaws.{later_same}
 

@@ -1,4 +1,4 @@
-pub mod Names
+pub mod Imports
 pub mod DeskLaws
 pub mod EventLaws
 pub mod SeatLaws

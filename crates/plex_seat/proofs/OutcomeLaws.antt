@@ -1,5 +1,5 @@
 -- What the closed structures say of an answer.
-use Rattle.plex_seat.proofs.Names.{◌≡◌, ℕ, ◌<◌, ◌≤◌, ◌⊎◌, inl, inr, None, ◌++◌, List, [], ◌∷◌, length, map, Some, slice_get, get_or, sym, ap, subst, ◌∙◌, arith, All, option_map, get_or-append_seam, length-append, slice_get_cases, slice_get_within, slice_get-get_or, slice_get-map, StrForm, ConnId, StrNo, AnyHistory, Script, reply_numbered, CellShown, own_replies, DeskShown, pass_at, BoardShown, IsDeskOf, IsAccount, AreClosed, desk-pass_owner, Answer, SeatShown, IsSame, HasHeard, IsAnswerOf}
+use Rattle.plex_seat.proofs.Imports.{◌≡◌, ℕ, ◌<◌, ◌≤◌, ◌⊎◌, inl, inr, None, ◌++◌, List, [], ◌∷◌, length, map, Some, slice_get, get_or, sym, ap, subst, ◌∙◌, arith, All, option_map, get_or-append_seam, length-append, slice_get_cases, slice_get_within, slice_get-get_or, slice_get-map, StrForm, ConnId, StrNo, AnyHistory, Script, reply_numbered, CellShown, own_replies, DeskShown, pass_at, BoardShown, IsDeskOf, IsAccount, AreClosed, desk-pass_owner, Answer, SeatShown, IsSame, HasHeard, IsAnswerOf}
 use Rattle.plex_board.specs.PlexScript.declared.asks.AnyHistory.TheVariants as history
 
 -- what holds of each holds of the last

@@ -1,5 +1,5 @@
 -- The desks of a board as it begins, and desks that are one for each caller.
-use Rattle.plex_seat.proofs.Names.{◌≡◌, ℕ, ◌<◌, ◌+◌, ◌-◌, ◌==◌, ◌↔◌, suc, true, List, ◌∷◌, length, map, get_or, drop, sym, ap, ◌∙◌, arith, IsTrue, All, range_with_len, nat_tests, length-map, get_or-map, drop_more, drop_all, length-range_with_len, length-map-range_with_len, get_or-range_with_len, All-map, All-same, DeskShown, BoardShown, IsDeskOf, new_desk, new_desk-of_board}
+use Rattle.plex_seat.proofs.Imports.{◌≡◌, ℕ, ◌<◌, ◌+◌, ◌-◌, ◌==◌, ◌↔◌, suc, true, List, ◌∷◌, length, map, get_or, drop, sym, ap, ◌∙◌, arith, IsTrue, All, range_with_len, nat_tests, length-map, get_or-map, drop_more, drop_all, length-range_with_len, length-map-range_with_len, get_or-range_with_len, All-map, All-same, DeskShown, BoardShown, IsDeskOf, new_desk, new_desk-of_board}
 
 module _ {L : Type 0} (board : BoardShown L) (desks : List DeskShown) (n : ℕ)
     (new : desks ≡ map (new_desk board) (range_with_len 0 n)) where

@@ -1,5 +1,5 @@
 -- What follows from what a reader made of words.
-use Rattle.plex_spell.proofs.Names.{◌≡◌, ℕ, ◌==◌, Bool, true, false, cond, List, [], ◌∷◌, Option, Some, None, option_map, refl, arith, and_parts, and_from, nat_tests, same_word, ◌>>=◌}
+use Rattle.plex_spell.proofs.Imports.{◌≡◌, ℕ, ◌==◌, Bool, true, false, cond, List, [], ◌∷◌, Option, Some, None, option_map, refl, arith, and_parts, and_from, nat_tests, same_word, ◌>>=◌}
 
 -- which way a test went
 pub chosen : {X G : Type 0} (b : Bool) (x y : Option X) (v : X) → (b ≡ true → x ≡ Some v → G)

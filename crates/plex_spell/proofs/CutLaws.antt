@@ -1,5 +1,5 @@
 -- Words of two parts: data that are repeated, and resources.
-use Rattle.plex_spell.proofs.Names.{◌≡◌, ℕ, ◌<◌, ◌≤◌, ◌+◌, ◌*◌, ◌==◌, ◌||◌, Bool, true, false, not, cond, nat_lt, nat_le, List, [], ◌∷◌, ◌++◌, length, get_or, take, drop, Option, Some, None, option_map, refl, sym, ap, ◌∙◌, arith, inl, inr, lit<, decimal, list_all, repeat, before_first, after_first, position_or_len, take_while, and_parts, and_from, nat_tests, take_while-cons, split_at_first, passes_at_first, Name16, Resource, term_byte, block_of, Rigour, Form, Limits, Names, IsCut, AtLimits, IsNumber, IsRepeated, IsData, IsResource, is_term, ◌>>=◌, within_limits, number_of, text_of, name_of, stands_in, repeated_of, data_of, resource_in, resource_of}
+use Rattle.plex_spell.proofs.Imports.{◌≡◌, ℕ, ◌<◌, ◌≤◌, ◌+◌, ◌*◌, ◌==◌, ◌||◌, Bool, true, false, not, cond, nat_lt, nat_le, List, [], ◌∷◌, ◌++◌, length, get_or, take, drop, Option, Some, None, option_map, refl, sym, ap, ◌∙◌, arith, inl, inr, lit<, decimal, list_all, repeat, before_first, after_first, position_or_len, take_while, and_parts, and_from, nat_tests, take_while-cons, split_at_first, passes_at_first, Name16, Resource, term_byte, block_of, Rigour, Form, Limits, Names, IsCut, AtLimits, IsNumber, IsRepeated, IsData, IsResource, is_term, ◌>>=◌, within_limits, number_of, text_of, name_of, stands_in, repeated_of, data_of, resource_in, resource_of}
 use Rattle.plex_spell.proofs.Choices.{chosen, not_some, mapped, bound}
 use Rattle.plex_spell.proofs.TextLaws.{any-place, characters-term, length-repeat}
 use Rattle.plex_spell.proofs.WordLaws.{Finds, kept_value, kept_finds, at_limits-map, at_limits-both, number-sound, number-complete, number-strict, text-sound, text-complete, name-sound, name-complete, le_true, true_le}

@@ -1,4 +1,4 @@
-pub mod Names
+pub mod Imports
 pub mod WordLists
 pub mod NumberLaws
 pub mod TextLaws

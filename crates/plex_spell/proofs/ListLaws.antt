@@ -1,5 +1,5 @@
 -- What is read as a command of a list structure is spelled so, and what is spelled so is read.
-use Rattle.plex_spell.proofs.Names.{◌≡◌, ℕ, Bool, true, false, List, [], ◌∷◌, Option, Some, None, codes, refl, ap, ◌∙◌, lit<, Cond, ListCmd, Update, Move, ReadList, LockSet, LockReset, LockTest, LControls, SetLimit, Monitor, Unmonitor, Label, list_tokens, IsListLine, number_places, list_at, use_at, lock_use_at, make_places, make_of, update_places, update_of, record_places, move_places, move_of, delete_places, delete_of, two_places, label_name, label_key, Rigour, same_word, begins_with, words_behind, Declared, Spells, Literal, Number, tokens_of, number_at}
+use Rattle.plex_spell.proofs.Imports.{◌≡◌, ℕ, Bool, true, false, List, [], ◌∷◌, Option, Some, None, codes, refl, ap, ◌∙◌, lit<, Cond, ListCmd, Update, Move, ReadList, LockSet, LockReset, LockTest, LControls, SetLimit, Monitor, Unmonitor, Label, list_tokens, IsListLine, number_places, list_at, use_at, lock_use_at, make_places, make_of, update_places, update_of, record_places, move_places, move_of, delete_places, delete_of, two_places, label_name, label_key, Rigour, same_word, begins_with, words_behind, Declared, Spells, Literal, Number, tokens_of, number_at}
 use Rattle.cf_types.specs.declared.list_commands.ListCmd.TheVariants.{Write, Read, Delete}
 use Rattle.plex_spell.specs.declared.labels.Label.TheVariants as label
 use Rattle.plex_spell.proofs.CacheLaws.{are_number}

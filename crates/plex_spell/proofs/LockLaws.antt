@@ -1,5 +1,5 @@
 -- What is read as a command of a lock structure is spelled so, and what is spelled so is read.
-use Rattle.plex_spell.proofs.Names.{◌≡◌, true, [], ◌∷◌, Some, codes, refl, LockCmd, Obtain, Alter, Release, Decide, RtRead, RtDelete, lock_tokens, lock_at, ask_places, decide_places, AResource, AConnector, Rigour, Declared, Spells}
+use Rattle.plex_spell.proofs.Imports.{◌≡◌, true, [], ◌∷◌, Some, codes, refl, LockCmd, Obtain, Alter, Release, Decide, RtRead, RtDelete, lock_tokens, lock_at, ask_places, decide_places, AResource, AConnector, Rigour, Declared, Spells}
 use Rattle.plex_spell.proofs.Choices.{pick, not_some}
 use Rattle.plex_spell.proofs.PlaceLaws.{Words, FindsAll}
 use Rattle.plex_spell.proofs.PatternLaws.{ArePlaces}

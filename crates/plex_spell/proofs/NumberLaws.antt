@@ -1,5 +1,5 @@
 -- The one spelling of a number.
-use Rattle.plex_spell.proofs.Names.{◌≡◌, ℕ, ◌<◌, ◌^◌, ◌==◌, ◌&&◌, Bool, true, false, not, cond, nat_lt, List, [], ◌∷◌, length, get_or, Some, None, Result, Ok, Err, refl, sym, ap, ◌∙◌, arith, zero, suc, rules, is_ascii_digit, decimal, list_all, result_ok, IsUtf8, ParsesUnsigned, digits_value, and_parts, and_from, nat_tests, decimal_is_IsNumeral, decimal_digit, first_decimal, decimal-digits_value, digits_decimal, digits_value-decimal, OkIff-at_ok, OkIff-at_err, IsUtf8-from_ascii, IsNumeralModel, numerals_by_value, parse_digits, is_numeral}
+use Rattle.plex_spell.proofs.Imports.{◌≡◌, ℕ, ◌<◌, ◌^◌, ◌==◌, ◌&&◌, Bool, true, false, not, cond, nat_lt, List, [], ◌∷◌, length, get_or, Some, None, Result, Ok, Err, refl, sym, ap, ◌∙◌, arith, zero, suc, rules, is_ascii_digit, decimal, list_all, result_ok, IsUtf8, ParsesUnsigned, digits_value, and_parts, and_from, nat_tests, decimal_is_IsNumeral, decimal_digit, first_decimal, decimal-digits_value, digits_decimal, digits_value-decimal, OkIff-at_ok, OkIff-at_err, IsUtf8-from_ascii, IsNumeralModel, numerals_by_value, parse_digits, is_numeral}
 
 abbrev pub AreDigits : List ℕ → Type 0
 AreDigits word = list_all is_ascii_digit word ≡ true

@@ -1,5 +1,5 @@
 -- Rows of places: what a reader makes of them is what the words stand for.
-use Rattle.plex_spell.proofs.Names.{◌≡◌, ℕ, ◌<◌, ◌^◌, ◌&&◌, Bool, true, false, not, List, [], ◌∷◌, ◌++◌, Option, Some, None, option_map, codes, refl, sym, ap, ◌∙◌, list_any, and_parts, ADJUNCT_BYTES, NotHeld, HeldBy, Rigour, same_word, begins_with, words_behind, Declared, Token, Spells, facility_of, connector_of, structure_of, Literal, Number, Term, Short, Data, OnResource, OfFacility, OfConnector, OfStructure, NewFacility, NewName, one_of_two, references, option_tokens, flag_tokens, decision, is_names, number_of, text_of, data_of, resource_of, new_name_of, facility_in, connector_in, structure_in, Place, Value, Values, tokens_at, tokens_of, value_at, values_at, option_at, flag_at, either_of, decision_of, refs_of, Amount, AName, AKey, AShort, AData, AResource, AFacility, ANewFacility, AConnector, AStructure, ANewName, Either, ADecision, SomeRefs, AClass, ARecord, ACond, ALabel, AFlag, AnOption}
+use Rattle.plex_spell.proofs.Imports.{◌≡◌, ℕ, ◌<◌, ◌^◌, ◌&&◌, Bool, true, false, not, List, [], ◌∷◌, ◌++◌, Option, Some, None, option_map, codes, refl, sym, ap, ◌∙◌, list_any, and_parts, ADJUNCT_BYTES, NotHeld, HeldBy, Rigour, same_word, begins_with, words_behind, Declared, Token, Spells, facility_of, connector_of, structure_of, Literal, Number, Term, Short, Data, OnResource, OfFacility, OfConnector, OfStructure, NewFacility, NewName, one_of_two, references, option_tokens, flag_tokens, decision, is_names, number_of, text_of, data_of, resource_of, new_name_of, facility_in, connector_in, structure_in, Place, Value, Values, tokens_at, tokens_of, value_at, values_at, option_at, flag_at, either_of, decision_of, refs_of, Amount, AName, AKey, AShort, AData, AResource, AFacility, ANewFacility, AConnector, AStructure, ANewName, Either, ADecision, SomeRefs, AClass, ARecord, ACond, ALabel, AFlag, AnOption}
 use Rattle.plex_spell.specs.declared.labels.Label.TheVariants as label
 use Rattle.plex_spell.proofs.Choices.{chosen, bound}
 use Rattle.plex_spell.proofs.WordLaws.{number-sound, number-complete, text-sound, text-complete, new_name-sound, new_name-complete, declared-sound, declared-complete, facility-sound, facility-complete}

@@ -1,5 +1,5 @@
 -- A reader of a row of places reads what the words stand for, and misses nothing.
-use Rattle.plex_spell.proofs.Names.{◌≡◌, ℕ, Bool, true, false, cond, List, [], ◌∷◌, ◌++◌, Option, Some, None, option_map, codes, refl, sym, ap, ◌∙◌, lit<, Refs, Decision, Keep, Deny, Notify, Rigour, same_word, begins_with, words_behind, Declared, Token, IsWord, Spells, Literal, Number, one_of_two, references, decision, is_names, on_first, number_of, either_of, decision_of, refs_of, number_at}
+use Rattle.plex_spell.proofs.Imports.{◌≡◌, ℕ, Bool, true, false, cond, List, [], ◌∷◌, ◌++◌, Option, Some, None, option_map, codes, refl, sym, ap, ◌∙◌, lit<, Refs, Decision, Keep, Deny, Notify, Rigour, same_word, begins_with, words_behind, Declared, Token, IsWord, Spells, Literal, Number, one_of_two, references, decision, is_names, on_first, number_of, either_of, decision_of, refs_of, number_at}
 use Rattle.cf_types.specs.declared.forms.Refs.TheVariants as refs
 use Rattle.plex_spell.proofs.Choices.{chosen, not_some, mapped, word-same, same_word-of}
 use Rattle.plex_spell.proofs.WordLaws.{Finds, number-sound, number-complete}

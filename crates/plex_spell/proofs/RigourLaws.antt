@@ -1,5 +1,5 @@
 -- What is spelled so by a stricter measure is spelled so by a laxer one.
-use Rattle.plex_spell.proofs.Names.{ℕ, List, [], ◌∷◌, inl, inr, Form, Limits, Names, Declared, Token, IsWord, Spells, IsData, IsRecord, Literal, Number, Term, Short, Data, OnResource, Record, OfFacility, OfConnector, OfStructure, NewFacility, NewName}
+use Rattle.plex_spell.proofs.Imports.{ℕ, List, [], ◌∷◌, inl, inr, Form, Limits, Names, Declared, Token, IsWord, Spells, IsData, IsRecord, Literal, Number, Term, Short, Data, OnResource, Record, OfFacility, OfConnector, OfStructure, NewFacility, NewName}
 use Rattle.plex_spell.proofs.PlaceLaws.{Words}
 
 record-limits : (id : ℕ) (w : List ℕ) → IsRecord Names id w → IsRecord Limits id w

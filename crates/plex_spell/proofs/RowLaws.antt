@@ -1,5 +1,5 @@
 -- Places of several words, and rows of places.
-use Rattle.plex_spell.proofs.Names.{◌≡◌, ℕ, ◌||◌, Bool, true, false, not, ◌==◌, cond, List, [], ◌∷◌, Option, Some, None, option_map, codes, refl, sym, ap, ◌∙◌, list_any, Name16, Key16, EntryId, At, Cond, NotHeld, HeldBy, Label, Rigour, same_word, begins_with, words_behind, Declared, Token, Spells, Number, Term, Record, class_tokens, at_tokens, cond_tokens, on_first, name_of, key_of, record_of, label_tokens, number_at, class_at, cond_at, label_at, key_at, record_at}
+use Rattle.plex_spell.proofs.Imports.{◌≡◌, ℕ, ◌||◌, Bool, true, false, not, ◌==◌, cond, List, [], ◌∷◌, Option, Some, None, option_map, codes, refl, sym, ap, ◌∙◌, list_any, Name16, Key16, EntryId, At, Cond, NotHeld, HeldBy, Label, Rigour, same_word, begins_with, words_behind, Declared, Token, Spells, Number, Term, Record, class_tokens, at_tokens, cond_tokens, on_first, name_of, key_of, record_of, label_tokens, number_at, class_at, cond_at, label_at, key_at, record_at}
 use Rattle.cf_types.specs.declared.list_commands.At.TheVariants as at
 use Rattle.plex_spell.specs.declared.labels.Label.TheVariants as label
 use Rattle.plex_spell.proofs.Choices.{chosen, not_some, bound, word-same}

@@ -1,5 +1,5 @@
 -- What is read as a command that structures share is spelled so, and what is spelled so is read.
-use Rattle.plex_spell.proofs.Names.{◌≡◌, ℕ, true, false, List, [], ◌∷◌, Option, Some, codes, refl, ap, ◌∙◌, lit<, ShellCmd, Connect, Disconnect, Fail, Next, Respond, RebuildStart, RebuildStop, RebuildConnect, Copy, RebuildComplete, ForceConn, ForceStr, LoseConn, RestoreConn, Vary, DuplexStart, DuplexStop, shell_tokens, shell_at, an_amount, caps_places, start_of, rebuild_at, duplex_at, operator_at, AFacility, AConnector, Either, Rigour, same_word, begins_with, words_behind, Declared, Spells, Literal, tokens_of}
+use Rattle.plex_spell.proofs.Imports.{◌≡◌, ℕ, true, false, List, [], ◌∷◌, Option, Some, codes, refl, ap, ◌∙◌, lit<, ShellCmd, Connect, Disconnect, Fail, Next, Respond, RebuildStart, RebuildStop, RebuildConnect, Copy, RebuildComplete, ForceConn, ForceStr, LoseConn, RestoreConn, Vary, DuplexStart, DuplexStop, shell_tokens, shell_at, an_amount, caps_places, start_of, rebuild_at, duplex_at, operator_at, AFacility, AConnector, Either, Rigour, same_word, begins_with, words_behind, Declared, Spells, Literal, tokens_of}
 use Rattle.plex_spell.proofs.Choices.{pick, not_some, word-same}
 use Rattle.plex_spell.proofs.PlaceLaws.{Words, FindsAll, led, led-by}
 use Rattle.plex_spell.proofs.PatternLaws.{ArePlaces, values-sound}

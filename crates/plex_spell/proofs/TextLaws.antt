@@ -1,5 +1,5 @@
 -- Texts of term characters, and where a byte stands in a text.
-use Rattle.plex_spell.proofs.Names.{◌≡◌, ℕ, ◌<◌, ◌≤◌, ◌+◌, ◌-◌, ◌==◌, ◌||◌, Bool, true, false, not, cond, nat_lt, List, [], ◌∷◌, ◌++◌, length, take, drop, Some, None, position, refl, ◌∙◌, arith, zero, suc, length-drop, length-append, ◌*◌, list_all, list_any, position_or_len, repeat, and_parts, and_from, nat_tests, take_all, length-take, IsTerm, term_byte, fault_at, fails_at_some, is_term}
+use Rattle.plex_spell.proofs.Imports.{◌≡◌, ℕ, ◌<◌, ◌≤◌, ◌+◌, ◌-◌, ◌==◌, ◌||◌, Bool, true, false, not, cond, nat_lt, List, [], ◌∷◌, ◌++◌, length, take, drop, Some, None, position, refl, ◌∙◌, arith, zero, suc, length-drop, length-append, ◌*◌, list_all, list_any, position_or_len, repeat, and_parts, and_from, nat_tests, take_all, length-take, IsTerm, term_byte, fault_at, fails_at_some, is_term}
 
 pub characters-term : (word : List ℕ) → is_term word ≡ true → list_all term_byte word ≡ true
 characters-term [] h = absurd (cc)

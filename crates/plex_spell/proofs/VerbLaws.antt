@@ -1,5 +1,5 @@
 -- Commands by their first words.
-use Rattle.plex_spell.proofs.Names.{◌≡◌, ℕ, Bool, true, not, ◌&&◌, List, [], ◌∷◌, Option, Some, codes, refl, ap, ◌∙◌, list_any, and_parts, Rigour, same_word, Declared, Token, Spells, Literal, Place, Values, tokens_of, values_at}
+use Rattle.plex_spell.proofs.Imports.{◌≡◌, ℕ, Bool, true, not, ◌&&◌, List, [], ◌∷◌, Option, Some, codes, refl, ap, ◌∙◌, list_any, and_parts, Rigour, same_word, Declared, Token, Spells, Literal, Place, Values, tokens_of, values_at}
 use Rattle.plex_spell.proofs.Choices.{word-same}
 use Rattle.plex_spell.proofs.PlaceLaws.{Words, FindsAll}
 use Rattle.plex_spell.proofs.RowLaws.{free_of}

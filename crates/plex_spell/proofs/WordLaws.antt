@@ -1,5 +1,5 @@
 -- A reader of a word reads what the word stands for, and misses nothing.
-use Rattle.plex_spell.proofs.Names.{◌≡◌, ℕ, ◌<◌, ◌≤◌, ◌^◌, ◌==◌, ◌&&◌, ◌||◌, Bool, true, false, not, cond, nat_le, List, [], ◌∷◌, length, take, Option, Some, None, option_map, refl, sym, ap, ◌∙◌, arith, eqb-true, eq-eqb, lit<, is_ascii_uppercase, is_ascii_digit, decimal, list_all, list_any, digits_value, and_parts, and_from, nat_tests, Name16, Key16, CfId, EntryId, term_byte, block_of, Rigour, Form, Limits, Names, same_word, Declared, AtLimits, AtNames, IsNumber, IsText, IsName, IsRecord, is_numeral, is_term, is_name, is_capital, reserved_words, facility_of, is_declared, ◌>>=◌, within_limits, named_value, is_names, number_of, text_of, name_of, key_of, new_name_of, record_of, facility_in}
+use Rattle.plex_spell.proofs.Imports.{◌≡◌, ℕ, ◌<◌, ◌≤◌, ◌^◌, ◌==◌, ◌&&◌, ◌||◌, Bool, true, false, not, cond, nat_le, List, [], ◌∷◌, length, take, Option, Some, None, option_map, refl, sym, ap, ◌∙◌, arith, eqb-true, eq-eqb, lit<, is_ascii_uppercase, is_ascii_digit, decimal, list_all, list_any, digits_value, and_parts, and_from, nat_tests, Name16, Key16, CfId, EntryId, term_byte, block_of, Rigour, Form, Limits, Names, same_word, Declared, AtLimits, AtNames, IsNumber, IsText, IsName, IsRecord, is_numeral, is_term, is_name, is_capital, reserved_words, facility_of, is_declared, ◌>>=◌, within_limits, named_value, is_names, number_of, text_of, name_of, key_of, new_name_of, record_of, facility_in}
 use Rattle.plex_spell.proofs.Choices.{chosen, not_some, mapped, bound}
 use Rattle.plex_spell.proofs.NumberLaws.{decimal-numeral, value-decimal, numeral-decimal}
 

@@ -1,5 +1,5 @@
 -- A line and its words.
-use Rattle.plex_spell.proofs.Names.{◌≡◌, ℕ, ◌+◌, Bool, true, false, not, List, [], ◌∷◌, length, drop, position, unwrap_or, refl, sym, ap, ◌∙◌, arith, suc, slice_split, filter, take_while, prefix_len, position_or_len, take_while-cons, prefix_len-le-length, common_steps, is_blank, is_nonempty, words_of, begins_word}
+use Rattle.plex_spell.proofs.Imports.{◌≡◌, ℕ, ◌+◌, Bool, true, false, not, List, [], ◌∷◌, length, drop, position, unwrap_or, refl, sym, ap, ◌∙◌, arith, suc, slice_split, filter, take_while, prefix_len, position_or_len, take_while-cons, prefix_len-le-length, common_steps, is_blank, is_nonempty, words_of, begins_word}
 
 abbrev pub is_mark : ℕ → Bool
 is_mark b = not (is_blank b)

@@ -1,5 +1,5 @@
 -- Engines that are filled by items, one after another.
-use Rattle.rebuild_copy.proofs.Names.{◌≡◌, ℕ, ◌+◌, ◌-◌, ◌<◌, List, [], ◌∷◌, ◌++◌, Some, Result, Ok, Err, OnOk, OnErr, length, take, drop, slice_get, ⊎_elim, sym, ap, ◌∙◌, subst, arith, append_assoc, Bool, drop_all, fold-append, slice_get_cases, Caps, Kind, Shape, Meaning, Held, new_held, items_of, with_item, without_last_item, Fits, IsNoMore, IsNextItem, content_of_items, take_next, split_next, Copy, copy_in, IsFilled, IsCopyOf, with_next}
+use Rattle.rebuild_copy.proofs.Imports.{◌≡◌, ℕ, ◌+◌, ◌-◌, ◌<◌, List, [], ◌∷◌, ◌++◌, Some, Result, Ok, Err, OnOk, OnErr, length, take, drop, slice_get, ⊎_elim, sym, ap, ◌∙◌, subst, arith, append_assoc, Bool, drop_all, fold-append, slice_get_cases, Caps, Kind, Shape, Meaning, Held, new_held, items_of, with_item, without_last_item, Fits, IsNoMore, IsNextItem, content_of_items, take_next, split_next, Copy, copy_in, IsFilled, IsCopyOf, with_next}
 use Rattle.cf_types.specs.declared.forms.Kind.TheVariants as kind
 
 -- what needs no more fits as well

@@ -1,5 +1,5 @@
 -- A departure while a new instance stands.
-use Rattle.rebuild_copy.proofs.Names.{◌≡◌, Bool, List, [], length, take, refl, sym, subst, arith, Caps, Kind, Shape, Fits, IsNoMoreOf, Meaning, Held, items_of, Copy, IsCopyOf}
+use Rattle.rebuild_copy.proofs.Imports.{◌≡◌, Bool, List, [], length, take, refl, sym, subst, arith, Caps, Kind, Shape, Fits, IsNoMoreOf, Meaning, Held, items_of, Copy, IsCopyOf}
 use Rattle.cf_types.specs.declared.forms.Kind.TheVariants as kind
 
 -- what needs no more by the kind's rule fits as well

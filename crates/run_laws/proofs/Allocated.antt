@@ -1,5 +1,5 @@
 -- Whoever may use the content is connected to an instance that stands.
-use Rattle.run_laws.proofs.Names.{◌≡◌, true, None, is_some, List, StrForm, ConnId, is_active, actives, Entry, replay, Meaning, Shell, unless_active, if_lost, if_failed, content_cause, third_none, not_so, manned-replay, active_of, active_member, first_none, somebody_member}
+use Rattle.run_laws.proofs.Imports.{◌≡◌, true, None, is_some, List, StrForm, ConnId, is_active, actives, Entry, replay, Meaning, Shell, unless_active, if_lost, if_failed, content_cause, third_none, not_so, manned-replay, active_of, active_member, first_none, somebody_member}
 use Rattle.plex_board.specs.CfTypes.declared.refusals.Refusal.TheVariants as refusal
 
 module _ {C R I S : Type 0} (meaning : Meaning C R I S) (form : StrForm) where

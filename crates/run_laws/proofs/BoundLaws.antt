@@ -1,5 +1,5 @@
 -- No history is longer than the lines of the script and the closings make it.
-use Rattle.run_laws.proofs.Names.{◌≡◌, ℕ, zero, suc, ◌+◌, ◌≤◌, ◌<◌, List, length, Option, Some, None, slice_get, refl, ap, subst, ◌∙◌, arith, length-map, slice_get_within, get_within, ConnId, StrNo, AnyHistory, Line, Script, AgentEnd, Shown, Transcript, AnyCall, any_calls, calls_of, calls_on, length_of, own_calls, AgreesWith, lines_of, length_calls, EndsRight, ShowsHistories, IsWithinScript, most_of_lines, most_entries}
+use Rattle.run_laws.proofs.Imports.{◌≡◌, ℕ, zero, suc, ◌+◌, ◌≤◌, ◌<◌, List, length, Option, Some, None, slice_get, refl, ap, subst, ◌∙◌, arith, length-map, slice_get_within, get_within, ConnId, StrNo, AnyHistory, Line, Script, AgentEnd, Shown, Transcript, AnyCall, any_calls, calls_of, calls_on, length_of, own_calls, AgreesWith, lines_of, length_calls, EndsRight, ShowsHistories, IsWithinScript, most_of_lines, most_entries}
 use Rattle.plex_board.specs.PlexScript.declared.transcripts.AgentEnd.TheVariants as ended
 use Rattle.run_laws.proofs.ShareLaws.{sum_below, shares_bound}
 use Rattle.run_laws.proofs.CountLaws.{most_on, calls_shown, most_at_end, follows_few, stops_few}

@@ -1,5 +1,5 @@
 -- After every history of a cache its content is one at the capacity of its instances.
-use Rattle.run_laws.proofs.Names.{refl, Caps, StrForm, is_cache, Shape, Content, IsContent, cache_meaning, content-done, content-nothing, leave-content, content-moved, need-front, need-leave, ContentLaws, held-replay, CacheHistory, IsWithin}
+use Rattle.run_laws.proofs.Imports.{refl, Caps, StrForm, is_cache, Shape, Content, IsContent, cache_meaning, content-done, content-nothing, leave-content, content-moved, need-front, need-leave, ContentLaws, held-replay, CacheHistory, IsWithin}
 
 abbrev IsContentAt : Shape → Caps → Content → Type 0
 IsContentAt shape caps content = IsContent caps content

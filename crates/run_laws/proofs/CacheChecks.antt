@@ -1,6 +1,6 @@
 -- The definitions on short histories: connectors 1 and 2 of a cache share a page, which is written, cast out while it
 -- is written again, unlocked, and cast out and unlocked once more; and a rebuild.
-use Rattle.run_laws.proofs.Names.{◌≡◌, ℕ, true, false, [], ◌∷◌, ◌++◌, None, Some, take, drop, map, refl, CacheCmd, Read, Write, Castout, Unlock, CacheReply, Caps, StrForm, Name16, ConnId, ShellCmd, ShellReply, conns_from, no_connections, actives, empty_mail, Reply, registered_at, copy_in, copy_held, CacheEntry, CacheHistory, capacity_after, content_after, is_cast_out, page_written}
+use Rattle.run_laws.proofs.Imports.{◌≡◌, ℕ, true, false, [], ◌∷◌, ◌++◌, None, Some, take, drop, map, refl, CacheCmd, Read, Write, Castout, Unlock, CacheReply, Caps, StrForm, Name16, ConnId, ShellCmd, ShellReply, conns_from, no_connections, actives, empty_mail, Reply, registered_at, copy_in, copy_held, CacheEntry, CacheHistory, capacity_after, content_after, is_cast_out, page_written}
 use Rattle.plex_board.specs.CfTypes.declared.cache_commands.CacheReply.TheVariants as replies
 use Rattle.plex_board.specs.CfTypes.declared.events.Event.TheVariants as event
 use Rattle.plex_board.specs.CfTypes.declared.forms.Kind.TheVariants as kind

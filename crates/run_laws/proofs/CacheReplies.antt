@@ -1,5 +1,5 @@
 -- What accepted commands are answered, read off the rows.
-use Rattle.run_laws.proofs.Names.{◌≡◌, ℕ, true, List, Option, Some, None, is_some, option_map, unwrap_or, refl, ap, ◌∙◌, CacheCmd, CacheReply, Caps, StrForm, Name16, ConnId, Refusal, next_reply, replay, Machine, unless, content_done, content_reply, unless_refused, content_cause, CacheItem, Content, cache_meaning, row_of, row_or_new, is_changed, new_row, reply_copy, copy_in, cause, done, reply as answer_to, copy-row_or_new, CacheHistory, content_after}
+use Rattle.run_laws.proofs.Imports.{◌≡◌, ℕ, true, List, Option, Some, None, is_some, option_map, unwrap_or, refl, ap, ◌∙◌, CacheCmd, CacheReply, Caps, StrForm, Name16, ConnId, Refusal, next_reply, replay, Machine, unless, content_done, content_reply, unless_refused, content_cause, CacheItem, Content, cache_meaning, row_of, row_or_new, is_changed, new_row, reply_copy, copy_in, cause, done, reply as answer_to, copy-row_or_new, CacheHistory, content_after}
 use Rattle.plex_board.specs.CfTypes.declared.cache_commands.CacheReply.TheVariants as replies
 use Rattle.plex_board.specs.EngineApi.declared.asks.Ask.TheVariants as ask
 use Rattle.plex_board.specs.EngineApi.declared.asks.Reply.TheVariants as reply

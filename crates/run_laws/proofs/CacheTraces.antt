@@ -1,5 +1,5 @@
 -- What connectors hold after a history of a cache: where they are registered, what the rows have.
-use Rattle.run_laws.proofs.Names.{◌≡◌, ℕ, Bool, true, false, ◌&&◌, ◌==◌, cond, [], ◌∷◌, ◌++◌, Option, None, Some, unwrap_or, refl, sym, ap, ◌∙◌, subst, fold_push, CacheCmd, Read, Write, Caps, StrForm, ConnId, Refusal, Continues, replay, unless_refused, Content, IsOrderly, cache_meaning, Copy, Copies, Deed, after_deed, copies_done, copies_unless, copies_after, reply_copy, Calls, Leaves, Forgets, cause, done, reply as answer_to, Fresh, AllFresh, each_weaker, deed-fresh, IsQuiet, IsTraced, traced-replay, legal-answered, copy_at, copy_of, copy_brought, copy_held, CacheEntry, CacheHistory, Accepted, acceptance_of, content_after}
+use Rattle.run_laws.proofs.Imports.{◌≡◌, ℕ, Bool, true, false, ◌&&◌, ◌==◌, cond, [], ◌∷◌, ◌++◌, Option, None, Some, unwrap_or, refl, sym, ap, ◌∙◌, subst, fold_push, CacheCmd, Read, Write, Caps, StrForm, ConnId, Refusal, Continues, replay, unless_refused, Content, IsOrderly, cache_meaning, Copy, Copies, Deed, after_deed, copies_done, copies_unless, copies_after, reply_copy, Calls, Leaves, Forgets, cause, done, reply as answer_to, Fresh, AllFresh, each_weaker, deed-fresh, IsQuiet, IsTraced, traced-replay, legal-answered, copy_at, copy_of, copy_brought, copy_held, CacheEntry, CacheHistory, Accepted, acceptance_of, content_after}
 use Rattle.run_laws.proofs.UniqueLaws.{orderly-kept}
 
 -- ---- what an entry brings

@@ -1,5 +1,5 @@
 -- The callers of a script have words of their own.
-use Rattle.run_laws.proofs.Names.{◌≡◌, ◌≢◌, ℕ, zero, suc, ◌+◌, ◌-◌, ◌≤◌, ◌<◌, ◌==◌, inl, inr, Bool, true, false, not, cond, List, [], ◌∷◌, ◌++◌, length, Option, Some, None, codes, replicate, get_or, slice_get, refl, sym, ap, subst, ◌∙◌, arith, MatchBool, MatchOption, list_all, list_any, and_parts, and_from, nat_tests, list_any_at, take_while-cons, slice_get-get_or, slice_get_within, get_or_from_slice_get, Name16, ConnId, StrNo, block_of, text_in_block, term_byte, pushed_cases, Names, same_word, words_of, is_name, is_capital, reserved_words, name_word, structure_of, same_word-of, Words, characters-term, term-name, Declaration, Script, declared_in, caller_of, is_comment, is_policy_word, is_twice, Declares, AddsDeclaration, AddsLine, AddsOfCaller, AddsWords, AddsAll, IsScript, empty_script, line_number, with_declaration, caller_name}
+use Rattle.run_laws.proofs.Imports.{◌≡◌, ◌≢◌, ℕ, zero, suc, ◌+◌, ◌-◌, ◌≤◌, ◌<◌, ◌==◌, inl, inr, Bool, true, false, not, cond, List, [], ◌∷◌, ◌++◌, length, Option, Some, None, codes, replicate, get_or, slice_get, refl, sym, ap, subst, ◌∙◌, arith, MatchBool, MatchOption, list_all, list_any, and_parts, and_from, nat_tests, list_any_at, take_while-cons, slice_get-get_or, slice_get_within, get_or_from_slice_get, Name16, ConnId, StrNo, block_of, text_in_block, term_byte, pushed_cases, Names, same_word, words_of, is_name, is_capital, reserved_words, name_word, structure_of, same_word-of, Words, characters-term, term-name, Declaration, Script, declared_in, caller_of, is_comment, is_policy_word, is_twice, Declares, AddsDeclaration, AddsLine, AddsOfCaller, AddsWords, AddsAll, IsScript, empty_script, line_number, with_declaration, caller_name}
 use Rattle.plex_report.specs.PlexSpell.Words.{lines_of}
 use Rattle.plex_board.specs.PlexScript.declared.declarations.Declaration.TheVariants as declaration
 use Rattle.run_laws.proofs.Cuts.{is_free}

@@ -1,5 +1,5 @@
 -- How many calls on a structure the items of a caller show: no more than its lines and its closing make.
-use Rattle.run_laws.proofs.Names.{◌≡◌, ◌≢◌, ◌⊎◌, inl, inr, ℕ, zero, suc, ◌+◌, ◌≤◌, ◌==◌, Bool, true, false, cond, List, [], ◌∷◌, ◌++◌, length, take, Option, Some, None, refl, sym, ap, subst, ◌∙◌, arith, length-append, nat_tests, filter_map-append, sum_by-append, sum_by-cons, Kind, StrForm, ConnId, StrNo, Told, Step, AnyHistory, Act, AnyAsk, Line, Script, Shown, first_step, step_after, most_asks, asked_by, call_of, shell_ask, AnyCall, IsHeard, Runs, RunsUpTo, ShowsAct, ShowsLines, ShowsClosing, ShowsClosings, Follows, StopsInLine, StopsInClosing, is_linked_by, lines_of, number_on, numbers_on, fewer_asks, test_numbers, word_numbers, most_of_line, most_of_lines}
+use Rattle.run_laws.proofs.Imports.{◌≡◌, ◌≢◌, ◌⊎◌, inl, inr, ℕ, zero, suc, ◌+◌, ◌≤◌, ◌==◌, Bool, true, false, cond, List, [], ◌∷◌, ◌++◌, length, take, Option, Some, None, refl, sym, ap, subst, ◌∙◌, arith, length-append, nat_tests, filter_map-append, sum_by-append, sum_by-cons, Kind, StrForm, ConnId, StrNo, Told, Step, AnyHistory, Act, AnyAsk, Line, Script, Shown, first_step, step_after, most_asks, asked_by, call_of, shell_ask, AnyCall, IsHeard, Runs, RunsUpTo, ShowsAct, ShowsLines, ShowsClosing, ShowsClosings, Follows, StopsInLine, StopsInClosing, is_linked_by, lines_of, number_on, numbers_on, fewer_asks, test_numbers, word_numbers, most_of_line, most_of_lines}
 use Rattle.std.proofs.Common.{MatchBool}
 use Rattle.plex_board.specs.CfTypes.declared.shell_commands.ShellCmd.TheVariants as cmd
 use Rattle.plex_board.specs.PlexScript.declared.agents.Step.TheVariants as step

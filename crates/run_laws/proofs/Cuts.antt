@@ -1,5 +1,5 @@
 -- Texts that are the same, from their fronts on.
-use Rattle.run_laws.proofs.Names.{◌≡◌, ℕ, ◌≤◌, ◌<◌, ◌==◌, ◌^◌, Bool, true, not, List, [], ◌∷◌, ◌++◌, length, refl, sym, ap, ◌∙◌, arith, append_assoc, length-append, is_ascii_digit, decimal, list_all, flat_map, and_parts, and_from, nat_tests, decimal_injective, flat_map-append, append_cancel_left, is_numeral, numeral-decimal, heading, line_text}
+use Rattle.run_laws.proofs.Imports.{◌≡◌, ℕ, ◌≤◌, ◌<◌, ◌==◌, ◌^◌, Bool, true, not, List, [], ◌∷◌, ◌++◌, length, refl, sym, ap, ◌∙◌, arith, append_assoc, length-append, is_ascii_digit, decimal, list_all, flat_map, and_parts, and_from, nat_tests, decimal_injective, flat_map-append, append_cancel_left, is_numeral, numeral-decimal, heading, line_text}
 
 -- the byte doesn't stand in the text
 abbrev pub is_free : ℕ → List ℕ → Bool

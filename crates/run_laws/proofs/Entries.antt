@@ -1,5 +1,5 @@
 -- The lines of a legal history fix it, where it is known what each caller asks next.
-use Rattle.run_laws.proofs.Names.{◌≡◌, ℕ, ◌+◌, ◌≤◌, ◌==◌, true, not, List, [], ◌∷◌, ◌++◌, length, map, codes, Option, Some, refl, sym, ap, subst, ◌∙◌, arith, append_assoc, decimal, and_parts, and_from, decimal_injective, append_cancel_left, IsFacility, CfId, StrForm, ConnId, Ask, What, Entry, Meaning, next_entry, next_mark, IsNextAs, Continues, tail_of, line_of, AnyAsk, Script, facility_word, caller_word, ask_words, entry_line, what_words, reply_words, is_of_vary, NamesFacility, NamesFacilities}
+use Rattle.run_laws.proofs.Imports.{◌≡◌, ℕ, ◌+◌, ◌≤◌, ◌==◌, true, not, List, [], ◌∷◌, ◌++◌, length, map, codes, Option, Some, refl, sym, ap, subst, ◌∙◌, arith, append_assoc, decimal, and_parts, and_from, decimal_injective, append_cancel_left, IsFacility, CfId, StrForm, ConnId, Ask, What, Entry, Meaning, next_entry, next_mark, IsNextAs, Continues, tail_of, line_of, AnyAsk, Script, facility_word, caller_word, ask_words, entry_line, what_words, reply_words, is_of_vary, NamesFacility, NamesFacilities}
 use Rattle.plex_board.specs.EngineApi.declared.asks.What.TheVariants as what
 use Rattle.run_laws.proofs.Cuts.{is_free, free_decimal, text_of, text-cons, same_cut}
 use Rattle.run_laws.proofs.Callers.{AreApart, free_caller, same_caller, not_system}

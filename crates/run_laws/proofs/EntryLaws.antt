@@ -1,5 +1,5 @@
 -- A command asks for the records alone.
-use Rattle.run_laws.proofs.Names.{◌≡◌, ℕ, List, [], ◌∷◌, refl, ap, ◌∙◌, Caps, LockCmd, Obtain, Alter, Release, Decide, RtRead, RtDelete, ConnId, Shape, unless_refused, step_at, replies_of}
+use Rattle.run_laws.proofs.Imports.{◌≡◌, ℕ, List, [], ◌∷◌, refl, ap, ◌∙◌, Caps, LockCmd, Obtain, Alter, Release, Decide, RtRead, RtDelete, ConnId, Shape, unless_refused, step_at, replies_of}
 use Rattle.plex_board.specs.LockModel.Contents.{Content}
 use Rattle.plex_board.specs.LockModel.Step.{cause, done}
 

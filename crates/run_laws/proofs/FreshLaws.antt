@@ -1,5 +1,5 @@
 -- A bit that stands tells a fresh copy.
-use Rattle.run_laws.proofs.Names.{◌≡◌, ℕ, true, [], ◌∷◌, ◌++◌, Option, None, Some, is_some, option_map, take, drop, inl, inr, append-nil, refl, sym, ap, ◌∙◌, subst, IsTrue, option_and_then, find, false≢true, take-append-drop, Read, StrForm, Name16, ConnId, Continues, Tells, last_call_below, stands_after, continues_legal, any_is_found, all_found, Registration, is_at, registered_at, CacheItem, Content, cache_meaning, is_row_of, row_of, has_row, copy_in, reply_copy, row_copy, fresh-at, copy_held, IsAsRead, IsFresh, TellsFresh, CacheHistory, IsLegalCache, content_after}
+use Rattle.run_laws.proofs.Imports.{◌≡◌, ℕ, true, [], ◌∷◌, ◌++◌, Option, None, Some, is_some, option_map, take, drop, inl, inr, append-nil, refl, sym, ap, ◌∙◌, subst, IsTrue, option_and_then, find, false≢true, take-append-drop, Read, StrForm, Name16, ConnId, Continues, Tells, last_call_below, stands_after, continues_legal, any_is_found, all_found, Registration, is_at, registered_at, CacheItem, Content, cache_meaning, is_row_of, row_of, has_row, copy_in, reply_copy, row_copy, fresh-at, copy_held, IsAsRead, IsFresh, TellsFresh, CacheHistory, IsLegalCache, content_after}
 use Rattle.run_laws.proofs.CacheReplies.{answer-content, copy-read}
 use Rattle.run_laws.proofs.CacheTraces.{HasTrace, trace-continues}
 use Rattle.run_laws.proofs.UniqueLaws.{orderly-replay}

@@ -1,5 +1,5 @@
 -- The calls of a legal history are heard under their numbers.
-use Rattle.run_laws.proofs.Names.{◌≡◌, ℕ, suc, ◌≤◌, ◌<◌, ◌==◌, inr, Bool, true, false, List, [], ◌∷◌, ◌++◌, length, filter, cond, Some, refl, sym, subst, arith, append_assoc, Contains, if◌then◌else◌, nat_tests, StrForm, numbered_legal, cache_meaning, list_meaning, lock_meaning, AnyHistory, AnyCall, any_calls, any_length, call_numbered, IsAnyLegal, IsAnyPoint, Rising, any_numbers, numbers_of, numbers_any}
+use Rattle.run_laws.proofs.Imports.{◌≡◌, ℕ, suc, ◌≤◌, ◌<◌, ◌==◌, inr, Bool, true, false, List, [], ◌∷◌, ◌++◌, length, filter, cond, Some, refl, sym, subst, arith, append_assoc, Contains, if◌then◌else◌, nat_tests, StrForm, numbered_legal, cache_meaning, list_meaning, lock_meaning, AnyHistory, AnyCall, any_calls, any_length, call_numbered, IsAnyLegal, IsAnyPoint, Rising, any_numbers, numbers_of, numbers_any}
 use Rattle.plex_board.specs.PlexScript.declared.asks.AnyHistory.TheVariants as history
 
 -- each of these is the call with its number

@@ -1,5 +1,5 @@
 -- The lines of legal histories, in which each caller asks what the script says, fix them.
-use Rattle.run_laws.proofs.Names.{◌≡◌, ℕ, ◌+◌, ◌≤◌, ◌<◌, ◌==◌, ◌^◌, Bool, true, List, [], ◌∷◌, ◌++◌, length, map, codes, Option, Some, slice_get, refl, sym, ap, subst, ◌∙◌, arith, append_assoc, All, AllByRecursion, nat_tests, map-append, filter-append, recursion_from_All, Kind, StrForm, ConnId, StrNo, Ask, What, Entry, Meaning, Call, calls, IsLegal, told_of, calls-append, continues_legal, cache_meaning, list_meaning, lock_meaning, CacheCmd, ListCmd, LockCmd, AnyHistory, AnyAsk, Script, AnyCall, any_call, any_calls, any_length, own_calls, lines_of, IsHistoryOf, IsOfKind, IsAnyLegal, IsAnyPoint, AnyTells, structure_name, cache_words, list_words, lock_words, cache_reply_words, list_reply_words, lock_reply_words, entry_line, entry_lines, history_lines, lines_each, NamesFacilities, MarksFacilities}
+use Rattle.run_laws.proofs.Imports.{◌≡◌, ℕ, ◌+◌, ◌≤◌, ◌<◌, ◌==◌, ◌^◌, Bool, true, List, [], ◌∷◌, ◌++◌, length, map, codes, Option, Some, slice_get, refl, sym, ap, subst, ◌∙◌, arith, append_assoc, All, AllByRecursion, nat_tests, map-append, filter-append, recursion_from_All, Kind, StrForm, ConnId, StrNo, Ask, What, Entry, Meaning, Call, calls, IsLegal, told_of, calls-append, continues_legal, cache_meaning, list_meaning, lock_meaning, CacheCmd, ListCmd, LockCmd, AnyHistory, AnyAsk, Script, AnyCall, any_call, any_calls, any_length, own_calls, lines_of, IsHistoryOf, IsOfKind, IsAnyLegal, IsAnyPoint, AnyTells, structure_name, cache_words, list_words, lock_words, cache_reply_words, list_reply_words, lock_reply_words, entry_line, entry_lines, history_lines, lines_each, NamesFacilities, MarksFacilities}
 use Rattle.plex_board.specs.CfTypes.declared.forms.Kind.TheVariants as kind
 use Rattle.plex_board.specs.EngineApi.declared.asks.What.TheVariants as what
 use Rattle.plex_board.specs.PlexScript.declared.asks.AnyHistory.TheVariants as history

@@ -1,5 +1,5 @@
 -- The lines of a transcript that follows its script fix it, over histories that are known.
-use Rattle.run_laws.proofs.Names.{◌≡◌, ℕ, zero, suc, ◌+◌, ◌*◌, ◌/◌, ◌%◌, ◌≤◌, ◌<◌, ◌==◌, ◌^◌, nat_lt, Bool, true, false, not, List, [], ◌∷◌, ◌++◌, map, codes, get_or, Option, Some, None, unwrap_or, refl, sym, ap, subst, ◌∙◌, arith, append_assoc, MatchBool, decimal, pow-suc, and_from, nat_tests, append_cancel_left, map-append, Kind, StrForm, ConnId, StrNo, Told, Step, AnyHistory, AnyAsk, Act, Line, Script, Shown, first_step, step_after, asked_by, shell_ask, kind_of, AnyCall, call_numbered, calls_on, length_on, IsHeard, Runs, ShowsTest, ShowsWord, ShowsAct, ShowsLines, ShowsClosing, ShowsClosings, Follows, lines_of, is_linked_by, structure_word, shown_line, bit_word, binary_digits, digits_end, digits_next}
+use Rattle.run_laws.proofs.Imports.{◌≡◌, ℕ, zero, suc, ◌+◌, ◌*◌, ◌/◌, ◌%◌, ◌≤◌, ◌<◌, ◌==◌, ◌^◌, nat_lt, Bool, true, false, not, List, [], ◌∷◌, ◌++◌, map, codes, get_or, Option, Some, None, unwrap_or, refl, sym, ap, subst, ◌∙◌, arith, append_assoc, MatchBool, decimal, pow-suc, and_from, nat_tests, append_cancel_left, map-append, Kind, StrForm, ConnId, StrNo, Told, Step, AnyHistory, AnyAsk, Act, Line, Script, Shown, first_step, step_after, asked_by, shell_ask, kind_of, AnyCall, call_numbered, calls_on, length_on, IsHeard, Runs, ShowsTest, ShowsWord, ShowsAct, ShowsLines, ShowsClosing, ShowsClosings, Follows, lines_of, is_linked_by, structure_word, shown_line, bit_word, binary_digits, digits_end, digits_next}
 use Rattle.plex_board.specs.CfTypes.declared.forms.Kind.TheVariants as kind
 use Rattle.plex_board.specs.CfTypes.declared.shell_commands.ShellCmd.TheVariants as cmd
 use Rattle.plex_board.specs.PlexScript.declared.agents.Step.TheVariants as step

@@ -1,4 +1,4 @@
-pub mod Names
+pub mod Imports
 pub mod Cuts
 pub mod Callers
 pub mod Works

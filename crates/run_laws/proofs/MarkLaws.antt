@@ -1,5 +1,5 @@
 -- Where the links of what is no facility answered nothing, each mark names a facility.
-use Rattle.run_laws.proofs.Names.{◌≡◌, ℕ, ◌+◌, ◌≤◌, ◌<◌, ◌==◌, ◌⊎◌, inl, inr, Bool, true, false, List, [], ◌∷◌, length, refl, sym, ap, ◌∙◌, arith, filter, if◌then◌else◌, cases_lt, nat_tests, IsFacility, StrForm, CfId, What, Entry, is_mark_as, marks_at, trues, marks_counted, cache_meaning, list_meaning, lock_meaning, AnyHistory, IsAnyLegal, any_answers, NamesFacility, NamesFacilities, MarksFacilities}
+use Rattle.run_laws.proofs.Imports.{◌≡◌, ℕ, ◌+◌, ◌≤◌, ◌<◌, ◌==◌, ◌⊎◌, inl, inr, Bool, true, false, List, [], ◌∷◌, length, refl, sym, ap, ◌∙◌, arith, filter, if◌then◌else◌, cases_lt, nat_tests, IsFacility, StrForm, CfId, What, Entry, is_mark_as, marks_at, trues, marks_counted, cache_meaning, list_meaning, lock_meaning, AnyHistory, IsAnyLegal, any_answers, NamesFacility, NamesFacilities, MarksFacilities}
 use Rattle.plex_board.specs.EngineApi.declared.asks.What.TheVariants as what
 use Rattle.plex_board.specs.PlexScript.declared.asks.AnyHistory.TheVariants as history
 

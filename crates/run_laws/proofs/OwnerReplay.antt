@@ -1,5 +1,5 @@
 -- After every history, and after every command, any two owners of one resource are compatible.
-use Rattle.run_laws.proofs.Names.{◌≡◌, ℕ, ◌+◌, ◌≤◌, nat_le, Bool, true, false, IsTrue, cond, List, [], ◌∷◌, Option, None, Some, refl, sym, ap, subst, arith, fold, list_all, nat_tests, Caps, StrForm, LockCmd, Obtain, Alter, Release, Decide, RtRead, RtDelete, ConnId, Refusal, RecordsFull, Held, new_held, answer, first_refusal, unless_refused, IsQueue, AreInterests, OwnersAreCompatible, is_due, records_in, lock_meaning, departure_of, with_returned, records_refusal, none_hold, led_departed, content-returned, compatible-interests, IsKept, kept-replay, Returns, LockHistory}
+use Rattle.run_laws.proofs.Imports.{◌≡◌, ℕ, ◌+◌, ◌≤◌, nat_le, Bool, true, false, IsTrue, cond, List, [], ◌∷◌, Option, None, Some, refl, sym, ap, subst, arith, fold, list_all, nat_tests, Caps, StrForm, LockCmd, Obtain, Alter, Release, Decide, RtRead, RtDelete, ConnId, Refusal, RecordsFull, Held, new_held, answer, first_refusal, unless_refused, IsQueue, AreInterests, OwnersAreCompatible, is_due, records_in, lock_meaning, departure_of, with_returned, records_refusal, none_hold, led_departed, content-returned, compatible-interests, IsKept, kept-replay, Returns, LockHistory}
 use Rattle.plex_board.specs.LockModel.Contents.{Content, IsContent, no_content}
 use Rattle.plex_board.specs.LockModel.Requests as requests
 use Rattle.plex_board.specs.LockModel.Commands.Obtain as obtain

@@ -1,5 +1,5 @@
 -- A page that was written as changed and isn't cast out is kept.
-use Rattle.run_laws.proofs.Names.{◌≡◌, ℕ, Bool, true, false, ◌&&◌, ◌||◌, cond, List, [], ◌∷◌, ◌++◌, Option, None, Some, is_some, unwrap_or, option_map, append_assoc, append-nil, refl, sym, ap, ◌∙◌, subst, option_and_then, list_any, false≢true, or_parts, CacheCmd, Read, Write, Castout, Unlock, Delete, CacheReply, Caps, StrForm, Name16, ConnId, Refusal, same_name, Ask, What, replay, next_entry, next_mark, IsNextAs, Continues, Machine, step, unless, content_done, content_reply, unless_refused, content_cause, replay-push, continues_legal, same_name-eq, CacheItem, Content, IsOrderly, cache_meaning, row_of, Deed, after_deed, Calls, Leaves, Forgets, cause, done, Uncast, Uncasts, uncast_cast, uncast_unlocked, uncast_unless, uncast_after, Kept, AllKept, deed-kept, accepted_as, Move, stands_in, Same, Left, Returned, Forgotten, Cleared, shell_change, loss_change, CacheEntry, CacheHistory, Accepted, acceptance_of, is_accepted, is_allocated, IsLegalCache, StaysAllocated, content_after, Page, page_in, page_written, is_changed_write, deletes, casts_out, unlocks, HasNone, is_cast_out, IsUncast, HasPage, IsAnswered}
+use Rattle.run_laws.proofs.Imports.{◌≡◌, ℕ, Bool, true, false, ◌&&◌, ◌||◌, cond, List, [], ◌∷◌, ◌++◌, Option, None, Some, is_some, unwrap_or, option_map, append_assoc, append-nil, refl, sym, ap, ◌∙◌, subst, option_and_then, list_any, false≢true, or_parts, CacheCmd, Read, Write, Castout, Unlock, Delete, CacheReply, Caps, StrForm, Name16, ConnId, Refusal, same_name, Ask, What, replay, next_entry, next_mark, IsNextAs, Continues, Machine, step, unless, content_done, content_reply, unless_refused, content_cause, replay-push, continues_legal, same_name-eq, CacheItem, Content, IsOrderly, cache_meaning, row_of, Deed, after_deed, Calls, Leaves, Forgets, cause, done, Uncast, Uncasts, uncast_cast, uncast_unlocked, uncast_unless, uncast_after, Kept, AllKept, deed-kept, accepted_as, Move, stands_in, Same, Left, Returned, Forgotten, Cleared, shell_change, loss_change, CacheEntry, CacheHistory, Accepted, acceptance_of, is_accepted, is_allocated, IsLegalCache, StaysAllocated, content_after, Page, page_in, page_written, is_changed_write, deletes, casts_out, unlocks, HasNone, is_cast_out, IsUncast, HasPage, IsAnswered}
 use Rattle.plex_board.specs.EngineApi.declared.asks.Ask.TheVariants as ask
 use Rattle.plex_board.specs.EngineApi.declared.asks.What.TheVariants as what
 use Rattle.run_laws.proofs.Allocated.{stands-content}

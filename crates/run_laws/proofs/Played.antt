@@ -1,5 +1,5 @@
 -- A transcript that follows a script tells, for each structure, that the caller's calls there are its works.
-use Rattle.run_laws.proofs.Names.{◌≡◌, ℕ, ◌+◌, ◌<◌, ◌==◌, Bool, true, false, List, [], ◌∷◌, ◌++◌, map, filter, cond, Option, Some, None, inl, inr, ◌⊎◌, suc, slice_get, refl, sym, ap, subst, ◌∙◌, arith, append_assoc, append-nil, MatchBool, nat_tests, filter_map-append, Kind, StrForm, ConnId, StrNo, Told, Step, AnyHistory, AnyAsk, Act, Line, Script, Shown, first_step, step_after, asked_by, shell_ask, call_of, AnyCall, call_numbered, calls_on, IsHeard, Runs, ShowsAct, ShowsLines, ShowsClosing, ShowsClosings, Follows, lines_of, number_on, numbers_on, is_linked_by, test_numbers, word_numbers, runs_elsewhere}
+use Rattle.run_laws.proofs.Imports.{◌≡◌, ℕ, ◌+◌, ◌<◌, ◌==◌, Bool, true, false, List, [], ◌∷◌, ◌++◌, map, filter, cond, Option, Some, None, inl, inr, ◌⊎◌, suc, slice_get, refl, sym, ap, subst, ◌∙◌, arith, append_assoc, append-nil, MatchBool, nat_tests, filter_map-append, Kind, StrForm, ConnId, StrNo, Told, Step, AnyHistory, AnyAsk, Act, Line, Script, Shown, first_step, step_after, asked_by, shell_ask, call_of, AnyCall, call_numbered, calls_on, IsHeard, Runs, ShowsAct, ShowsLines, ShowsClosing, ShowsClosings, Follows, lines_of, number_on, numbers_on, is_linked_by, test_numbers, word_numbers, runs_elsewhere}
 use Rattle.plex_board.specs.CfTypes.declared.shell_commands.ShellCmd.TheVariants as cmd
 use Rattle.plex_board.specs.PlexScript.declared.agents.Step.TheVariants as step
 use Rattle.plex_board.specs.PlexScript.declared.scripts.Act.TheVariants as act

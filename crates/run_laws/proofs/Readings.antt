@@ -1,5 +1,5 @@
 -- A report can be read in one way.
-use Rattle.run_laws.proofs.Names.{◌≡◌, ℕ, zero, suc, ◌+◌, ◌≤◌, ◌<◌, ◌==◌, ◌^◌, List, [], ◌∷◌, ◌++◌, length, map, Option, Some, None, slice_get, get_or, refl, sym, ap, subst, ◌∙◌, arith, append_assoc, codes, slice_get-get_or, slice_get_within, StrForm, StrNo, AnyHistory, Script, AgentEnd, Shown, Transcript, AnyCall, any_calls, call_numbered, own_calls, calls_of, calls_on, length_on, Follows, numbers_on, Rising, calls_rise, caller_name, facility_line, connector_line, transcript_lines, shown_line, by_number, lines_each, structures_lines, histories_lines, transcripts_lines, Reading, IsReading, IsOnlyReading, report_of}
+use Rattle.run_laws.proofs.Imports.{◌≡◌, ℕ, zero, suc, ◌+◌, ◌≤◌, ◌<◌, ◌==◌, ◌^◌, List, [], ◌∷◌, ◌++◌, length, map, Option, Some, None, slice_get, get_or, refl, sym, ap, subst, ◌∙◌, arith, append_assoc, codes, slice_get-get_or, slice_get_within, StrForm, StrNo, AnyHistory, Script, AgentEnd, Shown, Transcript, AnyCall, any_calls, call_numbered, own_calls, calls_of, calls_on, length_on, Follows, numbers_on, Rising, calls_rise, caller_name, facility_line, connector_line, transcript_lines, shown_line, by_number, lines_each, structures_lines, histories_lines, transcripts_lines, Reading, IsReading, IsOnlyReading, report_of}
 use Rattle.plex_board.specs.PlexScript.declared.transcripts.AgentEnd.TheVariants as ended
 use Rattle.plex_board.specs.PlexScript.declared.transcripts.Shown.TheVariants as shown
 use Rattle.run_laws.proofs.Cuts.{text_of, same_behind, same_heading}

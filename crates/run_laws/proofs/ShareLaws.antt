@@ -1,5 +1,5 @@
 -- Lists whose elements are shared out by their keys: what bounds each share bounds the whole.
-use Rattle.run_laws.proofs.Names.{◌≡◌, ℕ, zero, suc, ◌+◌, ◌≤◌, ◌<◌, ◌==◌, List, [], ◌∷◌, length, filter, sum_by, refl, ◌∙◌, arith, All, not, nat_tests, All-filter, filter_passes, length-filter_both, sum_by-filter_both, filter_swap, filter_absorbed}
+use Rattle.run_laws.proofs.Imports.{◌≡◌, ℕ, zero, suc, ◌+◌, ◌≤◌, ◌<◌, ◌==◌, List, [], ◌∷◌, length, filter, sum_by, refl, ◌∙◌, arith, All, not, nat_tests, All-filter, filter_passes, length-filter_both, sum_by-filter_both, filter_swap, filter_absorbed}
 
 -- the elements with this key
 abbrev pub share : {X : Type 0} → (X → ℕ) → ℕ → List X → List X

@@ -1,5 +1,5 @@
 -- No history and no transcript is longer than the report.
-use Rattle.run_laws.proofs.Names.{◌≡◌, ℕ, zero, suc, ◌+◌, ◌≤◌, ◌<◌, ◌^◌, List, [], ◌∷◌, ◌++◌, length, map, Option, Some, None, slice_get, refl, ap, arith, length-append, codes, length-map, StrNo, AnyHistory, Script, Transcript, any_length, length_on, cache_words, list_words, lock_words, cache_reply_words, list_reply_words, lock_reply_words, facility_line, connector_line, entry_line, history_lines, transcript_lines, shown_line, by_number, lines_each, structures_lines, histories_lines, transcripts_lines, report_lines, Reading, report_of}
+use Rattle.run_laws.proofs.Imports.{◌≡◌, ℕ, zero, suc, ◌+◌, ◌≤◌, ◌<◌, ◌^◌, List, [], ◌∷◌, ◌++◌, length, map, Option, Some, None, slice_get, refl, ap, arith, length-append, codes, length-map, StrNo, AnyHistory, Script, Transcript, any_length, length_on, cache_words, list_words, lock_words, cache_reply_words, list_reply_words, lock_reply_words, facility_line, connector_line, entry_line, history_lines, transcript_lines, shown_line, by_number, lines_each, structures_lines, histories_lines, transcripts_lines, report_lines, Reading, report_of}
 use Rattle.plex_board.specs.PlexScript.declared.asks.AnyHistory.TheVariants as history
 use Rattle.run_laws.proofs.Cuts.{text-long}
 

@@ -1,5 +1,5 @@
 -- A report that shows histories, whose tests tell what stood, shows numbers of at most 64 bits.
-use Rattle.run_laws.proofs.Names.{◌≡◌, ℕ, zero, suc, ◌+◌, ◌*◌, ◌≤◌, ◌<◌, ◌==◌, ◌&&◌, ◌^◌, nat_lt, Bool, true, false, List, [], ◌∷◌, ◌++◌, length, Option, Some, None, slice_get, get_or, refl, sym, subst, arith, MatchBool, nat_tests, slice_get-get_or, slice_get_within, Kind, StrForm, ConnId, StrNo, Step, AnyHistory, AnyAsk, Act, Line, Script, AgentEnd, Shown, Transcript, first_step, step_after, shell_ask, AnyCall, any_length, calls_on, Runs, ShowsTest, ShowsWord, ShowsAct, ShowsLines, ShowsClosing, ShowsClosings, Follows, lines_of, is_linked_by, word_below, EndsRight, IsHistoryOf, ShowsHistories, Reading, ShowsNumbers, IsReading, report_of, MarksFacilities}
+use Rattle.run_laws.proofs.Imports.{◌≡◌, ℕ, zero, suc, ◌+◌, ◌*◌, ◌≤◌, ◌<◌, ◌==◌, ◌&&◌, ◌^◌, nat_lt, Bool, true, false, List, [], ◌∷◌, ◌++◌, length, Option, Some, None, slice_get, get_or, refl, sym, subst, arith, MatchBool, nat_tests, slice_get-get_or, slice_get_within, Kind, StrForm, ConnId, StrNo, Step, AnyHistory, AnyAsk, Act, Line, Script, AgentEnd, Shown, Transcript, first_step, step_after, shell_ask, AnyCall, any_length, calls_on, Runs, ShowsTest, ShowsWord, ShowsAct, ShowsLines, ShowsClosing, ShowsClosings, Follows, lines_of, is_linked_by, word_below, EndsRight, IsHistoryOf, ShowsHistories, Reading, ShowsNumbers, IsReading, report_of, MarksFacilities}
 use Rattle.plex_board.specs.CfTypes.declared.shell_commands.ShellCmd.TheVariants as cmd
 use Rattle.plex_board.specs.PlexScript.declared.agents.Step.TheVariants as step
 use Rattle.plex_board.specs.PlexScript.declared.asks.AnyHistory.TheVariants as history

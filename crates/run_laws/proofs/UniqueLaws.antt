@@ -1,6 +1,6 @@
 -- After every history rows and registrations are in order, and where they are, names, indexes and registrations are
 -- unique.
-use Rattle.run_laws.proofs.Names.{◌≡◌, ℕ, ◌≤◌, Bool, true, false, not, ◌&&◌, ◌||◌, ◌==◌, nat_lt, cond, List, [], ◌∷◌, Option, length, filter, refl, sym, ap, ◌∙◌, subst, arith, list_all, and_parts, false≢true, nat_tests, StrForm, Name16, ConnId, Refusal, same_name, unless_refused, pairwise, list_all_weaker, none_from_all, filter_none, Registration, is_of, is_at, is_for, stands_before, names_apart as regs_apart, same_name-eq, CacheItem, is_row_of, Content, IsOrderly, no_content, cache_meaning, Calls, Leaves, Forgets, done, orderly-content, content-nothing, orderly-deed, IsKept, kept-replay, CacheHistory, content_after, IsUnique}
+use Rattle.run_laws.proofs.Imports.{◌≡◌, ℕ, ◌≤◌, Bool, true, false, not, ◌&&◌, ◌||◌, ◌==◌, nat_lt, cond, List, [], ◌∷◌, Option, length, filter, refl, sym, ap, ◌∙◌, subst, arith, list_all, and_parts, false≢true, nat_tests, StrForm, Name16, ConnId, Refusal, same_name, unless_refused, pairwise, list_all_weaker, none_from_all, filter_none, Registration, is_of, is_at, is_for, stands_before, names_apart as regs_apart, same_name-eq, CacheItem, is_row_of, Content, IsOrderly, no_content, cache_meaning, Calls, Leaves, Forgets, done, orderly-content, content-nothing, orderly-deed, IsKept, kept-replay, CacheHistory, content_after, IsUnique}
 use Rattle.plex_board.specs.CacheModel.Rows.{names_apart}
 
 -- ---- one at most

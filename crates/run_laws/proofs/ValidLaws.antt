@@ -1,5 +1,5 @@
 -- A test of a run that shows a valid copy tells a fresh one.
-use Rattle.run_laws.proofs.Names.{ℕ, Bool, List, take, subst, StrForm, ConnId, StrNo, cache_meaning, Tells, CacheHistory, IsLegalCache, AnyHistory, Script, Shown, Transcript, surest_on, ShowsHistories, TellsBit, TellsOf, place_of, BitTellsFresh, TellsFreshBy, ShowsFresh}
+use Rattle.run_laws.proofs.Imports.{ℕ, Bool, List, take, subst, StrForm, ConnId, StrNo, cache_meaning, Tells, CacheHistory, IsLegalCache, AnyHistory, Script, Shown, Transcript, surest_on, ShowsHistories, TellsBit, TellsOf, place_of, BitTellsFresh, TellsFreshBy, ShowsFresh}
 use Rattle.run_laws.proofs.FreshLaws.{fresh-test}
 use Rattle.plex_board.specs.PlexScript.declared.asks.AnyHistory.TheVariants as history
 use Rattle.plex_board.specs.PlexScript.declared.transcripts.Shown.TheVariants as shown

@@ -1,5 +1,5 @@
 -- After every legal history the version of each record is 1 plus the number of its updates.
-use Rattle.run_laws.proofs.Names.{◌≡◌, ℕ, zero, suc, ◌+◌, ◌<◌, ◌≤◌, ◌==◌, ◌&&◌, ◌||◌, Bool, true, false, not, cond, if◌then◌else◌, List, [], ◌∷◌, ◌++◌, Option, Some, None, length, length-append, append_assoc, append-nil, filter, nat_lt, replicate, refl, sym, ap, ◌∙◌, subst, arith, fold, list_all, list_any, and_parts, and_from, or_parts, eqb-true, false≢true, nat_tests, list_all-append, list_any-append, list_all-map, length-map, map-append, fold-append, Caps, StrForm, ListCmd, Update, ReadList, LockSet, LockReset, LockTest, LControls, SetLimit, Monitor, Unmonitor, ListReply, ConnId, EntryId, Refusal, Shape, replay, Held, unless_refused, shape_of, continues_legal, list_all-filter, list_all_weaker, all_found, found_passes, list_all-insertion, insertion, Record, Lists, records_of, all_records, is_id, lists_without, replaced_by, headers_of, content_without, the_record, with_record, list_meaning, causes, the_record-in, with-all, each-records, one-records, all-without, all-map, IsTraced, traced-replay, legal-answered, ListEntry, ListHistory, told_by, told_in, IsLegalList, opened, told_reply, told_from, told_then, is_write, is_update, answers, tells, makes, updates, AreVersioned}
+use Rattle.run_laws.proofs.Imports.{◌≡◌, ℕ, zero, suc, ◌+◌, ◌<◌, ◌≤◌, ◌==◌, ◌&&◌, ◌||◌, Bool, true, false, not, cond, if◌then◌else◌, List, [], ◌∷◌, ◌++◌, Option, Some, None, length, length-append, append_assoc, append-nil, filter, nat_lt, replicate, refl, sym, ap, ◌∙◌, subst, arith, fold, list_all, list_any, and_parts, and_from, or_parts, eqb-true, false≢true, nat_tests, list_all-append, list_any-append, list_all-map, length-map, map-append, fold-append, Caps, StrForm, ListCmd, Update, ReadList, LockSet, LockReset, LockTest, LControls, SetLimit, Monitor, Unmonitor, ListReply, ConnId, EntryId, Refusal, Shape, replay, Held, unless_refused, shape_of, continues_legal, list_all-filter, list_all_weaker, all_found, found_passes, list_all-insertion, insertion, Record, Lists, records_of, all_records, is_id, lists_without, replaced_by, headers_of, content_without, the_record, with_record, list_meaning, causes, the_record-in, with-all, each-records, one-records, all-without, all-map, IsTraced, traced-replay, legal-answered, ListEntry, ListHistory, told_by, told_in, IsLegalList, opened, told_reply, told_from, told_then, is_write, is_update, answers, tells, makes, updates, AreVersioned}
 use Rattle.plex_board.specs.CfTypes.declared.list_commands.ListCmd.TheVariants.{Write, Read, Move, Delete}
 use Rattle.plex_board.specs.ListModel.Contents.{Content, no_content}
 use Rattle.plex_board.specs.ListModel.Lists.{stands_before}

@@ -1,5 +1,5 @@
 -- What a caller asks next of a structure, by what it was told of its calls there so far.
-use Rattle.run_laws.proofs.Names.{◌≡◌, Bool, true, false, List, [], ◌∷◌, ◌++◌, map, Option, Some, None, inl, inr, ◌⊎◌, refl, sym, ap, subst, ◌∙◌, Kind, Step, AnyAsk, first_step, step_after, asked_by, shell_ask, call_of, AnyCall, Line}
+use Rattle.run_laws.proofs.Imports.{◌≡◌, Bool, true, false, List, [], ◌∷◌, ◌++◌, map, Option, Some, None, inl, inr, ◌⊎◌, refl, sym, ap, subst, ◌∙◌, Kind, Step, AnyAsk, first_step, step_after, asked_by, shell_ask, call_of, AnyCall, Line}
 use Rattle.plex_board.specs.CfTypes.declared.shell_commands.ShellCmd.TheVariants as cmd
 use Rattle.plex_board.specs.PlexScript.declared.agents.Step.TheVariants as step
 

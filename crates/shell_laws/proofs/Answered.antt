@@ -1,5 +1,5 @@
 -- Entries that have the replies of the machine, as those of a legal history do.
-use Rattle.shell_laws.proofs.Names.{◌≡◌, List, [], ◌∷◌, ◌++◌, ap, subst, StrForm, ConnId, Reply, What, Entry, machine_after, replay, IsNextAs, Continues, Machine, step, loss_step, Meaning, replay-push}
+use Rattle.shell_laws.proofs.Imports.{◌≡◌, List, [], ◌∷◌, ◌++◌, ap, subst, StrForm, ConnId, Reply, What, Entry, machine_after, replay, IsNextAs, Continues, Machine, step, loss_step, Meaning, replay-push}
 use Rattle.engine_api.specs.declared.asks.What.TheVariants as what
 
 module _ {C R I S : Type 0} (meaning : Meaning C R I S) (form : StrForm) where

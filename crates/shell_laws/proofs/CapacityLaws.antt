@@ -1,5 +1,5 @@
 -- The content fits the instance that it is in, and the new one of a rebuild.
-use Rattle.shell_laws.proofs.Names.{◌≡◌, ℕ, Bool, true, false, IsTrue, List, [], ◌++◌, Option, None, Some, refl, sym, subst, arith, if◌then◌else◌, is_some, Stage, Quiesce, Connect, Copy, Cleanup, Stopping, Caps, Kind, StrForm, CfId, ConnId, Refusal, without_member, What, Entry, Shape, after_what, replay, Fits, IsNoMore, IsNoMoreOf, Machine, departure_from, room_of, with_back_of, with_made, Meaning, unless_refused, fresh_of, is_held_up, is_switch, shape_of, Leaver, Shell, content_cause, emptied, Passed, No, Into, Ended, Rebuild, outcome_of, rebuild_emptied, rebuild_in, rebuild_left, rebuild_without, with_place, without_owing, HasRoom, IsHeld, HasPlace, IsManned, IsPlaced}
+use Rattle.shell_laws.proofs.Imports.{◌≡◌, ℕ, Bool, true, false, IsTrue, List, [], ◌++◌, Option, None, Some, refl, sym, subst, arith, if◌then◌else◌, is_some, Stage, Quiesce, Connect, Copy, Cleanup, Stopping, Caps, Kind, StrForm, CfId, ConnId, Refusal, without_member, What, Entry, Shape, after_what, replay, Fits, IsNoMore, IsNoMoreOf, Machine, departure_from, room_of, with_back_of, with_made, Meaning, unless_refused, fresh_of, is_held_up, is_switch, shape_of, Leaver, Shell, content_cause, emptied, Passed, No, Into, Ended, Rebuild, outcome_of, rebuild_emptied, rebuild_in, rebuild_left, rebuild_without, with_place, without_owing, HasRoom, IsHeld, HasPlace, IsManned, IsPlaced}
 use Rattle.cf_types.specs.declared.forms.Kind.TheVariants as kind
 use Rattle.engine_api.specs.declared.asks.What.TheVariants as what
 use Rattle.shell_laws.proofs.MemberLaws.{content_waits, kept-manned, rebuild_in_it, sound_of}

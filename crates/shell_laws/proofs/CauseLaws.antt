@@ -1,5 +1,5 @@
 -- Refusals in their order: where none holds, each of them doesn't.
-use Rattle.shell_laws.proofs.Names.{◌≡◌, ◌≤◌, ℕ, Bool, true, false, List, [], ◌∷◌, ◌++◌, Option, None, Some, refl, arith, nat_lt, ltb-false, Caps, Kind, StrForm, ConnId, Refusal, Room, Fits, first_refusal, Shell, if_rebuilding, if_too_small, refusal_when, unless_copied_to, Rebuild}
+use Rattle.shell_laws.proofs.Imports.{◌≡◌, ◌≤◌, ℕ, Bool, true, false, List, [], ◌∷◌, ◌++◌, Option, None, Some, refl, arith, nat_lt, ltb-false, Caps, Kind, StrForm, ConnId, Refusal, Room, Fits, first_refusal, Shell, if_rebuilding, if_too_small, refusal_when, unless_copied_to, Rebuild}
 use Rattle.cf_types.specs.declared.forms.Kind.TheVariants as kind
 
 -- none of these holds

@@ -1,7 +1,7 @@
 -- What one entry does to a content, whatever its commands mean: a command is done; or, in an entry that does none, the
 -- content is left as it was, but for one connector that departs or comes back, ends its registrations, or is cleared,
 -- where no instance stands before it or after it.
-use Rattle.shell_laws.proofs.Names.{◌≡◌, Bool, true, false, ◌&&◌, cond, [], Option, None, Some, is_some, is_none, refl, sym, ap, ◌∙◌, false≢true, StrForm, CfId, ConnId, Refusal, ShellCmd, state_of, What, after_what, place_for, units_of, Machine, command_done, content_after, content_reply, copied_after, departure_from, entered_machine, loss_step, room_of, step, unless, with_back_of, with_made, Meaning, unless_refused, is_switch, shape_of, Leaver, Shell, ShellOutcome, candidates, content_cause, leaver, made_at, shell_cause, with_posted, outcome_of, with_place, without_owing}
+use Rattle.shell_laws.proofs.Imports.{◌≡◌, Bool, true, false, ◌&&◌, cond, [], Option, None, Some, is_some, is_none, refl, sym, ap, ◌∙◌, false≢true, StrForm, CfId, ConnId, Refusal, ShellCmd, state_of, What, after_what, place_for, units_of, Machine, command_done, content_after, content_reply, copied_after, departure_from, entered_machine, loss_step, room_of, step, unless, with_back_of, with_made, Meaning, unless_refused, is_switch, shape_of, Leaver, Shell, ShellOutcome, candidates, content_cause, leaver, made_at, shell_cause, with_posted, outcome_of, with_place, without_owing}
 use Rattle.cf_types.specs.declared.shell_commands.ShellCmd.TheVariants as cmd
 use Rattle.engine_api.specs.declared.asks.Ask.TheVariants as ask
 use Rattle.engine_api.specs.declared.asks.What.TheVariants as what

@@ -1,6 +1,6 @@
 -- Rebuilds, read at each place where something changes: one that ends, one that is stopped, one in which a connector
 -- fails while the new instance is filled, and two in which a facility is varied off.
-use Rattle.shell_laws.proofs.Names.{◌≡◌, ℕ, List, [], ◌∷◌, ◌++◌, Option, None, Some, take, true, false, refl, Event, Stage, Quiesce, Connect, Copy, Cleanup, Stopping, Caps, CfId, ConnId, ShellCmd, ShellReply, Entry, Rebuild, rebuild_told}
+use Rattle.shell_laws.proofs.Imports.{◌≡◌, ℕ, List, [], ◌∷◌, ◌++◌, Option, None, Some, take, true, false, refl, Event, Stage, Quiesce, Connect, Copy, Cleanup, Stopping, Caps, CfId, ConnId, ShellCmd, ShellReply, Entry, Rebuild, rebuild_told}
 use Rattle.cf_types.specs.declared.events.Event.TheVariants as event
 use Rattle.cf_types.specs.declared.shell_commands.ShellCmd.TheVariants as cmd
 use Rattle.cf_types.specs.declared.shell_commands.ShellReply.TheVariants as shown

@@ -1,5 +1,5 @@
 -- What deeds make of the capacities of the instances, and that those of a command may be done.
-use Rattle.shell_laws.proofs.Names.{◌≡◌, Bool, true, false, List, [], ◌∷◌, Option, None, Some, inr, refl, sym, ap, ◌∙◌, subst, if◌then◌else◌, ◌||◌, ◌&&◌, is_some, is_none, both_ways, Stage, Quiesce, Connect, Copy, Cleanup, Stopping, Caps, StrForm, CfId, ConnId, ShellCmd, without_member, Deeds, Room, Fits, Machine, items_of, room_of, Meaning, fresh_of, is_switch, Shell, caps_in, emptied, is_drop, mark_outcome, shell_cause, Rebuild, outcome, outcome_of, rebuild_emptied, rebuild_left, rebuild_without, with_place, without_owing, AreFitting, caps_behind, fresh_behind, fresh_caps, HasMembers, IsManned, IsPlaced, Somebody}
+use Rattle.shell_laws.proofs.Imports.{◌≡◌, Bool, true, false, List, [], ◌∷◌, Option, None, Some, inr, refl, sym, ap, ◌∙◌, subst, if◌then◌else◌, ◌||◌, ◌&&◌, is_some, is_none, both_ways, Stage, Quiesce, Connect, Copy, Cleanup, Stopping, Caps, StrForm, CfId, ConnId, ShellCmd, without_member, Deeds, Room, Fits, Machine, items_of, room_of, Meaning, fresh_of, is_switch, Shell, caps_in, emptied, is_drop, mark_outcome, shell_cause, Rebuild, outcome, outcome_of, rebuild_emptied, rebuild_left, rebuild_without, with_place, without_owing, AreFitting, caps_behind, fresh_behind, fresh_caps, HasMembers, IsManned, IsPlaced, Somebody}
 use Rattle.shell_laws.proofs.LossLaws.{loss-cases}
 use Rattle.shell_laws.proofs.MemberLaws.{rebuild_in_it, sound_of}
 use Rattle.shell_laws.proofs.PlaceLaws.{IsRebuild, is-without, no_switch, no_switch_outside, placed-owed, switch_copy, switch_stands}

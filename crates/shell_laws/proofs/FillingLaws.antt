@@ -1,5 +1,5 @@
 -- The new instance has items in COPY alone, and no more than there are; and what leaves some leaves the content.
-use Rattle.shell_laws.proofs.Names.{◌≡◌, ℕ, ◌+◌, ◌-◌, ◌≤◌, ◌⊎◌, inl, inr, Bool, true, false, List, [], ◌∷◌, length, Option, None, Some, refl, sym, ◌∙◌, subst, arith, if◌then◌else◌, ◌||◌, is_some, min, min-le_right, Connect, Copy, StrForm, CfId, ConnId, without_member, Ask, Deeds, Entry, What, after_what, replay, Machine, content_after, copied_after, items_of, loss_step, room_of, step, Meaning, is_switch, shape_of, ShellOutcome, content_cause, is_drop, is_restart, Rebuild, outcome, outcome_of, rebuild_onward, without_owing, IsFilled, IsFilling, IsManned, Somebody}
+use Rattle.shell_laws.proofs.Imports.{◌≡◌, ℕ, ◌+◌, ◌-◌, ◌≤◌, ◌⊎◌, inl, inr, Bool, true, false, List, [], ◌∷◌, length, Option, None, Some, refl, sym, ◌∙◌, subst, arith, if◌then◌else◌, ◌||◌, is_some, min, min-le_right, Connect, Copy, StrForm, CfId, ConnId, without_member, Ask, Deeds, Entry, What, after_what, replay, Machine, content_after, copied_after, items_of, loss_step, room_of, step, Meaning, is_switch, shape_of, ShellOutcome, content_cause, is_drop, is_restart, Rebuild, outcome, outcome_of, rebuild_onward, without_owing, IsFilled, IsFilling, IsManned, Somebody}
 use Rattle.engine_api.specs.declared.asks.What.TheVariants as what
 use Rattle.shell_laws.proofs.LossLaws.{loss-cases}
 use Rattle.shell_laws.proofs.MemberLaws.{content_waits, kept-manned, rebuild_in_it, sound_of}

@@ -1,5 +1,5 @@
 -- The rebuild that the machine keeps is the one that its history tells of.
-use Rattle.shell_laws.proofs.Names.{◌≡◌, List, [], ◌∷◌, ◌++◌, Option, None, option_map, refl, sym, ap, ◌∙◌, subst, fold, StrForm, ConnId, actives, Reply, What, Entry, after_what, machine_after, replay, IsLegal, Machine, Meaning, replay-push, continues_legal, Rebuild, actives_after, HasMembers, Reading, read_from, read_next, rebuild_of, rebuild_told, rebuild_next, Telling, telling_of, telling_entry}
+use Rattle.shell_laws.proofs.Imports.{◌≡◌, List, [], ◌∷◌, ◌++◌, Option, None, option_map, refl, sym, ap, ◌∙◌, subst, fold, StrForm, ConnId, actives, Reply, What, Entry, after_what, machine_after, replay, IsLegal, Machine, Meaning, replay-push, continues_legal, Rebuild, actives_after, HasMembers, Reading, read_from, read_next, rebuild_of, rebuild_told, rebuild_next, Telling, telling_of, telling_entry}
 use Rattle.engine_api.specs.declared.asks.What.TheVariants as what
 use Rattle.shell_laws.proofs.Answered.{reply_for, AreAnswered, continues-answered}
 use Rattle.shell_laws.proofs.MemberLaws.{manned-replay}

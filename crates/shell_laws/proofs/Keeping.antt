@@ -1,5 +1,5 @@
 -- What is to be shown of what holds after every history.
-use Rattle.shell_laws.proofs.Names.{◌≡◌, Bool, false, ◌&&◌, List, [], ◌∷◌, ◌++◌, None, Some, Caps, StrForm, ConnId, ShellCmd, Entry, Meaning, replay, shape_of, Leaver, leaver, accepted_as}
+use Rattle.shell_laws.proofs.Imports.{◌≡◌, Bool, false, ◌&&◌, List, [], ◌∷◌, ◌++◌, None, Some, Caps, StrForm, ConnId, ShellCmd, Entry, Meaning, replay, shape_of, Leaver, leaver, accepted_as}
 use Rattle.cf_types.specs.declared.shell_commands.ShellCmd.TheVariants as cmd
 use Rattle.engine_api.specs.declared.asks.Ask.TheVariants as ask
 use Rattle.engine_api.specs.declared.asks.What.TheVariants as what

@@ -1,4 +1,4 @@
-pub mod Names
+pub mod Imports
 pub mod Checks
 pub mod ReadingLaws
 pub mod CauseLaws

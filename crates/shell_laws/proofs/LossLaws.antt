@@ -1,6 +1,6 @@
 -- What comes of it where what stands in a facility is lost, as a mark tells it or a VARY: nothing is, one of two
 -- instances, the new one of a rebuild, or the only one.
-use Rattle.shell_laws.proofs.Names.{◌≡◌, ℕ, Bool, true, false, [], Option, None, Some, refl, if◌then◌else◌, ◌||◌, is_some, StrForm, CfId, ConnId, ShellReply, Reply, is_at, Machine, content_after, loss_step, step, Meaning, fresh_of, Shell, ShellOutcome, facility_of, failed_outcome, fresh_loss, idle_outcome, loss_outcome, primary_loss, simplex_outcome, stopped_outcome, vary_outcome, with_off, with_posted, Rebuild}
+use Rattle.shell_laws.proofs.Imports.{◌≡◌, ℕ, Bool, true, false, [], Option, None, Some, refl, if◌then◌else◌, ◌||◌, is_some, StrForm, CfId, ConnId, ShellReply, Reply, is_at, Machine, content_after, loss_step, step, Meaning, fresh_of, Shell, ShellOutcome, facility_of, failed_outcome, fresh_loss, idle_outcome, loss_outcome, primary_loss, simplex_outcome, stopped_outcome, vary_outcome, with_off, with_posted, Rebuild}
 use Rattle.cf_types.specs.declared.shell_commands.ShellCmd.TheVariants as cmd
 use Rattle.cf_types.specs.declared.shell_commands.ShellReply.TheVariants as shown
 use Rattle.engine_api.specs.declared.asks.Ask.TheVariants as ask

@@ -1,6 +1,6 @@
 -- In a rebuild the members are just the connectors that are active, of whom there are some, and the instances stand
 -- that there are to be: each move keeps it, so it holds after every history.
-use Rattle.shell_laws.proofs.Names.{◌≡◌, ◌≢◌, ℕ, Bool, true, false, List, [], ◌∷◌, length, Option, None, Some, inr, refl, sym, ap, ◌∙◌, subst, fold, is_some, if◌then◌else◌, unwrap_or, both_ways, CALLERS, Stage, Quiesce, Stopping, StrForm, CfId, ConnId, Connections, actives, is_active, no_connections, is_member, without_member, defined_count-unconnected, Ask, What, Room, Entry, after_what, machine_after, replay, Instances, no_instance, Machine, loss_step, opening, room_of, step, Meaning, is_held_up, is_switch, Shell, content_cause, emptied, if_failed, if_lost, if_quiesced, unless_active, with_primary, length-conns-step, length-conns-replay, conns-loss, Rebuild, outcome_of, rebuild_in, rebuild_onward, with_place, without_owing, HasMembers, HasPlace, IsManned, Somebody}
+use Rattle.shell_laws.proofs.Imports.{◌≡◌, ◌≢◌, ℕ, Bool, true, false, List, [], ◌∷◌, length, Option, None, Some, inr, refl, sym, ap, ◌∙◌, subst, fold, is_some, if◌then◌else◌, unwrap_or, both_ways, CALLERS, Stage, Quiesce, Stopping, StrForm, CfId, ConnId, Connections, actives, is_active, no_connections, is_member, without_member, defined_count-unconnected, Ask, What, Room, Entry, after_what, machine_after, replay, Instances, no_instance, Machine, loss_step, opening, room_of, step, Meaning, is_held_up, is_switch, Shell, content_cause, emptied, if_failed, if_lost, if_quiesced, unless_active, with_primary, length-conns-step, length-conns-replay, conns-loss, Rebuild, outcome_of, rebuild_in, rebuild_onward, with_place, without_owing, HasMembers, HasPlace, IsManned, Somebody}
 use Rattle.cf_types.specs.declared.refusals.Refusal.TheVariants as refusal
 use Rattle.engine_api.specs.declared.asks.What.TheVariants as what
 use Rattle.shell_laws.proofs.CauseLaws.{fourth_none}

@@ -1,6 +1,6 @@
 -- A law of what stands, of the content and of the items copied: what each move and each command on the content keeps,
 -- calls and marks keep.
-use Rattle.shell_laws.proofs.Names.{◌≡◌, ℕ, ◌+◌, Bool, false, length, Option, None, Some, refl, sym, subst, arith, is_some, CALLERS, StrForm, CfId, ConnId, Refusal, Ask, Room, Machine, command_done, content_after, content_done, copied_after, departure_from, loss_step, room_of, step, unless, Meaning, Leaver, ShellOutcome, content_cause, loss_outcome, shell_cause, Telling}
+use Rattle.shell_laws.proofs.Imports.{◌≡◌, ℕ, ◌+◌, Bool, false, length, Option, None, Some, refl, sym, subst, arith, is_some, CALLERS, StrForm, CfId, ConnId, Refusal, Ask, Room, Machine, command_done, content_after, content_done, copied_after, departure_from, loss_step, room_of, step, unless, Meaning, Leaver, ShellOutcome, content_cause, loss_outcome, shell_cause, Telling}
 use Rattle.engine_api.specs.declared.asks.Ask.TheVariants as ask
 use Rattle.shell_laws.proofs.ShellMoves.{Allows, IsSound, Move, Standing, Work, standing_of, work_by, work_of}
 use Rattle.shell_laws.proofs.StepLaws.{IsMove, move_by, moves-loss}

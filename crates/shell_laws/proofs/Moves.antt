@@ -1,5 +1,5 @@
 -- What an entry does to a content.
-use Rattle.shell_laws.proofs.Names.{◌≡◌, Bool, false, ◌&&◌, is_some, None, Some, StrForm, ConnId, ShellCmd, Reply, What, Machine, Meaning, shape_of, Leaver, leaver, accepted_as}
+use Rattle.shell_laws.proofs.Imports.{◌≡◌, Bool, false, ◌&&◌, is_some, None, Some, StrForm, ConnId, ShellCmd, Reply, What, Machine, Meaning, shape_of, Leaver, leaver, accepted_as}
 use Rattle.cf_types.specs.declared.shell_commands.ShellCmd.TheVariants as cmd
 use Rattle.engine_api.specs.declared.asks.Ask.TheVariants as ask
 use Rattle.engine_api.specs.declared.asks.What.TheVariants as what

@@ -1,5 +1,5 @@
 -- The secondary stands beside a primary, in another facility and in no rebuild.
-use Rattle.shell_laws.proofs.Names.{◌≡◌, None, ap, subst, sym, StrForm, ConnId, ShellCmd, Machine, room_of, Meaning, Shell, shell_cause, IsManned, IsPaired}
+use Rattle.shell_laws.proofs.Imports.{◌≡◌, None, ap, subst, sym, StrForm, ConnId, ShellCmd, Machine, room_of, Meaning, Shell, shell_cause, IsManned, IsPaired}
 use Rattle.shell_laws.proofs.MemberLaws.{sound-move, sound_of}
 use Rattle.shell_laws.proofs.ShellMoves.{IsSound, Work, standing_of}
 use Rattle.shell_laws.proofs.StepLaws.{done, move_by}

@@ -1,5 +1,5 @@
 -- The members of a rebuild, its new instance, and the primary, whose place the new one takes.
-use Rattle.shell_laws.proofs.Names.{◌≡◌, ◌≢◌, ℕ, Bool, true, false, not, List, [], ◌∷◌, Option, None, Some, inl, inr, refl, sym, ap, ◌∙◌, subst, if◌then◌else◌, ◌||◌, ◌&&◌, filter, is_some, is_none, nat_le, unwrap_or, eq-eqb, both_ways, false_from_ne_true, CALLERS, Stage, Quiesce, Connect, Copy, Cleanup, Stopping, Pref, StrForm, CfId, ConnId, Refusal, Connections, actives, is_active, is_active_state, defined_count, without_member, filter_none_from, gone-from_none_defined, Instances, is_at, place_for, units_of, first_refusal, fresh_of, is_copy, is_switch, Shell, candidates, emptied, if_no_place, is_candidate, is_connect, is_off, is_severed, refusal_when, with_primary, Rebuild, outcome, outcome_of, owing_after, rebuild_emptied, rebuild_left, rebuild_onward, rebuild_without, without_owing, HasMembers, HasPlace, IsPlaced, Somebody}
+use Rattle.shell_laws.proofs.Imports.{◌≡◌, ◌≢◌, ℕ, Bool, true, false, not, List, [], ◌∷◌, Option, None, Some, inl, inr, refl, sym, ap, ◌∙◌, subst, if◌then◌else◌, ◌||◌, ◌&&◌, filter, is_some, is_none, nat_le, unwrap_or, eq-eqb, both_ways, false_from_ne_true, CALLERS, Stage, Quiesce, Connect, Copy, Cleanup, Stopping, Pref, StrForm, CfId, ConnId, Refusal, Connections, actives, is_active, is_active_state, defined_count, without_member, filter_none_from, gone-from_none_defined, Instances, is_at, place_for, units_of, first_refusal, fresh_of, is_copy, is_switch, Shell, candidates, emptied, if_no_place, is_candidate, is_connect, is_off, is_severed, refusal_when, with_primary, Rebuild, outcome, outcome_of, owing_after, rebuild_emptied, rebuild_left, rebuild_onward, rebuild_without, without_owing, HasMembers, HasPlace, IsPlaced, Somebody}
 use Rattle.shell_laws.proofs.ShellMoves.{left_by}
 
 -- ---- the members and the new instance

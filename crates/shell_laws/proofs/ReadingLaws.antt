@@ -1,5 +1,5 @@
 -- What is read of a history, and what counters keep, with one entry more.
-use Rattle.shell_laws.proofs.Names.{◌≡◌, ℕ, Bool, true, false, cond, not, ◌&&◌, ◌||◌, ◌==◌, List, [], ◌∷◌, Option, None, Some, option_map, filter, refl, sym, ap, ◌∙◌, subst, unwrap_or, filter_agree, Stage, Quiesce, Connect, Copy, Cleanup, Stopping, ConnId, without_member, is_copy, filter-filter, filter_swap, Passed, No, next_stage, outcome, owing_after, rebuild_emptied, rebuild_in, rebuild_left, rebuild_onward, HasMembers, Somebody, Reading, awaited, begun, has_given, passed, read_behind, read_next, read_past, rebuild_of, with_entry, with_stage, with_told, rebuild_given, rebuild_next, Telling, TellingEntry, is_awaited, Starts, Places, Stops, Departs, Forces, Fails, Nothing}
+use Rattle.shell_laws.proofs.Imports.{◌≡◌, ℕ, Bool, true, false, cond, not, ◌&&◌, ◌||◌, ◌==◌, List, [], ◌∷◌, Option, None, Some, option_map, filter, refl, sym, ap, ◌∙◌, subst, unwrap_or, filter_agree, Stage, Quiesce, Connect, Copy, Cleanup, Stopping, ConnId, without_member, is_copy, filter-filter, filter_swap, Passed, No, next_stage, outcome, owing_after, rebuild_emptied, rebuild_in, rebuild_left, rebuild_onward, HasMembers, Somebody, Reading, awaited, begun, has_given, passed, read_behind, read_next, read_past, rebuild_of, with_entry, with_stage, with_told, rebuild_given, rebuild_next, Telling, TellingEntry, is_awaited, Starts, Places, Stops, Departs, Forces, Fails, Nothing}
 
 filter_true : {X : Type 0} (xs : List X) → filter (λ x. true) xs ≡ xs
 filter_true [] = refl

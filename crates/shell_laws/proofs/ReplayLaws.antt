@@ -1,5 +1,5 @@
 -- What each entry keeps holds after every history.
-use Rattle.shell_laws.proofs.Names.{◌≡◌, false, ◌&&◌, List, [], ◌∷◌, ◌++◌, sym, subst, append_assoc, append-nil, fold, StrForm, ConnId, Reply, What, Entry, after_what, machine_after, replay, Continues, Machine, opening, Meaning, shape_of, replay-push}
+use Rattle.shell_laws.proofs.Imports.{◌≡◌, false, ◌&&◌, List, [], ◌∷◌, ◌++◌, sym, subst, append_assoc, append-nil, fold, StrForm, ConnId, Reply, What, Entry, after_what, machine_after, replay, Continues, Machine, opening, Meaning, shape_of, replay-push}
 use Rattle.shell_laws.proofs.Answered.{reply_for, AreAnswered, continues-answered}
 use Rattle.shell_laws.proofs.Moves.{stands_in, Move, Change}
 use Rattle.shell_laws.proofs.Moves.Move.{Same, Left, Returned, Forgotten, Cleared}

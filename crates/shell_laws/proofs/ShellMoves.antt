@@ -1,6 +1,6 @@
 -- What the common commands make of what stands of a structure: each of them, where it isn't refused, is one of thirteen
 -- moves, and so is the loss of a facility.
-use Rattle.shell_laws.proofs.Names.{◌≡◌, ◌≢◌, ℕ, Bool, true, false, not, ◌&&◌, if◌then◌else◌, List, [], Option, None, Some, is_some, min, Connect, Stopping, Caps, StrForm, CfId, ConnId, actives, without_member, Deeds, Room, Instances, no_instance, Fits, is_copy, is_switch, Leaver, Shell, ShellOutcome, emptied, is_connect, is_drop, is_restart, no_deeds, with_primary, Rebuild, new_rebuild, outcome_of, rebuild_in, rebuild_onward, with_place, without_owing, IsFilling, HasMembers, HasPlace, Somebody, rebuild_next, Telling}
+use Rattle.shell_laws.proofs.Imports.{◌≡◌, ◌≢◌, ℕ, Bool, true, false, not, ◌&&◌, if◌then◌else◌, List, [], Option, None, Some, is_some, min, Connect, Stopping, Caps, StrForm, CfId, ConnId, actives, without_member, Deeds, Room, Instances, no_instance, Fits, is_copy, is_switch, Leaver, Shell, ShellOutcome, emptied, is_connect, is_drop, is_restart, no_deeds, with_primary, Rebuild, new_rebuild, outcome_of, rebuild_in, rebuild_onward, with_place, without_owing, IsFilling, HasMembers, HasPlace, Somebody, rebuild_next, Telling}
 
 -- where the instances are, who is active, the rebuild under way, whether the structure has failed, and the capacity
 pub record Standing : Type 0 where

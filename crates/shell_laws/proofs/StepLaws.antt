@@ -1,6 +1,6 @@
 -- Each command that isn't refused is a move, and so is a loss: what it makes of what stands, what its entry tells of a
 -- rebuild, and what its causes leave of the move.
-use Rattle.shell_laws.proofs.Names.{◌≡◌, ℕ, Bool, true, false, List, [], ◌∷◌, length, Option, None, Some, not, is_some, inl, inr, refl, sym, ap, ◌∙◌, subst, arith, if◌then◌else◌, ◌||◌, ◌&&◌, is_none, unwrap_or, and_parts, both_ways, eqb-true, CALLERS, ConnState, Event, Letter, Stage, Caps, StrForm, CfId, ConnId, Refusal, ShellCmd, ShellReply, Connections, actives, defined_count, is_active, is_active_state, state_of, with_connect, with_departure, with_forced, is_member, without_member, actives-with_answer, actives-with_departure, actives-with_forced, is_active-within, is_member-actives, next_event, owed_event, with_cleared, with_response, Ask, Room, Instances, is_at, no_instance, place_for, units_of, Machine, CallOutcome, command_done, content_done, departure_from, loss_step, moved_by, room_of, step, unless, Meaning, first_refusal, is_copy, Leaver, Shell, ShellOutcome, can_stop, candidates, complete_outcome, conns_answered, content_cause, departure_outcome, emptied, facility_of, fresh_made, given_outcome, goes, idle_outcome, if_connected, if_failed, if_rebuilding, if_severed, if_too_many, if_too_small, is_connect, is_drop, is_empty, is_kept, is_operator, is_restart, leaver, loss_outcome, made_at, no_deeds, rebuild_connect_outcome, refusal_when, responded, response_outcome, shell_cause, shell_causes, shell_done, shell_without, simplex_again, stop_outcome, take_event, unless_active, unless_copied_to, unless_failed, unless_owed, unless_reached, unless_rebuilding, vary_outcome, with_off, with_posted, Rebuild, is_response, rebuild_onward, rebuild_without, without_owing, HasPlace, IsPlaced, Somebody, IsEarly, IsInStage, MayBeTold, rebuild_next, Telling, mark_telling, telling, telling_of, Completes, Nothing, Responds}
+use Rattle.shell_laws.proofs.Imports.{◌≡◌, ℕ, Bool, true, false, List, [], ◌∷◌, length, Option, None, Some, not, is_some, inl, inr, refl, sym, ap, ◌∙◌, subst, arith, if◌then◌else◌, ◌||◌, ◌&&◌, is_none, unwrap_or, and_parts, both_ways, eqb-true, CALLERS, ConnState, Event, Letter, Stage, Caps, StrForm, CfId, ConnId, Refusal, ShellCmd, ShellReply, Connections, actives, defined_count, is_active, is_active_state, state_of, with_connect, with_departure, with_forced, is_member, without_member, actives-with_answer, actives-with_departure, actives-with_forced, is_active-within, is_member-actives, next_event, owed_event, with_cleared, with_response, Ask, Room, Instances, is_at, no_instance, place_for, units_of, Machine, CallOutcome, command_done, content_done, departure_from, loss_step, moved_by, room_of, step, unless, Meaning, first_refusal, is_copy, Leaver, Shell, ShellOutcome, can_stop, candidates, complete_outcome, conns_answered, content_cause, departure_outcome, emptied, facility_of, fresh_made, given_outcome, goes, idle_outcome, if_connected, if_failed, if_rebuilding, if_severed, if_too_many, if_too_small, is_connect, is_drop, is_empty, is_kept, is_operator, is_restart, leaver, loss_outcome, made_at, no_deeds, rebuild_connect_outcome, refusal_when, responded, response_outcome, shell_cause, shell_causes, shell_done, shell_without, simplex_again, stop_outcome, take_event, unless_active, unless_copied_to, unless_failed, unless_owed, unless_reached, unless_rebuilding, vary_outcome, with_off, with_posted, Rebuild, is_response, rebuild_onward, rebuild_without, without_owing, HasPlace, IsPlaced, Somebody, IsEarly, IsInStage, MayBeTold, rebuild_next, Telling, mark_telling, telling, telling_of, Completes, Nothing, Responds}
 use Rattle.cf_types.specs.declared.connections.ConnState.TheVariants as conn
 use Rattle.cf_types.specs.declared.events.Event.TheVariants as event
 use Rattle.cf_types.specs.declared.events.Stage.TheVariants as stage

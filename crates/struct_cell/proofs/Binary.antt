@@ -1,5 +1,5 @@
 -- The bits of a word that is made of bits.
-use Rattle.struct_cell.proofs.Names.{rules, ◌≡◌, ℕ, zero, suc, ◌+◌, ◌-◌, ◌*◌, ◌%◌, ◌^◌, ◌<◌, ◌≤◌, ◌==◌, Fits, w32, Bool, true, false, refl, sym, ap, ◌∙◌, subst, arith, inl, inr, pow-suc, pow_mono, if◌then◌else◌, bit_at, cases_lt, bit_at_cat_low, bit_at_cat_high, bit_in, word_from, whole_word}
+use Rattle.struct_cell.proofs.Imports.{rules, ◌≡◌, ℕ, zero, suc, ◌+◌, ◌-◌, ◌*◌, ◌%◌, ◌^◌, ◌<◌, ◌≤◌, ◌==◌, Fits, w32, Bool, true, false, refl, sym, ap, ◌∙◌, subst, arith, inl, inr, pow-suc, pow_mono, if◌then◌else◌, bit_at, cases_lt, bit_at_cat_low, bit_at_cat_high, bit_in, word_from, whole_word}
 
 abbrev pub one_if : Bool → ℕ
 one_if b = if b then 1 else 0

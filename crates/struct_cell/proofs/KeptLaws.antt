@@ -1,5 +1,5 @@
 -- What a cell keeps: at its start, and from one call to the next.
-use Rattle.struct_cell.proofs.Names.{◌≡◌, ℕ, ◌+◌, ◌/◌, ◌<◌, ◌≤◌, ◌&&◌, Bool, true, false, nat_lt, List, [], ◌∷◌, ◌++◌, length, map, All, refl, sym, ap, subst, ◌∙◌, arith, Option, nat_tests, map-append, All-nil, All-push, StrForm, ConnId, Links, AreAsked, Ask, Reply, Entry, Meaning, Machine, opening, answers, Call, Turn, calls, replay, next_entry, with_marks, marks_by, after_turn, links_asked, answers_to, shape_of, calls-turn, call_added, legal_none, legal_turn, number_added, numbered_legal, length-turn, Mark, StructureView, stands_at, IsTurn, Logged, Committed, Place, CallRecord, commits_of, count_of, bit_in, words_of, StoresEach, IsSpared, WordTable, SeatSeen, commits-commit, count-push, stores-commits, CellKey, About, commit_of, IsCell, Shows, entered, VectorWords, AreOfTable, AreWordsOf, word_at, word_in, words_in}
+use Rattle.struct_cell.proofs.Imports.{◌≡◌, ℕ, ◌+◌, ◌/◌, ◌<◌, ◌≤◌, ◌&&◌, Bool, true, false, nat_lt, List, [], ◌∷◌, ◌++◌, length, map, All, refl, sym, ap, subst, ◌∙◌, arith, Option, nat_tests, map-append, All-nil, All-push, StrForm, ConnId, Links, AreAsked, Ask, Reply, Entry, Meaning, Machine, opening, answers, Call, Turn, calls, replay, next_entry, with_marks, marks_by, after_turn, links_asked, answers_to, shape_of, calls-turn, call_added, legal_none, legal_turn, number_added, numbered_legal, length-turn, Mark, StructureView, stands_at, IsTurn, Logged, Committed, Place, CallRecord, commits_of, count_of, bit_in, words_of, StoresEach, IsSpared, WordTable, SeatSeen, commits-commit, count-push, stores-commits, CellKey, About, commit_of, IsCell, Shows, entered, VectorWords, AreOfTable, AreWordsOf, word_at, word_in, words_in}
 use Rattle.engine_api.specs.declared.asks.What.TheVariants as what
 use Rattle.struct_cell.proofs.MirrorLaws.{stores_alike, words_alike}
 use Rattle.struct_cell.proofs.ShownLaws.{shows_next}

@@ -1,7 +1,7 @@
 pub use Rattle.struct_machine.proofs.CfLink as CfLink
 pub use Rattle.struct_machine.proofs.ShellLaws as ShellLaws
 pub use Rattle.vec_words.proofs as VecWords
-pub mod Names
+pub mod Imports
 pub mod PlaceLaws
 pub mod SpotLaws
 pub mod Binary

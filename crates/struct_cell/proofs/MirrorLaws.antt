@@ -1,5 +1,5 @@
 -- Words that are brought to the bits that are told.
-use Rattle.struct_cell.proofs.Names.{◌≡◌, ℕ, zero, suc, ◌+◌, ◌*◌, ◌/◌, ◌%◌, ◌^◌, ◌<◌, ◌≤◌, ◌==◌, ◌⊎◌, inl, inr, Bool, true, false, nat_lt, List, [], ◌∷◌, ◌++◌, length, get_or, set, take, fold, refl, sym, ap, ◌∙◌, subst, subst₂, arith, ◌≢◌, ◌&&◌, if◌then◌else◌, replicate, bit_at, AllByRecursion, nat_tests, same_from_bits_below, get_or-replicate, get_or-set_other, get_or_past, length-replicate, take_more, cases_lt, All-push, All-weaker, recursion_from_All, fold_push, BitChange, ConnId, Bits, Gains, bits_told, difference, is_for, Logged, Stored, Place, word_number, words_of, IsAt, IsSpared, IsWithin, StoresEach, stores_of, SeatSeen, word_number-same, AreMirrorsOf, AreWordsOf, IsEvery, MirrorWords, with_told, word_at, bit_of, whole_word, word_from, word_in}
+use Rattle.struct_cell.proofs.Imports.{◌≡◌, ℕ, zero, suc, ◌+◌, ◌*◌, ◌/◌, ◌%◌, ◌^◌, ◌<◌, ◌≤◌, ◌==◌, ◌⊎◌, inl, inr, Bool, true, false, nat_lt, List, [], ◌∷◌, ◌++◌, length, get_or, set, take, fold, refl, sym, ap, ◌∙◌, subst, subst₂, arith, ◌≢◌, ◌&&◌, if◌then◌else◌, replicate, bit_at, AllByRecursion, nat_tests, same_from_bits_below, get_or-replicate, get_or-set_other, get_or_past, length-replicate, take_more, cases_lt, All-push, All-weaker, recursion_from_All, fold_push, BitChange, ConnId, Bits, Gains, bits_told, difference, is_for, Logged, Stored, Place, word_number, words_of, IsAt, IsSpared, IsWithin, StoresEach, stores_of, SeatSeen, word_number-same, AreMirrorsOf, AreWordsOf, IsEvery, MirrorWords, with_told, word_at, bit_of, whole_word, word_from, word_in}
 use Rattle.struct_cell.proofs.Binary.{one_if, whole-small, word_place}
 use Rattle.struct_cell.proofs.PlaceLaws.{bit-past}
 

@@ -1,5 +1,5 @@
 -- Words that places name, and bits whose words they are.
-use Rattle.struct_cell.proofs.Names.{◌≡◌, ℕ, ◌+◌, ◌/◌, ◌<◌, ◌≤◌, Bool, true, false, List, [], ◌∷◌, ◌++◌, take, length, get_or, Some, refl, sym, ap, subst, ◌∙◌, arith, inl, inr, All, Contains, ◌⊎◌, cases_lt, All-pop, All-push, All-contains, take_more, get_or_default, get_or-take, length-take-le, nat_tests, BitChange, ConnId, is_for, Place, IsAt, IsSpared, AreDistinct}
+use Rattle.struct_cell.proofs.Imports.{◌≡◌, ℕ, ◌+◌, ◌/◌, ◌<◌, ◌≤◌, Bool, true, false, List, [], ◌∷◌, ◌++◌, take, length, get_or, Some, refl, sym, ap, subst, ◌∙◌, arith, inl, inr, All, Contains, ◌⊎◌, cases_lt, All-pop, All-push, All-contains, take_more, get_or_default, get_or-take, length-take-le, nat_tests, BitChange, ConnId, is_for, Place, IsAt, IsSpared, AreDistinct}
 
 -- no place of a list and one more
 pub spared-front : (places : List Place) (place : Place) (conn word : ℕ) → IsSpared (places ++ place ∷ []) conn word

@@ -1,5 +1,5 @@
 -- The entry of a number in a journal, and the call of that number among its caller's calls: both have the same reply.
-use Rattle.struct_cell.proofs.Names.{◌≡◌, ℕ, zero, suc, ◌+◌, ◌-◌, ◌≤◌, ◌==◌, Bool, true, false, List, [], ◌∷◌, map, None, Some, Option, refl, sym, ap, subst, ◌∙◌, arith, option_and_then, slice_get, nat_tests, ConnId, Ask, What, Entry, Meaning, calls, own, number_legal, StructureView, calls_in, calls_of, SeatSeen, CellKey, reply_for, reply_at, reply_to, About, own_call_of, IsCell, VectorWords}
+use Rattle.struct_cell.proofs.Imports.{◌≡◌, ℕ, zero, suc, ◌+◌, ◌-◌, ◌≤◌, ◌==◌, Bool, true, false, List, [], ◌∷◌, map, None, Some, Option, refl, sym, ap, subst, ◌∙◌, arith, option_and_then, slice_get, nat_tests, ConnId, Ask, What, Entry, Meaning, calls, own, number_legal, StructureView, calls_in, calls_of, SeatSeen, CellKey, reply_for, reply_at, reply_to, About, own_call_of, IsCell, VectorWords}
 use Rattle.engine_api.specs.declared.asks.What.TheVariants as what
 use Rattle.struct_cell.proofs.ToldLaws.{own_calls}
 

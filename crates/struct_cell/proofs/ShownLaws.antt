@@ -1,5 +1,5 @@
 -- What the words show after one more turn: a call, and the marks before it.
-use Rattle.struct_cell.proofs.Names.{◌≡◌, ℕ, ◌+◌, ◌*◌, ◌/◌, ◌%◌, ◌<◌, ◌≤◌, inl, inr, Bool, true, false, nat_lt, List, [], ◌∷◌, ◌++◌, length, take, refl, sym, ap, subst, ◌∙◌, arith, cases_lt, nat_tests, take-append-le, StrForm, ConnId, Entry, Meaning, Machine, Turn, replay, after_turn, last_call_below, IsNumbered, added_turn, number_added, number_past, last_below-turn, last_below-past, length-turn, bits_at, Logged, Committed, Place, steps_of, word_number, bit_in, StoresEach, IsSpared, SeatSeen, bits-commit, stores-below, stores-from, shown_in, words_in, About, Shows, shown_after, shown_below}
+use Rattle.struct_cell.proofs.Imports.{◌≡◌, ℕ, ◌+◌, ◌*◌, ◌/◌, ◌%◌, ◌<◌, ◌≤◌, inl, inr, Bool, true, false, nat_lt, List, [], ◌∷◌, ◌++◌, length, take, refl, sym, ap, subst, ◌∙◌, arith, cases_lt, nat_tests, take-append-le, StrForm, ConnId, Entry, Meaning, Machine, Turn, replay, after_turn, last_call_below, IsNumbered, added_turn, number_added, number_past, last_below-turn, last_below-past, length-turn, bits_at, Logged, Committed, Place, steps_of, word_number, bit_in, StoresEach, IsSpared, SeatSeen, bits-commit, stores-below, stores-from, shown_in, words_in, About, Shows, shown_after, shown_below}
 use Rattle.std.proofs.Common.{take_all}
 use Rattle.struct_cell.proofs.Binary.{whole_bit}
 

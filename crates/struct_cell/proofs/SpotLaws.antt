@@ -1,5 +1,5 @@
 -- Places that are found by their numbers, and places in order.
-use Rattle.struct_cell.proofs.Names.{◌≡◌, ℕ, ◌+◌, ◌<◌, List, [], ◌∷◌, ◌++◌, length, get_or, set, Some, sym, ap, ◌∙◌, arith, inl, inr, ◌⊎◌, ◌≢◌, slice_get, cases_lt, get_or_append_left, get_or_push, get_or-set_same, get_or-set_other, length_push, length-set, All-push, All-weaker, slice_get-get_or, Place, word_number, IsWithin, word_number-same, AreSpotted, ComeBefore}
+use Rattle.struct_cell.proofs.Imports.{◌≡◌, ℕ, ◌+◌, ◌<◌, List, [], ◌∷◌, ◌++◌, length, get_or, set, Some, sym, ap, ◌∙◌, arith, inl, inr, ◌⊎◌, ◌≢◌, slice_get, cases_lt, get_or_append_left, get_or_push, get_or-set_same, get_or-set_other, length_push, length-set, All-push, All-weaker, slice_get-get_or, Place, word_number, IsWithin, word_number-same, AreSpotted, ComeBefore}
 
 same_place : (one other : Place) → one.conn.0 ≡ other.conn.0 → one.word ≡ other.word → one ≡ other
 same_place one other conn word = λ j. record { conn = record { 0 = conn j }; word = word j }

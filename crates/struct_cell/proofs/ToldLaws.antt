@@ -1,5 +1,5 @@
 -- What a cell's history tells of passes: their tests, and their calls.
-use Rattle.struct_cell.proofs.Names.{◌≡◌, ℕ, ◌+◌, ◌-◌, ◌/◌, ◌<◌, ◌≤◌, ◌==◌, inl, inr, Bool, true, false, nat_lt, List, [], ◌∷◌, length, get_or, take, map, filter, All, refl, sym, ap, subst, ◌∙◌, arith, Contains, Option, nat_tests, length-map, get_or-map, All-map, All-weaker, ConnId, Links, AreAsked, Entry, Meaning, answers, Call, calls, numbers, own, IsPoint, stands_after, last_call_below, StructureView, bits_at, Sight, steps_of, calls_in, word_number, words_of, bit_in, IsIssued, IsHonest, WordTable, SeatSeen, PassSeen, IsShown, committed-all, numbered_legal, CellKey, About, own_call_of, commit_of, IsCell, shown_after, shown_below, VectorWords, IsTold}
+use Rattle.struct_cell.proofs.Imports.{◌≡◌, ℕ, ◌+◌, ◌-◌, ◌/◌, ◌<◌, ◌≤◌, ◌==◌, inl, inr, Bool, true, false, nat_lt, List, [], ◌∷◌, length, get_or, take, map, filter, All, refl, sym, ap, subst, ◌∙◌, arith, Contains, Option, nat_tests, length-map, get_or-map, All-map, All-weaker, ConnId, Links, AreAsked, Entry, Meaning, answers, Call, calls, numbers, own, IsPoint, stands_after, last_call_below, StructureView, bits_at, Sight, steps_of, calls_in, word_number, words_of, bit_in, IsIssued, IsHonest, WordTable, SeatSeen, PassSeen, IsShown, committed-all, numbered_legal, CellKey, About, own_call_of, commit_of, IsCell, shown_after, shown_below, VectorWords, IsTold}
 
 module _ {C R : Type 0} where
   -- a call's number is among the numbers

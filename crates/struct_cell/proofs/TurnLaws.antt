@@ -1,5 +1,5 @@
 -- What a turn of the machine makes of the journal: marks are entered, and then the call.
-use Rattle.struct_cell.proofs.Names.{◌≡◌, ℕ, suc, ◌+◌, ◌<◌, ◌≤◌, Bool, List, [], ◌∷◌, ◌++◌, length, get_or, take, map, fold, refl, sym, ap, subst, ◌∙◌, arith, length-append, Option, map-append, take_more, fold_push, Links, IsAskedAll, AreAsked, link_at, asked-append, StrForm, CfId, ConnId, Ask, ShellReply, Reply, Entry, operator, links_asked, answers_to, Meaning, Machine, CallOutcome, step, Call, Turn, calls, numbers, replay, next_entry, next_mark, with_mark, with_marks, marks_by, after_turn, IsLegal, told_of, answers, marks_few, two_asked, answers-turn, legal_group, replay-push, by_turns, calls-turn, call_added, number_added, length-turn, reply_as, Mark, StructureView, lost_at, lost_by, behind_marks, AreTold, IsTurn, AreMadeBelow, with_entry, entered}
+use Rattle.struct_cell.proofs.Imports.{◌≡◌, ℕ, suc, ◌+◌, ◌<◌, ◌≤◌, Bool, List, [], ◌∷◌, ◌++◌, length, get_or, take, map, fold, refl, sym, ap, subst, ◌∙◌, arith, length-append, Option, map-append, take_more, fold_push, Links, IsAskedAll, AreAsked, link_at, asked-append, StrForm, CfId, ConnId, Ask, ShellReply, Reply, Entry, operator, links_asked, answers_to, Meaning, Machine, CallOutcome, step, Call, Turn, calls, numbers, replay, next_entry, next_mark, with_mark, with_marks, marks_by, after_turn, IsLegal, told_of, answers, marks_few, two_asked, answers-turn, legal_group, replay-push, by_turns, calls-turn, call_added, number_added, length-turn, reply_as, Mark, StructureView, lost_at, lost_by, behind_marks, AreTold, IsTurn, AreMadeBelow, with_entry, entered}
 use Rattle.engine_api.specs.declared.asks.Reply.TheVariants as reply
 use Rattle.engine_api.specs.declared.asks.What.TheVariants as what
 

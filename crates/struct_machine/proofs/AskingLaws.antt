@@ -1,5 +1,5 @@
 -- The links that a call asks, one after another.
-use Rattle.struct_machine.proofs.Names.{◌≡◌, ℕ, ◌==◌, Bool, true, false, not, ◌&&◌, ◌||◌, List, [], ◌∷◌, ◌++◌, ◌≢◌, refl, sym, ap, subst, ◌∙◌, Option, None, Some, IfSome, All, filter, is_some, if◌then◌else◌, All-from_recursion, filter-append, AllByRecursion, Links, IsAskedAll, AreAsked, link_at, asked-append, CfId, IsFacility, Asks, AreDistinct, apart, has, reached, marks_of, answers_to, listed, filter_agreed, has_other, same_cf, itself, both_ways, eq-eqb, IsAsked, Asked, unless_same, asks_in}
+use Rattle.struct_machine.proofs.Imports.{◌≡◌, ℕ, ◌==◌, Bool, true, false, not, ◌&&◌, ◌||◌, List, [], ◌∷◌, ◌++◌, ◌≢◌, refl, sym, ap, subst, ◌∙◌, Option, None, Some, IfSome, All, filter, is_some, if◌then◌else◌, All-from_recursion, filter-append, AllByRecursion, Links, IsAskedAll, AreAsked, link_at, asked-append, CfId, IsFacility, Asks, AreDistinct, apart, has, reached, marks_of, answers_to, listed, filter_agreed, has_other, same_cf, itself, both_ways, eq-eqb, IsAsked, Asked, unless_same, asks_in}
 
 -- ---- two places
 

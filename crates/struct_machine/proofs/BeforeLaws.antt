@@ -1,5 +1,5 @@
 -- What comes before a command acts, and which commands make an instance.
-use Rattle.struct_machine.proofs.Names.{◌≡◌, ℕ, ◌+◌, ◌⊎◌, inl, inr, Bool, true, false, List, Option, None, Some, refl, sym, ap, ◌∙◌, arith, ◌||◌, ◌&&◌, not, if◌then◌else◌, is_some, is_none, min, min-le_right, Caps, StrForm, CfId, ConnId, ShellCmd, Deeds, Room, copied_after, Meaning, Held, Letter, fresh_of, Shell, Leaver, shell_done, leaver, with_posted, caps_made, caps_in, rebuild_connect_outcome, Fresh, caps_or, emptied, with_copied, lacking_in, Rebuild, fresh_caps, fresh_left, fresh_before, makes_empty, makes_second, copied_in, caps_of}
+use Rattle.struct_machine.proofs.Imports.{◌≡◌, ℕ, ◌+◌, ◌⊎◌, inl, inr, Bool, true, false, List, Option, None, Some, refl, sym, ap, ◌∙◌, arith, ◌||◌, ◌&&◌, not, if◌then◌else◌, is_some, is_none, min, min-le_right, Caps, StrForm, CfId, ConnId, ShellCmd, Deeds, Room, copied_after, Meaning, Held, Letter, fresh_of, Shell, Leaver, shell_done, leaver, with_posted, caps_made, caps_in, rebuild_connect_outcome, Fresh, caps_or, emptied, with_copied, lacking_in, Rebuild, fresh_caps, fresh_left, fresh_before, makes_empty, makes_second, copied_in, caps_of}
 use Rattle.cf_types.specs.declared.shell_commands.ShellCmd.TheVariants as cmd
 use Rattle.struct_machine.proofs.DeedLaws.{barren, emptied_caps}
 

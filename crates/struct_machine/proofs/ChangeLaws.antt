@@ -1,5 +1,5 @@
 -- Which bits stand as before.
-use Rattle.struct_machine.proofs.Names.{◌≡◌, ℕ, Bool, true, false, List, [], ◌∷◌, All, Option, None, Some, is_some, map, filter, refl, sym, ap, ◌∙◌, subst, ◌||◌, ◌&&◌, is_none, recursion_from_All, AllByRecursion, BitChange, StrForm, CfId, ConnId, Refusal, gains_none, Bits, Gains, is_for, bits_told, difference, Ask, Deeds, Machine, content_after, room_of, call_cause, bits_of, Meaning, Held, state_in, ChangeList, IsUntouched, Names, any_failure, deeds_by, may_be_any, may_change_bits, Mark}
+use Rattle.struct_machine.proofs.Imports.{◌≡◌, ℕ, Bool, true, false, List, [], ◌∷◌, All, Option, None, Some, is_some, map, filter, refl, sym, ap, ◌∙◌, subst, ◌||◌, ◌&&◌, is_none, recursion_from_All, AllByRecursion, BitChange, StrForm, CfId, ConnId, Refusal, gains_none, Bits, Gains, is_for, bits_told, difference, Ask, Deeds, Machine, content_after, room_of, call_cause, bits_of, Meaning, Held, state_in, ChangeList, IsUntouched, Names, any_failure, deeds_by, may_be_any, may_change_bits, Mark}
 use Rattle.engine_api.specs.declared.asks.Ask.TheVariants as ask
 
 -- ---- what is told covers what changed

@@ -1,5 +1,5 @@
 -- A command that isn't refused, done to a shell and to instances of one form.
-use Rattle.struct_machine.proofs.Names.{◌≡◌, ℕ, ◌+◌, ◌⊎◌, inl, inr, Bool, true, false, ◌≢◌, [], List, Option, None, Some, IfSome, refl, sym, ap, ◌∙◌, subst, subst₂, ◌||◌, if◌then◌else◌, is_some, min, both_ways, false_from_ne_true, Caps, StrForm, CfId, ConnId, Refusal, ShellCmd, state_of, Deeds, Machine, content_after, copied_after, moved_by, room_of, departure_from, command_done, unless, with_entered, entered_machine, CallOutcome, Meaning, Held, Departure, items_of as held_items, Fits, Instances, is_at, MayCommand, Shape, IsCaller, IsFacility, fresh_of, shape_of, Shell, ShellOutcome, Leaver, is_kept, shell_cause, leaver, with_posted, caps_made, entered, ShellView, Fresh, Kept, lacking_in, AreFitting, caps_behind, fresh_behind, fresh_caps, IsFilled, IsFilling, IsManned, capacities-command, fitting-command, filled-step, departure_empties, forced_empties, manned-step, done, Spares, AreSpares, AreAdmitted, MayMake, MayAdd, MayDrop, fresh_left, fresh_before, kept_past, places_past, makes_second, held_past, HasNone, AreOf, IsOf, machine_of, state_in, left_in, copied_in, caps_of, Gains, ChangeList, Names, may_change_bits}
+use Rattle.struct_machine.proofs.Imports.{◌≡◌, ℕ, ◌+◌, ◌⊎◌, inl, inr, Bool, true, false, ◌≢◌, [], List, Option, None, Some, IfSome, refl, sym, ap, ◌∙◌, subst, subst₂, ◌||◌, if◌then◌else◌, is_some, min, both_ways, false_from_ne_true, Caps, StrForm, CfId, ConnId, Refusal, ShellCmd, state_of, Deeds, Machine, content_after, copied_after, moved_by, room_of, departure_from, command_done, unless, with_entered, entered_machine, CallOutcome, Meaning, Held, Departure, items_of as held_items, Fits, Instances, is_at, MayCommand, Shape, IsCaller, IsFacility, fresh_of, shape_of, Shell, ShellOutcome, Leaver, is_kept, shell_cause, leaver, with_posted, caps_made, entered, ShellView, Fresh, Kept, lacking_in, AreFitting, caps_behind, fresh_behind, fresh_caps, IsFilled, IsFilling, IsManned, capacities-command, fitting-command, filled-step, departure_empties, forced_empties, manned-step, done, Spares, AreSpares, AreAdmitted, MayMake, MayAdd, MayDrop, fresh_left, fresh_before, kept_past, places_past, makes_second, held_past, HasNone, AreOf, IsOf, machine_of, state_in, left_in, copied_in, caps_of, Gains, ChangeList, Names, may_change_bits}
 use Rattle.cf_types.specs.declared.shell_commands.ShellCmd.TheVariants as cmd
 use Rattle.engine_api.specs.declared.asks.Ask.TheVariants as ask
 use Rattle.engine_api.specs.declared.asks.Reply.TheVariants as reply

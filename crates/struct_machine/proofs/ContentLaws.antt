@@ -1,5 +1,5 @@
 -- What becomes of a pair that loses one of two, and of a content that somebody leaves.
-use Rattle.struct_machine.proofs.Names.{◌≡◌, Bool, true, false, ◌||◌, [], Option, None, Some, option_map, refl, sym, subst₂, IsTrue, is_some, if◌then◌else◌, Caps, Kind, CfId, ConnId, PairView, elsewhere, facility_of, first_left, instances_of, second_left, without_at, Placed, Shape, Instances, is_at, IsNoMoreOf, Meaning, Held, with_departure, FillingView, copy_left, AreStanding, IsHeldAt, begun_anew, at_left}
+use Rattle.struct_machine.proofs.Imports.{◌≡◌, Bool, true, false, ◌||◌, [], Option, None, Some, option_map, refl, sym, subst₂, IsTrue, is_some, if◌then◌else◌, Caps, Kind, CfId, ConnId, PairView, elsewhere, facility_of, first_left, instances_of, second_left, without_at, Placed, Shape, Instances, is_at, IsNoMoreOf, Meaning, Held, with_departure, FillingView, copy_left, AreStanding, IsHeldAt, begun_anew, at_left}
 
 -- the other is left, and is the primary
 module _ {E : Type 0} (cf : CfId) where

@@ -1,5 +1,5 @@
 -- COPY behind the marks that its links make.
-use Rattle.struct_machine.proofs.Names.{◌≡◌, ℕ, ◌+◌, ◌-◌, ◌⊎◌, inl, inr, Bool, true, false, List, [], ◌∷◌, ◌++◌, Option, None, Some, IfSome, is_some, refl, sym, ap, ◌∙◌, subst, subst₂, if◌then◌else◌, min, StrForm, CfId, ConnId, Refusal, ShellReply, Lost, Reply, Room, Instances, is_at, listed, Machine, CallOutcome, command_done, copied_after, moved_by, room_of, unless, Meaning, first_refusal, fresh_of, Shell, ShellOutcome, failed_outcome, fresh_loss, idle_outcome, if_failed, if_lost, mark_outcome, primary_loss, shell_cause, shell_done, simplex_outcome, stopped_outcome, unless_active, unless_rebuilding, itself, ShellView, Rebuild, IsManned, fourth_none, IsFacility, with_copied, fresh_caps, IsFilled, Kept, lacking_in, AreOf, IsOf, caps_of, copied_in, copy_reply, judged, machine_of, state_in, AreTold, behind_marks, lost_at, marks_in, Mark}
+use Rattle.struct_machine.proofs.Imports.{◌≡◌, ℕ, ◌+◌, ◌-◌, ◌⊎◌, inl, inr, Bool, true, false, List, [], ◌∷◌, ◌++◌, Option, None, Some, IfSome, is_some, refl, sym, ap, ◌∙◌, subst, subst₂, if◌then◌else◌, min, StrForm, CfId, ConnId, Refusal, ShellReply, Lost, Reply, Room, Instances, is_at, listed, Machine, CallOutcome, command_done, copied_after, moved_by, room_of, unless, Meaning, first_refusal, fresh_of, Shell, ShellOutcome, failed_outcome, fresh_loss, idle_outcome, if_failed, if_lost, mark_outcome, primary_loss, shell_cause, shell_done, simplex_outcome, stopped_outcome, unless_active, unless_rebuilding, itself, ShellView, Rebuild, IsManned, fourth_none, IsFacility, with_copied, fresh_caps, IsFilled, Kept, lacking_in, AreOf, IsOf, caps_of, copied_in, copy_reply, judged, machine_of, state_in, AreTold, behind_marks, lost_at, marks_in, Mark}
 use Rattle.cf_types.specs.declared.events.Stage.TheVariants as stage
 use Rattle.cf_types.specs.declared.refusals.Refusal.TheVariants as refusal
 use Rattle.cf_types.specs.declared.shell_commands.ShellCmd.TheVariants as cmd

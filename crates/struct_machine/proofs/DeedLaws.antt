@@ -1,5 +1,5 @@
 -- What a command's deeds name, and what they do.
-use Rattle.struct_machine.proofs.Names.{if◌then◌else◌, ◌||◌, ◌&&◌, ◌≡◌, Bool, true, false, Option, None, Some, IfSome, refl, sym, ap, ◌∙◌, subst, arith, is_some, Caps, StrForm, CfId, ConnId, Event, ShellCmd, state_of, next_event, owed_event, IsCaller, Deeds, Room, MayCommand, shape_of, Meaning, Held, new_held, content_after, copied_after, with_back_of, Shell, caps_in, caps_made, given_outcome, no_deeds, shell_done, take_event, responded, response_outcome, stop_outcome, rebuild_connect_outcome, complete_outcome, vary_outcome, simplex_again, Rebuild, is_response, Fresh, caps_or, emptied, caps_behind, fresh_behind, fresh_caps, fresh_made, fresh_past, held_back, held_made, held_switched, held_past, copied_in, caps_of, state_in, left_in, IsOf, vary-cases}
+use Rattle.struct_machine.proofs.Imports.{if◌then◌else◌, ◌||◌, ◌&&◌, ◌≡◌, Bool, true, false, Option, None, Some, IfSome, refl, sym, ap, ◌∙◌, subst, arith, is_some, Caps, StrForm, CfId, ConnId, Event, ShellCmd, state_of, next_event, owed_event, IsCaller, Deeds, Room, MayCommand, shape_of, Meaning, Held, new_held, content_after, copied_after, with_back_of, Shell, caps_in, caps_made, given_outcome, no_deeds, shell_done, take_event, responded, response_outcome, stop_outcome, rebuild_connect_outcome, complete_outcome, vary_outcome, simplex_again, Rebuild, is_response, Fresh, caps_or, emptied, caps_behind, fresh_behind, fresh_caps, fresh_made, fresh_past, held_back, held_made, held_switched, held_past, copied_in, caps_of, state_in, left_in, IsOf, vary-cases}
 use Rattle.cf_types.specs.declared.shell_commands.ShellCmd.TheVariants as cmd
 use Rattle.cf_types.specs.declared.shell_commands.ShellReply.TheVariants as shown
 

@@ -1,5 +1,5 @@
 -- Where instances are made there is a facility.
-use Rattle.struct_machine.proofs.Names.{◌≡◌, ℕ, Bool, true, false, List, [], ◌∷◌, Option, None, Some, IfSome, refl, if◌then◌else◌, nat_le, filter, unwrap_or, recursion_from_All, AllByRecursion, Stage, Connect, Copy, Pref, StrForm, CfId, ConnId, IsFacility, IsPref, IsForm, place_for, fresh_of, Shell, candidates, is_candidate, Passed, No, Into, Rebuild, outcome_of, rebuild_emptied, rebuild_left, rebuild_without, with_place, without_owing, rebuild_next, rebuild_given, Telling, is_awaited, Starts, Places, Completes, Responds, Stops, Departs, Forces, Fails, Nothing}
+use Rattle.struct_machine.proofs.Imports.{◌≡◌, ℕ, Bool, true, false, List, [], ◌∷◌, Option, None, Some, IfSome, refl, if◌then◌else◌, nat_le, filter, unwrap_or, recursion_from_All, AllByRecursion, Stage, Connect, Copy, Pref, StrForm, CfId, ConnId, IsFacility, IsPref, IsForm, place_for, fresh_of, Shell, candidates, is_candidate, Passed, No, Into, Rebuild, outcome_of, rebuild_emptied, rebuild_left, rebuild_without, with_place, without_owing, rebuild_next, rebuild_given, Telling, is_awaited, Starts, Places, Completes, Responds, Stops, Departs, Forces, Fails, Nothing}
 
 -- ---- places of a form
 

@@ -1,5 +1,5 @@
 -- Where the instances of a structure stand behind a command, and which of its deeds may be done.
-use Rattle.struct_machine.proofs.Names.{◌≡◌, ◌≢◌, Bool, true, false, ◌==◌, ◌||◌, List, [], ◌∷◌, ◌++◌, Option, None, Some, IfSome, refl, sym, ap, ◌∙◌, subst, if◌then◌else◌, is_some, is_none, unwrap_or, eq-eqb, eqb-true, false_from_ne_true, Event, Connect, Copy, StrForm, CfId, ConnId, Refusal, ShellCmd, ShellReply, actives, state_of, IsFacility, IsForm, next_event, owed_event, with_cleared, with_response, Deeds, Instances, no_instance, is_at, place_for, units_of, Machine, room_of, Meaning, first_refusal, fresh_of, is_switch, Shell, ShellOutcome, candidates, complete_outcome, conns_answered, departure_outcome, failed_outcome, fresh_loss, given_outcome, goes, idle_outcome, if_connected, if_duplexed, if_failed, if_too_many, if_no_place, if_rebuilding, if_too_small, is_connect, is_kept, loss_outcome, made_at, no_deeds, primary_loss, rebuild_connect_outcome, refusal_when, responded, response_outcome, shell_cause, shell_without, simplex_again, simplex_outcome, stop_outcome, stopped_outcome, take_event, unless_active, unless_allocated, unless_copied_to, unless_owed, unless_reached, unless_rebuilding, vary_outcome, with_off, with_primary, Rebuild, is_response, outcome_of, with_place, without_owing, IsManned, IsPaired, idle_rebuild, past_first, past_second, third_none, change-command, paired-change, no_switch, placed_for, switch_copy, acting, connect_stage, done, first_none, tells_command, mark_telling, telling, places_past, at_left, at_made, at_switched}
+use Rattle.struct_machine.proofs.Imports.{◌≡◌, ◌≢◌, Bool, true, false, ◌==◌, ◌||◌, List, [], ◌∷◌, ◌++◌, Option, None, Some, IfSome, refl, sym, ap, ◌∙◌, subst, if◌then◌else◌, is_some, is_none, unwrap_or, eq-eqb, eqb-true, false_from_ne_true, Event, Connect, Copy, StrForm, CfId, ConnId, Refusal, ShellCmd, ShellReply, actives, state_of, IsFacility, IsForm, next_event, owed_event, with_cleared, with_response, Deeds, Instances, no_instance, is_at, place_for, units_of, Machine, room_of, Meaning, first_refusal, fresh_of, is_switch, Shell, ShellOutcome, candidates, complete_outcome, conns_answered, departure_outcome, failed_outcome, fresh_loss, given_outcome, goes, idle_outcome, if_connected, if_duplexed, if_failed, if_too_many, if_no_place, if_rebuilding, if_too_small, is_connect, is_kept, loss_outcome, made_at, no_deeds, primary_loss, rebuild_connect_outcome, refusal_when, responded, response_outcome, shell_cause, shell_without, simplex_again, simplex_outcome, stop_outcome, stopped_outcome, take_event, unless_active, unless_allocated, unless_copied_to, unless_owed, unless_reached, unless_rebuilding, vary_outcome, with_off, with_primary, Rebuild, is_response, outcome_of, with_place, without_owing, IsManned, IsPaired, idle_rebuild, past_first, past_second, third_none, change-command, paired-change, no_switch, placed_for, switch_copy, acting, connect_stage, done, first_none, tells_command, mark_telling, telling, places_past, at_left, at_made, at_switched}
 use Rattle.cf_types.specs.declared.refusals.Refusal.TheVariants as refusal
 use Rattle.cf_types.specs.declared.shell_commands.ShellCmd.TheVariants as cmd
 use Rattle.cf_types.specs.declared.shell_commands.ShellReply.TheVariants as shown

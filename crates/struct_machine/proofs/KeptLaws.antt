@@ -1,5 +1,5 @@
 -- A shell and instances of one form.
-use Rattle.struct_machine.proofs.Names.{◌≡◌, ◌-◌, Bool, true, false, List, length, Option, None, Some, Result, IfSome, option_map, inl, refl, sym, ap, ◌∙◌, subst, arith, if◌then◌else◌, is_some, Letter, Caps, StrForm, CfId, ConnId, Shape, Instances, CallOutcome, room_of, content_done, content_reply, Meaning, Held, Answer, answer, unless_refused, StepResult, fresh_of, shape_of, Shell, opening_shell, content_cause, if_failed, if_lost, unless_active, with_posted, entered, facility_of, letters_by, Placed, ShellView, Fresh, lacking, Rebuild, actives, is_active, IsForm, IsFacility, with_letters, Refusal, fresh_caps, IsFilled, IsManned, IsBare, none_fresh_then, not_so, third_none, manned-members, manned-opening, active_member, active_of, first_none, somebody_member, false_from_ne_true, ContentView, Kept, kept_of, nothing_kept, lacking_in, AreOf, IsOf, machine_of, state_in, copied_in, caps_of}
+use Rattle.struct_machine.proofs.Imports.{◌≡◌, ◌-◌, Bool, true, false, List, length, Option, None, Some, Result, IfSome, option_map, inl, refl, sym, ap, ◌∙◌, subst, arith, if◌then◌else◌, is_some, Letter, Caps, StrForm, CfId, ConnId, Shape, Instances, CallOutcome, room_of, content_done, content_reply, Meaning, Held, Answer, answer, unless_refused, StepResult, fresh_of, shape_of, Shell, opening_shell, content_cause, if_failed, if_lost, unless_active, with_posted, entered, facility_of, letters_by, Placed, ShellView, Fresh, lacking, Rebuild, actives, is_active, IsForm, IsFacility, with_letters, Refusal, fresh_caps, IsFilled, IsManned, IsBare, none_fresh_then, not_so, third_none, manned-members, manned-opening, active_member, active_of, first_none, somebody_member, false_from_ne_true, ContentView, Kept, kept_of, nothing_kept, lacking_in, AreOf, IsOf, machine_of, state_in, copied_in, caps_of}
 use Rattle.cf_types.specs.declared.refusals.Refusal.TheVariants as refusal
 use Rattle.struct_machine.proofs.ToldLaws.{manned-told, filled-told}
 

@@ -1,5 +1,5 @@
 -- What a lost facility makes of shell and instances.
-use Rattle.struct_machine.proofs.Names.{◌≡◌, true, false, ◌||◌, Option, Some, IfSome, refl, sym, ap, ◌∙◌, subst, is_some, Caps, StrForm, CfId, actives, IsFacility, Deeds, Instances, is_at, operator, Machine, content_after, copied_after, Meaning, fresh_of, Shell, ShellOutcome, loss_outcome, mark_outcome, no_deeds, reply_as, ShellView, LostAs, Rebuild, fresh_caps, IsFilled, IsManned, capacities-loss, filled-loss, loss-cases, manned-loss, rebuild-loss, is_failure, Kept, at_left, AreOf, IsOf, machine_of, state_in, copied_in, caps_of, IsEnding, kept_without, lost_at}
+use Rattle.struct_machine.proofs.Imports.{◌≡◌, true, false, ◌||◌, Option, Some, IfSome, refl, sym, ap, ◌∙◌, subst, is_some, Caps, StrForm, CfId, actives, IsFacility, Deeds, Instances, is_at, operator, Machine, content_after, copied_after, Meaning, fresh_of, Shell, ShellOutcome, loss_outcome, mark_outcome, no_deeds, reply_as, ShellView, LostAs, Rebuild, fresh_caps, IsFilled, IsManned, capacities-loss, filled-loss, loss-cases, manned-loss, rebuild-loss, is_failure, Kept, at_left, AreOf, IsOf, machine_of, state_in, copied_in, caps_of, IsEnding, kept_without, lost_at}
 use Rattle.plex_shell.specs.declared.lost_as.LostAs.TheVariants as told
 use Rattle.struct_machine.proofs.FacilityLaws.{facility_next}
 use Rattle.struct_machine.proofs.InstanceLaws.{IsPlacing, IsDropping, loss_places, mark_told}

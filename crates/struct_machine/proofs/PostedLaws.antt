@@ -1,5 +1,5 @@
 -- Letters that come before a command.
-use Rattle.struct_machine.proofs.Names.{◌≡◌, List, [], Option, None, refl, sym, subst, Letter, StrForm, ConnId, ShellCmd, Room, Machine, departure_from, Meaning, Shell, Leaver, shell_cause, leaver, with_posted}
+use Rattle.struct_machine.proofs.Imports.{◌≡◌, List, [], Option, None, refl, sym, subst, Letter, StrForm, ConnId, ShellCmd, Room, Machine, departure_from, Meaning, Shell, Leaver, shell_cause, leaver, with_posted}
 use Rattle.cf_types.specs.declared.shell_commands.ShellCmd.TheVariants as cmd
 
 -- they change no refusal: a command that looks at its caller's events brings no departure

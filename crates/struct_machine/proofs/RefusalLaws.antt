@@ -1,5 +1,5 @@
 -- What a verdict that refuses says.
-use Rattle.struct_machine.proofs.Names.{◌≡◌, Option, Some, None, StrForm, ConnId, Refusal, ShellCmd, Ask, Room, Shell, shell_cause, content_cause, call_cause, refused_or, doer_of, verdict, Verdict, Refuse, Content}
+use Rattle.struct_machine.proofs.Imports.{◌≡◌, Option, Some, None, StrForm, ConnId, Refusal, ShellCmd, Ask, Room, Shell, shell_cause, content_cause, call_cause, refused_or, doer_of, verdict, Verdict, Refuse, Content}
 use Rattle.cf_types.specs.declared.shell_commands.ShellCmd.TheVariants as cmd
 use Rattle.engine_api.specs.declared.asks.Ask.TheVariants as ask
 

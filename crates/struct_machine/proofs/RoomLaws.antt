@@ -1,5 +1,5 @@
 -- No call but that of a member who connects to the new instance looks at what the content needs.
-use Rattle.struct_machine.proofs.Names.{◌≡◌, refl, StrForm, ConnId, ShellCmd, Room, Shell, shell_cause, shell_done, command_looks, room_seen}
+use Rattle.struct_machine.proofs.Imports.{◌≡◌, refl, StrForm, ConnId, ShellCmd, Room, Shell, shell_cause, shell_done, command_looks, room_seen}
 use Rattle.cf_types.specs.declared.shell_commands.ShellCmd.TheVariants as cmd
 
 pub cause_seen : (form : StrForm) (room : Room) (shell : Shell) (by : ConnId) (command : ShellCmd)

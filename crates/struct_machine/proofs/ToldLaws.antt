@@ -1,5 +1,5 @@
 -- Letters, and what was told of a loss: the laws of rebuilds speak of neither.
-use Rattle.struct_machine.proofs.Names.{Option, StrForm, CfId, Mailboxes, Machine, Meaning, Shell, IsFilled, IsManned}
+use Rattle.struct_machine.proofs.Imports.{Option, StrForm, CfId, Mailboxes, Machine, Meaning, Shell, IsFilled, IsManned}
 
 abbrev pub told_with : Mailboxes → Option CfId → Shell → Shell
 told_with mail lost shell = record shell { mail = mail; lost = lost }

@@ -1,5 +1,5 @@
 -- A call with the links that it asks, put together.
-use Rattle.struct_machine.proofs.Names.{◌≡◌, ℕ, Bool, true, false, List, [], ◌∷◌, ◌++◌, Option, None, Some, refl, sym, ap, ◌∙◌, subst, subst₂, if◌then◌else◌, filter, Result, Ok, Err, IfOk, fold-append, Links, AreAsked, IsAskedAll, link_at, StrForm, CfId, ConnId, Refusal, ShellCmd, Lost, Ask, Reply, Asks, apart, asks_of, asks_of_command, asked_unless, has, links_asked, listed, marks_of, answers_to, reached, Machine, CallOutcome, call_done, command_done, loss_step, room_of, unless, Meaning, Shell, call_cause, content_cause, shell_cause, reply_as, Mark, is_copying, items_named, judged, AreMarked, AreTold, IsJudgedTurn, content_asks_of, copy_asks_of, marks_in, behind_marks, lost_at, lost_by}
+use Rattle.struct_machine.proofs.Imports.{◌≡◌, ℕ, Bool, true, false, List, [], ◌∷◌, ◌++◌, Option, None, Some, refl, sym, ap, ◌∙◌, subst, subst₂, if◌then◌else◌, filter, Result, Ok, Err, IfOk, fold-append, Links, AreAsked, IsAskedAll, link_at, StrForm, CfId, ConnId, Refusal, ShellCmd, Lost, Ask, Reply, Asks, apart, asks_of, asks_of_command, asked_unless, has, links_asked, listed, marks_of, answers_to, reached, Machine, CallOutcome, call_done, command_done, loss_step, room_of, unless, Meaning, Shell, call_cause, content_cause, shell_cause, reply_as, Mark, is_copying, items_named, judged, AreMarked, AreTold, IsJudgedTurn, content_asks_of, copy_asks_of, marks_in, behind_marks, lost_at, lost_by}
 use Rattle.cf_types.specs.declared.shell_commands.ShellCmd.TheVariants as cmd
 use Rattle.engine_api.specs.declared.asks.Ask.TheVariants as ask
 use Rattle.engine_api.specs.declared.asks.Reply.TheVariants as reply

@@ -1,5 +1,5 @@
 -- The desks of the members: as the board begins, and as it ends.
-use Rattle.two_members.proofs.Names.{◌≡◌, ℕ, ◌+◌, ◌≤◌, ◌++◌, List, [], ◌∷◌, length, map, get_or, sym, ap, subst, ◌∙◌, arith, All, range_with_len, length-append, length-map-range_with_len, All-nil, All-cons, All-same, CONNECTORS, Script, IsScript, script-formed, DeskShown, BoardShown, IsPolicy, IsDeskOf, new_desk, new_desk-of_board, HasPool, IsMember, Stays}
+use Rattle.two_members.proofs.Imports.{◌≡◌, ℕ, ◌+◌, ◌≤◌, ◌++◌, List, [], ◌∷◌, length, map, get_or, sym, ap, subst, ◌∙◌, arith, All, range_with_len, length-append, length-map-range_with_len, All-nil, All-cons, All-same, CONNECTORS, Script, IsScript, script-formed, DeskShown, BoardShown, IsPolicy, IsDeskOf, new_desk, new_desk-of_board, HasPool, IsMember, Stays}
 
 -- what a text says states a policy
 pub policy_of : (text : List ℕ) (script : Script) → IsScript text script → IsPolicy script

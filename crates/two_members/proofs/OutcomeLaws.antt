@@ -1,5 +1,5 @@
 -- What the closed board says of the reader's last test.
-use Rattle.two_members.proofs.Names.{◌≡◌, ◌<◌, ◌++◌, List, [], ◌∷◌, length, map, Some, slice_get, get_or, sym, ap, subst, ◌∙◌, arith, All, option_map, get_or-append_seam, length-append, slice_get_within, slice_get-get_or, slice_get-map, StrForm, AnyHistory, Script, reply_numbered, CellShown, IsAnyTold, own_replies, DeskShown, pass_at, BoardShown, IsDeskOf, IsAccount, AreClosed, desk-pass_owner, HasPool, HasRead, HasTested, IsOutcome, gbp, reader, sight_of, Seen}
+use Rattle.two_members.proofs.Imports.{◌≡◌, ◌<◌, ◌++◌, List, [], ◌∷◌, length, map, Some, slice_get, get_or, sym, ap, subst, ◌∙◌, arith, All, option_map, get_or-append_seam, length-append, slice_get_within, slice_get-get_or, slice_get-map, StrForm, AnyHistory, Script, reply_numbered, CellShown, IsAnyTold, own_replies, DeskShown, pass_at, BoardShown, IsDeskOf, IsAccount, AreClosed, desk-pass_owner, HasPool, HasRead, HasTested, IsOutcome, gbp, reader, sight_of, Seen}
 use Rattle.plex_board.specs.PlexScript.declared.asks.AnyHistory.TheVariants as history
 
 -- what holds of each holds of the last

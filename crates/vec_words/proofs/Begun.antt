@@ -1,5 +1,5 @@
 -- A store and a commit keep the engine's number to its log.
-use Rattle.vec_words.proofs.Names.{◌≡◌, ◌^◌, ◌<◌, ◌≤◌, ℕ, List, [], ◌∷◌, ◌++◌, refl, sym, subst, inl, inr, ⊎_elim, arith, HasStore, IsOpen, Logged, Stored, Committed, steps_of, count_of, flying_of, IsBegun}
+use Rattle.vec_words.proofs.Imports.{◌≡◌, ◌^◌, ◌<◌, ◌≤◌, ℕ, List, [], ◌∷◌, ◌++◌, refl, sym, subst, inl, inr, ⊎_elim, arith, HasStore, IsOpen, Logged, Stored, Committed, steps_of, count_of, flying_of, IsBegun}
 use Rattle.vec_words.proofs.Logs.{count-push, flying-push}
 use Rattle.vec_words.proofs.Sound.{orderly-idle, orderly-store, orderly-commit}
 

@@ -1,5 +1,5 @@
 -- The commits of a log, and the calls of one caller among them.
-use Rattle.vec_words.proofs.Names.{◌≡◌, ◌≢◌, ℕ, List, [], ◌∷◌, ◌++◌, map, refl, ap, ◌∙◌, eq-eqb, ne_eqb, append-nil, All, if◌then◌else◌, filter, ◌==◌, ⊤, map-append, filter-append, All-nil, All-cons, All-head, All-tail, All-contains, Step, Store, Commit, IsCommitted, Logged, Stored, Committed, steps_of, CallRecord, commits_of, calls_in, calls_of}
+use Rattle.vec_words.proofs.Imports.{◌≡◌, ◌≢◌, ℕ, List, [], ◌∷◌, ◌++◌, map, refl, ap, ◌∙◌, eq-eqb, ne_eqb, append-nil, All, if◌then◌else◌, filter, ◌==◌, ⊤, map-append, filter-append, All-nil, All-cons, All-head, All-tail, All-contains, Step, Store, Commit, IsCommitted, Logged, Stored, Committed, steps_of, CallRecord, commits_of, calls_in, calls_of}
 
 -- a fact of a commit's number
 abbrev OnCommit : (ℕ → Type 0) → Step → Type 0

@@ -1,5 +1,5 @@
 -- Tests stay told, and what the rule says of a view stays so, at each step.
-use Rattle.vec_words.proofs.Names.{◌≡◌, ◌≢◌, ◌⊎◌, ◌-◌, ◌/◌, ◌<◌, ◌≤◌, ℕ, zero, suc, List, [], ◌∷◌, ◌++◌, length, set, refl, sym, ap, ◌∙◌, subst, inl, inr, ⊎_elim, arith, max, some, some-injective, some-ne-none, get_elem?, at_set, bits_at, IsOpen, bits_of, stamp_of, Carries-at, Leaves, Moves, leaves-commit, store-cases, settled-max, settled-below, Logged, Stored, Committed, Sight, View, steps_of, count_of, flying_of, left_in, IsOrderly, Tells, bit_in, words_of, word_number, sight, Settled, IsKept, Roll, Fits, AllFit}
+use Rattle.vec_words.proofs.Imports.{◌≡◌, ◌≢◌, ◌⊎◌, ◌-◌, ◌/◌, ◌<◌, ◌≤◌, ℕ, zero, suc, List, [], ◌∷◌, ◌++◌, length, set, refl, sym, ap, ◌∙◌, subst, inl, inr, ⊎_elim, arith, max, some, some-injective, some-ne-none, get_elem?, at_set, bits_at, IsOpen, bits_of, stamp_of, Carries-at, Leaves, Moves, leaves-commit, store-cases, settled-max, settled-below, Logged, Stored, Committed, Sight, View, steps_of, count_of, flying_of, left_in, IsOrderly, Tells, bit_in, words_of, word_number, sight, Settled, IsKept, Roll, Fits, AllFit}
 use Rattle.vec_words.proofs.Logs.{steps-push, count-push}
 use Rattle.vec_words.proofs.Sound.{CanStore, stamps_before, settled-store_now, settled-commit_now}
 

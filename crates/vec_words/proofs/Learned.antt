@@ -1,5 +1,5 @@
 -- What a pass is shown when it has learned the count beside the engine's log.
-use Rattle.vec_words.proofs.Names.{◌≡◌, ◌≤◌, ℕ, List, sym, ◌∙◌, subst, inl, inr, ⊎_elim, All, max, All-weaker, IsCommitted, settled-max, Logged, View, count_of, steps_of, flying_of, calls_of, IsIssued, IsHonest, TableId, WordTable, PassSeen, SeatSeen, pass_seen, seat_seen, IsShown, IsBegun, with_log, Settled, IsKept, Shows}
+use Rattle.vec_words.proofs.Imports.{◌≡◌, ◌≤◌, ℕ, List, sym, ◌∙◌, subst, inl, inr, ⊎_elim, All, max, All-weaker, IsCommitted, settled-max, Logged, View, count_of, steps_of, flying_of, calls_of, IsIssued, IsHonest, TableId, WordTable, PassSeen, SeatSeen, pass_seen, seat_seen, IsShown, IsBegun, with_log, Settled, IsKept, Shows}
 
 module _ {D : Type 0} where
   -- a settled number is issued, beside the engine's number in flight

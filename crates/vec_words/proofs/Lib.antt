@@ -1,4 +1,4 @@
-pub mod Names
+pub mod Imports
 pub mod Begun
 pub mod Commits
 pub mod Kept

@@ -1,5 +1,5 @@
 -- What one more store or commit does to the readings of a log.
-use Rattle.vec_words.proofs.Names.{◌≡◌, ◌≢◌, ◌⊎◌, ◌<◌, ◌≤◌, ℕ, List, [], ◌∷◌, ◌++◌, refl, ap, ◌∙◌, subst, inl, inr, ⊎_elim, eq-eqb, ne_eqb, if◌then◌else◌, Contains, map-append, fold-append, Contains-push_cases, Store, Commit, bits_at, IsCommitted, HasStore, word_of, bits_at-push_store, bits_at-push_above, bits_at-push_other, bits_at-push_commit, Logged, Stored, Committed, step_of, steps_of, count_of, count_after, flying_of, flying_after, left_in, left_after}
+use Rattle.vec_words.proofs.Imports.{◌≡◌, ◌≢◌, ◌⊎◌, ◌<◌, ◌≤◌, ℕ, List, [], ◌∷◌, ◌++◌, refl, ap, ◌∙◌, subst, inl, inr, ⊎_elim, eq-eqb, ne_eqb, if◌then◌else◌, Contains, map-append, fold-append, Contains-push_cases, Store, Commit, bits_at, IsCommitted, HasStore, word_of, bits_at-push_store, bits_at-push_above, bits_at-push_other, bits_at-push_commit, Logged, Stored, Committed, step_of, steps_of, count_of, count_after, flying_of, flying_after, left_in, left_after}
 
 module _ {D : Type 0} where
   pub steps-push : (log : List (Logged D)) (x : Logged D) → steps_of (log ++ x ∷ []) ≡ steps_of log ++ step_of x ∷ []

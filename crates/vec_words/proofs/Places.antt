@@ -1,5 +1,5 @@
 -- A word of a connector's vector is a word of the table.
-use Rattle.vec_words.proofs.Names.{◌≡◌, ◌+◌, ◌-◌, ◌*◌, ◌/◌, ◌^◌, ◌<◌, ◌≤◌, ℕ, suc, subst, sym, arith, mul-le-mul_right, suc-mul, All, dec_le, length-range_with_len, get_or-range_with_len, words_of, word_number, indices_of}
+use Rattle.vec_words.proofs.Imports.{◌≡◌, ◌+◌, ◌-◌, ◌*◌, ◌/◌, ◌^◌, ◌<◌, ◌≤◌, ℕ, suc, subst, sym, arith, mul-le-mul_right, suc-mul, All, dec_le, length-range_with_len, get_or-range_with_len, words_of, word_number, indices_of}
 
 pub within_all : (len conn conns word : ℕ) → 0 < conn → conn ≤ conns → word < words_of len
     → word_number len conn word < conns * words_of len

@@ -1,5 +1,5 @@
 -- One more store or commit keeps a log orderly.
-use Rattle.vec_words.proofs.Names.{◌≡◌, ◌≢◌, ◌-◌, ◌^◌, ◌<◌, ◌≤◌, ℕ, List, [], ◌∷◌, ◌++◌, refl, sym, ap, ◌∙◌, subst, inl, inr, ⊎_elim, arith, cases_eq, Contains-append_left, Contains-push, Step, Store, Commit, IsCommitted, HasStore, IsOpen, IsSettled, StampsUpTo, bits_of, stamp_of, CarriesWord, Carries-nil, Carries-push_other, Carries-push_commit, CarriesWord-push_store, stamp_of-word_of, StampsUpTo-from_each, settled-store, settled-commit, settled-below, Logged, Stored, Committed, steps_of, count_of, flying_of, left_in, IsOrderly, Settled}
+use Rattle.vec_words.proofs.Imports.{◌≡◌, ◌≢◌, ◌-◌, ◌^◌, ◌<◌, ◌≤◌, ℕ, List, [], ◌∷◌, ◌++◌, refl, sym, ap, ◌∙◌, subst, inl, inr, ⊎_elim, arith, cases_eq, Contains-append_left, Contains-push, Step, Store, Commit, IsCommitted, HasStore, IsOpen, IsSettled, StampsUpTo, bits_of, stamp_of, CarriesWord, Carries-nil, Carries-push_other, Carries-push_commit, CarriesWord-push_store, stamp_of-word_of, StampsUpTo-from_each, settled-store, settled-commit, settled-below, Logged, Stored, Committed, steps_of, count_of, flying_of, left_in, IsOrderly, Settled}
 use Rattle.vec_words.proofs.Logs.{steps-push, count-push, flying-push, left-push, left-here, left-other, committed-store, committed-commit, has_store-store, has_store-commit}
 
 module _ {D : Type 0} where

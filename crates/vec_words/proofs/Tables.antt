@@ -1,5 +1,5 @@
 -- A token of this table has the table's number and form.
-use Rattle.vec_words.proofs.Names.{◌≡◌, ◌*◌, ℕ, suc, sym, ap, ◌∙◌, words_of, WordTable}
+use Rattle.vec_words.proofs.Imports.{◌≡◌, ◌*◌, ℕ, suc, sym, ap, ◌∙◌, words_of, WordTable}
 
 pub id_of : (x y z : WordTable) → x ≡ y → z ≡ y → x.id ≡ z.id
 id_of x y z p q = ap (λ (t : WordTable). t.id) p ∙ sym (ap (λ (t : WordTable). t.id) q)

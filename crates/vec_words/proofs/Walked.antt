@@ -1,5 +1,5 @@
 -- A list that a function is applied to place by place.
-use Rattle.vec_words.proofs.Names.{◌≡◌, ℕ, ◌+◌, ◌<◌, List, [], ◌∷◌, ◌++◌, map, length, drop, take, set, get_or, get_or-drop, drop-set-lt, drop-drop, length-set, sym, ap, ◌∙◌, subst, arith, All, take_more, take_more_set, map-append, All-push}
+use Rattle.vec_words.proofs.Imports.{◌≡◌, ℕ, ◌+◌, ◌<◌, List, [], ◌∷◌, ◌++◌, map, length, drop, take, set, get_or, get_or-drop, drop-set-lt, drop-drop, length-set, sym, ap, ◌∙◌, subst, arith, All, take_more, take_more_set, map-append, All-push}
 
 -- before the place the function was applied, from the place on it wasn't
 pub record IsWalked {A : Type 0} (f : A → A) (now first : List A) (i : ℕ) : Type 0 where

@@ -1,5 +1,5 @@
 -- The steps that change a word keep the rule.
-use Rattle.vec_words.proofs.Names.{◌≡◌, ◌≢◌, ◌*◌, ◌^◌, ◌<◌, ◌≤◌, ℕ, suc, true, List, [], ◌∷◌, ◌++◌, length, set, refl, sym, ap, ◌∙◌, subst, ⊎_elim, arith, length-set, get_or-set_other, get_or-set_same, All, slice_index, cases_eq, All-weaker, Me, keeps, Allows, IsOpen, word_of, Logged, Stored, Committed, View, Shape, words_of, count_of, flying_of, left_in, IsOrderly, stored_to, committed_of, Becomes, Settled, IsKept, Roll, Fits, AreLeft, Kept}
+use Rattle.vec_words.proofs.Imports.{◌≡◌, ◌≢◌, ◌*◌, ◌^◌, ◌<◌, ◌≤◌, ℕ, suc, true, List, [], ◌∷◌, ◌++◌, length, set, refl, sym, ap, ◌∙◌, subst, ⊎_elim, arith, length-set, get_or-set_other, get_or-set_same, All, slice_index, cases_eq, All-weaker, Me, keeps, Allows, IsOpen, word_of, Logged, Stored, Committed, View, Shape, words_of, count_of, flying_of, left_in, IsOrderly, stored_to, committed_of, Becomes, Settled, IsKept, Roll, Fits, AreLeft, Kept}
 use Rattle.vec_words.proofs.Logs.{count-push, left-push, left-here, left-other}
 use Rattle.vec_words.proofs.Commits.{calls-store, calls-here, calls-other}
 use Rattle.vec_words.proofs.Sound.{CanStore, settled-count, settled-store_now, settled-commit_now, sound-store, sound-commit}

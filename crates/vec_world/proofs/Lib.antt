@@ -1,4 +1,4 @@
-pub mod Names
+pub mod Imports
 pub mod LogLaws
 pub mod WorldLaws
 pub mod LoadLaws

@@ -1,5 +1,5 @@
 -- Laws of logs. They are said of any list of steps, so a log that no machine made may cite them too.
-use Rattle.vec_world.proofs.Names.{◌≡◌, ◌≢◌, ◌⊎◌, ℕ, ◌-◌, ◌^◌, ◌<◌, ◌≤◌, max, List, [], ◌∷◌, ◌++◌, refl, sym, ap, ◌∙◌, subst, inl, inr, arith, Contains, fold, cases_eq, cases_lt, nat_tests, fold_push, All-head, All-tail, All-nil, All-push, All-weaker, All-contains_itself, Contains-append_left, Contains-push, Step, Store, Commit, bits_after, bits_at, HasStore, IsCommitted, IsOpen, IsSettled, OnStoreTo, StampsUpTo, Carries, bits_of, stamp_of, word_of, CarriesWord, Tells}
+use Rattle.vec_world.proofs.Imports.{◌≡◌, ◌≢◌, ◌⊎◌, ℕ, ◌-◌, ◌^◌, ◌<◌, ◌≤◌, max, List, [], ◌∷◌, ◌++◌, refl, sym, ap, ◌∙◌, subst, inl, inr, arith, Contains, fold, cases_eq, cases_lt, nat_tests, fold_push, All-head, All-tail, All-nil, All-push, All-weaker, All-contains_itself, Contains-append_left, Contains-push, Step, Store, Commit, bits_after, bits_at, HasStore, IsCommitted, IsOpen, IsSettled, OnStoreTo, StampsUpTo, Carries, bits_of, stamp_of, word_of, CarriesWord, Tells}
 
 -- One more step of a log.
 

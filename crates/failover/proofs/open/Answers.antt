@@ -1,5 +1,5 @@
 -- The desks are those of a board that begins, and its links those that are down once.
-use Rattle.failover.proofs.Names.{rules, ◌≡◌, length, HasPool}
+use Rattle.failover.proofs.Imports.{rules, ◌≡◌, length, HasPool}
 use Rattle.failover.proofs.OutcomeLaws.{opened}
 use Rattle.failover.proofs.open.Goals as goal
 

@@ -1,5 +1,5 @@
 -- The desks of the members, from the start of the board to its end.
-use Rattle.two_members.proofs.Names.{rules, ◌≡◌, length, ◌∙◌, ap, arith, DeskShown, HasPool}
+use Rattle.two_members.proofs.Imports.{rules, ◌≡◌, length, ◌∙◌, ap, arith, DeskShown, HasPool}
 use Rattle.two_members.proofs.MemberLaws.{seats, member, all-of_board, all-owners}
 use Rattle.two_members.proofs.OutcomeLaws.{outcome}
 use Rattle.two_members.proofs.members.Goals as goal

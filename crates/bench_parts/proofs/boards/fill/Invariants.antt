@@ -1,4 +1,4 @@
-use Rattle.bench_parts.proofs.Names.{IsSeated}
+use Rattle.bench_parts.proofs.Imports.{IsSeated}
 use Rattle.bench_parts.proofs.boards.fill.Given as goal
 
 abbrev pub invariant-loop-k : goal.invariant-loop-k

@@ -1,4 +1,4 @@
-use Rattle.bench_parts.proofs.Names.{ap, DeskShown}
+use Rattle.bench_parts.proofs.Imports.{ap, DeskShown}
 use Rattle.bench_parts.proofs.SeatLaws.{pool-within, still-seated}
 use Rattle.bench_parts.proofs.boards.is_set.Goals as goal
 

@@ -1,4 +1,4 @@
-use Rattle.bench_parts.proofs.Names.{length}
+use Rattle.bench_parts.proofs.Imports.{length}
 use Rattle.bench_parts.proofs.SeatLaws.{begun-board, begun-desks, policy_is}
 use Rattle.bench_parts.proofs.boards.open.Goals as goal
 

@@ -1,4 +1,4 @@
-use Rattle.bench_parts.proofs.Names.{◌++◌, ◌∷◌, [], true, ap, ◌∙◌, hold, HandSeen}
+use Rattle.bench_parts.proofs.Imports.{◌++◌, ◌∷◌, [], true, ap, ◌∙◌, hold, HandSeen}
 use Rattle.bench_parts.proofs.Granted.{one-held}
 use Rattle.bench_parts.proofs.rounds.round.Goals as goal
 

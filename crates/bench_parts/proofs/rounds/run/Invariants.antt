@@ -1,4 +1,4 @@
-use Rattle.bench_parts.proofs.Names.{IsFree}
+use Rattle.bench_parts.proofs.Imports.{IsFree}
 use Rattle.bench_parts.proofs.rounds.run.Given as goal
 
 -- the hand holds nothing between rounds

@@ -1,4 +1,4 @@
-use Rattle.bench_parts.proofs.Names.{◌≡◌, ◌<◌}
+use Rattle.bench_parts.proofs.Imports.{◌≡◌, ◌<◌}
 use Rattle.bench_parts.proofs.vectors.count_set.Given as goal
 
 abbrev pub invariant-loop-k : goal.invariant-loop-k

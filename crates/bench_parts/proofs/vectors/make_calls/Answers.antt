@@ -1,4 +1,4 @@
-use Rattle.bench_parts.proofs.Names.{word_number}
+use Rattle.bench_parts.proofs.Imports.{word_number}
 use Rattle.bench_parts.proofs.vectors.make_calls.Goals as goal
 
 pub store_word-requires-clause-once : goal.store_word-requires-clause-once

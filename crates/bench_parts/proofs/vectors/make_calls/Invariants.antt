@@ -1,4 +1,4 @@
-use Rattle.bench_parts.proofs.Names.{◌≡◌, count_of}
+use Rattle.bench_parts.proofs.Imports.{◌≡◌, count_of}
 use Rattle.bench_parts.proofs.vectors.make_calls.Given as goal
 
 abbrev pub invariant-loop-made : goal.invariant-loop-made

@@ -1,4 +1,4 @@
-use Rattle.cache_classes.proofs.Names.{arith}
+use Rattle.cache_classes.proofs.Imports.{arith}
 use Rattle.cache_classes.proofs.WalkLaws.{counted_next, count_fits}
 use Rattle.cache_classes.proofs.classes.count_of.Goals as goal
 

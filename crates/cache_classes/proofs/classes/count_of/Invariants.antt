@@ -1,4 +1,4 @@
-use Rattle.cache_classes.proofs.Names.{◌≡◌, ◌+◌, count_of, entries_in}
+use Rattle.cache_classes.proofs.Imports.{◌≡◌, ◌+◌, count_of, entries_in}
 use Rattle.cache_classes.proofs.classes.count_of.Given as goal
 
 abbrev pub invariant-loop-own : goal.invariant-loop-own

@@ -1,4 +1,4 @@
-use Rattle.cache_classes.proofs.Names.{◌-◌, arith}
+use Rattle.cache_classes.proofs.Imports.{◌-◌, arith}
 use Rattle.cache_classes.proofs.LastLaws.{last_none, last_step}
 use Rattle.cache_classes.proofs.classes.last_of.Goals as goal
 

@@ -1,4 +1,4 @@
-use Rattle.cache_classes.proofs.Names.{◌≡◌, ◌≤◌, length, drop, last_name, classes_in}
+use Rattle.cache_classes.proofs.Imports.{◌≡◌, ◌≤◌, length, drop, last_name, classes_in}
 use Rattle.cache_classes.proofs.classes.last_of.Given as goal
 
 abbrev pub invariant-loop-k : goal.invariant-loop-k

@@ -1,4 +1,4 @@
-use Rattle.cache_classes.proofs.Names.{◌≡◌, ◌++◌, names_in, entries_in}
+use Rattle.cache_classes.proofs.Imports.{◌≡◌, ◌++◌, names_in, entries_in}
 use Rattle.cache_classes.proofs.classes.unsorted.Given as goal
 
 abbrev pub invariant-loop-name : goal.invariant-loop-name

@@ -1,4 +1,4 @@
-use Rattle.cache_core.proofs.Names.{arith, ◌∙◌}
+use Rattle.cache_core.proofs.Imports.{arith, ◌∙◌}
 use Rattle.cache_core.proofs.EndLaws.{ending_more, ending_all, ending_room}
 use Rattle.cache_core.proofs.commands.end_regs.Goals as goal
 

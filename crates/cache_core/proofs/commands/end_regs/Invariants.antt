@@ -1,4 +1,4 @@
-use Rattle.cache_core.proofs.Names.{◌≡◌, ◌+◌, ◌≤◌, length}
+use Rattle.cache_core.proofs.Imports.{◌≡◌, ◌+◌, ◌≤◌, length}
 use Rattle.cache_core.proofs.EndLaws.{Ending}
 use Rattle.cache_core.proofs.commands.end_regs.Given as goal
 

@@ -1,4 +1,4 @@
-use Rattle.cache_core.proofs.Names.{vec_len}
+use Rattle.cache_core.proofs.Imports.{vec_len}
 use Rattle.cache_core.proofs.FrontLaws.{Fronting}
 use Rattle.cache_core.proofs.room.front.Given as goal
 

@@ -1,4 +1,4 @@
-use Rattle.cache_core.proofs.Names.{◌≡◌, true, false, length, filter, sym, refl, le-leb, lt-leb, elements_in, is_reclaimable, room_for, has_place, free_elements}
+use Rattle.cache_core.proofs.Imports.{◌≡◌, true, false, length, filter, sym, refl, le-leb, lt-leb, elements_in, is_reclaimable, room_for, has_place, free_elements}
 use Rattle.cache_core.proofs.FrontLaws.{room_refusal-measured}
 use Rattle.cache_core.proofs.room.room_refusal.Goals as goal
 

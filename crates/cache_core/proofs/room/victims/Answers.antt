@@ -1,4 +1,4 @@
-use Rattle.cache_core.proofs.Names.{◌≡◌, ap, ◌∙◌, List, Room, Reclaimable, victims, IfOk-weaker, room_for, front_names, reclaimable_from}
+use Rattle.cache_core.proofs.Imports.{◌≡◌, ap, ◌∙◌, List, Room, Reclaimable, victims, IfOk-weaker, room_for, front_names, reclaimable_from}
 use Rattle.cache_core.proofs.FrontLaws.{victims-measured, reclaimable-order}
 use Rattle.cache_core.proofs.room.victims.Goals as goal
 

@@ -1,4 +1,4 @@
-use Rattle.cache_dir.proofs.Names.{◌∙◌, insert_entry-new}
+use Rattle.cache_dir.proofs.Imports.{◌∙◌, insert_entry-new}
 use Rattle.cache_dir.proofs.dir.add.Goals as goal
 
 pub returns : goal.returns

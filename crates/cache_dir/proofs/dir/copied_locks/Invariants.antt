@@ -1,4 +1,4 @@
-use Rattle.cache_dir.proofs.Names.{◌≡◌, ◌++◌}
+use Rattle.cache_dir.proofs.Imports.{◌≡◌, ◌++◌}
 use Rattle.cache_dir.proofs.dir.copied_locks.Given as goal
 
 abbrev pub invariant-loop-name : goal.invariant-loop-name

@@ -1,4 +1,4 @@
-use Rattle.cache_dir.proofs.Names.{ℕ, List, nat_eq, not, ◌==◌, ap, rules, ◌∙◌, lookup, pointwise, nat_list_eq_equiv, lookup-filter-values, filter-RetainsPairs, ConnId, row_at}
+use Rattle.cache_dir.proofs.Imports.{ℕ, List, nat_eq, not, ◌==◌, ap, rules, ◌∙◌, lookup, pointwise, nat_list_eq_equiv, lookup-filter-values, filter-RetainsPairs, ConnId, row_at}
 use Rattle.cache_dir.proofs.LockLaws.{filtered}
 use Rattle.cache_dir.proofs.dir.forget_all.Goals as goal
 

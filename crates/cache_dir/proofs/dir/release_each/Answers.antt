@@ -1,4 +1,4 @@
-use Rattle.cache_dir.proofs.Names.{◌≡◌, ℕ, List, nat_eq, length, rules, ap, ◌∙◌, lookup, pointwise, DirRow, let_go}
+use Rattle.cache_dir.proofs.Imports.{◌≡◌, ℕ, List, nat_eq, length, rules, ap, ◌∙◌, lookup, pointwise, DirRow, let_go}
 use Rattle.cache_dir.proofs.EntryLaws.{changed_values, changed-RetainsPairs, lookup-changed, length-changed}
 use Rattle.cache_dir.proofs.dir.release_each.Goals as goal
 

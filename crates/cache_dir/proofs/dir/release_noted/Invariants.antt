@@ -1,4 +1,4 @@
-use Rattle.cache_dir.proofs.Names.{◌≡◌, ◌≤◌, length, spare}
+use Rattle.cache_dir.proofs.Imports.{◌≡◌, ◌≤◌, length, spare}
 use Rattle.cache_dir.proofs.LockLaws.{IsReleased}
 use Rattle.cache_dir.proofs.dir.release_noted.Given as goal
 

@@ -1,4 +1,4 @@
-use Rattle.cache_reclaim.proofs.Names.{ap, ◌∙◌}
+use Rattle.cache_reclaim.proofs.Imports.{ap, ◌∙◌}
 use Rattle.cache_reclaim.proofs.SlotLaws.{put_missing}
 use Rattle.cache_reclaim.proofs.slots.add.Goals as goal
 

@@ -1,4 +1,4 @@
-use Rattle.cache_reclaim.proofs.Names.{◌≡◌, ℕ, ◌≤◌, None, length, nat_eq, lookup, IsFree}
+use Rattle.cache_reclaim.proofs.Imports.{◌≡◌, ℕ, ◌≤◌, None, length, nat_eq, lookup, IsFree}
 use Rattle.cache_reclaim.proofs.slots.all_free.Given as goal
 
 abbrev pub invariant-loop-slot : goal.invariant-loop-slot

@@ -1,4 +1,4 @@
-use Rattle.cache_reclaim.proofs.Names.{◌≡◌, ◌++◌, List, ℕ, Option, ap, sym, subst, ◌∙◌, append-nil, ◌<◌, length, Used}
+use Rattle.cache_reclaim.proofs.Imports.{◌≡◌, ◌++◌, List, ℕ, Option, ap, sym, subst, ◌∙◌, append-nil, ◌<◌, length, Used}
 use Rattle.cache_reclaim.proofs.SlotLaws.{seam_moved, copy_missing, copy_place, copy_whole}
 use Rattle.cache_reclaim.proofs.slots.copied.Goals as goal
 

@@ -1,4 +1,4 @@
-use Rattle.cache_reclaim.proofs.Names.{◌≡◌, ◌++◌}
+use Rattle.cache_reclaim.proofs.Imports.{◌≡◌, ◌++◌}
 use Rattle.cache_reclaim.proofs.slots.copied.Given as goal
 
 abbrev pub invariant-loop-slot : goal.invariant-loop-slot

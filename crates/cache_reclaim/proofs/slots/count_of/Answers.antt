@@ -1,4 +1,4 @@
-use Rattle.cache_reclaim.proofs.Names.{ℕ, [], ◌∷◌, List, Option, reverse, length, rules, ap, ◌∙◌, true, Bor, filter_map, rev_steps, TakesLast, deref_pair, count_from_yields_List, YieldsList-from_filter_map, YieldsList-from_shown, reverse-append, Used, part_of}
+use Rattle.cache_reclaim.proofs.Imports.{ℕ, [], ◌∷◌, List, Option, reverse, length, rules, ap, ◌∙◌, true, Bor, filter_map, rev_steps, TakesLast, deref_pair, count_from_yields_List, YieldsList-from_filter_map, YieldsList-from_shown, reverse-append, Used, part_of}
 use Rattle.cache_reclaim.proofs.SlotLaws.{used_part}
 use Rattle.cache_reclaim.proofs.slots.count_of.Goals as goal
 

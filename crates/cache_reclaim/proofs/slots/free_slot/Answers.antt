@@ -1,4 +1,4 @@
-use Rattle.cache_reclaim.proofs.Names.{sym, arith}
+use Rattle.cache_reclaim.proofs.Imports.{sym, arith}
 use Rattle.cache_reclaim.proofs.SlotLaws.{free_found, not_empty}
 use Rattle.cache_reclaim.proofs.slots.free_slot.Goals as goal
 

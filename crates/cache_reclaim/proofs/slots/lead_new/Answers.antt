@@ -1,4 +1,4 @@
-use Rattle.cache_reclaim.proofs.Names.{◌∙◌, insert_entry-new}
+use Rattle.cache_reclaim.proofs.Imports.{◌∙◌, insert_entry-new}
 use Rattle.cache_reclaim.proofs.slots.lead_new.Goals as goal
 
 pub returns : goal.returns

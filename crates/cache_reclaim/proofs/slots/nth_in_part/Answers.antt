@@ -1,4 +1,4 @@
-use Rattle.cache_reclaim.proofs.Names.{◌≡◌, ℕ, [], ◌∷◌, List, Option, Some, None, reverse, length, rules, refl, sym, ap, ◌∙◌, slice_get, option_map, Bor, filter_map, rev_steps, TakesLast, deref_pair, nth_from_yields_List, YieldsList-from_filter_map, YieldsList-from_shown, reverse-append, Used, part_of}
+use Rattle.cache_reclaim.proofs.Imports.{◌≡◌, ℕ, [], ◌∷◌, List, Option, Some, None, reverse, length, rules, refl, sym, ap, ◌∙◌, slice_get, option_map, Bor, filter_map, rev_steps, TakesLast, deref_pair, nth_from_yields_List, YieldsList-from_filter_map, YieldsList-from_shown, reverse-append, Used, part_of}
 use Rattle.cache_reclaim.proofs.SlotLaws.{used_part}
 use Rattle.cache_reclaim.proofs.slots.nth_in_part.Goals as goal
 

@@ -1,4 +1,4 @@
-use Rattle.cache_reclaim.proofs.Names.{◌≡◌, ℕ, [], ◌∷◌, Option, Some, None, reverse, length, rules, refl, sym, ap, ◌∙◌, slice_get, option_map, Bor, filter_map, rev_steps, TakesLast, deref_pair, nth_from_yields_List, YieldsList-from_filter_map, YieldsList-from_shown, reverse-append, Used}
+use Rattle.cache_reclaim.proofs.Imports.{◌≡◌, ℕ, [], ◌∷◌, Option, Some, None, reverse, length, rules, refl, sym, ap, ◌∙◌, slice_get, option_map, Bor, filter_map, rev_steps, TakesLast, deref_pair, nth_from_yields_List, YieldsList-from_filter_map, YieldsList-from_shown, reverse-append, Used}
 use Rattle.cache_reclaim.proofs.slots.nth_used.Goals as goal
 
 same_option : {X : Type 0} (o : Option X) → option_map (λ y. y) o ≡ o

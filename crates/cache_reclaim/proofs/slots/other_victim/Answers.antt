@@ -1,4 +1,4 @@
-use Rattle.cache_reclaim.proofs.Names.{true, false, filter, reverse, rules, arith, is_in_part, used_in}
+use Rattle.cache_reclaim.proofs.Imports.{true, false, filter, reverse, rules, arith, is_in_part, used_in}
 use Rattle.cache_reclaim.proofs.PlaceLaws.{past_front, victim_behind}
 use Rattle.cache_reclaim.proofs.slots.other_victim.Goals as goal
 

@@ -1,4 +1,4 @@
-use Rattle.cache_reclaim.proofs.Names.{◌≡◌, ◌++◌, reverse, names_in, used_in}
+use Rattle.cache_reclaim.proofs.Imports.{◌≡◌, ◌++◌, reverse, names_in, used_in}
 use Rattle.cache_reclaim.proofs.slots.push_names.Given as goal
 
 abbrev pub invariant-loop-used : goal.invariant-loop-used

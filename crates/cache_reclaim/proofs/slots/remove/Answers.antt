@@ -1,4 +1,4 @@
-use Rattle.cache_reclaim.proofs.Names.{subst, sym, IsTied}
+use Rattle.cache_reclaim.proofs.Imports.{subst, sym, IsTied}
 use Rattle.cache_reclaim.proofs.SlotLaws.{slot_named, slot_there, removed_tied, removed_order, none_order}
 use Rattle.cache_reclaim.proofs.slots.remove.Goals as goal
 

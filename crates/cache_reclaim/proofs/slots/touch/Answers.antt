@@ -1,4 +1,4 @@
-use Rattle.cache_reclaim.proofs.Names.{subst, sym, IsTied}
+use Rattle.cache_reclaim.proofs.Imports.{subst, sym, IsTied}
 use Rattle.cache_reclaim.proofs.SlotLaws.{touched_tied, touched_order}
 use Rattle.cache_reclaim.proofs.slots.touch.Goals as goal
 

@@ -1,4 +1,4 @@
-use Rattle.cache_reclaim.proofs.Names.{true, false, Option, option_map, filter, reverse, sym, ap, Used, is_in_part, used_in}
+use Rattle.cache_reclaim.proofs.Imports.{true, false, Option, option_map, filter, reverse, sym, ap, Used, is_in_part, used_in}
 use Rattle.cache_reclaim.proofs.PlaceLaws.{get_front}
 use Rattle.cache_reclaim.proofs.slots.victim.Goals as goal
 

@@ -1,4 +1,4 @@
-use Rattle.cache_regs.proofs.Names.{◌∙◌, arith, gains_falls, is_at, stands}
+use Rattle.cache_regs.proofs.Imports.{◌∙◌, arith, gains_falls, is_at, stands}
 use Rattle.cache_regs.proofs.EndLaws.{ended_falls, ended_fewer}
 use Rattle.cache_regs.proofs.ends.end_all.Goals as goal
 

@@ -1,4 +1,4 @@
-use Rattle.cache_regs.proofs.Names.{◌≡◌, ◌≤◌, length, Gains, Falls, stands}
+use Rattle.cache_regs.proofs.Imports.{◌≡◌, ◌≤◌, length, Gains, Falls, stands}
 use Rattle.cache_regs.proofs.ends.end_all.Given as goal
 
 abbrev pub invariant-loop-conn : goal.invariant-loop-conn

@@ -1,4 +1,4 @@
-use Rattle.cache_regs.proofs.Names.{sym}
+use Rattle.cache_regs.proofs.Imports.{sym}
 use Rattle.cache_regs.proofs.EndLaws.{ended_taken, ended_absent}
 use Rattle.cache_regs.proofs.ends.end_at.Goals as goal
 

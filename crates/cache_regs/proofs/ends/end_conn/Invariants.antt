@@ -1,4 +1,4 @@
-use Rattle.cache_regs.proofs.Names.{◌≡◌, ◌≤◌, is_below, HasEnded}
+use Rattle.cache_regs.proofs.Imports.{◌≡◌, ◌≤◌, is_below, HasEnded}
 use Rattle.cache_regs.proofs.ends.end_conn.Given as goal
 
 abbrev pub invariant-loop-index : goal.invariant-loop-index

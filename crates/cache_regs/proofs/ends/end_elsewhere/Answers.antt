@@ -1,4 +1,4 @@
-use Rattle.cache_regs.proofs.Names.{◌≡◌, ◌==◌, true, false, refl, sym, arith, nat_tests, Registration, is_at, is_elsewhere}
+use Rattle.cache_regs.proofs.Imports.{◌≡◌, ◌==◌, true, false, refl, sym, arith, nat_tests, Registration, is_at, is_elsewhere}
 use Rattle.cache_regs.proofs.EndLaws.{fits_same, ended_same, ended_never, ended_none, elsewhere_at, elsewhere_here, elsewhere_none}
 use Rattle.cache_regs.proofs.ends.end_elsewhere.Goals as goal
 

@@ -1,4 +1,4 @@
-use Rattle.cache_regs.proofs.Names.{sym, is_at, is_for}
+use Rattle.cache_regs.proofs.Imports.{sym, is_at, is_for}
 use Rattle.cache_regs.proofs.EndLaws.{fits_same, ended_same, ended_none, for_at, for_none}
 use Rattle.cache_regs.proofs.ends.end_for.Goals as goal
 

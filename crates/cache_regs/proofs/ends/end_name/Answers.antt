@@ -1,4 +1,4 @@
-use Rattle.cache_regs.proofs.Names.{◌≡◌, ◌+◌, true, nat_lt, not, sym, ◌∙◌, subst, refl, arith, list_all, CALLERS, Registration, ends_with_name, ends_of, ends_below}
+use Rattle.cache_regs.proofs.Imports.{◌≡◌, ◌+◌, true, nat_lt, not, sym, ◌∙◌, subst, refl, arith, list_all, CALLERS, Registration, ends_with_name, ends_of, ends_below}
 use Rattle.cache_regs.proofs.EndLaws.{fits_step, ended_never, ended_then, ended_same, filter_within, name_first, name_more, name_of_all, name_all}
 use Rattle.cache_regs.proofs.ends.end_name.Goals as goal
 

@@ -1,4 +1,4 @@
-use Rattle.cache_regs.proofs.Names.{◌≡◌, ◌≤◌, ends_below, HasEnded}
+use Rattle.cache_regs.proofs.Imports.{◌≡◌, ◌≤◌, ends_below, HasEnded}
 use Rattle.cache_regs.proofs.ends.end_name.Given as goal
 
 abbrev pub invariant-loop-conn : goal.invariant-loop-conn

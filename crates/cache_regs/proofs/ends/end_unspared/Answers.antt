@@ -1,4 +1,4 @@
-use Rattle.cache_regs.proofs.Names.{sym, ends_of}
+use Rattle.cache_regs.proofs.Imports.{sym, ends_of}
 use Rattle.cache_regs.proofs.EndLaws.{ended_never, of_spare}
 use Rattle.cache_regs.proofs.ends.end_unspared.Goals as goal
 

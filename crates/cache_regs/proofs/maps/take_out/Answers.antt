@@ -1,4 +1,4 @@
-use Rattle.cache_regs.proofs.Names.{is_some, sym, ap, ◌∙◌}
+use Rattle.cache_regs.proofs.Imports.{is_some, sym, ap, ◌∙◌}
 use Rattle.cache_regs.proofs.MapLaws.{removed_regs, stands_law, removed_len}
 use Rattle.cache_regs.proofs.AgreeLaws.{removed_agreed}
 use Rattle.cache_regs.proofs.maps.take_out.Goals as goal

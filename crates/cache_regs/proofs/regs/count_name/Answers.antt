@@ -1,4 +1,4 @@
-use Rattle.cache_regs.proofs.Names.{◌≡◌, true, nat_lt, length, sym, ap, ◌∙◌, subst, arith, list_all, CALLERS, Registration}
+use Rattle.cache_regs.proofs.Imports.{◌≡◌, true, nat_lt, length, sym, ap, ◌∙◌, subst, arith, list_all, CALLERS, Registration}
 use Rattle.cache_regs.proofs.ListedLaws.{count_first, count_more, count_all}
 use Rattle.cache_regs.proofs.regs.count_name.Goals as goal
 

@@ -1,4 +1,4 @@
-use Rattle.cache_regs.proofs.Names.{◌≡◌, ◌≤◌, length, filter, ends_below}
+use Rattle.cache_regs.proofs.Imports.{◌≡◌, ◌≤◌, length, filter, ends_below}
 use Rattle.cache_regs.proofs.regs.count_name.Given as goal
 
 abbrev pub invariant-loop-conn : goal.invariant-loop-conn

@@ -1,4 +1,4 @@
-use Rattle.cache_regs.proofs.Names.{sym}
+use Rattle.cache_regs.proofs.Imports.{sym}
 use Rattle.cache_regs.proofs.ListedLaws.{count_spared, count_absent, count_one}
 use Rattle.cache_regs.proofs.regs.count_of.Goals as goal
 

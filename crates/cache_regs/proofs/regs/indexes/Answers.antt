@@ -1,4 +1,4 @@
-use Rattle.cache_regs.proofs.Names.{◌≡◌, true, nat_lt, ◌++◌, sym, ap, ◌∙◌, subst, arith, list_all, Registration, registered_at, named_at}
+use Rattle.cache_regs.proofs.Imports.{◌≡◌, true, nat_lt, ◌++◌, sym, ap, ◌∙◌, subst, arith, list_all, Registration, registered_at, named_at}
 use Rattle.cache_regs.proofs.ListedLaws.{listed_first, listed_more, listed_all}
 use Rattle.cache_regs.proofs.regs.indexes.Goals as goal
 

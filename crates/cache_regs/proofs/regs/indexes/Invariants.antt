@@ -1,4 +1,4 @@
-use Rattle.cache_regs.proofs.Names.{◌≡◌, map, filter, Registration, is_below}
+use Rattle.cache_regs.proofs.Imports.{◌≡◌, map, filter, Registration, is_below}
 use Rattle.cache_regs.proofs.regs.indexes.Given as goal
 
 abbrev pub invariant-loop-index : goal.invariant-loop-index

@@ -1,4 +1,4 @@
-use Rattle.cache_regs.proofs.Names.{not, length, ap, ◌∙◌, arith, none_filtered, length-filter-le, length-insertion, Registration, is_at, stands_before}
+use Rattle.cache_regs.proofs.Imports.{not, length, ap, ◌∙◌, arith, none_filtered, length-filter-le, length-insertion, Registration, is_at, stands_before}
 use Rattle.cache_regs.proofs.EndLaws.{unnamed}
 use Rattle.cache_regs.proofs.regs.replace.Goals as goal
 

@@ -1,4 +1,4 @@
-use Rattle.cache_rows.proofs.Names.{arith, row_at}
+use Rattle.cache_rows.proofs.Imports.{arith, row_at}
 use Rattle.cache_rows.proofs.IndexedLaws.{counted_more, count_fits}
 use Rattle.cache_rows.proofs.directory.count_changed.Goals as goal
 

@@ -1,4 +1,4 @@
-use Rattle.cache_rows.proofs.Names.{◌≡◌, ◌+◌, length, filter, drop, Changed, row_at, has_storage, row_or}
+use Rattle.cache_rows.proofs.Imports.{◌≡◌, ◌+◌, length, filter, drop, Changed, row_at, has_storage, row_or}
 use Rattle.cache_rows.proofs.directory.count_changed.Given as goal
 
 abbrev pub invariant-loop-k : goal.invariant-loop-k

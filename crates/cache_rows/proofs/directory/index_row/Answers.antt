@@ -1,4 +1,4 @@
-use Rattle.cache_rows.proofs.Names.{arith}
+use Rattle.cache_rows.proofs.Imports.{arith}
 use Rattle.cache_rows.proofs.IndexLaws.{room_taken-le}
 use Rattle.cache_rows.proofs.directory.index_row.Goals as goal
 

@@ -1,4 +1,4 @@
-use Rattle.cache_rows.proofs.Names.{length-filter-le}
+use Rattle.cache_rows.proofs.Imports.{length-filter-le}
 use Rattle.cache_rows.proofs.directory.unindex.Goals as goal
 
 pub returns-clause-fewer : goal.returns-clause-fewer

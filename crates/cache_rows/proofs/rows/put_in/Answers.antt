@@ -1,4 +1,4 @@
-use Rattle.cache_rows.proofs.Names.{◌∙◌, List, ap, arith, CacheItem, elements_of, elements_in, rows_without, without-absent, Label}
+use Rattle.cache_rows.proofs.Imports.{◌∙◌, List, ap, arith, CacheItem, elements_of, elements_in, rows_without, without-absent, Label}
 use Rattle.cache_rows.proofs.ChangeLaws.{put_alone, put_bare}
 use Rattle.cache_rows.proofs.rows.put_in.Goals as goal
 

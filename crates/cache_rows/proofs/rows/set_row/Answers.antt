@@ -1,4 +1,4 @@
-use Rattle.cache_rows.proofs.Names.{ℕ, ◌∙◌, ap, arith, le-leb, elements_of, rows_without, relabeled, tally_of}
+use Rattle.cache_rows.proofs.Imports.{ℕ, ◌∙◌, ap, arith, le-leb, elements_of, rows_without, relabeled, tally_of}
 use Rattle.cache_rows.proofs.TallyLaws.{can_grow, tally_come}
 use Rattle.cache_rows.proofs.rows.set_row.Goals as goal
 

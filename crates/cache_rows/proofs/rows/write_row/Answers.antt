@@ -1,4 +1,4 @@
-use Rattle.cache_rows.proofs.Names.{ℕ, Some, ◌∙◌, ap, arith, le-leb, elements_of, rows_without, item_with, tally_of}
+use Rattle.cache_rows.proofs.Imports.{ℕ, Some, ◌∙◌, ap, arith, le-leb, elements_of, rows_without, item_with, tally_of}
 use Rattle.cache_rows.proofs.TallyLaws.{can_grow, tally_come}
 use Rattle.cache_rows.proofs.rows.write_row.Goals as goal
 

@@ -1,4 +1,4 @@
-use Rattle.cache_rows.proofs.Names.{ℕ, ◌+◌, ◌∙◌, List, Option, subst, sym, ap, Chain, row_at, chain_of, body_in, HasData}
+use Rattle.cache_rows.proofs.Imports.{ℕ, ◌+◌, ◌∙◌, List, Option, subst, sym, ap, Chain, row_at, chain_of, body_in, HasData}
 use Rattle.cf_types.specs.Stored.{elements_of}
 use Rattle.cache_rows.proofs.StoreLaws.{ended_stored, ended_items, body_at}
 use Rattle.cache_rows.proofs.store.end_in.Goals as goal

@@ -1,4 +1,4 @@
-use Rattle.cache_rows.proofs.Names.{ap, Chains}
+use Rattle.cache_rows.proofs.Imports.{ap, Chains}
 use Rattle.cache_rows.proofs.StoreLaws.{written_stored, written_items}
 use Rattle.cache_rows.proofs.store.write_in.Goals as goal
 

@@ -1,4 +1,4 @@
-use Rattle.cf_io.proofs.Names.{arith, ◌≡◌, ◌≤◌, ◌+◌, ◌++◌, ◌∙◌, length, length-take, take, Consumes-trans}
+use Rattle.cf_io.proofs.Imports.{arith, ◌≡◌, ◌≤◌, ◌+◌, ◌++◌, ◌∙◌, length, length-take, take, Consumes-trans}
 use Rattle.cf_io.proofs.Pieces.{length-more}
 use Rattle.cf_io.proofs.reading.read_all.Goals as goal
 

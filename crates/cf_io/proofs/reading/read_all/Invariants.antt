@@ -1,4 +1,4 @@
-use Rattle.cf_io.proofs.Names.{◌-◌, ◌+◌, ◌≤◌, vec_len, Consumes}
+use Rattle.cf_io.proofs.Imports.{◌-◌, ◌+◌, ◌≤◌, vec_len, Consumes}
 use Rattle.cf_io.proofs.reading.read_all.Given as goal
 
 abbrev pub invariant-loop-piece : goal.invariant-loop-piece

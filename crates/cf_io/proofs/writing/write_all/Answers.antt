@@ -1,4 +1,4 @@
-use Rattle.cf_io.proofs.Names.{arith, ◌≡◌, ◌-◌, ◌≤◌, length, length-take, length-drop, take, drop, common_steps}
+use Rattle.cf_io.proofs.Imports.{arith, ◌≡◌, ◌-◌, ◌≤◌, length, length-take, length-drop, take, drop, common_steps}
 use Rattle.cf_io.proofs.Pieces.{Appends-more}
 use Rattle.cf_io.proofs.writing.write_all.Goals as goal
 

@@ -1,4 +1,4 @@
-use Rattle.cf_io.proofs.Names.{length, ◌-◌, ◌+◌, ◌≤◌, take, Appends}
+use Rattle.cf_io.proofs.Imports.{length, ◌-◌, ◌+◌, ◌≤◌, take, Appends}
 use Rattle.cf_io.proofs.writing.write_all.Given as goal
 
 abbrev pub invariant-loop-written : goal.invariant-loop-written

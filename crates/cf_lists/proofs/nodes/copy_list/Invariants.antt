@@ -1,4 +1,4 @@
-use Rattle.cf_lists.proofs.Names.{◌≡◌, ◌++◌}
+use Rattle.cf_lists.proofs.Imports.{◌≡◌, ◌++◌}
 use Rattle.cf_lists.proofs.nodes.copy_list.Given as goal
 
 abbrev pub invariant-loop-value : goal.invariant-loop-value

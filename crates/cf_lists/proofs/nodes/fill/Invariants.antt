@@ -1,4 +1,4 @@
-use Rattle.cf_lists.proofs.Names.{◌≡◌, ◌+◌, linked_list_len}
+use Rattle.cf_lists.proofs.Imports.{◌≡◌, ◌+◌, linked_list_len}
 use Rattle.cf_lists.proofs.nodes.fill.Given as goal
 
 abbrev pub invariant-loop : goal.invariant-loop

@@ -1,4 +1,4 @@
-use Rattle.cf_pool.proofs.Names.{arith}
+use Rattle.cf_pool.proofs.Imports.{arith}
 use Rattle.cf_pool.proofs.PoolLaws.{free_within, fill_first, fill_shared, fill_chains, fill_fresh, fill_stored}
 use Rattle.cf_pool.proofs.chains.fill.Goals as goal
 

@@ -1,4 +1,4 @@
-use Rattle.cf_pool.proofs.Names.{subst, sym, ◌∙◌, IsWithin}
+use Rattle.cf_pool.proofs.Imports.{subst, sym, ◌∙◌, IsWithin}
 use Rattle.cf_pool.proofs.PoolLaws.{at_lens, at_some, at_need, at_within, unlink_last, unlink_shared, unlink_chains}
 use Rattle.cf_pool.proofs.chains.unlink.Goals as goal
 

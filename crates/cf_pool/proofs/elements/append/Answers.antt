@@ -1,4 +1,4 @@
-use Rattle.cf_pool.proofs.Names.{◌≡◌, ◌++◌, List, ℕ, OnOk, min, take, length, subst, ap, ◌∙◌, arith, take_min}
+use Rattle.cf_pool.proofs.Imports.{◌≡◌, ◌++◌, List, ℕ, OnOk, min, take, length, subst, ap, ◌∙◌, arith, take_min}
 use Rattle.cf_pool.proofs.WalkLaws.{appended}
 use Rattle.cf_pool.proofs.elements.append.Goals as goal
 

@@ -1,4 +1,4 @@
-use Rattle.cf_pool.proofs.Names.{◌≡◌, ◌-◌, suc, arith}
+use Rattle.cf_pool.proofs.Imports.{◌≡◌, ◌-◌, suc, arith}
 use Rattle.cf_pool.proofs.WalkLaws.{walked_more, within-step}
 use Rattle.cf_pool.proofs.elements.gather.Goals as goal
 

@@ -1,4 +1,4 @@
-use Rattle.cf_pool.proofs.Names.{◌≡◌, ◌-◌, ◌≤◌, ◌++◌, take, length, IsWithin, walked}
+use Rattle.cf_pool.proofs.Imports.{◌≡◌, ◌-◌, ◌≤◌, ◌++◌, take, length, IsWithin, walked}
 use Rattle.cf_pool.proofs.elements.gather.Given as goal
 
 abbrev pub invariant-loop-left : goal.invariant-loop-left

@@ -1,4 +1,4 @@
-use Rattle.cf_pool.proofs.Names.{◌-◌, refl, arith}
+use Rattle.cf_pool.proofs.Imports.{◌-◌, refl, arith}
 use Rattle.cf_pool.proofs.WalkLaws.{within_fewer}
 use Rattle.cf_pool.proofs.elements.last_of.Goals as goal
 

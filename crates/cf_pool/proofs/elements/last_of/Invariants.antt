@@ -1,4 +1,4 @@
-use Rattle.cf_pool.proofs.Names.{◌≡◌, ◌-◌, behind, IsWithin}
+use Rattle.cf_pool.proofs.Imports.{◌≡◌, ◌-◌, behind, IsWithin}
 use Rattle.cf_pool.proofs.elements.last_of.Given as goal
 
 abbrev pub invariant-loop-left : goal.invariant-loop-left

@@ -1,4 +1,4 @@
-use Rattle.cf_pool.proofs.Names.{◌≡◌, ℕ, ◌+◌, ◌<◌, length, get_or}
+use Rattle.cf_pool.proofs.Imports.{◌≡◌, ℕ, ◌+◌, ◌<◌, length, get_or}
 use Rattle.cf_pool.proofs.elements.linked.Given as goal
 
 abbrev pub invariant-loop-at : goal.invariant-loop-at

@@ -1,4 +1,4 @@
-use Rattle.cf_pool.proofs.Names.{◌∙◌, arith, SIZE}
+use Rattle.cf_pool.proofs.Imports.{◌∙◌, arith, SIZE}
 use Rattle.cf_pool.proofs.WalkLaws.{front_all, rest_none}
 use Rattle.cf_pool.proofs.elements.split.Goals as goal
 

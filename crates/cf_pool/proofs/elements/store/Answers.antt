@@ -1,4 +1,4 @@
-use Rattle.cf_pool.proofs.Names.{◌≡◌, ◌-◌, suc, sym, ◌∙◌, arith}
+use Rattle.cf_pool.proofs.Imports.{◌≡◌, ◌-◌, suc, sym, ◌∙◌, arith}
 use Rattle.cf_pool.proofs.WalkLaws.{stored_more, behind-step, within-step}
 use Rattle.cf_pool.proofs.elements.store.Goals as goal
 

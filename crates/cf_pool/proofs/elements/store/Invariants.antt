@@ -1,4 +1,4 @@
-use Rattle.cf_pool.proofs.Names.{◌≡◌, behind, IsWithin, stored}
+use Rattle.cf_pool.proofs.Imports.{◌≡◌, behind, IsWithin, stored}
 use Rattle.cf_pool.proofs.elements.store.Given as goal
 
 abbrev pub invariant-loop-left : goal.invariant-loop-left

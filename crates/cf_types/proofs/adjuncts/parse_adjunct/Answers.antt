@@ -1,4 +1,4 @@
-use Rattle.cf_types.proofs.Names.{arith, refl, drop-append_seam, length-append, length-replicate}
+use Rattle.cf_types.proofs.Imports.{arith, refl, drop-append_seam, length-append, length-replicate}
 use Rattle.cf_types.proofs.adjuncts.parse_adjunct.Goals as goal
 
 pub invariant_of-result : goal.invariant_of-result

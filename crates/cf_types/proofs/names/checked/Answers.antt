@@ -1,4 +1,4 @@
-use Rattle.cf_types.proofs.Names.{arith, refl, rules, common_steps, term_byte}
+use Rattle.cf_types.proofs.Imports.{arith, refl, rules, common_steps, term_byte}
 use Rattle.cf_types.proofs.TermFaults.{passes_at_none, fails_at_some}
 use Rattle.cf_types.proofs.names.checked.Goals as goal
 

@@ -1,4 +1,4 @@
-use Rattle.event_mail.proofs.Names.{◌≡◌, ◌<◌, get_or, ◌∙◌, arith, length, get_or_default}
+use Rattle.event_mail.proofs.Imports.{◌≡◌, ◌<◌, get_or, ◌∙◌, arith, length, get_or_default}
 use Rattle.event_mail.proofs.PostLaws.{mailboxes_of-same, room_at-set}
 use Rattle.event_mail.proofs.mail.reserve_each.Goals as goal
 

@@ -1,4 +1,4 @@
-use Rattle.event_mail.proofs.Names.{◌≡◌, ℕ, ◌<◌, ◌≤◌, length, slice_index_or, Box, mailboxes_of}
+use Rattle.event_mail.proofs.Imports.{◌≡◌, ℕ, ◌<◌, ◌≤◌, length, slice_index_or, Box, mailboxes_of}
 use Rattle.event_mail.proofs.mail.reserve_each.Given as goal
 
 -- what is in the mailboxes stays, no room is lost, and those before this place have the room

@@ -1,5 +1,5 @@
 -- so many links were made as turns, and the first two are down once
-use Rattle.failover.proofs.Names.{◌≡◌, length, AreDownOnce}
+use Rattle.failover.proofs.Imports.{◌≡◌, length, AreDownOnce}
 use Rattle.failover.proofs.links.links.Given as goal
 
 abbrev pub invariant-loop : goal.invariant-loop

@@ -1,5 +1,5 @@
 -- The desk is the caller's, and stays so whatever the call is answered.
-use Rattle.failover.proofs.Names.{sym, ap, subst, ConnId, MayAsk, DeskShown}
+use Rattle.failover.proofs.Imports.{sym, ap, subst, ConnId, MayAsk, DeskShown}
 use Rattle.failover.proofs.SeatLaws.{seat_is, still_seated}
 use Rattle.failover.proofs.members.call.Goals as goal
 

@@ -1,4 +1,4 @@
-use Rattle.list_core.proofs.Names.{◌≡◌, ℕ, ◌+◌, ◌-◌, ◌<◌, Some, length, drop, slice_get, option_map, sym, ap, ◌∙◌, arith, IfOk-weaker, Lists, records_of, row_of, rows_from, row-here, row-later, drop_lists, count_more}
+use Rattle.list_core.proofs.Imports.{◌≡◌, ℕ, ◌+◌, ◌-◌, ◌<◌, Some, length, drop, slice_get, option_map, sym, ap, ◌∙◌, arith, IfOk-weaker, Lists, records_of, row_of, rows_from, row-here, row-later, drop_lists, count_more}
 use Rattle.list_core.proofs.items.copy_row.Goals as goal
 
 pub returns-then-left-len : goal.returns-then-left-len

@@ -1,4 +1,4 @@
-use Rattle.list_core.proofs.Names.{◌≡◌, ◌<◌, drop, slice_get, count_of, rows_from}
+use Rattle.list_core.proofs.Imports.{◌≡◌, ◌<◌, drop, slice_get, count_of, rows_from}
 use Rattle.list_core.proofs.items.copy_row.Given as goal
 
 abbrev pub invariant-loop-header : goal.invariant-loop-header

@@ -1,4 +1,4 @@
-use Rattle.list_core.proofs.Names.{◌≡◌, ℕ, List, Option, map, sym, ap, ◌∙◌, subst, list_all, ConnId, Monitor, Watched, AreMonitors, monitors_of, Content, Triple, monitor_of, is_told, told_row}
+use Rattle.list_core.proofs.Imports.{◌≡◌, ℕ, List, Option, map, sym, ap, ◌∙◌, subst, list_all, ConnId, Monitor, Watched, AreMonitors, monitors_of, Content, Triple, monitor_of, is_told, told_row}
 use Rattle.list_core.proofs.RowLaws.{monitors-told_rows, told-told_rows}
 use Rattle.list_core.proofs.items.place_item.Goals as goal
 

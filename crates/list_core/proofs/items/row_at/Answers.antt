@@ -1,4 +1,4 @@
-use Rattle.list_core.proofs.Names.{◌≡◌, Some, Bor, option_map, slice_get, sym, ap, ◌∙◌, IfOk-weaker, Rec, records_of, record_in, none_within, none_shown, ListItem, row_of}
+use Rattle.list_core.proofs.Imports.{◌≡◌, Some, Bor, option_map, slice_get, sym, ap, ◌∙◌, IfOk-weaker, Rec, records_of, record_in, none_within, none_shown, ListItem, row_of}
 use Rattle.list_core.proofs.items.row_at.Goals as goal
 
 pub returns : goal.returns

@@ -1,4 +1,4 @@
-use Rattle.list_core.proofs.Names.{◌≡◌, ◌++◌, drop, map, told_row}
+use Rattle.list_core.proofs.Imports.{◌≡◌, ◌++◌, drop, map, told_row}
 use Rattle.list_core.proofs.items.rows_of.Given as goal
 
 abbrev pub invariant-loop-watch : goal.invariant-loop-watch

@@ -1,4 +1,4 @@
-use Rattle.list_core.proofs.Names.{◌≡◌, ◌++◌, drop, map, Watched, triple_of}
+use Rattle.list_core.proofs.Imports.{◌≡◌, ◌++◌, drop, map, Watched, triple_of}
 use Rattle.list_core.proofs.items.watches_of.Given as goal
 
 abbrev pub invariant-loop-row : goal.invariant-loop-row

@@ -1,4 +1,4 @@
-use Rattle.list_core.proofs.Names.{ap, ◌∙◌, gains_none, lists_replaced, the_record, Content, stands, has_records, with_new_data, full-replaced}
+use Rattle.list_core.proofs.Imports.{ap, ◌∙◌, gains_none, lists_replaced, the_record, Content, stands, has_records, with_new_data, full-replaced}
 use Rattle.list_core.proofs.StandLaws.{stands-agree}
 use Rattle.list_core.proofs.plans.act.Goals as goal
 

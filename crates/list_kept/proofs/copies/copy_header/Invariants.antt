@@ -1,4 +1,4 @@
-use Rattle.list_kept.proofs.Names.{◌≡◌, length, front}
+use Rattle.list_kept.proofs.Imports.{◌≡◌, length, front}
 use Rattle.list_kept.proofs.copies.copy_header.Given as goal
 
 abbrev pub invariant-loop-place : goal.invariant-loop-place

@@ -1,4 +1,4 @@
-use Rattle.list_kept.proofs.Names.{◌≡◌, ℕ, [], List, Option, None, length, replicate, sym, ap, ◌∙◌, subst, arith, length-replicate, front, front_none, front_all, Record, AreUsed}
+use Rattle.list_kept.proofs.Imports.{◌≡◌, ℕ, [], List, Option, None, length, replicate, sym, ap, ◌∙◌, subst, arith, length-replicate, front, front_none, front_all, Record, AreUsed}
 use Rattle.list_kept.proofs.DataLaws.{no_chains}
 use Rattle.list_kept.proofs.copies.copy_records.Goals as goal
 

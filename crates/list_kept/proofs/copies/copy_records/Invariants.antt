@@ -1,4 +1,4 @@
-use Rattle.list_kept.proofs.Names.{◌≡◌, length, front, AreUsed}
+use Rattle.list_kept.proofs.Imports.{◌≡◌, length, front, AreUsed}
 use Rattle.list_kept.proofs.copies.copy_records.Given as goal
 
 abbrev pub invariant-loop-header : goal.invariant-loop-header

@@ -1,4 +1,4 @@
-use Rattle.list_kept.proofs.Names.{refl}
+use Rattle.list_kept.proofs.Imports.{refl}
 use Rattle.list_kept.proofs.DataLaws.{wanting}
 use Rattle.list_kept.proofs.data.put_data.Goals as goal
 

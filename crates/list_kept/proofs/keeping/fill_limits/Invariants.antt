@@ -1,4 +1,4 @@
-use Rattle.list_kept.proofs.Names.{◌≡◌, replicate, take, drop}
+use Rattle.list_kept.proofs.Imports.{◌≡◌, replicate, take, drop}
 use Rattle.list_kept.proofs.keeping.fill_limits.Given as goal
 
 abbrev pub invariant-loop-limit : goal.invariant-loop-limit

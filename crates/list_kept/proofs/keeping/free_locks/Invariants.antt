@@ -1,4 +1,4 @@
-use Rattle.list_kept.proofs.Names.{◌≡◌, None, replicate, take, drop}
+use Rattle.list_kept.proofs.Imports.{◌≡◌, None, replicate, take, drop}
 use Rattle.list_kept.proofs.keeping.free_locks.Given as goal
 
 abbrev pub invariant-loop-holder : goal.invariant-loop-holder

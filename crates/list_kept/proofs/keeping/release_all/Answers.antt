@@ -1,4 +1,4 @@
-use Rattle.list_kept.proofs.Names.{arith, mapped_more, holder_without}
+use Rattle.list_kept.proofs.Imports.{arith, mapped_more, holder_without}
 use Rattle.list_kept.proofs.keeping.release_all.Goals as goal
 
 pub loop-holder-preserved : goal.loop-holder-preserved

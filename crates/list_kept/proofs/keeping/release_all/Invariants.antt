@@ -1,4 +1,4 @@
-use Rattle.list_kept.proofs.Names.{◌≡◌, map, take, drop, holder_without}
+use Rattle.list_kept.proofs.Imports.{◌≡◌, map, take, drop, holder_without}
 use Rattle.list_kept.proofs.keeping.release_all.Given as goal
 
 abbrev pub invariant-loop-holder : goal.invariant-loop-holder

@@ -1,4 +1,4 @@
-use Rattle.list_kept.proofs.Names.{arith, prefix_len-le-length, records_of, comes_behind}
+use Rattle.list_kept.proofs.Imports.{arith, prefix_len-le-length, records_of, comes_behind}
 use Rattle.list_kept.proofs.placing.place_of.Goals as goal
 
 pub loop-low-init : goal.loop-low-init

@@ -1,4 +1,4 @@
-use Rattle.list_kept.proofs.Names.{◌≤◌, ◌-◌, length, prefix_len, records_of, comes_behind}
+use Rattle.list_kept.proofs.Imports.{◌≤◌, ◌-◌, length, prefix_len, records_of, comes_behind}
 use Rattle.list_kept.proofs.placing.place_of.Given as goal
 
 abbrev pub invariant-loop-low : goal.invariant-loop-low

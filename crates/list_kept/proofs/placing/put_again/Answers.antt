@@ -1,4 +1,4 @@
-use Rattle.list_kept.proofs.Names.{ap, ◌∙◌, list_any, list_all, pairwise, found_passes, gone, record_id, Lists, all_records, is_id, record_in, may_precede, ordered_without}
+use Rattle.list_kept.proofs.Imports.{ap, ◌∙◌, list_any, list_all, pairwise, found_passes, gone, record_id, Lists, all_records, is_id, record_in, may_precede, ordered_without}
 use Rattle.list_kept.proofs.placing.put_again.Goals as goal
 
 pub put_record-requires-clause-alone : goal.put_record-requires-clause-alone

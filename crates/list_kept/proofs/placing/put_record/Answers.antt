@@ -1,4 +1,4 @@
-use Rattle.list_kept.proofs.Names.{ℕ, refl, ap, ◌∙◌, lists_with, record_in, pairwise, may_precede, one-records, placed-with}
+use Rattle.list_kept.proofs.Imports.{ℕ, refl, ap, ◌∙◌, lists_with, record_in, pairwise, may_precede, one-records, placed-with}
 use Rattle.list_kept.proofs.placing.put_record.Goals as goal
 
 pub place_of-place-requires-clause-ordered : goal.place_of-place-requires-clause-ordered

@@ -1,4 +1,4 @@
-use Rattle.list_kept.proofs.Names.{◌≤◌, ◌+◌, ◌∙◌, ℕ, List, Option, None, ap, sym, refl, subst, length, list_any, option_or, any-replaced, replaced_twice, Rec, Record, Lists, record_id, all_records, is_id, lists_replaced, record_in, body_in, chains_less, elements_in, elements_of, Bare, AreUsed, blank, with_data}
+use Rattle.list_kept.proofs.Imports.{◌≤◌, ◌+◌, ◌∙◌, ℕ, List, Option, None, ap, sym, refl, subst, length, list_any, option_or, any-replaced, replaced_twice, Rec, Record, Lists, record_id, all_records, is_id, lists_replaced, record_in, body_in, chains_less, elements_in, elements_of, Bare, AreUsed, blank, with_data}
 use Rattle.list_kept.proofs.DataLaws.{elements_renewed, renewed_found}
 use Rattle.list_kept.proofs.placing.renew.Goals as goal
 

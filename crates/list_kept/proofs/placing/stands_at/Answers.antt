@@ -1,4 +1,4 @@
-use Rattle.list_kept.proofs.Names.{◌∙◌, ap, sym, option_map, Bor, Rec, records_of, record_in, none_within, none_shown, passes_first, comes_behind}
+use Rattle.list_kept.proofs.Imports.{◌∙◌, ap, sym, option_map, Bor, Rec, records_of, record_in, none_within, none_shown, passes_first, comes_behind}
 use Rattle.list_kept.proofs.PlaceLaws.{ordered_first}
 use Rattle.list_kept.proofs.placing.stands_at.Goals as goal
 

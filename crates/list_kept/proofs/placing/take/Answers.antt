@@ -1,4 +1,4 @@
-use Rattle.list_kept.proofs.Names.{is_some, sym, ap, ◌∙◌, option_map, false≢true, any_is_found, all_records, is_id, record_in}
+use Rattle.list_kept.proofs.Imports.{is_some, sym, ap, ◌∙◌, option_map, false≢true, any_is_found, all_records, is_id, record_in}
 use Rattle.list_kept.proofs.placing.take.Goals as goal
 
 pub returns-clause-record : goal.returns-clause-record

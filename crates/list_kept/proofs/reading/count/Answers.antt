@@ -1,4 +1,4 @@
-use Rattle.list_kept.proofs.Names.{arith}
+use Rattle.list_kept.proofs.Imports.{arith}
 use Rattle.list_kept.proofs.ReadLaws.{count_more}
 use Rattle.list_kept.proofs.reading.count.Goals as goal
 

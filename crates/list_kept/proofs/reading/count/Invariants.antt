@@ -1,4 +1,4 @@
-use Rattle.list_kept.proofs.Names.{◌≡◌, ◌+◌, drop, count_of}
+use Rattle.list_kept.proofs.Imports.{◌≡◌, ◌+◌, drop, count_of}
 use Rattle.list_kept.proofs.reading.count.Given as goal
 
 abbrev pub invariant-loop-header : goal.invariant-loop-header

@@ -1,4 +1,4 @@
-use Rattle.list_kept.proofs.Names.{◌≡◌, ℕ, Some, None, true, cond, Bor, option_map, slice_get, sym, ap, ◌∙◌, prefix_len, records_of, Rec, record_in, comes_behind}
+use Rattle.list_kept.proofs.Imports.{◌≡◌, ℕ, Some, None, true, cond, Bor, option_map, slice_get, sym, ap, ◌∙◌, prefix_len, records_of, Rec, record_in, comes_behind}
 use Rattle.list_kept.proofs.KeyedLaws.{keyed, find_keyed}
 use Rattle.list_kept.proofs.reading.keyed_in.Goals as goal
 

@@ -1,4 +1,4 @@
-use Rattle.list_store.proofs.Names.{◌≡◌, ◌+◌, ◌-◌, ◌++◌, ◌∷◌, [], List, drop, sym, ap, ◌∙◌, arith, ℕ, Vec, Global, eqb-true, drop_more, length-map, nil_from_length, all_records, orders_in, list_of, list_of-get_or}
+use Rattle.list_store.proofs.Imports.{◌≡◌, ◌+◌, ◌-◌, ◌++◌, ◌∷◌, [], List, drop, sym, ap, ◌∙◌, arith, ℕ, Vec, Global, eqb-true, drop_more, length-map, nil_from_length, all_records, orders_in, list_of, list_of-get_or}
 use Rattle.list_store.proofs.VecLaws.{list_of-in}
 use Rattle.list_store.proofs.orders.last_header.Goals as goal
 

@@ -1,4 +1,4 @@
-use Rattle.list_store.proofs.Names.{◌≡◌, ◌≤◌, [], length, drop, all_records, orders_in}
+use Rattle.list_store.proofs.Imports.{◌≡◌, ◌≤◌, [], length, drop, all_records, orders_in}
 use Rattle.list_store.proofs.orders.last_header.Given as goal
 
 abbrev pub invariant-loop-left : goal.invariant-loop-left

@@ -1,4 +1,4 @@
-use Rattle.list_store.proofs.Names.{◌≡◌, [], replicate, orders_in}
+use Rattle.list_store.proofs.Imports.{◌≡◌, [], replicate, orders_in}
 use Rattle.list_store.proofs.orders.no_keys.Given as goal
 
 abbrev pub invariant-loop : goal.invariant-loop

@@ -1,4 +1,4 @@
-use Rattle.list_store.proofs.Names.{List, set, sym, ap, ◌∙◌, arith, ℕ, insert, orders_in}
+use Rattle.list_store.proofs.Imports.{List, set, sym, ap, ◌∙◌, arith, ℕ, insert, orders_in}
 use Rattle.list_store.proofs.VecLaws.{list_of-in, orders_in-set, few-more}
 use Rattle.list_store.proofs.orders.put.Goals as goal
 

@@ -1,4 +1,4 @@
-use Rattle.list_store.proofs.Names.{◌≡◌, true, take, list_all, vec_len, orders_in, has_place}
+use Rattle.list_store.proofs.Imports.{◌≡◌, true, take, list_all, vec_len, orders_in, has_place}
 use Rattle.list_store.proofs.orders.reserve.Given as goal
 
 abbrev pub invariant-loop-header : goal.invariant-loop-header

@@ -1,4 +1,4 @@
-use Rattle.list_store.proofs.Names.{◌∙◌, sym, orders_in}
+use Rattle.list_store.proofs.Imports.{◌∙◌, sym, orders_in}
 use Rattle.list_store.proofs.TiedLaws.{get_there, get_past}
 use Rattle.list_store.proofs.ties.at.Goals as goal
 

@@ -1,4 +1,4 @@
-use Rattle.list_store.proofs.Names.{◌∙◌, sym, orders_in}
+use Rattle.list_store.proofs.Imports.{◌∙◌, sym, orders_in}
 use Rattle.list_store.proofs.TiedLaws.{found_record, unfound_record}
 use Rattle.list_store.proofs.ties.get.Goals as goal
 

@@ -1,4 +1,4 @@
-use Rattle.list_store.proofs.Names.{◌∙◌, sym, orders_in}
+use Rattle.list_store.proofs.Imports.{◌∙◌, sym, orders_in}
 use Rattle.list_store.proofs.TiedLaws.{found_header, unfound_header}
 use Rattle.list_store.proofs.ties.header_of.Goals as goal
 

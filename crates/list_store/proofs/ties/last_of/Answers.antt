@@ -1,4 +1,4 @@
-use Rattle.list_store.proofs.Names.{◌≡◌, ℕ, arith, length, [], ◌<◌, length-map, Vec, Global, orders_in, IsLastFull, all_records, lists_at, rec_at, last-map, none-map}
+use Rattle.list_store.proofs.Imports.{◌≡◌, ℕ, arith, length, [], ◌<◌, length-map, Vec, Global, orders_in, IsLastFull, all_records, lists_at, rec_at, last-map, none-map}
 use Rattle.list_store.proofs.TiedLaws.{weaker_some, weaker_none}
 use Rattle.list_store.proofs.ties.last_of.Goals as goal
 

@@ -1,4 +1,4 @@
-use Rattle.list_store.proofs.Names.{◌∙◌, ℕ, arith, length-map, Vec, Global, orders_in}
+use Rattle.list_store.proofs.Imports.{◌∙◌, ℕ, arith, length-map, Vec, Global, orders_in}
 use Rattle.list_store.proofs.TiedLaws.{few-at, length-at}
 use Rattle.list_store.proofs.ties.len_of.Goals as goal
 

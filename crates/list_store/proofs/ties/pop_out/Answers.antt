@@ -1,4 +1,4 @@
-use Rattle.list_store.proofs.Names.{◌∙◌, ap, ℕ, arith, List, length, set, Vec, Global, Rec, records_of, orders_in, lists_at}
+use Rattle.list_store.proofs.Imports.{◌∙◌, ap, ℕ, arith, List, length, set, Vec, Global, Rec, records_of, orders_in, lists_at}
 use Rattle.list_store.proofs.TiedLaws.{length-at, remove_last}
 use Rattle.list_store.proofs.ties.pop_out.Goals as goal
 

@@ -1,4 +1,4 @@
-use Rattle.list_store.proofs.Names.{◌∙◌, ap, List, ℕ, subst, sym, is_some, orders_in, lists_at, IsTied, stands_at}
+use Rattle.list_store.proofs.Imports.{◌∙◌, ap, List, ℕ, subst, sym, is_some, orders_in, lists_at, IsTied, stands_at}
 use Rattle.list_store.proofs.TiedLaws.{held_at, found_at, key_there, pull_lists, pull_removed, pull_tied}
 use Rattle.list_store.proofs.ties.pull.Goals as goal
 

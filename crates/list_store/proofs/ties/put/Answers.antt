@@ -1,4 +1,4 @@
-use Rattle.list_store.proofs.Names.{◌∙◌, ap, arith, List, ℕ, subst, sym, length-map, Vec, Global, orders_in, lists_at, IsTied}
+use Rattle.list_store.proofs.Imports.{◌∙◌, ap, arith, List, ℕ, subst, sym, length-map, Vec, Global, orders_in, lists_at, IsTied}
 use Rattle.list_store.proofs.TiedLaws.{put_lists, put_tied}
 use Rattle.list_store.proofs.ties.put.Goals as goal
 

@@ -1,4 +1,4 @@
-use Rattle.list_store.proofs.Names.{◌∙◌, sym, false≢true, orders_in}
+use Rattle.list_store.proofs.Imports.{◌∙◌, sym, false≢true, orders_in}
 use Rattle.list_store.proofs.TiedLaws.{none_there, is_key, found_record, set_lists, set_tied}
 use Rattle.list_store.proofs.ties.put_in_place.Goals as goal
 

@@ -1,4 +1,4 @@
-use Rattle.list_store.proofs.Names.{◌∙◌, ap, sym, ℕ, arith, option_map, length-map, Vec, Global, orders_in, get_within, records_of, as_spot}
+use Rattle.list_store.proofs.Imports.{◌∙◌, ap, sym, ℕ, arith, option_map, length-map, Vec, Global, orders_in, get_within, records_of, as_spot}
 use Rattle.list_store.proofs.TiedLaws.{key_stands, header_stands, found_spot, unfound_spot, few-at}
 use Rattle.list_store.proofs.ties.spot.Goals as goal
 

@@ -1,4 +1,4 @@
-use Rattle.list_store.proofs.Names.{◌∙◌, ap, sym, ℕ, arith, List, length, length-map, Vec, Global, orders_in, get_within, records_of, lists_without, rec_id, lists_at}
+use Rattle.list_store.proofs.Imports.{◌∙◌, ap, sym, ℕ, arith, List, length, length-map, Vec, Global, orders_in, get_within, records_of, lists_without, rec_id, lists_at}
 use Rattle.list_store.proofs.TiedLaws.{key_stands, header_stands, found_pulled, unfound_record, without_unfound}
 use Rattle.list_store.proofs.ties.take_out.Goals as goal
 

@@ -1,4 +1,4 @@
-use Rattle.list_watch.proofs.Names.{◌≡◌, not, length, refl, ap, arith, rules, filter_same, length-filter_both, is_ended, rows_ended}
+use Rattle.list_watch.proofs.Imports.{◌≡◌, not, length, refl, ap, arith, rules, filter_same, length-filter_both, is_ended, rows_ended}
 use Rattle.list_watch.proofs.BitLaws.{gains_ended}
 use Rattle.list_watch.proofs.ends.end.Goals as goal
 

@@ -1,4 +1,4 @@
-use Rattle.list_watch.proofs.Names.{◌≡◌, ◌++◌, ◌∷◌, [], List, not, filter, ap, ◌∙◌, rules, filter_same, Watched, is_at, rows_put}
+use Rattle.list_watch.proofs.Imports.{◌≡◌, ◌++◌, ◌∷◌, [], List, not, filter, ap, ◌∙◌, rules, filter_same, Watched, is_at, rows_put}
 use Rattle.list_watch.proofs.BitLaws.{gains_put}
 use Rattle.list_watch.proofs.watch.put.Goals as goal
 

@@ -1,4 +1,4 @@
-use Rattle.list_watch.proofs.Names.{◌≡◌, ◌+◌, ◌++◌, length, drop, filter, is_turned, turn_changes}
+use Rattle.list_watch.proofs.Imports.{◌≡◌, ◌+◌, ◌++◌, length, drop, filter, is_turned, turn_changes}
 use Rattle.list_watch.proofs.watch.tell.Given as goal
 
 abbrev pub invariant-loop-row : goal.invariant-loop-row

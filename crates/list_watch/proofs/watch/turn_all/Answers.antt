@@ -1,4 +1,4 @@
-use Rattle.list_watch.proofs.Names.{arith, mapped_more, row_turned}
+use Rattle.list_watch.proofs.Imports.{arith, mapped_more, row_turned}
 use Rattle.list_watch.proofs.watch.turn_all.Goals as goal
 
 pub loop-row-preserved : goal.loop-row-preserved

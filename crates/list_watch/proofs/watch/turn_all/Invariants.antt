@@ -1,4 +1,4 @@
-use Rattle.list_watch.proofs.Names.{◌≡◌, map, take, drop, row_turned}
+use Rattle.list_watch.proofs.Imports.{◌≡◌, map, take, drop, row_turned}
 use Rattle.list_watch.proofs.watch.turn_all.Given as goal
 
 abbrev pub invariant-loop-row : goal.invariant-loop-row

@@ -1,4 +1,4 @@
-use Rattle.lock_core.proofs.Names.{arith, prefix_len-le-length, Resource, resource_before, insert-prefix_len}
+use Rattle.lock_core.proofs.Imports.{arith, prefix_len-le-length, Resource, resource_before, insert-prefix_len}
 use Rattle.lock_core.proofs.departures.insert.Goals as goal
 
 pub insert-requires : goal.insert-requires

@@ -1,4 +1,4 @@
-use Rattle.lock_core.proofs.Names.{◌≡◌, drop, fold, resources_with}
+use Rattle.lock_core.proofs.Imports.{◌≡◌, drop, fold, resources_with}
 use Rattle.lock_core.proofs.departures.note_all.Given as goal
 
 abbrev pub invariant-loop-r : goal.invariant-loop-r

@@ -1,4 +1,4 @@
-use Rattle.lock_core.proofs.Names.{[], List, filter, fold, map, sym, ap, ◌∙◌, fold-append, Resource, Waiter, is_by, Interest, resources_with}
+use Rattle.lock_core.proofs.Imports.{[], List, filter, fold, map, sym, ap, ◌∙◌, fold-append, Resource, Waiter, is_by, Interest, resources_with}
 use Rattle.lock_model.specs.Interests as interests
 use Rattle.lock_core.proofs.departures.resources_of.Goals as goal
 

@@ -1,4 +1,4 @@
-use Rattle.lock_core.proofs.Names.{◌≡◌, ◌+◌, ◌++◌, length, grant, HasRoom}
+use Rattle.lock_core.proofs.Imports.{◌≡◌, ◌+◌, ◌++◌, length, grant, HasRoom}
 use Rattle.lock_core.proofs.grants.grant.Given as goal
 
 abbrev pub invariant-loop-w : goal.invariant-loop-w

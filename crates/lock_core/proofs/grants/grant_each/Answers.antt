@@ -1,4 +1,4 @@
-use Rattle.lock_core.proofs.Names.{le-trans}
+use Rattle.lock_core.proofs.Imports.{le-trans}
 use Rattle.lock_core.proofs.LetterLaws.{grant_within}
 use Rattle.lock_core.proofs.grants.grant_each.Goals as goal
 

@@ -1,4 +1,4 @@
-use Rattle.lock_core.proofs.Names.{arith, Content}
+use Rattle.lock_core.proofs.Imports.{arith, Content}
 use Rattle.lock_core.proofs.LetterLaws.{denied_few}
 use Rattle.lock_core.proofs.letters.most_decided.Goals as goal
 

@@ -1,4 +1,4 @@
-use Rattle.lock_core.proofs.Names.{arith, Content}
+use Rattle.lock_core.proofs.Imports.{arith, Content}
 use Rattle.lock_model.specs.Commands.Alter as alter
 use Rattle.lock_core.proofs.LetterLaws.{alter_few, release_few, delete_few}
 use Rattle.lock_core.proofs.letters.most_letters.Goals as goal

@@ -1,4 +1,4 @@
-use Rattle.lock_core.proofs.Names.{◌∙◌}
+use Rattle.lock_core.proofs.Imports.{◌∙◌}
 use Rattle.lock_core.proofs.ReadLaws.{recorded-waiting}
 use Rattle.lock_core.proofs.locks.count_waiting.Goals as goal
 

@@ -1,4 +1,4 @@
-use Rattle.lock_core.proofs.Names.{ap, ◌∙◌, arith, recorded_of, records_of_within}
+use Rattle.lock_core.proofs.Imports.{ap, ◌∙◌, arith, recorded_of, records_of_within}
 use Rattle.lock_core.proofs.ReadLaws.{waiting-counted_with, waiting-without}
 use Rattle.lock_core.proofs.locks.count_waiting_with.Goals as goal
 

@@ -1,4 +1,4 @@
-use Rattle.lock_core.proofs.Names.{◌∙◌, is_waiter}
+use Rattle.lock_core.proofs.Imports.{◌∙◌, is_waiter}
 use Rattle.lock_core.proofs.ReadLaws.{any_by}
 use Rattle.lock_core.proofs.refusals.waits.Goals as goal
 

@@ -1,4 +1,4 @@
-use Rattle.lock_interests.proofs.Names.{rules, tests, YieldsList-from_first, all_from_yields_List, owners_left, are_compatible}
+use Rattle.lock_interests.proofs.Imports.{rules, tests, YieldsList-from_first, all_from_yields_List, owners_left, are_compatible}
 use Rattle.lock_interests.proofs.interests.are_all_compatible.Goals as goal
 
 pub returns : goal.returns

@@ -1,4 +1,4 @@
-use Rattle.lock_interests.proofs.Names.{◌≡◌, ◌+◌, ◌<◌, length, owners_left, letters_told}
+use Rattle.lock_interests.proofs.Imports.{◌≡◌, ◌+◌, ◌<◌, length, owners_left, letters_told}
 use Rattle.lock_interests.proofs.interests.count_told.Given as goal
 
 abbrev pub invariant-loop-held : goal.invariant-loop-held

@@ -1,4 +1,4 @@
-use Rattle.lock_interests.proofs.Names.{rules, tests, ◌==◌, YieldsList-from_first, find_from_yields_List, Held, owners_left}
+use Rattle.lock_interests.proofs.Imports.{rules, tests, ◌==◌, YieldsList-from_first, find_from_yields_List, Held, owners_left}
 use Rattle.lock_interests.proofs.interests.find_by.Goals as goal
 
 pub returns : goal.returns

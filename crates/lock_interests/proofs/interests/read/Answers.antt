@@ -1,4 +1,4 @@
-use Rattle.lock_interests.proofs.Names.{◌≡◌, ℕ, Bool, List, IfOk, ap, subst, ◌∙◌, filter_map, Resource, read_in}
+use Rattle.lock_interests.proofs.Imports.{◌≡◌, ℕ, Bool, List, IfOk, ap, subst, ◌∙◌, filter_map, Resource, read_in}
 use Rattle.lock_interests.proofs.OwnerLaws.{read_each}
 use Rattle.lock_interests.proofs.interests.read.Goals as goal
 

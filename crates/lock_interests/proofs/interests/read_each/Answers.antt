@@ -1,4 +1,4 @@
-use Rattle.lock_interests.proofs.Names.{◌++◌, ◌==◌, List, Option, find, ap, ◌∙◌, option_to_list, Held, held_read, read_in}
+use Rattle.lock_interests.proofs.Imports.{◌++◌, ◌==◌, List, Option, find, ap, ◌∙◌, option_to_list, Held, held_read, read_in}
 use Rattle.lock_interests.proofs.OwnerLaws.{read_more}
 use Rattle.lock_interests.proofs.interests.read_each.Goals as goal
 

@@ -1,4 +1,4 @@
-use Rattle.lock_interests.proofs.Names.{◌≡◌, ◌++◌, drop, filter_map, read_in}
+use Rattle.lock_interests.proofs.Imports.{◌≡◌, ◌++◌, drop, filter_map, read_in}
 use Rattle.lock_interests.proofs.interests.read_each.Given as goal
 
 abbrev pub invariant-loop-r : goal.invariant-loop-r

@@ -1,4 +1,4 @@
-use Rattle.lock_interests.proofs.Names.{ℕ, ◌+◌, ◌<◌, List, Option, drop, ap, subst, ◌∙◌, Part, Held, retained_all, retained_at}
+use Rattle.lock_interests.proofs.Imports.{ℕ, ◌+◌, ◌<◌, List, Option, drop, ap, subst, ◌∙◌, Part, Held, retained_all, retained_at}
 use Rattle.lock_interests.proofs.OwnerLaws.{retained_next}
 use Rattle.lock_interests.proofs.interests.retain_recorded.Goals as goal
 

@@ -1,4 +1,4 @@
-use Rattle.lock_interests.proofs.Names.{◌≡◌, drop, retained_all}
+use Rattle.lock_interests.proofs.Imports.{◌≡◌, drop, retained_all}
 use Rattle.lock_interests.proofs.interests.retain_recorded.Given as goal
 
 abbrev pub invariant-loop-k : goal.invariant-loop-k

@@ -1,4 +1,4 @@
-use Rattle.lock_queue.proofs.Names.{◌≡◌, true, not, is_some, sym, refl, ◌∙◌, placed_on, in_order, placed_here, part_of, waiters_in}
+use Rattle.lock_queue.proofs.Imports.{◌≡◌, true, not, is_some, sym, refl, ◌∙◌, placed_on, in_order, placed_here, part_of, waiters_in}
 use Rattle.lock_queue.proofs.queue.at_in.Goals as goal
 
 pub returns-in-Some-at_on : goal.returns-in-Some-at_on

@@ -1,4 +1,4 @@
-use Rattle.lock_queue.proofs.Names.{◌≡◌, not, is_some, list_all, placed_on, Waiter, part_of, waiters_in}
+use Rattle.lock_queue.proofs.Imports.{◌≡◌, not, is_some, list_all, placed_on, Waiter, part_of, waiters_in}
 use Rattle.lock_queue.proofs.queue.at_in.Given as goal
 
 abbrev pub invariant-loop-waiter : goal.invariant-loop-waiter

@@ -1,4 +1,4 @@
-use Rattle.lock_queue.proofs.Names.{◌∙◌, map, [], get_or_default, resource_by, found, placed_none, placed_some, part_of, waiters_in}
+use Rattle.lock_queue.proofs.Imports.{◌∙◌, map, [], get_or_default, resource_by, found, placed_none, placed_some, part_of, waiters_in}
 use Rattle.lock_queue.proofs.queue.at_on.Goals as goal
 
 pub returns-then-k-before : goal.returns-then-k-before

@@ -1,4 +1,4 @@
-use Rattle.lock_queue.proofs.Names.{◌∙◌, sym, [], get_or_default, ordered, at_is, none_past, part_of}
+use Rattle.lock_queue.proofs.Imports.{◌∙◌, sym, [], get_or_default, ordered, at_is, none_past, part_of}
 use Rattle.lock_queue.proofs.queue.at_place.Goals as goal
 
 pub start_of-before-requires : goal.start_of-before-requires

@@ -1,4 +1,4 @@
-use Rattle.lock_queue.proofs.Names.{◌≡◌, take}
+use Rattle.lock_queue.proofs.Imports.{◌≡◌, take}
 use Rattle.lock_queue.proofs.queue.copy_entries.Given as goal
 
 abbrev pub invariant-loop-waiters : goal.invariant-loop-waiters

@@ -1,4 +1,4 @@
-use Rattle.lock_queue.proofs.Names.{length, refl, arith, List, length-append, counted_next, counted_past, Waiter}
+use Rattle.lock_queue.proofs.Imports.{length, refl, arith, List, length-append, counted_next, counted_past, Waiter}
 use Rattle.lock_queue.proofs.queue.count_all.Goals as goal
 
 pub overflow_add-count : goal.overflow_add-count

@@ -1,4 +1,4 @@
-use Rattle.lock_queue.proofs.Names.{◌≡◌, ◌+◌, length, drop, joined}
+use Rattle.lock_queue.proofs.Imports.{◌≡◌, ◌+◌, length, drop, joined}
 use Rattle.lock_queue.proofs.queue.count_all.Given as goal
 
 abbrev pub invariant-loop-waiters : goal.invariant-loop-waiters

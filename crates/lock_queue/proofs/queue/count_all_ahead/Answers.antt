@@ -1,4 +1,4 @@
-use Rattle.lock_queue.proofs.Names.{length, filter, refl, arith, List, counted_next, counted_past, length-kept_append, resource_before, length-filter-le, joined, Waiter}
+use Rattle.lock_queue.proofs.Imports.{length, filter, refl, arith, List, counted_next, counted_past, length-kept_append, resource_before, length-filter-le, joined, Waiter}
 use Rattle.lock_queue.proofs.queue.count_all_ahead.Goals as goal
 
 pub overflow_add-count : goal.overflow_add-count

@@ -1,4 +1,4 @@
-use Rattle.lock_queue.proofs.Names.{◌≡◌, ◌+◌, length, filter, drop, resource_before, joined, Waiter}
+use Rattle.lock_queue.proofs.Imports.{◌≡◌, ◌+◌, length, filter, drop, resource_before, joined, Waiter}
 use Rattle.lock_queue.proofs.queue.count_all_ahead.Given as goal
 
 abbrev pub invariant-loop-waiters : goal.invariant-loop-waiters

@@ -1,4 +1,4 @@
-use Rattle.lock_queue.proofs.Names.{◌∙◌, ap, List, length, map, resource_by, kept_in, Waiter, is_on, waiters_of, part_of, waiters_in}
+use Rattle.lock_queue.proofs.Imports.{◌∙◌, ap, List, length, map, resource_by, kept_in, Waiter, is_on, waiters_of, part_of, waiters_in}
 use Rattle.lock_queue.proofs.queue.count_on.Goals as goal
 
 pub returns : goal.returns

@@ -1,4 +1,4 @@
-use Rattle.lock_queue.proofs.Names.{◌≡◌, replicate, []}
+use Rattle.lock_queue.proofs.Imports.{◌≡◌, replicate, []}
 use Rattle.lock_queue.proofs.queue.empty_entries.Given as goal
 
 abbrev pub invariant-loop : goal.invariant-loop

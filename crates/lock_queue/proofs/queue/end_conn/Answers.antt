@@ -1,4 +1,4 @@
-use Rattle.lock_queue.proofs.Names.{◌≡◌, ◌≤◌, List, map, not, length, ap, arith, ◌∙◌, ConnId, length-filter-le, resource_by, joined, left_seen, left_table, length_seen, Waiter, is_by, waiters_without_conn, part_of, waiters_in, AreEntries}
+use Rattle.lock_queue.proofs.Imports.{◌≡◌, ◌≤◌, List, map, not, length, ap, arith, ◌∙◌, ConnId, length-filter-le, resource_by, joined, left_seen, left_table, length_seen, Waiter, is_by, waiters_without_conn, part_of, waiters_in, AreEntries}
 use Rattle.lock_queue.proofs.CountLaws.{recorded_few, recorded_seen}
 use Rattle.lock_queue.proofs.WaiterLaws.{queue-filter}
 use Rattle.lock_queue.proofs.queue.end_conn.Goals as goal

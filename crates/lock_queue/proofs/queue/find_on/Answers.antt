@@ -1,4 +1,4 @@
-use Rattle.lock_queue.proofs.Names.{◌∙◌, ◌==◌, ap, map, and_parts, same_resource, resource_by, found_in, is_waiter, waiter_of, part_of, waiters_in}
+use Rattle.lock_queue.proofs.Imports.{◌∙◌, ◌==◌, ap, map, and_parts, same_resource, resource_by, found_in, is_waiter, waiter_of, part_of, waiters_in}
 use Rattle.lock_queue.proofs.queue.find_on.Goals as goal
 
 pub returns : goal.returns

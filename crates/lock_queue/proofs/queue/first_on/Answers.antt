@@ -1,4 +1,4 @@
-use Rattle.lock_queue.proofs.Names.{◌∙◌, ap, map, resource_by, found_in, is_on, first_of, part_of, waiters_in}
+use Rattle.lock_queue.proofs.Imports.{◌∙◌, ap, map, resource_by, found_in, is_on, first_of, part_of, waiters_in}
 use Rattle.lock_queue.proofs.queue.first_on.Goals as goal
 
 pub returns : goal.returns

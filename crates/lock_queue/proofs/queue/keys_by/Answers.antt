@@ -1,5 +1,5 @@
 use Rattle.lock_queue.proofs.CountLaws.{keys_more_by, keys_end_by}
-use Rattle.lock_queue.proofs.Names.{is_by}
+use Rattle.lock_queue.proofs.Imports.{is_by}
 use Rattle.lock_queue.proofs.queue.keys_by.Goals as goal
 
 pub loop-waiters-preserved : goal.loop-waiters-preserved

@@ -1,4 +1,4 @@
-use Rattle.lock_queue.proofs.Names.{◌≡◌, ◌++◌, map, filter, drop, joined, is_by, resource_of}
+use Rattle.lock_queue.proofs.Imports.{◌≡◌, ◌++◌, map, filter, drop, joined, is_by, resource_of}
 use Rattle.lock_queue.proofs.queue.keys_by.Given as goal
 
 abbrev pub invariant-loop-waiters : goal.invariant-loop-waiters

@@ -1,4 +1,4 @@
-use Rattle.lock_queue.proofs.Names.{◌≡◌, ◌++◌, map, drop, joined, resource_of}
+use Rattle.lock_queue.proofs.Imports.{◌≡◌, ◌++◌, map, drop, joined, resource_of}
 use Rattle.lock_queue.proofs.queue.keys_of.Given as goal
 
 abbrev pub invariant-loop-waiters : goal.invariant-loop-waiters

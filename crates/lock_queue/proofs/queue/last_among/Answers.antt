@@ -1,4 +1,4 @@
-use Rattle.lock_queue.proofs.Names.{List, option_map, ap, sym, ◌∙◌, later_of, last_of, last_more, Waiter, part_of}
+use Rattle.lock_queue.proofs.Imports.{List, option_map, ap, sym, ◌∙◌, later_of, last_of, last_more, Waiter, part_of}
 use Rattle.lock_queue.proofs.queue.last_among.Goals as goal
 
 pub loop-waiter-preserved : goal.loop-waiter-preserved

@@ -1,4 +1,4 @@
-use Rattle.lock_queue.proofs.Names.{◌≡◌, option_map, later_of, last_of, part_of}
+use Rattle.lock_queue.proofs.Imports.{◌≡◌, option_map, later_of, last_of, part_of}
 use Rattle.lock_queue.proofs.queue.last_among.Given as goal
 
 abbrev pub invariant-loop-waiter : goal.invariant-loop-waiter

@@ -1,4 +1,4 @@
-use Rattle.lock_queue.proofs.Names.{last_next, last_past, part_of}
+use Rattle.lock_queue.proofs.Imports.{last_next, last_past, part_of}
 use Rattle.lock_queue.proofs.queue.last_in.Goals as goal
 
 pub loop-waiters-preserved : goal.loop-waiters-preserved

@@ -1,4 +1,4 @@
-use Rattle.lock_queue.proofs.Names.{◌≡◌, option_map, drop, joined, later_of, last_of, part_of}
+use Rattle.lock_queue.proofs.Imports.{◌≡◌, option_map, drop, joined, later_of, last_of, part_of}
 use Rattle.lock_queue.proofs.queue.last_in.Given as goal
 
 abbrev pub invariant-loop-waiters : goal.invariant-loop-waiters

@@ -1,4 +1,4 @@
-use Rattle.lock_queue.proofs.Names.{rules, tests, nth_from_yields_List, YieldsList-from_filter, YieldsList-from_rest, is_on}
+use Rattle.lock_queue.proofs.Imports.{rules, tests, nth_from_yields_List, YieldsList-from_filter, YieldsList-from_rest, is_on}
 use Rattle.lock_queue.proofs.queue.nth_in.Goals as goal
 
 pub returns : goal.returns

@@ -1,4 +1,4 @@
-use Rattle.lock_queue.proofs.Names.{◌≡◌, ◌++◌, map, resource_of}
+use Rattle.lock_queue.proofs.Imports.{◌≡◌, ◌++◌, map, resource_of}
 use Rattle.lock_queue.proofs.queue.push_keys.Given as goal
 
 abbrev pub invariant-loop-waiter : goal.invariant-loop-waiter

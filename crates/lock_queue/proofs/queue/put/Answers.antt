@@ -1,4 +1,4 @@
-use Rattle.lock_queue.proofs.Names.{length, Waiter, none_filtered, is_waiter, stands_before, waiters_in}
+use Rattle.lock_queue.proofs.Imports.{length, Waiter, none_filtered, is_waiter, stands_before, waiters_in}
 use Rattle.lock_queue.proofs.CountLaws.{one_more}
 use Rattle.lock_queue.proofs.WaiterLaws.{queue-with}
 use Rattle.lock_queue.proofs.queue.put.Goals as goal

@@ -1,4 +1,4 @@
-use Rattle.lock_queue.proofs.Names.{◌≡◌, ◌+◌, ◌≤◌, ◌&&◌, ◌||◌, not, length, map, filter, ap, ◌∙◌, arith, length-map, resource_by, length-filter-le, of_seen, few_in, kept_in, put_seen, put_table, Waiter, is_on, stands_before, part_of, waiters_in, is_ahead}
+use Rattle.lock_queue.proofs.Imports.{◌≡◌, ◌+◌, ◌≤◌, ◌&&◌, ◌||◌, not, length, map, filter, ap, ◌∙◌, arith, length-map, resource_by, length-filter-le, of_seen, few_in, kept_in, put_seen, put_table, Waiter, is_on, stands_before, part_of, waiters_in, is_ahead}
 use Rattle.lock_queue.proofs.WaiterLaws.{ahead_front, ahead_stop, ahead_agree, ahead_others, counts_on}
 use Rattle.lock_queue.proofs.queue.put_new.Goals as goal
 

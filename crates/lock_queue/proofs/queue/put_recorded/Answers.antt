@@ -1,4 +1,4 @@
-use Rattle.lock_queue.proofs.Names.{ap, ◌∙◌, arith, recorded_of, waiters_with, waiters_in}
+use Rattle.lock_queue.proofs.Imports.{ap, ◌∙◌, arith, recorded_of, waiters_with, waiters_in}
 use Rattle.lock_queue.proofs.CountLaws.{recorded_less, recorded_more, recorded_few, few_with}
 use Rattle.lock_queue.proofs.queue.put_recorded.Goals as goal
 

@@ -1,4 +1,4 @@
-use Rattle.lock_queue.proofs.Names.{refl, arith, recorded_in, counted_next, counted_past}
+use Rattle.lock_queue.proofs.Imports.{refl, arith, recorded_in, counted_next, counted_past}
 use Rattle.lock_queue.proofs.CountLaws.{recorded_parts}
 use Rattle.lock_queue.proofs.queue.recorded_all.Goals as goal
 

@@ -1,4 +1,4 @@
-use Rattle.lock_queue.proofs.Names.{◌≡◌, ◌+◌, drop, recorded_in, joined}
+use Rattle.lock_queue.proofs.Imports.{◌≡◌, ◌+◌, drop, recorded_in, joined}
 use Rattle.lock_queue.proofs.queue.recorded_all.Given as goal
 
 abbrev pub invariant-loop-waiters : goal.invariant-loop-waiters

@@ -1,4 +1,4 @@
-use Rattle.lock_queue.proofs.Names.{not, is_some, sym, refl, ◌∙◌, placed_on, all_next, joined_past, none_placed_on, Waiter, part_of, waiters_in}
+use Rattle.lock_queue.proofs.Imports.{not, is_some, sym, refl, ◌∙◌, placed_on, all_next, joined_past, none_placed_on, Waiter, part_of, waiters_in}
 use Rattle.lock_queue.proofs.queue.search_at.Goals as goal
 
 pub loop-waiters-preserved : goal.loop-waiters-preserved

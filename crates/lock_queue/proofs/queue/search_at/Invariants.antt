@@ -1,4 +1,4 @@
-use Rattle.lock_queue.proofs.Names.{◌≡◌, not, is_some, drop, list_all, joined, placed_on, Waiter, part_of, waiters_in}
+use Rattle.lock_queue.proofs.Imports.{◌≡◌, not, is_some, drop, list_all, joined, placed_on, Waiter, part_of, waiters_in}
 use Rattle.lock_queue.proofs.queue.search_at.Given as goal
 
 abbrev pub invariant-loop-waiters : goal.invariant-loop-waiters

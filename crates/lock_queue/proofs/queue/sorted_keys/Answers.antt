@@ -1,4 +1,4 @@
-use Rattle.lock_queue.proofs.Names.{List, subst, arith, IsPermutation, Resource, same_resource, resource_before, joined, resource_order, neighbours, sorted_is, resource_of}
+use Rattle.lock_queue.proofs.Imports.{List, subst, arith, IsPermutation, Resource, same_resource, resource_before, joined, resource_order, neighbours, sorted_is, resource_of}
 use Rattle.lock_queue.proofs.queue.sorted_keys.Goals as goal
 
 pub returns : goal.returns

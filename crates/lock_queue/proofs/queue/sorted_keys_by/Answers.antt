@@ -1,4 +1,4 @@
-use Rattle.lock_queue.proofs.Names.{List, map, filter, ap, subst, arith, ◌∙◌, IsPermutation, Resource, same_resource, resource_before, joined, resource_order, neighbours, sorted_is, arranged-filter, is_by, resource_of}
+use Rattle.lock_queue.proofs.Imports.{List, map, filter, ap, subst, arith, ◌∙◌, IsPermutation, Resource, same_resource, resource_before, joined, resource_order, neighbours, sorted_is, arranged-filter, is_by, resource_of}
 use Rattle.lock_queue.proofs.queue.sorted_keys_by.Goals as goal
 
 pub returns : goal.returns

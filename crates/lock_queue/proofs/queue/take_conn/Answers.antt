@@ -1,4 +1,4 @@
-use Rattle.lock_queue.proofs.Names.{◌≡◌, ◌<◌, ◌≤◌, not, cond, false, length, [], ◌∷◌, None, refl, arith, filtered_step, pass_begins, pass_goes, pass_fits, pass_ends, Waiter, is_by, waiters_without_conn}
+use Rattle.lock_queue.proofs.Imports.{◌≡◌, ◌<◌, ◌≤◌, not, cond, false, length, [], ◌∷◌, None, refl, arith, filtered_step, pass_begins, pass_goes, pass_fits, pass_ends, Waiter, is_by, waiters_without_conn}
 use Rattle.lock_queue.proofs.queue.take_conn.Goals as goal
 
 some_waiter : Waiter

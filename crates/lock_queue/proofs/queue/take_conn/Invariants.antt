@@ -1,4 +1,4 @@
-use Rattle.lock_queue.proofs.Names.{◌≡◌, ◌≤◌, ◌++◌, ◌-◌, length, take, drop, waiters_without_conn}
+use Rattle.lock_queue.proofs.Imports.{◌≡◌, ◌≤◌, ◌++◌, ◌-◌, length, take, drop, waiters_without_conn}
 use Rattle.lock_queue.proofs.queue.take_conn.Given as goal
 
 abbrev pub invariant-loop : goal.invariant-loop

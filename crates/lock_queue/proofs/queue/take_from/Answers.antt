@@ -1,4 +1,4 @@
-use Rattle.lock_queue.proofs.Names.{sym, ◌∙◌, none_placed, some_place, cut_out, none_out, is_waiter, part_of}
+use Rattle.lock_queue.proofs.Imports.{sym, ◌∙◌, none_placed, some_place, cut_out, none_out, is_waiter, part_of}
 use Rattle.lock_queue.proofs.queue.take_from.Goals as goal
 
 pub returns-in-Some-clause-there : goal.returns-in-Some-clause-there

@@ -1,4 +1,4 @@
-use Rattle.lock_queue.proofs.Names.{map, not, ◌∙◌, resource_by, Waiter, is_waiter, part_of, waiters_in, entry_apart, there_in, taken_seen, taken_bins}
+use Rattle.lock_queue.proofs.Imports.{map, not, ◌∙◌, resource_by, Waiter, is_waiter, part_of, waiters_in, entry_apart, there_in, taken_seen, taken_bins}
 use Rattle.lock_queue.proofs.WaiterLaws.{queue-filter}
 use Rattle.lock_queue.proofs.CountLaws.{less_one}
 use Rattle.lock_queue.proofs.queue.take_out.Goals as goal

@@ -1,4 +1,4 @@
-use Rattle.lock_queue.proofs.Names.{arith, mapped_more, mapped_whole, waiters_without_conn}
+use Rattle.lock_queue.proofs.Imports.{arith, mapped_more, mapped_whole, waiters_without_conn}
 use Rattle.lock_queue.proofs.queue.take_out_conn.Goals as goal
 
 pub loop-waiters-preserved : goal.loop-waiters-preserved

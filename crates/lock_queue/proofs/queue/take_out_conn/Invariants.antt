@@ -1,4 +1,4 @@
-use Rattle.lock_queue.proofs.Names.{◌≡◌, ◌≤◌, length, map, take, drop, waiters_without_conn}
+use Rattle.lock_queue.proofs.Imports.{◌≡◌, ◌≤◌, length, map, take, drop, waiters_without_conn}
 use Rattle.lock_queue.proofs.queue.take_out_conn.Given as goal
 
 abbrev pub invariant-loop-waiters : goal.invariant-loop-waiters

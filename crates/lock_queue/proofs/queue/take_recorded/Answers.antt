@@ -1,4 +1,4 @@
-use Rattle.lock_queue.proofs.Names.{ap, ◌∙◌, arith, recorded_of, waiters_in}
+use Rattle.lock_queue.proofs.Imports.{ap, ◌∙◌, arith, recorded_of, waiters_in}
 use Rattle.lock_queue.proofs.CountLaws.{recorded_less}
 use Rattle.lock_queue.proofs.queue.take_recorded.Goals as goal
 

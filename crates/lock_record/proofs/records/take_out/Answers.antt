@@ -1,4 +1,4 @@
-use Rattle.lock_record.proofs.Names.{is_some, ap, ◌∙◌}
+use Rattle.lock_record.proofs.Imports.{is_some, ap, ◌∙◌}
 use Rattle.lock_record.proofs.MapLaws.{looked_there, removed_records}
 use Rattle.lock_record.proofs.records.take_out.Goals as goal
 

@@ -1,4 +1,4 @@
-use Rattle.lock_record.proofs.Names.{rules, filter-RetainsPairs}
+use Rattle.lock_record.proofs.Imports.{rules, filter-RetainsPairs}
 use Rattle.lock_record.proofs.MapLaws.{departed_records}
 use Rattle.lock_record.proofs.records.take_out_conn.Goals as goal
 

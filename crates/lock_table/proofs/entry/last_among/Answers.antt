@@ -1,4 +1,4 @@
-use Rattle.lock_table.proofs.Names.{List, option_map, ap, sym, ◌∙◌, later_of, last_of, last_more, Held, part_of}
+use Rattle.lock_table.proofs.Imports.{List, option_map, ap, sym, ◌∙◌, later_of, last_of, last_more, Held, part_of}
 use Rattle.lock_table.proofs.entry.last_among.Goals as goal
 
 pub loop-held-preserved : goal.loop-held-preserved

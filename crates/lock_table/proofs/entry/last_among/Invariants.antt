@@ -1,4 +1,4 @@
-use Rattle.lock_table.proofs.Names.{◌≡◌, option_map, later_of, last_of, part_of}
+use Rattle.lock_table.proofs.Imports.{◌≡◌, option_map, later_of, last_of, part_of}
 use Rattle.lock_table.proofs.entry.last_among.Given as goal
 
 abbrev pub invariant-loop-held : goal.invariant-loop-held

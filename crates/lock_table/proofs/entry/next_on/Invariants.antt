@@ -1,4 +1,4 @@
-use Rattle.lock_table.proofs.Names.{◌≡◌, owners_of}
+use Rattle.lock_table.proofs.Imports.{◌≡◌, owners_of}
 use Rattle.lock_table.proofs.entry.next_on.Given as goal
 
 abbrev pub invariant-loop-held : goal.invariant-loop-held

@@ -1,4 +1,4 @@
-use Rattle.lock_table.proofs.Names.{sym, ◌∙◌}
+use Rattle.lock_table.proofs.Imports.{sym, ◌∙◌}
 use Rattle.lock_table.proofs.EntryLaws.{absent}
 use Rattle.lock_table.proofs.entry.place_of.Goals as goal
 

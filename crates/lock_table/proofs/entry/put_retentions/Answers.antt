@@ -1,4 +1,4 @@
-use Rattle.lock_table.proofs.Names.{◌≡◌, ◌<◌, ◌≤◌, false, length, map, [], ◌∷◌, refl, arith, mapped_step, pass_begins, pass_goes, pass_fits, pass_ends, Held, in_retention_of}
+use Rattle.lock_table.proofs.Imports.{◌≡◌, ◌<◌, ◌≤◌, false, length, map, [], ◌∷◌, refl, arith, mapped_step, pass_begins, pass_goes, pass_fits, pass_ends, Held, in_retention_of}
 use Rattle.lock_table.proofs.entry.put_retentions.Goals as goal
 
 some_held : Held

@@ -1,4 +1,4 @@
-use Rattle.lock_table.proofs.Names.{◌≡◌, ◌≤◌, ◌++◌, ◌-◌, length, take, drop, map, in_retention_of}
+use Rattle.lock_table.proofs.Imports.{◌≡◌, ◌≤◌, ◌++◌, ◌-◌, length, take, drop, map, in_retention_of}
 use Rattle.lock_table.proofs.entry.put_retentions.Given as goal
 
 abbrev pub invariant-loop : goal.invariant-loop

@@ -1,4 +1,4 @@
-use Rattle.lock_table.proofs.Names.{sym, ◌∙◌}
+use Rattle.lock_table.proofs.Imports.{sym, ◌∙◌}
 use Rattle.lock_table.proofs.EntryLaws.{none_active, masked_active}
 use Rattle.lock_table.proofs.entry.take_active_from.Goals as goal
 

@@ -1,4 +1,4 @@
-use Rattle.lock_table.proofs.Names.{◌≡◌, ◌<◌, ◌≤◌, ◌&&◌, not, cond, false, length, [], ◌∷◌, refl, arith, filtered_step, pass_begins, pass_goes, pass_fits, pass_ends, Held, is_by, owners_without_active}
+use Rattle.lock_table.proofs.Imports.{◌≡◌, ◌<◌, ◌≤◌, ◌&&◌, not, cond, false, length, [], ◌∷◌, refl, arith, filtered_step, pass_begins, pass_goes, pass_fits, pass_ends, Held, is_by, owners_without_active}
 use Rattle.lock_table.proofs.entry.take_all_active.Goals as goal
 
 some_held : Held

@@ -1,4 +1,4 @@
-use Rattle.lock_table.proofs.Names.{◌≡◌, ◌≤◌, ◌++◌, ◌-◌, length, take, drop, owners_without_active}
+use Rattle.lock_table.proofs.Imports.{◌≡◌, ◌≤◌, ◌++◌, ◌-◌, length, take, drop, owners_without_active}
 use Rattle.lock_table.proofs.entry.take_all_active.Given as goal
 
 abbrev pub invariant-loop : goal.invariant-loop

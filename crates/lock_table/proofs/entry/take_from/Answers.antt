@@ -1,4 +1,4 @@
-use Rattle.lock_table.proofs.Names.{sym, ◌∙◌, none_placed, some_place, is_interest}
+use Rattle.lock_table.proofs.Imports.{sym, ◌∙◌, none_placed, some_place, is_interest}
 use Rattle.lock_table.proofs.EntryLaws.{masked_less, cut_out, none_out}
 use Rattle.lock_table.proofs.entry.take_from.Goals as goal
 

@@ -1,4 +1,4 @@
-use Rattle.lock_table.proofs.Names.{◌≡◌, not, is_some, list_all, placed_on, Held, part_of, owners_in}
+use Rattle.lock_table.proofs.Imports.{◌≡◌, not, is_some, list_all, placed_on, Held, part_of, owners_in}
 use Rattle.lock_table.proofs.table.at_in.Given as goal
 
 abbrev pub invariant-loop-held : goal.invariant-loop-held

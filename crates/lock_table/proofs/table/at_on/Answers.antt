@@ -1,4 +1,4 @@
-use Rattle.lock_table.proofs.Names.{◌∙◌, map, nth_from_yields_List, YieldsList-from_first, resource_by, found, placed_none, placed_some, owners_left, part_of, owners_in}
+use Rattle.lock_table.proofs.Imports.{◌∙◌, map, nth_from_yields_List, YieldsList-from_first, resource_by, found, placed_none, placed_some, owners_left, part_of, owners_in}
 use Rattle.lock_table.proofs.table.at_on.Goals as goal
 
 pub returns-then-k-before : goal.returns-then-k-before

@@ -1,4 +1,4 @@
-use Rattle.lock_table.proofs.Names.{◌∙◌, sym, nth_from_yields_List, YieldsList-from_first, ordered, at_is, none_past, owners_left, part_of}
+use Rattle.lock_table.proofs.Imports.{◌∙◌, sym, nth_from_yields_List, YieldsList-from_first, ordered, at_is, none_past, owners_left, part_of}
 use Rattle.lock_table.proofs.table.at_place.Goals as goal
 
 pub start_of-before-requires : goal.start_of-before-requires

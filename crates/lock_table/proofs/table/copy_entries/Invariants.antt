@@ -1,4 +1,4 @@
-use Rattle.lock_table.proofs.Names.{◌≡◌, take}
+use Rattle.lock_table.proofs.Imports.{◌≡◌, take}
 use Rattle.lock_table.proofs.table.copy_entries.Given as goal
 
 abbrev pub invariant-loop-entry : goal.invariant-loop-entry

@@ -1,4 +1,4 @@
-use Rattle.lock_table.proofs.Names.{length, refl, arith, List, length-append, counted_next, counted_past, Held}
+use Rattle.lock_table.proofs.Imports.{length, refl, arith, List, length-append, counted_next, counted_past, Held}
 use Rattle.lock_table.proofs.table.count_all.Goals as goal
 
 pub overflow_add-count : goal.overflow_add-count

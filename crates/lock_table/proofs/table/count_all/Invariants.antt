@@ -1,4 +1,4 @@
-use Rattle.lock_table.proofs.Names.{◌≡◌, ◌+◌, length, drop, joined}
+use Rattle.lock_table.proofs.Imports.{◌≡◌, ◌+◌, length, drop, joined}
 use Rattle.lock_table.proofs.table.count_all.Given as goal
 
 abbrev pub invariant-loop-entry : goal.invariant-loop-entry

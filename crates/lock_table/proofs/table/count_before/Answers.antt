@@ -1,4 +1,4 @@
-use Rattle.lock_table.proofs.Names.{length, filter, refl, arith, List, counted_next, counted_past, length-kept_append, resource_before, length-filter-le, joined, Held}
+use Rattle.lock_table.proofs.Imports.{length, filter, refl, arith, List, counted_next, counted_past, length-kept_append, resource_before, length-filter-le, joined, Held}
 use Rattle.lock_table.proofs.table.count_before.Goals as goal
 
 pub overflow_add-count : goal.overflow_add-count

@@ -1,4 +1,4 @@
-use Rattle.lock_table.proofs.Names.{◌≡◌, ◌+◌, length, filter, drop, resource_before, joined, Held}
+use Rattle.lock_table.proofs.Imports.{◌≡◌, ◌+◌, length, filter, drop, resource_before, joined, Held}
 use Rattle.lock_table.proofs.table.count_before.Given as goal
 
 abbrev pub invariant-loop-entry : goal.invariant-loop-entry

@@ -1,4 +1,4 @@
-use Rattle.lock_table.proofs.Names.{◌≡◌, replicate, []}
+use Rattle.lock_table.proofs.Imports.{◌≡◌, replicate, []}
 use Rattle.lock_table.proofs.table.empty_entries.Given as goal
 
 abbrev pub invariant-loop : goal.invariant-loop

@@ -1,4 +1,4 @@
-use Rattle.lock_table.proofs.Names.{◌≡◌, ◌≤◌, ◌&&◌, List, map, not, length, ap, arith, ◌∙◌, ConnId, length-filter-le, resource_by, joined, left_seen, left_table, length_seen, Held, is_by, owners_without_active, part_of, owners_in, AreEntries}
+use Rattle.lock_table.proofs.Imports.{◌≡◌, ◌≤◌, ◌&&◌, List, map, not, length, ap, arith, ◌∙◌, ConnId, length-filter-le, resource_by, joined, left_seen, left_table, length_seen, Held, is_by, owners_without_active, part_of, owners_in, AreEntries}
 use Rattle.lock_table.proofs.table.end_active.Goals as goal
 
 left : (conn : ConnId) (entries new : List (List Held)) → AreEntries entries

@@ -1,5 +1,5 @@
 use Rattle.lock_table.proofs.CountLaws.{keys_more_by, keys_end_by}
-use Rattle.lock_table.proofs.Names.{is_by}
+use Rattle.lock_table.proofs.Imports.{is_by}
 use Rattle.lock_table.proofs.table.keys_by.Goals as goal
 
 pub loop-entry-preserved : goal.loop-entry-preserved

@@ -1,4 +1,4 @@
-use Rattle.lock_table.proofs.Names.{◌≡◌, ◌++◌, map, filter, drop, joined, is_by, resource_of}
+use Rattle.lock_table.proofs.Imports.{◌≡◌, ◌++◌, map, filter, drop, joined, is_by, resource_of}
 use Rattle.lock_table.proofs.table.keys_by.Given as goal
 
 abbrev pub invariant-loop-entry : goal.invariant-loop-entry

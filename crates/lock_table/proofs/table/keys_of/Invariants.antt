@@ -1,4 +1,4 @@
-use Rattle.lock_table.proofs.Names.{◌≡◌, ◌++◌, map, drop, joined, resource_of}
+use Rattle.lock_table.proofs.Imports.{◌≡◌, ◌++◌, map, drop, joined, resource_of}
 use Rattle.lock_table.proofs.table.keys_of.Given as goal
 
 abbrev pub invariant-loop-entry : goal.invariant-loop-entry

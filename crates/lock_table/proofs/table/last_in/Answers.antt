@@ -1,4 +1,4 @@
-use Rattle.lock_table.proofs.Names.{last_next, last_past, part_of}
+use Rattle.lock_table.proofs.Imports.{last_next, last_past, part_of}
 use Rattle.lock_table.proofs.table.last_in.Goals as goal
 
 pub loop-entry-preserved : goal.loop-entry-preserved

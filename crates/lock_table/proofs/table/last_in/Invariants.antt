@@ -1,4 +1,4 @@
-use Rattle.lock_table.proofs.Names.{◌≡◌, option_map, drop, joined, later_of, last_of, part_of}
+use Rattle.lock_table.proofs.Imports.{◌≡◌, option_map, drop, joined, later_of, last_of, part_of}
 use Rattle.lock_table.proofs.table.last_in.Given as goal
 
 abbrev pub invariant-loop-entry : goal.invariant-loop-entry

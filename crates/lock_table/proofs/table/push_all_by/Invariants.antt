@@ -1,4 +1,4 @@
-use Rattle.lock_table.proofs.Names.{◌≡◌, ◌++◌, map, filter, is_by, resource_of}
+use Rattle.lock_table.proofs.Imports.{◌≡◌, ◌++◌, map, filter, is_by, resource_of}
 use Rattle.lock_table.proofs.table.push_all_by.Given as goal
 
 abbrev pub invariant-loop-held : goal.invariant-loop-held

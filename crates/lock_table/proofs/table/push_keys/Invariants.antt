@@ -1,4 +1,4 @@
-use Rattle.lock_table.proofs.Names.{◌≡◌, ◌++◌, map, resource_of}
+use Rattle.lock_table.proofs.Imports.{◌≡◌, ◌++◌, map, resource_of}
 use Rattle.lock_table.proofs.table.push_keys.Given as goal
 
 abbrev pub invariant-loop-held : goal.invariant-loop-held

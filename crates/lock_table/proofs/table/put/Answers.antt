@@ -1,4 +1,4 @@
-use Rattle.lock_table.proofs.Names.{length, resource_up_to, Held, is_interest, owners_in, none_filtered}
+use Rattle.lock_table.proofs.Imports.{length, resource_up_to, Held, is_interest, owners_in, none_filtered}
 use Rattle.lock_table.proofs.CountLaws.{one_more}
 use Rattle.lock_table.proofs.table.put.Goals as goal
 

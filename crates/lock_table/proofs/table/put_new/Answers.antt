@@ -1,4 +1,4 @@
-use Rattle.lock_table.proofs.Names.{map, true, not, refl, arith, ◌∙◌, length-map, resource_before, resource_by, part_of, owners_in, few_in, put_seen, put_table, of_seen, last_front, last_stop, last_agree, last_put}
+use Rattle.lock_table.proofs.Imports.{map, true, not, refl, arith, ◌∙◌, length-map, resource_before, resource_by, part_of, owners_in, few_in, put_seen, put_table, of_seen, last_front, last_stop, last_agree, last_put}
 use Rattle.lock_table.proofs.table.put_new.Goals as goal
 
 pub put-requires-clause-few : goal.put-requires-clause-few

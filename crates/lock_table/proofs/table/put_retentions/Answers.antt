@@ -1,4 +1,4 @@
-use Rattle.lock_table.proofs.Names.{arith, mapped_more, mapped_whole, owners_retained_of}
+use Rattle.lock_table.proofs.Imports.{arith, mapped_more, mapped_whole, owners_retained_of}
 use Rattle.lock_table.proofs.table.put_retentions.Goals as goal
 
 pub loop-entry-preserved : goal.loop-entry-preserved

@@ -1,4 +1,4 @@
-use Rattle.lock_table.proofs.Names.{◌≡◌, map, take, drop, owners_retained_of}
+use Rattle.lock_table.proofs.Imports.{◌≡◌, map, take, drop, owners_retained_of}
 use Rattle.lock_table.proofs.table.put_retentions.Given as goal
 
 abbrev pub invariant-loop-entry : goal.invariant-loop-entry

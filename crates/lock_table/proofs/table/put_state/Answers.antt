@@ -1,4 +1,4 @@
-use Rattle.lock_table.proofs.Names.{map, length, refl, ap, ◌∙◌, length-map, resource_by, in_state, part_of, owners_in, entry_apart, changed_seen, changed_table, of_seen, not_here}
+use Rattle.lock_table.proofs.Imports.{map, length, refl, ap, ◌∙◌, length-map, resource_by, in_state, part_of, owners_in, entry_apart, changed_seen, changed_table, of_seen, not_here}
 use Rattle.lock_table.proofs.EntryLaws.{state_else}
 use Rattle.lock_table.proofs.table.put_state.Goals as goal
 

@@ -1,4 +1,4 @@
-use Rattle.lock_table.proofs.Names.{not, is_some, sym, refl, ◌∙◌, placed_on, all_next, joined_past, none_placed_on, Held, part_of, owners_in}
+use Rattle.lock_table.proofs.Imports.{not, is_some, sym, refl, ◌∙◌, placed_on, all_next, joined_past, none_placed_on, Held, part_of, owners_in}
 use Rattle.lock_table.proofs.table.search_at.Goals as goal
 
 pub loop-entry-preserved : goal.loop-entry-preserved

@@ -1,4 +1,4 @@
-use Rattle.lock_table.proofs.Names.{◌≡◌, not, is_some, drop, list_all, joined, placed_on, Held, part_of, owners_in}
+use Rattle.lock_table.proofs.Imports.{◌≡◌, not, is_some, drop, list_all, joined, placed_on, Held, part_of, owners_in}
 use Rattle.lock_table.proofs.table.search_at.Given as goal
 
 abbrev pub invariant-loop-entry : goal.invariant-loop-entry

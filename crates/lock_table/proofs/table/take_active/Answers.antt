@@ -1,4 +1,4 @@
-use Rattle.lock_table.proofs.Names.{arith, mapped_more, mapped_whole, owners_without_active}
+use Rattle.lock_table.proofs.Imports.{arith, mapped_more, mapped_whole, owners_without_active}
 use Rattle.lock_table.proofs.table.take_active.Goals as goal
 
 pub loop-entry-preserved : goal.loop-entry-preserved

@@ -1,4 +1,4 @@
-use Rattle.lock_table.proofs.Names.{◌≡◌, ◌≤◌, length, map, take, drop, owners_without_active}
+use Rattle.lock_table.proofs.Imports.{◌≡◌, ◌≤◌, length, map, take, drop, owners_without_active}
 use Rattle.lock_table.proofs.table.take_active.Given as goal
 
 abbrev pub invariant-loop-entry : goal.invariant-loop-entry

@@ -1,4 +1,4 @@
-use Rattle.lock_table.proofs.Names.{map, ◌∙◌, resource_by, part_of, owners_in, entry_apart, there_in, taken_seen, taken_bins}
+use Rattle.lock_table.proofs.Imports.{map, ◌∙◌, resource_by, part_of, owners_in, entry_apart, there_in, taken_seen, taken_bins}
 use Rattle.lock_table.proofs.CountLaws.{less_one}
 use Rattle.lock_table.proofs.table.take_out.Goals as goal
 

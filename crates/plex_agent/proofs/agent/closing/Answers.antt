@@ -1,4 +1,4 @@
-use Rattle.plex_agent.proofs.Names.{rules, ◌∙◌}
+use Rattle.plex_agent.proofs.Imports.{rules, ◌∙◌}
 use Rattle.plex_agent.proofs.CallerLaws.{departs_next}
 use Rattle.plex_agent.proofs.agent.closing.Goals as goal
 

@@ -1,4 +1,4 @@
-use Rattle.plex_agent.proofs.Names.{◌≡◌, drop, IsDeskOf, AtWork}
+use Rattle.plex_agent.proofs.Imports.{◌≡◌, drop, IsDeskOf, AtWork}
 use Rattle.plex_board.specs.Callers.{DepartsEach}
 use Rattle.plex_agent.proofs.agent.closing.Given as goal
 

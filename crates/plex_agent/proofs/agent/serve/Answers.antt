@@ -1,4 +1,4 @@
-use Rattle.plex_agent.proofs.Names.{rules, ◌∙◌}
+use Rattle.plex_agent.proofs.Imports.{rules, ◌∙◌}
 use Rattle.plex_agent.proofs.CallerLaws.{line_fits, does_own, does_others}
 use Rattle.plex_agent.proofs.agent.serve.Goals as goal
 use Rattle.plex_agent.proofs.agent.serve.Goals.{then-eq, else-eq}

@@ -1,4 +1,4 @@
-use Rattle.plex_agent.proofs.Names.{◌≡◌, drop, IsDeskOf, AtWork, lines_by, no_items}
+use Rattle.plex_agent.proofs.Imports.{◌≡◌, drop, IsDeskOf, AtWork, lines_by, no_items}
 use Rattle.plex_board.specs.Callers.{DoesLines}
 use Rattle.plex_agent.proofs.agent.serve.Given as goal
 

@@ -1,5 +1,5 @@
 -- The board that was started, served by all callers and closed.
-use Rattle.plex_agent.proofs.Names.{ShowsHistories, AreRunLinks, IsServed}
+use Rattle.plex_agent.proofs.Imports.{ShowsHistories, AreRunLinks, IsServed}
 use Rattle.plex_agent.proofs.RunLaws.{lines_playable, finished_is, links_asked, links_count}
 use Rattle.plex_agent.proofs.CrewLaws.{served_shows}
 use Rattle.plex_agent.proofs.at_once.threads.Goals as goal

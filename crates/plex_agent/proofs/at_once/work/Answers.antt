@@ -1,4 +1,4 @@
-use Rattle.plex_agent.proofs.Names.{◌≡◌, List, length, map, ◌∙◌, ap, arith, with_items_is, AtWork}
+use Rattle.plex_agent.proofs.Imports.{◌≡◌, List, length, map, ◌∙◌, ap, arith, with_items_is, AtWork}
 use Rattle.plex_agent.proofs.SeatedLaws.{new_crew, new_desks-are, callers-desks}
 use Rattle.plex_agent.proofs.CrewLaws.{crew_is_idle, lines_fit, work_each, worked-callers}
 use Rattle.plex_agent.proofs.at_once.work.Goals as goal

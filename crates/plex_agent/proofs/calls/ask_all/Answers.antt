@@ -1,4 +1,4 @@
-use Rattle.plex_agent.proofs.Names.{rules, ◌≤◌, ◌∙◌, option_copied, CellShown, pass_at, cell_on, IsAsked, at_work}
+use Rattle.plex_agent.proofs.Imports.{rules, ◌≤◌, ◌∙◌, option_copied, CellShown, pass_at, cell_on, IsAsked, at_work}
 use Rattle.plex_board.specs.PlexScript.declared.transcripts.AgentEnd.TheVariants as ended
 use Rattle.plex_agent.proofs.CellLaws.{some_is, if_each}
 use Rattle.plex_agent.proofs.AskLaws.{asks_more, asks_refused, pass_there, asked_fewer, asked_ready, asked_owner}

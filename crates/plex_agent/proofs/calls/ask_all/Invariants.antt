@@ -1,4 +1,4 @@
-use Rattle.plex_agent.proofs.Names.{◌≡◌, Some, option_copied, most_asks, IsReady, CellShown, IsDeskOf, cell_on, AtWork, Asks, at_work}
+use Rattle.plex_agent.proofs.Imports.{◌≡◌, Some, option_copied, most_asks, IsReady, CellShown, IsDeskOf, cell_on, AtWork, Asks, at_work}
 use Rattle.plex_board.specs.PlexScript.declared.transcripts.AgentEnd.TheVariants as ended
 use Rattle.plex_agent.proofs.calls.ask_all.Given as goal
 

@@ -1,4 +1,4 @@
-use Rattle.plex_agent.proofs.Names.{rules, option_copied}
+use Rattle.plex_agent.proofs.Imports.{rules, option_copied}
 use Rattle.plex_agent.proofs.CellLaws.{ask_fits, may_ask_there}
 use Rattle.plex_agent.proofs.calls.ask_step.Goals as goal
 

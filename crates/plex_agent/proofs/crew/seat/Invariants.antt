@@ -1,4 +1,4 @@
-use Rattle.plex_agent.proofs.Names.{◌≡◌, ◌+◌, ◌≤◌, ◌++◌, map, length, vec_len, vec_capacity, into_iter_items, idle_worker}
+use Rattle.plex_agent.proofs.Imports.{◌≡◌, ◌+◌, ◌≤◌, ◌++◌, map, length, vec_len, vec_capacity, into_iter_items, idle_worker}
 use Rattle.plex_agent.proofs.crew.seat.Given as goal
 
 abbrev pub invariant-loop-desk : goal.invariant-loop-desk

@@ -1,4 +1,4 @@
-use Rattle.plex_agent.proofs.Names.{◌≡◌, replicate, None}
+use Rattle.plex_agent.proofs.Imports.{◌≡◌, replicate, None}
 use Rattle.plex_agent.proofs.floor.nobody.Given as goal
 
 abbrev pub invariant-loop : goal.invariant-loop

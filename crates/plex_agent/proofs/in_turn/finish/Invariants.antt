@@ -1,4 +1,4 @@
-use Rattle.plex_agent.proofs.Names.{◌≢◌, take, All}
+use Rattle.plex_agent.proofs.Imports.{◌≢◌, take, All}
 use Rattle.plex_board.specs.PlexScript.declared.transcripts.AgentEnd.TheVariants as ended
 use Rattle.plex_agent.proofs.in_turn.finish.Given as goal
 

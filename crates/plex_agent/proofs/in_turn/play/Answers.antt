@@ -1,4 +1,4 @@
-use Rattle.plex_agent.proofs.Names.{List, Option, length, refl, sym, ◌∙◌, ap, subst, arith, NoteShown, IsTrayOf, AtWork, Floor, AreCallersOf, IsFloorOf}
+use Rattle.plex_agent.proofs.Imports.{List, Option, length, refl, sym, ◌∙◌, ap, subst, arith, NoteShown, IsTrayOf, AtWork, Floor, AreCallersOf, IsFloorOf}
 use Rattle.plex_agent.proofs.SeatedLaws.{new_callers, new_crew, new_desks-are, callers-desks}
 use Rattle.plex_agent.proofs.FloorLaws.{new_floor_is, new_floor_fits}
 use Rattle.plex_agent.proofs.in_turn.play.Goals as goal

@@ -1,5 +1,5 @@
 -- The board that was started, played to its end and closed.
-use Rattle.plex_agent.proofs.Names.{◌≡◌, ShowsHistories, AreRunLinks, serial_run, IsPlayed}
+use Rattle.plex_agent.proofs.Imports.{◌≡◌, ShowsHistories, AreRunLinks, serial_run, IsPlayed}
 use Rattle.plex_agent.proofs.RunLaws.{lines_playable, finished_is, links_asked, links_count, played_exact, played_shows}
 use Rattle.plex_agent.proofs.in_turn.serial.Goals as goal
 

@@ -1,4 +1,4 @@
-use Rattle.plex_board.proofs.Names.{◌≡◌, vec_len, each_with, home_with, homes_shown, Fits}
+use Rattle.plex_board.proofs.Imports.{◌≡◌, vec_len, each_with, home_with, homes_shown, Fits}
 use Rattle.plex_board.proofs.ending.bring_home.Given as goal
 
 abbrev pub invariant-loop-place : goal.invariant-loop-place

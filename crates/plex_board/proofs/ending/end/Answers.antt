@@ -1,4 +1,4 @@
-use Rattle.plex_board.proofs.Names.{rules, length, sym, ap, ◌∙◌, arith, length-append}
+use Rattle.plex_board.proofs.Imports.{rules, length, sym, ap, ◌∙◌, arith, length-append}
 use Rattle.plex_board.proofs.EndLaws.{taken-first, none-left, all-accounts, end-homes, end-ended, end-asked, end-count, end-done, asked-done}
 use Rattle.plex_board.proofs.ending.end.Goals as goal
 

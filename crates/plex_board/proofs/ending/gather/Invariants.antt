@@ -1,4 +1,4 @@
-use Rattle.plex_board.proofs.Names.{◌≡◌, into_iter_items, homes_shown, AllFit, homes_gathered}
+use Rattle.plex_board.proofs.Imports.{◌≡◌, into_iter_items, homes_shown, AllFit, homes_gathered}
 use Rattle.plex_board.proofs.ending.gather.Given as goal
 
 abbrev pub invariant-loop-desk : goal.invariant-loop-desk

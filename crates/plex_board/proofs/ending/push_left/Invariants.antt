@@ -1,4 +1,4 @@
-use Rattle.plex_board.proofs.Names.{◌≡◌, ◌+◌, ◌≤◌, ◌++◌, vec_len, vec_capacity, into_iter_items, into_iter_len}
+use Rattle.plex_board.proofs.Imports.{◌≡◌, ◌+◌, ◌≤◌, ◌++◌, vec_len, vec_capacity, into_iter_items, into_iter_len}
 use Rattle.plex_board.proofs.ending.push_left.Given as goal
 
 abbrev pub invariant-loop-link : goal.invariant-loop-link

@@ -1,4 +1,4 @@
-use Rattle.plex_board.proofs.Names.{◌-◌, ◌<◌, ◌≤◌, length, sym, subst, arith, ◌∙◌, length-set, STRUCTURES}
+use Rattle.plex_board.proofs.Imports.{◌-◌, ◌<◌, ◌≤◌, length, sym, subst, arith, ◌∙◌, length-set, STRUCTURES}
 use Rattle.plex_board.proofs.DealLaws.{deal-some, deal-next, deal-desks, deal-unused, few-left}
 use Rattle.plex_board.proofs.opening.deal.Goals as goal
 

@@ -1,4 +1,4 @@
-use Rattle.plex_board.proofs.Names.{◌≡◌, ◌<◌, ◌≤◌, ℕ, [], length, get_or, All, STRUCTURES, passes_shown, type_of_passes, room_of, DeskShown, each_with, desk_with}
+use Rattle.plex_board.proofs.Imports.{◌≡◌, ◌<◌, ◌≤◌, ℕ, [], length, get_or, All, STRUCTURES, passes_shown, type_of_passes, room_of, DeskShown, each_with, desk_with}
 use Rattle.plex_board.proofs.opening.deal.Given as goal
 
 abbrev pub invariant-loop-pass : goal.invariant-loop-pass

@@ -1,4 +1,4 @@
-use Rattle.plex_board.proofs.Names.{◌≡◌, map, range_with_len, bare_desk}
+use Rattle.plex_board.proofs.Imports.{◌≡◌, map, range_with_len, bare_desk}
 use Rattle.plex_board.proofs.opening.new_desks.Given as goal
 
 abbrev pub invariant-loop-owner : goal.invariant-loop-owner

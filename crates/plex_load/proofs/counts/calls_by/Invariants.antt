@@ -1,4 +1,4 @@
-use Rattle.plex_load.proofs.Names.{◌≡◌, take, calls_by}
+use Rattle.plex_load.proofs.Imports.{◌≡◌, take, calls_by}
 use Rattle.plex_load.proofs.counts.calls_by.Given as goal
 
 abbrev pub invariant-loop-history : goal.invariant-loop-history

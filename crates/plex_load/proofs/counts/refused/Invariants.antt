@@ -1,4 +1,4 @@
-use Rattle.plex_load.proofs.Names.{◌≡◌, sum_by, take, refusals_of}
+use Rattle.plex_load.proofs.Imports.{◌≡◌, sum_by, take, refusals_of}
 use Rattle.plex_load.proofs.counts.refused.Given as goal
 
 abbrev pub invariant-loop-history : goal.invariant-loop-history

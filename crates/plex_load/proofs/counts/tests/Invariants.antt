@@ -1,4 +1,4 @@
-use Rattle.plex_load.proofs.Names.{◌≡◌, sum_by, take, tests_of}
+use Rattle.plex_load.proofs.Imports.{◌≡◌, sum_by, take, tests_of}
 use Rattle.plex_load.proofs.counts.tests.Given as goal
 
 abbrev pub invariant-loop-transcript : goal.invariant-loop-transcript

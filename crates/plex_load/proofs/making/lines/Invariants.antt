@@ -1,4 +1,4 @@
-use Rattle.plex_load.proofs.Names.{◌≡◌, first_number, lines_of_first}
+use Rattle.plex_load.proofs.Imports.{◌≡◌, first_number, lines_of_first}
 use Rattle.plex_load.proofs.making.lines.Given as goal
 
 -- the lines of the connectors before this one stand there, and the number goes on from the last of them

@@ -1,4 +1,4 @@
-use Rattle.plex_load.proofs.Names.{◌≡◌, ◌++◌, flat_map, line_text, calls_lines}
+use Rattle.plex_load.proofs.Imports.{◌≡◌, ◌++◌, flat_map, line_text, calls_lines}
 use Rattle.plex_load.proofs.summing.put_callers.Given as goal
 
 -- the lines of the connectors before this one stand there

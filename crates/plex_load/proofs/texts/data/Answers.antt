@@ -1,4 +1,4 @@
-use Rattle.plex_load.proofs.Names.{no_fault}
+use Rattle.plex_load.proofs.Imports.{no_fault}
 use Rattle.plex_load.proofs.texts.data.Goals as goal
 
 pub unreachable-requires : goal.unreachable-requires

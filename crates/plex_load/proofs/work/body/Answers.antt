@@ -1,4 +1,4 @@
-use Rattle.plex_load.proofs.Names.{◌≡◌, ◌+◌}
+use Rattle.plex_load.proofs.Imports.{◌≡◌, ◌+◌}
 use Rattle.plex_load.proofs.TermLaws.{body_term}
 use Rattle.plex_load.proofs.work.body.Goals as goal
 

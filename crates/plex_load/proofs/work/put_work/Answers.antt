@@ -1,4 +1,4 @@
-use Rattle.plex_load.proofs.Names.{sym, append-nil}
+use Rattle.plex_load.proofs.Imports.{sym, append-nil}
 use Rattle.plex_load.proofs.NumberLaws.{after_none}
 use Rattle.plex_load.proofs.work.put_work.Goals as goal
 

@@ -1,4 +1,4 @@
-use Rattle.plex_load.proofs.Names.{◌≡◌, ◌++◌, map, range_with_len, number_after, work_line}
+use Rattle.plex_load.proofs.Imports.{◌≡◌, ◌++◌, map, range_with_len, number_after, work_line}
 use Rattle.plex_load.proofs.work.put_work.Given as goal
 
 -- the lines before this one stand there, and the number is that of the last of them

@@ -1,4 +1,4 @@
-use Rattle.plex_locks.proofs.Names.{arith, ◌≡◌, ◌<◌, ℕ, map, length, sym, ap, ◌∙◌, subst, All, List, AllPairs, slice_index, length-map-range_with_len, Name16, AreCompatible, HandSeen, new_hand, AreAll, HasValue, all_held, IsOthers, Line, HandTold, AtLocks, AreIdle, IsLocked, told_of}
+use Rattle.plex_locks.proofs.Imports.{arith, ◌≡◌, ◌<◌, ℕ, map, length, sym, ap, ◌∙◌, subst, All, List, AllPairs, slice_index, length-map-range_with_len, Name16, AreCompatible, HandSeen, new_hand, AreAll, HasValue, all_held, IsOthers, Line, HandTold, AtLocks, AreIdle, IsLocked, told_of}
 use Rattle.plex_locks.proofs.ToldLaws.{length-idle, all-ready, all-hands, told-right}
 use Rattle.plex_locks.proofs.locking.all_done.Goals as goal
 

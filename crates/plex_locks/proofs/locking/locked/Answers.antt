@@ -1,4 +1,4 @@
-use Rattle.plex_locks.proofs.Names.{◌≡◌, ◌⊎◌, [], length, inl, inr, ⊎_elim, sym, ap, ◌∙◌, eqb-true, entries_of}
+use Rattle.plex_locks.proofs.Imports.{◌≡◌, ◌⊎◌, [], length, inl, inr, ⊎_elim, sym, ap, ◌∙◌, eqb-true, entries_of}
 use Rattle.plex_locks.proofs.ToldLaws.{nobody-named, none-told}
 use Rattle.plex_locks.proofs.locking.locked.Goals as goal
 

@@ -1,4 +1,4 @@
-use Rattle.plex_locks.proofs.Names.{◌≡◌, ◌++◌, drop, map, none_told}
+use Rattle.plex_locks.proofs.Imports.{◌≡◌, ◌++◌, drop, map, none_told}
 use Rattle.plex_locks.proofs.locking.none_done.Given as goal
 
 -- with the connectors that are left they are all

@@ -1,4 +1,4 @@
-use Rattle.plex_locks.proofs.Names.{◌≡◌, ◌++◌, map, into_iter_items, told_of}
+use Rattle.plex_locks.proofs.Imports.{◌≡◌, ◌++◌, map, into_iter_items, told_of}
 use Rattle.plex_locks.proofs.locking.part.Given as goal
 
 -- with the workers that are left they are all

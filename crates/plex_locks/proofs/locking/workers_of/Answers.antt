@@ -1,4 +1,4 @@
-use Rattle.plex_locks.proofs.Names.{rules, arith, ap, ◌≡◌, ◌∷◌, into_iter_items, AtLocks}
+use Rattle.plex_locks.proofs.Imports.{rules, arith, ap, ◌≡◌, ◌∷◌, into_iter_items, AtLocks}
 use Rattle.plex_locks.proofs.ToldLaws.{dealt-more, first-left}
 use Rattle.plex_locks.proofs.locking.workers_of.Goals as goal
 

@@ -1,4 +1,4 @@
-use Rattle.plex_locks.proofs.Names.{into_iter_items, IsDealt}
+use Rattle.plex_locks.proofs.Imports.{into_iter_items, IsDealt}
 use Rattle.plex_locks.proofs.locking.workers_of.Given as goal
 
 -- with the connectors and the hands that are left they are all

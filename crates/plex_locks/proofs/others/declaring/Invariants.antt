@@ -1,4 +1,4 @@
-use Rattle.plex_locks.proofs.Names.{◌≡◌, ℕ, length, lines_of, line_number, declaring}
+use Rattle.plex_locks.proofs.Imports.{◌≡◌, ℕ, length, lines_of, line_number, declaring}
 use Rattle.plex_locks.proofs.others.declaring.Given as goal
 
 -- it is declared among the lines that are left

@@ -1,4 +1,4 @@
-use Rattle.plex_locks.proofs.Names.{sym, rest_whole, lines-feed, lines-last, nothing_left}
+use Rattle.plex_locks.proofs.Imports.{sym, rest_whole, lines-feed, lines-last, nothing_left}
 use Rattle.plex_locks.proofs.others.first_line.Goals as goal
 
 pub returns-in-Some-clause-lines : goal.returns-in-Some-clause-lines

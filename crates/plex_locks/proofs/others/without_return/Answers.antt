@@ -1,4 +1,4 @@
-use Rattle.plex_locks.proofs.Names.{◌≡◌, ◌<◌, ◌-◌, length, sym, arith, suc, nat_tests, return-yes, return-no}
+use Rattle.plex_locks.proofs.Imports.{◌≡◌, ◌<◌, ◌-◌, length, sym, arith, suc, nat_tests, return-yes, return-no}
 use Rattle.plex_locks.proofs.others.without_return.Goals as goal
 
 pub returns-then-line-last-eq13 : goal.returns-then-line-last-eq13

@@ -1,4 +1,4 @@
-use Rattle.plex_locks.proofs.Names.{◌≡◌, drop, find, is_other}
+use Rattle.plex_locks.proofs.Imports.{◌≡◌, drop, find, is_other}
 use Rattle.plex_locks.proofs.requests.other_line.Given as goal
 
 -- the first one is among the lines that are left

@@ -1,4 +1,4 @@
-use Rattle.plex_locks.proofs.Names.{◌≡◌, ◌++◌, drop, filter_map, task_by}
+use Rattle.plex_locks.proofs.Imports.{◌≡◌, ◌++◌, drop, filter_map, task_by}
 use Rattle.plex_locks.proofs.requests.tasks_by.Given as goal
 
 -- with those of the lines that are left they are all

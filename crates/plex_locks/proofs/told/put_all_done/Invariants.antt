@@ -1,4 +1,4 @@
-use Rattle.plex_locks.proofs.Names.{◌≡◌, ◌++◌, drop, map, flat_map, line_text, done_line}
+use Rattle.plex_locks.proofs.Imports.{◌≡◌, ◌++◌, drop, map, flat_map, line_text, done_line}
 use Rattle.plex_locks.proofs.told.put_all_done.Given as goal
 
 -- with the lines that are left the text is what it is to be

@@ -1,4 +1,4 @@
-use Rattle.plex_locks.proofs.Names.{◌≡◌, ◌++◌, drop, flat_map, line_text, hand_lines}
+use Rattle.plex_locks.proofs.Imports.{◌≡◌, ◌++◌, drop, flat_map, line_text, hand_lines}
 use Rattle.plex_locks.proofs.told.put_hands.Given as goal
 
 -- with the lines that are left the text is what it is to be

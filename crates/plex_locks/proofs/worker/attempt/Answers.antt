@@ -1,4 +1,4 @@
-use Rattle.plex_locks.proofs.Names.{◌++◌, ◌∷◌, [], sym, ap, ◌∙◌, subst, Request, word_of, IsWorked}
+use Rattle.plex_locks.proofs.Imports.{◌++◌, ◌∷◌, [], sym, ap, ◌∙◌, subst, Request, word_of, IsWorked}
 use Rattle.plex_locks.proofs.WorkLaws.{obtained, released}
 use Rattle.plex_locks.proofs.worker.attempt.Goals as goal
 

@@ -1,4 +1,4 @@
-use Rattle.plex_report.proofs.Names.{◌≡◌, ◌++◌, drop, map, tail_of}
+use Rattle.plex_report.proofs.Imports.{◌≡◌, ◌++◌, drop, map, tail_of}
 use Rattle.plex_report.proofs.items.put_all.Given as goal
 
 -- with the items that are left the line is what it is to be

@@ -1,4 +1,4 @@
-use Rattle.plex_report.proofs.Names.{◌≡◌, ◌-◌, ◌++◌, [], ◌∷◌, sym, ap, ◌∙◌, append-nil, append_assoc, arith, binary_digits}
+use Rattle.plex_report.proofs.Imports.{◌≡◌, ◌-◌, ◌++◌, [], ◌∷◌, sym, ap, ◌∙◌, append-nil, append_assoc, arith, binary_digits}
 use Rattle.plex_report.proofs.Digits.{digits_end}
 use Rattle.plex_report.proofs.lines.put_bits.Goals as goal
 

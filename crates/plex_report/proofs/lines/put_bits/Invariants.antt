@@ -1,4 +1,4 @@
-use Rattle.plex_report.proofs.Names.{◌≡◌, ◌-◌, ◌++◌, binary_digits}
+use Rattle.plex_report.proofs.Imports.{◌≡◌, ◌-◌, ◌++◌, binary_digits}
 use Rattle.plex_report.proofs.lines.put_bits.Given as goal
 
 -- with the digits that are left the line is what it is to be

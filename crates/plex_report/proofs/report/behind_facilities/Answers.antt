@@ -1,4 +1,4 @@
-use Rattle.plex_report.proofs.Names.{[], ◌∷◌, ◌++◌, codes, map, connector_line, histories_lines, transcripts_lines}
+use Rattle.plex_report.proofs.Imports.{[], ◌∷◌, ◌++◌, codes, map, connector_line, histories_lines, transcripts_lines}
 use Rattle.plex_report.proofs.Sections.{structure_spot, structures_after}
 use Rattle.plex_report.proofs.report.behind_facilities.Goals as goal
 

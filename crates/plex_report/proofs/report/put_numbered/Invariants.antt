@@ -1,4 +1,4 @@
-use Rattle.plex_report.proofs.Names.{◌≡◌, ◌++◌, drop, with_number}
+use Rattle.plex_report.proofs.Imports.{◌≡◌, ◌++◌, drop, with_number}
 use Rattle.plex_report.proofs.report.put_numbered.Given as goal
 
 -- with those that are left the list is what it is to be

@@ -1,4 +1,4 @@
-use Rattle.plex_report.proofs.Names.{◌≡◌, ◌++◌, ℕ, List, Some, map, sym, ap, ◌∙◌, slice_get, line_text, report_lines}
+use Rattle.plex_report.proofs.Imports.{◌≡◌, ◌++◌, ℕ, List, Some, map, sym, ap, ◌∙◌, slice_get, line_text, report_lines}
 use Rattle.plex_report.proofs.LinesAt.{text_more}
 use Rattle.plex_report.proofs.report.render.Goals as goal
 

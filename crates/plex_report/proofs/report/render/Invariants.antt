@@ -1,4 +1,4 @@
-use Rattle.plex_report.proofs.Names.{◌≡◌, take, flat_map, line_text, report_lines}
+use Rattle.plex_report.proofs.Imports.{◌≡◌, take, flat_map, line_text, report_lines}
 use Rattle.plex_report.proofs.report.render.Given as goal
 
 -- the lines before this one stand there

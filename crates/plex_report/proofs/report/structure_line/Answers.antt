@@ -1,4 +1,4 @@
-use Rattle.plex_report.proofs.Names.{◌≡◌, ◌-◌, length, Some, sym, ap, ◌∙◌, arith, form_line, pref_line}
+use Rattle.plex_report.proofs.Imports.{◌≡◌, ◌-◌, length, Some, sym, ap, ◌∙◌, arith, form_line, pref_line}
 use Rattle.plex_report.proofs.LinesAt.{get_item}
 use Rattle.plex_report.proofs.report.structure_line.Goals as goal
 

@@ -1,4 +1,4 @@
-use Rattle.plex_report.proofs.Names.{◌-◌, length, Some, codes, sym, ap, ◌∙◌, arith, structure_name, heading, entry_line}
+use Rattle.plex_report.proofs.Imports.{◌-◌, length, Some, codes, sym, ap, ◌∙◌, arith, structure_name, heading, entry_line}
 use Rattle.plex_report.proofs.LinesAt.{get_read}
 use Rattle.plex_report.proofs.report.told_line.Goals as goal
 

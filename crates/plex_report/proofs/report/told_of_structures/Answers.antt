@@ -1,4 +1,4 @@
-use Rattle.plex_report.proofs.Names.{[], ◌∷◌, ◌++◌, codes, transcripts_lines}
+use Rattle.plex_report.proofs.Imports.{[], ◌∷◌, ◌++◌, codes, transcripts_lines}
 use Rattle.plex_report.proofs.Sections.{history_spot, histories_after}
 use Rattle.plex_report.proofs.report.told_of_structures.Goals as goal
 

@@ -1,4 +1,4 @@
-use Rattle.plex_report.proofs.Names.{◌≡◌, [], ◌∷◌, codes, Some, ap, sym, ◌∙◌, arith, slice_get}
+use Rattle.plex_report.proofs.Imports.{◌≡◌, [], ◌∷◌, codes, Some, ap, sym, ◌∙◌, arith, slice_get}
 use Rattle.plex_report.proofs.Sections.{transcript_spot, transcripts_after, past_end}
 use Rattle.plex_report.proofs.report.told_to_callers.Goals as goal
 

@@ -1,4 +1,4 @@
-use Rattle.plex_report.proofs.Names.{◌≡◌, ◌-◌, length, Some, codes, sym, ap, ◌∙◌, arith, caller_name, heading, shown_line}
+use Rattle.plex_report.proofs.Imports.{◌≡◌, ◌-◌, length, Some, codes, sym, ap, ◌∙◌, arith, caller_name, heading, shown_line}
 use Rattle.plex_report.proofs.LinesAt.{get_item}
 use Rattle.plex_report.proofs.report.transcript_line.Goals as goal
 

@@ -1,4 +1,4 @@
-use Rattle.plex_report.proofs.Names.{◌≡◌, ◌+◌, take, sum_by}
+use Rattle.plex_report.proofs.Imports.{◌≡◌, ◌+◌, take, sum_by}
 use Rattle.plex_report.proofs.spots.spot_of.Given as goal
 
 -- so many lines have the sections before

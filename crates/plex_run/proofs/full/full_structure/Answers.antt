@@ -1,4 +1,4 @@
-use Rattle.plex_run.proofs.Names.{◌≡◌, ◌∙◌, sym, false, is_full_at}
+use Rattle.plex_run.proofs.Imports.{◌≡◌, ◌∙◌, sym, false, is_full_at}
 use Rattle.plex_run.proofs.Found.{find_later}
 use Rattle.plex_run.proofs.full.full_structure.Goals as goal
 

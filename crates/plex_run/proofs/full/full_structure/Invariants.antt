@@ -1,4 +1,4 @@
-use Rattle.plex_run.proofs.Names.{◌≡◌, drop, find, enumerate_from, is_full_at}
+use Rattle.plex_run.proofs.Imports.{◌≡◌, drop, find, enumerate_from, is_full_at}
 use Rattle.plex_run.proofs.full.full_structure.Given as goal
 
 abbrev pub invariant-loop-place : goal.invariant-loop-place

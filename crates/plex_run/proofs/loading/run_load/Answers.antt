@@ -1,4 +1,4 @@
-use Rattle.plex_run.proofs.Names.{wires, reading_of}
+use Rattle.plex_run.proofs.Imports.{wires, reading_of}
 use Rattle.plex_run.proofs.LoadRunLaws.{load_runnable, load_run, IfOk-so}
 use Rattle.plex_run.proofs.loading.run_load.Goals as goal
 

@@ -1,4 +1,4 @@
-use Rattle.plex_run.proofs.Names.{output, script_limit, locks_word}
+use Rattle.plex_run.proofs.Imports.{output, script_limit, locks_word}
 use Rattle.plex_run.proofs.UnreadLaws.{longer, unread_long}
 use Rattle.plex_run.proofs.TextLaws.{unread_ends}
 use Rattle.plex_run.proofs.locks.locked_in.Goals as goal

@@ -1,4 +1,4 @@
-use Rattle.plex_run.proofs.Names.{codes, output, locks_word}
+use Rattle.plex_run.proofs.Imports.{codes, output, locks_word}
 use Rattle.plex_run.proofs.TextLaws.{refused_ends}
 use Rattle.plex_run.proofs.OutcomeLaws.{fits}
 use Rattle.plex_run.proofs.LocksLaws.{fault_told, not_words_told, locks_fair, locks_end}

@@ -1,4 +1,4 @@
-use Rattle.plex_run.proofs.Names.{◌≡◌, wires, output, Gains, why_word, script_line, script_word}
+use Rattle.plex_run.proofs.Imports.{◌≡◌, wires, output, Gains, why_word, script_line, script_word}
 use Rattle.plex_run.proofs.RunnableLaws.{runnable}
 use Rattle.plex_run.proofs.TextLaws.{refused_ends}
 use Rattle.plex_run.proofs.OutcomeLaws.{fault_told, fits, run_ends, runs_fair}

@@ -1,4 +1,4 @@
-use Rattle.plex_run.proofs.Names.{◌≡◌, ◌∙◌, Some, refl, ap, wires, output, script_limit, script_word}
+use Rattle.plex_run.proofs.Imports.{◌≡◌, ◌∙◌, Some, refl, ap, wires, output, script_limit, script_word}
 use Rattle.plex_run.specs.declared.way.Work.TheVariants as works
 use Rattle.plex_run.proofs.TextLaws.{unread_ends}
 use Rattle.plex_run.proofs.UnreadLaws.{longer, unread_long}

@@ -1,4 +1,4 @@
-use Rattle.plex_run.proofs.Names.{◌≡◌, ◌++◌, Option, subst, Name16, report_of, full_line, memory_line, reading_of, full_of, run_text, output, GainsPrefix}
+use Rattle.plex_run.proofs.Imports.{◌≡◌, ◌++◌, Option, subst, Name16, report_of, full_line, memory_line, reading_of, full_of, run_text, output, GainsPrefix}
 use Rattle.plex_run.proofs.Written.{broken_off}
 use Rattle.plex_run.proofs.running.written.Goals as goal
 

@@ -1,4 +1,4 @@
-use Rattle.plex_run.proofs.Names.{◌≡◌, length, arith}
+use Rattle.plex_run.proofs.Imports.{◌≡◌, length, arith}
 use Rattle.plex_run.proofs.WordLaws.{asks_load, is_asked}
 use Rattle.plex_run.proofs.way.work_of.Goals as goal
 

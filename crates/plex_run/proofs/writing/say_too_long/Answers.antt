@@ -1,4 +1,4 @@
-use Rattle.plex_run.proofs.Names.{subst, output, Gains}
+use Rattle.plex_run.proofs.Imports.{subst, output, Gains}
 use Rattle.plex_run.proofs.StatusLaws.{too_long-spelled}
 use Rattle.plex_run.proofs.writing.say_too_long.Goals as goal
 

@@ -1,4 +1,4 @@
-use Rattle.plex_run.proofs.Names.{◌≡◌, [], ◌++◌, List, ℕ, subst, concat, Appends, Appends-trans, GainsPrefix}
+use Rattle.plex_run.proofs.Imports.{◌≡◌, [], ◌++◌, List, ℕ, subst, concat, Appends, Appends-trans, GainsPrefix}
 use Rattle.plex_run.proofs.Written.{GainsPrefix-after, GainsPrefix-before, OnErr-always, OnErr-so, OnOk-so}
 use Rattle.plex_run.proofs.writing.write_headed.Goals as goal
 

@@ -1,4 +1,4 @@
-use Rattle.plex_run.proofs.Names.{◌≡◌, None, Some, rules}
+use Rattle.plex_run.proofs.Imports.{◌≡◌, None, Some, rules}
 use Rattle.std.specs.List.{slice_get}
 use Rattle.plex_run.proofs.Written.{OnErr-always, OnErr-so, OnOk-always, OnOk-so}
 use Rattle.plex_run.proofs.ReportLaws.{all_written, all_short, text_front, text_front_more}

@@ -1,4 +1,4 @@
-use Rattle.plex_run.proofs.Names.{◌≡◌, ◌≤◌, ◌<◌, ◌^◌, length, take, concat, PassesOn}
+use Rattle.plex_run.proofs.Imports.{◌≡◌, ◌≤◌, ◌<◌, ◌^◌, length, take, concat, PassesOn}
 use Rattle.plex_run.proofs.writing.write_lines.Given as goal
 
 -- the lines before this one were put

@@ -1,4 +1,4 @@
-use Rattle.plex_run.proofs.Names.{◌≡◌, ◌++◌, ◌<◌, ◌^◌, length, ℕ, List, map, ◌∙◌, subst, concat, line_text, report_lines, report_of, full_line, reading_of, output, Writes, WritesFront}
+use Rattle.plex_run.proofs.Imports.{◌≡◌, ◌++◌, ◌<◌, ◌^◌, length, ℕ, List, map, ◌∙◌, subst, concat, line_text, report_lines, report_of, full_line, reading_of, output, Writes, WritesFront}
 use Rattle.plex_run.proofs.Written.{OnErr-so, OnOk-so}
 use Rattle.plex_run.proofs.ReportLaws.{report_text, headed_text}
 use Rattle.plex_run.proofs.writing.write_run.Goals as goal

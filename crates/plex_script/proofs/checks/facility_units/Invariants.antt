@@ -1,4 +1,4 @@
-use Rattle.plex_script.proofs.Names.{◌≡◌, drop, facility_units}
+use Rattle.plex_script.proofs.Imports.{◌≡◌, drop, facility_units}
 use Rattle.plex_script.proofs.checks.facility_units.Given as goal
 
 abbrev pub invariant-loop-facility : goal.invariant-loop-facility

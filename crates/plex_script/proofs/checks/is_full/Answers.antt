@@ -1,4 +1,4 @@
-use Rattle.plex_script.proofs.Names.{rules}
+use Rattle.plex_script.proofs.Imports.{rules}
 use Rattle.plex_script.proofs.checks.is_full.Goals as goal
 
 -- the wrong body seventeenth_structure is refused at this goal

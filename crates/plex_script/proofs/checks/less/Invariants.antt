@@ -1,4 +1,4 @@
-use Rattle.plex_script.proofs.Names.{◌≡◌, drop, units_of, remainder}
+use Rattle.plex_script.proofs.Imports.{◌≡◌, drop, units_of, remainder}
 use Rattle.plex_script.proofs.checks.less.Given as goal
 
 abbrev pub invariant-loop-pref : goal.invariant-loop-pref

@@ -1,4 +1,4 @@
-use Rattle.plex_script.proofs.Names.{◌≡◌, drop, units_of, all_prefs, remainder}
+use Rattle.plex_script.proofs.Imports.{◌≡◌, drop, units_of, all_prefs, remainder}
 use Rattle.plex_script.proofs.checks.less_all.Given as goal
 
 abbrev pub invariant-loop-form : goal.invariant-loop-form

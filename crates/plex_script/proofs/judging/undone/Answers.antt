@@ -1,4 +1,4 @@
-use Rattle.plex_script.proofs.Names.{rules}
+use Rattle.plex_script.proofs.Imports.{rules}
 use Rattle.plex_script.proofs.judging.undone.Goals as goal
 
 pub returns : goal.returns

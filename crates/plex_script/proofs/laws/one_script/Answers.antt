@@ -1,4 +1,4 @@
-use Rattle.plex_script.proofs.Names.{lines_of, empty_script}
+use Rattle.plex_script.proofs.Imports.{lines_of, empty_script}
 use Rattle.plex_script.proofs.LineLaws.{all-one}
 use Rattle.plex_script.proofs.laws.one_script.Goals as goal
 

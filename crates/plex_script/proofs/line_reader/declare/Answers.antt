@@ -1,4 +1,4 @@
-use Rattle.plex_script.proofs.Names.{◌≡◌, sym, true, false, err_from_is_err_and, on_ok_weaker, words_of, has_lines, is_twice, is_too_much, script_of}
+use Rattle.plex_script.proofs.Imports.{◌≡◌, sym, true, false, err_from_is_err_and, on_ok_weaker, words_of, has_lines, is_twice, is_too_much, script_of}
 use Rattle.plex_script.proofs.CauseLaws.{policy-fault, policy-twice, policy-space, fits-judged, room-fits, no_excess, adds-fits}
 use Rattle.plex_script.proofs.line_reader.declare.Goals as goal
 

@@ -1,4 +1,4 @@
-use Rattle.plex_script.proofs.Names.{rules}
+use Rattle.plex_script.proofs.Imports.{rules}
 use Rattle.plex_script.proofs.printer.put_act.Goals as goal
 
 -- the wrong body prints_a_test_of_a_word_as_one_of_a_bit is refused at this goal

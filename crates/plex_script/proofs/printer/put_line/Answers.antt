@@ -1,4 +1,4 @@
-use Rattle.plex_script.proofs.Names.{◌++◌, List, ℕ, sym, ◌∙◌, ap, on_ok_weaker}
+use Rattle.plex_script.proofs.Imports.{◌++◌, List, ℕ, sym, ◌∙◌, ap, on_ok_weaker}
 use Rattle.plex_script.proofs.Spaced.{body_words, four_parts}
 use Rattle.plex_script.proofs.printer.put_line.Goals as goal
 

@@ -1,4 +1,4 @@
-use Rattle.plex_script.proofs.Names.{◌≡◌, ◌++◌, drop, map, flat_map, line_text, pref_line}
+use Rattle.plex_script.proofs.Imports.{◌≡◌, ◌++◌, drop, map, flat_map, line_text, pref_line}
 use Rattle.plex_script.proofs.printer.put_prefs.Given as goal
 
 -- with the lines that are left the text is what it is to be

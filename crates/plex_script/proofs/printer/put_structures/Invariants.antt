@@ -1,4 +1,4 @@
-use Rattle.plex_script.proofs.Names.{◌≡◌, ◌++◌, drop, flat_map, line_text, structure_lines}
+use Rattle.plex_script.proofs.Imports.{◌≡◌, ◌++◌, drop, flat_map, line_text, structure_lines}
 use Rattle.plex_script.proofs.printer.put_structures.Given as goal
 
 -- with the lines that are left the text is what it is to be

@@ -1,4 +1,4 @@
-use Rattle.plex_script.proofs.Names.{sym, rest_whole}
+use Rattle.plex_script.proofs.Imports.{sym, rest_whole}
 use Rattle.plex_script.proofs.ReadLaws.{lines-feed, lines-last, nothing_left}
 use Rattle.plex_script.proofs.reader.first_line.Goals as goal
 

@@ -1,4 +1,4 @@
-use Rattle.plex_script.proofs.Names.{rules, script_of}
+use Rattle.plex_script.proofs.Imports.{rules, script_of}
 use Rattle.plex_script.proofs.ReadLaws.{IsRead-more}
 use Rattle.plex_script.proofs.reader.read.Goals as goal
 

@@ -1,4 +1,4 @@
-use Rattle.plex_script.proofs.Names.{length, script_of}
+use Rattle.plex_script.proofs.Imports.{length, script_of}
 use Rattle.plex_script.proofs.ReadLaws.{IsRead}
 use Rattle.plex_script.proofs.reader.read.Given as goal
 

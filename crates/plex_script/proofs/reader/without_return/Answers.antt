@@ -1,4 +1,4 @@
-use Rattle.plex_script.proofs.Names.{◌≡◌, ◌<◌, ◌-◌, length, sym, arith, suc, nat_tests}
+use Rattle.plex_script.proofs.Imports.{◌≡◌, ◌<◌, ◌-◌, length, sym, arith, suc, nat_tests}
 use Rattle.plex_script.proofs.ReadLaws.{return-yes, return-no}
 use Rattle.plex_script.proofs.reader.without_return.Goals as goal
 

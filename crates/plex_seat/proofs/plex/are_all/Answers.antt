@@ -1,5 +1,5 @@
 -- Desk by desk.
-use Rattle.plex_seat.proofs.Names.{rules, ◌≡◌, ◌<◌, length, get_or, arith, false≢true}
+use Rattle.plex_seat.proofs.Imports.{rules, ◌≡◌, ◌<◌, length, get_or, arith, false≢true}
 use Rattle.plex_seat.proofs.PlexLaws.{owner_of, owner_at, from_next, all_exactly}
 use Rattle.plex_seat.proofs.plex.are_all.Goals as goal
 

@@ -1,4 +1,4 @@
-use Rattle.plex_seat.proofs.Names.{◌≡◌}
+use Rattle.plex_seat.proofs.Imports.{◌≡◌}
 use Rattle.plex_seat.proofs.PlexLaws.{AreFrom}
 use Rattle.plex_seat.proofs.plex.are_all.Given as goal
 

@@ -1,5 +1,5 @@
 -- The letters so far, and those to the members that are left, are all.
-use Rattle.plex_shell.proofs.Names.{◌≡◌, ◌+◌, ◌≤◌, letters_to, with_letters}
+use Rattle.plex_shell.proofs.Imports.{◌≡◌, ◌+◌, ◌≤◌, letters_to, with_letters}
 use Rattle.plex_shell.proofs.CallerSets.{members_from}
 use Rattle.plex_shell.proofs.letters.tell.Given as goal
 

@@ -1,4 +1,4 @@
-use Rattle.plex_spell.proofs.Names.{◌≡◌, length, words_of}
+use Rattle.plex_spell.proofs.Imports.{◌≡◌, length, words_of}
 use Rattle.plex_spell.proofs.cuts.after_blanks.Given as goal
 
 abbrev pub invariant-loop-rest : goal.invariant-loop-rest

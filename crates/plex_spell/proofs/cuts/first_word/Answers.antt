@@ -1,4 +1,4 @@
-use Rattle.plex_spell.proofs.Names.{◌≡◌, ◌∙◌, ◌∷◌, ℕ, List, drop, sym, ap, prefix_len, is_blank, words_of}
+use Rattle.plex_spell.proofs.Imports.{◌≡◌, ◌∙◌, ◌∷◌, ℕ, List, drop, sym, ap, prefix_len, is_blank, words_of}
 use Rattle.plex_spell.proofs.WordLists.{is_mark, words_of-first, place_or_length}
 use Rattle.plex_spell.proofs.cuts.first_word.Goals as goal
 

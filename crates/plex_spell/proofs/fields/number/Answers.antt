@@ -1,4 +1,4 @@
-use Rattle.plex_spell.proofs.Names.{rules}
+use Rattle.plex_spell.proofs.Imports.{rules}
 use Rattle.plex_spell.proofs.fields.number.Goals as goal
 
 -- the wrong body no_zero is refused at this goal

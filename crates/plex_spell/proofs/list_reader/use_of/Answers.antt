@@ -1,4 +1,4 @@
-use Rattle.plex_spell.proofs.Names.{rules}
+use Rattle.plex_spell.proofs.Imports.{rules}
 use Rattle.plex_spell.proofs.list_reader.use_of.Goals as goal
 
 -- the wrong body reset_sets is refused at this goal

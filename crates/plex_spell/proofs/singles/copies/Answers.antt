@@ -1,4 +1,4 @@
-use Rattle.plex_spell.proofs.Names.{◌≡◌, ◌∙◌, rules, repeat, same_from_all_zip}
+use Rattle.plex_spell.proofs.Imports.{◌≡◌, ◌∙◌, rules, repeat, same_from_all_zip}
 use Rattle.plex_spell.proofs.TextLaws.{IsTerm-repeat}
 use Rattle.plex_spell.proofs.singles.copies.Goals as goal
 

@@ -1,4 +1,4 @@
-use Rattle.plex_spell.proofs.Names.{rules}
+use Rattle.plex_spell.proofs.Imports.{rules}
 use Rattle.plex_spell.proofs.singles.fits.Goals as goal
 
 -- the wrong body one_copy_too_many is refused at this goal

@@ -1,4 +1,4 @@
-use Rattle.plex_spell.proofs.Names.{◌≡◌, ◌==◌, ◌∙◌, ◌+◌, ℕ, take, drop, Some, sym, ap}
+use Rattle.plex_spell.proofs.Imports.{◌≡◌, ◌==◌, ◌∙◌, ◌+◌, ℕ, take, drop, Some, sym, ap}
 use Rattle.plex_spell.proofs.TextLaws.{any-some, any-none, rest_whole}
 use Rattle.plex_spell.proofs.texts.cut.Goals as goal
 

@@ -1,4 +1,4 @@
-use Rattle.plex_spell.proofs.Names.{rules}
+use Rattle.plex_spell.proofs.Imports.{rules}
 use Rattle.plex_spell.proofs.texts.is_name.Goals as goal
 
 -- the wrong body reserved_name is refused at this goal

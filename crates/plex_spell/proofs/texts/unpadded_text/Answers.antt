@@ -1,4 +1,4 @@
-use Rattle.plex_spell.proofs.Names.{◌==◌, ap, take}
+use Rattle.plex_spell.proofs.Imports.{◌==◌, ap, take}
 use Rattle.plex_spell.proofs.WordLists.{place_or_length}
 use Rattle.plex_spell.proofs.texts.unpadded_text.Goals as goal
 

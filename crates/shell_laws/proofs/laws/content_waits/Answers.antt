@@ -1,4 +1,4 @@
-use Rattle.shell_laws.proofs.Names.{replay}
+use Rattle.shell_laws.proofs.Imports.{replay}
 use Rattle.shell_laws.proofs.MemberLaws.{manned-replay, content_waits}
 use Rattle.shell_laws.proofs.laws.content_waits.Goals as goal
 

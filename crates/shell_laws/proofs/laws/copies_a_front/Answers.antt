@@ -1,4 +1,4 @@
-use Rattle.shell_laws.proofs.Names.{replay}
+use Rattle.shell_laws.proofs.Imports.{replay}
 use Rattle.shell_laws.proofs.MemberLaws.{manned-replay}
 use Rattle.shell_laws.proofs.FillingLaws.{filled-replay, front-loss, front-step}
 use Rattle.shell_laws.proofs.laws.copies_a_front.Goals as goal

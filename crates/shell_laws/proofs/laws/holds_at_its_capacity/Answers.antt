@@ -1,4 +1,4 @@
-use Rattle.shell_laws.proofs.Names.{content-moved}
+use Rattle.shell_laws.proofs.Imports.{content-moved}
 use Rattle.shell_laws.proofs.CapacityLaws.{ContentLaws, held-replay}
 use Rattle.shell_laws.proofs.laws.holds_at_its_capacity.Goals as goal
 

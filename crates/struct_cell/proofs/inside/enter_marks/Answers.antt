@@ -1,4 +1,4 @@
-use Rattle.struct_cell.proofs.Names.{arith, ap, ◌+◌, ◌∙◌}
+use Rattle.struct_cell.proofs.Imports.{arith, ap, ◌+◌, ◌∙◌}
 use Rattle.struct_cell.proofs.TurnLaws.{entered-more}
 use Rattle.struct_cell.proofs.inside.enter_marks.Goals as goal
 

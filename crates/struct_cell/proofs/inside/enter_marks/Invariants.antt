@@ -1,4 +1,4 @@
-use Rattle.struct_cell.proofs.Names.{◌≡◌, ◌+◌, take, vec_len, vec_capacity, entered}
+use Rattle.struct_cell.proofs.Imports.{◌≡◌, ◌+◌, take, vec_len, vec_capacity, entered}
 use Rattle.struct_cell.proofs.inside.enter_marks.Given as goal
 
 abbrev pub invariant-loop-mark : goal.invariant-loop-mark

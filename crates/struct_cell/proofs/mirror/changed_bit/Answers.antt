@@ -1,4 +1,4 @@
-use Rattle.struct_cell.proofs.Names.{rules, ◌<◌, ◌^◌, ap, sym, ◌∙◌}
+use Rattle.struct_cell.proofs.Imports.{rules, ◌<◌, ◌^◌, ap, sym, ◌∙◌}
 use Rattle.struct_cell.proofs.Binary.{one_if}
 use Rattle.struct_cell.proofs.MirrorLaws.{bit_put}
 use Rattle.struct_cell.proofs.mirror.changed_bit.Goals as goal

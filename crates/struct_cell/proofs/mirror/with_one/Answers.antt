@@ -1,4 +1,4 @@
-use Rattle.struct_cell.proofs.Names.{w32, bit_at_set_same, bit_at_set_other}
+use Rattle.struct_cell.proofs.Imports.{w32, bit_at_set_same, bit_at_set_other}
 use Rattle.struct_cell.proofs.mirror.with_one.Goals as goal
 
 pub returns-clause-here : goal.returns-clause-here

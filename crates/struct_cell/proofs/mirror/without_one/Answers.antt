@@ -1,4 +1,4 @@
-use Rattle.struct_cell.proofs.Names.{w32, bit_at_clear_same, bit_at_clear_other}
+use Rattle.struct_cell.proofs.Imports.{w32, bit_at_clear_same, bit_at_clear_other}
 use Rattle.struct_cell.proofs.mirror.without_one.Goals as goal
 
 pub returns-clause-here : goal.returns-clause-here

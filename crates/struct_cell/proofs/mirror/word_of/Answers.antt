@@ -1,4 +1,4 @@
-use Rattle.struct_cell.proofs.Names.{◌*◌, ◌+◌, ◌^◌, ◌<◌, sym, subst, arith, shown_in}
+use Rattle.struct_cell.proofs.Imports.{◌*◌, ◌+◌, ◌^◌, ◌<◌, sym, subst, arith, shown_in}
 use Rattle.struct_cell.proofs.Binary.{word-small, next_bit, whole}
 use Rattle.struct_cell.proofs.mirror.word_of.Goals as goal
 

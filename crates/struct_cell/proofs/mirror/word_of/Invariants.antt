@@ -1,4 +1,4 @@
-use Rattle.struct_cell.proofs.Names.{◌≡◌, ◌+◌, ◌*◌, word_from, shown_in}
+use Rattle.struct_cell.proofs.Imports.{◌≡◌, ◌+◌, ◌*◌, word_from, shown_in}
 use Rattle.struct_cell.proofs.mirror.word_of.Given as goal
 
 abbrev pub invariant-loop-k : goal.invariant-loop-k

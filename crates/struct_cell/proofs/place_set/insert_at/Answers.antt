@@ -1,4 +1,4 @@
-use Rattle.struct_cell.proofs.Names.{rules, ◌≡◌, ℕ, List, [], ◌∷◌, ◌++◌, length, get_or, Some, subst, sym, ◌≢◌, slice_get, slice_set, Place, IsSpared, AreSpotted}
+use Rattle.struct_cell.proofs.Imports.{rules, ◌≡◌, ℕ, List, [], ◌∷◌, ◌++◌, length, get_or, Some, subst, sym, ◌≢◌, slice_get, slice_set, Place, IsSpared, AreSpotted}
 use Rattle.struct_cell.proofs.PlaceLaws.{spared-front}
 use Rattle.struct_cell.proofs.SpotLaws.{spotted_push}
 use Rattle.struct_cell.proofs.place_set.insert_at.Goals as goal

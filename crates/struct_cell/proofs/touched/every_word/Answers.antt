@@ -1,4 +1,4 @@
-use Rattle.struct_cell.proofs.Names.{words_of}
+use Rattle.struct_cell.proofs.Imports.{words_of}
 use Rattle.struct_cell.proofs.PlaceLaws.{vectors-more}
 use Rattle.struct_cell.proofs.touched.every_word.Goals as goal
 

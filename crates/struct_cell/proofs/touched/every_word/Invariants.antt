@@ -1,4 +1,4 @@
-use Rattle.struct_cell.proofs.Names.{◌+◌, ◌<◌, ◌≤◌, ℕ, All, words_of, IsWithin, IsSpared, AreDistinct, ComeBefore}
+use Rattle.struct_cell.proofs.Imports.{◌+◌, ◌<◌, ◌≤◌, ℕ, All, words_of, IsWithin, IsSpared, AreDistinct, ComeBefore}
 use Rattle.struct_cell.proofs.touched.every_word.Given as goal
 
 abbrev pub invariant-loop-before : goal.invariant-loop-before

@@ -1,4 +1,4 @@
-use Rattle.struct_cell.proofs.Names.{List, fold, sym, subst, ◌∙◌, BitChange, AreWordsOf, with_told, stands_at}
+use Rattle.struct_cell.proofs.Imports.{List, fold, sym, subst, ◌∙◌, BitChange, AreWordsOf, with_told, stands_at}
 use Rattle.struct_cell.proofs.MirrorLaws.{looked_all, words_gained}
 use Rattle.struct_cell.proofs.touched.follow.Goals as goal
 

@@ -1,4 +1,4 @@
-use Rattle.struct_cell.proofs.Names.{rules, ◌/◌, ◌<◌, ◌≤◌, ℕ, subst, sym, ◌∙◌}
+use Rattle.struct_cell.proofs.Imports.{rules, ◌/◌, ◌<◌, ◌≤◌, ℕ, subst, sym, ◌∙◌}
 use Rattle.struct_cell.proofs.PlaceLaws.{none-named}
 use Rattle.struct_cell.proofs.touched.name_all.Goals as goal
 

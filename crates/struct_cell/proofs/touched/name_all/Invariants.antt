@@ -1,4 +1,4 @@
-use Rattle.struct_cell.proofs.Names.{◌≡◌, ◌/◌, ◌<◌, ◌≤◌, ℕ, All, take, false, is_for, ConnId, IsSpared, IsOfTable}
+use Rattle.struct_cell.proofs.Imports.{◌≡◌, ◌/◌, ◌<◌, ◌≤◌, ℕ, All, take, false, is_for, ConnId, IsSpared, IsOfTable}
 use Rattle.struct_cell.proofs.touched.name_all.Given as goal
 
 abbrev pub invariant-loop-change : goal.invariant-loop-change

@@ -1,4 +1,4 @@
-use Rattle.struct_cell.proofs.Names.{refl}
+use Rattle.struct_cell.proofs.Imports.{refl}
 use Rattle.struct_cell.proofs.PlaceLaws.{bit-named}
 use Rattle.struct_cell.proofs.touched.name_one.Goals as goal
 

@@ -1,4 +1,4 @@
-use Rattle.struct_cell.proofs.Names.{◌<◌, ℕ, All, IsWithin, IsSpared, AreDistinct, ComeBefore}
+use Rattle.struct_cell.proofs.Imports.{◌<◌, ℕ, All, IsWithin, IsSpared, AreDistinct, ComeBefore}
 use Rattle.struct_cell.proofs.touched.put_words.Given as goal
 
 abbrev pub invariant-loop-word : goal.invariant-loop-word

@@ -1,4 +1,4 @@
-use Rattle.struct_cell.proofs.Names.{ℕ, take, true, subst₂, All, slice_get-get_or, Place, IsWithin, each-nil, each-once, each-step, word_at}
+use Rattle.struct_cell.proofs.Imports.{ℕ, take, true, subst₂, All, slice_get-get_or, Place, IsWithin, each-nil, each-once, each-step, word_at}
 use Rattle.struct_cell.proofs.PlaceLaws.{spared-before}
 use Rattle.struct_cell.proofs.words.store_words.Goals as goal
 

@@ -1,4 +1,4 @@
-use Rattle.struct_cell.proofs.Names.{take, StoresEach, word_at}
+use Rattle.struct_cell.proofs.Imports.{take, StoresEach, word_at}
 use Rattle.struct_cell.proofs.words.store_words.Given as goal
 
 abbrev pub invariant-loop-place : goal.invariant-loop-place

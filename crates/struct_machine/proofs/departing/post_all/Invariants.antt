@@ -1,4 +1,4 @@
-use Rattle.struct_machine.proofs.Names.{◌≡◌, ◌≤◌, ◌+◌, drop, with_posted}
+use Rattle.struct_machine.proofs.Imports.{◌≡◌, ◌≤◌, ◌+◌, drop, with_posted}
 use Rattle.struct_machine.proofs.departing.post_all.Given as goal
 
 abbrev pub invariant-loop-letter : goal.invariant-loop-letter

@@ -1,4 +1,4 @@
-use Rattle.struct_machine.proofs.Names.{kept_of}
+use Rattle.struct_machine.proofs.Imports.{kept_of}
 use Rattle.struct_machine.proofs.KeptLaws.{kept_entered}
 use Rattle.struct_machine.proofs.doing.answer.Goals as goal
 

@@ -1,5 +1,5 @@
 -- A call that is refused asks no link, nor does a common command but COPY.
-use Rattle.struct_machine.proofs.Names.{◌≡◌, None, false, refl, sym, ◌∙◌, rules, Reply, command_done, room_of, kept_of, shell_cause, is_copying, machine_of, IsJudgedTurn}
+use Rattle.struct_machine.proofs.Imports.{◌≡◌, None, false, refl, sym, ◌∙◌, rules, Reply, command_done, room_of, kept_of, shell_cause, is_copying, machine_of, IsJudgedTurn}
 use Rattle.engine_api.specs.declared.asks.Ask.TheVariants as ask
 use Rattle.engine_api.specs.declared.asks.Reply.TheVariants as reply
 use Rattle.struct_machine.proofs.ChangeLaws.{refused_all}

@@ -1,5 +1,5 @@
 -- A command on the content leaves the instances where they stand.
-use Rattle.struct_machine.proofs.Names.{◌≡◌, List, ◌∙◌, subst, rules, BitChange, Gains, bits_of, content_of, letters_by, kept_of}
+use Rattle.struct_machine.proofs.Imports.{◌≡◌, List, ◌∙◌, subst, rules, BitChange, Gains, bits_of, content_of, letters_by, kept_of}
 use Rattle.struct_machine.proofs.ChangeLaws.{gains_held}
 use Rattle.struct_machine.proofs.KeptLaws.{answered_some, content_alone, content_held, content_same, kept_content}
 use Rattle.struct_machine.proofs.doing.apply.Goals as goal

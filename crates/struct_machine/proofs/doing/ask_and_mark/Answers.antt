@@ -1,5 +1,5 @@
 -- The links of a command on the content are asked, and each that is down makes a mark.
-use Rattle.struct_machine.proofs.Names.{◌≡◌, [], sym, ap, ◌∙◌, subst, List, Links, AreAsked, Instances, answers_to, has, listed, Machine, ContentView, kept_of, machine_of, AreTold, asks_in, behind_marks, content_asks_of, marks_in, Mark}
+use Rattle.struct_machine.proofs.Imports.{◌≡◌, [], sym, ap, ◌∙◌, subst, List, Links, AreAsked, Instances, answers_to, has, listed, Machine, ContentView, kept_of, machine_of, AreTold, asks_in, behind_marks, content_asks_of, marks_in, Mark}
 use Rattle.struct_machine.proofs.TurnLaws.{behind_both, content_places, marks_made}
 use Rattle.struct_machine.proofs.doing.ask_and_mark.Goals as goal
 

@@ -1,5 +1,5 @@
 -- A common command does to shell and instances what the machine's step does.
-use Rattle.struct_machine.proofs.Names.{◌≡◌, Option, None, is_some, refl, sym, ◌∙◌, ap, subst, subst₂, option_map, StrForm, Room, departure_from, room_of, CfId, fresh_of, Shell, ShellOutcome, leaver, shell_cause, with_posted, kept_of, Spares, machine_of}
+use Rattle.struct_machine.proofs.Imports.{◌≡◌, Option, None, is_some, refl, sym, ◌∙◌, ap, subst, subst₂, option_map, StrForm, Room, departure_from, room_of, CfId, fresh_of, Shell, ShellOutcome, leaver, shell_cause, with_posted, kept_of, Spares, machine_of}
 use Rattle.struct_machine.proofs.CommandLaws as law
 use Rattle.struct_machine.proofs.KeptLaws.{kept_stands}
 use Rattle.struct_machine.proofs.PostedLaws.{accepted_posted, letters_none}

@@ -1,5 +1,5 @@
 -- What changed is told: any bit where the structure failed, else those that are named.
-use Rattle.struct_machine.proofs.Names.{[], Option, subst, Gains, content_of, Held, state_in}
+use Rattle.struct_machine.proofs.Imports.{[], Option, subst, Gains, content_of, Held, state_in}
 use Rattle.struct_machine.proofs.doing.do_content.Goals as goal
 
 pub returns-clause-bits : goal.returns-clause-bits

@@ -1,5 +1,5 @@
 -- COPY is done behind the marks that its links make: with a loss it is refused, and its items have gone.
-use Rattle.struct_machine.proofs.Names.{◌≡◌, ℕ, [], None, IfSome, sym, ap, ◌∙◌, subst, subst₂, List, Option, Some, false, min, both_ways, CfId, ShellCmd, Links, AreAsked, PairView, content_of, instances_of, Ask, Room, answers_to, has, listed, Machine, moved_by, room_of, fresh_of, Shell, shell_cause, shell_done, Held, with_copied, ChangeList, ContentView, kept_of, lacking_in, copy_reply, items_named, judged, machine_of, state_in, AreTold, behind_marks, copy_asks_of, marks_in, Mark}
+use Rattle.struct_machine.proofs.Imports.{◌≡◌, ℕ, [], None, IfSome, sym, ap, ◌∙◌, subst, subst₂, List, Option, Some, false, min, both_ways, CfId, ShellCmd, Links, AreAsked, PairView, content_of, instances_of, Ask, Room, answers_to, has, listed, Machine, moved_by, room_of, fresh_of, Shell, shell_cause, shell_done, Held, with_copied, ChangeList, ContentView, kept_of, lacking_in, copy_reply, items_named, judged, machine_of, state_in, AreTold, behind_marks, copy_asks_of, marks_in, Mark}
 use Rattle.std.specs.Prelude.{refl}
 use Rattle.cf_types.specs.declared.shell_commands.ShellCmd.TheVariants as cmd
 use Rattle.engine_api.specs.declared.asks.Ask.TheVariants as ask

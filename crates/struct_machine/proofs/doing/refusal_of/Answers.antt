@@ -1,4 +1,4 @@
-use Rattle.struct_machine.proofs.Names.{sym, ◌∙◌}
+use Rattle.struct_machine.proofs.Imports.{sym, ◌∙◌}
 use Rattle.struct_machine.proofs.RefusalLaws.{refused_call}
 use Rattle.struct_machine.proofs.doing.refusal_of.Goals as goal
 

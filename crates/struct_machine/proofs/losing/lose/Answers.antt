@@ -1,5 +1,5 @@
 -- What a lost facility makes of the parts is what the mark's step makes of the machine.
-use Rattle.struct_machine.proofs.Names.{ap, ◌∙◌, StrForm, mark_outcome, kept_of}
+use Rattle.struct_machine.proofs.Imports.{ap, ◌∙◌, StrForm, mark_outcome, kept_of}
 use Rattle.struct_machine.proofs.KeptLaws.{kept_stands}
 use Rattle.struct_machine.proofs.LossLaws.{ending, held_lost, kept_lost, lost_same}
 use Rattle.struct_machine.proofs.losing.lose.Goals as goal

@@ -1,5 +1,5 @@
 -- One mark more tells what becomes of the machine behind the marks before it.
-use Rattle.struct_machine.proofs.Names.{List, sym, ap, subst, append-nil, CfId, ShellReply, Reply, kept_of, machine_of, AreTold}
+use Rattle.struct_machine.proofs.Imports.{List, sym, ap, subst, append-nil, CfId, ShellReply, Reply, kept_of, machine_of, AreTold}
 use Rattle.engine_api.specs.declared.asks.Reply.TheVariants as reply
 use Rattle.struct_machine.proofs.TurnLaws.{told_more}
 use Rattle.struct_machine.proofs.losing.mark.Goals as goal

@@ -1,4 +1,4 @@
-use Rattle.two_members.proofs.Names.{◌≡◌, IsMember, Stays, replies_at}
+use Rattle.two_members.proofs.Imports.{◌≡◌, IsMember, Stays, replies_at}
 use Rattle.two_members.proofs.roles.test_copy.Given as goal
 
 abbrev pub invariant-loop : goal.invariant-loop

@@ -1,4 +1,4 @@
-use Rattle.vec_words.proofs.Names.{rules}
+use Rattle.vec_words.proofs.Imports.{rules}
 use Rattle.vec_words.proofs.StoreLaws.{spared-below, contains-below}
 use Rattle.vec_words.proofs.stores.is_first.Goals as goal
 

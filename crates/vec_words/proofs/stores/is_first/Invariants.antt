@@ -1,4 +1,4 @@
-use Rattle.vec_words.proofs.Names.{◌≡◌, ◌<◌, ◌≤◌, ℕ, Some, slice_get, Place, IsAt}
+use Rattle.vec_words.proofs.Imports.{◌≡◌, ◌<◌, ◌≤◌, ℕ, Some, slice_get, Place, IsAt}
 use Rattle.vec_words.proofs.stores.is_first.Given as goal
 
 -- no place from here up to this one is the same word

@@ -1,5 +1,5 @@
 -- The world so far is the one that the steps so far make, and each of them fits its type.
-use Rattle.vec_world.proofs.Names.{◌≡◌, take, All, FitsHalf, world_of}
+use Rattle.vec_world.proofs.Imports.{◌≡◌, take, All, FitsHalf, world_of}
 use Rattle.vec_world.proofs.machine.run.Given as goal
 
 abbrev pub invariant-loop-step : goal.invariant-loop-step

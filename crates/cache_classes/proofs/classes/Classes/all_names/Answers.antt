@@ -1,4 +1,4 @@
-use Rattle.cache_classes.proofs.Names.{List, ap, subst, arith, ◌∙◌, IsPermutation, Name16, same_name, name_before, neighbours, names_in, ClassBatch}
+use Rattle.cache_classes.proofs.Imports.{List, ap, subst, arith, ◌∙◌, IsPermutation, Name16, same_name, name_before, neighbours, names_in, ClassBatch}
 use Rattle.cache_classes.proofs.NameOrder.{name_order}
 use Rattle.cache_classes.proofs.WalkLaws.{sorted_names}
 use Rattle.cache_classes.proofs.classes.Classes.all_names.Goals as goal

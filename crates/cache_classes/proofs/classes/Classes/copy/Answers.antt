@@ -1,4 +1,4 @@
-use Rattle.cache_classes.proofs.Names.{◌≡◌, ap, ◌∙◌, rules, same_from_all_zip, ClassBatch, classes_in}
+use Rattle.cache_classes.proofs.Imports.{◌≡◌, ap, ◌∙◌, rules, same_from_all_zip, ClassBatch, classes_in}
 use Rattle.cache_classes.proofs.classes.Classes.copy.Goals as goal
 
 pub returns : goal.returns

@@ -1,4 +1,4 @@
-use Rattle.cache_classes.proofs.Names.{ap, ◌∙◌, is_of_class, count_of, ClassBatch}
+use Rattle.cache_classes.proofs.Imports.{ap, ◌∙◌, is_of_class, count_of, ClassBatch}
 use Rattle.cache_classes.proofs.WalkLaws.{alike_in}
 use Rattle.cache_classes.proofs.classes.Classes.count.Goals as goal
 

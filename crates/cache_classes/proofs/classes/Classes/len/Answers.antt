@@ -1,4 +1,4 @@
-use Rattle.cache_classes.proofs.Names.{◌≡◌, Bool, length, filter, sym, ap, subst, ◌∙◌, Changed, ClassBatch}
+use Rattle.cache_classes.proofs.Imports.{◌≡◌, Bool, length, filter, sym, ap, subst, ◌∙◌, Changed, ClassBatch}
 use Rattle.cache_classes.proofs.MapLaws.{length_in}
 use Rattle.cache_classes.proofs.WalkLaws.{alike_in}
 use Rattle.cache_classes.proofs.classes.Classes.len.Goals as goal

@@ -1,4 +1,4 @@
-use Rattle.cache_core.proofs.Names.{arith}
+use Rattle.cache_core.proofs.Imports.{arith}
 use Rattle.cache_core.proofs.EndLaws.{class_turn}
 use Rattle.cache_core.proofs.commands.co_stats.class_counts.Goals as goal
 

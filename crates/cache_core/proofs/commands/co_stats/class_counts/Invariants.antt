@@ -1,4 +1,4 @@
-use Rattle.cache_core.proofs.Names.{◌≡◌, ◌++◌, ◌-◌, range_with_len, class_counts}
+use Rattle.cache_core.proofs.Imports.{◌≡◌, ◌++◌, ◌-◌, range_with_len, class_counts}
 use Rattle.cache_core.proofs.commands.co_stats.class_counts.Given as goal
 
 abbrev pub invariant-loop-class : goal.invariant-loop-class

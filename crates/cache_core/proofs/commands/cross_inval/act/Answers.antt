@@ -1,4 +1,4 @@
-use Rattle.cache_core.proofs.Names.{arith, Some, length-filter-le, ends_with_name}
+use Rattle.cache_core.proofs.Imports.{arith, Some, length-filter-le, ends_with_name}
 use Rattle.cache_core.proofs.commands.cross_inval.act.Goals as goal
 
 pub drop_name-requires : goal.drop_name-requires

@@ -1,4 +1,4 @@
-use Rattle.cache_core.proofs.Names.{arith, None, length-filter-le, ends_with_name}
+use Rattle.cache_core.proofs.Imports.{arith, None, length-filter-le, ends_with_name}
 use Rattle.cache_core.proofs.commands.delete.act.Goals as goal
 
 pub drop_name-requires : goal.drop_name-requires

@@ -1,4 +1,4 @@
-use Rattle.cache_core.proofs.Names.{not, Some, ap, arith, gains_falls, length-filter-le, Registration, regs_with, regs_without_name, ends_with_name, stands, falls_filter, gains_then_falls, is_among, regs_spared}
+use Rattle.cache_core.proofs.Imports.{not, Some, ap, arith, gains_falls, length-filter-le, Registration, regs_with, regs_without_name, ends_with_name, stands, falls_filter, gains_then_falls, is_among, regs_spared}
 use Rattle.cache_core.proofs.EndLaws.{stands_kept_twice, falls_twice, own_spared}
 use Rattle.cache_core.proofs.commands.write.register_alone.Goals as goal
 

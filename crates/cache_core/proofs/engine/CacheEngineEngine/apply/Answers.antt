@@ -1,4 +1,4 @@
-use Rattle.cache_core.proofs.Names.{◌≡◌, Some, List, refl, ap, sym, ◌∙◌, subst, Name16, gains_none, Content, IsContent, after, content-done, plan_for, IsIndexed, EngineView, content_of}
+use Rattle.cache_core.proofs.Imports.{◌≡◌, Some, List, refl, ap, sym, ◌∙◌, subst, Name16, gains_none, Content, IsContent, after, content-done, plan_for, IsIndexed, EngineView, content_of}
 use Rattle.cache_model.specs.Step.{victims}
 use Rattle.cache_core.proofs.PlanLaws.{plan_taken, plan_accepted, spared_victims, indexed}
 use Rattle.cache_core.proofs.engine.CacheEngineEngine.apply.Goals as goal

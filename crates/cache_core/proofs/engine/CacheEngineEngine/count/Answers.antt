@@ -1,4 +1,4 @@
-use Rattle.cache_core.proofs.Names.{arith}
+use Rattle.cache_core.proofs.Imports.{arith}
 use Rattle.cache_core.proofs.engine.CacheEngineEngine.count.Goals as goal
 
 pub overflow_cast-result : goal.overflow_cast-result

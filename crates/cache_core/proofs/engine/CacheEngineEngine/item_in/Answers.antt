@@ -1,4 +1,4 @@
-use Rattle.cache_core.proofs.Names.{◌≡◌, Some, map, slice_get, sym, subst, ap, List, ◌∙◌, IfOk-weaker, Name16, CacheItem, row_of, named-row, named-has, EngineView}
+use Rattle.cache_core.proofs.Imports.{◌≡◌, Some, map, slice_get, sym, subst, ap, List, ◌∙◌, IfOk-weaker, Name16, CacheItem, row_of, named-row, named-has, EngineView}
 use Rattle.cache_core.proofs.NextLaws.{named_at}
 use Rattle.cache_core.proofs.engine.CacheEngineEngine.item_in.Goals as goal
 

@@ -1,4 +1,4 @@
-use Rattle.cache_core.proofs.Names.{◌≤◌, ◌∙◌, length, sym, subst, arith, length-filter-le, is_of, content-without, EngineView, content_of}
+use Rattle.cache_core.proofs.Imports.{◌≤◌, ◌∙◌, length, sym, subst, arith, length-filter-le, is_of, content-without, EngineView, content_of}
 use Rattle.cache_core.proofs.engine.CacheEngineEngine.leave.Goals as goal
 
 pub drop_conn-requires : goal.drop_conn-requires

@@ -1,4 +1,4 @@
-use Rattle.cache_core.proofs.Names.{◌≡◌, ◌∙◌, ◌++◌, ◌∷◌, [], IsTrue, List, sym, subst, true, is_cache, content-placed, pairwise, CacheItem, may_precede, names_apart, IsContent, content_with, cache_meaning, alone-next, cache-fronts, EngineView, content_of}
+use Rattle.cache_core.proofs.Imports.{◌≡◌, ◌∙◌, ◌++◌, ◌∷◌, [], IsTrue, List, sym, subst, true, is_cache, content-placed, pairwise, CacheItem, may_precede, names_apart, IsContent, content_with, cache_meaning, alone-next, cache-fronts, EngineView, content_of}
 use Rattle.cache_core.proofs.NextLaws.{before_next}
 use Rattle.cache_core.proofs.PlanLaws.{either_way}
 use Rattle.cache_core.proofs.engine.CacheEngineEngine.place.Goals as goal

@@ -1,4 +1,4 @@
-use Rattle.cache_core.proofs.Names.{◌≡◌, sym, subst, ap, ◌∙◌, IsAlone, without_last_item, Content, IsContent, content_without_last, cache_meaning, content-without_last, EngineView, content_of}
+use Rattle.cache_core.proofs.Imports.{◌≡◌, sym, subst, ap, ◌∙◌, IsAlone, without_last_item, Content, IsContent, content_without_last, cache_meaning, content-without_last, EngineView, content_of}
 use Rattle.cache_core.proofs.NextLaws.{unplaced}
 use Rattle.cache_core.proofs.engine.CacheEngineEngine.unplace.Goals as goal
 

@@ -1,4 +1,4 @@
-use Rattle.cache_reclaim.proofs.Names.{◌≡◌, ℕ, List, Option, arith, Used, IsTied}
+use Rattle.cache_reclaim.proofs.Imports.{◌≡◌, ℕ, List, Option, arith, Used, IsTied}
 use Rattle.cache_reclaim.proofs.order.Order.copy.Goals as goal
 
 same_tied : (es fs : List (ℕ × Option Used)) (ns ms : List (List ℕ × ℕ)) (cap most : ℕ) → fs ≡ es → ms ≡ ns

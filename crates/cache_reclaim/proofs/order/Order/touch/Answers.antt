@@ -1,4 +1,4 @@
-use Rattle.cache_reclaim.proofs.Names.{◌≡◌, ◌<◌, false, subst, sym, length, arith, has_name}
+use Rattle.cache_reclaim.proofs.Imports.{◌≡◌, ◌<◌, false, subst, sym, length, arith, has_name}
 use Rattle.cache_reclaim.proofs.SlotLaws.{place_for}
 use Rattle.cache_reclaim.proofs.order.Order.touch.Goals as goal
 

@@ -1,4 +1,4 @@
-use Rattle.cache_regs.proofs.Names.{ap, ◌∙◌, registered_at, RegList}
+use Rattle.cache_regs.proofs.Imports.{ap, ◌∙◌, registered_at, RegList}
 use Rattle.cache_regs.proofs.MapLaws.{at_law}
 use Rattle.cache_regs.proofs.maps.Maps.at.Goals as goal
 

@@ -1,4 +1,4 @@
-use Rattle.cache_regs.proofs.Names.{◌≡◌, sym, ap, ◌∙◌, subst₂, rules, same_from_all_zip, RegList, IsAgreed, regs_in}
+use Rattle.cache_regs.proofs.Imports.{◌≡◌, sym, ap, ◌∙◌, subst₂, rules, same_from_all_zip, RegList, IsAgreed, regs_in}
 use Rattle.cache_regs.proofs.maps.Maps.copy.Goals as goal
 
 pub invariant_of-result : goal.invariant_of-result

@@ -1,4 +1,4 @@
-use Rattle.cache_regs.proofs.Names.{ap, ◌∙◌, subst, IfSome, index_for, RegList, IsAloneFor}
+use Rattle.cache_regs.proofs.Imports.{ap, ◌∙◌, subst, IfSome, index_for, RegList, IsAloneFor}
 use Rattle.cache_regs.proofs.AgreeLaws.{index_law, alone_found}
 use Rattle.cache_regs.proofs.maps.Maps.index_of.Goals as goal
 

@@ -1,4 +1,4 @@
-use Rattle.cache_regs.proofs.Names.{ap, ◌∙◌, list_any, is_for, RegList}
+use Rattle.cache_regs.proofs.Imports.{ap, ◌∙◌, list_any, is_for, RegList}
 use Rattle.cache_regs.proofs.AgreeLaws.{named_law}
 use Rattle.cache_regs.proofs.maps.Maps.is_registered.Goals as goal
 

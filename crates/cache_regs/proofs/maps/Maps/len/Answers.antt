@@ -1,4 +1,4 @@
-use Rattle.cache_regs.proofs.Names.{length, sym, ap, ◌∙◌, RegList}
+use Rattle.cache_regs.proofs.Imports.{length, sym, ap, ◌∙◌, RegList}
 use Rattle.cache_regs.proofs.MapLaws.{length-in}
 use Rattle.cache_regs.proofs.maps.Maps.len.Goals as goal
 

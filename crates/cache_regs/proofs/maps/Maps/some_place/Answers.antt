@@ -1,4 +1,4 @@
-use Rattle.cache_regs.proofs.Names.{◌≡◌, true, subst, stands, RegList}
+use Rattle.cache_regs.proofs.Imports.{◌≡◌, true, subst, stands, RegList}
 use Rattle.cache_regs.proofs.MapLaws.{entry_stands}
 use Rattle.cache_regs.proofs.maps.Maps.some_place.Goals as goal
 

@@ -1,4 +1,4 @@
-use Rattle.cache_regs.proofs.Names.{ap, ◌∙◌, stands, RegList}
+use Rattle.cache_regs.proofs.Imports.{ap, ◌∙◌, stands, RegList}
 use Rattle.cache_regs.proofs.MapLaws.{stands_law}
 use Rattle.cache_regs.proofs.maps.Maps.stands.Goals as goal
 

@@ -1,4 +1,4 @@
-use Rattle.cache_regs.proofs.Names.{◌≡◌, ◌≤◌, ◌+◌, ◌-◌, min, not, length, filter, sym, subst, arith, list_all-filter, Registration, ends_with_name, Registry, is_callers, is_within}
+use Rattle.cache_regs.proofs.Imports.{◌≡◌, ◌≤◌, ◌+◌, ◌-◌, min, not, length, filter, sym, subst, arith, list_all-filter, Registration, ends_with_name, Registry, is_callers, is_within}
 use Rattle.cache_regs.proofs.RegLaws.{registry-filter}
 use Rattle.cache_regs.proofs.EndLaws.{fits_few, left_counted}
 use Rattle.cache_regs.proofs.regs.Regs.drop_name.Goals as goal

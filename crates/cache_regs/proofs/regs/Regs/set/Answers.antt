@@ -1,4 +1,4 @@
-use Rattle.cache_regs.proofs.Names.{◌≡◌, ◌≤◌, ◌<◌, ◌+◌, ◌-◌, min, length, ap, sym, subst, arith, lt-ltb, CALLERS, insertion, none_filtered, Registration, stands_before, regs_with, Registry, is_callers, is_within, is_elsewhere}
+use Rattle.cache_regs.proofs.Imports.{◌≡◌, ◌≤◌, ◌<◌, ◌+◌, ◌-◌, min, length, ap, sym, subst, arith, lt-ltb, CALLERS, insertion, none_filtered, Registration, stands_before, regs_with, Registry, is_callers, is_within, is_elsewhere}
 use Rattle.cache_regs.proofs.RegLaws.{one_elsewhere, filter-replaced, registry-with}
 use Rattle.cache_regs.proofs.BitLaws.{gains_with}
 use Rattle.cache_regs.proofs.EndLaws.{fits_few, left_few, left_counted}

@@ -1,4 +1,4 @@
-use Rattle.cache_rows.proofs.Names.{◌∙◌}
+use Rattle.cache_rows.proofs.Imports.{◌∙◌}
 use Rattle.cache_rows.proofs.IndexedLaws.{changed_storage}
 use Rattle.cache_rows.proofs.directory.Directory.changed_of_storage.Goals as goal
 

@@ -1,4 +1,4 @@
-use Rattle.cache_rows.proofs.Names.{◌≡◌, true, sym, subst, ◌∙◌, false≢true, has_row, Listed}
+use Rattle.cache_rows.proofs.Imports.{◌≡◌, true, sym, subst, ◌∙◌, false≢true, has_row, Listed}
 use Rattle.cache_rows.proofs.IndexedLaws.{missing}
 use Rattle.cache_rows.proofs.directory.Directory.copy_of.Goals as goal
 

@@ -1,4 +1,4 @@
-use Rattle.cache_rows.proofs.Names.{◌∙◌, ap, List, Changed, count_of, listed_of}
+use Rattle.cache_rows.proofs.Imports.{◌∙◌, ap, List, Changed, count_of, listed_of}
 use Rattle.cache_rows.proofs.LookupLaws.{count-classes_of}
 use Rattle.cache_rows.proofs.directory.Directory.count_of_class.Goals as goal
 

@@ -1,4 +1,4 @@
-use Rattle.cache_rows.proofs.Names.{◌∙◌, ◌+◌, ap, Option, row_at, CacheItem, rows_without, elements_of_row, Listed, IsIndexed, listed_of}
+use Rattle.cache_rows.proofs.Imports.{◌∙◌, ◌+◌, ap, Option, row_at, CacheItem, rows_without, elements_of_row, Listed, IsIndexed, listed_of}
 use Rattle.cache_rows.proofs.IndexedLaws.{taken, listed, listed_is}
 use Rattle.cache_rows.proofs.directory.Directory.end.Goals as goal
 

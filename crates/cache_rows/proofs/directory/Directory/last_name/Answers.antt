@@ -1,4 +1,4 @@
-use Rattle.cache_rows.proofs.Names.{◌≡◌, ◌-◌, length, sym, subst, arith, Listed}
+use Rattle.cache_rows.proofs.Imports.{◌≡◌, ◌-◌, length, sym, subst, arith, Listed}
 use Rattle.cache_rows.proofs.IndexedLaws.{name_behind, last_in_front}
 use Rattle.cache_rows.proofs.directory.Directory.last_name.Goals as goal
 

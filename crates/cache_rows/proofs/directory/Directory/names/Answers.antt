@@ -1,4 +1,4 @@
-use Rattle.cache_rows.proofs.Names.{◌++◌, ◌∙◌, ap, List, Name16}
+use Rattle.cache_rows.proofs.Imports.{◌++◌, ◌∙◌, ap, List, Name16}
 use Rattle.cache_reclaim.specs.LastUse as last_use
 use Rattle.cache_rows.proofs.IndexedLaws.{names_are}
 use Rattle.cache_rows.proofs.directory.Directory.names.Goals as goal

@@ -1,4 +1,4 @@
-use Rattle.cache_rows.proofs.Names.{◌≡◌, ◌∙◌, ap, List, filter, map, IfOk-weaker, Changed, names_of, CacheItem, has_class, listed_of}
+use Rattle.cache_rows.proofs.Imports.{◌≡◌, ◌∙◌, ap, List, filter, map, IfOk-weaker, Changed, names_of, CacheItem, has_class, listed_of}
 use Rattle.cache_rows.proofs.LookupLaws.{names-classes_of}
 use Rattle.cache_rows.proofs.directory.Directory.names_of_class.Goals as goal
 

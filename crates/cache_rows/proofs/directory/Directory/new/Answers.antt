@@ -1,4 +1,4 @@
-use Rattle.cache_rows.proofs.Names.{row_at}
+use Rattle.cache_rows.proofs.Imports.{row_at}
 use Rattle.cache_rows.proofs.IndexedLaws.{nothing, listed, listed_is}
 use Rattle.cache_rows.proofs.directory.Directory.new.Goals as goal
 

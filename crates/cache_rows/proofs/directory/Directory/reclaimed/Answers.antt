@@ -1,4 +1,4 @@
-use Rattle.cache_rows.proofs.Names.{◌∙◌, ap, List, Used, victim, listed_of}
+use Rattle.cache_rows.proofs.Imports.{◌∙◌, ap, List, Used, victim, listed_of}
 use Rattle.cache_rows.proofs.LookupLaws.{reclaimed-row, reclaimed-none}
 use Rattle.cache_rows.proofs.directory.Directory.reclaimed.Goals as goal
 

@@ -1,4 +1,4 @@
-use Rattle.cache_rows.proofs.Names.{◌∙◌, ap, map, row_at, without_hold, Listed, IsIndexed, listed_of}
+use Rattle.cache_rows.proofs.Imports.{◌∙◌, ap, map, row_at, without_hold, Listed, IsIndexed, listed_of}
 use Rattle.cache_rows.proofs.IndexedLaws.{released, listed, listed_is}
 use Rattle.cache_rows.proofs.directory.Directory.release.Goals as goal
 

@@ -1,4 +1,4 @@
-use Rattle.cache_rows.proofs.Names.{◌∙◌, ◌<◌, ap, length, subst, sym, arith, row_at, rows_replaced, Listed, IsIndexed, listed_of, relabeled}
+use Rattle.cache_rows.proofs.Imports.{◌∙◌, ◌<◌, ap, length, subst, sym, arith, row_at, rows_replaced, Listed, IsIndexed, listed_of, relabeled}
 use Rattle.cache_rows.proofs.IndexedLaws.{relabeled_in, fewer_unchanged, listed, listed_is}
 use Rattle.cache_rows.proofs.directory.Directory.set.Goals as goal
 

@@ -1,4 +1,4 @@
-use Rattle.cache_rows.proofs.Names.{◌∙◌, ◌+◌, ◌≤◌, ◌<◌, Option, Some, ap, length, subst, sym, arith, row_at, CacheItem, row_of, rows_replaced, item_with, elements_of_row, Listed, IsIndexed, listed_of}
+use Rattle.cache_rows.proofs.Imports.{◌∙◌, ◌+◌, ◌≤◌, ◌<◌, Option, Some, ap, length, subst, sym, arith, row_at, CacheItem, row_of, rows_replaced, item_with, elements_of_row, Listed, IsIndexed, listed_of}
 use Rattle.cf_types.specs.Stored.{elements_of}
 use Rattle.cache_rows.proofs.IndexedLaws.{replaced, fewer_unchanged, listed, listed_is}
 use Rattle.cache_rows.proofs.directory.Directory.write.Goals as goal

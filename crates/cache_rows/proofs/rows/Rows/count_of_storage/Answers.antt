@@ -1,4 +1,4 @@
-use Rattle.cache_rows.proofs.Names.{◌<◌, ◌^◌, sym, subst, length, arith, length-filter-le, has_storage, RowBatch}
+use Rattle.cache_rows.proofs.Imports.{◌<◌, ◌^◌, sym, subst, length, arith, length-filter-le, has_storage, RowBatch}
 use Rattle.cache_rows.proofs.rows.Rows.count_of_storage.Goals as goal
 
 pub overflow_cast-result : goal.overflow_cast-result

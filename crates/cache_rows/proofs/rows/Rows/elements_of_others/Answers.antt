@@ -1,4 +1,4 @@
-use Rattle.cache_rows.proofs.Names.{◌≡◌, ◌+◌, arith, elements_in, rows_without}
+use Rattle.cache_rows.proofs.Imports.{◌≡◌, ◌+◌, arith, elements_in, rows_without}
 use Rattle.cache_rows.proofs.TallyLaws.{others_taken, others_same}
 use Rattle.cache_rows.proofs.rows.Rows.elements_of_others.Goals as goal
 

@@ -1,4 +1,4 @@
-use Rattle.cache_rows.proofs.Names.{sym, ◌∙◌}
+use Rattle.cache_rows.proofs.Imports.{sym, ◌∙◌}
 use Rattle.cache_rows.proofs.ChangeLaws.{but-spared, not_apart}
 use Rattle.cache_rows.proofs.rows.Rows.end_other.Goals as goal
 

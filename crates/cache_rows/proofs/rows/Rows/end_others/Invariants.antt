@@ -1,4 +1,4 @@
-use Rattle.cache_rows.proofs.Names.{◌≡◌, ◌≤◌, drop, rows_but}
+use Rattle.cache_rows.proofs.Imports.{◌≡◌, ◌≤◌, drop, rows_but}
 use Rattle.cache_rows.proofs.rows.Rows.end_others.Given as goal
 
 abbrev pub invariant-loop-name : goal.invariant-loop-name

@@ -1,4 +1,4 @@
-use Rattle.cache_rows.proofs.Names.{sym}
+use Rattle.cache_rows.proofs.Imports.{sym}
 use Rattle.cache_rows.proofs.TallyLaws.{absent, there}
 use Rattle.cache_rows.proofs.rows.Rows.has.Goals as goal
 

@@ -1,4 +1,4 @@
-use Rattle.cache_rows.proofs.Names.{◌∙◌, ap, Some, false, row_or_new, rows_replaced, Label, item_with}
+use Rattle.cache_rows.proofs.Imports.{◌∙◌, ap, Some, false, row_or_new, rows_replaced, Label, item_with}
 use Rattle.cache_rows.proofs.ChangeLaws.{relabeled_same}
 use Rattle.cache_rows.proofs.rows.Rows.hold.Goals as goal
 

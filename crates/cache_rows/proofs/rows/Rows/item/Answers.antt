@@ -1,4 +1,4 @@
-use Rattle.cache_rows.proofs.Names.{◌≡◌, ◌<◌, Some, slice_get, length, sym, subst, ◌∙◌, IfOk-weaker, row_of, RowBatch}
+use Rattle.cache_rows.proofs.Imports.{◌≡◌, ◌<◌, Some, slice_get, length, sym, subst, ◌∙◌, IfOk-weaker, row_of, RowBatch}
 use Rattle.cache_rows.proofs.LookupLaws.{named-row, named-has, past-named}
 use Rattle.cache_rows.proofs.rows.Rows.item.Goals as goal
 

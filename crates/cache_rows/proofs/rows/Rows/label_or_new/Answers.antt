@@ -1,4 +1,4 @@
-use Rattle.cache_rows.proofs.Names.{sym, ap, ◌∙◌, found_named, Label}
+use Rattle.cache_rows.proofs.Imports.{sym, ap, ◌∙◌, found_named, Label}
 use Rattle.cache_rows.proofs.rows.Rows.label_or_new.Goals as goal
 
 pub returns-in-Some-clause-named : goal.returns-in-Some-clause-named

@@ -1,4 +1,4 @@
-use Rattle.cache_rows.proofs.Names.{◌∙◌}
+use Rattle.cache_rows.proofs.Imports.{◌∙◌}
 use Rattle.cache_rows.proofs.LookupLaws.{popped}
 use Rattle.cache_rows.proofs.rows.Rows.pop.Goals as goal
 

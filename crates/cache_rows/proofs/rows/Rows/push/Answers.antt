@@ -1,4 +1,4 @@
-use Rattle.cache_rows.proofs.Names.{◌∙◌, ap, List, CacheItem, rows_with}
+use Rattle.cache_rows.proofs.Imports.{◌∙◌, ap, List, CacheItem, rows_with}
 use Rattle.cache_rows.proofs.IndexLaws.{with-last}
 use Rattle.cache_rows.proofs.rows.Rows.push.Goals as goal
 

@@ -1,4 +1,4 @@
-use Rattle.cache_rows.proofs.Names.{◌∙◌, ap, row_or_new, rows_replaced, rows_spared, Label, item_with}
+use Rattle.cache_rows.proofs.Imports.{◌∙◌, ap, row_or_new, rows_replaced, rows_spared, Label, item_with}
 use Rattle.cache_rows.proofs.ChangeLaws.{relabeled_spared}
 use Rattle.cache_rows.proofs.rows.Rows.read.Goals as goal
 

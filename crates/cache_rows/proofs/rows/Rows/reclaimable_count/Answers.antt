@@ -1,4 +1,4 @@
-use Rattle.cache_rows.proofs.Names.{sym, arith}
+use Rattle.cache_rows.proofs.Imports.{sym, arith}
 use Rattle.cache_rows.proofs.TallyLaws.{count_taken, count_same}
 use Rattle.cache_rows.proofs.rows.Rows.reclaimable_count.Goals as goal
 

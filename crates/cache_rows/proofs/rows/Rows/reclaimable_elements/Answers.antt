@@ -1,4 +1,4 @@
-use Rattle.cache_rows.proofs.Names.{◌≡◌, ◌+◌, ◌<◌, ◌^◌, filter, sym, subst, arith, elements_in, is_reclaimable, RowBatch}
+use Rattle.cache_rows.proofs.Imports.{◌≡◌, ◌+◌, ◌<◌, ◌^◌, filter, sym, subst, arith, elements_in, is_reclaimable, RowBatch}
 use Rattle.cache_rows.proofs.TallyLaws.{elements_taken, elements_same, reclaimable_fits}
 use Rattle.cache_rows.proofs.rows.Rows.reclaimable_elements.Goals as goal
 

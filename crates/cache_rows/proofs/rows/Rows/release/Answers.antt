@@ -1,4 +1,4 @@
-use Rattle.cache_rows.proofs.Names.{◌∙◌, subst, sym, arith, IsTally}
+use Rattle.cache_rows.proofs.Imports.{◌∙◌, subst, sym, arith, IsTally}
 use Rattle.cache_rows.proofs.TallyLaws.{tally_released}
 use Rattle.cache_rows.proofs.rows.Rows.release.Goals as goal
 

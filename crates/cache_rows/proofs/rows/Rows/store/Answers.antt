@@ -1,4 +1,4 @@
-use Rattle.cache_rows.proofs.Names.{◌≤◌, Some, sym, subst, arith, elements_in, rows_replaced, elements-replaced, RowBatch, item_with}
+use Rattle.cache_rows.proofs.Imports.{◌≤◌, Some, sym, subst, arith, elements_in, rows_replaced, elements-replaced, RowBatch, item_with}
 use Rattle.cache_rows.proofs.rows.Rows.store.Goals as goal
 
 pub write_row-requires-clause-fits : goal.write_row-requires-clause-fits

@@ -1,4 +1,4 @@
-use Rattle.cache_rows.proofs.Names.{◌∙◌, ap, row_or_new, rows_replaced, Label, item_with, label_unlocked}
+use Rattle.cache_rows.proofs.Imports.{◌∙◌, ap, row_or_new, rows_replaced, Label, item_with, label_unlocked}
 use Rattle.cache_rows.proofs.ChangeLaws.{relabeled_same}
 use Rattle.cache_rows.proofs.rows.Rows.unlock.Goals as goal
 

@@ -1,4 +1,4 @@
-use Rattle.cache_rows.proofs.Names.{◌≤◌, ◌∙◌, List, sym, subst, CacheItem, elements_in, row_or_new}
+use Rattle.cache_rows.proofs.Imports.{◌≤◌, ◌∙◌, List, sym, subst, CacheItem, elements_in, row_or_new}
 use Rattle.cache_rows.proofs.ChangeLaws.{written_same}
 use Rattle.cache_rows.proofs.rows.Rows.write.Goals as goal
 

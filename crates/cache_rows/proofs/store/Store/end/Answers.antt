@@ -1,4 +1,4 @@
-use Rattle.cache_rows.proofs.Names.{◌∙◌, ◌+◌, Option, ap, sym, CacheItem, elements_of_row}
+use Rattle.cache_rows.proofs.Imports.{◌∙◌, ◌+◌, Option, ap, sym, CacheItem, elements_of_row}
 use Rattle.cache_rows.proofs.StoreLaws.{shown_at, shown_writes}
 use Rattle.cache_rows.proofs.store.Store.end.Goals as goal
 

@@ -1,4 +1,4 @@
-use Rattle.cache_rows.proofs.Names.{Some, option_map, ◌∙◌, ap, sym, item_in}
+use Rattle.cache_rows.proofs.Imports.{Some, option_map, ◌∙◌, ap, sym, item_in}
 use Rattle.cache_rows.proofs.StoreLaws.{shown_at}
 use Rattle.cache_rows.proofs.store.Store.find.Goals as goal
 

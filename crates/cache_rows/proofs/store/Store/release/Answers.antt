@@ -1,4 +1,4 @@
-use Rattle.cache_rows.proofs.Names.{option_map, ◌∙◌, ap, sym, row_at, without_hold}
+use Rattle.cache_rows.proofs.Imports.{option_map, ◌∙◌, ap, sym, row_at, without_hold}
 use Rattle.cache_rows.proofs.StoreLaws.{released_items, shown_at}
 use Rattle.cache_rows.proofs.store.Store.release.Goals as goal
 

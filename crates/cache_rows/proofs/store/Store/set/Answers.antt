@@ -1,4 +1,4 @@
-use Rattle.cache_rows.proofs.Names.{Option, Some, cond, ◌∙◌, ap, sym, same_name, row_at, CacheItem, item_at, item_with, body_of}
+use Rattle.cache_rows.proofs.Imports.{Option, Some, cond, ◌∙◌, ap, sym, same_name, row_at, CacheItem, item_at, item_with, body_of}
 use Rattle.cache_rows.proofs.StoreLaws.{set_items, shown_at, shown_writes}
 use Rattle.cache_rows.proofs.store.Store.set.Goals as goal
 

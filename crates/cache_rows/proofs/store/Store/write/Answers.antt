@@ -1,4 +1,4 @@
-use Rattle.cache_rows.proofs.Names.{◌+◌, ◌≤◌, Some, Option, ◌∙◌, ap, sym, subst, arith, row_at, CacheItem, item_at, item_with, elements_of_row, StoreView}
+use Rattle.cache_rows.proofs.Imports.{◌+◌, ◌≤◌, Some, Option, ◌∙◌, ap, sym, subst, arith, row_at, CacheItem, item_at, item_with, elements_of_row, StoreView}
 use Rattle.cf_types.specs.Stored.{elements_of}
 use Rattle.cache_rows.proofs.StoreLaws.{shown_at, shown_writes, writes_twice}
 use Rattle.cache_rows.proofs.store.Store.write.Goals as goal

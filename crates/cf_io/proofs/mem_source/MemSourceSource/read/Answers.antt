@@ -1,4 +1,4 @@
-use Rattle.cf_io.proofs.Names.{arith, ◌≡◌, ◌≤◌, length, take, drop, length-drop, common_steps}
+use Rattle.cf_io.proofs.Imports.{arith, ◌≡◌, ◌≤◌, length, take, drop, length-drop, common_steps}
 use Rattle.cf_io.proofs.Pieces.{drop-read}
 use Rattle.cf_io.proofs.mem_source.MemSourceSource.read.Goals as goal
 

@@ -1,4 +1,4 @@
-use Rattle.cf_pool.proofs.Names.{◌≡◌, ◌+◌, subst, sum_by, length, need_at}
+use Rattle.cf_pool.proofs.Imports.{◌≡◌, ◌+◌, subst, sum_by, length, need_at}
 use Rattle.cf_pool.proofs.PoolLaws.{all_chains}
 use Rattle.cf_pool.proofs.pool.Pool.free.Goals as goal
 

@@ -1,4 +1,4 @@
-use Rattle.cf_pool.proofs.Names.{arith}
+use Rattle.cf_pool.proofs.Imports.{arith}
 use Rattle.cf_pool.proofs.PoolLaws.{new_shared, new_chains}
 use Rattle.cf_pool.proofs.pool.Pool.new.Goals as goal
 

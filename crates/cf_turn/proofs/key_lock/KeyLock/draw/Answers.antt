@@ -1,4 +1,4 @@
-use Rattle.cf_turn.proofs.Names.{◌∷◌, Some, ap, sym, ◌∙◌, rest}
+use Rattle.cf_turn.proofs.Imports.{◌∷◌, Some, ap, sym, ◌∙◌, rest}
 use Rattle.cf_turn.proofs.key_lock.KeyLock.draw.Goals as goal
 
 pub exchange-requires : goal.exchange-requires

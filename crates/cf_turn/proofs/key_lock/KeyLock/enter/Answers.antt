@@ -1,4 +1,4 @@
-use Rattle.cf_turn.proofs.Names.{rules, [], ap, ◌∙◌, stand_waiting}
+use Rattle.cf_turn.proofs.Imports.{rules, [], ap, ◌∙◌, stand_waiting}
 use Rattle.cf_turn.proofs.Steps.{enters}
 use Rattle.cf_turn.proofs.key_lock.KeyLock.enter.Goals as goal
 

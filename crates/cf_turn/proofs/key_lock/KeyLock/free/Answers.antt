@@ -1,4 +1,4 @@
-use Rattle.cf_turn.proofs.Names.{rules, ap, sym, ◌∙◌, subst}
+use Rattle.cf_turn.proofs.Imports.{rules, ap, sym, ◌∙◌, subst}
 use Rattle.cf_turn.proofs.Steps.{gives-back}
 use Rattle.cf_turn.proofs.key_lock.KeyLock.free.Goals as goal
 

@@ -1,4 +1,4 @@
-use Rattle.cf_turn.proofs.Names.{rules, ◌≡◌, ◌+◌, ◌<◌, ap, sym, ◌∙◌, arith}
+use Rattle.cf_turn.proofs.Imports.{rules, ◌≡◌, ◌+◌, ◌<◌, ap, sym, ◌∙◌, arith}
 use Rattle.cf_turn.proofs.Steps.{splits, joins, never}
 use Rattle.cf_turn.proofs.key_lock.KeyLock.never_two.Goals as goal
 

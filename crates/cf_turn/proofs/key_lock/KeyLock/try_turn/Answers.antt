@@ -1,4 +1,4 @@
-use Rattle.cf_turn.proofs.Names.{rules, [], ap, sym, ◌∙◌, stand_waiting}
+use Rattle.cf_turn.proofs.Imports.{rules, [], ap, sym, ◌∙◌, stand_waiting}
 use Rattle.cf_turn.proofs.Steps.{tries}
 use Rattle.cf_turn.proofs.key_lock.KeyLock.try_turn.Goals as goal
 

@@ -1,4 +1,4 @@
-use Rattle.cf_turn.proofs.Names.{◌≡◌, [], stand_waiting}
+use Rattle.cf_turn.proofs.Imports.{◌≡◌, [], stand_waiting}
 use Rattle.cf_turn.proofs.key_lock.KeyLock.win.Given as goal
 
 -- the seat is of this lock, and waits

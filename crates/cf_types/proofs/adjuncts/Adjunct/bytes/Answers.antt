@@ -1,4 +1,4 @@
-use Rattle.cf_types.proofs.Names.{rules}
+use Rattle.cf_types.proofs.Imports.{rules}
 use Rattle.cf_types.proofs.adjuncts.Adjunct.bytes.Goals as goal
 
 -- the wrong body adjunct_without_its_end is refused at this goal

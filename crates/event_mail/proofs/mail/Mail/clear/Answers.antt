@@ -1,4 +1,4 @@
-use Rattle.event_mail.proofs.Names.{ap, arith, no_events, Post}
+use Rattle.event_mail.proofs.Imports.{ap, arith, no_events, Post}
 use Rattle.event_mail.proofs.PostLaws.{mailboxes_of-set}
 use Rattle.event_mail.proofs.mail.Mail.clear.Goals as goal
 

@@ -1,4 +1,4 @@
-use Rattle.event_mail.proofs.Names.{◌≡◌, ℕ, replicate, ◌∙◌, ap, arith, CALLERS, Mailboxes, no_events, empty_mail}
+use Rattle.event_mail.proofs.Imports.{◌≡◌, ℕ, replicate, ◌∙◌, ap, arith, CALLERS, Mailboxes, no_events, empty_mail}
 use Rattle.event_mail.proofs.mail.Mail.new.Goals as goal
 
 all_empty : (n : ℕ) (mail : Mailboxes) → n ≡ CALLERS → mail ≡ replicate n no_events → mail ≡ empty_mail

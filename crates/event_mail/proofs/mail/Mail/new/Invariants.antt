@@ -1,4 +1,4 @@
-use Rattle.event_mail.proofs.Names.{◌≡◌, replicate, no_events, mailboxes_of}
+use Rattle.event_mail.proofs.Imports.{◌≡◌, replicate, no_events, mailboxes_of}
 use Rattle.event_mail.proofs.mail.Mail.new.Given as goal
 
 -- so many mailboxes without events

@@ -1,4 +1,4 @@
-use Rattle.event_mail.proofs.Names.{ap, arith, box_taken, Post}
+use Rattle.event_mail.proofs.Imports.{ap, arith, box_taken, Post}
 use Rattle.event_mail.proofs.PostLaws.{mailboxes_of-set}
 use Rattle.event_mail.proofs.mail.Mail.next.Goals as goal
 

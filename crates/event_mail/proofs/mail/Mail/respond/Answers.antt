@@ -1,4 +1,4 @@
-use Rattle.event_mail.proofs.Names.{drop, ap, arith, Mailbox, Post}
+use Rattle.event_mail.proofs.Imports.{drop, ap, arith, Mailbox, Post}
 use Rattle.event_mail.proofs.PostLaws.{mailboxes_of-set}
 use Rattle.event_mail.proofs.mail.Mail.respond.Goals as goal
 

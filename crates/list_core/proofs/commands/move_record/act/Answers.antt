@@ -1,4 +1,4 @@
-use Rattle.list_core.proofs.Names.{sym, ap, ◌∙◌, subst, EntryId, Lists, record_of, lists_without, put_back, IsOrderly, content_at}
+use Rattle.list_core.proofs.Imports.{sym, ap, ◌∙◌, subst, EntryId, Lists, record_of, lists_without, put_back, IsOrderly, content_at}
 use Rattle.list_core.proofs.FoundLaws.{found-any, found-put_back}
 use Rattle.list_core.proofs.commands.move_record.act.Goals as goal
 

@@ -1,4 +1,4 @@
-use Rattle.list_core.proofs.Names.{◌≡◌, ◌++◌, ◌∷◌, [], Some, Bor, List, map, take, option_map, slice_get, sym, ap, ◌∙◌, arith, map-append, take_all, take_next, EntryId, Rec, records_of, Record, record_in, none_within, none_shown}
+use Rattle.list_core.proofs.Imports.{◌≡◌, ◌++◌, ◌∷◌, [], Some, Bor, List, map, take, option_map, slice_get, sym, ap, ◌∙◌, arith, map-append, take_all, take_next, EntryId, Rec, records_of, Record, record_in, none_within, none_shown}
 use Rattle.list_core.proofs.commands.read_list.ids_of.Goals as goal
 
 pub unreachable-requires : goal.unreachable-requires

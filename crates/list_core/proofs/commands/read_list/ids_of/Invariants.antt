@@ -1,4 +1,4 @@
-use Rattle.list_core.proofs.Names.{◌≡◌, take, map, Record, records_of}
+use Rattle.list_core.proofs.Imports.{◌≡◌, take, map, Record, records_of}
 use Rattle.list_core.proofs.commands.read_list.ids_of.Given as goal
 
 abbrev pub invariant-loop-place : goal.invariant-loop-place

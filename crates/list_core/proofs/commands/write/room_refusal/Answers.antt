@@ -1,4 +1,4 @@
-use Rattle.list_core.proofs.Names.{◌≡◌, not, List, ap, ◌∙◌, filter_all, all_from_none, Record, all_records, records_without, is_id, elements_refusal, new_id}
+use Rattle.list_core.proofs.Imports.{◌≡◌, not, List, ap, ◌∙◌, filter_all, all_from_none, Record, all_records, records_without, is_id, elements_refusal, new_id}
 use Rattle.list_core.proofs.commands.write.room_refusal.Goals as goal
 
 pub returns : goal.returns

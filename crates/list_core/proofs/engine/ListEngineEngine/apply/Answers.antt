@@ -1,4 +1,4 @@
-use Rattle.list_core.proofs.Names.{◌≡◌, ◌∙◌, ℕ, Some, refl, sym, subst, arith, gains_none, Content, IsContent, content-done, plan_for, IsPossible, EngineView}
+use Rattle.list_core.proofs.Imports.{◌≡◌, ◌∙◌, ℕ, Some, refl, sym, subst, arith, gains_none, Content, IsContent, content-done, plan_for, IsPossible, EngineView}
 use Rattle.list_core.proofs.PlanLaws.{plan_taken, plan_accepted, possible}
 use Rattle.list_core.proofs.engine.ListEngineEngine.apply.Goals as goal
 

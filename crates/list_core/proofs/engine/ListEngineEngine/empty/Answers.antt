@@ -1,4 +1,4 @@
-use Rattle.list_core.proofs.Names.{sym, ap, ◌∙◌, subst, Shape, Content, IsContent, content-nothing, is_list}
+use Rattle.list_core.proofs.Imports.{sym, ap, ◌∙◌, subst, Shape, Content, IsContent, content-nothing, is_list}
 use Rattle.list_core.proofs.engine.ListEngineEngine.empty.Goals as goal
 
 pub invariant_of-result : goal.invariant_of-result

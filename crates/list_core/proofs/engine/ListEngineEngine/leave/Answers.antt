@@ -1,4 +1,4 @@
-use Rattle.list_core.proofs.Names.{◌∙◌, sym, subst, Content, IsContent, leave-content}
+use Rattle.list_core.proofs.Imports.{◌∙◌, sym, subst, Content, IsContent, leave-content}
 use Rattle.list_core.proofs.engine.ListEngineEngine.leave.Goals as goal
 
 pub invariant_of-self : goal.invariant_of-self

@@ -1,4 +1,4 @@
-use Rattle.list_core.proofs.Names.{◌≡◌, ℕ, not, List, sym, ap, ◌∙◌, Caps, filter_all, all_from_none, Record, all_records, records_without, is_id, count_of, elements_in, new_id, new-alone, need-items}
+use Rattle.list_core.proofs.Imports.{◌≡◌, ℕ, not, List, sym, ap, ◌∙◌, Caps, filter_all, all_from_none, Record, all_records, records_without, is_id, count_of, elements_in, new_id, new-alone, need-items}
 use Rattle.list_core.proofs.engine.ListEngineEngine.need.Goals as goal
 
 pub returns : goal.returns

@@ -1,4 +1,4 @@
-use Rattle.list_core.proofs.Names.{◌≡◌, ◌∙◌, ℕ, IsTrue, sym, subst, arith, Shape, Caps, is_list, IsNextItem, content-placed, ListItem, Controls, Row, Content, IsContent, content_with, list_meaning, next-fits, list-fronts, IsPlaceable, EngineView}
+use Rattle.list_core.proofs.Imports.{◌≡◌, ◌∙◌, ℕ, IsTrue, sym, subst, arith, Shape, Caps, is_list, IsNextItem, content-placed, ListItem, Controls, Row, Content, IsContent, content_with, list_meaning, next-fits, list-fronts, IsPlaceable, EngineView}
 use Rattle.list_core.proofs.PlanLaws.{either_way}
 use Rattle.list_core.proofs.engine.ListEngineEngine.place.Goals as goal
 

@@ -1,4 +1,4 @@
-use Rattle.list_core.proofs.Names.{new-alone}
+use Rattle.list_core.proofs.Imports.{new-alone}
 use Rattle.list_core.proofs.engine.ListEngineEngine.ready.Goals as goal
 
 pub make_plan-requires-clause-alone : goal.make_plan-requires-clause-alone

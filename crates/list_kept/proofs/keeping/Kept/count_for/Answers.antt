@@ -1,4 +1,4 @@
-use Rattle.list_kept.proofs.Names.{List, length, filter, sym, ap, ◌∙◌, length-map, Monitor, Watched, is_for, filter-map}
+use Rattle.list_kept.proofs.Imports.{List, length, filter, sym, ap, ◌∙◌, length-map, Monitor, Watched, is_for, filter-map}
 use Rattle.list_kept.proofs.keeping.Kept.count_for.Goals as goal
 
 pub returns : goal.returns

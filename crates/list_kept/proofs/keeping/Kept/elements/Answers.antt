@@ -1,4 +1,4 @@
-use Rattle.list_kept.proofs.Names.{arith, all_records}
+use Rattle.list_kept.proofs.Imports.{arith, all_records}
 use Rattle.list_kept.proofs.DataLaws.{free_elements}
 use Rattle.list_kept.proofs.keeping.Kept.elements.Goals as goal
 

@@ -1,4 +1,4 @@
-use Rattle.list_kept.proofs.Names.{◌≡◌, ℕ, Option, None, false, length, nat_lt, position, unwrap_or, refl, sym, ap, ◌∙◌, position_or_len, any_is_placed, has_id, unplaced}
+use Rattle.list_kept.proofs.Imports.{◌≡◌, ℕ, Option, None, false, length, nat_lt, position, unwrap_or, refl, sym, ap, ◌∙◌, position_or_len, any_is_placed, has_id, unplaced}
 use Rattle.list_kept.proofs.keeping.Kept.header_of.Goals as goal
 
 pub returns-in-None : goal.returns-in-None

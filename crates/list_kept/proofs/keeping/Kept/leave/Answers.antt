@@ -1,4 +1,4 @@
-use Rattle.list_kept.proofs.Names.{◌≡◌, true, not, if◌then◌else◌, List, Option, map, ap, ◌∙◌, list_all, ConnId, Monitor, Watched, is_of, monitors_of, monitors_of-others, holder_without, is_told}
+use Rattle.list_kept.proofs.Imports.{◌≡◌, true, not, if◌then◌else◌, List, Option, map, ap, ◌∙◌, list_all, ConnId, Monitor, Watched, is_of, monitors_of, monitors_of-others, holder_without, is_told}
 use Rattle.list_kept.proofs.ToldLaws.{told-filter, gains-told, content_at}
 use Rattle.list_kept.proofs.keeping.Kept.leave.Goals as goal
 

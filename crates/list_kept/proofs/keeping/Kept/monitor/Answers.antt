@@ -1,4 +1,4 @@
-use Rattle.list_kept.proofs.Names.{◌≡◌, true, List, ap, ◌∙◌, list_all, Monitor, Watched, monitors_of, rows_with, monitors_of-with, is_told}
+use Rattle.list_kept.proofs.Imports.{◌≡◌, true, List, ap, ◌∙◌, list_all, Monitor, Watched, monitors_of, rows_with, monitors_of-with, is_told}
 use Rattle.list_kept.proofs.ToldLaws.{told-with, gains-told, content_at}
 use Rattle.list_kept.proofs.keeping.Kept.monitor.Goals as goal
 

@@ -1,4 +1,4 @@
-use Rattle.list_kept.proofs.Names.{◌≡◌, Some, [], List, refl, sym, ap, arith, prefix_len, pairwise, Record, records_of, may_precede, one-records, comes_behind}
+use Rattle.list_kept.proofs.Imports.{◌≡◌, Some, [], List, refl, sym, ap, arith, prefix_len, pairwise, Record, records_of, may_precede, one-records, comes_behind}
 use Rattle.list_kept.proofs.PlaceLaws.{none_past}
 use Rattle.list_kept.proofs.keeping.Kept.place_of.Goals as goal
 

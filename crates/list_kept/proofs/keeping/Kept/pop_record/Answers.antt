@@ -1,4 +1,4 @@
-use Rattle.list_kept.proofs.Names.{◌≡◌, ◌-◌, ◌==◌, not, List, length, take, sym, ap, ◌∙◌, subst, arith, Option, ℕ, list_all, Record, StoreView, Lists, all_records, records_of, lists_without, count_of, lists_popped, record_in, AreUsed, AreNamed, Monitor, Watched, monitors_of, rows_turned, monitors-turned, has_records, records-elsewhere, first-all, IsOrderly, is_told}
+use Rattle.list_kept.proofs.Imports.{◌≡◌, ◌-◌, ◌==◌, not, List, length, take, sym, ap, ◌∙◌, subst, arith, Option, ℕ, list_all, Record, StoreView, Lists, all_records, records_of, lists_without, count_of, lists_popped, record_in, AreUsed, AreNamed, Monitor, Watched, monitors_of, rows_turned, monitors-turned, has_records, records-elsewhere, first-all, IsOrderly, is_told}
 use Rattle.list_kept.proofs.NamedLaws.{named_less, taken}
 use Rattle.list_kept.proofs.PlaceLaws.{orderly-without}
 use Rattle.list_kept.proofs.ToldLaws.{told-one, sym_test, content_at}

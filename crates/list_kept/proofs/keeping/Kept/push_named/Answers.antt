@@ -1,4 +1,4 @@
-use Rattle.list_kept.proofs.Names.{◌≡◌, ℕ, ◌<◌, ◌==◌, ◌++◌, ◌∷◌, [], not, List, length, sym, ap, ◌∙◌, subst, list_all, Record, Lists, all_records, records_of, with_records, Inside, AreUsed, with_data, AreNamed, Monitor, Watched, monitors_of, rows_turned, monitors-turned, has_records, records-elsewhere, ContentView, content_view, IsOrderly, is_told, AreTold}
+use Rattle.list_kept.proofs.Imports.{◌≡◌, ℕ, ◌<◌, ◌==◌, ◌++◌, ◌∷◌, [], not, List, length, sym, ap, ◌∙◌, subst, list_all, Record, Lists, all_records, records_of, with_records, Inside, AreUsed, with_data, AreNamed, Monitor, Watched, monitors_of, rows_turned, monitors-turned, has_records, records-elsewhere, ContentView, content_view, IsOrderly, is_told, AreTold}
 use Rattle.list_kept.proofs.NamedLaws.{named_new, named_more, came_last}
 use Rattle.list_kept.proofs.ToldLaws.{told-one, sym_test, content_at}
 use Rattle.list_kept.proofs.keeping.Kept.push_named.Goals as goal

@@ -1,4 +1,4 @@
-use Rattle.list_kept.proofs.Names.{◌≡◌, ℕ, ◌==◌, true, List, sym, ap, ◌∙◌, subst, Option, length, list_any, list_all, false≢true, Lists, all_records, is_id, lists_without, record_in, AreUsed, AreNamed, any_all, unplaced, spot_with, Monitor, Watched, monitors_of, rows_turned, monitors-turned, has_records, full-others, ContentView, IsOrderly, is_told}
+use Rattle.list_kept.proofs.Imports.{◌≡◌, ℕ, ◌==◌, true, List, sym, ap, ◌∙◌, subst, Option, length, list_any, list_all, false≢true, Lists, all_records, is_id, lists_without, record_in, AreUsed, AreNamed, any_all, unplaced, spot_with, Monitor, Watched, monitors_of, rows_turned, monitors-turned, has_records, full-others, ContentView, IsOrderly, is_told}
 use Rattle.list_kept.proofs.NamedLaws.{named_less, taken}
 use Rattle.list_kept.proofs.PlaceLaws.{orderly-without}
 use Rattle.list_kept.proofs.ToldLaws.{told-one, gains-told, sym_test, content_at}

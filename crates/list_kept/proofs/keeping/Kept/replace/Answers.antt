@@ -1,4 +1,4 @@
-use Rattle.list_kept.proofs.Names.{◌≡◌, true, sym, ap, ◌∙◌, subst, arith, IfSome, list_any, Lists, all_records, is_id, record_of, lists_replaced, has_records, full-replaced, ContentView, AreUsed, renewed, AreNamed, IsOrderly}
+use Rattle.list_kept.proofs.Imports.{◌≡◌, true, sym, ap, ◌∙◌, subst, arith, IfSome, list_any, Lists, all_records, is_id, record_of, lists_replaced, has_records, full-replaced, ContentView, AreUsed, renewed, AreNamed, IsOrderly}
 use Rattle.list_kept.proofs.DataLaws.{named-renewed}
 use Rattle.list_kept.proofs.ToldLaws.{told-same}
 use Rattle.list_kept.proofs.keeping.Kept.replace.Goals as goal

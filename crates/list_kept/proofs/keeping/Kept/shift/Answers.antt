@@ -1,4 +1,4 @@
-use Rattle.list_kept.proofs.Names.{◌≡◌, ℕ, ◌<◌, ◌==◌, true, List, length, refl, sym, ap, ◌∙◌, subst, Option, list_any, list_all, false≢true, eqb-true, Lists, all_records, is_id, record_of, lists_without, any_all, unplaced, spot_with, Monitor, Watched, monitors_of, rows_turned, monitors-turned, gains_two, has_records, ContentView, put_back, with_new_key, AreUsed, AreNamed, IsOrderly, is_told}
+use Rattle.list_kept.proofs.Imports.{◌≡◌, ℕ, ◌<◌, ◌==◌, true, List, length, refl, sym, ap, ◌∙◌, subst, Option, list_any, list_all, false≢true, eqb-true, Lists, all_records, is_id, record_of, lists_without, any_all, unplaced, spot_with, Monitor, Watched, monitors_of, rows_turned, monitors-turned, gains_two, has_records, ContentView, put_back, with_new_key, AreUsed, AreNamed, IsOrderly, is_told}
 use Rattle.list_kept.proofs.NamedLaws.{named_other, taken, came_back, some_found}
 use Rattle.list_kept.proofs.ToldLaws.{told-two, gains-told, content_at, full-put_back}
 use Rattle.list_kept.proofs.keeping.Kept.shift.Goals as goal

@@ -1,4 +1,4 @@
-use Rattle.list_kept.proofs.Names.{◌≡◌, true, not, List, ap, ◌∙◌, list_all, Monitor, Watched, is_for, monitors_of, monitors_of-without, is_told}
+use Rattle.list_kept.proofs.Imports.{◌≡◌, true, not, List, ap, ◌∙◌, list_all, Monitor, Watched, is_for, monitors_of, monitors_of-without, is_told}
 use Rattle.list_kept.proofs.ToldLaws.{told-filter, gains-told, content_at}
 use Rattle.list_kept.proofs.keeping.Kept.unmonitor.Goals as goal
 

@@ -1,4 +1,4 @@
-use Rattle.list_kept.proofs.Names.{ℕ, List, Option, None, length, sym, ap, ◌∙◌, subst, list_all, length-replicate, Watched, is_told, Lists, all_records, AreUsed, AreNamed, IsOrderly}
+use Rattle.list_kept.proofs.Imports.{ℕ, List, Option, None, length, sym, ap, ◌∙◌, subst, list_all, length-replicate, Watched, is_told, Lists, all_records, AreUsed, AreNamed, IsOrderly}
 use Rattle.list_kept.proofs.DataLaws.{no_chains}
 use Rattle.list_kept.proofs.PlaceLaws.{orderly-none, named_none}
 use Rattle.list_kept.proofs.keeping.Kept.with_names.Goals as goal

@@ -1,4 +1,4 @@
-use Rattle.list_kept.proofs.Names.{◌≡◌, ℕ, ◌+◌, ◌<◌, Bool, true, List, length, sym, ap, ◌∙◌, subst, arith, list_all, Record, Lists, all_records, Inside, AreUsed, with_data, AreNamed, Monitor, Watched, monitors_of, rows_turned, monitors-turned, has_records, full-elsewhere, with_record, ContentView, content_view, IsOrderly, is_told}
+use Rattle.list_kept.proofs.Imports.{◌≡◌, ℕ, ◌+◌, ◌<◌, Bool, true, List, length, sym, ap, ◌∙◌, subst, arith, list_all, Record, Lists, all_records, Inside, AreUsed, with_data, AreNamed, Monitor, Watched, monitors_of, rows_turned, monitors-turned, has_records, full-elsewhere, with_record, ContentView, content_view, IsOrderly, is_told}
 use Rattle.list_kept.proofs.NamedLaws.{named_new, named_more, came, elements_with}
 use Rattle.list_kept.proofs.ToldLaws.{told-one, gains-told, sym_test, content_at}
 use Rattle.list_kept.proofs.keeping.Kept.write.Goals as goal

@@ -1,4 +1,4 @@
-use Rattle.list_store.proofs.Names.{◌≡◌, ◌∙◌, ◌<◌, ap, sym, subst, arith, refl, false, List, length, map, list_any, length-map, with-map, any-map, Rec, StoreView, rec_id, record_id, is_id, record_in, HasChain, AreHeld, loose_in}
+use Rattle.list_store.proofs.Imports.{◌≡◌, ◌∙◌, ◌<◌, ap, sym, subst, arith, refl, false, List, length, map, list_any, length-map, with-map, any-map, Rec, StoreView, rec_id, record_id, is_id, record_in, HasChain, AreHeld, loose_in}
 use Rattle.list_store.specs.Lists.{all_records}
 use Rattle.list_store.proofs.StoreLaws.{added_held, added_loose}
 use Rattle.list_store.proofs.store.Store.add.Goals as goal

@@ -1,4 +1,4 @@
-use Rattle.list_store.proofs.Names.{◌∙◌, ap, sym, refl, option_map, List, slice_get, records_of, records_of-map, get-map, apart-map, Record, record_id, record_in, rec_id}
+use Rattle.list_store.proofs.Imports.{◌∙◌, ap, sym, refl, option_map, List, slice_get, records_of, records_of-map, get-map, apart-map, Record, record_id, record_in, rec_id}
 use Rattle.list_store.proofs.StoreLaws.{chain_at, shown_option}
 use Rattle.list_store.proofs.store.Store.at.Goals as goal
 

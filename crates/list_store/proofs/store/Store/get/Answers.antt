@@ -1,4 +1,4 @@
-use Rattle.list_store.proofs.Names.{◌∙◌, ap, sym, refl, option_map, record-map, apart-map, rec_id, record_id, record_in}
+use Rattle.list_store.proofs.Imports.{◌∙◌, ap, sym, refl, option_map, record-map, apart-map, rec_id, record_id, record_in}
 use Rattle.list_store.proofs.StoreLaws.{chain_of, shown_option}
 use Rattle.list_store.proofs.store.Store.get.Goals as goal
 

@@ -1,4 +1,4 @@
-use Rattle.list_store.proofs.Names.{sym, subst, IsChain, all_records, loose_in, StoreView}
+use Rattle.list_store.proofs.Imports.{sym, subst, IsChain, all_records, loose_in, StoreView}
 use Rattle.list_store.proofs.StoreLaws.{loose_chain, given_held, given_view, given_whole}
 use Rattle.list_store.proofs.store.Store.give_body.Goals as goal
 

@@ -1,4 +1,4 @@
-use Rattle.list_store.proofs.Names.{◌∙◌, ℕ, ap, sym, refl, option_map, spot-map, apart-map, rec_id, record_id, record_in}
+use Rattle.list_store.proofs.Imports.{◌∙◌, ℕ, ap, sym, refl, option_map, spot-map, apart-map, rec_id, record_id, record_in}
 use Rattle.list_store.proofs.SpotLaws.{header_is}
 use Rattle.list_store.proofs.StoreLaws.{shown}
 use Rattle.list_store.proofs.store.Store.header_of.Goals as goal

@@ -1,4 +1,4 @@
-use Rattle.list_store.proofs.Names.{◌∙◌, ap, List, map, Rec, record_in}
+use Rattle.list_store.proofs.Imports.{◌∙◌, ap, List, map, Rec, record_in}
 use Rattle.list_store.proofs.StoreLaws.{shown_none, held_none, whole_none}
 use Rattle.list_store.proofs.store.Store.new.Goals as goal
 

@@ -1,4 +1,4 @@
-use Rattle.list_store.proofs.Names.{◌≡◌, ◌∙◌, ◌-◌, [], Some, refl, ap, List, take, length, option_map, IsLastFull, last-map, none-map, popped-map, record-map, without-map, apart-map, Rec, rec_id, record_id, with_records, record_in}
+use Rattle.list_store.proofs.Imports.{◌≡◌, ◌∙◌, ◌-◌, [], Some, refl, ap, List, take, length, option_map, IsLastFull, last-map, none-map, popped-map, record-map, without-map, apart-map, Rec, rec_id, record_id, with_records, record_in}
 use Rattle.cf_lists.specs.Lists as generic
 use Rattle.list_store.specs.Lists.{all_records, records_of, record_of, lists_without}
 use Rattle.list_store.proofs.TiedLaws.{weaker_some, weaker_none}

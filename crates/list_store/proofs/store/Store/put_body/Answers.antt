@@ -1,4 +1,4 @@
-use Rattle.list_store.proofs.Names.{all_records}
+use Rattle.list_store.proofs.Imports.{all_records}
 use Rattle.list_store.proofs.StoreLaws.{put_held, put_view, put_whole, new_fresh}
 use Rattle.list_store.proofs.store.Store.put_body.Goals as goal
 

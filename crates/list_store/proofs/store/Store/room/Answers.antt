@@ -1,4 +1,4 @@
-use Rattle.list_store.proofs.Names.{List, sym, subst, all_records, Rec, AreHeld}
+use Rattle.list_store.proofs.Imports.{List, sym, subst, all_records, Rec, AreHeld}
 use Rattle.list_store.proofs.store.Store.room.Goals as goal
 
 pub invariant_of-self : goal.invariant_of-self

@@ -1,4 +1,4 @@
-use Rattle.list_store.proofs.Names.{◌≡◌, ◌∙◌, ap, sym, subst, refl, ℕ, true, List, Some, map, option_map, list_any, replaced-map, record-map, any-map, apart-map, Rec, StoreView, rec_id, record_id, is_id, record_in, HasChain, chains_less, AreHeld, loose_in}
+use Rattle.list_store.proofs.Imports.{◌≡◌, ◌∙◌, ap, sym, subst, refl, ℕ, true, List, Some, map, option_map, list_any, replaced-map, record-map, any-map, apart-map, Rec, StoreView, rec_id, record_id, is_id, record_in, HasChain, chains_less, AreHeld, loose_in}
 use Rattle.cf_lists.specs.Lists as generic
 use Rattle.list_store.specs.Lists.{all_records}
 use Rattle.list_store.proofs.StoreLaws.{replaced_held, replaced_chain, replaced_was}

@@ -1,4 +1,4 @@
-use Rattle.list_store.proofs.Names.{◌∙◌, ap, sym, is_some, option_map, list_any, false≢true, found_passes, any_is_found, gone, Lists, record_id, is_id, record_in}
+use Rattle.list_store.proofs.Imports.{◌∙◌, ap, sym, is_some, option_map, list_any, false≢true, found_passes, any_is_found, gone, Lists, record_id, is_id, record_in}
 use Rattle.list_store.specs.Lists.{all_records}
 use Rattle.list_store.proofs.store.Store.shift.Goals as goal
 

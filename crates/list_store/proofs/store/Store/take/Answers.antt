@@ -1,4 +1,4 @@
-use Rattle.list_store.proofs.Names.{◌∙◌, ap, sym, refl, List, map, option_map, without-map, record-map, apart-map, Rec, rec_id, record_id, record_in}
+use Rattle.list_store.proofs.Imports.{◌∙◌, ap, sym, refl, List, map, option_map, without-map, record-map, apart-map, Rec, rec_id, record_id, record_in}
 use Rattle.list_store.proofs.StoreLaws.{TakenOut, taken_out}
 use Rattle.list_store.proofs.store.Store.take.Goals as goal
 

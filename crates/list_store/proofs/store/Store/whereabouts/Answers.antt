@@ -1,4 +1,4 @@
-use Rattle.list_store.proofs.Names.{◌∙◌, ap, sym, refl, option_map, spot-map, apart-map, rec_id, as_spot, record_id, record_in}
+use Rattle.list_store.proofs.Imports.{◌∙◌, ap, sym, refl, option_map, spot-map, apart-map, rec_id, as_spot, record_id, record_in}
 use Rattle.list_store.proofs.SpotLaws.{spot_is}
 use Rattle.list_store.proofs.StoreLaws.{shown}
 use Rattle.list_store.proofs.store.Store.whereabouts.Goals as goal

@@ -1,4 +1,4 @@
-use Rattle.list_store.proofs.Names.{◌≡◌, ◌∙◌, ap, ℕ, arith, List, length, replicate, [], length-map, length-replicate, Vec, Global, orders_in, is_few, list_all, lists_at}
+use Rattle.list_store.proofs.Imports.{◌≡◌, ◌∙◌, ap, ℕ, arith, List, length, replicate, [], length-map, length-replicate, Vec, Global, orders_in, is_few, list_all, lists_at}
 use Rattle.list_store.proofs.VecLaws.{few-replicate}
 use Rattle.list_store.proofs.TiedLaws.{new_tied, no_lists}
 use Rattle.list_store.proofs.table.Table.new.Goals as goal

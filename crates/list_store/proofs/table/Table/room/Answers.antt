@@ -1,4 +1,4 @@
-use Rattle.list_store.proofs.Names.{◌∙◌, ap, ℕ, arith, List, refl, orders_in, is_few, list_all}
+use Rattle.list_store.proofs.Imports.{◌∙◌, ap, ℕ, arith, List, refl, orders_in, is_few, list_all}
 use Rattle.list_store.proofs.TiedLaws.{same_tied}
 use Rattle.list_store.proofs.table.Table.room.Goals as goal
 

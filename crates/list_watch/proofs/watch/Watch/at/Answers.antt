@@ -1,4 +1,4 @@
-use Rattle.list_watch.proofs.Names.{◌≡◌, option_map, Option, List, find, sym, ap, ◌∙◌, refl, Monitor, Watched, is_at}
+use Rattle.list_watch.proofs.Imports.{◌≡◌, option_map, Option, List, find, sym, ap, ◌∙◌, refl, Monitor, Watched, is_at}
 use Rattle.list_watch.proofs.MonitorLaws.{find-map}
 use Rattle.list_watch.proofs.watch.Watch.at.Goals as goal
 

@@ -1,4 +1,4 @@
-use Rattle.list_watch.proofs.Names.{◌≤◌, ◌&&◌, not, List, length, sym, subst, arith, length-filter-le, Watched, is_for, AreMonitors, monitors_of, WatchView}
+use Rattle.list_watch.proofs.Imports.{◌≤◌, ◌&&◌, not, List, length, sym, subst, arith, length-filter-le, Watched, is_for, AreMonitors, monitors_of, WatchView}
 use Rattle.list_watch.proofs.MonitorLaws.{monitors-filter}
 use Rattle.list_watch.proofs.watch.Watch.clear.Goals as goal
 

@@ -1,4 +1,4 @@
-use Rattle.list_watch.proofs.Names.{◌≡◌, ◌≤◌, sym, subst, arith, Watched, rows_with, WatchView}
+use Rattle.list_watch.proofs.Imports.{◌≡◌, ◌≤◌, sym, subst, arith, Watched, rows_with, WatchView}
 use Rattle.list_watch.proofs.BitLaws.{gains_with}
 use Rattle.list_watch.proofs.MonitorLaws.{one_elsewhere, rows-with, monitors-with}
 use Rattle.list_watch.proofs.watch.Watch.set.Goals as goal

@@ -1,4 +1,4 @@
-use Rattle.list_watch.proofs.Names.{List, sym, subst, arith, Watched, AreMonitors, monitors_of}
+use Rattle.list_watch.proofs.Imports.{List, sym, subst, arith, Watched, AreMonitors, monitors_of}
 use Rattle.list_watch.proofs.MonitorLaws.{monitors-turn}
 use Rattle.list_watch.proofs.watch.Watch.settle.Goals as goal
 

@@ -1,4 +1,4 @@
-use Rattle.list_watch.proofs.Names.{◌≤◌, List, length, sym, subst, arith, length-filter-le, Watched, AreMonitors, monitors_of, is_turned, WatchView}
+use Rattle.list_watch.proofs.Imports.{◌≤◌, List, length, sym, subst, arith, length-filter-le, Watched, AreMonitors, monitors_of, is_turned, WatchView}
 use Rattle.list_watch.proofs.BitLaws.{gains_turned}
 use Rattle.list_watch.proofs.MonitorLaws.{monitors-turn}
 use Rattle.list_watch.proofs.watch.Watch.turned.Goals as goal

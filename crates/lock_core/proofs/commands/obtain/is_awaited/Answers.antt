@@ -1,4 +1,4 @@
-use Rattle.lock_core.proofs.Names.{◌∙◌, is_on}
+use Rattle.lock_core.proofs.Imports.{◌∙◌, is_on}
 use Rattle.lock_core.proofs.ReadLaws.{any_by}
 use Rattle.lock_core.proofs.commands.obtain.is_awaited.Goals as goal
 

@@ -1,4 +1,4 @@
-use Rattle.lock_core.proofs.Names.{[], ◌∷◌, Option, ap, sym, ◌∙◌, Refusal, first_refusal}
+use Rattle.lock_core.proofs.Imports.{[], ◌∷◌, Option, ap, sym, ◌∙◌, Refusal, first_refusal}
 use Rattle.lock_model.specs.Commands.RtDelete as rt_delete
 use Rattle.lock_core.proofs.ReadLaws.{first_of_one, record_refusal-any}
 use Rattle.lock_core.proofs.commands.rt_delete.refusal.Goals as goal

@@ -1,4 +1,4 @@
-use Rattle.lock_core.proofs.Names.{[], ◌∷◌, Option, ap, sym, ◌∙◌, Refusal, first_refusal}
+use Rattle.lock_core.proofs.Imports.{[], ◌∷◌, Option, ap, sym, ◌∙◌, Refusal, first_refusal}
 use Rattle.lock_model.specs.Commands.RtRead as rt_read
 use Rattle.lock_core.proofs.ReadLaws.{first_of_one, record_refusal-any}
 use Rattle.lock_core.proofs.commands.rt_read.refusal.Goals as goal

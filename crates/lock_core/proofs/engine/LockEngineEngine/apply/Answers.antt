@@ -1,4 +1,4 @@
-use Rattle.lock_core.proofs.Names.{◌≡◌, ◌<◌, ◌+◌, length, Some, None, sym, subst, ◌∙◌, arith, cause, content-done, items-done, plan_for, EngineView}
+use Rattle.lock_core.proofs.Imports.{◌≡◌, ◌<◌, ◌+◌, length, Some, None, sym, subst, ◌∙◌, arith, cause, content-done, items-done, plan_for, EngineView}
 use Rattle.lock_core.proofs.EngineLaws.{taken_is, plan_accepted}
 use Rattle.lock_core.proofs.engine.LockEngineEngine.apply.Goals as goal
 

@@ -1,4 +1,4 @@
-use Rattle.lock_core.proofs.Names.{◌∙◌, back-content}
+use Rattle.lock_core.proofs.Imports.{◌∙◌, back-content}
 use Rattle.lock_core.proofs.EngineLaws.{counted-returned}
 use Rattle.lock_core.proofs.engine.LockEngineEngine.back.Goals as goal
 

@@ -1,4 +1,4 @@
-use Rattle.lock_core.proofs.Names.{◌≡◌, List, Some, sym, ap, subst, ◌∙◌, arith, Resource, Content, IsContent, Waiter, waiters_without_conn, Interest, departure_of, interests_left, resources_of, grant_each, led_departed, EngineView, IsCounted}
+use Rattle.lock_core.proofs.Imports.{◌≡◌, List, Some, sym, ap, subst, ◌∙◌, arith, Resource, Content, IsContent, Waiter, waiters_without_conn, Interest, departure_of, interests_left, resources_of, grant_each, led_departed, EngineView, IsCounted}
 use Rattle.lock_core.proofs.EngineLaws.{taken_is}
 use Rattle.lock_core.proofs.engine.LockEngineEngine.leave.Goals as goal
 

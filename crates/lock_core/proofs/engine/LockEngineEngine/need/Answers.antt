@@ -1,4 +1,4 @@
-use Rattle.lock_core.proofs.Names.{◌∙◌}
+use Rattle.lock_core.proofs.Imports.{◌∙◌}
 use Rattle.lock_core.proofs.EngineLaws.{need-content}
 use Rattle.lock_core.proofs.engine.LockEngineEngine.need.Goals as goal
 

@@ -1,4 +1,4 @@
-use Rattle.lock_core.proofs.Names.{◌≡◌, ◌++◌, ◌∷◌, IsTrue, sym, ap, subst, ◌∙◌, is_lock, Held, content-placed, Content, IsContent, content_with, items, lock_meaning, lock-fronts, EngineView}
+use Rattle.lock_core.proofs.Imports.{◌≡◌, ◌++◌, ◌∷◌, IsTrue, sym, ap, subst, ◌∙◌, is_lock, Held, content-placed, Content, IsContent, content_with, items, lock_meaning, lock-fronts, EngineView}
 use Rattle.lock_core.proofs.EngineLaws.{placed-next, kept_either, ok_weaker}
 use Rattle.lock_core.proofs.engine.LockEngineEngine.place.Goals as goal
 

@@ -1,4 +1,4 @@
-use Rattle.lock_core.proofs.Names.{◌∙◌, content-without_last}
+use Rattle.lock_core.proofs.Imports.{◌∙◌, content-without_last}
 use Rattle.lock_core.proofs.EngineLaws.{counted-last}
 use Rattle.lock_core.proofs.engine.LockEngineEngine.unplace.Goals as goal
 

@@ -1,4 +1,4 @@
-use Rattle.lock_core.proofs.Names.{◌≡◌, ◌-◌, ◌<◌, List, Some, None, [], ◌∷◌, length, get_or, sym, ap, subst, ◌∙◌, arith, slice_get, slice_get-get_or, Waiter, Content, without_last, waiters_without-last, Stock}
+use Rattle.lock_core.proofs.Imports.{◌≡◌, ◌-◌, ◌<◌, List, Some, None, [], ◌∷◌, length, get_or, sym, ap, subst, ◌∙◌, arith, slice_get, slice_get-get_or, Waiter, Content, without_last, waiters_without-last, Stock}
 use Rattle.lock_core.proofs.locks.Locks.drop_last_waiter.Goals as goal
 
 pub returns-in-Some-clause-content : goal.returns-in-Some-clause-content

@@ -1,4 +1,4 @@
-use Rattle.lock_core.proofs.Names.{◌≤◌, length, sym, subst, arith, Stock, HasRoom, records_waiting}
+use Rattle.lock_core.proofs.Imports.{◌≤◌, length, sym, subst, arith, Stock, HasRoom, records_waiting}
 use Rattle.lock_core.proofs.GrantLaws.{fewer-without}
 use Rattle.lock_core.proofs.locks.Locks.end_part.Goals as goal
 

@@ -1,4 +1,4 @@
-use Rattle.lock_core.proofs.Names.{◌≡◌, ◌+◌, Some, length, sym, subst, arith, IsQueue, waiter_of, records_of, records_waiting, Stock, HasRoom}
+use Rattle.lock_core.proofs.Imports.{◌≡◌, ◌+◌, Some, length, sym, subst, arith, IsQueue, waiter_of, records_of, records_waiting, Stock, HasRoom}
 use Rattle.lock_core.proofs.GrantLaws.{length-waits, records-waits}
 use Rattle.lock_core.proofs.locks.Locks.grant_one.Goals as goal
 use Rattle.lock_core.proofs.locks.Locks.grant_one.Goals.{After-push}

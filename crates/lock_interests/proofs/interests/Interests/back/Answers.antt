@@ -1,4 +1,4 @@
-use Rattle.lock_interests.proofs.Names.{false, subst, sym, AreOwned}
+use Rattle.lock_interests.proofs.Imports.{false, subst, sym, AreOwned}
 use Rattle.lock_interests.proofs.JoinLaws.{joined-retained}
 use Rattle.lock_interests.proofs.CountLaws.{owned-retained}
 use Rattle.lock_interests.proofs.interests.Interests.back.Goals as goal

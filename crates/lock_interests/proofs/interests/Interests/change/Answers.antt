@@ -1,4 +1,4 @@
-use Rattle.lock_interests.proofs.Names.{◌≡◌, true, false, sym, subst₂, ap, ◌∙◌, has_interest, interests_changed, with_alteration, InterestsView, AreOwned}
+use Rattle.lock_interests.proofs.Imports.{◌≡◌, true, false, sym, subst₂, ap, ◌∙◌, has_interest, interests_changed, with_alteration, InterestsView, AreOwned}
 use Rattle.lock_model.specs.Interests as interests
 use Rattle.lock_interests.proofs.JoinLaws.{joined-changed}
 use Rattle.lock_interests.proofs.CountLaws.{has-joined, changed_none, owned-altered}

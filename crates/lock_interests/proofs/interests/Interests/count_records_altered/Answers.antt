@@ -1,4 +1,4 @@
-use Rattle.lock_interests.proofs.Names.{◌≡◌, ◌&&◌, true, false, is_some, sym, ap, ◌∙◌, InterestsView, interests_of}
+use Rattle.lock_interests.proofs.Imports.{◌≡◌, ◌&&◌, true, false, is_some, sym, ap, ◌∙◌, InterestsView, interests_of}
 use Rattle.lock_model.specs.Interests as interests
 use Rattle.lock_interests.proofs.CountLaws.{counted-given, counted-ungiven}
 use Rattle.lock_interests.proofs.interests.Interests.count_records_altered.Goals as goal

@@ -1,4 +1,4 @@
-use Rattle.lock_interests.proofs.Names.{held_by}
+use Rattle.lock_interests.proofs.Imports.{held_by}
 use Rattle.lock_interests.proofs.CountLaws.{counted-with}
 use Rattle.lock_interests.proofs.interests.Interests.count_records_with.Goals as goal
 

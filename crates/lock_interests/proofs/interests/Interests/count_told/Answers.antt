@@ -1,4 +1,4 @@
-use Rattle.lock_interests.proofs.Names.{List, length, ap, ◌∙◌, arith, Letter, length-filter-le, Held, is_on}
+use Rattle.lock_interests.proofs.Imports.{List, length, ap, ◌∙◌, arith, Letter, length-filter-le, Held, is_on}
 use Rattle.lock_interests.proofs.OwnerLaws.{told_left}
 use Rattle.lock_interests.proofs.interests.Interests.count_told.Goals as goal
 

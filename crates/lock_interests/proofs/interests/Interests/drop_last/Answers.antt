@@ -1,4 +1,4 @@
-use Rattle.lock_interests.proofs.Names.{◌≡◌, ◌<◌, ◌-◌, Some, length, sym, ap, subst, ◌∙◌, arith, slice_get, length-map, AreInterests, interests_without-last, InterestsView, with_record, interests_of}
+use Rattle.lock_interests.proofs.Imports.{◌≡◌, ◌<◌, ◌-◌, Some, length, sym, ap, subst, ◌∙◌, arith, slice_get, length-map, AreInterests, interests_without-last, InterestsView, with_record, interests_of}
 use Rattle.lock_interests.proofs.ReadLaws.{last-joined, last_there}
 use Rattle.lock_interests.proofs.interests.Interests.drop_last.Goals as goal
 

@@ -1,4 +1,4 @@
-use Rattle.lock_interests.proofs.Names.{true}
+use Rattle.lock_interests.proofs.Imports.{true}
 use Rattle.lock_interests.proofs.JoinLaws.{joined-kept}
 use Rattle.lock_interests.proofs.CountLaws.{owned-kept}
 use Rattle.lock_interests.proofs.OwnerLaws.{left_recorded}

@@ -1,4 +1,4 @@
-use Rattle.lock_interests.proofs.Names.{◌≡◌, ◌+◌, ◌++◌, List, length, ap, subst, ◌∙◌, arith, Letter, InterestsView}
+use Rattle.lock_interests.proofs.Imports.{◌≡◌, ◌+◌, ◌++◌, List, length, ap, subst, ◌∙◌, arith, Letter, InterestsView}
 use Rattle.lock_model.specs.Commands.Decide as decide
 use Rattle.lock_interests.proofs.OwnerLaws.{told_left}
 use Rattle.lock_interests.proofs.interests.Interests.notify.Goals as goal

@@ -1,4 +1,4 @@
-use Rattle.lock_interests.proofs.Names.{sym, subst₂, AreOwned}
+use Rattle.lock_interests.proofs.Imports.{sym, subst₂, AreOwned}
 use Rattle.lock_interests.proofs.JoinLaws.{joined-with}
 use Rattle.lock_interests.proofs.CountLaws.{owned-with}
 use Rattle.lock_interests.proofs.interests.Interests.put.Goals as goal

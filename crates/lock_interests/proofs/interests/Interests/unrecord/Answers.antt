@@ -1,4 +1,4 @@
-use Rattle.lock_interests.proofs.Names.{subst, sym, AreOwned}
+use Rattle.lock_interests.proofs.Imports.{subst, sym, AreOwned}
 use Rattle.lock_interests.proofs.JoinLaws.{joined-unrecorded}
 use Rattle.lock_interests.proofs.CountLaws.{owned-unrecorded}
 use Rattle.lock_interests.proofs.interests.Interests.unrecord.Goals as goal

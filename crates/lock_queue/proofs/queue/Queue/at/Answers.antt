@@ -1,4 +1,4 @@
-use Rattle.lock_queue.proofs.Names.{◌≡◌, length, ap, sym, ◌∙◌, arith, length_seen, QueueView, part_of, waiters_in}
+use Rattle.lock_queue.proofs.Imports.{◌≡◌, length, ap, sym, ◌∙◌, arith, length_seen, QueueView, part_of, waiters_in}
 use Rattle.lock_queue.proofs.queue.Queue.at.Goals as goal
 
 pub search_at-requires-clause-few : goal.search_at-requires-clause-few

@@ -1,4 +1,4 @@
-use Rattle.lock_queue.proofs.Names.{◌≡◌, List, length, ap, sym, ◌∙◌, arith, length-filter-le, Waiter, is_on, waiters_of, QueueView, waiters_in}
+use Rattle.lock_queue.proofs.Imports.{◌≡◌, List, length, ap, sym, ◌∙◌, arith, length-filter-le, Waiter, is_on, waiters_of, QueueView, waiters_in}
 use Rattle.lock_queue.proofs.queue.Queue.count_of.Goals as goal
 
 pub returns-clause-few : goal.returns-clause-few

@@ -1,4 +1,4 @@
-use Rattle.lock_queue.proofs.Names.{◌∙◌, last_seen, part_of}
+use Rattle.lock_queue.proofs.Imports.{◌∙◌, last_seen, part_of}
 use Rattle.lock_queue.proofs.queue.Queue.last.Goals as goal
 
 pub returns : goal.returns

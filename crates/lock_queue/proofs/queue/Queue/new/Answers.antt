@@ -1,4 +1,4 @@
-use Rattle.lock_queue.proofs.Names.{◌∙◌, ap, arith, refl, seen_none, table_none, of_seen, part_of, waiters_in}
+use Rattle.lock_queue.proofs.Imports.{◌∙◌, ap, arith, refl, seen_none, table_none, of_seen, part_of, waiters_in}
 use Rattle.lock_queue.proofs.queue.Queue.new.Goals as goal
 
 pub invariant_of-result : goal.invariant_of-result

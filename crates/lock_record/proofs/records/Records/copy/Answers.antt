@@ -1,4 +1,4 @@
-use Rattle.lock_record.proofs.Names.{◌≡◌, ap, ◌∙◌, rules, same_from_all_zip, Book, records_in}
+use Rattle.lock_record.proofs.Imports.{◌≡◌, ap, ◌∙◌, rules, same_from_all_zip, Book, records_in}
 use Rattle.lock_record.proofs.records.Records.copy.Goals as goal
 
 pub returns-clause-records : goal.returns-clause-records

@@ -1,4 +1,4 @@
-use Rattle.lock_record.proofs.Names.{◌≡◌, Bool, length, sym, ap, subst, ◌∙◌, list_any, Record, Book, AreRecords}
+use Rattle.lock_record.proofs.Imports.{◌≡◌, Bool, length, sym, ap, subst, ◌∙◌, list_any, Record, Book, AreRecords}
 use Rattle.lock_record.proofs.MapLaws.{length_in, records_are}
 use Rattle.lock_record.proofs.WalkLaws.{any_in}
 use Rattle.lock_record.proofs.records.Records.count.Goals as goal

@@ -1,4 +1,4 @@
-use Rattle.lock_record.proofs.Names.{◌≡◌, is_some, true, false, sym, ap, arith, ◌∙◌, has_record}
+use Rattle.lock_record.proofs.Imports.{◌≡◌, is_some, true, false, sym, ap, arith, ◌∙◌, has_record}
 use Rattle.lock_record.proofs.MapLaws.{as_many, fewer_by_one, some_mapped, there_is}
 use Rattle.lock_record.proofs.records.Records.count_others.Goals as goal
 

@@ -1,4 +1,4 @@
-use Rattle.lock_record.proofs.Names.{ap, ◌∙◌, Book, record_of}
+use Rattle.lock_record.proofs.Imports.{ap, ◌∙◌, Book, record_of}
 use Rattle.lock_record.proofs.MapLaws.{looked_up}
 use Rattle.lock_record.proofs.records.Records.get.Goals as goal
 

@@ -1,4 +1,4 @@
-use Rattle.lock_record.proofs.Names.{◌≡◌, ℕ, ◌<◌, true, false, Option, option_map, slice_get, sym, ap, subst, ◌∙◌, Part, is_of, is_part_by, part_of}
+use Rattle.lock_record.proofs.Imports.{◌≡◌, ℕ, ◌<◌, true, false, Option, option_map, slice_get, sym, ap, subst, ◌∙◌, Part, is_of, is_part_by, part_of}
 use Rattle.lock_record.proofs.WalkLaws.{there_at, skipped}
 use Rattle.lock_record.proofs.records.Records.has_of.Goals as goal
 

@@ -1,4 +1,4 @@
-use Rattle.lock_record.proofs.Names.{◌≡◌, drop, list_any, is_of}
+use Rattle.lock_record.proofs.Imports.{◌≡◌, drop, list_any, is_of}
 use Rattle.lock_record.proofs.records.Records.has_of.Given as goal
 
 abbrev pub invariant-loop-k : goal.invariant-loop-k

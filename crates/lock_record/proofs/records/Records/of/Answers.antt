@@ -1,4 +1,4 @@
-use Rattle.lock_record.proofs.Names.{List, sym, ap, subst, arith, ◌∙◌, IsPermutation, Resource, same_resource, resource_before, resource_order, neighbours, Record, resources_by}
+use Rattle.lock_record.proofs.Imports.{List, sym, ap, subst, arith, ◌∙◌, IsPermutation, Resource, same_resource, resource_before, resource_order, neighbours, Record, resources_by}
 use Rattle.lock_record.proofs.WalkLaws.{sorted_resources}
 use Rattle.lock_record.proofs.records.Records.of.Goals as goal
 

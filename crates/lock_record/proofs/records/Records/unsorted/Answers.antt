@@ -1,4 +1,4 @@
-use Rattle.lock_record.proofs.Names.{ℕ, ◌+◌, ◌<◌, ◌++◌, List, Option, drop, sym, ap, subst, ◌∙◌, append_assoc, Resource, Part, resource_at, resources_by}
+use Rattle.lock_record.proofs.Imports.{ℕ, ◌+◌, ◌<◌, ◌++◌, List, Option, drop, sym, ap, subst, ◌∙◌, append_assoc, Resource, Part, resource_at, resources_by}
 use Rattle.lock_record.proofs.WalkLaws.{listed_next}
 use Rattle.lock_record.proofs.records.Records.unsorted.Goals as goal
 

@@ -1,4 +1,4 @@
-use Rattle.lock_record.proofs.Names.{◌≡◌, ◌++◌, drop, resources_by}
+use Rattle.lock_record.proofs.Imports.{◌≡◌, ◌++◌, drop, resources_by}
 use Rattle.lock_record.proofs.records.Records.unsorted.Given as goal
 
 abbrev pub invariant-loop-k : goal.invariant-loop-k

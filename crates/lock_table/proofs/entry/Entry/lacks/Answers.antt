@@ -1,4 +1,4 @@
-use Rattle.lock_table.proofs.Names.{◌∙◌, sym}
+use Rattle.lock_table.proofs.Imports.{◌∙◌, sym}
 use Rattle.lock_table.proofs.EntryLaws.{none_by}
 use Rattle.lock_table.proofs.entry.Entry.lacks.Goals as goal
 

@@ -1,4 +1,4 @@
-use Rattle.lock_table.proofs.Names.{◌≡◌, ◌∷◌, [], ◌++◌, ◌∙◌, ap, insert, insert_last}
+use Rattle.lock_table.proofs.Imports.{◌≡◌, ◌∷◌, [], ◌++◌, ◌∙◌, ap, insert, insert_last}
 use Rattle.lock_table.proofs.EntryLaws.{masked_more}
 use Rattle.lock_table.proofs.entry.Entry.put.Goals as goal
 

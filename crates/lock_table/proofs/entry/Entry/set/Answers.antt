@@ -1,4 +1,4 @@
-use Rattle.lock_table.proofs.Names.{◌≡◌, map, false, refl, sym, ◌∙◌, none_placed, Held, is_interest, in_state}
+use Rattle.lock_table.proofs.Imports.{◌≡◌, map, false, refl, sym, ◌∙◌, none_placed, Held, is_interest, in_state}
 use Rattle.lock_table.proofs.EntryLaws.{masked_same, state_put, state_none}
 use Rattle.lock_table.proofs.entry.Entry.set.Goals as goal
 

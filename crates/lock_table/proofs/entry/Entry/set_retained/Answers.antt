@@ -1,4 +1,4 @@
-use Rattle.lock_table.proofs.Names.{◌≡◌, map, false, refl, sym, ◌∙◌, none_placed, Held, is_interest, in_retention}
+use Rattle.lock_table.proofs.Imports.{◌≡◌, map, false, refl, sym, ◌∙◌, none_placed, Held, is_interest, in_retention}
 use Rattle.lock_table.proofs.EntryLaws.{masked_same, retention_put, retention_none}
 use Rattle.lock_table.proofs.entry.Entry.set_retained.Goals as goal
 

@@ -1,4 +1,4 @@
-use Rattle.lock_table.proofs.Names.{sym, refl, ◌∙◌, in_retention_of}
+use Rattle.lock_table.proofs.Imports.{sym, refl, ◌∙◌, in_retention_of}
 use Rattle.lock_table.proofs.EntryLaws.{none_retained, masked_same}
 use Rattle.lock_table.proofs.entry.Entry.set_retained_of.Goals as goal
 

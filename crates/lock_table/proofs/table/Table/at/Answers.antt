@@ -1,4 +1,4 @@
-use Rattle.lock_table.proofs.Names.{◌≡◌, length, ap, sym, ◌∙◌, arith, length_seen, TableView, part_of, owners_in}
+use Rattle.lock_table.proofs.Imports.{◌≡◌, length, ap, sym, ◌∙◌, arith, length_seen, TableView, part_of, owners_in}
 use Rattle.lock_table.proofs.table.Table.at.Goals as goal
 
 pub search_at-requires-clause-few : goal.search_at-requires-clause-few

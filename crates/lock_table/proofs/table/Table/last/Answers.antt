@@ -1,4 +1,4 @@
-use Rattle.lock_table.proofs.Names.{◌∙◌, last_seen, part_of}
+use Rattle.lock_table.proofs.Imports.{◌∙◌, last_seen, part_of}
 use Rattle.lock_table.proofs.table.Table.last.Goals as goal
 
 pub returns : goal.returns

@@ -1,4 +1,4 @@
-use Rattle.lock_table.proofs.Names.{part_of, in_order}
+use Rattle.lock_table.proofs.Imports.{part_of, in_order}
 use Rattle.lock_table.proofs.table.Table.len.Goals as goal
 
 pub returns-clause-owners : goal.returns-clause-owners

@@ -1,4 +1,4 @@
-use Rattle.lock_table.proofs.Names.{◌∙◌, ap, arith, refl, seen_none, table_none, of_seen, part_of, owners_in}
+use Rattle.lock_table.proofs.Imports.{◌∙◌, ap, arith, refl, seen_none, table_none, of_seen, part_of, owners_in}
 use Rattle.lock_table.proofs.table.Table.new.Goals as goal
 
 pub invariant_of-result : goal.invariant_of-result

@@ -1,4 +1,4 @@
-use Rattle.lock_table.proofs.Names.{◌∙◌, map, resource_by, found, part_of, owners_in}
+use Rattle.lock_table.proofs.Imports.{◌∙◌, map, resource_by, found, part_of, owners_in}
 use Rattle.lock_table.proofs.table.Table.owners.Goals as goal
 
 pub returns : goal.returns

@@ -1,4 +1,4 @@
-use Rattle.plex_agent.proofs.Names.{◌≡◌, ◌+◌, ◌≤◌, ◌++◌, map, length, vec_len, vec_capacity, into_iter_items}
+use Rattle.plex_agent.proofs.Imports.{◌≡◌, ◌+◌, ◌≤◌, ◌++◌, map, length, vec_len, vec_capacity, into_iter_items}
 use Rattle.plex_agent.proofs.crew.Room.part.Given as goal
 
 abbrev pub invariant-loop-worker : goal.invariant-loop-worker

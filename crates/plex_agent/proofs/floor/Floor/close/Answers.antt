@@ -1,4 +1,4 @@
-use Rattle.plex_agent.proofs.Names.{◌≡◌, ◌<◌, ◌≤◌, List, Option, Some, length, sym, ◌∙◌, ap, subst, arith, with_items_is, ConnId, Floor, heard_all, with_worker, IsFloorOf}
+use Rattle.plex_agent.proofs.Imports.{◌≡◌, ◌<◌, ◌≤◌, List, Option, Some, length, sym, ◌∙◌, ap, subst, arith, with_items_is, ConnId, Floor, heard_all, with_worker, IsFloorOf}
 use Rattle.plex_agent.proofs.FloorLaws.{has_desk, changed_all, worker_fits, everywhere_fits, filled_more}
 use Rattle.plex_agent.proofs.PlayLaws.{hears_more, heard_everywhere, closes_one, closes_nothing}
 use Rattle.plex_agent.proofs.floor.Floor.close.Goals as goal

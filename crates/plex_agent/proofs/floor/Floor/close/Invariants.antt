@@ -1,4 +1,4 @@
-use Rattle.plex_agent.proofs.Names.{◌≡◌, ◌++◌, ◌-◌, Some, drop, fold, length, replicate, range_with_len, with_worker, worker_of, heard_from_last, heard_all, IsFloorOf}
+use Rattle.plex_agent.proofs.Imports.{◌≡◌, ◌++◌, ◌-◌, Some, drop, fold, length, replicate, range_with_len, with_worker, worker_of, heard_from_last, heard_all, IsFloorOf}
 use Rattle.plex_agent.proofs.floor.Floor.close.Given as goal
 
 abbrev pub invariant-loop-place : goal.invariant-loop-place

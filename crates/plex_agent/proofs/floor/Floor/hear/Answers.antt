@@ -1,4 +1,4 @@
-use Rattle.plex_agent.proofs.Names.{sym, ◌∙◌, subst, arith, with_items_is, Floor, IsFloorOf}
+use Rattle.plex_agent.proofs.Imports.{sym, ◌∙◌, subst, arith, with_items_is, Floor, IsFloorOf}
 use Rattle.plex_agent.proofs.FloorLaws.{hears_before, hears_behind, cut_length, heard_fits}
 use Rattle.plex_agent.proofs.floor.Floor.hear.Goals as goal
 

@@ -1,4 +1,4 @@
-use Rattle.plex_agent.proofs.Names.{◌≡◌, ◌<◌, List, length, get_or, sym, ◌∙◌, ap, subst, arith, Line, connectors, Plays, IsPlayable}
+use Rattle.plex_agent.proofs.Imports.{◌≡◌, ◌<◌, List, length, get_or, sym, ◌∙◌, ap, subst, arith, Line, connectors, Plays, IsPlayable}
 use Rattle.plex_agent.proofs.PlayLaws.{lines_more, closings_more}
 use Rattle.plex_agent.proofs.floor.Floor.play.Goals as goal
 

@@ -1,4 +1,4 @@
-use Rattle.plex_agent.proofs.Names.{◌+◌, ◌-◌, drop, length, connectors, Floor, Plays, PlaysLines, ClosesAll, IsFloorOf, conns_from}
+use Rattle.plex_agent.proofs.Imports.{◌+◌, ◌-◌, drop, length, connectors, Floor, Plays, PlaysLines, ClosesAll, IsFloorOf, conns_from}
 use Rattle.plex_agent.proofs.floor.Floor.play.Given as goal
 
 abbrev pub invariant-loop-line : goal.invariant-loop-line

@@ -1,4 +1,4 @@
-use Rattle.plex_agent.proofs.Names.{Some, slice_set, sym, ◌∙◌, ap, subst, slice_get_within, note_of, DeskShown, pass_at, IsDeskOf, Floor, with_worker, IsFloorOf}
+use Rattle.plex_agent.proofs.Imports.{Some, slice_set, sym, ◌∙◌, ap, subst, slice_get_within, note_of, DeskShown, pass_at, IsDeskOf, Floor, with_worker, IsFloorOf}
 use Rattle.plex_agent.proofs.FloorLaws.{has_desk, changed, worker_fits, tray_fits}
 use Rattle.plex_agent.proofs.PlayLaws.{on_ok, posts}
 use Rattle.plex_agent.proofs.floor.Floor.post.Goals as goal

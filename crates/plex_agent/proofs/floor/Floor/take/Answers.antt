@@ -1,4 +1,4 @@
-use Rattle.plex_agent.proofs.Names.{List, Option, set, ◌∙◌, ap, slice_get_within, NoteShown, with_any_note, DeskShown, pass_at, with_pass, note_in, Floor}
+use Rattle.plex_agent.proofs.Imports.{List, Option, set, ◌∙◌, ap, slice_get_within, NoteShown, with_any_note, DeskShown, pass_at, with_pass, note_in, Floor}
 use Rattle.plex_agent.proofs.FloorLaws.{has_desk, changed_only, changed_fits}
 use Rattle.plex_agent.proofs.PlayLaws.{on_ok, takes}
 use Rattle.plex_agent.proofs.floor.Floor.take.Goals as goal

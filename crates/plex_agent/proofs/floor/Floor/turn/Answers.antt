@@ -1,4 +1,4 @@
-use Rattle.plex_agent.proofs.Names.{◌<◌, length, sym, ap, subst, arith, slice_get_within, Floor, IsFloorOf}
+use Rattle.plex_agent.proofs.Imports.{◌<◌, length, sym, ap, subst, arith, slice_get_within, Floor, IsFloorOf}
 use Rattle.plex_agent.proofs.FloorLaws.{acted, acted_fits}
 use Rattle.plex_agent.proofs.PlayLaws.{plays_counted, plays_uncounted}
 use Rattle.plex_agent.proofs.floor.Floor.turn.Goals as goal

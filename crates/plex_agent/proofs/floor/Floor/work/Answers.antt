@@ -1,4 +1,4 @@
-use Rattle.plex_agent.proofs.Names.{sym, ap, arith, ConnId}
+use Rattle.plex_agent.proofs.Imports.{sym, ap, arith, ConnId}
 use Rattle.plex_agent.proofs.FloorLaws.{has_desk, changed_only, changed_fits}
 use Rattle.plex_agent.proofs.PlayLaws.{takes_turn}
 use Rattle.plex_agent.proofs.floor.Floor.work.Goals as goal

@@ -1,4 +1,4 @@
-use Rattle.plex_board.proofs.Names.{ap, refl, OfCache, OfList, OfLock, pass_shown}
+use Rattle.plex_board.proofs.Imports.{ap, refl, OfCache, OfList, OfLock, pass_shown}
 use Rattle.plex_script.specs.declared.scripts.AnyAsk.TheVariants as ask
 use Rattle.plex_board.specs.declared.any_pass.AnyPass.TheVariants as pass
 use Rattle.plex_board.specs.declared.any_reply.AnyReply.TheVariants as reply

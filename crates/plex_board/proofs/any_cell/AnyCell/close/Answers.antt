@@ -1,4 +1,4 @@
-use Rattle.plex_board.proofs.Names.{◌≤◌, ap, length, cache_meaning, list_meaning, lock_meaning, calls, numbers, IsPoint, any_answers, OfCache, OfList, OfLock, passes_shown, cell_shown}
+use Rattle.plex_board.proofs.Imports.{◌≤◌, ap, length, cache_meaning, list_meaning, lock_meaning, calls, numbers, IsPoint, any_answers, OfCache, OfList, OfLock, passes_shown, cell_shown}
 use Rattle.plex_script.specs.declared.scripts.AnyAsk.TheVariants as ask
 use Rattle.plex_script.specs.declared.asks.AnyHistory.TheVariants as history
 use Rattle.plex_board.specs.declared.any_reply.AnyReply.TheVariants as reply

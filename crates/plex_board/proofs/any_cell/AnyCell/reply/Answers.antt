@@ -1,4 +1,4 @@
-use Rattle.plex_board.proofs.Names.{ap, OfCache, OfList, OfLock, pass_shown}
+use Rattle.plex_board.proofs.Imports.{ap, OfCache, OfList, OfLock, pass_shown}
 use Rattle.plex_script.specs.declared.scripts.AnyAsk.TheVariants as ask
 use Rattle.plex_board.specs.declared.any_reply.AnyReply.TheVariants as reply
 use Rattle.plex_board.proofs.ShownLaws.{told_reply, told_own}

@@ -1,4 +1,4 @@
-use Rattle.plex_board.proofs.Names.{rules, ◌+◌, new_pass, OfCache, OfList, OfLock}
+use Rattle.plex_board.proofs.Imports.{rules, ◌+◌, new_pass, OfCache, OfList, OfLock}
 use Rattle.plex_script.specs.declared.scripts.AnyAsk.TheVariants as ask
 use Rattle.plex_board.specs.declared.any_reply.AnyReply.TheVariants as reply
 use Rattle.plex_board.proofs.ShownLaws.{shown_new, room_for}

@@ -1,4 +1,4 @@
-use Rattle.plex_board.proofs.Names.{set, sym, subst, IsAskOf, MayAskAny}
+use Rattle.plex_board.proofs.Imports.{set, sym, subst, IsAskOf, MayAskAny}
 use Rattle.plex_board.proofs.PlaceLaws.{place-is, cell-is, cell-some, changed-of_board, changed-at, full-on, still-on, answered-on, call-fixed}
 use Rattle.plex_board.proofs.board.Board.call.Goals as goal
 

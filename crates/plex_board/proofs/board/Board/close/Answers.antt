@@ -1,4 +1,4 @@
-use Rattle.plex_board.proofs.Names.{refl, sym}
+use Rattle.plex_board.proofs.Imports.{refl, sym}
 use Rattle.plex_board.proofs.CloseLaws.{close-fits, close-homes, close-says, ready-homes, ready-empty, homes-seen, ended-seen, links-seen}
 use Rattle.plex_board.proofs.board.Board.close.Goals as goal
 

@@ -1,4 +1,4 @@
-use Rattle.plex_board.proofs.Names.{sym, ap, fixed_of}
+use Rattle.plex_board.proofs.Imports.{sym, ap, fixed_of}
 use Rattle.plex_board.proofs.PlaceLaws.{place-is, changed-of_board}
 use Rattle.plex_board.proofs.board.Board.hear.Goals as goal
 

@@ -1,4 +1,4 @@
-use Rattle.plex_board.proofs.Names.{◌≡◌, map, replicate, None, option_map, note_shown}
+use Rattle.plex_board.proofs.Imports.{◌≡◌, map, replicate, None, option_map, note_shown}
 use Rattle.plex_board.proofs.board.Board.new_tray.Given as goal
 
 abbrev pub invariant-loop : goal.invariant-loop

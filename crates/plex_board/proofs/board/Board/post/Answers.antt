@@ -1,4 +1,4 @@
-use Rattle.plex_board.proofs.Names.{sym}
+use Rattle.plex_board.proofs.Imports.{sym}
 use Rattle.plex_board.proofs.PlaceLaws.{place-is}
 use Rattle.plex_board.proofs.board.Board.post.Goals as goal
 

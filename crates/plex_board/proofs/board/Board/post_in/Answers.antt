@@ -1,4 +1,4 @@
-use Rattle.plex_board.proofs.Names.{sym, ap, subst, ◌∙◌, Some, note_of, IsTrayOf}
+use Rattle.plex_board.proofs.Imports.{sym, ap, subst, ◌∙◌, Some, note_of, IsTrayOf}
 use Rattle.plex_board.proofs.PlaceLaws.{place-is}
 use Rattle.plex_board.proofs.TrayLaws.{tray-after, tray-set}
 use Rattle.plex_board.proofs.board.Board.post_in.Goals as goal

@@ -1,4 +1,4 @@
-use Rattle.plex_board.proofs.Names.{◌≡◌, sym, ap, subst, IfOk, is_some, call_numbered, PassShown, reply_numbered, fixed_of}
+use Rattle.plex_board.proofs.Imports.{◌≡◌, sym, ap, subst, IfOk, is_some, call_numbered, PassShown, reply_numbered, fixed_of}
 use Rattle.plex_board.proofs.PlaceLaws.{place-is, changed-of_board, unread-on}
 use Rattle.plex_board.proofs.board.Board.reply.Goals as goal
 

@@ -1,4 +1,4 @@
-use Rattle.plex_board.proofs.Names.{length, ap, ◌∙◌, arith, take_all, into_iter_items}
+use Rattle.plex_board.proofs.Imports.{length, ap, ◌∙◌, arith, take_all, into_iter_items}
 use Rattle.plex_board.proofs.StartLaws.{item-formed, forms-more, links-more, start-none, count-more, opened-forms, opened-cells, opened-links, opened-desks}
 use Rattle.plex_board.proofs.board.Board.start.Goals as goal
 

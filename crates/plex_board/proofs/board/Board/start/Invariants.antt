@@ -1,4 +1,4 @@
-use Rattle.plex_board.proofs.Names.{◌≡◌, ◌+◌, ◌*◌, ◌++◌, length, map, take, flat_map, into_iter_items, into_iter_len, LINKS, four_of, IsOpening}
+use Rattle.plex_board.proofs.Imports.{◌≡◌, ◌+◌, ◌*◌, ◌++◌, length, map, take, flat_map, into_iter_items, into_iter_len, LINKS, four_of, IsOpening}
 use Rattle.plex_board.proofs.board.Board.start.Given as goal
 
 abbrev pub invariant-loop-form : goal.invariant-loop-form

@@ -1,4 +1,4 @@
-use Rattle.plex_board.proofs.Names.{sym, ap, ◌∙◌, fixed_of}
+use Rattle.plex_board.proofs.Imports.{sym, ap, ◌∙◌, fixed_of}
 use Rattle.plex_board.proofs.PlaceLaws.{place-is, cell-is, changed-of_board, noted-fixed}
 use Rattle.plex_board.proofs.TrayLaws.{slot-is, tray-same}
 use Rattle.plex_board.proofs.board.Board.take_in.Goals as goal

@@ -1,4 +1,4 @@
-use Rattle.plex_board.proofs.Names.{◌<◌, sym, subst, ap, fixed_of}
+use Rattle.plex_board.proofs.Imports.{◌<◌, sym, subst, ap, fixed_of}
 use Rattle.plex_board.proofs.PlaceLaws.{place-is, cell-is, cell-some, changed-of_board}
 use Rattle.plex_board.proofs.board.Board.test.Goals as goal
 

@@ -1,4 +1,4 @@
-use Rattle.plex_board.proofs.Names.{◌+◌, ◌≤◌, sym, subst, ap, ◌∙◌, arith, length-map, home_shown}
+use Rattle.plex_board.proofs.Imports.{◌+◌, ◌≤◌, sym, subst, ap, ◌∙◌, arith, length-map, home_shown}
 use Rattle.plex_board.proofs.StationLaws.{started-passes}
 use Rattle.plex_board.proofs.HomeLaws.{count-of-homes}
 use Rattle.plex_board.proofs.UnusedLaws.{desks-few}

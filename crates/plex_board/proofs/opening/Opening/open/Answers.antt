@@ -1,4 +1,4 @@
-use Rattle.plex_board.proofs.Names.{sym, subst, homes_shown, IsUnused}
+use Rattle.plex_board.proofs.Imports.{sym, subst, homes_shown, IsUnused}
 use Rattle.plex_board.proofs.UnusedLaws.{opening-unused}
 use Rattle.plex_board.proofs.opening.Opening.open.Goals as goal
 

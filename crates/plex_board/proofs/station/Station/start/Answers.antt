@@ -1,4 +1,4 @@
-use Rattle.plex_board.proofs.Names.{◌≡◌, ◌+◌, ◌≤◌, ◌++◌, ◌∷◌, [], sym, ap, subst, ◌∙◌, arith, All, PassShown, pass_shown, passes_shown, note_shown, IsPassOf, cell_shown}
+use Rattle.plex_board.proofs.Imports.{◌≡◌, ◌+◌, ◌≤◌, ◌++◌, ◌∷◌, [], sym, ap, subst, ◌∙◌, arith, All, PassShown, pass_shown, passes_shown, note_shown, IsPassOf, cell_shown}
 use Rattle.plex_board.proofs.UnusedPassLaws.{unused_links, unused_none}
 use Rattle.plex_board.proofs.StationLaws.{started-passes, unused-of_cell, last-of_cell, popped, room-again}
 use Rattle.plex_board.proofs.station.Station.start.Goals as goal

@@ -1,4 +1,4 @@
-use Rattle.plex_locks.proofs.Names.{◌≡◌, ◌++◌, drop, length, IsReady, IsStill, asked_by, asked_in}
+use Rattle.plex_locks.proofs.Imports.{◌≡◌, ◌++◌, drop, length, IsReady, IsStill, asked_by, asked_in}
 use Rattle.plex_locks.proofs.worker.Worker.work.Given as goal
 
 -- with the tasks that are left it is asked for all

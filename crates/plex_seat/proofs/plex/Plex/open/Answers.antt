@@ -1,5 +1,5 @@
 -- The desks are those of a board that begins.
-use Rattle.plex_seat.proofs.Names.{◌+◌, length, arith}
+use Rattle.plex_seat.proofs.Imports.{◌+◌, length, arith}
 use Rattle.plex_seat.proofs.PlexLaws.{new-of_board, new-length}
 use Rattle.plex_seat.proofs.plex.Plex.open.Goals as goal
 

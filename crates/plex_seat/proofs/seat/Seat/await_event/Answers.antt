@@ -1,5 +1,5 @@
 -- What was asked for adds up.
-use Rattle.plex_seat.proofs.Names.{rules, ◌≡◌, ◌<◌, ◌≤◌, ◌+◌, length, arith, AnyAsk, pass_of, type_at, common_ask}
+use Rattle.plex_seat.proofs.Imports.{rules, ◌≡◌, ◌<◌, ◌≤◌, ◌+◌, length, arith, AnyAsk, pass_of, type_at, common_ask}
 use Rattle.plex_board.specs.CfTypes.declared.shell_commands.ShellCmd.TheVariants as cmd
 use Rattle.plex_seat.proofs.EventLaws.{asked_more, asked_within, asked_fault, known_more, calls_more, same_same}
 use Rattle.plex_seat.proofs.seat.Seat.await_event.Goals as goal

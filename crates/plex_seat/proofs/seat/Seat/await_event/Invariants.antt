@@ -1,4 +1,4 @@
-use Rattle.plex_seat.proofs.Names.{◌≡◌, ◌≤◌, ◌+◌, length, IsSame, pass_of, HasAskedForEvents}
+use Rattle.plex_seat.proofs.Imports.{◌≡◌, ◌≤◌, ◌+◌, length, IsSame, pass_of, HasAskedForEvents}
 use Rattle.plex_seat.proofs.seat.Seat.await_event.Given as goal
 
 abbrev pub invariant-loop : goal.invariant-loop

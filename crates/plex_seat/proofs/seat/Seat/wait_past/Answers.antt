@@ -1,5 +1,5 @@
 -- What was seen at each look adds up.
-use Rattle.plex_seat.proofs.Names.{rules}
+use Rattle.plex_seat.proofs.Imports.{rules}
 use Rattle.plex_seat.proofs.DeskLaws.{seen_more}
 use Rattle.plex_seat.proofs.seat.Seat.wait_past.Goals as goal
 

@@ -1,4 +1,4 @@
-use Rattle.plex_seat.proofs.Names.{◌<◌, ◌≤◌, IsLaterOn, IsSame, pass_of}
+use Rattle.plex_seat.proofs.Imports.{◌<◌, ◌≤◌, IsLaterOn, IsSame, pass_of}
 use Rattle.plex_seat.proofs.seat.Seat.wait_past.Given as goal
 
 abbrev pub invariant-loop : goal.invariant-loop

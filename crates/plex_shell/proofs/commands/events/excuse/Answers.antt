@@ -1,5 +1,5 @@
 -- Whoever isn't leaving awaits no answer.
-use Rattle.plex_shell.proofs.Names.{◌≡◌, false, refl, sym, is_leaving, with_answer-same}
+use Rattle.plex_shell.proofs.Imports.{◌≡◌, false, refl, sym, is_leaving, with_answer-same}
 use Rattle.plex_shell.proofs.commands.events.excuse.Goals as goal
 
 pub returns-in-Some-Active : goal.returns-in-Some-Active

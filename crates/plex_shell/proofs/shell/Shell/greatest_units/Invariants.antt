@@ -1,5 +1,5 @@
 -- The greatest so far, and those that are left, give the greatest of all.
-use Rattle.plex_shell.proofs.Names.{◌≡◌, filter, drop, fold, map, max, greatest_units, is_candidate, candidates}
+use Rattle.plex_shell.proofs.Imports.{◌≡◌, filter, drop, fold, map, max, greatest_units, is_candidate, candidates}
 use Rattle.plex_shell.proofs.shell.Shell.greatest_units.Given as goal
 
 abbrev pub invariant-loop-pref : goal.invariant-loop-pref

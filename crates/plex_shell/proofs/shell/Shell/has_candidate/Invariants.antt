@@ -1,5 +1,5 @@
 -- None of the facilities so far is a candidate.
-use Rattle.plex_shell.proofs.Names.{◌≡◌, filter, drop, is_candidate, candidates}
+use Rattle.plex_shell.proofs.Imports.{◌≡◌, filter, drop, is_candidate, candidates}
 use Rattle.plex_shell.proofs.shell.Shell.has_candidate.Given as goal
 
 abbrev pub invariant-loop-pref : goal.invariant-loop-pref

@@ -1,5 +1,5 @@
 -- The members that are left are callers.
-use Rattle.plex_shell.proofs.Names.{IsKeptRebuild}
+use Rattle.plex_shell.proofs.Imports.{IsKeptRebuild}
 use Rattle.plex_shell.proofs.CallerSets.{AreCallers-without}
 use Rattle.plex_shell.proofs.shell.Shell.leave_rebuild.Goals as goal
 

@@ -1,5 +1,5 @@
 -- The facilities that are left give what all of them give.
-use Rattle.plex_shell.proofs.Names.{◌≡◌, filter, drop, place_for, is_candidate, candidates}
+use Rattle.plex_shell.proofs.Imports.{◌≡◌, filter, drop, place_for, is_candidate, candidates}
 use Rattle.plex_shell.proofs.shell.Shell.place.Given as goal
 
 abbrev pub invariant-loop-pref : goal.invariant-loop-pref

@@ -1,4 +1,4 @@
-use Rattle.rebuild_copy.proofs.Names.{◌≡◌, with_next}
+use Rattle.rebuild_copy.proofs.Imports.{◌≡◌, with_next}
 use Rattle.rebuild_copy.proofs.copying.Copying.copy_next.Given as goal
 
 abbrev pub invariant-loop-k : goal.invariant-loop-k

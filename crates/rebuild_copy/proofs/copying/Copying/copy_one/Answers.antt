@@ -1,4 +1,4 @@
-use Rattle.rebuild_copy.proofs.Names.{rules}
+use Rattle.rebuild_copy.proofs.Imports.{rules}
 use Rattle.rebuild_copy.proofs.CopyLaws.{ItemLaws, place-next, place-fits, after-place, copied-one}
 use Rattle.rebuild_copy.proofs.copying.Copying.copy_one.Goals as goal
 use Rattle.rebuild_copy.proofs.copying.Copying.copy_one.Goals.{in-Ok, in-Err}

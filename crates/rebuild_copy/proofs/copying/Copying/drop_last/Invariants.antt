@@ -1,4 +1,4 @@
-use Rattle.rebuild_copy.proofs.Names.{◌≡◌, ◌-◌, length, take}
+use Rattle.rebuild_copy.proofs.Imports.{◌≡◌, ◌-◌, length, take}
 use Rattle.rebuild_copy.proofs.copying.Copying.drop_last.Given as goal
 
 abbrev pub invariant-loop : goal.invariant-loop

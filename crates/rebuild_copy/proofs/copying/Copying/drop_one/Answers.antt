@@ -1,4 +1,4 @@
-use Rattle.rebuild_copy.proofs.Names.{rules}
+use Rattle.rebuild_copy.proofs.Imports.{rules}
 use Rattle.rebuild_copy.proofs.CopyLaws.{ItemLaws, dropped-filled, dropped-one}
 use Rattle.rebuild_copy.proofs.copying.Copying.drop_one.Goals as goal
 

@@ -1,4 +1,4 @@
-use Rattle.struct_cell.proofs.Names.{rules, arith, ◌≡◌, ◌<◌, ◌≤◌, ◌+◌, length, refl, ap, sym, subst, ◌∙◌, vec_len, count_of, stands_at, untouched_same, entered}
+use Rattle.struct_cell.proofs.Imports.{rules, arith, ◌≡◌, ◌<◌, ◌≤◌, ◌+◌, length, refl, ap, sym, subst, ◌∙◌, vec_len, count_of, stands_at, untouched_same, entered}
 use Rattle.struct_cell.proofs.KeptLaws.{cell_answered}
 use Rattle.struct_cell.proofs.TurnLaws.{told-number, number-later, count-entered, few_marks}
 use Rattle.struct_cell.proofs.ToldLaws.{issued_within}

@@ -1,4 +1,4 @@
-use Rattle.struct_cell.proofs.Names.{rules, ap, sym, ◌∙◌}
+use Rattle.struct_cell.proofs.Imports.{rules, ap, sym, ◌∙◌}
 use Rattle.struct_cell.proofs.ToldLaws.{closed_links, closed_callers, closed_mine, closed_known, closed_tests, same_tables, same_shown}
 use Rattle.struct_cell.proofs.cell.Cell.close.Goals as goal
 

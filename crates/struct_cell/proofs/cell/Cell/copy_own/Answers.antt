@@ -1,4 +1,4 @@
-use Rattle.struct_cell.proofs.Names.{ap, sym, ◌∙◌, calls_of, reply_at}
+use Rattle.struct_cell.proofs.Imports.{ap, sym, ◌∙◌, calls_of, reply_at}
 use Rattle.struct_cell.proofs.ReplyLaws.{reply_own}
 use Rattle.struct_cell.proofs.cell.Cell.copy_own.Goals as goal
 

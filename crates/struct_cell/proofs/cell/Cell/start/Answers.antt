@@ -1,4 +1,4 @@
-use Rattle.struct_cell.proofs.Names.{rules, ℕ, false, refl, sym, subst₂, AreWordsOf}
+use Rattle.struct_cell.proofs.Imports.{rules, ℕ, false, refl, sym, subst₂, AreWordsOf}
 use Rattle.struct_cell.proofs.KeptLaws.{cell_start}
 use Rattle.struct_cell.proofs.cell.Cell.start.Goals as goal
 

@@ -1,4 +1,4 @@
-use Rattle.struct_cell.proofs.Names.{◌≡◌, ℕ, ◌<◌, ◌⊎◌, take, words_of, IsSpared, AreMirrorsOf, word_at, words_in}
+use Rattle.struct_cell.proofs.Imports.{◌≡◌, ℕ, ◌<◌, ◌⊎◌, take, words_of, IsSpared, AreMirrorsOf, word_at, words_in}
 use Rattle.struct_cell.proofs.mirror.Mirror.look_up.Given as goal
 
 abbrev pub invariant-loop-place : goal.invariant-loop-place

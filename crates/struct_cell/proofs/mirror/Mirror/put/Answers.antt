@@ -1,4 +1,4 @@
-use Rattle.struct_cell.proofs.Names.{◌<◌, ap, sym, subst, ◌∙◌, words_of, IsWithin, MirrorWords, word_at}
+use Rattle.struct_cell.proofs.Imports.{◌<◌, ap, sym, subst, ◌∙◌, words_of, IsWithin, MirrorWords, word_at}
 use Rattle.struct_cell.proofs.MirrorLaws.{put_other}
 use Rattle.struct_cell.proofs.mirror.Mirror.put.Goals as goal
 

@@ -1,4 +1,4 @@
-use Rattle.struct_cell.proofs.Names.{◌≡◌, ◌<◌, ◌≤◌, ◌⊎◌, subst, ◌∙◌, MirrorWords}
+use Rattle.struct_cell.proofs.Imports.{◌≡◌, ◌<◌, ◌≤◌, ◌⊎◌, subst, ◌∙◌, MirrorWords}
 use Rattle.struct_cell.proofs.MirrorLaws.{bit_taken, words_past}
 use Rattle.struct_cell.proofs.mirror.Mirror.take_bit.Goals as goal
 

@@ -1,4 +1,4 @@
-use Rattle.struct_cell.proofs.Names.{take, fold, List, subst, arith, ◌∙◌, take_all, BitChange, Bits, AreWordsOf, with_told}
+use Rattle.struct_cell.proofs.Imports.{take, fold, List, subst, arith, ◌∙◌, take_all, BitChange, Bits, AreWordsOf, with_told}
 use Rattle.struct_cell.proofs.MirrorLaws.{told_more}
 use Rattle.struct_cell.proofs.mirror.Mirror.take_over.Goals as goal
 

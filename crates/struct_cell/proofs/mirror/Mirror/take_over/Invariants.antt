@@ -1,4 +1,4 @@
-use Rattle.struct_cell.proofs.Names.{fold, take, Bits, AreMirrorsOf, AreWordsOf, with_told}
+use Rattle.struct_cell.proofs.Imports.{fold, take, Bits, AreMirrorsOf, AreWordsOf, with_told}
 use Rattle.struct_cell.proofs.mirror.Mirror.take_over.Given as goal
 
 abbrev pub invariant-loop-change : goal.invariant-loop-change

@@ -1,4 +1,4 @@
-use Rattle.struct_machine.proofs.Names.{List, sym, ap, ◌∙◌, subst, Option, ◌++◌, CfId, Asks, AreDistinct, listed, distinct_apart}
+use Rattle.struct_machine.proofs.Imports.{List, sym, ap, ◌∙◌, subst, Option, ◌++◌, CfId, Asks, AreDistinct, listed, distinct_apart}
 use Rattle.struct_machine.proofs.AskingLaws.{apart_both, places_both}
 use Rattle.struct_machine.proofs.asking.Asked.both.Goals as goal
 

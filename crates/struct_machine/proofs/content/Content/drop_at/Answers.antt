@@ -1,5 +1,5 @@
 -- Of two instances the other one is left, and holds the same.
-use Rattle.struct_machine.proofs.Names.{Option, is_some, sym, ap, ◌∙◌, subst, PairView, content_of, instances_of, without_at, Held, AreStanding, ContentView}
+use Rattle.struct_machine.proofs.Imports.{Option, is_some, sym, ap, ◌∙◌, subst, PairView, content_of, instances_of, without_at, Held, AreStanding, ContentView}
 use Rattle.struct_machine.proofs.ContentLaws.{left_places}
 use Rattle.struct_machine.proofs.content.Content.drop_at.Goals as goal
 

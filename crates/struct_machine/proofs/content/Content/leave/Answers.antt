@@ -1,5 +1,5 @@
 -- A content that somebody left is one, and a copy of it begins anew.
-use Rattle.struct_machine.proofs.Names.{content_of}
+use Rattle.struct_machine.proofs.Imports.{content_of}
 use Rattle.struct_machine.proofs.ContentLaws.{LeaveLaws, left_standing}
 use Rattle.struct_machine.proofs.content.Content.leave.Goals as goal
 

@@ -1,5 +1,5 @@
 -- Nothing stands before the first call.
-use Rattle.struct_machine.proofs.Names.{◌≡◌, kept_of, nothing_kept}
+use Rattle.struct_machine.proofs.Imports.{◌≡◌, kept_of, nothing_kept}
 use Rattle.struct_machine.proofs.KeptLaws.{kept_opening}
 use Rattle.struct_machine.proofs.machine.Machine.start.Goals as goal
 

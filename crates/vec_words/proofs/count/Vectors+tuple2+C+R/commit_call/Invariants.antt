@@ -1,4 +1,4 @@
-use Rattle.vec_words.proofs.Names.{[], ◌∷◌}
+use Rattle.vec_words.proofs.Imports.{[], ◌∷◌}
 use Rattle.vec_words.proofs.count.Vectors+tuple2+C+R.commit_call.Given as goal
 
 abbrev pub ghosts-commit_of : goal.ghosts-commit_of

@@ -1,4 +1,4 @@
-use Rattle.vec_words.proofs.Names.{◌<◌, sym, ap, ◌∙◌, subst, count_of, SeatSeen, IsBegun}
+use Rattle.vec_words.proofs.Imports.{◌<◌, sym, ap, ◌∙◌, subst, count_of, SeatSeen, IsBegun}
 use Rattle.vec_words.proofs.Begun.{begun-begin, fresh}
 use Rattle.vec_words.proofs.vectors.Vectors.begin.Goals as goal
 

@@ -1,4 +1,4 @@
-use Rattle.vec_words.proofs.Names.{◌<◌, [], ◌∷◌, sym, ap, ◌∙◌, subst, arith, View, SeatSeen, IsBegun, committed_of}
+use Rattle.vec_words.proofs.Imports.{◌<◌, [], ◌∷◌, sym, ap, ◌∙◌, subst, arith, View, SeatSeen, IsBegun, committed_of}
 use Rattle.vec_words.proofs.Begun.{begun-commit}
 use Rattle.vec_words.proofs.vectors.Vectors.commit_of.Goals as goal
 

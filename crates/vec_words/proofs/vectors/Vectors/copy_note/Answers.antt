@@ -1,4 +1,4 @@
-use Rattle.vec_words.proofs.Names.{ap, ◌∙◌, arith, NoteSeen}
+use Rattle.vec_words.proofs.Imports.{ap, ◌∙◌, arith, NoteSeen}
 use Rattle.vec_words.proofs.Steps.{splits_note}
 use Rattle.vec_words.proofs.Tables.{id_of}
 use Rattle.vec_words.proofs.vectors.Vectors.copy_note.Goals as goal

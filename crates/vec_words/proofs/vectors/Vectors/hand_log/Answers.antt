@@ -1,4 +1,4 @@
-use Rattle.vec_words.proofs.Names.{ap, sym, ◌∙◌, arith, ℕ, Me, View, WordTable}
+use Rattle.vec_words.proofs.Imports.{ap, sym, ◌∙◌, arith, ℕ, Me, View, WordTable}
 use Rattle.vec_words.proofs.Steps.{splits_log, joins_log}
 use Rattle.vec_words.proofs.vectors.Vectors.hand_log.Goals as goal
 

@@ -1,4 +1,4 @@
-use Rattle.vec_words.proofs.Names.{◌≡◌, ◌+◌, ◌*◌, ℕ, suc, replicate, ap, ◌∙◌, arith, words_of}
+use Rattle.vec_words.proofs.Imports.{◌≡◌, ◌+◌, ◌*◌, ℕ, suc, replicate, ap, ◌∙◌, arith, words_of}
 use Rattle.vec_words.proofs.Steps.{starts}
 use Rattle.vec_words.proofs.vectors.Vectors.lay.Goals as goal
 

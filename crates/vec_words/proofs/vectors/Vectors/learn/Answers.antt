@@ -1,4 +1,4 @@
-use Rattle.vec_words.proofs.Names.{ap, refl, ◌∙◌, View, without_log, learned_of}
+use Rattle.vec_words.proofs.Imports.{ap, refl, ◌∙◌, View, without_log, learned_of}
 use Rattle.vec_words.proofs.Learned.{shown}
 use Rattle.vec_words.proofs.vectors.Vectors.learn.Goals as goal
 

@@ -1,4 +1,4 @@
-use Rattle.vec_words.proofs.Names.{◌≡◌, take, All, count_of, learned_pass, IsShown}
+use Rattle.vec_words.proofs.Imports.{◌≡◌, take, All, count_of, learned_pass, IsShown}
 use Rattle.vec_words.proofs.Walked.{IsWalked}
 use Rattle.vec_words.proofs.vectors.Vectors.learn_all.Given as goal
 

@@ -1,4 +1,4 @@
-use Rattle.vec_words.proofs.Names.{ap, sym, ◌∙◌, arith, WordTable}
+use Rattle.vec_words.proofs.Imports.{ap, sym, ◌∙◌, arith, WordTable}
 use Rattle.vec_words.proofs.Steps.{learns}
 use Rattle.vec_words.proofs.vectors.Vectors.load_count.Goals as goal
 

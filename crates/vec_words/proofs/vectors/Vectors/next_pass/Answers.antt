@@ -1,4 +1,4 @@
-use Rattle.vec_words.proofs.Names.{ap, sym, ◌∙◌, arith, View, WordTable}
+use Rattle.vec_words.proofs.Imports.{ap, sym, ◌∙◌, arith, View, WordTable}
 use Rattle.vec_words.proofs.Steps.{splits_pass}
 use Rattle.vec_words.proofs.vectors.Vectors.next_pass.Goals as goal
 

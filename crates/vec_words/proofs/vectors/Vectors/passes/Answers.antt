@@ -1,4 +1,4 @@
-use Rattle.vec_words.proofs.Names.{[], ◌∷◌, ◌++◌, map, ap, sym, ◌∙◌, arith, range_with_len, map-range_with_len_more, PassSeen, new_pass}
+use Rattle.vec_words.proofs.Imports.{[], ◌∷◌, ◌++◌, map, ap, sym, ◌∙◌, arith, range_with_len, map-range_with_len_more, PassSeen, new_pass}
 use Rattle.vec_words.proofs.vectors.Vectors.passes.Goals as goal
 
 pub loop-number-preserved : goal.loop-number-preserved

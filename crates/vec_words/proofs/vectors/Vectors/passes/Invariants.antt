@@ -1,4 +1,4 @@
-use Rattle.vec_words.proofs.Names.{◌≡◌, map, range_with_len, IsFirst, new_pass}
+use Rattle.vec_words.proofs.Imports.{◌≡◌, map, range_with_len, IsFirst, new_pass}
 use Rattle.vec_words.proofs.vectors.Vectors.passes.Given as goal
 
 abbrev pub invariant-loop-number : goal.invariant-loop-number

@@ -1,4 +1,4 @@
-use Rattle.vec_words.proofs.Names.{ap, sym, ◌∙◌, subst, arith, IsOpen, count_of, flying_of, WordTable}
+use Rattle.vec_words.proofs.Imports.{ap, sym, ◌∙◌, subst, arith, IsOpen, count_of, flying_of, WordTable}
 use Rattle.vec_words.proofs.Begun.{open_begun}
 use Rattle.vec_words.proofs.Writes.{publishes}
 use Rattle.vec_words.proofs.vectors.Vectors.publish.Goals as goal

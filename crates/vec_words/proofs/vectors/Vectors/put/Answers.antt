@@ -1,4 +1,4 @@
-use Rattle.vec_words.proofs.Names.{◌≡◌, ◌*◌, ◌^◌, ◌<◌, ℕ, suc, ap, sym, ◌∙◌, subst, arith, word_of, WordTable, words_of}
+use Rattle.vec_words.proofs.Imports.{◌≡◌, ◌*◌, ◌^◌, ◌<◌, ℕ, suc, ap, sym, ◌∙◌, subst, arith, word_of, WordTable, words_of}
 use Rattle.vec_words.proofs.Begun.{open_begun}
 use Rattle.vec_words.proofs.Writes.{puts}
 use Rattle.vec_words.proofs.Tables.{words_here}

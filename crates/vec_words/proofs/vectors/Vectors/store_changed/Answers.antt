@@ -1,4 +1,4 @@
-use Rattle.vec_words.proofs.Names.{take}
+use Rattle.vec_words.proofs.Imports.{take}
 use Rattle.vec_words.proofs.StoreLaws.{each-once, each-step, within-at}
 use Rattle.vec_words.proofs.vectors.Vectors.store_changed.Goals as goal
 

@@ -1,4 +1,4 @@
-use Rattle.vec_words.proofs.Names.{take, StoresEach}
+use Rattle.vec_words.proofs.Imports.{take, StoresEach}
 use Rattle.vec_words.proofs.vectors.Vectors.store_changed.Given as goal
 
 -- the words that were named so far are stored

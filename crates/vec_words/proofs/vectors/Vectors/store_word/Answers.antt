@@ -1,4 +1,4 @@
-use Rattle.vec_words.proofs.Names.{◌<◌, sym, ap, ◌∙◌, subst, arith, View, SeatSeen, IsBegun}
+use Rattle.vec_words.proofs.Imports.{◌<◌, sym, ap, ◌∙◌, subst, arith, View, SeatSeen, IsBegun}
 use Rattle.vec_words.proofs.Begun.{begun-store}
 use Rattle.vec_words.proofs.vectors.Vectors.store_word.Goals as goal
 

@@ -1,4 +1,4 @@
-use Rattle.vec_words.proofs.Names.{[], ◌∷◌}
+use Rattle.vec_words.proofs.Imports.{[], ◌∷◌}
 use Rattle.vec_words.proofs.vectors.Vectors.test.Given as goal
 
 abbrev pub ghosts-look : goal.ghosts-look

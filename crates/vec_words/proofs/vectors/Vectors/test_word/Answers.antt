@@ -1,4 +1,4 @@
-use Rattle.vec_words.proofs.Names.{◌*◌, ◌/◌}
+use Rattle.vec_words.proofs.Imports.{◌*◌, ◌/◌}
 use Rattle.vec_words.proofs.Places.{indices_within}
 use Rattle.vec_words.proofs.vectors.Vectors.test_word.Goals as goal
 

@@ -1,4 +1,4 @@
-use Rattle.vec_words.proofs.Names.{◌/◌, indices_of}
+use Rattle.vec_words.proofs.Imports.{◌/◌, indices_of}
 use Rattle.vec_words.proofs.vectors.Vectors.test_word.Given as goal
 
 abbrev pub ghosts-look : goal.ghosts-look

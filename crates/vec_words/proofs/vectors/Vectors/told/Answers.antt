@@ -1,4 +1,4 @@
-use Rattle.vec_words.proofs.Names.{ap, ◌∙◌, arith, PassSeen, NoteSeen}
+use Rattle.vec_words.proofs.Imports.{ap, ◌∙◌, arith, PassSeen, NoteSeen}
 use Rattle.vec_words.proofs.Steps.{joins_note}
 use Rattle.vec_words.proofs.Tables.{id_of}
 use Rattle.vec_words.proofs.vectors.Vectors.told.Goals as goal

@@ -1,4 +1,4 @@
-use Rattle.vec_words.proofs.Names.{◌≡◌, ◌*◌, ◌+◌, ◌-◌, ◌^◌, ◌<◌, ℕ, ap, sym, ◌∙◌, subst, arith, WordTable, words_of, word_number}
+use Rattle.vec_words.proofs.Imports.{◌≡◌, ◌*◌, ◌+◌, ◌-◌, ◌^◌, ◌<◌, ℕ, ap, sym, ◌∙◌, subst, arith, WordTable, words_of, word_number}
 use Rattle.vec_words.proofs.Places.{within_all, small}
 use Rattle.vec_words.proofs.vectors.Vectors.word_number.Goals as goal
 
