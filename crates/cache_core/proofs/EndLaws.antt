@@ -1,5 +1,5 @@
 -- The registrations for several names end, one name after another.
-use Rattle.cache_core.proofs.Imports.{◌≡◌, ℕ, ◌+◌, ◌-◌, ◌≤◌, ◌<◌, Bool, true, false, not, ◌&&◌, ◌||◌, ◌==◌, List, [], ◌∷◌, ◌++◌, None, Some, length, drop, filter, get_or, map, add-one, append_assoc, refl, sym, ap, ◌∙◌, arith, range_with_len, drop_more, map-append, drop_all, filter_agree, filter-append, Name16, ConnId, BitChange, same_name, Gains, Falls, gains_falls, and_from, eq-eqb, filter-filter, filter_all, list_all_always, length-filter-le, Registration, stands, regs_with, ends_with_name, regs_without_name, same_name-sym, falls_filter, stands_kept, gains_then_falls, CacheItem, is_among, regs_spared, has_rows, rows_of_class, class_counts}
+use Rattle.cache_core.proofs.Imports.{◌≡◌, ℕ, ◌+◌, ◌-◌, ◌≤◌, ◌<◌, Bool, true, false, not, ◌&&◌, ◌||◌, ◌==◌, List, [], ◌∷◌, ◌++◌, None, Some, length, drop, filter, get_or, add-one, append_assoc, refl, ap, ◌∙◌, arith, range_with_len, drop_more, map-append, drop_all, filter_agree, filter-append, Name16, ConnId, BitChange, Gains, Falls, gains_falls, and_from, eq-eqb, filter-filter, filter_all, list_all_always, length-filter-le, Registration, stands, regs_with, ends_with_name, regs_without_name, same_name-sym, falls_filter, stands_kept, gains_then_falls, CacheItem, is_among, regs_spared, class_counts}
 
 test_step : (a b c : Bool) → b ≡ a → not (a && true) && not c ≡ not (b || c)
 test_step true b c e = rw e refl
@@ -8,12 +8,7 @@ test_step false b c e = rw e refl
 -- the first name's go, and then those of the others
 pub regs_spared-cons : (name : Name16) (names : List Name16) (regs : List Registration)
     → regs_spared names (regs_without_name name None regs) ≡ regs_spared (name ∷ names) regs
-regs_spared-cons name names regs =
-    filter-filter (λ reg. not (is_among names reg.name)) (λ reg. not (ends_with_name name None reg)) regs
-    ∙ filter_agree (λ reg. not (ends_with_name name None reg) && not (is_among names reg.name))
-    (λ reg. not (is_among (name ∷ names) reg.name))
-    (λ reg. test_step (same_name reg.name name) (same_name name reg.name) (is_among names reg.name)
-    (same_name-sym name reg.name)) regs
+regs_spared-cons name names regs = grind (arith, filter-filter, filter_agree, test_step, same_name-sym)
 
 -- what has ended so far
 pub record Ending (names : List Name16) (start now : List Registration) (i : ℕ) (room : ℕ)
@@ -30,25 +25,12 @@ pub ending_more : (names : List Name16) (start now next : List Registration) (i 
     → length next + ended ≡ length now → left + ended ≡ room → Gains (stands now) (stands next) later last
     → Ending names start next (i + 1) left told last
 ending_more names start now next i room left ended told later last d lt so_far is few spent bits =
-    let name = get_or names i d in
-    let falls : Falls (stands now) (stands next) = rw is
-    (falls_filter (λ (reg : Registration). not (ends_with_name name None reg)) now) in
-    record {
-      rest = rw is (regs_spared-cons name (drop (i + 1) names) now
-          ∙ ap (λ (l : List Name16). regs_spared l now) (sym (drop_more names i d lt)) ∙ so_far.rest);
-      fits = omega (arith, few, spent, so_far.fits);
-      falls = λ conn index h. so_far.falls conn index (falls conn index h);
-      bits = gains_falls (stands start) (stands now) (stands next) told later last so_far.falls falls so_far.bits
-          bits;
-    }
+    grind (arith, Falls, falls_filter, regs_spared-cons, drop_more, gains_falls)
 
 pub ending_all : (names : List Name16) (start now : List Registration) (i room : ℕ) (told later : List BitChange)
     → length names ≤ i
     → Ending names start now i room told later → now ≡ regs_spared names start
-ending_all names start now i room told later le so_far =
-    sym (filter_all (λ reg. not (is_among [] reg.name)) now (list_all_always (λ reg. not (is_among [] reg.name))
-    (λ reg. refl) now))
-    ∙ ap (λ (l : List Name16). regs_spared l now) (sym (drop_all i names le)) ∙ so_far.rest
+ending_all names start now i room told later le so_far = grind (arith, filter_all, list_all_always, drop_all)
 
 -- the new registration stands where two filters keep it
 pub stands_kept_twice : (p q : Registration → Bool) (by : ConnId) (index : ℕ) (name : Name16)
@@ -56,10 +38,7 @@ pub stands_kept_twice : (p q : Registration → Bool) (by : ConnId) (index : ℕ
     → p (record { conn = by; index = index; name = name }) ≡ true
     → q (record { conn = by; index = index; name = name }) ≡ true
     → stands (filter q (filter p (regs_with by index name regs))) by index ≡ true
-stands_kept_twice p q by index name regs e f =
-    let new : Registration = record { conn = by; index = index; name = name } in
-    rw (filter-filter q p (regs_with by index name regs))
-    (stands_kept (λ reg. p reg && q reg) by index name regs (and_from (p new) (q new) e f))
+stands_kept_twice p q by index name regs e f = grind (arith, filter-filter, stands_kept, and_from)
 
 pub falls_twice : (p q : Registration → Bool) (regs : List Registration) → Falls (stands regs)
     (stands (filter q (filter p regs)))
@@ -83,27 +62,16 @@ gains_registered by index name gone before middle after told between later first
 
 pub class_counts-append : (rows : List CacheItem) (classes others : List ℕ) → class_counts rows (classes ++ others) ≡
     class_counts rows classes ++ class_counts rows others
-class_counts-append rows classes others =
-    ap (λ (l : List ℕ). map (λ (class : ℕ). (class, rows_of_class rows class)) l)
-    (filter-append (has_rows rows) classes others)
-    ∙ map-append (λ (class : ℕ). (class, rows_of_class rows class)) (filter (has_rows rows) classes)
-    (filter (has_rows rows) others)
+class_counts-append rows classes others = grind (arith, filter-append, map-append)
 
 pub range-more : (class last : ℕ) → class < last → range_with_len class (last - class) ≡ class ∷ range_with_len
     (class + 1) (last - (class + 1))
-range-more class last lt = at (last - class) (last - (class + 1)) (omega arith)
-  where
-    at : (n m : ℕ) → n ≡ m + 1 → range_with_len class n ≡ class ∷ range_with_len (class + 1) m
-    at n m e = rw (e, add-one) refl
+range-more class last lt = grind (arith, add-one)
 
 -- a connector's own registration is spared
 pub own_spared : (by : ConnId) (index : ℕ) (name : Name16)
     → not (ends_with_name name (Some by) (record { conn = by; index = index; name = name })) ≡ true
-own_spared by index name = test (same_name name name) (by.0 == by.0) (eq-eqb by.0 by.0 refl)
-  where
-    test : (a b : Bool) → b ≡ true → not (a && not b) ≡ true
-    test true b e = rw e refl
-    test false b e = refl
+own_spared by index name = grind (arith, eq-eqb)
 
 pub ending_room : (name : Name16) (regs : List Registration) (room : ℕ) → length regs ≤ room
     → length (filter (ends_with_name name None) regs) ≤ room
@@ -114,9 +82,4 @@ pub class_turn : (counts all : List (ℕ × ℕ)) (rows : List CacheItem) (class
     → counts ++ class_counts rows (range_with_len class (last - class)) ≡ all
     → (counts ++ class_counts rows (class ∷ [])) ++ class_counts rows
     (range_with_len (class + 1) (last - (class + 1))) ≡ all
-class_turn counts all rows class last lt h =
-    let rest = range_with_len (class + 1) (last - (class + 1)) in
-    append_assoc counts (class_counts rows (class ∷ [])) (class_counts rows rest)
-    ∙ ap (λ (l : List (ℕ × ℕ)). counts ++ l) (sym (class_counts-append rows (class ∷ []) rest)
-    ∙ ap (λ (l : List ℕ). class_counts rows l) (sym (range-more class last lt)))
-    ∙ h
+class_turn counts all rows class last lt h = grind (arith, append_assoc, class_counts-append, range-more)

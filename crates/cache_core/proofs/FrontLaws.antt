@@ -1,5 +1,5 @@
 -- The names of the rows that are reclaimed, counted a row at a time.
-use Rattle.cache_core.proofs.Imports.{◌≡◌, ℕ, suc, zero, Option, None, option_map, slice_get, append-nil, subst, ◌+◌, ◌≤◌, Bool, true, false, not, cond, List, [], ◌∷◌, ◌++◌, append_assoc, length, length-append, drop, filter, map, sum_by, refl, sym, ap, ◌∙◌, arith, Some, option_to_list, drop_all, length-map, filter-append, sum_by-cons, sum_by-append, length-filter_both, sum_by-filter_both, fold-map, shortest_prefix, filter-filter, filter_swap, sum_by-filter-le, length-filter-le, shortest_prefix-nil, shortest_prefix_agree, shortest_prefix-map, Caps, Name16, CacheItem, Request, Room, Reclaimable, is_row_of, has_storage, elements_in, is_reclaimable, reclaim_order, victims, DirectoryFull, is_unchanged, reclaimed_for, room_for, is_enough, is_enough_of, reclaimable_of, reclaimable_from, size}
+use Rattle.cache_core.proofs.Imports.{◌≡◌, ℕ, suc, zero, Option, None, option_map, slice_get, append-nil, ◌+◌, ◌≤◌, Bool, true, false, not, cond, List, [], ◌∷◌, ◌++◌, append_assoc, length, length-append, drop, filter, map, sum_by, refl, sym, ap, ◌∙◌, arith, Some, option_to_list, drop_all, length-map, filter-append, sum_by-cons, sum_by-append, length-filter_both, sum_by-filter_both, fold-map, shortest_prefix, filter-filter, filter_swap, sum_by-filter-le, length-filter-le, shortest_prefix-nil, shortest_prefix_agree, shortest_prefix-map, Caps, Name16, CacheItem, Request, Room, Reclaimable, is_row_of, elements_in, is_reclaimable, reclaim_order, victims, DirectoryFull, reclaimed_for, room_for, is_enough, reclaimable_of, reclaimable_from, size}
 use Rattle.cache_model.specs.Room as room
 use Rattle.cache_core.specs.Measure as measure
 
@@ -42,43 +42,20 @@ front_more room count given row rows e =
 -- no row goes where there is room
 pub front_enough : (room : Room) (count given : ℕ) (rows : List Reclaimable) → is_enough room count given ≡ true
     → front_from room count given rows ≡ []
-front_enough room count given rows e =
-    ap (λ (l : List Reclaimable). map (λ (r : Reclaimable). r.name) l)
-    (shortest_prefix-nil (λ gone. is_enough room (count + length gone) (given + sum_by weight gone)) rows
-    (at (count + 0) (given + 0) (omega arith) (omega arith)))
-  where
-    at : (n m : ℕ) → n ≡ count → m ≡ given → is_enough room n m ≡ true
-    at n m f g = rw (f, g) e
+front_enough room count given rows e = grind (arith, shortest_prefix-nil)
 
 -- ---- how many rows and elements the order has
 
 pub length-reclaimed : (stg : ℕ) (rows : List CacheItem) → length (reclaimed_for stg rows) ≤ length rows
-length-reclaimed stg rows =
-    let unchanged = filter is_unchanged rows in
-    omega (
-      arith,
-      length-append (filter (has_storage stg) unchanged)
-          (filter (λ (row : CacheItem). not (has_storage stg row)) unchanged),
-      length-filter_both (has_storage stg) (λ (row : CacheItem). not (has_storage stg row)) (λ _. refl) unchanged,
-      length-filter-le is_unchanged rows,
-    )
+length-reclaimed stg rows = grind (arith, length-append, length-filter_both, length-filter-le)
 
 pub length-order : (request : Request) (rows : List CacheItem)
     → length (reclaim_order request rows) ≡ length (filter (is_reclaimable request.name) rows)
-length-order request rows =
-    let reclaimable = filter (is_reclaimable request.name) rows in
-    length-append (filter (has_storage request.stg) reclaimable)
-    (filter (λ row. not (has_storage request.stg row)) reclaimable)
-    ∙ length-filter_both (has_storage request.stg) (λ row. not (has_storage request.stg row)) (λ _. refl) reclaimable
+length-order request rows = grind (arith, length-append, length-filter_both)
 
 pub elements-order : (request : Request) (rows : List CacheItem)
     → elements_in (reclaim_order request rows) ≡ elements_in (filter (is_reclaimable request.name) rows)
-elements-order request rows =
-    let reclaimable = filter (is_reclaimable request.name) rows in
-    sum_by-append size (filter (has_storage request.stg) reclaimable)
-    (filter (λ row. not (has_storage request.stg row)) reclaimable)
-    ∙ sum_by-filter_both (has_storage request.stg) (λ row. not (has_storage request.stg row))
-    (λ _. refl) size reclaimable
+elements-order request rows = grind (arith, sum_by-append, size, sum_by-filter_both)
 
 -- ---- the victims by their names and sizes
 
@@ -87,14 +64,7 @@ weight-map rows = fold-map (λ n row. n + weight row) reclaimable_of 0 rows
 
 pub weight-order : (request : Request) (rows : List CacheItem)
     → sum_by weight (map reclaimable_of (reclaim_order request rows)) ≤ elements_in rows
-weight-order request rows =
-    omega (
-      arith,
-      weight-map (reclaim_order request rows),
-      elements-order request rows,
-      sum_by-filter-le size
-          (is_reclaimable request.name) rows,
-    )
+weight-order request rows = grind (arith, weight-map, elements-order, sum_by-filter-le, size)
 
 map-names : (rows : List CacheItem) → map (λ (r : Reclaimable). r.name) (map reclaimable_of rows)
     ≡ map (λ (r : CacheItem). r.name) rows
@@ -106,21 +76,7 @@ pub victims-measured : (caps : Caps) (request : Request) (rows : List CacheItem)
     → measure.front_names (room_for caps request rows) (map reclaimable_of (reclaim_order request rows))
     ≡ victims caps request rows
 victims-measured caps request rows =
-    let measured = room_for caps request rows in
-    let order = reclaim_order request rows in
-    ap (λ (l : List Reclaimable). map (λ (r : Reclaimable). r.name) l)
-    (shortest_prefix-map reclaimable_of (is_enough_of measured) order)
-    ∙ map-names (shortest_prefix (λ prefix. is_enough_of measured (map reclaimable_of prefix)) order)
-    ∙ ap (λ (l : List CacheItem). map (λ (r : CacheItem). r.name) l)
-    (shortest_prefix_agree (λ prefix. is_enough_of measured (map reclaimable_of prefix))
-    (room.has_room caps request rows)
-    (λ prefix. both (length (map reclaimable_of prefix)) (length prefix) (sum_by weight (map reclaimable_of prefix))
-    (elements_in prefix)
-    (length-map prefix reclaimable_of) (weight-map prefix)) order)
-  where
-    both : (n k m j : ℕ) → n ≡ k → m ≡ j → is_enough (room_for caps request rows) n m
-        ≡ is_enough (room_for caps request rows) k j
-    both n k m j f g = rw (f, g) refl
+    grind (arith, shortest_prefix-map, map-names, shortest_prefix_agree, length-map, weight-map)
 
 -- ---- want of room by numbers
 
@@ -130,20 +86,7 @@ pub room_refusal-measured : (caps : Caps) (request : Request) (rows : List Cache
     (room.elements_refusal request.elements (measure.free_elements (room_for caps request rows)
     (elements_in (filter (is_reclaimable request.name) rows))))
     (Some (DirectoryFull caps.entries))
-room_refusal-measured caps request rows =
-    both (length (reclaim_order request rows)) (length (filter (is_reclaimable request.name) rows))
-    (elements_in (reclaim_order request rows))
-    (elements_in (filter (is_reclaimable request.name) rows)) (length-order request rows)
-    (elements-order request rows)
-  where
-    both : (n k m j : ℕ) → n ≡ k → m ≡ j
-        → cond (measure.has_place (room_for caps request rows) n)
-        (room.elements_refusal request.elements (measure.free_elements (room_for caps request rows) m))
-        (Some (DirectoryFull caps.entries))
-        ≡ cond (measure.has_place (room_for caps request rows) k)
-        (room.elements_refusal request.elements (measure.free_elements (room_for caps request rows) j))
-        (Some (DirectoryFull caps.entries))
-    both n k m j f g = rw (f, g) refl
+room_refusal-measured caps request rows = grind (arith, length-order, elements-order)
 
 -- ---- a place of the order at a time
 
@@ -154,14 +97,7 @@ drop_step : (name : Name16) (rows : List CacheItem) (k j : ℕ) → j ≡ suc k
     ++ map reclaimable_of (filter (λ row. not (is_row_of name row)) (drop j rows))
 drop_step name [] zero j e = rw e refl
 drop_step name [] (suc k) j e = rw e refl
-drop_step name (row ∷ rows) zero j e = rw e (go (is_row_of name row) refl)
-  where
-    go : (b : Bool) → is_row_of name row ≡ b
-        → map reclaimable_of (filter (λ row. not (is_row_of name row)) (row ∷ rows))
-        ≡ option_to_list (option_map reclaimable_of (measure.other_than name (Some row)))
-        ++ map reclaimable_of (filter (λ row. not (is_row_of name row)) rows)
-    go true e = rw e refl
-    go false e = rw e refl
+drop_step name (row ∷ rows) zero j e = grind arith
 drop_step name (row ∷ rows) (suc k) j e = rw e (drop_step name rows k (suc k) refl)
 
 pub reclaimable_step : (request : Request) (rows : List CacheItem) (k : ℕ)
@@ -172,25 +108,12 @@ reclaimable_step request rows k = drop_step request.name (reclaimed_for request.
 -- the order is what other names have in it
 pub reclaimable-order : (request : Request) (rows : List CacheItem)
     → reclaimable_from request rows 0 ≡ map reclaimable_of (reclaim_order request rows)
-reclaimable-order request rows =
-    let other = λ (row : CacheItem). not (is_row_of request.name row) in
-    let unchanged = filter is_unchanged rows in
-    let others = λ (row : CacheItem). not (has_storage request.stg row) in
-    ap (λ (l : List CacheItem). map reclaimable_of l)
-    (filter-append other (filter (has_storage request.stg) unchanged) (filter others unchanged)
-    ∙ ap (λ (l : List CacheItem). l ++ filter other (filter others unchanged))
-    (filter_swap other (has_storage request.stg) unchanged)
-    ∙ ap (λ (l : List CacheItem). filter (has_storage request.stg) (filter other unchanged) ++ l)
-    (filter_swap other others unchanged)
-    ∙ ap (λ (l : List CacheItem). filter (has_storage request.stg) l ++ filter others l)
-    (filter-filter other is_unchanged rows))
+reclaimable-order request rows = grind (arith, filter-append, filter_swap, filter-filter)
 
 -- nothing stands past the end
 pub reclaimable-past : (request : Request) (rows : List CacheItem) (k : ℕ) → length rows ≤ k
     → reclaimable_from request rows k ≡ []
-reclaimable-past request rows k le =
-    ap (λ (l : List CacheItem). map reclaimable_of (filter (λ (row : CacheItem). not (is_row_of request.name row)) l))
-    (drop_all k (reclaimed_for request.stg rows) (omega (arith, le, length-reclaimed request.stg rows)))
+reclaimable-past request rows k le = grind (arith, drop_all, length-reclaimed)
 
 -- the names so far, and those of what is left, where so many elements are given back
 pub record Fronting (request : Request) (rows : List CacheItem) (room : Room) (names : List Name16)
@@ -206,20 +129,12 @@ pub fronting_none : (request : Request) (rows : List CacheItem) (room : Room) (n
     → more ≡ names → long ≡ count → sum ≡ given
     → Fronting request rows room names count given k → Fronting request rows room more long sum (k + 1)
 fronting_none request rows room names more count given long sum k o is none e f g so_far =
-    let same : reclaimable_from request rows k ≡ reclaimable_from request rows (k + 1) =
-    reclaimable_step request rows k
-    ∙ ap (λ (o : Option Reclaimable). option_to_list o ++ reclaimable_from request rows (k + 1)) (sym is ∙ none) in
-    rw (e, f, g) (record {
-      told = ap (λ (l : List Reclaimable). names ++ front_from room count given l) (sym same) ∙ so_far.told;
-      weighs = subst (λ (l : List Reclaimable). given + sum_by weight l ≤ elements_in rows) same so_far.weighs;
-    })
+    grind (arith, reclaimable_step)
 
 next_row : (request : Request) (rows : List CacheItem) (k : ℕ) (o : Option Reclaimable) (row : Reclaimable)
     → o ≡ measure.victim_at request rows k → o ≡ Some row
     → reclaimable_from request rows k ≡ row ∷ reclaimable_from request rows (k + 1)
-next_row request rows k o row is some =
-    reclaimable_step request rows k
-    ∙ ap (λ (o : Option Reclaimable). option_to_list o ++ reclaimable_from request rows (k + 1)) (sym is ∙ some)
+next_row request rows k o row is some = grind (arith, reclaimable_step)
 
 pub fronting_some : (request : Request) (rows : List CacheItem) (room : Room) (names more : List Name16)
     (count given long sum k : ℕ) (o : Option Reclaimable) (row : Reclaimable)
@@ -252,38 +167,16 @@ fronting_fits request rows room names count given k o row is some so_far =
     omega (arith, so_far.weighs, ap (λ (l : List Reclaimable). sum_by weight l) next, sum_by-cons weight row rest)
 
 pub fronting_start : (request : Request) (rows : List CacheItem) (room : Room) → Fronting request rows room [] 0 0 0
-fronting_start request rows room =
-    record {
-      told = same (reclaimable_from request rows 0);
-      weighs =
-          let whole = ap (λ (l : List Reclaimable). sum_by weight l) (reclaimable-order request rows) in
-          omega (arith, whole, weight-order request rows);
-    }
-  where
-    both : (n k m j : ℕ) → n ≡ k → m ≡ j → is_enough room n m ≡ is_enough room k j
-    both n k m j f g = rw (f, g) refl
-
-    same : (l : List Reclaimable) → front_from room 0 0 l ≡ measure.front_names room l
-    same l =
-        ap (λ (l : List Reclaimable). map (λ (row : Reclaimable). row.name) l)
-        (shortest_prefix_agree (λ gone. is_enough room (0 + length gone) (0 + sum_by weight gone)) (is_enough_of room)
-        (λ gone. both (0 + length gone) (length gone) (0 + sum_by weight gone) (sum_by weight gone) (omega arith)
-        (omega arith)) l)
+fronting_start request rows room = grind (arith, reclaimable-order, weight-order, shortest_prefix_agree)
 
 pub fronting_enough : (request : Request) (rows : List CacheItem) (room : Room) (names : List Name16)
     (count given k : ℕ) → is_enough room count given ≡ true
     → Fronting request rows room names count given k
     → names ≡ measure.front_names room (reclaimable_from request rows 0)
-fronting_enough request rows room names count given k enough so_far =
-    sym (append-nil names)
-    ∙ ap (λ (l : List Name16). names ++ l)
-    (sym (front_enough room count given (reclaimable_from request rows k) enough)) ∙ so_far.told
+fronting_enough request rows room names count given k enough so_far = grind (arith, append-nil, front_enough)
 
 pub fronting_end : (request : Request) (rows : List CacheItem) (room : Room) (names : List Name16) (count given k : ℕ)
     → length rows ≤ k
     → Fronting request rows room names count given k
     → names ≡ measure.front_names room (reclaimable_from request rows 0)
-fronting_end request rows room names count given k le so_far =
-    sym (append-nil names)
-    ∙ ap (λ (l : List Reclaimable). names ++ front_from room count given l) (sym (reclaimable-past request rows k le))
-    ∙ so_far.told
+fronting_end request rows room names count given k le so_far = grind (arith, append-nil, reclaimable-past)

@@ -1,5 +1,5 @@
 -- What proofs here name of other crates, and of this one's definitions. Declares nothing.
-pub use Rattle.std.proofs.Common.{◌≡◌, ℕ, ◌+◌, ◌-◌, ◌≤◌, ◌<◌, Bool, true, false, not, ◌&&◌, ◌||◌, ◌==◌, List, [], ◌∷◌, ◌++◌, None, Some, length, drop, filter, get_or, map, add-one, append_assoc, refl, sym, ap, ◌∙◌, arith, suc, zero, Option, option_map, slice_get, append-nil, subst, cond, length-append, sum_by, fold, take, inl, inr, leb, Result, Ok, Err, OnOk, OnErr, IsTrue, vec_len}
+pub use Rattle.std.proofs.Common.{◌≡◌, ℕ, ◌+◌, ◌-◌, ◌≤◌, ◌<◌, Bool, true, false, not, ◌&&◌, ◌||◌, ◌==◌, List, [], ◌∷◌, ◌++◌, None, Some, length, drop, filter, get_or, map, add-one, append_assoc, refl, sym, ap, ◌∙◌, arith, suc, zero, Option, option_map, slice_get, append-nil, subst, cond, length-append, sum_by, fold, take, leb, Result, Ok, Err, OnOk, OnErr, IsTrue, vec_len}
 pub use Rattle.std.proofs.lemmas.Bool.{and_from, eq-eqb, and_parts, cases_lt, le-leb, lt-leb}
 pub use Rattle.std.proofs.lemmas.List.{drop_more, map-append, drop_all, length-map}
 pub use Rattle.std.proofs.lemmas.List.Elements.{filter_agree, filter-append}
@@ -16,20 +16,20 @@ pub use Rattle.cache_model.proofs.ContentLaws.{content-done, content-without}
 pub use Rattle.cache_model.proofs.EngineLaws.{alone-next, cache-fronts, content-without_last}
 pub use Rattle.cache_model.proofs.RoomLaws.{request_spared}
 pub use Rattle.cache_model.proofs.RowLaws.{size}
-pub use Rattle.cache_model.specs.CacheRegs.Registrations.{stands, regs_with, ends_with_name, regs_without_name, is_of}
+pub use Rattle.cache_model.specs.CacheRegs.Registrations.{stands, regs_with, ends_with_name, regs_without_name}
 pub use Rattle.cache_model.specs.CacheRegs.declared.registrations.Registration.{Registration}
-pub use Rattle.cache_model.specs.Commands.CoStats.{has_rows, rows_of_class, class_counts}
+pub use Rattle.cache_model.specs.Commands.CoStats.{class_counts}
 pub use Rattle.cache_model.specs.Contents.{is_among, regs_spared, Content, no_content, content_with, regs_without_row, content_without_last, IsContent}
 pub use Rattle.cache_model.specs.Meaning.{cache_meaning}
 pub use Rattle.cache_model.specs.Room.{is_reclaimable, reclaim_order, victims}
-pub use Rattle.cache_model.specs.Rows.{is_row_of, has_storage, elements_in, IsDirectory, row_of, may_precede, names_apart}
+pub use Rattle.cache_model.specs.Rows.{is_row_of, elements_in, IsDirectory, row_of}
 pub use Rattle.cache_model.specs.Step.{cause, after}
 pub use Rattle.cache_model.specs.declared.items.CacheItem.{CacheItem}
 pub use Rattle.cache_model.specs.declared.requests.Request.{Request}
 pub use Rattle.cache_rows.proofs.CacheRegs.BitLaws.{falls_filter, stands_kept, gains_then_falls}
 pub use Rattle.cache_rows.proofs.CacheRegs.NameLaws.{same_name-sym}
 pub use Rattle.cache_rows.proofs.LookupLaws.{named-row, named-has}
-pub use Rattle.cache_rows.specs.Indexes.{is_unchanged, reclaimed_for}
+pub use Rattle.cache_rows.specs.Indexes.{reclaimed_for}
 pub use Rattle.cf_lists.proofs.FilterLaws.{filter-filter, filter_all, list_all_always, length-filter-le, filter_swap, sum_by-filter-le}
 pub use Rattle.cf_lists.proofs.PrefixLaws.{shortest_prefix-nil, shortest_prefix_agree, shortest_prefix-map}
 pub use Rattle.cf_lists.specs.Pairwise.{pairwise}
@@ -37,7 +37,6 @@ pub use Rattle.cf_lists.specs.Prefixes.{shortest_prefix}
 pub use Rattle.cf_types.proofs.GainsLaws.{Falls, gains_falls, gains_none}
 pub use Rattle.cf_types.specs.Forms.{is_cache}
 pub use Rattle.cf_types.specs.Gains.{Gains}
-pub use Rattle.cf_types.specs.Name.{same_name}
 pub use Rattle.cf_types.specs.declared.cache_commands.CacheCmd.{CacheCmd}
 pub use Rattle.cf_types.specs.declared.cache_commands.CacheCmd.TheVariants.{Read, Write, CrossInval, RegList, Castout, Unlock, CoClass, CoStats, DirInfo, Delete, StgStats}
 pub use Rattle.cf_types.specs.declared.cache_commands.CacheReply.{CacheReply}
@@ -48,10 +47,9 @@ pub use Rattle.cf_types.specs.declared.numbers.ConnId.{ConnId}
 pub use Rattle.cf_types.specs.declared.refusals.Refusal.{Refusal}
 pub use Rattle.cf_types.specs.declared.refusals.Refusal.TheVariants.{DirectoryFull}
 pub use Rattle.engine_api.proofs.FrontLaws.{content-placed}
-pub use Rattle.engine_api.specs.Items.{IsAlone}
-pub use Rattle.engine_api.specs.Meaning.{first_refusal, without_last_item}
+pub use Rattle.engine_api.specs.Meaning.{first_refusal}
 pub use Rattle.cache_core.specs.EngineView.{EngineView, content_of}
-pub use Rattle.cache_core.specs.Measure.{room_for, is_enough, is_enough_of, reclaimable_of, reclaimable_from, has_place, free_elements, front_names}
+pub use Rattle.cache_core.specs.Measure.{room_for, is_enough, reclaimable_of, reclaimable_from}
 pub use Rattle.cache_core.specs.Plans.{plan_unless, plan_for, IsSpared, IsIndexed}
 pub use Rattle.cache_core.specs.declared.plans.Plan.{Plan}
 pub use Rattle.cache_core.specs.declared.room.Reclaimable.{Reclaimable}

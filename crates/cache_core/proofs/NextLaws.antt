@@ -1,5 +1,5 @@
 -- What stands before the next of a list, and what the last row leaves when it goes.
-use Rattle.cache_core.proofs.Imports.{◌≡◌, ◌++◌, ◌∷◌, [], ◌&&◌, ◌-◌, Bool, true, List, Option, None, Some, fold, length, map, option_map, take, slice_get, ℕ, ap, refl, sym, ◌∙◌, list_all, and_parts, and_from, list_all-append, slice_get-map, Name16, pairwise, Registration, CacheItem, Content, no_content, content_with, regs_without_row, content_without_last}
+use Rattle.cache_core.proofs.Imports.{arith, ◌≡◌, ◌++◌, ◌∷◌, [], ◌&&◌, ◌-◌, Bool, true, List, Option, None, Some, fold, length, map, option_map, take, slice_get, ℕ, ap, refl, sym, ◌∙◌, list_all, and_parts, and_from, list_all-append, slice_get-map, Name16, pairwise, CacheItem, Content, no_content, content_with, regs_without_row, content_without_last}
 
 pub before_next : {X : Type 0} (relation : X → X → Bool) (xs : List X) (y : X) (ys : List X)
     → pairwise relation (xs ++ y ∷ ys) ≡ true
@@ -27,13 +27,7 @@ without-none (Some row) = refl
 pub unplaced : (content : Content) (rows : List CacheItem) → fold content_with no_content content.rows ≡ content
     → rows ≡ take (length content.rows - 1) content.rows
     → record { rows = rows; regs = content.regs } ≡ content_without_last content
-unplaced content rows alone front =
-    let none : content.regs ≡ [] = ap (λ (k : Content). k.regs) (sym alone) ∙ placed-regs content.rows no_content in
-    let last = slice_get content.rows (length content.rows - 1) in
-    let same : content.regs ≡ regs_without_row last content.regs =
-    none ∙ sym (without-none last)
-    ∙ ap (λ (regs : List Registration). regs_without_row last regs) (sym none) in
-    (λ i. record { rows = front i; regs = same i })
+unplaced content rows alone front = grind (arith, placed-regs, without-none)
 
 -- a name of all rows, at its place
 pub named_at : (names : List Name16) (rows : List CacheItem) (k : ℕ) (name : Name16)

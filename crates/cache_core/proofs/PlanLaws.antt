@@ -1,5 +1,5 @@
 -- What a plan that isn't refused says.
-use Rattle.cache_core.proofs.Imports.{◌≡◌, ℕ, ◌<◌, inl, inr, List, ◌∷◌, cond, leb, Option, None, Some, Result, Ok, Err, refl, sym, ap, ◌∙◌, subst, OnOk, OnErr, cases_lt, le-leb, first_refusal, Caps, ConnId, Refusal, CacheCmd, Read, Write, CrossInval, RegList, Castout, Unlock, CoClass, CoStats, DirInfo, Delete, StgStats, CacheReply, CacheItem, IsDirectory, Content, cause, request_spared, Plan, plan_unless, plan_for, IsSpared, IsIndexed}
+use Rattle.cache_core.proofs.Imports.{arith, ◌≡◌, ℕ, ◌<◌, List, ◌∷◌, cond, leb, Option, None, Some, Result, Ok, Err, refl, sym, ap, ◌∙◌, subst, OnOk, OnErr, cases_lt, le-leb, first_refusal, Caps, ConnId, Refusal, CacheCmd, Read, Write, CrossInval, RegList, Castout, Unlock, CoClass, CoStats, DirInfo, Delete, StgStats, CacheReply, CacheItem, IsDirectory, Content, cause, request_spared, Plan, plan_unless, plan_for, IsSpared, IsIndexed}
 use Rattle.cache_model.specs.Commands.Read as read
 use Rattle.cache_model.specs.Commands.Write as write
 use Rattle.cache_model.specs.Step.{victims}
@@ -59,11 +59,7 @@ first_none (Some refusal) causes h = absurd (cc)
 
 below : (vector index : ℕ) (refusal : Refusal) (other : Option Refusal)
     → cond (leb vector index) (Some refusal) other ≡ None → index < vector
-below vector index refusal other h = elim (cases_lt index vector) [
-  | inl lt ↦ lt
-  | inr past ↦
-      absurd (let wrong : Some refusal ≡ None = rw (le-leb vector index past) at h in cc)
-]
+below vector index refusal other h = grind (arith, cases_lt, le-leb)
 
 -- where a command isn't refused, its index is one of the vector's
 pub indexed : (vector : ℕ) (caps : Caps) (content : Content) (by : ConnId) (cmd : CacheCmd)

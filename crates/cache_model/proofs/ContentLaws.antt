@@ -1,5 +1,5 @@
 -- Every command, departure and end of registrations leads from content to content.
-use Rattle.cache_model.proofs.Imports.{◌≡◌, ℕ, ◌+◌, ◌-◌, ◌≤◌, Bool, true, false, not, ◌&&◌, ◌||◌, cond, List, [], ◌∷◌, Option, Some, None, is_some, is_none, unwrap_or, option_map, length, filter, map, nat_lt, nat_le, ◌⊎◌, inl, inr, refl, sym, ap, ◌∙◌, subst, arith, list_all, and_parts, and_from, or_cases, or_right, not-true, false≢true, ltb-true, leb-true, length-map, any-filter_same, Caps, Name16, ConnId, Refusal, IsChanged, NotChanged, CacheCmd, Read, Write, CrossInval, RegList, Castout, Unlock, CoClass, CoStats, DirInfo, Delete, StgStats, CacheReply, same_name, Outcome, first_refusal, unless_refused, list_all-filter, list_all_weaker, list_all_both, list_all-filter_same, length-filter-le, sum_by-filter-le, any_is_found, none-filter, all_found, list_all-insertion, Registration, is_of, is_replaced, stands_before as before, regs_with, regs_without, regs_without_name, ends_with_name, IsRegistry, same_name-eq, same_name-refl, registry-with, registry-filter, CacheItem, Holder, Request, is_row_of, is_changed, elements_of, elements_in, row_of, has_row, rows_without, rows_replaced, new_row, row_or_new, is_sound, IsDirectory, Content, IsContent, IsOrderly, content_without, content_forgotten, without_hold, is_among, rows_spared, regs_spared, victims, has_place, free_elements, room_refusal, entry_refusal, held_refusal, unchanged_refusal, not_held_refusal, is_changed_row, cause, done}
+use Rattle.cache_model.proofs.Imports.{◌≡◌, ℕ, ◌+◌, ◌-◌, ◌≤◌, Bool, true, false, not, ◌&&◌, ◌||◌, cond, List, [], ◌∷◌, Option, Some, None, is_some, is_none, unwrap_or, option_map, length, filter, map, nat_lt, nat_le, ◌⊎◌, inl, inr, refl, sym, ap, ◌∙◌, subst, arith, list_all, and_parts, and_from, or_cases, or_right, not-true, false≢true, ltb-true, leb-true, length-map, any-filter_same, Caps, Name16, ConnId, Refusal, IsChanged, NotChanged, CacheCmd, Read, Write, CrossInval, RegList, Castout, Unlock, CoClass, CoStats, DirInfo, Delete, StgStats, CacheReply, same_name, Outcome, first_refusal, unless_refused, list_all-filter, list_all_weaker, list_all_both, list_all-filter_same, length-filter-le, sum_by-filter-le, any_is_found, none-filter, all_found, list_all-insertion, Registration, is_of, regs_with, regs_without, regs_without_name, ends_with_name, IsRegistry, same_name-eq, same_name-refl, registry-with, registry-filter, CacheItem, Holder, Request, is_row_of, is_changed, elements_of, elements_in, row_of, has_row, rows_without, rows_replaced, new_row, row_or_new, is_sound, IsDirectory, Content, IsContent, IsOrderly, content_without, content_forgotten, without_hold, is_among, rows_spared, regs_spared, victims, has_place, free_elements, room_refusal, entry_refusal, held_refusal, unchanged_refusal, not_held_refusal, is_changed_row, cause, done}
 use Rattle.cache_model.specs.Commands.Read as read
 use Rattle.cache_model.specs.Commands.Write as write
 use Rattle.cache_model.specs.Commands.Castout as castout
@@ -27,16 +27,7 @@ pub each_registered : (by : ConnId) (index : ℕ) (name : Name16) (rows : List C
     → list_all (λ reg. has_row reg.name rows) regs ≡ true
     → list_all (λ reg. same_name reg.name name || has_row reg.name rows) (regs_with by index name regs) ≡ true
 each_registered by index name rows regs h =
-    let new : Registration = record { conn = by; index = index; name = name } in
-    let others = filter (λ reg. not (is_replaced by index name reg)) regs in
-    list_all-insertion (λ reg. same_name reg.name name || has_row reg.name rows) (λ other. before other new) new
-    others
-    ∙ and_from (same_name name name || has_row name rows) (list_all (λ reg. same_name reg.name name
-    || has_row reg.name rows) others)
-    (ap (λ b. b || has_row name rows) (same_name-refl name))
-    (list_all_weaker (λ reg. has_row reg.name rows) (λ reg. same_name reg.name name || has_row reg.name rows)
-    (λ reg k. or_right (same_name reg.name name) (has_row reg.name rows) k) others
-    (list_all-filter (λ reg. has_row reg.name rows) (λ reg. not (is_replaced by index name reg)) regs h))
+    grind (arith, list_all-insertion, and_from, same_name-refl, list_all_weaker, or_right, list_all-filter)
 
 -- the registrations that are spared have rows, and the name has one
 each_with : (row : CacheItem) (names : List Name16) (rows : List CacheItem) (regs : List Registration)
@@ -65,11 +56,7 @@ each_with row names rows regs h =
     one : (reg : Registration) → (same_name reg.name row.name || has_row reg.name rows)
         && not (is_among names reg.name) ≡ true
         → has_row reg.name (rows_replaced row (rows_spared names rows)) ≡ true
-    one reg h =
-        let parts = and_parts (same_name reg.name row.name || has_row reg.name rows) (not (is_among names reg.name)) h
-        in
-        pick reg (not-true (is_among names reg.name) parts.1) (or_cases (same_name reg.name row.name)
-        (has_row reg.name rows) parts.0)
+    one reg h = grind (arith, and_parts, pick, not-true, or_cases)
 
 -- rows and registrations are in order where a row takes its place, and others go
 orderly_own : (content : Content) (row : CacheItem) (names : List Name16) (regs : List Registration)
@@ -264,9 +251,7 @@ content-read vector caps content by name index old stg is h =
     content_used caps content (row_or_new name stg content.rows) name 0 stg (regs_with by index name content.regs)
     (name-row_or_new name stg content.rows) is none.1.1.0
     (sound-row_or_new name stg content.rows is.directory)
-    (inr (or_new_size name stg (elements_in (rows_without name content.rows)) (elements_in content.rows)
-    (row_of name content.rows) rest
-    (λ row e. elements-without name content.rows row is.directory e)))
+    (grind (arith, or_new_size, elements-without))
     (registry-with by index name content.regs is.registry) (each_registered by index name content.rows content.regs
     is.row_each)
 
@@ -290,9 +275,7 @@ pub write_sound : (name : Name16) (stg : ℕ) (body : List ℕ) (class : Option 
 write_sound name stg body None adj None e h = refl
 write_sound name stg body (Some class) adj None e h = refl
 write_sound name stg body (Some class) adj (Some row) e h = held_any row.holder
-write_sound name stg body None adj (Some row) e h =
-    unchanged_sound (is_none (option_map write.rewrite row.holder) || false)
-    (hold_test row.holder (is_changed row) (not (is_changed row) || is_some row.body) e (h row refl))
+write_sound name stg body None adj (Some row) e h = grind (arith, unchanged_sound, hold_test)
 
 pub unless_true : (b : Bool) → cond b (Some IsChanged) None ≡ None → b ≡ false
 unless_true true h = absurd (cc)
@@ -311,9 +294,7 @@ content-write vector caps content by name index body class adj old stg when_reg 
     (elements_of (Some body)) stg
     (regs_without_name name (Some by) (regs_with by index name content.regs)) (name-row_or_new name stg content.rows)
     is none.1.1.1.1.1.0
-    (write_sound name stg body class adj (row_of name content.rows)
-    (unless_true (is_none class && is_changed_row (row_of name content.rows)) none.1.1.1.1.0)
-    (λ row found. all_found (is_row_of name) is_sound content.rows row is.directory.sound found))
+    (grind (arith, write_sound, unless_true, all_found))
     (inl (omega arith))
     (registry-filter (λ (reg : Registration). not (ends_with_name name (Some by) reg))
     (regs_with by index name content.regs)
@@ -421,16 +402,8 @@ pub content-delete : (caps : Caps) (content : Content) (name : Name16) → IsCon
 content-delete caps content name is =
     record {
       directory = directory-filter (λ row. not (is_row_of name row)) content.rows is.directory;
-      entries = omega (
-        arith,
-        length-filter-le (λ (row : CacheItem). not (is_row_of name row)) content.rows,
-        is.entries,
-      );
-      elements = omega (
-        arith,
-        sum_by-filter-le size (λ (row : CacheItem). not (is_row_of name row)) content.rows,
-        is.elements,
-      );
+      entries = grind (arith, length-filter-le);
+      elements = grind (arith, sum_by-filter-le, size);
       registry = registry-filter (λ reg. not (ends_with_name name None reg)) content.regs is.registry;
       row_each =
           list_all_weaker (λ reg. has_row reg.name content.rows && not (ends_with_name name None reg))
@@ -458,14 +431,7 @@ content-fewer_regs caps content q is =
 
 pub content-forgotten : (caps : Caps) (content : Content) → IsContent caps content
     → IsContent caps (content_forgotten content)
-content-forgotten caps content is =
-    record {
-      directory = is.directory;
-      entries = is.entries;
-      elements = is.elements;
-      registry = record { ordered = refl; one_for_name = refl };
-      row_each = refl;
-    }
+content-forgotten caps content is = grind arith
 
 pub content-without : (caps : Caps) (content : Content) (conn : ConnId) → IsContent caps content
     → IsContent caps (content_without conn content)
@@ -511,6 +477,4 @@ unless_step caps (Some refusal) content outcome is h = is
 pub content-step : (vector : ℕ) (caps : Caps) (content : Content) (by : ConnId) (cmd : CacheCmd)
     → IsContent caps content
     → IsContent caps (unless_refused (cause vector caps content by cmd) content (done caps content by cmd)).state
-content-step vector caps content by cmd is =
-    unless_step caps (cause vector caps content by cmd) content (done caps content by cmd) is
-    (content-done vector caps content by cmd is)
+content-step vector caps content by cmd is = grind (arith, unless_step, content-done)

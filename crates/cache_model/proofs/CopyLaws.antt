@@ -1,5 +1,5 @@
 -- A valid bit tells a fresh copy: what a registered connector has at the index is what the name's row has.
-use Rattle.cache_model.proofs.Imports.{◌≡◌, ℕ, Bool, true, false, not, ◌&&◌, ◌||◌, ◌==◌, cond, List, [], ◌∷◌, ◌++◌, Option, Some, None, option_map, unwrap_or, filter, find, map, refl, sym, ap, ◌∙◌, subst, arith, option_and_then, option_or, and_parts, or_parts, not-true, false≢true, eqb-true, nat_tests, find-append, Caps, Name16, ConnId, Refusal, CacheCmd, Read, Write, CrossInval, RegList, Castout, Unlock, CoClass, CoStats, DirInfo, Delete, StgStats, same_name, unless_refused, insertion, find-filter, find_none, none_filtered, find-insertion_past, find-insertion_here, Registration, is_of, is_at, is_for, is_replaced, registered_at, stands_before as before, regs_with, regs_without_name, ends_with_name, same_name-eq, same_name-refl, same_name-sym, CacheItem, is_row_of, is_changed, row_of, has_row, rows_without, rows_replaced, new_row, row_or_new, IsDirectory, Content, IsContent, no_content, content_without, without_hold, is_among, rows_spared, cause, done, after, Copy, Copies, Deed, after_deed, after_run, row_copy, copy_in, reply_copy, copies_with, copies_done, copies_unless, copies_after, copies_run, Calls, Leaves, Forgets}
+use Rattle.cache_model.proofs.Imports.{◌≡◌, ℕ, Bool, true, false, not, ◌&&◌, ◌||◌, ◌==◌, cond, List, [], ◌∷◌, ◌++◌, Option, Some, None, option_map, unwrap_or, filter, find, map, refl, sym, ap, ◌∙◌, subst, arith, option_and_then, and_parts, or_parts, not-true, false≢true, eqb-true, nat_tests, find-append, Caps, Name16, ConnId, Refusal, CacheCmd, Read, Write, CrossInval, RegList, Castout, Unlock, CoClass, CoStats, DirInfo, Delete, StgStats, same_name, unless_refused, insertion, find-filter, find_none, none_filtered, find-insertion_past, find-insertion_here, Registration, is_of, is_at, is_replaced, registered_at, stands_before as before, regs_with, regs_without_name, ends_with_name, same_name-eq, same_name-refl, same_name-sym, CacheItem, is_row_of, is_changed, row_of, has_row, rows_without, rows_replaced, new_row, row_or_new, IsDirectory, Content, IsContent, no_content, content_without, without_hold, is_among, rows_spared, cause, done, after, Copy, Copies, Deed, after_deed, after_run, row_copy, copy_in, reply_copy, copies_with, copies_done, copies_unless, copies_after, copies_run, Calls, Leaves, Forgets}
 use Rattle.cache_model.specs.Rows.{stands_before}
 use Rattle.cache_model.specs.Commands.Read as read
 use Rattle.cache_model.specs.Commands.Write as write
@@ -27,11 +27,7 @@ found_with false n row rest alone true e =
     let none : has_row n rest ≡ false = subst (λ (m : Name16). has_row m rest ≡ false) (same_name-eq row.name n e)
     alone in
     find-append (is_row_of n) rest (row ∷ []) ∙ rw (find_none (is_row_of n) rest none, e) refl
-found_with false n row rest alone false e = find-append (is_row_of n) rest (row ∷ []) ∙ rw e (or_none (row_of n rest))
-  where
-    or_none : (o : Option CacheItem) → option_or o None ≡ o
-    or_none None = refl
-    or_none (Some x) = refl
+found_with false n row rest alone false e = grind (arith, find-append)
 
 pub other_found : (n name : Name16) (rows : List CacheItem) → same_name name n ≡ false
     → row_of n (rows_without name rows) ≡ row_of n rows
@@ -63,13 +59,7 @@ copy-other n row rows e = ap (λ o. option_and_then row_copy o) (row_of-replaced
 pub copy-same : (name n : Name16) (row : CacheItem) (rows : List CacheItem) → row.name ≡ name
     → row_copy row ≡ copy_in rows name
     → copy_in (rows_replaced row rows) n ≡ copy_in rows n
-copy-same name n row rows named is = go (same_name row.name n) refl
-  where
-    go : (s : Bool) → same_name row.name n ≡ s → copy_in (rows_replaced row rows) n ≡ copy_in rows n
-    go true e =
-        let here : row.name ≡ n = same_name-eq row.name n e in
-        copy-here n row rows here ∙ is ∙ ap (λ m. copy_in rows m) (sym named ∙ here)
-    go false e = copy-other n row rows e
+copy-same name n row rows named is = grind (arith, same_name-eq, copy-here, copy-other)
 
 pub copy-spared : (n : Name16) (gone : List Name16) (rows : List CacheItem) → is_among gone n ≡ false
     → copy_in (rows_spared gone rows) n ≡ copy_in rows n
@@ -119,9 +109,7 @@ pub each_insertion : (P : Registration → Type 0) (first : Registration → Boo
     (regs : List Registration) → P new → Each P regs
     → Each P (insertion first new regs)
 each_insertion P first new [] n all = (n, tt)
-each_insertion P first new (reg ∷ regs) n all =
-    each_place P (first reg) new reg regs (insertion first new regs) n all.0 all.1
-    (each_insertion P first new regs n all.1)
+each_insertion P first new (reg ∷ regs) n all = grind (arith, each_place, each_insertion P first new regs n all.1)
 
 pub each_weaker : (P Q : Registration → Type 0) → ((r : Registration) → P r → Q r) → (regs : List Registration)
     → Each P regs → Each Q regs
@@ -141,9 +129,7 @@ turn a b = grind (arith, nat_tests)
 other_place : (by : ConnId) (index : ℕ) (name : Name16) (reg : Registration) (copy : Copy) (copies : Copies)
     → not (is_replaced by index name reg) ≡ true
     → copies_with by index copy copies reg.conn reg.index ≡ copies reg.conn reg.index
-other_place by index name reg copy copies h =
-    let apart = or_parts (is_at by index reg) (is_for by name reg) (not-true (is_replaced by index name reg) h) in
-    rw (turn by.0 reg.conn.0, turn index reg.index, apart.0) refl
+other_place by index name reg copy copies h = grind (arith, or_parts, not-true, turn)
 
 own_place : (by : ConnId) (index : ℕ) (copy : Copy) (copies : Copies) → copies_with by index copy copies by index ≡
     copy
@@ -176,11 +162,7 @@ read_fresh gone content copies by name index stg out all =
     same : (reg : Registration) → is_among gone reg.name ≡ false
         → copy_in (rows_replaced (row_or_new name stg content.rows) (rows_spared gone content.rows)) reg.name ≡
         copy_in content.rows reg.name
-    same reg k =
-        copy-same name reg.name (row_or_new name stg content.rows) (rows_spared gone content.rows)
-        (name-row_or_new name stg content.rows)
-        (copy-row_or_new name stg content.rows ∙ sym (copy-spared name gone content.rows out))
-        ∙ copy-spared reg.name gone content.rows k
+    same reg k = grind (arith, copy-same, name-row_or_new, copy-row_or_new, copy-spared)
 
 -- ---- WRITE
 
@@ -214,9 +196,7 @@ write_fresh gone content copies by name index body class adj stg all =
     (λ f e. own_place by index (Some (body, adj)) copies ∙ sym (copy-here name row (rows_spared gone content.rows)
     (name-row_or_new name stg content.rows)))
     (each_filter (Fresh content.rows copies) Q (λ reg. not (is_replaced by index name reg))
-    (λ reg e fresh f k. other_place by index name reg (Some (body, adj)) copies e ∙ fresh
-    ∙ sym (same reg (other_name (is_of by reg) (reg.index == index) (same_name reg.name name) e f)
-    (not-true (is_among gone reg.name) k))) content.regs all)))
+    (grind (arith, other_place, same, other_name, not-true)) content.regs all)))
   where
     same : (reg : Registration) → same_name reg.name name ≡ false → is_among gone reg.name ≡ false
         → copy_in (rows_replaced (write.row_with body class adj (row_or_new name stg content.rows))
@@ -273,9 +253,7 @@ released_step conn row false x y e = e
 copy-released : (conn : ConnId) (name : Name16) (rows : List CacheItem) → copy_in (map (without_hold conn) rows)
     name ≡ copy_in rows name
 copy-released conn name [] = refl
-copy-released conn name (row ∷ rows) =
-    released_step conn row (same_name row.name name) (row_of name (map (without_hold conn) rows)) (row_of name rows)
-    (copy-released conn name rows)
+copy-released conn name (row ∷ rows) = grind (arith, released_step, copy-released conn name rows)
 
 leave_fresh : (content : Content) (copies : Copies) (conn : ConnId) → AllFresh content copies
     → AllFresh (content_without conn content) copies
@@ -295,9 +273,7 @@ after_fresh caps content copies by (Read name index old stg) is all =
 after_fresh caps content copies by (Write name index body class adj old stg when_reg) is all =
     write_fresh (victims caps content.rows (Write name index body class adj old stg when_reg)) content copies by name
     index body class adj stg all
-after_fresh caps content copies by (CrossInval name) is all =
-    each_filter (Fresh content.rows copies) (Fresh content.rows copies)
-    (λ reg. not (ends_with_name name (Some by) reg)) (λ reg e fresh. fresh) content.regs all
+after_fresh caps content copies by (CrossInval name) is all = grind (arith, each_filter)
 after_fresh caps content copies by RegList is all = all
 after_fresh caps content copies by (Castout name) is all = castout_fresh content copies by name all
 after_fresh caps content copies by (Unlock name) is all = unlock_fresh content copies name all
@@ -352,14 +328,7 @@ fresh_step : (rows : List CacheItem) (copies : Copies) (conn : ConnId) (index : 
     → copies conn index ≡ copy_in rows name)
     → option_map (λ (r : Registration). r.name) (cond b (Some reg) (find (is_at conn index) regs)) ≡ Some name
     → copies conn index ≡ copy_in rows name
-fresh_step rows copies conn index name reg regs true e fresh h k =
-    let parts = and_parts (is_of conn reg) (reg.index == index) e in
-    let conn_of : ℕ → ConnId = λ (n : ℕ). record { 0 = n } in
-    let own : reg.conn ≡ conn = ap conn_of (eqb-true reg.conn.0 conn.0 parts.0) in
-    let here : reg.index ≡ index = eqb-true reg.index index parts.1 in
-    let named : reg.name ≡ name = cc in
-    ap (λ c. copies c index) (sym own) ∙ ap (λ i. copies reg.conn i) (sym here) ∙ fresh
-    ∙ ap (λ n. copy_in rows n) named
+fresh_step rows copies conn index name reg regs true e fresh h k = grind (arith, and_parts, eqb-true)
 fresh_step rows copies conn index name reg regs false e fresh h k = h k
 
 -- where a connector is registered for a name, it has a copy of what the name's row has
@@ -368,8 +337,7 @@ pub fresh-at : (rows : List CacheItem) (copies : Copies) (conn : ConnId) (index 
     → registered_at regs conn index ≡ Some name → copies conn index ≡ copy_in rows name
 fresh-at rows copies conn index name [] all h = absurd (cc)
 fresh-at rows copies conn index name (reg ∷ regs) all h =
-    fresh_step rows copies conn index name reg regs (is_at conn index reg) refl all.0
-    (fresh-at rows copies conn index name regs all.1) h
+    grind (arith, fresh_step, fresh-at rows copies conn index name regs all.1)
 
 -- A valid bit: after every run from the empty content, what a connector has a copy of at an index where it is
 -- registered for a name is what the name's row has

@@ -1,18 +1,11 @@
 -- The laws of the engine's meaning.
-use Rattle.cache_model.proofs.Imports.{◌≡◌, ℕ, ◌+◌, ◌-◌, ◌≤◌, Bool, IsTrue, true, false, not, ◌&&◌, List, [], ◌∷◌, ◌++◌, append-nil, append_assoc, Option, None, Some, length, length-append, filter, take, drop, slice_get, fold, ◌⊎◌, inl, inr, ⊎_elim, refl, sym, ap, subst, ◌∙◌, arith, list_all, and_parts, or_from, or_left, or_cases, not-true, false≢true, same_name, Name16, filter_all, list_all_weaker, list_all_both, list_all-filter, list_all-filter_same, split_next, length-map, take_all, take_at, take-append-drop, drop_all, slice_get_cases, list_all-append, list_any-append, sum_by-append, is_cache, Caps, Kind, ConnId, Shape, Fits, IsNoMore, IsNoMoreOf, FrontLaws, fronts, pairwise, pairwise_front, Registration, regs_for_others, same_name-eq, same_name-sym, registry-filter, CacheItem, is_row_of, elements_in, has_row, may_precede, names_apart, is_sound, Content, IsContent, no_content, content_without, content_forgotten, content_with, content_without_last, regs_without_row, need_of, without_hold, cache_meaning}
+use Rattle.cache_model.proofs.Imports.{◌≡◌, ◌+◌, ◌-◌, ◌≤◌, Bool, IsTrue, true, false, not, ◌&&◌, List, [], ◌∷◌, ◌++◌, append-nil, append_assoc, Option, None, Some, length, length-append, filter, take, drop, slice_get, fold, ◌⊎◌, ⊎_elim, refl, sym, ap, subst, ◌∙◌, arith, list_all, and_parts, or_from, or_left, or_cases, not-true, false≢true, same_name, Name16, filter_all, list_all_weaker, list_all_both, list_all-filter, list_all-filter_same, split_next, length-map, take_all, take_at, take-append-drop, drop_all, slice_get_cases, list_all-append, list_any-append, sum_by-append, is_cache, Caps, Kind, ConnId, Shape, Fits, IsNoMore, IsNoMoreOf, FrontLaws, fronts, pairwise, pairwise_front, Registration, regs_for_others, same_name-eq, same_name-sym, registry-filter, CacheItem, elements_in, has_row, names_apart, Content, IsContent, no_content, content_without, content_forgotten, content_with, content_without_last, regs_without_row, need_of, cache_meaning}
 use Rattle.cf_types.specs.declared.forms.Kind.TheVariants as kind
 use Rattle.cache_model.proofs.RowLaws.{size, elements-without_hold}
 use Rattle.cache_model.proofs.ContentLaws as laws
 
 pub content-nothing : (caps : Caps) → IsContent caps no_content
-content-nothing caps =
-    record {
-      directory = record { ordered = refl; one_for_name = refl; sound = refl };
-      entries = omega arith;
-      elements = omega arith;
-      registry = record { ordered = refl; one_for_name = refl };
-      row_each = refl;
-    }
+content-nothing caps = grind arith
 
 pub leave-content : (caps : Caps) (content : Content) (conn : ConnId) → IsContent caps content
     → IsContent caps (content_without conn content)
@@ -23,9 +16,7 @@ leave-content caps content conn is = laws.content-without caps content conn is
 made-from : (content : Content) (items : List CacheItem) → fold content_with content items ≡ record content
     { rows = content.rows ++ items }
 made-from content [] = ap (λ (l : List CacheItem). record content { rows = l }) (sym (append-nil content.rows))
-made-from content (item ∷ items) =
-    made-from (content_with content item) items ∙ ap (λ (l : List CacheItem). record content { rows = l })
-    (append_assoc content.rows (item ∷ []) items)
+made-from content (item ∷ items) = grind (arith, append_assoc, made-from (content_with content item) items)
 
 pub made-items : (rows : List CacheItem) → fold content_with no_content rows ≡ record { rows = rows; regs = [] }
 made-items rows = made-from no_content rows
@@ -40,12 +31,7 @@ no_more_of kind.Lock need other h = h.1
 
 pub need-leave : (kind : Kind) (content : Content) (conn : ConnId)
     → IsNoMoreOf kind (need_of (content_without conn content).rows) (need_of content.rows)
-need-leave kind content conn =
-    no_more_of kind (need_of (content_without conn content).rows) (need_of content.rows) (
-      omega (arith, length-map content.rows (without_hold conn)),
-      omega
-          (arith, elements-without_hold conn content.rows),
-    )
+need-leave kind content conn = grind (arith, no_more_of, length-map, elements-without_hold)
 
 -- a content whose rows fit another capacity is one there, without its registrations
 fits_both : (kind : Kind) (need caps : Caps) → IsTrue (is_cache kind) → Fits kind need caps
@@ -57,16 +43,7 @@ fits_both kind.Lock need caps is fits = absurd cc
 pub content-moved : (shape : Shape) (caps other : Caps) (content : Content) → IsTrue (is_cache shape.kind)
     → IsContent caps content → Fits shape.kind (need_of content.rows) other
     → IsContent other (content_forgotten content)
-content-moved shape caps other content kind is fits =
-    let both = fits_both shape.kind (need_of content.rows) other kind fits in
-    let forgotten = laws.content-forgotten caps content is in
-    record {
-      directory = forgotten.directory;
-      entries = both.0;
-      elements = both.1;
-      registry = forgotten.registry;
-      row_each = forgotten.row_each;
-    }
+content-moved shape caps other content kind is fits = grind (arith, fits_both)
 
 -- ---- a front of the rows
 
@@ -78,23 +55,7 @@ pub content-front : (caps : Caps) (whole : Content) (rows others : List CacheIte
     → whole.rows ≡ rows ++ others
     → IsContent caps (record { rows = rows; regs = [] })
 content-front caps whole rows others is e =
-    let ordered : pairwise may_precede (rows ++ others) ≡ true = rw e at is.directory.ordered in
-    let apart : pairwise names_apart (rows ++ others) ≡ true = rw e at is.directory.one_for_name in
-    let sound : list_all is_sound (rows ++ others) ≡ true = rw e at is.directory.sound in
-    let few : length (rows ++ others) ≤ caps.entries = rw e at is.entries in
-    let small : elements_in (rows ++ others) ≤ caps.elements = rw e at is.elements in
-    record {
-      directory = record {
-        ordered = pairwise_front may_precede rows others ordered;
-        one_for_name = pairwise_front names_apart rows others apart;
-        sound = (and_parts (list_all is_sound rows) (list_all is_sound others)
-            (sym (list_all-append is_sound rows others) ∙ sound)).0;
-      };
-      entries = omega (arith, few, length-append rows others);
-      elements = omega (arith, small, sum_front rows others);
-      registry = record { ordered = refl; one_for_name = refl };
-      row_each = refl;
-    }
+    grind (arith, pairwise_front, and_parts, list_all-append, length-append, sum_front)
 
 -- one more of the rows of a content has a name of its own
 pub alone-next : (rows others : List CacheItem) (item : CacheItem) → pairwise names_apart (rows ++ item ∷ others) ≡
@@ -121,10 +82,7 @@ content-next caps content whole item others is all e =
       entries = front.entries;
       elements = front.elements;
       registry = is.registry;
-      row_each = list_all_weaker (λ reg. has_row reg.name content.rows) (λ reg. has_row reg.name (content.rows
-          ++ item ∷ []))
-          (λ reg h. list_any-append (is_row_of reg.name) content.rows (item ∷ [])
-          ∙ or_left (has_row reg.name content.rows) (has_row reg.name (item ∷ [])) h) content.regs is.row_each;
+      row_each = grind (arith, list_all_weaker, list_any-append, or_left);
     }
 
 -- ---- without the last row
@@ -132,22 +90,7 @@ content-next caps content whole item others is all e =
 -- who is registered for another name than the last row's has a row in front of it
 row_in_front : (row : CacheItem) (front : List CacheItem) (reg : Registration)
     → has_row reg.name (front ++ row ∷ []) && not (same_name reg.name row.name) ≡ true → has_row reg.name front ≡ true
-row_in_front row front reg h =
-    let parts = and_parts (has_row reg.name (front ++ row ∷ [])) (not (same_name reg.name row.name)) h in
-    either (or_cases (has_row reg.name front) (has_row reg.name (row ∷ []))
-    (sym (list_any-append (is_row_of reg.name) front (row ∷ [])) ∙ parts.0)) parts.1
-  where
-    not_last : (named : Bool) → same_name row.name reg.name ≡ named → has_row reg.name (row ∷ []) ≡ true
-        → not (same_name reg.name row.name) ≡ true → ⊥
-    not_last true is last other =
-        false≢true (ap not (sym is ∙ same_name-sym row.name reg.name) ∙ other)
-    not_last false is last other =
-        false≢true (sym (or_from (same_name row.name reg.name) false is refl) ∙ last)
-
-    either : (has_row reg.name front ≡ true) ⊎ (has_row reg.name (row ∷ []) ≡ true)
-        → not (same_name reg.name row.name) ≡ true → has_row reg.name front ≡ true
-    either (inl there) other = there
-    either (inr last) other = absurd (not_last (same_name row.name reg.name) refl last other)
+row_in_front row front reg h = grind (arith, and_parts, or_cases, list_any-append, false≢true, same_name-sym, or_from)
 
 -- the last row of a content goes, with its registrations
 without_last : (caps : Caps) (content : Content) → IsContent caps content → (row : Option CacheItem)
@@ -157,22 +100,7 @@ without_last : (caps : Caps) (content : Content) → IsContent caps content → 
       regs = regs_without_row row content.regs;
     })
 without_last caps content is None at =
-    let rows = content.rows in
-    let last = length rows - 1 in
-    let front = content-front caps content (take last rows) (drop last rows) is (sym (take-append-drop last rows)) in
-    let all : take last rows ≡ rows =
-    take_all last rows (⊎_elim (λ found. absurd (none≢some found.0 (sym at ∙ found.2)))
-    (λ past. past.0) (slice_get_cases rows last).1) in
-    record {
-      directory = front.directory;
-      entries = front.entries;
-      elements = front.elements;
-      registry = is.registry;
-      row_each = rw all is.row_each;
-    }
-  where
-    none≢some : (row : CacheItem) → None ≡ Some row → ⊥
-    none≢some row h = cc
+    grind (arith, content-front, take-append-drop, take_all, ⊎_elim, slice_get_cases)
 without_last caps content is (Some row) at =
     let rows = content.rows in
     let last = length rows - 1 in
@@ -208,10 +136,7 @@ last_of (row ∷ rows) item = last_of rows item
 no_regs_for : (name : Name16) (content : Content) → has_row name content.rows ≡ false
     → list_all (λ reg. has_row reg.name content.rows) content.regs ≡ true
     → regs_for_others name content.regs ≡ content.regs
-no_regs_for name content none each =
-    filter_all (λ reg. not (same_name reg.name name)) content.regs
-    (list_all_weaker (λ reg. has_row reg.name content.rows) (λ reg. not (same_name reg.name name))
-    (λ reg there. apart reg (same_name reg.name name) refl there) content.regs each)
+no_regs_for name content none each = grind (arith, filter_all, list_all_weaker, apart)
   where
     apart : (reg : Registration) (named : Bool) → same_name reg.name name ≡ named
         → has_row reg.name content.rows ≡ true → not (same_name reg.name name) ≡ true
@@ -225,21 +150,7 @@ pub unplace-place : (caps : Caps) (content whole : Content) (item : CacheItem) (
     → IsContent caps content → IsContent caps whole → whole.rows ≡ content.rows ++ item ∷ others
     → content_without_last (content_with content item) ≡ content
 unplace-place caps content whole item others is all split =
-    let rows = content.rows in
-    let last : length (rows ++ item ∷ []) - 1 ≡ length rows = omega (arith, length-append rows (item ∷ [])) in
-    let apart : pairwise names_apart (rows ++ item ∷ others) ≡ true = rw split at all.directory.one_for_name in
-    ap (λ (n : ℕ). record {
-      rows = take n (rows ++ item ∷ []);
-      regs = regs_without_row (slice_get (rows ++ item ∷ []) n) content.regs;
-    }) last
-    ∙ ap (λ (row : Option CacheItem). record {
-      rows = take (length rows) (rows ++ item ∷ []);
-      regs = regs_without_row row content.regs;
-    }) (last_of rows item)
-    ∙ (λ i. record {
-      rows = take_at rows (item ∷ []) (length rows) refl i;
-      regs = no_regs_for item.name content (alone-next rows others item apart) is.row_each i;
-    })
+    grind (arith, length-append, last_of, take_at, no_regs_for, alone-next)
 
 -- ---- what the first rows make
 

@@ -8,11 +8,10 @@ pub use Rattle.std.proofs.lemmas.List.Sums.{sum_by-append, sum_by_push}
 pub use Rattle.std.proofs.lemmas.Map.Views.{any-filter_same}
 pub use Rattle.std.proofs.lemmas.Option.{slice_get_cases}
 pub use Rattle.std.specs.List.{list_all, list_any}
-pub use Rattle.std.specs.Option.{option_or}
 pub use Rattle.cache_dir.specs.declared.row.Holder.{Holder}
 pub use Rattle.cache_regs.proofs.NameLaws.{same_name-eq, same_name-refl, same_name-sym, name_before-trans, name_before-else}
 pub use Rattle.cache_regs.proofs.RegLaws.{registry-with, registry-filter}
-pub use Rattle.cache_regs.specs.Registrations.{is_of, is_replaced, stands_before, regs_with, regs_without, regs_without_name, ends_with_name, IsRegistry, is_at, is_for, registered_at, regs_for_others}
+pub use Rattle.cache_regs.specs.Registrations.{is_of, is_replaced, stands_before, regs_with, regs_without, regs_without_name, ends_with_name, IsRegistry, is_at, registered_at, regs_for_others}
 pub use Rattle.cache_regs.specs.declared.registrations.Registration.{Registration}
 pub use Rattle.cf_lists.proofs.FilterLaws.{list_all-filter, list_all_weaker, list_all_both, list_all-filter_same, length-filter-le, sum_by-filter-le, any_is_found, none-filter, all_found, find-filter, find_none, none_filtered, filter_all, list_any-map, none_from_all, filter-filter, list_all_always, all_from_none, found_passes}
 pub use Rattle.cf_lists.proofs.InsertionLaws.{list_all-insertion, find-insertion_past, find-insertion_here, list_any-insertion, length-insertion, sum_by-insertion}
@@ -24,7 +23,7 @@ pub use Rattle.cf_lists.specs.Insertions.{insertion}
 pub use Rattle.cf_lists.specs.Pairwise.{pairwise}
 pub use Rattle.cf_lists.specs.Prefixes.{shortest_prefix}
 pub use Rattle.cf_types.specs.Forms.{is_cache}
-pub use Rattle.cf_types.specs.Name.{same_name, name_before}
+pub use Rattle.cf_types.specs.Name.{same_name}
 pub use Rattle.cf_types.specs.declared.cache_commands.CacheCmd.{CacheCmd}
 pub use Rattle.cf_types.specs.declared.cache_commands.CacheCmd.TheVariants.{Read, Write, CrossInval, RegList, Castout, Unlock, CoClass, CoStats, DirInfo, Delete, StgStats}
 pub use Rattle.cf_types.specs.declared.cache_commands.CacheReply.{CacheReply}
@@ -33,7 +32,7 @@ pub use Rattle.cf_types.specs.declared.forms.Kind.{Kind}
 pub use Rattle.cf_types.specs.declared.names.Name16.{Name16}
 pub use Rattle.cf_types.specs.declared.numbers.ConnId.{ConnId}
 pub use Rattle.cf_types.specs.declared.refusals.Refusal.{Refusal}
-pub use Rattle.cf_types.specs.declared.refusals.Refusal.TheVariants.{IsChanged, NotChanged, DirectoryFull, NoElements, NotHeld}
+pub use Rattle.cf_types.specs.declared.refusals.Refusal.TheVariants.{IsChanged, NotChanged, DirectoryFull, NotHeld}
 pub use Rattle.engine_api.proofs.FrontLaws.{FrontLaws, fronts}
 pub use Rattle.engine_api.specs.Items.{Fits, IsNoMore, IsNoMoreOf}
 pub use Rattle.engine_api.specs.Meaning.{Outcome, first_refusal, unless_refused}

@@ -1,5 +1,5 @@
 -- Whatever is done to a content at whatever capacity, its rows and registrations stay in order.
-use Rattle.cache_model.proofs.Imports.{◌≡◌, ℕ, false, not, ◌&&◌, ◌||◌, List, Option, Some, None, is_none, refl, arith, Caps, Name16, ConnId, Refusal, CacheCmd, Read, Write, CrossInval, RegList, Castout, Unlock, CoClass, CoStats, DirInfo, Delete, StgStats, same_name, unless_refused, list_all-filter, all_found, Registration, regs_with, regs_without_name, ends_with_name, registry-with, registry-filter, is_row_of, row_of, has_row, row_or_new, is_sound, Content, IsContent, IsOrderly, content_without, content_forgotten, need_of, is_changed_row, cause, done, Deed, after_deed, Calls, Leaves, Forgets}
+use Rattle.cache_model.proofs.Imports.{◌≡◌, ℕ, false, not, ◌&&◌, ◌||◌, List, Option, Some, None, is_none, refl, arith, Caps, Name16, ConnId, Refusal, CacheCmd, Read, Write, CrossInval, RegList, Castout, Unlock, CoClass, CoStats, DirInfo, Delete, StgStats, same_name, unless_refused, list_all-filter, all_found, Registration, regs_with, regs_without_name, ends_with_name, registry-with, registry-filter, is_row_of, row_of, has_row, row_or_new, is_sound, Content, IsContent, IsOrderly, content_without, need_of, is_changed_row, cause, done, Deed, after_deed, Calls, Leaves, Forgets}
 use Rattle.cache_model.specs.Commands.Read as read
 use Rattle.cache_model.specs.Commands.Write as write
 use Rattle.cache_model.specs.Step.{victims}
@@ -8,14 +8,7 @@ use Rattle.cache_model.proofs.ContentLaws.{orderly_used, orderly-content, each_r
 
 -- a content in order is one at the capacity that it needs itself
 alone : (content : Content) → IsOrderly content → IsContent (need_of content.rows) content
-alone content is =
-    record {
-      directory = is.directory;
-      entries = omega arith;
-      elements = omega arith;
-      registry = is.registry;
-      row_each = is.row_each;
-    }
+alone content is = grind arith
 
 orderly_read : (content : Content) (names : List Name16) (by : ConnId) (name : Name16) (index stg : ℕ)
     → IsOrderly content → IsOrderly (read.after names content by name index stg)
@@ -45,9 +38,7 @@ orderly_write content names by name index body class adj stg unchanged is =
 same_done : (vector : ℕ) (content : Content) (by : ConnId) (cmd : CacheCmd) → IsOrderly content
     → cause vector (need_of content.rows) content by cmd ≡ None
     → IsOrderly (done (need_of content.rows) content by cmd).state
-same_done vector content by cmd is h =
-    orderly-content (need_of content.rows) _
-    (content-done vector (need_of content.rows) content by cmd (alone content is) h)
+same_done vector content by cmd is h = grind (arith, orderly-content, content-done, alone)
 
 -- commands but for READ and WRITE make no room, so that they do the same at every capacity
 orderly_done : (vector : ℕ) (caps : Caps) (content : Content) (by : ConnId) (cmd : CacheCmd) → IsOrderly content
@@ -81,6 +72,4 @@ orderly-deed vector caps content (Calls by cmd) is =
 orderly-deed vector caps content (Leaves conn) is =
     orderly-content (need_of content.rows) (content_without conn content)
     (content-without (need_of content.rows) content conn (alone content is))
-orderly-deed vector caps content Forgets is =
-    orderly-content (need_of content.rows) (content_forgotten content)
-    (content-forgotten (need_of content.rows) content (alone content is))
+orderly-deed vector caps content Forgets is = grind (arith, orderly-content, content-forgotten, alone)

@@ -1,5 +1,5 @@
 -- The rows that are reclaimed, and what room they leave.
-use Rattle.cache_model.proofs.Imports.{◌≡◌, ℕ, ◌+◌, Bool, true, false, not, ◌&&◌, cond, List, Some, None, is_some, length, filter, nat_le, refl, sym, ap, ◌∙◌, subst, list_all, and_parts, and_from, list_all-append, Caps, Name16, DirectoryFull, NoElements, same_name, pairwise, shortest_prefix, list_any-map, list_all-filter, list_all_weaker, list_all-filter_same, none_from_all, any_is_found, filter-filter, pairwise-filter, pairwise_split, list_all-shortest_prefix, pairwise-shortest_prefix, shortest_prefix-enough, AllFound, found_filter, found_append, found_prefix, sum_by_spared, length_spared, find-spared, apart_sym, same_name-eq, same_name-refl, CacheItem, Request, is_row_of, is_changed, has_storage, elements_in, row_of, has_row, names_apart, IsDirectory, is_among, rows_spared, is_reclaimable, reclaim_order, has_place, free_elements, has_room, victims, elements_refusal, room_refusal}
+use Rattle.cache_model.proofs.Imports.{arith, ◌≡◌, ℕ, ◌+◌, Bool, true, false, not, ◌&&◌, cond, List, Some, None, length, filter, nat_le, sym, ◌∙◌, subst, list_all, and_parts, and_from, list_all-append, Caps, Name16, DirectoryFull, same_name, pairwise, shortest_prefix, list_any-map, list_all-filter, list_all_weaker, list_all-filter_same, none_from_all, any_is_found, filter-filter, pairwise-filter, pairwise_split, list_all-shortest_prefix, pairwise-shortest_prefix, shortest_prefix-enough, AllFound, found_filter, found_append, found_prefix, sum_by_spared, length_spared, find-spared, apart_sym, same_name-eq, same_name-refl, CacheItem, Request, is_row_of, is_changed, has_storage, elements_in, row_of, has_row, names_apart, IsDirectory, is_among, rows_spared, is_reclaimable, reclaim_order, has_room, victims, elements_refusal, room_refusal}
 use Rattle.cache_model.proofs.RowLaws.{name_of, size}
 
 -- the rows that go
@@ -63,14 +63,8 @@ goes caps request rows is =
           (order_found request rows is);
       apart = pairwise-shortest_prefix names_apart (has_room caps request rows) (reclaim_order request rows)
           (order_apart request rows is);
-      other = list_all-shortest_prefix (λ row. not (is_row_of request.name row)) (has_room caps request rows)
-          (reclaim_order request rows)
-          (order_all (λ row. not (is_row_of request.name row)) request rows
-          (λ row h. (and_parts (not (is_changed row)) (not (is_row_of request.name row)) h).1));
-      unchanged = list_all-shortest_prefix (λ row. not (is_changed row)) (has_room caps request rows)
-          (reclaim_order request rows)
-          (order_all (λ row. not (is_changed row)) request rows
-          (λ row h. (and_parts (not (is_changed row)) (not (is_row_of request.name row)) h).0));
+      other = grind (arith, list_all-shortest_prefix, order_all, and_parts);
+      unchanged = grind (arith, list_all-shortest_prefix, order_all, and_parts);
     }
 
 -- the command's name isn't among them
@@ -102,27 +96,17 @@ row_of-spared name names rows h = find-spared name_of same_name same_name-eq sam
 
 pub has_row-spared : (name : Name16) (names : List Name16) (rows : List CacheItem) → is_among names name ≡ false
     → has_row name (rows_spared names rows) ≡ has_row name rows
-has_row-spared name names rows h =
-    any_is_found (is_row_of name) (rows_spared names rows) ∙ ap (λ o. is_some o) (row_of-spared name names rows h)
-    ∙ sym (any_is_found (is_row_of name) rows)
+has_row-spared name names rows h = grind (arith, any_is_found, row_of-spared)
 
 -- ---- room
 
 room_step : (place : Bool) (need free entries : ℕ) → cond place (elements_refusal need free)
     (Some (DirectoryFull entries)) ≡ None
     → place && nat_le need free ≡ true
-room_step true need free entries h = free_step (nat_le need free) h
-  where
-    free_step : (b : Bool) → cond b None (Some (NoElements need free)) ≡ None → b ≡ true
-    free_step true h = refl
-    free_step false h = absurd (cc)
+room_step true need free entries h = grind arith
 room_step false need free entries h = absurd (cc)
 
 -- where there is no want of room, the rows that go leave room
 pub room_left : (caps : Caps) (request : Request) (rows : List CacheItem) → room_refusal caps request rows ≡ None
     → has_room caps request rows (gone caps request rows) ≡ true
-room_left caps request rows h =
-    let all = reclaim_order request rows in
-    shortest_prefix-enough (has_room caps request rows) all
-    (room_step (has_place caps request rows all) request.elements (free_elements caps request rows all) caps.entries
-    h)
+room_left caps request rows h = grind (arith, shortest_prefix-enough, room_step)

@@ -1,5 +1,5 @@
 -- A directory stays one when a row takes the place of the row of its name.
-use Rattle.cache_model.proofs.Imports.{◌≡◌, ℕ, ◌+◌, ◌≤◌, Bool, true, false, not, ◌&&◌, ◌||◌, cond, List, [], ◌∷◌, ◌++◌, Option, Some, None, is_some, is_none, unwrap_or, length, length-append, filter, map, refl, sym, ap, ◌∙◌, subst, arith, list_all, and_parts, and_from, or_left, not-true, false≢true, list_all-append, list_any-append, list_all-map, fold-map, sum_by_push, any-filter_same, Name16, ConnId, same_name, name_before, pairwise, insertion, list_all-filter, list_all_weaker, list_all_always, list_all-filter_same, none_filtered, all_from_none, filter_all, all_found, found_passes, list_all-insertion, list_any-insertion, length-insertion, sum_by-insertion, FindsPlace, pairwise-filter, pairwise_push, pairwise-insertion, pairwise-insertion_any, pairwise-map, sum_by_without, length_without, same_name-eq, same_name-refl, same_name-sym, name_before-trans, name_before-else, CacheItem, is_row_of, is_changed, is_held_by, elements_of, elements_in, row_of, has_row, rows_without, rows_with, rows_replaced, new_row, row_or_new, may_precede, names_apart, is_sound, IsDirectory, without_hold}
+use Rattle.cache_model.proofs.Imports.{◌≡◌, ℕ, ◌+◌, ◌≤◌, Bool, true, false, not, ◌&&◌, ◌||◌, cond, List, [], ◌∷◌, ◌++◌, Option, Some, None, is_some, is_none, unwrap_or, length, length-append, filter, map, refl, sym, ap, ◌∙◌, subst, arith, list_all, and_parts, and_from, or_left, not-true, false≢true, list_all-append, list_any-append, list_all-map, fold-map, sum_by_push, any-filter_same, Name16, ConnId, same_name, pairwise, insertion, list_all-filter, list_all_weaker, list_all_always, list_all-filter_same, none_filtered, all_from_none, filter_all, all_found, found_passes, list_all-insertion, list_any-insertion, length-insertion, sum_by-insertion, FindsPlace, pairwise-filter, pairwise_push, pairwise-insertion, pairwise-insertion_any, pairwise-map, sum_by_without, length_without, same_name-eq, same_name-refl, same_name-sym, name_before-trans, name_before-else, CacheItem, is_row_of, is_changed, elements_of, elements_in, row_of, has_row, rows_without, rows_with, rows_replaced, new_row, row_or_new, may_precede, names_apart, is_sound, IsDirectory, without_hold}
 use Rattle.cache_model.specs.Rows.{stands_before}
 
 abbrev pub name_of : CacheItem → Name16
@@ -36,16 +36,7 @@ last_test false false n e = refl
 
 finds_place : (row : CacheItem) → is_changed row ≡ true
     → FindsPlace may_precede (stands_before row) (λ other. not (same_name other.name row.name)) row
-finds_place row c =
-    record {
-      front = λ other h. front_test (is_changed other) (is_changed row) (name_before other.name row.name) c h;
-      stop = λ other h e. stop_test (is_changed row) (is_changed other) (name_before other.name row.name)
-          (name_before row.name other.name) c e
-          (name_before-else other.name row.name (not-true (same_name other.name row.name) h));
-      follows = λ y z h e. follows_test (is_changed row) (is_changed y) (is_changed z) (name_before row.name y.name)
-          (name_before y.name z.name)
-          (name_before row.name z.name) c (name_before-trans row.name y.name z.name) h e;
-    }
+finds_place row c = grind (arith, front_test, stop_test, name_before-else, not-true, follows_test, name_before-trans)
 
 -- no row of the name is among the others
 others_apart : (name : Name16) (rows : List CacheItem) → list_all (λ other. not (same_name other.name name))
@@ -63,20 +54,14 @@ ordered_with : (b : Bool) (row : CacheItem) (rest : List CacheItem) → is_chang
 ordered_with true row rest e h o =
     pairwise-insertion may_precede (stands_before row) (λ other. not (same_name other.name row.name)) row rest
     (finds_place row e) h o
-ordered_with false row rest e h o =
-    pairwise_push may_precede rest row o
-    (list_all_always (λ other. may_precede other row) (λ other. last_test (is_changed row) (is_changed other)
-    (name_before other.name row.name) e) rest)
+ordered_with false row rest e h o = grind (arith, pairwise_push, list_all_always, last_test)
 
 apart_with : (b : Bool) (row : CacheItem) (rest : List CacheItem)
     → list_all (λ other. names_apart row other && names_apart other row) rest ≡ true → pairwise names_apart rest ≡
     true
     → pairwise names_apart (cond b (insertion (stands_before row) row rest) (rest ++ row ∷ [])) ≡ true
 apart_with true row rest h o = pairwise-insertion_any names_apart (stands_before row) row rest o h
-apart_with false row rest h o =
-    pairwise_push names_apart rest row o
-    (list_all_weaker (λ other. names_apart row other && names_apart other row) (λ other. names_apart other row)
-    (λ other k. (and_parts (names_apart row other) (names_apart other row) k).1) rest h)
+apart_with false row rest h o = grind (arith, pairwise_push, list_all_weaker, and_parts)
 
 all_with : (p : CacheItem → Bool) (b : Bool) (row : CacheItem) (rest : List CacheItem) → p row ≡ true
     → list_all p rest ≡ true
@@ -87,12 +72,7 @@ all_with p false row rest e h =
     list_all-append p rest (row ∷ []) ∙ and_from (list_all p rest) (p row && true) h (and_from (p row) true e refl)
 
 pub directory-filter : (q : CacheItem → Bool) (rows : List CacheItem) → IsDirectory rows → IsDirectory (filter q rows)
-directory-filter q rows is =
-    record {
-      ordered = pairwise-filter may_precede q rows is.ordered;
-      one_for_name = pairwise-filter names_apart q rows is.one_for_name;
-      sound = list_all-filter is_sound q rows is.sound;
-    }
+directory-filter q rows is = grind (arith, pairwise-filter, list_all-filter)
 
 pub directory-replaced : (row : CacheItem) (rows : List CacheItem) → IsDirectory rows → is_sound row ≡ true
     → IsDirectory (rows_replaced row rows)
@@ -102,10 +82,7 @@ directory-replaced row rows is sound =
     let apart = others_apart row.name rows in
     record {
       ordered = ordered_with (is_changed row) row rest refl apart others.ordered;
-      one_for_name = apart_with (is_changed row) row rest
-          (list_all_weaker (λ other. not (same_name other.name row.name)) (λ other. names_apart row other
-          && names_apart other row) (both_ways row) rest apart)
-          others.one_for_name;
+      one_for_name = grind (arith, apart_with, list_all_weaker, both_ways);
       sound = all_with is_sound (is_changed row) row rest sound others.sound;
     }
 
@@ -152,14 +129,7 @@ has_with : (b : Bool) (name : Name16) (row : CacheItem) (rest : List CacheItem)
     → has_row name (cond b (insertion (stands_before row) row rest) (rest ++ row ∷ [])) ≡ same_name row.name name
     || has_row name rest
 has_with true name row rest = list_any-insertion (is_row_of name) (stands_before row) row rest
-has_with false name row rest = list_any-append (is_row_of name) rest (row ∷ []) ∙ swap (has_row name rest)
-    (same_name row.name name)
-  where
-    swap : (a b : Bool) → a || (b || false) ≡ b || a
-    swap true true = refl
-    swap true false = refl
-    swap false true = refl
-    swap false false = refl
+has_with false name row rest = grind (arith, list_any-append)
 
 pub has_row-replaced : (name : Name16) (row : CacheItem) (rows : List CacheItem)
     → has_row name (rows_replaced row rows) ≡ same_name row.name name || has_row name (rows_without row.name rows)
@@ -181,9 +151,7 @@ has_row_stays name row rows h = has_row-replaced name row rows ∙ go (same_name
     go false e = any-filter_same (is_row_of name) (λ other. not (is_row_of row.name other)) true (kept e) rows ∙ h
 
 pub has_row_here : (row : CacheItem) (rows : List CacheItem) → has_row row.name (rows_replaced row rows) ≡ true
-has_row_here row rows =
-    has_row-replaced row.name row rows ∙ or_left (same_name row.name row.name)
-    (has_row row.name (rows_without row.name rows)) (same_name-refl row.name)
+has_row_here row rows = grind (arith, has_row-replaced, or_left, same_name-refl)
 
 -- ---- the row of a name, or a new one
 
@@ -193,9 +161,7 @@ or_new_name name stg None h = refl
 or_new_name name stg (Some row) h = h row refl
 
 pub name-row_or_new : (name : Name16) (stg : ℕ) (rows : List CacheItem) → (row_or_new name stg rows).name ≡ name
-name-row_or_new name stg rows =
-    or_new_name name stg (row_of name rows) (λ row h. same_name-eq row.name name
-    (found_passes (is_row_of name) rows row h))
+name-row_or_new name stg rows = grind (arith, or_new_name, same_name-eq, found_passes)
 
 or_new_sound : (name : Name16) (stg : ℕ) (o : Option CacheItem) → ((row : CacheItem) → o ≡ Some row
     → is_sound row ≡ true)
@@ -219,22 +185,12 @@ or_new_size name stg rest all (Some row) le h = omega (arith, h row refl)
 hold_sound : (conn : ConnId) (row : CacheItem) (b : Bool) (c : Bool) → (is_none row.holder || c)
     && (not c || is_some row.body) ≡ true
     → (is_none (cond b None row.holder) || c) && (not c || is_some row.body) ≡ true
-hold_sound conn row true c h = right (is_none row.holder || c) (not c || is_some row.body) h
-  where
-    right : (x y : Bool) → x && y ≡ true → y ≡ true
-    right x y h = (and_parts x y h).1
+hold_sound conn row true c h = grind (arith, and_parts)
 hold_sound conn row false c h = h
 
 pub directory-without_hold : (conn : ConnId) (rows : List CacheItem) → IsDirectory rows
     → IsDirectory (map (without_hold conn) rows)
-directory-without_hold conn rows is =
-    record {
-      ordered = pairwise-map may_precede (without_hold conn) (λ x y. refl) rows ∙ is.ordered;
-      one_for_name = pairwise-map names_apart (without_hold conn) (λ x y. refl) rows ∙ is.one_for_name;
-      sound = list_all-map is_sound (without_hold conn) rows
-          ∙ list_all_weaker is_sound (λ row. is_sound (without_hold conn row))
-          (λ row h. hold_sound conn row (is_held_by conn row.holder) (is_changed row) h) rows is.sound;
-    }
+directory-without_hold conn rows is = grind (arith, pairwise-map, list_all-map, list_all_weaker, hold_sound)
 
 pub has_row-without_hold : (conn : ConnId) (name : Name16) (rows : List CacheItem)
     → has_row name (map (without_hold conn) rows) ≡ has_row name rows

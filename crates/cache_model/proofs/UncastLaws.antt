@@ -1,6 +1,6 @@
 -- A row that was written as changed stays, changed and with the data that were written, until it is cast out or
 -- deleted.
-use Rattle.cache_model.proofs.Imports.{◌≡◌, ℕ, Bool, true, false, not, ◌&&◌, ◌||◌, cond, List, [], ◌∷◌, Option, Some, None, is_some, is_none, unwrap_or, option_map, map, refl, sym, ap, ◌∙◌, subst, list_any, list_all, and_parts, not-true, false≢true, Caps, Name16, ConnId, Refusal, NotHeld, CacheCmd, Read, Write, CrossInval, RegList, Castout, Unlock, CoClass, CoStats, DirInfo, Delete, StgStats, same_name, unless_refused, first_refusal, list_any-map, same_name-eq, CacheItem, Holder, Request, is_row_of, is_changed, is_held_by, row_of, rows_without, rows_replaced, new_row, row_or_new, IsDirectory, Content, IsContent, no_content, without_hold, is_among, rows_spared, victims, entry_refusal, not_held_refusal, is_changed_row, cause, done, after, Deed, after_deed, after_run, Calls, Leaves, Forgets, Uncast, Uncasts, uncast_with, uncast_written, uncast_cast, uncast_unlocked, uncast_done, uncast_unless, uncast_after, uncast_run, is_settled, HasWritten, Kept}
+use Rattle.cache_model.proofs.Imports.{arith, ◌≡◌, ℕ, Bool, true, false, not, ◌&&◌, ◌||◌, cond, List, [], ◌∷◌, Option, Some, None, is_some, is_none, unwrap_or, option_map, map, refl, sym, ap, ◌∙◌, subst, list_any, list_all, and_parts, not-true, false≢true, Caps, Name16, ConnId, Refusal, NotHeld, CacheCmd, Read, Write, CrossInval, RegList, Castout, Unlock, CoClass, CoStats, DirInfo, Delete, StgStats, same_name, unless_refused, first_refusal, list_any-map, same_name-eq, CacheItem, Holder, Request, is_row_of, is_changed, is_held_by, row_of, rows_without, rows_replaced, new_row, row_or_new, IsDirectory, Content, IsContent, no_content, without_hold, is_among, rows_spared, victims, entry_refusal, not_held_refusal, is_changed_row, cause, done, after, Deed, after_deed, after_run, Calls, Leaves, Forgets, Uncast, Uncasts, uncast_with, uncast_written, uncast_cast, uncast_unlocked, uncast_done, uncast_unless, uncast_after, uncast_run, is_settled, HasWritten, Kept}
 use Rattle.cache_model.specs.Commands.Read as read
 use Rattle.cache_model.specs.Commands.Write as write
 use Rattle.cache_model.specs.Commands.Castout as castout
@@ -124,12 +124,7 @@ castout_kept : (by : ConnId) (name : Name16) (o : Option CacheItem) (p : Option 
     → Kept (Some (castout.row_with_hold by (unwrap_or o (new_row name 1)))) (uncast_cast p)
 castout_kept by name o None kept = tt
 castout_kept by name None (Some uncast) kept = absurd kept
-castout_kept by name (Some row) (Some uncast) kept = record {
-  body = kept.body;
-  adj = kept.adj;
-  class = kept.class;
-  settled = refl;
-}
+castout_kept by name (Some row) (Some uncast) kept = grind arith
 
 unless_held : (b : Bool) → cond b None (Some NotHeld) ≡ None → b ≡ true
 unless_held true h = refl
@@ -141,29 +136,14 @@ unlocked_step : (row : CacheItem) (uncast : Uncast) (holder : Option Holder) (by
     (cond cast None (Some uncast))
 unlocked_step row uncast holder by true e c held has = tt
 unlocked_step row uncast None by false e c held has = absurd (false≢true held)
-unlocked_step row uncast (Some holder) by false e c held has =
-    let again : holder.rewritten ≡ true = both uncast.cast row.holder c e has.settled in
-    let is : unlock.is_rewritten row.holder ≡ true = ap unlock.is_rewritten e ∙ again in
-    record { body = has.body; adj = has.adj; class = rw is has.class; settled = right uncast.cast }
-  where
-    both : (cast : Bool) (o : Option Holder) → cast ≡ false → o ≡ Some holder → cast || is_settled o ≡ true
-        → holder.rewritten ≡ true
-    both true o c e h = absurd (false≢true (sym c))
-    both false o c e h = sym (ap is_settled e) ∙ h
-
-    right : (b : Bool) → b || true ≡ true
-    right true = refl
-    right false = refl
+unlocked_step row uncast (Some holder) by false e c held has = grind (arith, false≢true)
 
 unlock_kept : (by : ConnId) (name : Name16) (o : Option CacheItem) (p : Option Uncast)
     → first_refusal (entry_refusal o ∷ not_held_refusal by o ∷ []) ≡ None → Kept o p
     → Kept (Some (unlock.row_without_hold (unwrap_or o (new_row name 1)))) (uncast_unlocked p)
 unlock_kept by name o None h kept = tt
 unlock_kept by name None (Some uncast) h kept = absurd kept
-unlock_kept by name (Some row) (Some uncast) h kept =
-    let none = none_hold (entry_refusal (Some row) ∷ not_held_refusal by (Some row) ∷ []) h in
-    unlocked_step row uncast row.holder by uncast.cast refl refl (unless_held (is_held_by by row.holder) none.1.0)
-    kept
+unlock_kept by name (Some row) (Some uncast) h kept = grind (arith, none_hold, unlocked_step, unless_held)
 
 delete_step : (n name : Name16) (rows : List CacheItem) (old : Option Uncast) (s : Bool) → same_name name n ≡ s
     → Kept (row_of n rows) old
@@ -176,19 +156,7 @@ released_kept : (conn : ConnId) (o : Option CacheItem) (p : Option Uncast) → K
     → Kept (option_map (without_hold conn) o) p
 released_kept conn o None kept = tt
 released_kept conn None (Some uncast) kept = absurd kept
-released_kept conn (Some row) (Some uncast) kept =
-    record {
-      body = kept.body;
-      adj = kept.adj;
-      class = kept.class;
-      settled = free (is_held_by conn row.holder)
-          uncast.cast kept.settled;
-    }
-  where
-    free : (b cast : Bool) → cast || is_settled row.holder ≡ true → cast || is_settled (cond b None row.holder) ≡ true
-    free true true h = refl
-    free true false h = refl
-    free false cast h = h
+released_kept conn (Some row) (Some uncast) kept = grind arith
 
 row_of-released_step : (conn : ConnId) (row : CacheItem) (b : Bool) (x y : Option CacheItem)
     → x ≡ option_map (without_hold conn) y
@@ -199,9 +167,7 @@ row_of-released_step conn row false x y e = e
 row_of-released : (conn : ConnId) (n : Name16) (rows : List CacheItem) → row_of n (map (without_hold conn) rows) ≡
     option_map (without_hold conn) (row_of n rows)
 row_of-released conn n [] = refl
-row_of-released conn n (row ∷ rows) =
-    row_of-released_step conn row (same_name row.name n) (row_of n (map (without_hold conn) rows)) (row_of n rows)
-    (row_of-released conn n rows)
+row_of-released conn n (row ∷ rows) = grind (arith, row_of-released_step, row_of-released conn n rows)
 
 after_kept : (vector : ℕ) (caps : Caps) (content : Content) (uncast : Uncasts) (by : ConnId) (cmd : CacheCmd)
     → IsDirectory content.rows
@@ -257,9 +223,7 @@ pub deed-kept : (vector : ℕ) (caps : Caps) (content : Content) (uncast : Uncas
 deed-kept vector caps content uncast (Calls by cmd) is all =
     unless_kept caps content uncast by cmd (cause vector caps content by cmd)
     (λ h. after_kept vector caps content uncast by cmd is h all) all
-deed-kept vector caps content uncast (Leaves conn) is all =
-    λ n. subst (λ (o : Option CacheItem). Kept o (uncast n)) (sym (row_of-released conn n content.rows))
-    (released_kept conn (row_of n content.rows) (uncast n) (all n))
+deed-kept vector caps content uncast (Leaves conn) is all = grind (arith, row_of-released, released_kept)
 deed-kept vector caps content uncast Forgets is all = all
 
 run_kept : (vector : ℕ) (caps : Caps) (content : Content) (uncast : Uncasts) (deeds : List Deed)

@@ -1,5 +1,5 @@
 -- Names as keys.
-use Rattle.cache_reclaim.proofs.Imports.{◌≡◌, ℕ, Bool, true, false, List, refl, sym, ap, ◌≢◌, bytes_decides, Name16, same_name}
+use Rattle.cache_reclaim.proofs.Imports.{arith, ◌≡◌, ℕ, Bool, true, false, List, refl, sym, ap, ◌≢◌, bytes_decides, Name16, same_name}
 
 pub same_name-eq : (a b : Name16) → same_name a b ≡ true → a ≡ b
 same_name-eq a b h =
@@ -15,13 +15,7 @@ implied false true f g = g refl
 implied false false f g = refl
 
 pub same_name-sym : (a b : Name16) → same_name a b ≡ same_name b a
-same_name-sym a b =
-    implied (same_name a b) (same_name b a) (λ h. same_name-from b a (sym (same_name-eq a b h)))
-    (λ h. same_name-from a b (sym (same_name-eq b a h)))
+same_name-sym a b = grind (arith, implied, same_name-from, same_name-eq)
 
 pub same_name-ne : (a b : Name16) → a ≢ b → same_name a b ≡ false
-same_name-ne a b ne = go (same_name a b) refl
-  where
-    go : (t : Bool) → same_name a b ≡ t → same_name a b ≡ false
-    go true h = absurd (ne (same_name-eq a b h))
-    go false h = h
+same_name-ne a b ne = grind (arith, same_name-eq)

@@ -37,12 +37,7 @@ shorter k (e ∷ es) h = go (nat_eq k e.0) h (λ some. shorter k es some)
 
 free_removed : (k : ℕ) (es : List (ℕ × Option Used)) → IsFree es → IsFree (remove_entry (nat_eq k) es)
 free_removed k [] h = h
-free_removed k (e ∷ es) h = go (nat_eq k e.0) h (free_removed k es h.1)
-  where
-    go : (b : Bool) → (e.1 ≡ None) × IsFree es → IsFree (remove_entry (nat_eq k) es)
-        → IsFree (cond b es (e ∷ remove_entry (nat_eq k) es))
-    go true f ih = f.1
-    go false f ih = (f.0, ih)
+free_removed k (e ∷ es) h = grind (arith, free_removed k es h.1)
 
 free_ends : (xs : List (ℕ × Option Used)) → IsFree xs → EndsFree xs
 free_ends [] f = tt
@@ -88,13 +83,7 @@ removed_reads es k q u = lookup-remove_entry nat_eq_equiv (nat_eq k) (one_key k)
 
 pub reads_front : (es : List (ℕ × Option Used)) (k : ℕ) (w : Option Used) → IsDistinct nat_eq (keys_of es)
     → Reads es k w ((k, w) ∷ remove_entry (nat_eq k) es)
-reads_front es k w u q =
-    ap (λ b. cond b (Some w) (lookup (nat_eq q) (remove_entry (nat_eq k) es))) (nat_eq_equiv.symm q k)
-    ∙ ap (cond (nat_eq k q) (Some w)) (removed_reads es k q u) ∙ twice (nat_eq k q)
-  where
-    twice : (b : Bool) → cond b (Some w) (cond b None (lookup (nat_eq q) es)) ≡ cond b (Some w) (lookup (nat_eq q) es)
-    twice true = refl
-    twice false = refl
+reads_front es k w u q = grind (arith, removed_reads)
 
 or_last : Option (Option Used) → Option (Option Used) → Option (Option Used)
 or_last None o = o
@@ -104,28 +93,12 @@ push_reads : (xs : List (ℕ × Option Used)) (k q : ℕ) (w : Option Used)
     → lookup (nat_eq q) (xs ++ (k, w) ∷ []) ≡ or_last (lookup (nat_eq q) xs) (cond (nat_eq q k) (Some w) None)
 unfolding or_last
 push_reads [] k q w = refl
-push_reads (x ∷ xs) k q w = go (nat_eq q x.0) (push_reads xs k q w)
-  where
-    go : (b : Bool) → lookup (nat_eq q) (xs ++ (k, w) ∷ [])
-        ≡ or_last (lookup (nat_eq q) xs) (cond (nat_eq q k) (Some w) None)
-        → cond b (Some x.1) (lookup (nat_eq q) (xs ++ (k, w) ∷ []))
-        ≡ or_last (cond b (Some x.1) (lookup (nat_eq q) xs)) (cond (nat_eq q k) (Some w) None)
-    go true ih = refl
-    go false ih = ih
+push_reads (x ∷ xs) k q w = grind (arith, or_last, push_reads xs k q w)
 
 pub reads_back : (es : List (ℕ × Option Used)) (k : ℕ) (w : Option Used) → IsDistinct nat_eq (keys_of es)
     → Reads es k w (remove_entry (nat_eq k) es ++ (k, w) ∷ [])
 unfolding or_last
-reads_back es k w u q =
-    push_reads (remove_entry (nat_eq k) es) k q w
-    ∙ ap (λ o. or_last o (cond (nat_eq q k) (Some w) None)) (removed_reads es k q u)
-    ∙ ap (λ b. or_last (cond (nat_eq k q) None (lookup (nat_eq q) es)) (cond b (Some w) None)) (nat_eq_equiv.symm q k)
-    ∙ joined (nat_eq k q) (lookup (nat_eq q) es)
-  where
-    joined : (b : Bool) (o : Option (Option Used)) → or_last (cond b None o) (cond b (Some w) None) ≡ cond b (Some w) o
-    joined true o = refl
-    joined false None = refl
-    joined false (Some v) = refl
+reads_back es k w u q = grind (arith, push_reads, or_last, removed_reads)
 
 -- ---- names and slots
 
@@ -137,15 +110,7 @@ same_bool false false f g = refl
 module _ (es : List (ℕ × Option Used)) (ns : List (List ℕ × ℕ)) (cap : ℕ) (tied : IsTied es ns cap) (name : Name16)
     (k : ℕ) where
   pub slot_named : lookup (by_name name) ns ≡ Some k → IsSlotOf es name k
-  slot_named there j u h =
-      same_bool (same_name u.name name) (nat_eq k j)
-      (λ e. (let one : Some k ≡ Some j = sym there
-      ∙ ap (λ n. lookup (by_name n) ns) (sym (same_name-eq u.name name e)) ∙ tied.named j u h in
-      eq-eqb k j (cc)))
-      (λ e. (let found = tied.slotted name k there in
-      let one : Some (Some (let v : Used = record { name = name; stg = found.0 } in v)) ≡ Some (Some u) = sym found.1
-      ∙ ap (λ n. lookup (nat_eq n) es) (eqb-true k j e) ∙ h in
-      let same : name ≡ u.name = cc in same_name-from u.name name (sym same)))
+  slot_named there j u h = grind (arith, same_bool, same_name-eq, eq-eqb, eqb-true, same_name-from)
 
   pub slot_there : lookup (by_name name) ns ≡ Some k → IsSome (lookup (nat_eq k) es)
   slot_there there = ap is_some (tied.slotted name k there).1
@@ -172,9 +137,7 @@ module _ (es : List (ℕ × Option Used)) (ns : List (List ℕ × ℕ)) (cap : �
             → cond (same_name name u.name) (Some k) (lookup (by_name u.name) ns) ≡ Some j
         named_now true j u e h =
             let same : name ≡ u.name = cc in rw (same_name-from name u.name same) (ap Some (eqb-true k j e))
-        named_now false j u e h =
-            let other : same_name name u.name ≡ false = same_name-sym name u.name ∙ of j u h ∙ e in
-            rw other (tied.named j u h)
+        named_now false j u e h = grind (arith, same_name-sym)
 
         slotted_now : (b : Bool) (n : Name16) (j : ℕ) → same_name name n ≡ b
             → Reads es k (Some (record { name = name; stg = stg })) fs
@@ -210,9 +173,7 @@ module _ (es : List (ℕ × Option Used)) (ns : List (List ℕ × ℕ)) (cap : �
             → cond b (Some None) (lookup (nat_eq j) es) ≡ Some (Some u)
             → cond (same_name name u.name) None (lookup (by_name u.name) ns) ≡ Some j
         named_now true j u e h = absurd (cc)
-        named_now false j u e h =
-            let other : same_name name u.name ≡ false = same_name-sym name u.name ∙ of j u h ∙ e in
-            rw other (tied.named j u h)
+        named_now false j u e h = grind (arith, same_name-sym)
 
         slotted_now : (b : Bool) (n : Name16) (j : ℕ) → same_name name n ≡ b → Reads es k None fs
             → cond b None (lookup (by_name n) ns) ≡ Some j
@@ -265,35 +226,19 @@ no_name : (name : Name16) (es : List (ℕ × Option Used)) → Tells name (λ j.
     → has_name name (used_in es) ≡ false
 unfolding tells Tells
 no_name name [] t = refl
-no_name name (e ∷ es) t = go e.1 t.0 (no_name name es t.1)
-  where
-    go : (w : Option Used) → tells name (λ j. false) e.0 w → has_name name (used_in es) ≡ false
-        → has_name name (cons_option w (used_in es)) ≡ false
-    go None t ih = ih
-    go (Some u) t ih = rw t ih
+no_name name (e ∷ es) t = grind (arith, tells, no_name name es t.1)
 
 kept_all : (name : Name16) (k : ℕ) (es : List (ℕ × Option Used)) → NonePasses (nat_eq k) es → Tells name (nat_eq k) es
     → order_without name (used_in es) ≡ used_in es
 unfolding tells Tells
 kept_all name k [] none t = refl
-kept_all name k (e ∷ es) none t = go e.1 t.0 none.0 (kept_all name k es none.1 t.1)
-  where
-    go : (w : Option Used) → tells name (nat_eq k) e.0 w → nat_eq k e.0 ≡ false
-        → order_without name (used_in es) ≡ used_in es
-        → order_without name (cons_option w (used_in es)) ≡ cons_option w (used_in es)
-    go None t n ih = ih
-    go (Some u) t n ih = rw (t ∙ n) (ap (λ l. u ∷ l) ih)
+kept_all name k (e ∷ es) none t = grind (arith, tells, kept_all name k es none.1 t.1)
 
 keeps : (name : Name16) (es : List (ℕ × Option Used)) → Tells name (λ j. false) es
     → order_without name (used_in es) ≡ used_in es
 unfolding tells Tells
 keeps name [] t = refl
-keeps name (e ∷ es) t = go e.1 t.0 (keeps name es t.1)
-  where
-    go : (w : Option Used) → tells name (λ j. false) e.0 w → order_without name (used_in es) ≡ used_in es
-        → order_without name (cons_option w (used_in es)) ≡ cons_option w (used_in es)
-    go None t ih = ih
-    go (Some u) t ih = rw t (ap (λ l. u ∷ l) ih)
+keeps name (e ∷ es) t = grind (arith, tells, keeps name es t.1)
 
 used_removed : (name : Name16) (k : ℕ) (es : List (ℕ × Option Used)) → IsDistinct nat_eq (keys_of es)
     → Tells name (nat_eq k) es
@@ -340,10 +285,7 @@ module _ (es : List (ℕ × Option Used)) (ns : List (List ℕ × ℕ)) (cap : �
     (k : ℕ) (of : IsSlotOf es name k)
     (fs : List (ℕ × Option Used)) where
   rest_order : used_in (reverse (remove_entry (nat_eq k) es)) ≡ order_without name (used_in (reverse es))
-  rest_order =
-      used_back (remove_entry (nat_eq k) es)
-      ∙ ap reverse (used_removed name k es tied.unique (tells_all name (nat_eq k) es tied.unique of))
-      ∙ sym (without_back name (used_in es)) ∙ ap (order_without name) (sym (used_back es))
+  rest_order = grind (arith, used_back, used_removed, tells_all, without_back)
 
   pub touched_order : (stg : ℕ) → fs ≡ (k, Some (record { name = name; stg = stg })) ∷ remove_entry (nat_eq k) es
       → used_in (reverse fs) ≡ order_touched name stg (used_in (reverse es))
@@ -357,9 +299,7 @@ module _ (es : List (ℕ × Option Used)) (ns : List (List ℕ × ℕ)) (cap : �
 
   pub removed_order : fs ≡ remove_entry (nat_eq k) es ++ (k, None) ∷ []
       → used_in (reverse fs) ≡ order_without name (used_in (reverse es))
-  removed_order is =
-      ap (λ l. used_in (reverse l)) is ∙ ap used_in (reverse-append (remove_entry (nat_eq k) es) ((k, None) ∷ []))
-      ∙ rest_order
+  removed_order is = grind (arith, reverse-append, rest_order)
 
 -- ---- a free slot
 
@@ -367,16 +307,11 @@ last_one : (e : ℕ × Option Used) → last_entry (e ∷ []) ≡ Some e
 last_one e = let zero_at : length (e ∷ []) - 1 ≡ 0 = omega arith in ap (slice_get (e ∷ [])) zero_at
 
 last_later : (e x : ℕ × Option Used) (xs : List (ℕ × Option Used)) → last_entry (e ∷ x ∷ xs) ≡ last_entry (x ∷ xs)
-last_later e x xs =
-    let here : length (e ∷ x ∷ xs) - 1 ≡ suc (length xs) = omega arith in
-    let there : length xs ≡ length (x ∷ xs) - 1 = omega arith in
-    ap (slice_get (e ∷ x ∷ xs)) here ∙ ap (slice_get (x ∷ xs)) there
+last_later e x xs = grind arith
 
 all_free : (es : List (ℕ × Option Used)) (k : ℕ) (w : Option Used) → IsFree es → last_entry es ≡ Some (k, w) → w ≡ None
 all_free [] k w free h = absurd (cc)
-all_free (e ∷ []) k w free h =
-    let same : Some e ≡ Some (k, w) = sym (last_one e) ∙ h in
-    let value : e ≡ (k, w) = cc in sym (ap (λ x. x.1) value) ∙ free.0
+all_free (e ∷ []) k w free h = grind (arith, last_one)
 all_free (e ∷ x ∷ xs) k w free h = all_free (x ∷ xs) k w free.1 (sym (last_later e x xs) ∙ h)
 
 pub last_free : (es : List (ℕ × Option Used)) (k : ℕ) (w : Option Used) → EndsFree es → length (used_in es) < length es
@@ -393,9 +328,7 @@ last_free (e ∷ es) k w free h l = go e.1 refl free h (λ f g m. last_free es k
         → length (cons_option o (used_in es)) < suc (length es)
         → (EndsFree es → length (used_in es) < length es → last_entry es ≡ Some (k, w) → w ≡ None) → w ≡ None
     go None o f g ih = all_free (e ∷ es) k w (o, f) l
-    go (Some v) o f g ih =
-        let whole : last_entry ((e.0, Some v) ∷ es) ≡ Some (k, w) = ap (λ x. last_entry ((e.0, x) ∷ es)) (sym o) ∙ l in
-        ih f (omega arith) (later v es g whole)
+    go (Some v) o f g ih = grind (arith, later)
 
 pub free_found : (es : List (ℕ × Option Used)) (k : ℕ) (w : Option Used) → IsDistinct nat_eq (keys_of es) → EndsFree es
     → length (used_in es) < length es → last_entry es ≡ Some (k, w) → lookup (nat_eq k) es ≡ Some None
@@ -432,13 +365,7 @@ place_for es ns cap name tied place none =
 pub none_order : (es : List (ℕ × Option Used)) (ns : List (List ℕ × ℕ)) (cap : ℕ) (name : Name16) → IsTied es ns cap
     → lookup (by_name name) ns ≡ None
     → used_in (reverse es) ≡ order_without name (used_in (reverse es))
-none_order es ns cap name tied none =
-    let told = tells_all name (λ j. false) es tied.unique
-    (λ j u h. same_name-ne u.name name
-    (λ e. absurd (let one : None ≡ Some j = sym none ∙ ap (λ n. lookup (by_name n) ns) (sym e)
-    ∙ tied.named j u h in cc))) in
-    used_back es ∙ ap reverse (sym (keeps name es told)) ∙ sym (without_back name (used_in es))
-    ∙ ap (order_without name) (sym (used_back es))
+none_order es ns cap name tied none = grind (arith, tells_all, same_name-ne, used_back, keeps, without_back)
 
 pub put_written : (r : Result (Option (Option Used)) (AllocFailed (ℕ × Option Used))) (es : List (ℕ × Option Used))
     (cap k : ℕ) (w : Option Used) (fs : LruCache ℕ (Option Used))
@@ -474,14 +401,7 @@ put_missing es most k w none lt = rw (no_entry es none) (ap (λ l. (k, w) ∷ l)
 pub free_tied : (es : List (ℕ × Option Used)) (ns : List (List ℕ × ℕ)) (cap : ℕ) → IsFree es → length es ≡ cap
     → IsDistinct nat_eq (keys_of es)
     → ns ≡ [] → IsTied es ns cap
-free_tied es ns cap free full u none =
-    record {
-      full = full;
-      unique = u;
-      free_last = free_ends es free;
-      named = λ k v h. absurd (never k v es free h);
-      slotted = λ n k h. absurd (let one : None ≡ Some k = sym (ap (lookup (by_name n)) none) ∙ h in cc);
-    }
+free_tied es ns cap free full u none = grind (arith, free_ends, never)
   where
     never : (k : ℕ) (v : Used) (xs : List (ℕ × Option Used)) → IsFree xs → lookup (nat_eq k) xs ≡ Some (Some v) → ⊥
     never k v [] f h = absurd (cc)
@@ -499,20 +419,7 @@ free_order es free = used_back es ∙ ap reverse (nothing es free)
 pub used_part : (stg : ℕ) (own : Bool) (es : List (ℕ × Option Used))
     → filter_map (λ (e : ℕ × Option Used). part_of stg own e.1) es ≡ filter (is_in_part stg own) (used_in es)
 used_part stg own [] = refl
-used_part stg own (e ∷ es) = go e.1 (used_part stg own es)
-  where
-    one : (b : Bool) (u : Used) (rest : List Used) → cons_option (cond b (Some u) None) rest ≡ cond b (u ∷ rest) rest
-    one true u rest = refl
-    one false u rest = refl
-
-    go : (w : Option Used)
-        → filter_map (λ (e : ℕ × Option Used). part_of stg own e.1) es ≡ filter (is_in_part stg own) (used_in es)
-        → cons_option (part_of stg own w) (filter_map (λ (e : ℕ × Option Used). part_of stg own e.1) es)
-        ≡ filter (is_in_part stg own) (cons_option w (used_in es))
-    go None ih = ih
-    go (Some u) ih =
-        ap (cons_option (part_of stg own (Some u))) ih
-        ∙ one (is_in_part stg own u) u (filter (is_in_part stg own) (used_in es))
+used_part stg own (e ∷ es) = grind (arith, used_part stg own es)
 
 -- ---- a copy, from the back
 
@@ -537,9 +444,7 @@ copy_missing left rest done whole e taken seam u =
 
 pub copy_place : (left rest done whole : List (ℕ × Option Used)) (e : ℕ × Option Used) (most : ℕ)
     → left ≡ rest ++ e ∷ [] → left ++ done ≡ whole → length whole ≡ most → length done < most
-copy_place left rest done whole e most taken seam full =
-    let long = ap length (seam_moved left rest done (e ∷ done) whole e taken refl seam) in
-    omega (arith, long, length-append rest (e ∷ done), full)
+copy_place left rest done whole e most taken seam full = grind (arith, seam_moved, length-append)
 
 pub copy_whole : (left done whole : List (ℕ × Option Used)) → left ≡ [] → left ++ done ≡ whole → done ≡ whole
 copy_whole left done whole none seam = ap (λ l. l ++ done) (sym none) ∙ seam

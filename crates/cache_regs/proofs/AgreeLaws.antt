@@ -1,5 +1,5 @@
 -- Two maps that agree, with one registration less or more.
-use Rattle.cache_regs.proofs.Imports.{◌≡◌, ℕ, Bool, true, false, not, ◌&&◌, cond, List, [], ◌∷◌, Option, Some, None, is_some, option_map, IfSome, find, refl, sym, ap, ◌∙◌, subst, list_any, list_all, IsDistinct, keys_of, lookup, and_parts, false≢true, Name16, ConnId, insertion, pairwise, find-insertion_past, find-insertion_here, all_from_none, all_found, any_is_found, found_passes, pairwise-insertion, Registration, is_at, is_for, index_for, stands, stands_before, place_eq, named_eq, at_place, at_name, regs_in, WritesPlace, WritesName, IsAgreed, IsAloneFor}
+use Rattle.cache_regs.proofs.Imports.{arith, ◌≡◌, ℕ, Bool, true, false, not, ◌&&◌, cond, List, [], ◌∷◌, Option, Some, None, is_some, option_map, IfSome, find, refl, sym, ap, ◌∙◌, subst, list_any, list_all, IsDistinct, keys_of, lookup, and_parts, false≢true, Name16, ConnId, insertion, pairwise, find-insertion_past, find-insertion_here, all_from_none, all_found, any_is_found, found_passes, pairwise-insertion, Registration, is_at, is_for, index_for, stands, stands_before, place_eq, named_eq, at_place, at_name, regs_in, WritesPlace, WritesName, IsAgreed, IsAloneFor}
 use Rattle.cache_regs.proofs.RegLaws.{finds_place, places_apart}
 use Rattle.cache_regs.proofs.MapLaws.{place_laws, named_laws, same_place, same_named, registration, same_regs, find_in, ordered_in, none_found, same_filter}
 
@@ -9,9 +9,7 @@ kept false o x h = (refl, h)
 
 -- keys of which the parts are the same
 places_same : (c d : ConnId) (i j : ℕ) → place_eq (c.0, i) (d.0, j) ≡ false → c.0 ≡ d.0 → i ≡ j → ⊥
-places_same c d i j h e f =
-    false≢true (sym h ∙ ap (λ k. place_eq (c.0, i) (k, j)) (sym e) ∙ ap (λ k. place_eq (c.0, i) (c.0, k)) (sym f)
-    ∙ place_laws.refl (c.0, i))
+places_same c d i j h e f = grind (arith, false≢true)
 
 names_same : (c d : ConnId) (n m : Name16) → named_eq (c.0, n.0) (d.0, m.0) ≡ false → c.0 ≡ d.0 → n ≡ m → ⊥
 names_same c d n m h e f =
@@ -26,14 +24,7 @@ module _ (places after : List ((ℕ × ℕ) × Name16)) (names later : List ((�
   -- a registration goes from both
   pub removed_agreed : at_place places c i ≡ Some n → WritesPlace places c i None after
       → WritesName names c n None later → IsAgreed after later
-  removed_agreed there first second =
-      record {
-        unique = unique;
-        named = λ d j m h. (let old = kept _ _ m (sym (first (d.0, j)) ∙ h) in
-            second (d.0, m.0) ∙ name_stays (named_eq (c.0, n.0) (d.0, m.0)) d j m old.0 old.1 refl);
-        placed = λ d m j h. (let old = kept _ _ j (sym (second (d.0, m.0)) ∙ h) in
-            first (d.0, j) ∙ place_stays (place_eq (c.0, i) (d.0, j)) d j m old.0 (agreed.placed d m j old.1) refl);
-      }
+  removed_agreed there first second = grind (arith, kept, name_stays, place_stays)
     where
       name_stays : (b : Bool) (d : ConnId) (j : ℕ) (m : Name16) → place_eq (c.0, i) (d.0, j) ≡ false
           → at_place places d j ≡ Some m → named_eq (c.0, n.0) (d.0, m.0) ≡ b
@@ -48,32 +39,20 @@ module _ (places after : List ((ℕ × ℕ) × Name16)) (names later : List ((�
       place_stays : (b : Bool) (d : ConnId) (j : ℕ) (m : Name16) → named_eq (c.0, n.0) (d.0, m.0) ≡ false
           → at_place places d j ≡ Some m → place_eq (c.0, i) (d.0, j) ≡ b
           → cond b None (at_place places d j) ≡ Some m
-      place_stays true d j m other h e =
-          let same = same_place (c.0, i) (d.0, j) e in
-          let one : Some n ≡ Some m = sym there ∙ ap (λ k. lookup (place_eq k) places) same ∙ h in
-          let name : n ≡ m = cc in absurd (names_same c d n m other (ap (λ k. k.0) same) name)
+      place_stays true d j m other h e = grind (arith, same_place, names_same)
       place_stays false d j m other h e = h
 
   module _ (no_place : at_place places c i ≡ None) (no_name : at_name names c n ≡ None)
       (first : WritesPlace places c i (Some n) after) (second : WritesName names c n (Some i) later) where
     -- a registration comes to both
     pub added_agreed : IsAgreed after later
-    added_agreed =
-        record {
-          unique = unique;
-          named = λ d j m h. second (d.0, m.0) ∙ named_now (place_eq (c.0, i) (d.0, j))
-              (named_eq (c.0, n.0) (d.0, m.0)) d j m refl refl (sym (first (d.0, j)) ∙ h);
-          placed = λ d m j h. first (d.0, j) ∙ placed_now (place_eq (c.0, i) (d.0, j))
-              (named_eq (c.0, n.0) (d.0, m.0)) d j m refl refl (sym (second (d.0, m.0)) ∙ h);
-        }
+    added_agreed = grind (arith, named_now, placed_now)
       where
         named_now : (a b : Bool) (d : ConnId) (j : ℕ) (m : Name16) → place_eq (c.0, i) (d.0, j) ≡ a
             → named_eq (c.0, n.0) (d.0, m.0) ≡ b
             → cond a (Some n) (at_place places d j) ≡ Some m → cond b (Some i) (at_name names d m) ≡ Some j
         named_now true true d j m e f h = ap (λ (k : ℕ × ℕ). Some k.1) (same_place (c.0, i) (d.0, j) e)
-        named_now true false d j m e f h =
-            let name : n ≡ m = cc in
-            absurd (names_same c d n m f (ap (λ (k : ℕ × ℕ). k.0) (same_place (c.0, i) (d.0, j) e)) name)
+        named_now true false d j m e f h = grind (arith, names_same, same_place)
         named_now false true d j m e f h =
             let was : Some j ≡ None = sym (agreed.named d j m h)
             ∙ ap (λ k. lookup (named_eq k) names) (sym (same_named (c.0, n.0) (d.0, m.0) f)) ∙ no_name in absurd (cc)
@@ -84,12 +63,8 @@ module _ (places after : List ((ℕ × ℕ) × Name16)) (names later : List ((�
             → cond b (Some i) (at_name names d m) ≡ Some j → cond a (Some n) (at_place places d j) ≡ Some m
         placed_now true true d j m e f h =
             ap (λ (k : ℕ × List ℕ). Some (name_of k.1)) (same_named (c.0, n.0) (d.0, m.0) f)
-        placed_now false true d j m e f h =
-            let place : i ≡ j = cc in
-            absurd (places_same c d i j e (ap (λ (k : ℕ × List ℕ). k.0) (same_named (c.0, n.0) (d.0, m.0) f)) place)
-        placed_now true false d j m e f h =
-            let was : Some m ≡ None = sym (agreed.placed d m j h)
-            ∙ ap (λ k. lookup (place_eq k) places) (sym (same_place (c.0, i) (d.0, j) e)) ∙ no_place in absurd (cc)
+        placed_now false true d j m e f h = grind (arith, places_same, same_named)
+        placed_now true false d j m e f h = grind (arith, same_place)
         placed_now false false d j m e f h = agreed.placed d m j h
 
     pub added_regs : regs_in after ≡ insertion (λ other. stands_before other (registration c i n)) (registration c i n)
@@ -118,19 +93,14 @@ module _ (places after : List ((ℕ × ℕ) × Name16)) (names later : List ((�
             (same_place (c.0, i) (d.0, j) e)
             (sym (find-insertion_here (is_at c i) (λ other. stands_before other (registration c i n))
             (registration c i n) (regs_in places) (place_laws.refl (c.0, i)) none))
-        there false d j e none =
-            sym (find_in places agreed.unique d j)
-            ∙ sym (find-insertion_past (is_at d j) (λ other. stands_before other (registration c i n))
-            (registration c i n) (regs_in places) e)
+        there false d j e none = grind (arith, find_in, find-insertion_past, registration)
 
 -- ---- by name
 
 find_self_step : (b : Bool) (x reg : Registration) (xs : List Registration) → stands_before x reg ≡ true
     → is_at reg.conn reg.index x ≡ b
     → find (is_at reg.conn reg.index) xs ≡ Some reg → cond b (Some x) (find (is_at reg.conn reg.index) xs) ≡ Some reg
-find_self_step true x reg xs h e ih =
-    absurd (false≢true (sym (ap not (place_laws.symm (reg.conn.0, reg.index) (x.conn.0, x.index) ∙ e))
-    ∙ places_apart x reg h))
+find_self_step true x reg xs h e ih = grind (arith, false≢true, places_apart)
 find_self_step false x reg xs h e ih = ih
 
 -- what is found is what is at its own place
@@ -145,11 +115,7 @@ find_self p (x ∷ xs) reg h f =
         → cond b (Some x) (find p xs) ≡ Some reg
         → (find p xs ≡ Some reg → find (is_at reg.conn reg.index) xs ≡ Some reg)
         → cond (is_at reg.conn reg.index x) (Some x) (find (is_at reg.conn reg.index) xs) ≡ Some reg
-    go true all rest e ih =
-        let same : x ≡ reg = cc in
-        subst (λ (k : Registration). cond (is_at reg.conn reg.index k) (Some k) (find (is_at reg.conn reg.index) xs)
-        ≡ Some reg) (sym same)
-        (ap (λ b. cond b (Some reg) (find (is_at reg.conn reg.index) xs)) (place_laws.refl (reg.conn.0, reg.index)))
+    go true all rest e ih = grind arith
     go false all rest e ih =
         find_self_step (is_at reg.conn reg.index x) x reg xs (all_found p (stands_before x) xs reg all e) refl (ih e)
 
@@ -177,9 +143,7 @@ module _ (places : List ((ℕ × ℕ) × Name16)) (names : List ((ℕ × List �
       ∙ ap (λ k. place_eq (c.0, k) (c.0, i)) index ∙ place_laws.refl (c.0, i)))
 
   pub alone_for : (c : ConnId) (n : Name16) (i : ℕ) → at_name names c n ≡ Some i → IsAloneFor c n i (regs_in places)
-  alone_for c n i there q =
-      same_filter (λ reg. not (is_at c i reg && q reg)) (λ reg. not (is_for c n reg && q reg)) places agreed.unique
-      (λ d j m h. ap (λ b. not (b && q (registration d j m))) (at_or_for c n i there d j m h))
+  alone_for c n i there q = grind (arith, same_filter, registration, at_or_for)
 
   pub alone_found : (c : ConnId) (n : Name16) (o : Option ℕ) → o ≡ at_name names c n
       → IfSome o (λ index. IsAloneFor c n index (regs_in places))
@@ -246,6 +210,4 @@ module _ (places : List ((ℕ × ℕ) × Name16)) (names : List ((ℕ × List �
   some_index (Some reg) = refl
 
   pub named_law : (c : ConnId) (n : Name16) → is_some (at_name names c n) ≡ list_any (is_for c n) (regs_in places)
-  named_law c n =
-      ap is_some (index_law c n) ∙ some_index (find (is_for c n) (regs_in places))
-      ∙ sym (any_is_found (is_for c n) (regs_in places))
+  named_law c n = grind (arith, index_law, some_index, any_is_found)

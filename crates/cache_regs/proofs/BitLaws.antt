@@ -1,5 +1,5 @@
 -- The bits that change when registrations come and end.
-use Rattle.cache_regs.proofs.Imports.{◌≡◌, ℕ, Bool, true, false, not, ◌&&◌, ◌||◌, ◌==◌, List, [], ◌∷◌, ◌++◌, filter, append-nil, refl, sym, ap, ◌∙◌, subst₂, inl, inr, ◌⊎◌, arith, list_any, and_parts, false≢true, eqb-true, eq-eqb, nat_tests, any-filter_same, Name16, ConnId, BitChange, Gains, Falls, gains_none, gains_one, gains_then, any-filter, list_any-insertion, list_any-insertion_kept, Registration, is_of, is_at, is_for, is_replaced, regs_with, stands, stands_before, with_reg, set_changes}
+use Rattle.cache_regs.proofs.Imports.{◌≡◌, ℕ, Bool, true, false, not, ◌&&◌, ◌||◌, ◌==◌, List, [], ◌∷◌, ◌++◌, filter, append-nil, refl, sym, ap, ◌∙◌, inl, inr, ◌⊎◌, arith, and_parts, false≢true, eqb-true, eq-eqb, nat_tests, any-filter_same, Name16, ConnId, BitChange, Gains, Falls, gains_none, gains_one, gains_then, any-filter, list_any-insertion, list_any-insertion_kept, Registration, is_of, is_at, is_for, regs_with, stands, stands_before, with_reg, set_changes}
 
 -- ---- one registration goes or comes
 
@@ -10,9 +10,7 @@ same_test a b c d x y e = grind (arith, nat_tests)
 stands_elsewhere : (regs : List Registration) (by conn : ConnId) (index i : ℕ)
     → stands (filter (λ reg. not (is_at by index reg)) regs) conn i ≡ (not ((by.0 == conn.0) && (index == i))
     && stands regs conn i)
-stands_elsewhere regs by conn index i =
-    any-filter_same (is_at conn i) (λ reg. not (is_at by index reg)) (not ((by.0 == conn.0) && (index == i)))
-    (λ reg e. same_test reg.conn.0 reg.index conn.0 i by.0 index e) regs
+stands_elsewhere regs by conn index i = grind (arith, any-filter_same, same_test)
 
 stands_with : (new : Registration) (regs : List Registration) (conn : ConnId) (i : ℕ)
     → stands (with_reg new regs) conn i ≡ ((new.conn.0 == conn.0) && (new.index == i))
@@ -41,52 +39,32 @@ pub gains_taken : (conn : ConnId) (index : ℕ) (regs after : List Registration)
     → later ≡ told ++ record { conn = conn; index = index; bit = false } ∷ []
     → Gains (stands regs) (stands after) told later
 gains_taken conn index regs after told later is stood put =
-    let left = filter (λ reg. not (is_at conn index reg)) regs in
-    let gone : stands left conn index ≡ false = stands_elsewhere regs conn conn index index
-    ∙ rw (self conn.0 index) refl in
-    let one = gains_one conn index (stands regs) (stands left) told
-    (λ e. false≢true (sym gone ∙ sym e ∙ stood)) (λ c i e. stands_elsewhere regs conn c index i ∙ rw e refl) in
-    rw (put, is) (rw gone at one)
+    grind (arith, stands_elsewhere, self, gains_one, false≢true)
 
 -- where the bit stood, nothing changes
 same_pair : (new : Registration) (regs : List Registration) (conn : ConnId) (i : ℕ) (b : Bool)
     → (new.conn.0 == conn.0) && (new.index == i) ≡ b
     → stands regs new.conn new.index ≡ true → stands (with_reg new regs) conn i ≡ stands regs conn i
-same_pair new regs conn i true e stood =
-    let parts = and_parts (new.conn.0 == conn.0) (new.index == i) e in
-    let there : stands regs conn i ≡ true =
-    subst₂ (λ (c n : ℕ). list_any (λ (reg : Registration). (reg.conn.0 == c) && (reg.index == n)) regs ≡ true)
-    (eqb-true new.conn.0 conn.0 parts.0) (eqb-true new.index i parts.1) stood in
-    stands_with new regs conn i ∙ rw e (sym there)
+same_pair new regs conn i true e stood = grind (arith, and_parts, eqb-true, stands_with)
 same_pair new regs conn i false e stood = stands_with-other new regs conn i e
 
 pub gains_stood : (new : Registration) (regs : List Registration) (bits : List BitChange)
     → stands regs new.conn new.index ≡ true
     → Gains (stands regs) (stands (with_reg new regs)) bits bits
-gains_stood new regs bits stood =
-    gains_none (stands regs) (stands (with_reg new regs)) bits
-    (λ conn i. same_pair new regs conn i ((new.conn.0 == conn.0) && (new.index == i)) refl stood)
+gains_stood new regs bits stood = grind (arith, gains_none, same_pair)
 
 -- where it didn't, it does now
 pub gains_new : (new : Registration) (regs : List Registration) (bits : List BitChange)
     → stands regs new.conn new.index ≡ false
     → Gains (stands regs) (stands (with_reg new regs)) bits
     (bits ++ record { conn = new.conn; index = new.index; bit = true } ∷ [])
-gains_new new regs bits stood =
-    let now : stands (with_reg new regs) new.conn new.index ≡ true = stands_with-here new regs in
-    let one = gains_one new.conn new.index (stands regs) (stands (with_reg new regs)) bits
-    (λ e. false≢true (sym stood ∙ e ∙ now)) (λ conn i e. stands_with-other new regs conn i e) in
-    rw now at one
+gains_new new regs bits stood = grind (arith, stands_with-here, gains_one, false≢true, stands_with-other)
 
 -- a registration comes in the place of what stood at its index
 pub gains_set : (new : Registration) (regs after : List Registration) (told later : List BitChange)
     → after ≡ with_reg new regs → later ≡ told ++ set_changes new regs
     → Gains (stands regs) (stands after) told later
-gains_set new regs after told later put is = rw put (go (stands regs new.conn new.index) refl)
-  where
-    go : (b : Bool) → stands regs new.conn new.index ≡ b → Gains (stands regs) (stands (with_reg new regs)) told later
-    go true stood = rw (is, stood, append-nil told) (gains_stood new regs told stood)
-    go false stood = rw (is, stood) (gains_new new regs told stood)
+gains_set new regs after told later put is = grind (arith, append-nil, gains_stood, gains_new)
 
 -- ---- a connector's registration for the name at another index ends, and it is registered at the index
 
@@ -102,10 +80,7 @@ pub gains_with : (new : Registration) (regs : List Registration) (xs ys zs : Lis
     → let middle = filter (λ reg. not (is_for new.conn new.name reg && not (reg.index == new.index))) regs in
     Gains (stands regs) (stands middle) xs ys → Gains (stands middle) (stands (with_reg new middle)) ys zs
     → Gains (stands regs) (stands (with_reg new middle)) xs zs
-gains_with new regs xs ys zs first second =
-    let middle = filter (λ reg. not (is_for new.conn new.name reg && not (reg.index == new.index))) regs in
-    gains_then (stands regs) (stands middle) (stands (with_reg new middle)) xs ys zs
-    (λ conn i. once conn i ((new.conn.0 == conn.0) && (new.index == i)) refl) first second
+gains_with new regs xs ys zs first second = grind (arith, gains_then, once)
   where
     once : (conn : ConnId) (i : ℕ) (b : Bool) → (new.conn.0 == conn.0) && (new.index == i) ≡ b
         → (stands (filter (λ reg. not (is_for new.conn new.name reg && not (reg.index == new.index))) regs) conn i ≡
@@ -127,28 +102,13 @@ gains_with new regs xs ys zs first second =
 pub stands_kept : (q : Registration → Bool) (by : ConnId) (index : ℕ) (name : Name16) (regs : List Registration)
     → q (record { conn = by; index = index; name = name }) ≡ true → stands (filter q (regs_with by index name regs))
     by index ≡ true
-stands_kept q by index name regs h =
-    let new : Registration = record { conn = by; index = index; name = name } in
-    list_any-insertion_kept (is_at by index) q (λ reg. stands_before reg new) new
-    (filter (λ reg. not (is_replaced by index name reg)) regs)
-    (self by.0 index) h
+stands_kept q by index name regs h = grind (arith, list_any-insertion_kept, self)
 
 -- elsewhere no bit rises
 stood_elsewhere : (by : ConnId) (index : ℕ) (name : Name16) (regs : List Registration) (conn : ConnId) (i : ℕ)
     → (by.0 == conn.0) && (index == i) ≡ false
     → stands (regs_with by index name regs) conn i ≡ true → stands regs conn i ≡ true
-stood_elsewhere by index name regs conn i apart h =
-    let new : Registration = record { conn = by; index = index; name = name } in
-    let others = filter (λ reg. not (is_replaced by index name reg)) regs in
-    let split : ((by.0 == conn.0) && (index == i)) || stands others conn i ≡ true =
-    sym (list_any-insertion (is_at conn i) (λ reg. stands_before reg new) new others) ∙ h in
-    let left : stands others conn i ≡ true = second ((by.0 == conn.0) && (index == i)) (stands others conn i) apart
-    split in
-    any-filter (is_at conn i) (λ reg. not (is_replaced by index name reg)) regs left
-  where
-    second : (a b : Bool) → a ≡ false → a || b ≡ true → b ≡ true
-    second true b e f = absurd (false≢true (sym e))
-    second false b e f = f
+stood_elsewhere by index name regs conn i apart h = grind (arith, list_any-insertion, any-filter, false≢true)
 
 only_falls : (a b c : Bool) → (b ≡ true → a ≡ true) → (c ≡ true → b ≡ true) → (b ≡ a) ⊎ (c ≡ b)
 only_falls false false c h k = inl refl
@@ -164,22 +124,16 @@ pub gains_then_falls : (by : ConnId) (index : ℕ) (name : Name16) (regs later :
     → Gains (stands regs) (stands (regs_with by index name regs)) xs ys
     → Gains (stands (regs_with by index name regs)) (stands later) ys zs
     → Gains (stands regs) (stands later) xs zs
-gains_then_falls by index name regs later xs ys zs there falls first second =
-    gains_then (stands regs) (stands (regs_with by index name regs)) (stands later) xs ys zs
-    (λ conn i. once conn i ((by.0 == conn.0) && (index == i)) refl) first second
+gains_then_falls by index name regs later xs ys zs there falls first second = grind (arith, gains_then, once)
   where
     once : (conn : ConnId) (i : ℕ) (b : Bool) → (by.0 == conn.0) && (index == i) ≡ b
         → (stands (regs_with by index name regs) conn i ≡ stands regs conn i)
         ⊎ (stands later conn i ≡ stands (regs_with by index name regs) conn i)
     once conn i true e =
         let parts = and_parts (by.0 == conn.0) (index == i) e in
-        let here : stands later conn i ≡ true =
-        subst₂ (λ (c n : ℕ). list_any (λ (reg : Registration). (reg.conn.0 == c) && (reg.index == n)) later ≡ true)
-        (eqb-true by.0 conn.0 parts.0) (eqb-true index i parts.1) there in
+        let here : stands later conn i ≡ true = grind (arith, eqb-true) in
         inr (here ∙ sym (falls conn i here))
-    once conn i false e =
-        only_falls (stands regs conn i) (stands (regs_with by index name regs) conn i) (stands later conn i)
-        (stood_elsewhere by index name regs conn i e) (falls conn i)
+    once conn i false e = grind (arith, only_falls, stood_elsewhere)
 
 -- where registrations end, bits fall
 pub falls_filter : (q : Registration → Bool) (regs : List Registration) → Falls (stands regs) (stands (filter q regs))

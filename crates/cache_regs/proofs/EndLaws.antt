@@ -1,5 +1,5 @@
 -- Ends of registrations, one after another.
-use Rattle.cache_regs.proofs.Imports.{◌≡◌, ℕ, ◌+◌, ◌≤◌, ◌<◌, Bool, true, false, not, ◌&&◌, ◌||◌, ◌==◌, nat_lt, cond, List, [], ◌∷◌, ◌++◌, Option, Some, None, is_some, option_map, find, length, filter, refl, sym, ap, ◌∙◌, subst, arith, list_any, list_all, and_parts, false≢true, nat_tests, filter_agree, length-filter_both, BitChange, Name16, ConnId, same_name, Falls, gains_none, gains_falls, filter-filter, filter_swap, filter_absorbed, filter_all, all_from_none, none_from_all, list_all_weaker, list_all_both, any_is_found, list_all-filter, list_all-filter_same, length-filter-le, Registration, is_of, is_at, is_for, index_for, ends_with_name, stands, is_elsewhere, is_below, spares, ends_of, ends_below, FitsEnds, HasEnded, IsAloneFor}
+use Rattle.cache_regs.proofs.Imports.{◌≡◌, ℕ, ◌+◌, ◌≤◌, ◌<◌, Bool, true, false, not, ◌&&◌, ◌||◌, ◌==◌, nat_lt, List, [], ◌∷◌, ◌++◌, Option, Some, None, length, filter, refl, sym, ap, ◌∙◌, subst, arith, list_any, list_all, and_parts, false≢true, nat_tests, filter_agree, length-filter_both, BitChange, Name16, ConnId, same_name, Falls, gains_none, gains_falls, filter-filter, filter_swap, filter_absorbed, filter_all, all_from_none, none_from_all, list_all_weaker, list_all_both, any_is_found, list_all-filter, list_all-filter_same, length-filter-le, Registration, is_of, is_at, is_for, index_for, ends_with_name, stands, is_elsewhere, is_below, spares, ends_of, ends_below, FitsEnds, HasEnded, IsAloneFor}
 use Rattle.cache_regs.proofs.BitLaws.{falls_filter, gains_taken}
 
 -- ---- filters
@@ -7,9 +7,7 @@ use Rattle.cache_regs.proofs.BitLaws.{falls_filter, gains_taken}
 both : (q r s : Registration → Bool) (xs : List Registration)
     → ((x : Registration) → not (q x) && not (r x) ≡ not (s x))
     → filter (λ x. not (r x)) (filter (λ x. not (q x)) xs) ≡ filter (λ x. not (s x)) xs
-both q r s xs h =
-    filter-filter (λ x. not (r x)) (λ x. not (q x)) xs
-    ∙ filter_agree (λ x. not (q x) && not (r x)) (λ x. not (s x)) h xs
+both q r s xs h = grind (arith, filter-filter, filter_agree)
 
 -- two filters that agree within what all of the list are
 pub filter_within : (w q r : Registration → Bool) (xs : List Registration) → list_all w xs ≡ true
@@ -31,12 +29,7 @@ filter_fewer f g xs h =
 
 pub any_counted : (q : Registration → Bool) (xs : List Registration) → list_any q xs ≡ true → 1 ≤ length (filter q xs)
 any_counted q [] h = absurd (false≢true h)
-any_counted q (x ∷ xs) h = step (q x) h (any_counted q xs)
-  where
-    step : (b : Bool) → b || list_any q xs ≡ true → (list_any q xs ≡ true → 1 ≤ length (filter q xs))
-        → 1 ≤ length (cond b (x ∷ filter q xs) (filter q xs))
-    step true e ih = omega arith
-    step false e ih = ih e
+any_counted q (x ∷ xs) h = grind (arith, any_counted q xs)
 
 contra : (a b : Bool) → (a ≡ true → b ≡ true) → not b ≡ true → not a ≡ true
 contra true b h e = sym (ap not (h refl)) ∙ e
@@ -81,22 +74,11 @@ pub ended_then : (q r s : Registration → Bool) (xs now after : List Registrati
     → HasEnded q xs now told later room left → HasEnded r now after later last left end
     → HasEnded s xs after told last room end
 ended_then q r s xs now after told later last room left end h first second =
-    record {
-      gone = second.gone ∙ ap (filter (λ x. not (r x))) first.gone ∙ both q r s xs h;
-      bits = gains_falls (stands xs) (stands now) (stands after) told later last
-          (falls_to (λ x. not (q x)) xs now first.gone) (falls_to (λ x. not (r x)) now after second.gone) first.bits
-          second.bits;
-      counted = omega (arith, first.counted, second.counted);
-    }
+    grind (arith, both, gains_falls, falls_to)
 
 pub ended_none : (q : Registration → Bool) (xs : List Registration) (told : List BitChange) (room : ℕ)
     → list_any q xs ≡ false → HasEnded q xs xs told told room room
-ended_none q xs told room h =
-    record {
-      gone = sym (filter_all (λ x. not (q x)) xs (all_from_none q xs h));
-      bits = gains_none (stands xs) (stands xs) told (λ conn index. refl);
-      counted = refl;
-    }
+ended_none q xs told room h = grind (arith, filter_all, all_from_none, gains_none)
 
 none_never : (q : Registration → Bool) (xs : List Registration) → ((x : Registration) → q x ≡ false)
     → list_any q xs ≡ false
@@ -118,12 +100,7 @@ pub ended_taken : (conn : ConnId) (index : ℕ) (xs after : List Registration) (
     (room left : ℕ) → after ≡ filter (λ x. not (is_at conn index x)) xs → length after + 1 ≡ length xs
     → stands xs conn index ≡ true → later ≡ told ++ record { conn = conn; index = index; bit = false } ∷ []
     → left + 1 ≡ room → HasEnded (is_at conn index) xs after told later room left
-ended_taken conn index xs after told later room left is len stood put less =
-    record {
-      gone = is;
-      bits = gains_taken conn index xs after told later is stood put;
-      counted = omega (arith, len, less);
-    }
+ended_taken conn index xs after told later room left is len stood put less = grind (arith, gains_taken)
 
 -- nothing is there
 pub ended_absent : (conn : ConnId) (index : ℕ) (xs after : List Registration) (told : List BitChange)
@@ -139,70 +116,41 @@ ended_absent conn index xs after told room is none =
 
 pub below_more : (conn : ConnId) (index : ℕ) (x : Registration)
     → not (is_below conn index x) && not (is_at conn index x) ≡ not (is_below conn (index + 1) x)
-below_more conn index x = step (is_of conn x) x.index index
-  where
-    step : (b : Bool) (j k : ℕ) → not (b && nat_lt j k) && not (b && (j == k)) ≡ not (b && nat_lt j (k + 1))
-    step b j k = grind (arith, nat_tests)
+below_more conn index x = grind (arith, nat_tests)
 
 pub below_of : (conn : ConnId) (index : ℕ) (x : Registration) → is_below conn index x ≡ true → is_of conn x ≡ true
 below_of conn index x h = (and_parts (is_of conn x) (nat_lt x.index index) h).0
 
 pub below_first : (conn : ConnId) (x : Registration) → is_below conn 0 x ≡ false
-below_first conn x = step (is_of conn x) x.index
-  where
-    step : (b : Bool) (j : ℕ) → b && nat_lt j 0 ≡ false
-    step b j = grind (arith, nat_tests)
+below_first conn x = grind (arith, nat_tests)
 
 pub below_all : (conn : ConnId) (len : ℕ) (x : Registration) → nat_lt x.index len ≡ true
     → not (is_below conn len x) ≡ not (is_of conn x)
-below_all conn len x h = step (is_of conn x) (nat_lt x.index len) h
-  where
-    step : (a b : Bool) → b ≡ true → not (a && b) ≡ not a
-    step true b e = ap not e
-    step false b e = refl
+below_all conn len x h = grind arith
 
 -- ---- those for a name, one connector after another
 
 pub name_more : (name : Name16) (spare : Option ConnId) (k : ℕ) (x : Registration)
     → not (ends_below name spare k x) && not (ends_of name spare (record { 0 = k }) x) ≡ not
     (ends_below name spare (k + 1) x)
-name_more name spare k x = step (ends_with_name name spare x) x.conn.0 k
-  where
-    step : (b : Bool) (j k : ℕ) → not (b && nat_lt j k) && not (b && (j == k)) ≡ not (b && nat_lt j (k + 1))
-    step b j k = grind (arith, nat_tests)
+name_more name spare k x = grind (arith, nat_tests)
 
 pub name_of_all : (name : Name16) (spare : Option ConnId) (k : ℕ) (x : Registration)
     → ends_below name spare k x ≡ true → ends_with_name name spare x ≡ true
 name_of_all name spare k x h = (and_parts (ends_with_name name spare x) (nat_lt x.conn.0 k) h).0
 
 pub name_first : (name : Name16) (spare : Option ConnId) (x : Registration) → ends_below name spare 0 x ≡ false
-name_first name spare x = step (ends_with_name name spare x) x.conn.0
-  where
-    step : (b : Bool) (j : ℕ) → b && nat_lt j 0 ≡ false
-    step b j = grind (arith, nat_tests)
+name_first name spare x = grind (arith, nat_tests)
 
 pub name_all : (name : Name16) (spare : Option ConnId) (k : ℕ) (x : Registration) → nat_lt x.conn.0 k ≡ true
     → not (ends_below name spare k x) ≡ not (ends_with_name name spare x)
-name_all name spare k x h = step (ends_with_name name spare x) (nat_lt x.conn.0 k) h
-  where
-    step : (a b : Bool) → b ≡ true → not (a && b) ≡ not a
-    step true b e = ap not e
-    step false b e = refl
+name_all name spare k x h = grind arith
 
 -- a connector's that end with a name: its own, if it isn't spared
 pub of_spare : (name : Name16) (spare : Option ConnId) (conn : ConnId) (b : Bool) → spares spare conn ≡ b
     → (x : Registration) → ends_of name spare conn x ≡ not b && is_for conn name x
-of_spare name None conn b e x = rw (← e) (turn (same_name x.name name) (is_of conn x))
-  where
-    turn : (s o : Bool) → (s && true) && o ≡ o && s
-    turn true true = refl
-    turn true false = refl
-    turn false true = refl
-    turn false false = refl
-of_spare name (Some spared) conn b e x = step (same_name x.name name) b x.conn.0 conn.0 spared.0 e
-  where
-    step : (s b : Bool) (j c d : ℕ) → (c == d) ≡ b → (s && not (j == d)) && (j == c) ≡ not b && ((j == c) && s)
-    step s b j c d e = grind (arith, nat_tests)
+of_spare name None conn b e x = grind arith
+of_spare name (Some spared) conn b e x = grind (arith, nat_tests)
 
 -- ---- elsewhere
 
@@ -246,17 +194,12 @@ for_at conn name at xs alone =
 
 pub left_few : (q : Registration → Bool) (xs after : List Registration) (told later : List BitChange) (room left n : ℕ)
     → HasEnded q xs after told later room left → length (filter q xs) ≤ n → room ≤ left + n
-left_few q xs after told later room left n ended few =
-    let parts = length-filter_both q (λ x. not (q x)) (λ _. refl) xs in
-    let same = ap length ended.gone in omega (arith, ended.counted, few, parts, same)
+left_few q xs after told later room left n ended few = grind (arith, length-filter_both)
 
 pub left_counted : (q : Registration → Bool) (xs after : List Registration) (told later : List BitChange)
     (room left : ℕ) → HasEnded q xs after told later room left
     → (length after + length (filter q xs) ≡ length xs) × (left + length (filter q xs) ≡ room)
-left_counted q xs after told later room left ended =
-    let parts = length-filter_both q (λ x. not (q x)) (λ _. refl) xs in
-    let same = ap length ended.gone in
-    (omega (arith, parts, same), omega (arith, ended.counted, parts, same))
+left_counted q xs after told later room left ended = grind (arith, length-filter_both)
 
 -- at the index and elsewhere nothing is for the name
 pub unnamed : (conn : ConnId) (index : ℕ) (name : Name16) (xs : List Registration)
@@ -287,11 +230,7 @@ ended_fewer q xs after told later room left ended some =
 -- a connector that has no index for a name
 pub for_none : (conn : ConnId) (name : Name16) (xs : List Registration) → index_for xs conn name ≡ None
     → list_any (is_for conn name) xs ≡ false
-for_none conn name xs h = any_is_found (is_for conn name) xs ∙ unindexed (find (is_for conn name) xs) h
-  where
-    unindexed : (o : Option Registration) → option_map (λ reg. reg.index) o ≡ None → is_some o ≡ false
-    unindexed None e = refl
-    unindexed (Some reg) e = absurd (cc)
+for_none conn name xs h = grind (arith, any_is_found)
 
 pub elsewhere_none : (conn : ConnId) (index : ℕ) (name : Name16) (xs : List Registration)
     → index_for xs conn name ≡ None → list_any (is_elsewhere conn index name) xs ≡ false

@@ -1,5 +1,5 @@
 -- What proofs here name of other crates, and of this one's definitions. Declares nothing.
-pub use Rattle.std.proofs.Common.{◌≡◌, ℕ, Bool, true, false, not, ◌&&◌, cond, List, [], ◌∷◌, Option, Some, None, is_some, option_map, IfSome, find, refl, sym, ap, ◌∙◌, subst, ◌||◌, ◌==◌, ◌++◌, filter, append-nil, subst₂, inl, inr, ◌⊎◌, arith, ◌+◌, ◌≤◌, ◌<◌, nat_lt, length, map, zero, suc, nat_eq, slice_get, Ordering, rules, ◌-◌, min}
+pub use Rattle.std.proofs.Common.{◌≡◌, ℕ, Bool, true, false, not, ◌&&◌, cond, List, [], ◌∷◌, Option, Some, None, is_some, option_map, IfSome, find, refl, sym, ap, ◌∙◌, subst, ◌||◌, ◌==◌, ◌++◌, filter, append-nil, subst₂, inl, inr, ◌⊎◌, arith, ◌+◌, ◌≤◌, ◌<◌, nat_lt, length, map, zero, suc, nat_eq, slice_get, Ordering, ◌-◌, min}
 pub use Rattle.std.proofs.lemmas.Bool.{and_parts, false≢true, eqb-true, eq-eqb, and_from, lt-ltb}
 pub use Rattle.std.proofs.lemmas.Bool.Decides.{nat_tests}
 pub use Rattle.std.proofs.lemmas.Cmp.{nat_list_cmp_total}

@@ -1,5 +1,5 @@
 -- Registrations, listed by index and counted by connector.
-use Rattle.cache_regs.proofs.Imports.{◌≡◌, ℕ, ◌+◌, Bool, true, false, not, ◌&&◌, ◌||◌, ◌==◌, nat_lt, cond, List, [], ◌∷◌, ◌++◌, Option, Some, None, is_some, option_map, length, filter, find, map, append-nil, refl, sym, ap, ◌∙◌, arith, list_any, list_all, and_parts, nat_tests, filter_agree, length-filter_both, Name16, ConnId, pairwise, filter-filter, filter_none, filter_nothing, none_from_all, list_all_weaker, all_from_none, any_is_found, Registration, is_of, is_at, is_for, registered_at, stands_before, names_apart, ends_with_name, named_at, is_below, ends_of, ends_below, spares}
+use Rattle.cache_regs.proofs.Imports.{◌≡◌, ℕ, ◌+◌, Bool, true, false, not, ◌&&◌, ◌||◌, ◌==◌, nat_lt, cond, List, [], ◌∷◌, ◌++◌, Option, Some, None, option_map, length, filter, find, map, append-nil, refl, sym, ap, ◌∙◌, arith, list_any, list_all, and_parts, nat_tests, filter_agree, length-filter_both, Name16, ConnId, pairwise, filter-filter, filter_none, filter_nothing, none_from_all, list_all_weaker, all_from_none, any_is_found, Registration, is_of, is_at, is_for, registered_at, stands_before, names_apart, ends_with_name, named_at, is_below, ends_of, ends_below, spares}
 use Rattle.cache_regs.proofs.RegLaws.{one_for_name}
 use Rattle.cache_regs.proofs.EndLaws.{filter_within, any_counted, of_spare, name_first, below_first}
 
@@ -9,11 +9,7 @@ listed reg = (reg.index, reg.name)
 
 none_at : (conn : ConnId) (index : ℕ) (xs : List Registration) → registered_at xs conn index ≡ None
     → list_any (is_at conn index) xs ≡ false
-none_at conn index xs h = any_is_found (is_at conn index) xs ∙ unnamed (find (is_at conn index) xs) h
-  where
-    unnamed : (o : Option Registration) → option_map (λ reg. reg.name) o ≡ None → is_some o ≡ false
-    unnamed None e = refl
-    unnamed (Some reg) e = absurd (cc)
+none_at conn index xs h = grind (arith, any_is_found)
 
 pub listed_none : (conn : ConnId) (index : ℕ) (xs : List Registration) → registered_at xs conn index ≡ None
     → filter (is_below conn (index + 1)) xs ≡ filter (is_below conn index) xs
@@ -31,10 +27,7 @@ behind b c i d j e k h g = grind (arith, nat_tests)
 
 none_below : (conn : ConnId) (index : ℕ) (x : Registration) (xs : List Registration) → is_at conn index x ≡ true
     → list_all (stands_before x) xs ≡ true → filter (is_below conn (index + 1)) xs ≡ []
-none_below conn index x xs here all =
-    filter_none (is_below conn (index + 1)) xs (none_from_all (is_below conn (index + 1)) xs
-    (list_all_weaker (stands_before x) (λ y. not (is_below conn (index + 1) y))
-    (λ y e. behind true x.conn.0 x.index y.conn.0 y.index conn.0 index here e) xs all))
+none_below conn index x xs here all = grind (arith, filter_none, none_from_all, list_all_weaker, behind)
 
 fewer_below : (conn : ConnId) (index : ℕ) (xs : List Registration) → filter (is_below conn (index + 1)) xs ≡ []
     → filter (is_below conn index) xs ≡ []
@@ -79,12 +72,7 @@ listed_some conn index name (x ∷ xs) h e =
         ++ (index, name) ∷ [])
         → map listed (filter (is_below conn (index + 1)) (x ∷ xs)) ≡ map listed (filter (is_below conn index) (x ∷ xs))
         ++ (index, name) ∷ []
-    go true f all e ih =
-        let test = here_parts (is_of conn x) x.index index f in
-        let none = none_below conn index x xs f all in
-        let named : x.name ≡ name = cc in
-        rw (test.0, test.1, none, fewer_below conn index xs none)
-        (ap (λ (i : ℕ). (i, x.name) ∷ []) test.2 ∙ ap (λ (n : Name16). (index, n) ∷ []) named)
+    go true f all e ih = grind (arith, here_parts, none_below, fewer_below)
     go false f all e ih =
         past (is_below conn index x) (there_same (is_of conn x) x.index index f) refl (ih e)
 
@@ -136,13 +124,7 @@ count_one name spare conn xs e apart some =
 pub count_all : (name : Name16) (spare : Option ConnId) (k : ℕ) (xs : List Registration)
     → list_all (λ x. nat_lt x.conn.0 k) xs ≡ true
     → filter (ends_below name spare k) xs ≡ filter (ends_with_name name spare) xs
-count_all name spare k xs all =
-    filter_within (λ x. nat_lt x.conn.0 k) (ends_below name spare k) (ends_with_name name spare) xs all
-    (λ x h. step (ends_with_name name spare x) (nat_lt x.conn.0 k) h)
-  where
-    step : (a b : Bool) → b ≡ true → a && b ≡ a
-    step true b e = e
-    step false b e = refl
+count_all name spare k xs all = grind (arith, filter_within)
 
 pub count_first : (name : Name16) (spare : Option ConnId) (xs : List Registration)
     → 0 ≡ length (filter (ends_below name spare 0) xs)
@@ -158,21 +140,8 @@ listed_first conn xs =
 pub listed_more : (conn : ConnId) (index : ℕ) (xs : List Registration) → pairwise stands_before xs ≡ true
     → map listed (filter (is_below conn index) xs) ++ named_at index (registered_at xs conn index)
     ≡ map listed (filter (is_below conn (index + 1)) xs)
-listed_more conn index xs h = go (registered_at xs conn index) refl
-  where
-    go : (o : Option Name16) → registered_at xs conn index ≡ o
-        → map listed (filter (is_below conn index) xs) ++ named_at index o
-        ≡ map listed (filter (is_below conn (index + 1)) xs)
-    go None e = append-nil (map listed (filter (is_below conn index) xs))
-        ∙ ap (map listed) (sym (listed_none conn index xs e))
-    go (Some name) e = sym (listed_some conn index name xs h e)
+listed_more conn index xs h = grind (arith, append-nil, listed_none, listed_some)
 
 pub listed_all : (conn : ConnId) (len : ℕ) (xs : List Registration) → list_all (λ x. nat_lt x.index len) xs ≡ true
     → map listed (filter (is_below conn len) xs) ≡ map listed (filter (is_of conn) xs)
-listed_all conn len xs all =
-    ap (map listed) (filter_within (λ x. nat_lt x.index len) (is_below conn len) (is_of conn) xs all
-    (λ x h. step (is_of conn x) (nat_lt x.index len) h))
-  where
-    step : (a b : Bool) → b ≡ true → a && b ≡ a
-    step true b e = e
-    step false b e = refl
+listed_all conn len xs all = grind (arith, filter_within)

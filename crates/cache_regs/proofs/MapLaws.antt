@@ -1,5 +1,5 @@
 -- The entries of a map by connector and index, in order.
-use Rattle.cache_regs.proofs.Imports.{◌≡◌, ℕ, zero, suc, ◌+◌, Bool, true, false, not, ◌&&◌, ◌||◌, cond, nat_lt, nat_eq, ◌==◌, List, [], ◌∷◌, Option, Some, None, is_some, option_map, length, slice_get, filter, find, refl, sym, ap, ◌∙◌, subst, arith, list_any, list_all, IsDistinct, keys_of, lookup, IsEquivalence, nat_eq_equiv, and_equiv, on_equiv, nat_list_eq_equiv, pointwise, bytes_decides, and_parts, and_from, eqb-true, eq-eqb, nat_tests, lookup-none, none_past_head, option_filter, Name16, ConnId, pairwise, length-insertion, find-insertion_past, find-insertion_here, any_is_found, all_from_none, find_none, none_from_all, list_all_weaker, pairwise-filter, pairwise-insertion, Registration, is_at, registered_at, stands, stands_before, place_eq, named_eq, at_place, reg_of, regs_in, WritesPlace, ordered_same}
+use Rattle.cache_regs.proofs.Imports.{◌≡◌, ℕ, zero, suc, ◌+◌, Bool, true, false, not, ◌&&◌, ◌||◌, cond, nat_lt, nat_eq, ◌==◌, List, [], ◌∷◌, Option, Some, None, is_some, option_map, length, slice_get, filter, find, refl, sym, ap, ◌∙◌, arith, list_any, list_all, IsDistinct, keys_of, lookup, IsEquivalence, nat_eq_equiv, and_equiv, on_equiv, nat_list_eq_equiv, pointwise, bytes_decides, and_parts, and_from, eqb-true, eq-eqb, nat_tests, lookup-none, none_past_head, option_filter, Name16, ConnId, pairwise, length-insertion, find-insertion_past, find-insertion_here, any_is_found, all_from_none, find_none, none_from_all, list_all_weaker, pairwise-filter, pairwise-insertion, Registration, is_at, registered_at, stands, stands_before, place_eq, named_eq, at_place, reg_of, regs_in, WritesPlace, ordered_same}
 use Rattle.cache_regs.proofs.RegLaws.{finds_place, places_apart}
 
 pub place_laws : IsEquivalence place_eq
@@ -10,10 +10,7 @@ named_laws =
     and_equiv (on_equiv (λ (x : ℕ × List ℕ). x.0) nat_eq_equiv) (on_equiv (λ (x : ℕ × List ℕ). x.1) nat_list_eq_equiv)
 
 pub same_place : (j k : ℕ × ℕ) → place_eq j k ≡ true → j ≡ k
-same_place j k e =
-    let parts = and_parts (nat_eq j.0 k.0) (nat_eq j.1 k.1) e in
-    let first : j.0 ≡ k.0 = eqb-true j.0 k.0 parts.0 in
-    let second : j.1 ≡ k.1 = eqb-true j.1 k.1 parts.1 in λ n. (first n, second n)
+same_place j k e = grind (arith, and_parts, eqb-true)
 
 pub same_named : (j k : ℕ × List ℕ) → named_eq j k ≡ true → j ≡ k
 same_named j k e =
@@ -57,9 +54,7 @@ tail_unique e es u = u.1
 
 pub length-in : (es : List ((ℕ × ℕ) × Name16)) → length (regs_in es) ≡ length es
 length-in [] = refl
-length-in (e ∷ es) =
-    let more = length-insertion (λ other. stands_before other (reg_of e)) (reg_of e) (regs_in es) in
-    let rest = length-in es in omega (arith, more, rest)
+length-in (e ∷ es) = grind (arith, length-insertion, length-in es)
 
 -- what is found at a place is the entry there
 pub find_in : (es : List ((ℕ × ℕ) × Name16)) → IsDistinct place_eq (keys_of es) → (conn : ConnId) (index : ℕ)
@@ -79,10 +74,7 @@ find_in (e ∷ es) u conn index =
         (sym (place_laws.symm (conn.0, index) e.0) ∙ h) (none_found (is_at conn index) (regs_in es) none)
         ∙ ap (λ (k : ℕ × ℕ). Some (registration (record { 0 = k.0 }) k.1 e.1)) (sym (same_place (conn.0, index) e.0 h))
         ∙ ap (λ b. option_map (registration conn index) (cond b (Some e.1) (at_place es conn index))) (sym h)
-    go false h ih =
-        find-insertion_past (is_at conn index) (λ other. stands_before other (reg_of e)) (reg_of e) (regs_in es)
-        (sym (place_laws.symm (conn.0, index) e.0) ∙ h) ∙ ih
-        ∙ ap (λ b. option_map (registration conn index) (cond b (Some e.1) (at_place es conn index))) (sym h)
+    go false h ih = grind (arith, find-insertion_past)
 
 pub ordered_in : (es : List ((ℕ × ℕ) × Name16)) → IsDistinct place_eq (keys_of es)
     → pairwise stands_before (regs_in es) ≡ true
@@ -115,11 +107,7 @@ filter_step q conn index false false x xs e f none ih = ih
 -- what stands before all others is alone at its place
 none_behind : (x : Registration) (xs : List Registration) (conn : ConnId) (index : ℕ)
     → list_all (stands_before x) xs ≡ true → is_at conn index x ≡ true → find (is_at conn index) xs ≡ None
-none_behind x xs conn index all e =
-    subst (λ (k : ℕ × ℕ). find (is_at (record { 0 = k.0 }) k.1) xs ≡ None)
-    (same_place (x.conn.0, x.index) (conn.0, index) e)
-    (find_none (is_at x.conn x.index) xs (none_from_all (is_at x.conn x.index) xs
-    (list_all_weaker (stands_before x) (λ y. not (is_at x.conn x.index y)) (λ y b. places_apart x y b) xs all)))
+none_behind x xs conn index all e = grind (arith, same_place, find_none, none_from_all, list_all_weaker, places_apart)
 
 pub find-kept : (q : Registration → Bool) (xs : List Registration) → pairwise stands_before xs ≡ true
     → (conn : ConnId) (index : ℕ)
@@ -144,12 +132,7 @@ pub removed_regs : (es fs : List ((ℕ × ℕ) × Name16)) (conn : ConnId) (inde
     → IsDistinct place_eq (keys_of fs) → WritesPlace es conn index None fs
     → regs_in fs ≡ filter (λ reg. not (is_at conn index reg)) (regs_in es)
 removed_regs es fs conn index u v updates =
-    same_regs (regs_in fs) (filter (λ reg. not (is_at conn index reg)) (regs_in es)) (ordered_in fs v)
-    (pairwise-filter stands_before (λ reg. not (is_at conn index reg)) (regs_in es) (ordered_in es u))
-    (λ d j. find_in fs v d j ∙ ap (option_map (registration d j)) (updates (d.0, j))
-    ∙ removed_at (place_eq (conn.0, index) (d.0, j)) conn d index j (at_place es d j) refl
-    ∙ ap (option_filter (λ reg. not (is_at conn index reg))) (sym (find_in es u d j))
-    ∙ sym (find-kept (λ reg. not (is_at conn index reg)) (regs_in es) (ordered_in es u) d j))
+    grind (arith, same_regs, ordered_in, pairwise-filter, find_in, removed_at, option_filter, find-kept)
 
 -- two filters that agree at each entry
 filter_at : (q r : Registration → Bool) (d : ConnId) (j : ℕ) (o : Option Name16)
@@ -162,12 +145,7 @@ pub same_filter : (q r : Registration → Bool) (es : List ((ℕ × ℕ) × Name
     → ((d : ConnId) (j : ℕ) (m : Name16) → at_place es d j ≡ Some m → q (registration d j m) ≡ r (registration d j m))
     → filter q (regs_in es) ≡ filter r (regs_in es)
 same_filter q r es u h =
-    let order = ordered_in es u in
-    same_regs (filter q (regs_in es)) (filter r (regs_in es)) (pairwise-filter stands_before q (regs_in es) order)
-    (pairwise-filter stands_before r (regs_in es) order)
-    (λ d j. find-kept q (regs_in es) order d j ∙ ap (option_filter q) (find_in es u d j)
-    ∙ filter_at q r d j (at_place es d j) (h d j) ∙ ap (option_filter r) (sym (find_in es u d j))
-    ∙ sym (find-kept r (regs_in es) order d j))
+    grind (arith, ordered_in, same_regs, pairwise-filter, find-kept, option_filter, find_in, filter_at)
 
 name_at : (conn : ConnId) (index : ℕ) (o : Option Name16)
     → option_map (λ (reg : Registration). reg.name) (option_map (registration conn index) o) ≡ o
@@ -176,9 +154,7 @@ name_at conn index (Some n) = refl
 
 pub at_law : (es : List ((ℕ × ℕ) × Name16)) → IsDistinct place_eq (keys_of es) → (conn : ConnId) (index : ℕ)
     → at_place es conn index ≡ registered_at (regs_in es) conn index
-at_law es u conn index =
-    sym (ap (option_map (λ (reg : Registration). reg.name)) (find_in es u conn index)
-    ∙ name_at conn index (at_place es conn index))
+at_law es u conn index = grind (arith, find_in, name_at)
 
 some_at : (conn : ConnId) (index : ℕ) (o : Option Name16) → is_some (option_map (registration conn index) o) ≡ is_some o
 some_at conn index None = refl
@@ -186,9 +162,7 @@ some_at conn index (Some n) = refl
 
 pub stands_law : (es : List ((ℕ × ℕ) × Name16)) → IsDistinct place_eq (keys_of es) → (conn : ConnId) (index : ℕ)
     → is_some (at_place es conn index) ≡ stands (regs_in es) conn index
-stands_law es u conn index =
-    sym (any_is_found (is_at conn index) (regs_in es) ∙ ap is_some (find_in es u conn index)
-    ∙ some_at conn index (at_place es conn index))
+stands_law es u conn index = grind (arith, any_is_found, find_in, some_at)
 
 -- an entry's place has a registration
 pub entry_stands : (es : List ((ℕ × ℕ) × Name16)) → IsDistinct place_eq (keys_of es) → (k : ℕ) (place : ℕ × ℕ)
@@ -204,15 +178,10 @@ entry_stands es u k place name h =
     there : (es : List ((ℕ × ℕ) × Name16)) (k : ℕ) → Some (place, name) ≡ slice_get es k
         → is_some (lookup (place_eq place) es) ≡ true
     there [] k h = absurd (cc)
-    there (e ∷ es) zero h =
-        let same : e ≡ (place, name) = cc in
-        ap (λ b. is_some (cond b (Some e.1) (lookup (place_eq place) es)))
-        (ap (λ (x : (ℕ × ℕ) × Name16). place_eq place x.0) same ∙ place_laws.refl place)
+    there (e ∷ es) zero h = grind arith
     there (e ∷ es) (suc k) h =
         found (place_eq place e.0) e.1 (lookup (place_eq place) es) (there es k h)
 
 pub removed_len : (es fs : List ((ℕ × ℕ) × Name16)) (n : ℕ) → length fs + n ≡ length es
     → length (regs_in fs) + n ≡ length (regs_in es)
-removed_len es fs n h =
-    let old = length-in es in
-    let new = length-in fs in omega (arith, old, new, h)
+removed_len es fs n h = grind (arith, length-in)

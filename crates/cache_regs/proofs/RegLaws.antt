@@ -23,12 +23,7 @@ places_apart reg other h = before_apart reg.conn.0 reg.index other.conn.0 other.
 
 pub finds_place : (reg : Registration) → FindsPlace stands_before (λ other. stands_before other reg)
     (λ other. not (is_at reg.conn reg.index other)) reg
-finds_place reg =
-    record {
-      front = λ other h. h;
-      stop = λ other h e. before_stop reg.conn.0 reg.index other.conn.0 other.index h e;
-      follows = λ y z h e. before_follows reg.conn.0 reg.index y.conn.0 y.index z.conn.0 z.index h e;
-    }
+finds_place reg = grind (arith, before_stop, before_follows)
 
 -- ---- what takes the place of others
 
@@ -60,12 +55,7 @@ turn : (a b : ℕ) → (a == b) ≡ (b == a)
 turn a b = grind (arith, nat_tests)
 
 not_for : (c i n d m : Bool) → c ≡ d → n ≡ m → not ((c && i) || (c && n)) ≡ true → not (d && m) && not (c && n) ≡ true
-not_for true i n d m e f h = rw (← e, ← f) (both i n h)
-  where
-    both : (i n : Bool) → not (i || n) ≡ true → not n && not n ≡ true
-    both true n h = absurd (false≢true h)
-    both false true h = absurd (false≢true h)
-    both false false h = refl
+not_for true i n d m e f h = grind (arith, false≢true)
 not_for false i n d m e f h = rw (← e) refl
 
 -- the registrations of a connector that registers are a registry
@@ -84,22 +74,12 @@ registry-with conn index name regs is =
           (λ other. not_at (is_of conn other) (other.index == index) (same_name other.name name)) others spared)
           (pairwise-filter stands_before (λ other. not (is_replaced conn index name other)) regs is.ordered);
       one_for_name =
-          pairwise-insertion_any names_apart (λ other. stands_before other reg) reg others
-          (pairwise-filter names_apart (λ other. not (is_replaced conn index name other)) regs is.one_for_name)
-          (list_all_weaker (λ other. not (is_replaced conn index name other)) (λ other. names_apart reg other
-          && names_apart other reg)
-          (λ other. not_for (is_of conn other) (other.index == index) (same_name other.name name)
-          (conn.0 == other.conn.0)
-          (same_name name other.name) (turn other.conn.0 conn.0) (same_name-sym other.name name)) others spared);
+          grind (arith, pairwise-insertion_any, pairwise-filter, list_all_weaker, not_for, turn, same_name-sym);
     }
 
 pub registry-filter : (q : Registration → Bool) (regs : List Registration) → IsRegistry regs
     → IsRegistry (filter q regs)
-registry-filter q regs is =
-    record {
-      ordered = pairwise-filter stands_before q regs is.ordered;
-      one_for_name = pairwise-filter names_apart q regs is.one_for_name;
-    }
+registry-filter q regs is = grind (arith, pairwise-filter)
 
 -- ---- one at most for a name
 
@@ -118,12 +98,7 @@ one_step : (conn : ConnId) (name : Name16) (b : Bool) (reg : Registration) (regs
     → is_for conn name reg ≡ b
     → list_all (names_apart reg) regs ≡ true → length (filter (is_for conn name) regs) ≤ 1
     → length (cond b (reg ∷ filter (is_for conn name) regs) (filter (is_for conn name) regs)) ≤ 1
-one_step conn name true reg regs e apart ih =
-    let none = none_from_all (is_for conn name) regs
-    (list_all_weaker (names_apart reg) (λ other. not (is_for conn name other))
-    (λ other h. same_for reg other conn name e h) regs apart) in
-    let empty : filter (is_for conn name) regs ≡ [] = filter_none (is_for conn name) regs none in
-    rw empty (omega arith)
+one_step conn name true reg regs e apart ih = grind (arith, none_from_all, list_all_weaker, same_for, filter_none)
 one_step conn name false reg regs e apart ih = ih
 
 pub one_for_name : (conn : ConnId) (name : Name16) (regs : List Registration) → pairwise names_apart regs ≡ true

@@ -1,7 +1,5 @@
 -- The indexes stay those of the rows.
-use Rattle.cache_rows.proofs.Imports.{◌≡◌, ℕ, ◌≤◌, Bool, true, false, not, ◌&&◌, ◌||◌, cond, List, [], ◌∷◌, ◌++◌, append-nil, Option, Some, None, is_some, unwrap_or, filter, map, refl, sym, ap, ◌∙◌, arith, list_all, and_parts, or_left, or_right, false≢true, map-append, filter-append, Name16, ConnId, same_name, name_before, pairwise, insertion, filter_swap, filter_none, none_from_all, list_all_weaker, list_all_always, filter-insertion_out, FindsPlace, pairwise-insertion, pairwise_push, Changed, names_without, names_with, names_set, room_taken, Used, order_without, order_touched, same_name-refl, CacheItem, is_row_of, is_changed, has_row, rows_without, stands_before, rows_with, may_precede, names_apart, without_hold, without-absent, alone-next, is_unchanged, changed_of, classes_of, used_of, order_of, order_with, changed_first}
-use Rattle.cache_classes.specs.Castout as castout
-use Rattle.cache_reclaim.specs.LastUse as last_use
+use Rattle.cache_rows.proofs.Imports.{◌≡◌, ℕ, ◌≤◌, Bool, true, false, not, ◌&&◌, ◌||◌, cond, List, [], ◌∷◌, ◌++◌, append-nil, Option, Some, None, is_some, unwrap_or, filter, map, refl, sym, ap, ◌∙◌, arith, list_all, and_parts, or_left, or_right, false≢true, map-append, filter-append, Name16, ConnId, name_before, pairwise, insertion, filter_swap, filter_none, none_from_all, list_all_weaker, list_all_always, filter-insertion_out, FindsPlace, pairwise-insertion, pairwise_push, Changed, names_without, names_with, names_set, room_taken, Used, order_without, order_touched, same_name-refl, CacheItem, is_changed, has_row, rows_without, stands_before, rows_with, may_precede, names_apart, without_hold, without-absent, alone-next, changed_of, classes_of, used_of, order_of, order_with, changed_first}
 
 -- ---- filters of maps
 
@@ -19,17 +17,11 @@ filter-map p f (x ∷ xs) = map_step f (p (f x)) x (filter (λ y. p (f y)) xs) (
 
 pub classes-without : (name : Name16) (rows : List CacheItem)
     → names_without name (classes_of rows) ≡ classes_of (rows_without name rows)
-classes-without name rows =
-    filter-map (λ (changed : Changed). not (castout.is_named name changed)) changed_of (filter is_changed rows)
-    ∙ ap (λ (l : List CacheItem). map changed_of l)
-    (filter_swap (λ (row : CacheItem). not (is_row_of name row)) is_changed rows)
+classes-without name rows = grind (arith, filter-map, filter_swap)
 
 pub order-without : (name : Name16) (rows : List CacheItem)
     → order_without name (order_of rows) ≡ order_of (rows_without name rows)
-order-without name rows =
-    filter-map (λ (used : Used). not (last_use.is_named name used)) used_of (filter is_unchanged rows)
-    ∙ ap (λ (l : List CacheItem). map used_of l)
-    (filter_swap (λ (row : CacheItem). not (is_row_of name row)) is_unchanged rows)
+order-without name rows = grind (arith, filter-map, filter_swap)
 
 classes-absent : (name : Name16) (rows : List CacheItem) → has_row name rows ≡ false
     → names_without name (classes_of rows) ≡ classes_of rows
@@ -47,14 +39,7 @@ order-absent name rows h =
 pub unchanged_behind : (y : CacheItem) (ys : List CacheItem) → is_changed y ≡ false
     → list_all (changed_first y) ys ≡ true
     → filter is_changed ys ≡ []
-unchanged_behind y ys e h =
-    filter_none is_changed ys
-    (none_from_all is_changed ys (list_all_weaker (changed_first y) (λ z. not (is_changed z))
-    (λ z k. right (is_changed y) (is_changed z) e k) ys h))
-  where
-    right : (a b : Bool) → a ≡ false → a || not b ≡ true → not b ≡ true
-    right true b e k = absurd (false≢true (sym e))
-    right false b e k = k
+unchanged_behind y ys e h = grind (arith, filter_none, none_from_all, list_all_weaker, false≢true)
 
 placed : (a n : Bool) (row y : CacheItem) (ys zs : List CacheItem) → is_changed row ≡ true → is_changed y ≡ a
     → (a ≡ false → filter is_changed ys ≡ [])
@@ -76,27 +61,11 @@ classes-insertion row (y ∷ ys) e h =
 
 classes-last : (b : Bool) (row : CacheItem) (rows : List CacheItem) → is_changed row ≡ b
     → classes_of (rows ++ row ∷ []) ≡ classes_of rows ++ cond b (changed_of row ∷ []) []
-classes-last b row rows e =
-    ap (λ (l : List CacheItem). map changed_of l) (filter-append is_changed rows (row ∷ []))
-    ∙ map-append changed_of (filter is_changed rows) (filter is_changed (row ∷ []))
-    ∙ ap (λ (l : List Changed). classes_of rows ++ l) (one b e)
-  where
-    one : (b : Bool) → is_changed row ≡ b
-        → map changed_of (filter is_changed (row ∷ [])) ≡ cond b (changed_of row ∷ []) []
-    one true e = rw e refl
-    one false e = rw e refl
+classes-last b row rows e = grind (arith, filter-append, map-append)
 
 order-last : (b : Bool) (row : CacheItem) (rows : List CacheItem) → is_changed row ≡ b
     → order_of (rows ++ row ∷ []) ≡ order_of rows ++ cond b [] (used_of row ∷ [])
-order-last b row rows e =
-    ap (λ (l : List CacheItem). map used_of l) (filter-append is_unchanged rows (row ∷ []))
-    ∙ map-append used_of (filter is_unchanged rows) (filter is_unchanged (row ∷ []))
-    ∙ ap (λ (l : List Used). order_of rows ++ l) (one b e)
-  where
-    one : (b : Bool) → is_changed row ≡ b → map used_of (filter is_unchanged (row ∷ [])) ≡ cond b []
-        (used_of row ∷ [])
-    one true e = rw e refl
-    one false e = rw e refl
+order-last b row rows e = grind (arith, filter-append, map-append)
 
 -- the name's class, where it had none
 set-absent : (name : Name16) (class : Option ℕ) (names : List Changed) → names_without name names ≡ names
@@ -126,24 +95,11 @@ touched false row rows absent e = ap (λ (l : List Used). l ++ used_of row ∷ [
 
 pub order-put : (row : CacheItem) (rows : List CacheItem) → has_row row.name rows ≡ false
     → order_with row (order_of rows) ≡ order_of (rows_with row rows)
-order-put row rows absent = go (is_changed row) refl
-  where
-    go : (b : Bool) → is_changed row ≡ b
-        → cond b (order_of rows) (order_touched row.name row.stg (order_of rows))
-        ≡ order_of (cond b (insertion (stands_before row) row rows) (rows ++ row ∷ []))
-    go true e = sym (ap (λ (l : List CacheItem). map used_of l)
-        (filter-insertion_out is_unchanged (stands_before row) row rows (ap not e)))
-    go false e = touched false row rows absent e ∙ sym (order-last false row rows e)
+order-put row rows absent = grind (arith, filter-insertion_out, touched, order-last)
 
 finds_front : (row : CacheItem) → is_changed row ≡ true
     → FindsPlace changed_first (stands_before row) (λ other. true) row
-finds_front row e =
-    record {
-      front = λ y h. or_left (is_changed y) (not (is_changed row))
-          (and_parts (is_changed y) (name_before y.name row.name) h).0;
-      stop = λ y h k. or_left (is_changed row) (not (is_changed y)) e;
-      follows = λ y z h k. or_left (is_changed row) (not (is_changed z)) e;
-    }
+finds_front row e = grind (arith, or_left, and_parts)
 
 pub front-put : (row : CacheItem) (rows : List CacheItem) → pairwise changed_first rows ≡ true
     → pairwise changed_first (rows_with row rows) ≡ true
@@ -154,10 +110,7 @@ front-put row rows h = go (is_changed row) refl
     go true e =
         pairwise-insertion changed_first (stands_before row) (λ other. true) row rows (finds_front row e)
         (list_all_always (λ (other : CacheItem). true) (λ other. refl) rows) h
-    go false e =
-        pairwise_push changed_first rows row h
-        (list_all_always (λ y. changed_first y row)
-        (λ y. or_right (is_changed y) (not (is_changed row)) (ap not e)) rows)
+    go false e = grind (arith, pairwise_push, list_all_always, or_right)
 
 -- ---- a row is put behind the others, where it has its place
 
@@ -177,15 +130,7 @@ last_step a false n e h = absurd (false≢true e)
 -- a row that may follow all others has its place behind them
 pub with-last : (row : CacheItem) (rows : List CacheItem) → list_all (λ other. may_precede other row) rows ≡ true
     → rows_with row rows ≡ rows ++ row ∷ []
-with-last row rows last = go (is_changed row) refl
-  where
-    go : (b : Bool) → is_changed row ≡ b
-        → cond b (insertion (stands_before row) row rows) (rows ++ row ∷ []) ≡ rows ++ row ∷ []
-    go true e =
-        insertion_last (stands_before row) row rows
-        (list_all_weaker (λ other. may_precede other row) (stands_before row)
-        (λ other h. last_step (is_changed other) (is_changed row) (name_before other.name row.name) e h) rows last)
-    go false e = refl
+with-last row rows last = grind (arith, insertion_last, list_all_weaker, last_step)
 
 -- ---- castout locks are released
 
@@ -196,29 +141,17 @@ map_same f g h e (x ∷ xs) = rw (e x) (ap (λ l. h x ∷ l) (map_same f g h e x
 
 pub classes-released : (conn : ConnId) (rows : List CacheItem)
     → classes_of (map (without_hold conn) rows) ≡ classes_of rows
-classes-released conn rows =
-    ap (λ (l : List CacheItem). map changed_of l) (filter-map is_changed (without_hold conn) rows)
-    ∙ map_same changed_of (without_hold conn) changed_of (λ row. refl) (filter is_changed rows)
+classes-released conn rows = grind (arith, filter-map, map_same)
 
 pub order-released : (conn : ConnId) (rows : List CacheItem) → order_of (map (without_hold conn) rows) ≡ order_of rows
-order-released conn rows =
-    ap (λ (l : List CacheItem). map used_of l) (filter-map is_unchanged (without_hold conn) rows)
-    ∙ map_same used_of (without_hold conn) used_of (λ row. refl) (filter is_unchanged rows)
+order-released conn rows = grind (arith, filter-map, map_same)
 
 -- ---- the last row goes
 
 pub without-last : (row : CacheItem) (rows : List CacheItem) → pairwise names_apart (rows ++ row ∷ []) ≡ true
     → rows_without row.name (rows ++ row ∷ []) ≡ rows
 without-last row rows h =
-    filter-append (λ (r : CacheItem). not (is_row_of row.name r)) rows (row ∷ [])
-    ∙ ap (λ (l : List CacheItem). rows_without row.name rows ++ l)
-    (own (same_name row.name row.name) (same_name-refl row.name))
-    ∙ append-nil (rows_without row.name rows)
-    ∙ without-absent row.name rows (alone-next rows [] row h)
-  where
-    own : (b : Bool) → b ≡ true → cond (not b) (row ∷ []) [] ≡ []
-    own true e = refl
-    own false e = absurd (false≢true e)
+    grind (arith, filter-append, same_name-refl, append-nil, without-absent, alone-next, false≢true)
 
 -- ---- how many
 

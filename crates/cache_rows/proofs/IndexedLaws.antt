@@ -1,5 +1,5 @@
 -- A map from names and two indexes hold one list of rows, as rows come and go.
-use Rattle.cache_rows.proofs.Imports.{◌≡◌, ℕ, zero, suc, ◌+◌, ◌-◌, ◌≤◌, ◌<◌, Bool, true, false, not, ◌&&◌, cond, List, [], ◌∷◌, ◌++◌, Option, Some, None, option_map, option_to_list, slice_get, is_some, unwrap_or, length, length-append, filter, find, map, drop, refl, sym, ap, ◌∙◌, subst, arith, option_or, list_all, and_parts, map-append, length-map, drop_all, filter-append, find-append, slice_get-map, Name16, ConnId, same_name, pairwise, insertion, filter-filter, filter_swap, find-filter, find_none, any_is_found, length-filter-le, find-insertion_past, find-insertion_here, found_filter, pairwise-filter, pairwise-map, Changed, names_without, names_set, Writes, Used, order_without, slice_get-front, slice_get-behind, same_name-eq, same_name-refl, same_name-sym, CacheItem, is_row_of, is_changed, row_of, has_row, rows_without, stands_before, rows_with, rows_replaced, new_row, names_apart, has_storage, without_hold, name_of, apart-with, alone-without, is_unchanged, changed_of, used_of, order_with, changed_first, Label, item_with, body_of, row_or, changed_in, unchanged_in, rows_in, IsIndexed, counts_at, relabeled}
+use Rattle.cache_rows.proofs.Imports.{◌≡◌, ℕ, zero, suc, ◌+◌, ◌-◌, ◌≤◌, ◌<◌, Bool, true, false, not, ◌&&◌, cond, List, [], ◌∷◌, ◌++◌, Option, Some, None, option_map, option_to_list, slice_get, is_some, unwrap_or, length, length-append, filter, map, drop, refl, sym, ap, ◌∙◌, subst, arith, option_or, list_all, and_parts, map-append, length-map, drop_all, filter-append, find-append, slice_get-map, Name16, ConnId, same_name, pairwise, insertion, filter-filter, filter_swap, find-filter, find_none, any_is_found, length-filter-le, find-insertion_past, find-insertion_here, found_filter, pairwise-filter, pairwise-map, Changed, names_without, names_set, Writes, Used, order_without, slice_get-front, slice_get-behind, same_name-eq, same_name-refl, same_name-sym, CacheItem, is_row_of, is_changed, row_of, has_row, rows_without, stands_before, rows_with, rows_replaced, new_row, has_storage, without_hold, name_of, apart-with, alone-without, is_unchanged, changed_of, used_of, order_with, changed_first, Label, item_with, body_of, row_or, changed_in, unchanged_in, rows_in, IsIndexed, counts_at, relabeled}
 use Rattle.cache_classes.specs.Castout as castout
 use Rattle.cache_reclaim.specs.LastUse as last_use
 use Rattle.cache_rows.proofs.IndexLaws.{filter-map, map_same, unchanged_behind, classes-without, order-without, classes-put, order-put, front-put, classes-released, order-released}
@@ -12,10 +12,7 @@ parts_step : (b : Bool) (y : CacheItem) (ys : List CacheItem) → (b ≡ false �
     → y ∷ ys ≡ cond b (y ∷ filter is_changed ys) (filter is_changed ys)
     ++ cond (not b) (y ∷ filter is_unchanged ys) (filter is_unchanged ys)
 parts_step true y ys none ih = ap (λ l. y ∷ l) ih
-parts_step false y ys none ih =
-    let empty = none refl in
-    let rest : ys ≡ filter is_unchanged ys = ih ∙ ap (λ l. l ++ filter is_unchanged ys) empty in
-    ap (λ l. y ∷ l) rest ∙ sym (ap (λ l. l ++ (y ∷ filter is_unchanged ys)) empty)
+parts_step false y ys none ih = grind arith
 
 pub parts_of : (rows : List CacheItem) → pairwise changed_first rows ≡ true
     → rows ≡ filter is_changed rows ++ filter is_unchanged rows
@@ -65,10 +62,7 @@ module _ (rows : List CacheItem) (at : Name16 → Option CacheItem) (names : Lis
 
   -- what the map and the indexes hold is the list
   pub listed_is : rows_in at names used ≡ rows
-  listed_is =
-      ap (λ l. l ++ unchanged_in at used) listed_changed
-      ∙ ap (λ l. filter is_changed rows ++ l) listed_unchanged
-      ∙ sym (parts_of rows is.changed_front)
+  listed_is = grind (arith, listed_changed, listed_unchanged, parts_of)
 
   pub listed : IsIndexed (rows_in at names used) at names used
   listed = subst (λ l. IsIndexed l at names used) (sym listed_is) is
@@ -102,11 +96,7 @@ module _ (rows : List CacheItem) (at : Name16 → Option CacheItem) (names : Lis
   pub name_in_front : (k : ℕ) (name : Option Name16) → k < length names
       → name ≡ option_map (λ (changed : Changed). changed.name) (slice_get names k)
       → name ≡ option_map name_of (slice_get rows k)
-  name_in_front k name lt e =
-      let long = length-map names (λ (changed : Changed). changed.name) in
-      e ∙ sym (slice_get-map (λ (changed : Changed). changed.name) names k)
-      ∙ sym (slice_get-front (castout.names_in names) (last_use.names_in used) k (omega (arith, lt, long)))
-      ∙ sym (row_at_place k)
+  name_in_front k name lt e = grind (arith, length-map, slice_get-map, slice_get-front, row_at_place)
 
   pub name_behind : (k : ℕ) (name : Option Name16) → length names ≤ k
       → name ≡ option_map (λ (one : Used). one.name) (slice_get used (k - length names))
@@ -120,25 +110,16 @@ module _ (rows : List CacheItem) (at : Name16 → Option CacheItem) (names : Lis
       ∙ sym (row_at_place k)
 
   fewer_changed : length names ≤ length rows
-  fewer_changed =
-      let long : length names ≡ length (filter is_changed rows) =
-      ap (λ (l : List Changed). length l) is.classed ∙ length-map (filter is_changed rows) changed_of in
-      omega (arith, long, length-filter-le is_changed rows)
+  fewer_changed = grind (arith, length-map, length-filter-le)
 
   pub fewer_unchanged : length used ≤ length rows
-  fewer_unchanged =
-      let long : length used ≡ length (filter is_unchanged rows) =
-      ap (λ (l : List Used). length l) is.ordered ∙ length-map (filter is_unchanged rows) used_of in
-      omega (arith, long, length-filter-le is_unchanged rows)
+  fewer_unchanged = grind (arith, length-map, length-filter-le)
 
   -- the name of the last row, where none is unchanged
   pub last_in_front : (n : ℕ) (name : Option Name16) → n ≡ length rows → 0 < n → n ≤ length names
       → name ≡ option_map (λ (changed : Changed). changed.name) (slice_get names (length names - 1))
       → name ≡ option_map name_of (slice_get rows (n - 1))
-  last_in_front n name all some le e =
-      let same : length names - 1 ≡ n - 1 = omega (arith, all, some, le, fewer_changed) in
-      name_in_front (n - 1) name (omega (arith, some, le))
-      (e ∙ ap (λ k. option_map (λ (changed : Changed). changed.name) (slice_get names k)) same)
+  last_in_front n name all some le e = grind (arith, fewer_changed, name_in_front)
 
   -- ---- how many rows are of a storage class
 
@@ -157,18 +138,7 @@ module _ (rows : List CacheItem) (at : Name16 → Option CacheItem) (names : Lis
   pub unchanged_storage : (stg n : ℕ) → n ≡ length (filter (last_use.is_in_part stg true) used)
       → n + length (filter (λ row. has_storage stg row && is_changed row) rows)
       ≡ length (filter (has_storage stg) rows)
-  unchanged_storage stg n e =
-      let own = filter (has_storage stg) rows in
-      let ones : n ≡ length (filter is_unchanged own) =
-      e ∙ ap (λ (l : List Used). length (filter (last_use.is_in_part stg true) l)) is.ordered
-      ∙ ap (λ (l : List Used). length l)
-      (filter-map (last_use.is_in_part stg true) used_of (filter is_unchanged rows))
-      ∙ length-map (filter (has_storage stg) (filter is_unchanged rows)) used_of
-      ∙ ap (λ (l : List CacheItem). length l) (filter_swap (has_storage stg) is_unchanged rows) in
-      let others : length (filter (λ row. has_storage stg row && is_changed row) rows)
-      ≡ length (filter is_changed own) =
-      ap (λ (l : List CacheItem). length l) (sym (filter-filter is_changed (has_storage stg) rows)) in
-      omega (arith, ones, others, both_parts own)
+  unchanged_storage stg n e = grind (arith, filter-map, length-map, filter_swap, filter-filter, both_parts)
 
 -- ---- one more of a list from a place on
 
@@ -176,22 +146,13 @@ pub drop_one : {X : Type 0} (xs : List X) (k : ℕ) → drop k xs ≡ option_to_
 drop_one {X} [] k =
     let none : List X = [] in drop_all k none (omega arith) ∙ sym (drop_all (k + 1) none (omega arith))
 drop_one (x ∷ xs) zero = refl
-drop_one (x ∷ xs) (suc k) =
-    let next : suc k + 1 ≡ suc (k + 1) = omega arith in
-    drop_one xs k ∙ ap (λ n. option_to_list (slice_get xs k) ++ drop n (x ∷ xs)) (sym next)
+drop_one (x ∷ xs) (suc k) = grind (arith, drop_one xs k)
 
 pub counted_more : (stg : ℕ) (at : Name16 → Option CacheItem) (names : List Changed) (k now one all : ℕ)
     → one ≡ counts_at stg at names k
     → now + length (filter (λ changed. has_storage stg (row_or at changed.name)) (drop k names)) ≡ all
     → now + one + length (filter (λ changed. has_storage stg (row_or at changed.name)) (drop (k + 1) names)) ≡ all
-counted_more stg at names k now one all is so_far =
-    let p = λ (changed : Changed). has_storage stg (row_or at changed.name) in
-    let here = option_to_list (slice_get names k) in
-    let split : length (filter p (drop k names)) ≡ length (filter p here) + length (filter p (drop (k + 1) names)) =
-    ap (λ (l : List Changed). length (filter p l)) (drop_one names k)
-    ∙ ap (λ (l : List Changed). length l) (filter-append p here (drop (k + 1) names))
-    ∙ length-append (filter p here) (filter p (drop (k + 1) names)) in
-    omega (arith, is, so_far, split)
+counted_more stg at names k now one all is so_far = grind (arith, drop_one, filter-append, length-append)
 
 pub count_fits : (stg : ℕ) (at : Name16 → Option CacheItem) (names : List Changed) (k now one : ℕ)
     → one ≡ counts_at stg at names k
@@ -233,14 +194,7 @@ pub taken : (rows : List CacheItem) (at next : Name16 → Option CacheItem) (nam
     → used' ≡ order_without name used
     → IsIndexed (rows_without name rows) next names' used'
 taken rows at next names names' used used' name is writes e f =
-    let other = λ (row : CacheItem). not (is_row_of name row) in
-    record {
-      changed_front = pairwise-filter changed_first other rows is.changed_front;
-      one_for_name = pairwise-filter names_apart other rows is.one_for_name;
-      classed = e ∙ ap (λ l. names_without name l) is.classed ∙ classes-without name rows;
-      ordered = f ∙ ap (λ l. order_without name l) is.ordered ∙ order-without name rows;
-      found = λ q. writes q ∙ ap (λ o. cond (same_name name q) None o) (is.found q) ∙ sym (other_found q name rows);
-    }
+    grind (arith, pairwise-filter, classes-without, order-without, other_found)
 
 -- ---- a row is put in its place
 
@@ -251,14 +205,8 @@ or_none (Some row) = refl
 last_found : (c : Bool) (q : Name16) (row : CacheItem) (rows : List CacheItem) → is_row_of q row ≡ c
     → (c ≡ true → row_of q rows ≡ None)
     → row_of q (rows ++ row ∷ []) ≡ cond c (Some row) (row_of q rows)
-last_found true q row rows e none =
-    find-append (is_row_of q) rows (row ∷ [])
-    ∙ ap (λ o. option_or o (find (is_row_of q) (row ∷ []))) (none refl)
-    ∙ ap (λ (b : Bool). cond b (Some row) None) e
-last_found false q row rows e none =
-    find-append (is_row_of q) rows (row ∷ [])
-    ∙ ap (λ (b : Bool). option_or (row_of q rows) (cond b (Some row) None)) e
-    ∙ or_none (row_of q rows)
+last_found true q row rows e none = grind (arith, find-append)
+last_found false q row rows e none = grind (arith, find-append, or_none)
 
 placed_found : (c : Bool) (q : Name16) (row : CacheItem) (rows : List CacheItem) → is_row_of q row ≡ c
     → (c ≡ true → has_row q rows ≡ false)
@@ -284,14 +232,7 @@ pub come : (rows : List CacheItem) (at next : Name16 → Option CacheItem) (name
     → names' ≡ names_set row.name row.class names → used' ≡ order_with row used
     → IsIndexed (rows_with row rows) next names' used'
 come rows at next names names' used used' row is alone writes e f =
-    record {
-      changed_front = front-put row rows is.changed_front;
-      one_for_name = apart-with row rows is.one_for_name alone;
-      classed = e ∙ ap (λ l. names_set row.name row.class l) is.classed ∙ classes-put row rows alone is.changed_front;
-      ordered = f ∙ ap (λ l. order_with row l) is.ordered ∙ order-put row rows alone;
-      found = λ q. writes q ∙ ap (λ o. cond (same_name row.name q) (Some row) o) (is.found q)
-          ∙ sym (with_found q row rows alone);
-    }
+    grind (arith, front-put, apart-with, classes-put, order-put, with_found)
 
 -- ---- a row is put in place of the one of its name
 
@@ -323,9 +264,7 @@ pub relabeled_in : (rows : List CacheItem) (at next : Name16 → Option CacheIte
     → IsIndexed (rows_replaced (relabeled label rows) rows) next names' used'
 relabeled_in rows at next names left names' used rest used' label is writes e f g h =
     replaced rows at next names left names' used rest used' (relabeled label rows) is
-    (λ q. writes q
-    ∙ ap (λ (o : Option CacheItem). cond (same_name label.name q) (Some (item_with label (body_of o))) (at q))
-    (is.found label.name))
+    (grind arith)
     e f g h
 
 -- ---- castout locks are released
@@ -339,19 +278,11 @@ held_step conn false row o r e = e
 released_found : (conn : ConnId) (q : Name16) (rows : List CacheItem)
     → row_of q (map (without_hold conn) rows) ≡ option_map (without_hold conn) (row_of q rows)
 released_found conn q [] = refl
-released_found conn q (row ∷ rows) =
-    held_step conn (same_name row.name q) row (row_of q rows) (row_of q (map (without_hold conn) rows))
-    (released_found conn q rows)
+released_found conn q (row ∷ rows) = grind (arith, held_step, released_found conn q rows)
 
 pub released : (rows : List CacheItem) (at next : Name16 → Option CacheItem) (names : List Changed)
     (used : List Used) (conn : ConnId)
     → IsIndexed rows at names used → ((q : Name16) → next q ≡ option_map (without_hold conn) (at q))
     → IsIndexed (map (without_hold conn) rows) next names used
 released rows at next names used conn is moved =
-    record {
-      changed_front = pairwise-map changed_first (without_hold conn) (λ x y. refl) rows ∙ is.changed_front;
-      one_for_name = pairwise-map names_apart (without_hold conn) (λ x y. refl) rows ∙ is.one_for_name;
-      classed = is.classed ∙ sym (classes-released conn rows);
-      ordered = is.ordered ∙ sym (order-released conn rows);
-      found = λ q. moved q ∙ ap (λ o. option_map (without_hold conn) o) (is.found q) ∙ sym (released_found conn q rows);
-    }
+    grind (arith, pairwise-map, classes-released, order-released, released_found)

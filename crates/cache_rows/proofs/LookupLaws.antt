@@ -1,5 +1,5 @@
 -- What the indexes tell of the rows.
-use Rattle.cache_rows.proofs.Imports.{◌≡◌, ℕ, ◌==◌, Bool, true, false, not, ◌&&◌, List, [], ◌∷◌, ◌++◌, Option, Some, None, option_map, slice_get, is_some, unwrap_or, length, filter, map, suc, zero, ◌-◌, ◌+◌, ◌<◌, take, refl, sym, ap, ◌∙◌, subst, arith, map-append, length-map, drop_all, filter_agree, slice_get-map, Name16, same_name, pairwise, filter-filter, filter_all, list_all_always, any_is_found, split_next, AllFound, found_filter, found_append, Changed, Used, same_name-eq, same_name-refl, CacheItem, is_row_of, is_changed, row_of, has_row, rows_without, has_class, has_storage, names_apart, rows_of_class, name_of, is_unchanged, changed_of, classes_of, used_of, order_of, reclaimed_for}
+use Rattle.cache_rows.proofs.Imports.{◌≡◌, ℕ, ◌==◌, Bool, true, not, ◌&&◌, List, [], ◌∷◌, ◌++◌, Option, Some, None, option_map, slice_get, length, filter, map, suc, zero, ◌-◌, ◌+◌, ◌<◌, take, refl, sym, ap, ◌∙◌, subst, arith, map-append, length-map, drop_all, filter_agree, slice_get-map, Name16, same_name, pairwise, filter-filter, filter_all, list_all_always, any_is_found, split_next, AllFound, found_filter, found_append, Used, same_name-eq, same_name-refl, CacheItem, is_changed, row_of, has_row, rows_without, has_class, has_storage, names_apart, rows_of_class, name_of, is_unchanged, changed_of, classes_of, used_of, order_of, reclaimed_for}
 use Rattle.cache_classes.specs.Castout as castout
 use Rattle.cache_reclaim.specs.LastUse as last_use
 use Rattle.cache_rows.proofs.IndexLaws.{filter-map, map_same, without-last}
@@ -9,46 +9,21 @@ use Rattle.cache_rows.proofs.IndexLaws.{filter-map, map_same, without-last}
 classed : (class : ℕ) (rows : List CacheItem)
     → filter (λ row. castout.is_of_class class (changed_of row)) (filter is_changed rows)
     ≡ filter (has_class class) rows
-classed class rows =
-    filter-filter (λ (row : CacheItem). castout.is_of_class class (changed_of row)) is_changed rows
-    ∙ filter_agree (λ (row : CacheItem). is_changed row && castout.is_of_class class (changed_of row))
-    (has_class class)
-    (λ row. agree row row.class) rows
-  where
-    agree : (row : CacheItem) (o : Option ℕ)
-        → is_some o && (unwrap_or o 0 == class) ≡ has_class class (record row { class = o })
-    agree row None = refl
-    agree row (Some other) = refl
+classed class rows = grind (arith, filter-filter, filter_agree)
 
 pub names-classes_of : (class : ℕ) (rows : List CacheItem)
     → castout.names_of class (classes_of rows) ≡ map (λ (row : CacheItem). row.name) (filter (has_class class) rows)
-names-classes_of class rows =
-    ap (λ (l : List Changed). map (λ (changed : Changed). changed.name) l)
-    (filter-map (castout.is_of_class class) changed_of (filter is_changed rows))
-    ∙ map_same (λ (changed : Changed). changed.name) changed_of (λ (row : CacheItem). row.name) (λ row. refl)
-    (filter (λ (row : CacheItem). castout.is_of_class class (changed_of row)) (filter is_changed rows))
-    ∙ ap (λ (l : List CacheItem). map (λ (row : CacheItem). row.name) l) (classed class rows)
+names-classes_of class rows = grind (arith, filter-map, map_same, classed)
 
 pub count-classes_of : (class : ℕ) (rows : List CacheItem)
     → castout.count_of class (classes_of rows) ≡ rows_of_class rows class
-count-classes_of class rows =
-    ap (λ (l : List Changed). length l) (filter-map (castout.is_of_class class) changed_of (filter is_changed rows))
-    ∙ length-map (filter (λ (row : CacheItem). castout.is_of_class class (changed_of row))
-    (filter is_changed rows)) changed_of
-    ∙ ap (λ (l : List CacheItem). length l) (classed class rows)
+count-classes_of class rows = grind (arith, filter-map, length-map, classed)
 
 -- ---- the rows in the order of reclaiming
 
 order-reclaimed : (stg : ℕ) (rows : List CacheItem)
     → last_use.reclaimed_for stg (order_of rows) ≡ map used_of (reclaimed_for stg rows)
-order-reclaimed stg rows =
-    let unchanged = filter is_unchanged rows in
-    ap (λ (l : List Used). l ++ filter (last_use.is_in_part stg false) (order_of rows))
-    (filter-map (last_use.is_in_part stg true) used_of unchanged)
-    ∙ ap (λ (l : List Used). map used_of (filter (has_storage stg) unchanged) ++ l)
-    (filter-map (last_use.is_in_part stg false) used_of unchanged)
-    ∙ sym (map-append used_of (filter (has_storage stg) unchanged)
-    (filter (λ (row : CacheItem). not (has_storage stg row)) unchanged))
+order-reclaimed stg rows = grind (arith, filter-map, map-append)
 
 victim-row : (stg k : ℕ) (rows : List CacheItem)
     → last_use.victim stg k (order_of rows)
@@ -133,12 +108,7 @@ named-row rows k name h e = go (slice_get rows k) refl e
 pub named-has : (rows : List CacheItem) (k : ℕ) (name : Name16) → pairwise names_apart rows ≡ true
     → Some name ≡ option_map name_of (slice_get rows k)
     → has_row name rows ≡ true
-named-has rows k name h e =
-    any_is_found (is_row_of name) rows ∙ ap is_some (named-row rows k name h e) ∙ go (slice_get rows k) e
-  where
-    go : (o : Option CacheItem) → Some name ≡ option_map name_of o → is_some o ≡ true
-    go None f = absurd (cc)
-    go (Some row) f = refl
+named-has rows k name h e = grind (arith, any_is_found, named-row, name_of)
 
 pub past-named : (rows : List CacheItem) (k : ℕ) → k < length rows → None ≡ option_map name_of (slice_get rows k) → ⊥
 past-named [] k lt e = omega (arith, lt)
@@ -166,7 +136,4 @@ popped rows name h e = go (slice_get rows (length rows - 1)) refl e
         let front = take last rows in
         let whole : rows ≡ front ++ row ∷ [] =
         split_next rows last row is ∙ ap (λ (l : List CacheItem). front ++ row ∷ l)
-        (drop_all (last + 1) rows (omega arith)) in
-        ap (λ (n : Name16). rows_without n rows) same
-        ∙ ap (λ (l : List CacheItem). rows_without row.name l) whole
-        ∙ without-last row front (subst (λ (l : List CacheItem). pairwise names_apart l ≡ true) whole h)
+        (drop_all (last + 1) rows (omega arith)) in grind (arith, without-last)

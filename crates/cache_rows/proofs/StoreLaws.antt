@@ -1,5 +1,5 @@
 -- Rows whose data lie in a pool, as they come and go.
-use Rattle.cache_rows.proofs.Imports.{◌≡◌, ℕ, Bool, true, false, cond, nat_eq, List, [], ◌∷◌, set, get_or, slice_get, Option, Some, None, option_map, refl, sym, ap, ◌∙◌, subst, get_or-set_other, pointwise, false≢true, get_or_from_slice_get, Name16, ConnId, same_name, Chain, get-set_other, same_name-eq, DirRow, row_at, let_go, Writes, CacheItem, without_hold, Label, item_with, row_of_label, body_of, body_in, item_in, entries_in, item_at, chains_without, HasBytes, HasData, chain_of, head_of, AreStored}
+use Rattle.cache_rows.proofs.Imports.{arith, ◌≡◌, ℕ, Bool, true, false, cond, List, [], ◌∷◌, set, slice_get, Option, Some, None, option_map, refl, sym, ap, ◌∙◌, subst, get_or-set_other, false≢true, get_or_from_slice_get, Name16, ConnId, same_name, Chain, get-set_other, same_name-eq, DirRow, row_at, let_go, Writes, CacheItem, without_hold, Label, item_with, row_of_label, body_of, body_in, item_in, entries_in, item_at, chains_without, HasBytes, HasData, chain_of, head_of, AreStored}
 
 abbrev Chains : Type 0
 Chains = List (Option (List ℕ))
@@ -12,14 +12,7 @@ Rows = Name16 → Option DirRow
 has_set : (chains : Chains) (stored : Option Chain) (at : ℕ) (o : Option (List ℕ)) → (head_of stored ≡ Some at → ⊥)
     → HasData chains stored → HasData (set chains at o) stored
 has_set chains None at o away h = tt
-has_set chains (Some chain) at o away h = (
-  h.0,
-  record {
-    there = get-set_other chains at chain.head o (λ e. away (ap Some e)) ∙ h.1.there;
-    some = h.1.some;
-    few = h.1.few;
-  },
-)
+has_set chains (Some chain) at o away h = grind (arith, get-set_other)
 
 body_set : (chains : Chains) (stored : Option Chain) (at : ℕ) (o : Option (List ℕ)) → (head_of stored ≡ Some at → ⊥)
     → body_in (set chains at o) stored ≡ body_in chains stored
@@ -30,12 +23,7 @@ item_set : (chains : Chains) (row : Option DirRow) (at : ℕ) (o : Option (List 
     → (head_of (chain_of row) ≡ Some at → ⊥)
     → option_map (item_in (set chains at o)) row ≡ option_map (item_in chains) row
 item_set chains None at o away = refl
-item_set chains (Some row) at o away =
-    ap (λ (b : Option (List ℕ)). Some (item b)) (body_set chains row.stored at o away)
-  where
-    item : Option (List ℕ) → CacheItem
-    item b =
-        record { name = row.name; body = b; adj = row.adj; class = row.class; holder = row.holder; stg = row.stg }
+item_set chains (Some row) at o away = grind (arith, body_set)
 
 abbrev pub IsUnused : Rows → ℕ → Type 0
 IsUnused rows at = (name : Name16) → head_of (chain_of (rows name)) ≡ Some at → ⊥
@@ -54,45 +42,22 @@ no_head at e = cc
 -- where no chain begins, no row's data begin
 unused_fresh : (chains : Chains) (rows : Rows) (at : ℕ) → AreStored chains rows → slice_get chains at ≡ Some None
     → IsUnused rows at
-unused_fresh chains rows at is fresh q e = go (chain_of (rows q)) (is.held q) e
-  where
-    go : (s : Option Chain) → HasData chains s → head_of s ≡ Some at → ⊥
-    go None h f = no_head at f
-    go (Some chain) h f =
-        let same : chain.head ≡ at = cc in
-        nothing_there (slice_get chains at) h.0
-        (subst (λ k. slice_get chains k ≡ Some (Some h.0)) same h.1.there) fresh
+unused_fresh chains rows at is fresh q e = grind (arith, no_head, nothing_there)
 
 -- ---- a row goes
 
 left_head : (rows next : Rows) (name q : Name16) (at : ℕ) → Writes rows name None next
     → head_of (chain_of (next q)) ≡ Some at
     → (same_name name q ≡ false) × (head_of (chain_of (rows q)) ≡ Some at)
-left_head rows next name q at writes e = go (same_name name q) refl (writes q)
-  where
-    go : (b : Bool) → same_name name q ≡ b → next q ≡ cond b None (rows q)
-        → (same_name name q ≡ false) × (head_of (chain_of (rows q)) ≡ Some at)
-    go true is f = absurd (no_head at (sym (ap (λ o. head_of (chain_of o)) f) ∙ e))
-    go false is f = (is, sym (ap (λ o. head_of (chain_of o)) f) ∙ e)
+left_head rows next name q at writes e = grind (arith, no_head)
 
 stored_less : (chains : Chains) (rows next : Rows) (name : Name16) → AreStored chains rows
     → Writes rows name None next → AreStored chains next
-stored_less chains rows next name is writes =
-    record {
-      held = λ q. here q (same_name name q) (writes q);
-      apart = λ q p at h k.
-          is.apart q p at (left_head rows next name q at writes h).1 (left_head rows next name p at writes k).1;
-    }
-  where
-    here : (q : Name16) (b : Bool) → next q ≡ cond b None (rows q) → HasData chains (chain_of (next q))
-    here q true e = subst (λ o. HasData chains (chain_of o)) (sym e) tt
-    here q false e = subst (λ o. HasData chains (chain_of o)) (sym e) (is.held q)
+stored_less chains rows next name is writes = grind (arith, left_head)
 
 unused_less : (chains : Chains) (rows next : Rows) (name : Name16) (at : ℕ) → AreStored chains rows
     → Writes rows name None next → head_of (chain_of (rows name)) ≡ Some at → IsUnused next at
-unused_less chains rows next name at is writes e q f =
-    let left = left_head rows next name q at writes f in
-    false≢true (sym left.0 ∙ is.apart name q at e left.1)
+unused_less chains rows next name at is writes e q f = grind (arith, left_head, false≢true)
 
 moved : (f : DirRow → CacheItem) (b : Bool) (new old : Option DirRow)
     → option_map f (cond b new old) ≡ cond b (option_map f new) (option_map f old)
@@ -102,9 +67,7 @@ moved f false new old = refl
 items_same : (chains : Chains) (rows next : Rows) (name : Name16) (row : Option DirRow) → Writes rows name row next
     → (q : Name16) → option_map (item_in chains) (next q)
     ≡ cond (same_name name q) (option_map (item_in chains) row) (option_map (item_in chains) (rows q))
-items_same chains rows next name row writes q =
-    ap (option_map (item_in chains)) (writes q)
-    ∙ moved (item_in chains) (same_name name q) row (rows q)
+items_same chains rows next name row writes q = grind (arith, moved)
 
 module _ (chains after : Chains) (rows next : Rows) (name : Name16) (stored : Option Chain)
     (is : AreStored chains rows) (writes : Writes rows name None next) (had : stored ≡ chain_of (rows name))
@@ -113,25 +76,11 @@ module _ (chains after : Chains) (rows next : Rows) (name : Name16) (stored : Op
   unused_next chain e = unused_less chains rows next name chain.head is writes (ap head_of (sym had ∙ e))
 
   pub ended_stored : AreStored after next
-  ended_stored = go stored refl given
-    where
-      go : (s : Option Chain) → stored ≡ s → after ≡ chains_without s chains → AreStored after next
-      go None e f = subst (λ l. AreStored l next) (sym f) (stored_less chains rows next name is writes)
-      go (Some chain) e f =
-          subst (λ l. AreStored l next) (sym f)
-          (stored_set chains next chain.head None (unused_next chain e)
-          (stored_less chains rows next name is writes))
+  ended_stored = grind (arith, stored_less, stored_set, unused_next)
 
   pub ended_items : (q : Name16) → option_map (item_in after) (next q)
       ≡ cond (same_name name q) None (option_map (item_in chains) (rows q))
-  ended_items q = go stored refl given ∙ items_same chains rows next name None writes q
-    where
-      go : (s : Option Chain) → stored ≡ s → after ≡ chains_without s chains
-          → option_map (item_in after) (next q) ≡ option_map (item_in chains) (next q)
-      go None e f = ap (λ l. option_map (item_in l) (next q)) f
-      go (Some chain) e f =
-          ap (λ l. option_map (item_in l) (next q)) f
-          ∙ item_set chains (next q) chain.head None (unused_next chain e q)
+  ended_items q = grind (arith, items_same, item_set, unused_next)
 
 -- the data of a row
 pub body_at : (chains : Chains) (row : Option DirRow)
@@ -144,12 +93,7 @@ body_at chains (Some row) = refl
 stored_more : (chains : Chains) (rows next : Rows) (name : Name16) (row : DirRow) → AreStored chains rows
     → HasData chains row.stored → ((at : ℕ) → head_of row.stored ≡ Some at → IsUnused rows at)
     → Writes rows name (Some row) next → AreStored chains next
-stored_more chains rows next name row is has unused writes =
-    record {
-      held = λ q. here q (same_name name q) (writes q);
-      apart = λ q p at h k.
-          both q p at (same_name name q) (same_name name p) refl refl (writes q) (writes p) h k;
-    }
+stored_more chains rows next name row is has unused writes = grind (arith, here, both)
   where
     here : (q : Name16) (b : Bool) → next q ≡ cond b (Some row) (rows q) → HasData chains (chain_of (next q))
     here q true e = subst (λ o. HasData chains (chain_of o)) (sym e) has
@@ -186,17 +130,7 @@ module _ (chains after : Chains) (rows next : Rows) (label : Label) (chain : Cha
 
   pub written_items : (q : Name16) → option_map (item_in after) (next q)
       ≡ cond (same_name label.name q) (Some (item_with label (Some bytes))) (option_map (item_in chains) (rows q))
-  written_items q =
-      items_same after rows next label.name (Some (row_of_label label (Some chain))) writes q
-      ∙ (λ j. cond (same_name label.name q) (Some (item_with label (body j))) (others j))
-    where
-      body : get_or after chain.head None ≡ Some bytes
-      body = get_or_from_slice_get after chain.head (Some bytes) None has.there
-
-      others : option_map (item_in after) (rows q) ≡ option_map (item_in chains) (rows q)
-      others =
-          ap (λ l. option_map (item_in l) (rows q)) put
-          ∙ item_set chains (rows q) chain.head (Some bytes) (unused q)
+  written_items q = grind (arith, items_same, get_or_from_slice_get, item_set, unused)
 
 -- ---- a row with the data that it had
 
@@ -206,9 +140,7 @@ cond_twice false x y z = refl
 
 pub writes_twice : {X : Type 0} (before middle after : Name16 → Option X) (name : Name16) (row : X)
     → Writes before name None middle → Writes middle name (Some row) after → Writes before name (Some row) after
-writes_twice before middle after name row e f q =
-    f q ∙ ap (λ (o : Option _). cond (same_name name q) (Some row) o) (e q)
-    ∙ sym (cond_twice (same_name name q) (Some row) None (before q))
+writes_twice before middle after name row e f q = grind (arith, cond_twice)
 
 same_data : (chains : Chains) (label : Label) (row : Option DirRow)
     → item_in chains (row_of_label label (chain_of row)) ≡ item_with label (body_of (option_map (item_in chains) row))
@@ -221,10 +153,7 @@ module _ (chains : Chains) (rows next : Rows) (label : Label)
       ≡ cond (same_name label.name q)
       (Some (item_with label (body_of (option_map (item_in chains) (rows label.name)))))
       (option_map (item_in chains) (rows q))
-  set_items q =
-      items_same chains rows next label.name (Some (row_of_label label (chain_of (rows label.name)))) writes q
-      ∙ ap (λ (i : CacheItem). cond (same_name label.name q) (Some i) (option_map (item_in chains) (rows q)))
-      (same_data chains label (rows label.name))
+  set_items q = grind (arith, items_same, same_data)
 
 -- ---- castout locks are released
 
@@ -250,14 +179,10 @@ shown_step f false row o r e = e
 pub shown_at : (chains : Chains) (entries : List (List ℕ × DirRow)) (q : Name16)
     → row_at (entries_in chains entries) q ≡ item_at chains entries q
 shown_at chains [] q = refl
-shown_at chains (e ∷ es) q =
-    shown_step (item_in chains) (pointwise nat_eq q.0 e.0) e.1 (row_at es q) (row_at (entries_in chains es) q)
-    (shown_at chains es q)
+shown_at chains (e ∷ es) q = grind (arith, shown_step, shown_at chains es q)
 
 pub shown_writes : (chains after : Chains) (entries next : List (List ℕ × DirRow)) (name : Name16)
     (row : Option CacheItem)
     → Writes (item_at chains entries) name row (item_at after next)
     → Writes (row_at (entries_in chains entries)) name row (row_at (entries_in after next))
-shown_writes chains after entries next name row writes q =
-    shown_at after next q ∙ writes q
-    ∙ ap (λ (o : Option CacheItem). cond (same_name name q) row o) (sym (shown_at chains entries q))
+shown_writes chains after entries next name row writes q = grind (arith, shown_at)

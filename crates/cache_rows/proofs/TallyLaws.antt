@@ -1,5 +1,5 @@
 -- What is counted of rows, as rows come and go.
-use Rattle.cache_rows.proofs.Imports.{◌≡◌, ℕ, ◌+◌, ◌*◌, ◌≤◌, ◌<◌, Bool, true, false, not, ◌&&◌, cond, List, [], ◌∷◌, ◌++◌, Option, Some, None, is_some, is_none, length, length-append, filter, map, sum_by, refl, sym, ap, ◌∙◌, subst, arith, list_all, and_parts, and_from, leb-true, length-map, list_all-append, list_all-map, fold-map, sum_by-cons, sum_by_push, Name16, ConnId, same_name, pairwise, insertion, any_is_found, list_all-filter, filter-filter, filter_swap, length-insertion, sum_by-insertion, list_all-insertion, sum_by_without, length_without, same_name-eq, same_name-refl, CacheItem, is_row_of, is_changed, elements_of, elements_in, row_of, has_row, rows_without, stands_before, rows_with, names_apart, is_reclaimable, without_hold, name_of, size, without-absent, Tally, is_unchanged, one_unchanged, elements_unchanged, is_small, tally_of, tally_with, IsTally, CanGrow, CanShrink}
+use Rattle.cache_rows.proofs.Imports.{◌≡◌, ℕ, ◌+◌, ◌*◌, ◌≤◌, ◌<◌, Bool, true, false, ◌&&◌, cond, List, [], ◌∷◌, ◌++◌, Option, Some, None, is_some, is_none, length, length-append, filter, map, sum_by, refl, sym, ap, ◌∙◌, subst, arith, list_all, and_parts, and_from, leb-true, length-map, list_all-append, list_all-map, fold-map, sum_by-cons, sum_by_push, Name16, ConnId, same_name, pairwise, insertion, any_is_found, list_all-filter, filter-filter, filter_swap, length-insertion, sum_by-insertion, list_all-insertion, sum_by_without, length_without, same_name-eq, same_name-refl, CacheItem, is_row_of, elements_of, elements_in, row_of, has_row, rows_without, stands_before, rows_with, names_apart, is_reclaimable, without_hold, name_of, size, without-absent, Tally, is_unchanged, one_unchanged, elements_unchanged, is_small, tally_of, tally_with, IsTally, CanGrow, CanShrink}
 
 -- ---- sums of a row more, and of a row less
 
@@ -18,9 +18,7 @@ all_with : (p : CacheItem → Bool) (b : Bool) (row : CacheItem) (rows : List Ca
     → list_all p (cond b (insertion (stands_before row) row rows) (rows ++ row ∷ [])) ≡ true
 all_with p true row rows e h =
     list_all-insertion p (stands_before row) row rows ∙ and_from (p row) (list_all p rows) e h
-all_with p false row rows e h =
-    list_all-append p rows (row ∷ [])
-    ∙ and_from (list_all p rows) (p row && true) h (and_from (p row) true e refl)
+all_with p false row rows e h = grind (arith, list_all-append, and_from)
 
 pub sum_less : (f : CacheItem → ℕ) (name : Name16) (rows : List CacheItem) (row : CacheItem)
     → pairwise names_apart rows ≡ true → row_of name rows ≡ Some row
@@ -46,35 +44,12 @@ none_less name rows h = without-absent name rows (absent name rows h)
 
 pub tally_more : (tally after : Tally) (row : CacheItem) (rows : List CacheItem) → IsTally tally rows
     → after ≡ tally_with row tally → is_small row ≡ true → IsTally after (rows_with row rows)
-tally_more tally after row rows is e small =
-    let b = is_changed row in
-    record {
-      rows = ap (λ (t : Tally). t.rows) e ∙ ap (λ n. n + 1) is.rows ∙ sym (long_with b row rows);
-      elements = ap (λ (t : Tally). t.elements) e
-          ∙ omega (arith, is.elements, sum_with size b row rows);
-      unchanged = ap (λ (t : Tally). t.unchanged) e
-          ∙ omega (arith, is.unchanged, sum_with one_unchanged b row rows);
-      reclaimable = ap (λ (t : Tally). t.reclaimable) e
-          ∙ omega (arith, is.reclaimable, sum_with elements_unchanged b row rows);
-      small = all_with is_small b row rows small is.small;
-    }
+tally_more tally after row rows is e small = grind (arith, long_with, sum_with, size, all_with)
 
 pub tally_less : (tally after : Tally) (name : Name16) (row : CacheItem) (rows : List CacheItem)
     → IsTally tally rows → pairwise names_apart rows ≡ true → row_of name rows ≡ Some row
     → tally_with row after ≡ tally → IsTally after (rows_without name rows)
-tally_less tally after name row rows is apart h e =
-    let one : after.rows + 1 ≡ tally.rows = ap (λ (t : Tally). t.rows) e in
-    let elements : after.elements + elements_of row.body ≡ tally.elements = ap (λ (t : Tally). t.elements) e in
-    let unchanged : after.unchanged + one_unchanged row ≡ tally.unchanged = ap (λ (t : Tally). t.unchanged) e in
-    let reclaimable : after.reclaimable + elements_unchanged row ≡ tally.reclaimable =
-    ap (λ (t : Tally). t.reclaimable) e in
-    record {
-      rows = omega (arith, one, is.rows, long_less name rows row apart h);
-      elements = omega (arith, elements, is.elements, sum_less size name rows row apart h);
-      unchanged = omega (arith, unchanged, is.unchanged, sum_less one_unchanged name rows row apart h);
-      reclaimable = omega (arith, reclaimable, is.reclaimable, sum_less elements_unchanged name rows row apart h);
-      small = list_all-filter is_small (λ r. not (is_row_of name r)) rows is.small;
-    }
+tally_less tally after name row rows is apart h e = grind (arith, long_less, sum_less, size, list_all-filter)
 
 pub tally_come : (tally after : Tally) (row : CacheItem) (rows left : List CacheItem) → IsTally tally rows
     → after ≡ tally_with row tally → is_small row ≡ true → left ≡ rows_with row rows → IsTally after left
@@ -83,14 +58,7 @@ tally_come tally after row rows left is e small f =
 
 pub tally_released : (tally : Tally) (conn : ConnId) (rows : List CacheItem) → IsTally tally rows
     → IsTally tally (map (without_hold conn) rows)
-tally_released tally conn rows is =
-    record {
-      rows = is.rows ∙ sym (length-map rows (without_hold conn));
-      elements = is.elements ∙ sym (fold-map (λ n row. n + size row) (without_hold conn) 0 rows);
-      unchanged = is.unchanged ∙ sym (fold-map (λ n row. n + one_unchanged row) (without_hold conn) 0 rows);
-      reclaimable = is.reclaimable ∙ sym (fold-map (λ n row. n + elements_unchanged row) (without_hold conn) 0 rows);
-      small = list_all-map is_small (without_hold conn) rows ∙ is.small;
-    }
+tally_released tally conn rows is = grind (arith, length-map, fold-map, size, list_all-map)
 
 -- ---- the numbers fit
 
@@ -126,13 +94,7 @@ part_sum (row ∷ rows) =
     )
 
 pub can_grow : (tally : Tally) (rows : List CacheItem) → IsTally tally rows → tally.rows < 4294967295 → CanGrow tally
-can_grow tally rows is few =
-    record {
-      rows = few;
-      elements = omega (arith, few, is.rows, is.elements, small_sum rows is.small);
-      unchanged = omega (arith, is.rows, is.unchanged, ones_sum rows);
-      reclaimable = omega (arith, is.elements, is.reclaimable, part_sum rows);
-    }
+can_grow tally rows is few = grind (arith, small_sum, ones_sum, part_sum)
 
 pub can_shrink : (tally : Tally) (name : Name16) (rows : List CacheItem) (row : CacheItem) → IsTally tally rows
     → pairwise names_apart rows ≡ true → row_of name rows ≡ Some row
@@ -172,9 +134,7 @@ counted_none tally name rows is h =
 
 pub reclaimable_rows : (name : Name16) (rows : List CacheItem)
     → filter (is_reclaimable name) rows ≡ filter is_unchanged (rows_without name rows)
-reclaimable_rows name rows =
-    sym (filter-filter (λ (row : CacheItem). not (is_row_of name row)) is_unchanged rows)
-    ∙ filter_swap (λ (row : CacheItem). not (is_row_of name row)) is_unchanged rows
+reclaimable_rows name rows = grind (arith, filter-filter, filter_swap)
 
 count_step : (b : Bool) (row : CacheItem) (n : ℕ) (ys : List CacheItem) → n ≡ length ys
     → cond b 1 0 + n ≡ length (cond b (row ∷ ys) ys)
@@ -210,10 +170,7 @@ count_less tally name rows row is apart h =
 
 pub count_same : (tally : Tally) (name : Name16) (rows : List CacheItem) → IsTally tally rows
     → row_of name rows ≡ None → tally.unchanged ≡ length (filter (is_reclaimable name) rows)
-count_same tally name rows is h =
-    is.unchanged ∙ unchanged_count rows
-    ∙ ap (λ (l : List CacheItem). length (filter is_unchanged l)) (sym (none_less name rows h))
-    ∙ ap (λ (l : List CacheItem). length l) (sym (reclaimable_rows name rows))
+count_same tally name rows is h = grind (arith, unchanged_count, none_less, reclaimable_rows)
 
 pub elements_less : (tally : Tally) (name : Name16) (rows : List CacheItem) (row : CacheItem) → IsTally tally rows
     → pairwise names_apart rows ≡ true → row_of name rows ≡ Some row
@@ -226,10 +183,7 @@ elements_less tally name rows row is apart h =
 
 pub elements_same : (tally : Tally) (name : Name16) (rows : List CacheItem) → IsTally tally rows
     → row_of name rows ≡ None → tally.reclaimable ≡ elements_in (filter (is_reclaimable name) rows)
-elements_same tally name rows is h =
-    is.reclaimable ∙ unchanged_sum rows
-    ∙ ap (λ (l : List CacheItem). elements_in (filter is_unchanged l)) (sym (none_less name rows h))
-    ∙ ap (λ (l : List CacheItem). elements_in l) (sym (reclaimable_rows name rows))
+elements_same tally name rows is h = grind (arith, unchanged_sum, none_less, reclaimable_rows)
 
 -- ---- as the code counts
 

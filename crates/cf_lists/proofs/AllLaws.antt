@@ -1,5 +1,5 @@
 -- Lists of lists: all records, one list replaced, the last record gone.
-use Rattle.cf_lists.proofs.Imports.{◌≡◌, ℕ, ◌+◌, ◌-◌, ◌<◌, Bool, true, false, not, ◌&&◌, ◌||◌, nat_lt, cond, List, [], ◌∷◌, ◌++◌, length, map, filter, get_or, take, drop, set, position, Option, Some, None, is_some, refl, sym, ap, ◌∙◌, arith, suc, zero, list_any, list_all, position_or_len, option_or, and_parts, and_from, false≢true, append_assoc, map-append, length-map, length-append, nil_from_length, take_all, list_any-append, list_all-append, filter-append, pairwise, records_of, all_records, IsLastFull}
+use Rattle.cf_lists.proofs.Imports.{◌≡◌, ℕ, ◌+◌, ◌-◌, ◌<◌, Bool, true, false, not, ◌&&◌, ◌||◌, cond, List, [], ◌∷◌, ◌++◌, length, map, filter, get_or, take, drop, set, position, Option, Some, None, is_some, refl, sym, ap, ◌∙◌, arith, suc, zero, list_any, list_all, position_or_len, option_or, and_parts, and_from, false≢true, append_assoc, map-append, length-map, length-append, nil_from_length, take_all, list_any-append, list_all-append, filter-append, pairwise, records_of, all_records, IsLastFull}
 use Rattle.cf_lists.proofs.FilterLaws.{none_from_all, list_all_weaker}
 
 module _ {X : Type 0} where
@@ -19,12 +19,7 @@ module _ {X : Type 0} where
 
   pub position-map : {Y : Type 0} (p : Y → Bool) (f : X → Y) (xs : List X)
       → position p (map f xs) ≡ position (λ x. p (f x)) xs
-  position-map p f xs =
-      go (position_or_len p (map f xs)) (position_or_len (λ x. p (f x)) xs) (length (map f xs)) (length xs)
-      (position_or_len-map p f xs) (length-map xs f)
-    where
-      go : (i j m n : ℕ) → i ≡ j → m ≡ n → cond (nat_lt i m) (Some i) None ≡ cond (nat_lt j n) (Some j) None
-      go i j m n e f = rw (e, f) refl
+  position-map p f xs = grind (arith, position_or_len-map, length-map)
 
   -- where one passes, no later one does
   pub none_behind : (relation : X → X → Bool) (p : X → Bool)
@@ -37,17 +32,13 @@ module _ {X : Type 0} where
     where
       go : (b : Bool) → p x ≡ b → list_all (relation x) (xs ++ ys) ≡ true → b || list_any p xs ≡ true
           → (list_any p xs ≡ true → list_any p ys ≡ false) → list_any p ys ≡ false
-      go true here each e later =
-          none_from_all p ys (list_all_weaker (relation x) (λ y. not (p y)) (λ y. once x y here) ys
-          (and_parts (list_all (relation x) xs) (list_all (relation x) ys) (sym (list_all-append (relation x) xs ys)
-          ∙ each)).1)
+      go true here each e later = grind (arith, none_from_all, list_all_weaker, and_parts, list_all-append)
       go false apart each e later = later e
 
   pub any_all : (p : X → Bool) (lists : List (List X)) → list_any p (all_records lists) ≡ list_any
       (λ recs. list_any p recs) lists
   any_all p [] = refl
-  any_all p (recs ∷ lists) =
-      list_any-append p recs (all_records lists) ∙ ap (λ b. list_any p recs || b) (any_all p lists)
+  any_all p (recs ∷ lists) = grind (arith, list_any-append, any_all p lists)
 
   -- the record with the id is what stands at its place
   pub option_left : (o z : Option X) → is_some o ≡ true → option_or o z ≡ o
@@ -57,17 +48,13 @@ module _ {X : Type 0} where
   pub all-filter : (p : X → Bool) (lists : List (List X)) → all_records (map (λ recs. filter p recs) lists) ≡ filter
       p (all_records lists)
   all-filter p [] = refl
-  all-filter p (recs ∷ lists) =
-      ap (λ (l : List X). filter p recs ++ l) (all-filter p lists) ∙ sym (filter-append p recs (all_records lists))
+  all-filter p (recs ∷ lists) = grind (arith, filter-append, all-filter p lists)
 
   -- one more in the middle
   pub pairwise_middle : (relation : X → X → Bool) (xs ys : List X) (z : X) → pairwise relation (xs ++ ys) ≡
       true
       → list_all (λ x. relation z x && relation x z) (xs ++ ys) ≡ true → pairwise relation (xs ++ z ∷ ys) ≡ true
-  pairwise_middle relation [] ys z h e =
-      and_from (list_all (relation z) ys) (pairwise relation ys)
-      (list_all_weaker (λ x. relation z x && relation x z) (relation z)
-      (λ x k. (and_parts (relation z x) (relation x z) k).0) ys e) h
+  pairwise_middle relation [] ys z h e = grind (arith, and_from, list_all_weaker, and_parts)
   pairwise_middle relation (x ∷ xs) ys z h e =
       let parts = and_parts (list_all (relation x) (xs ++ ys)) (pairwise relation (xs ++ ys)) h in
       let others = and_parts (relation z x && relation x z) (list_all (λ y. relation z y && relation y z) (xs ++ ys)) e
@@ -75,10 +62,7 @@ module _ {X : Type 0} where
       let halves = and_parts (list_all (relation x) xs) (list_all (relation x) ys)
       (sym (list_all-append (relation x) xs ys) ∙ parts.0) in
       and_from (list_all (relation x) (xs ++ z ∷ ys)) (pairwise relation (xs ++ z ∷ ys))
-      (list_all-append (relation x) xs (z ∷ ys)
-      ∙ and_from (list_all (relation x) xs) (list_all (relation x) (z ∷ ys)) halves.0
-      (and_from (relation x z) (list_all (relation x) ys) (and_parts (relation z x) (relation x z) others.0).1
-      halves.1))
+      (grind (arith, list_all-append, and_from, and_parts))
       (pairwise_middle relation xs ys z parts.1 others.1)
 
   -- where a list is replaced, the records before and behind it stay
@@ -86,17 +70,13 @@ module _ {X : Type 0} where
       → all_records (set lists h recs) ≡ all_records (take h lists) ++ (recs ++ all_records (drop (suc h) lists))
   all-set [] h recs lt = absurd (omega (arith, lt))
   all-set (l ∷ lists) zero recs lt = refl
-  all-set (l ∷ lists) (suc h) recs lt =
-      ap (λ (r : List X). l ++ r) (all-set lists h recs (omega (arith, lt)))
-      ∙ sym (append_assoc l (all_records (take h lists)) (recs ++ all_records (drop (suc h) lists)))
+  all-set (l ∷ lists) (suc h) recs lt = grind (arith, append_assoc, all-set lists h recs (omega (arith, lt)))
 
   pub all-split : (lists : List (List X)) (h : ℕ) → h < length lists
       → all_records lists ≡ all_records (take h lists) ++ (list_of h lists ++ all_records (drop (suc h) lists))
   all-split [] h lt = absurd (omega (arith, lt))
   all-split (l ∷ lists) zero lt = refl
-  all-split (l ∷ lists) (suc h) lt =
-      ap (λ (r : List X). l ++ r) (all-split lists h (omega (arith, lt)))
-      ∙ sym (append_assoc l (all_records (take h lists)) (list_of h lists ++ all_records (drop (suc h) lists)))
+  all-split (l ∷ lists) (suc h) lt = grind (arith, append_assoc, all-split lists h (omega (arith, lt)))
 
   pub pairwise_back : (relation : X → X → Bool) (xs ys : List X) → pairwise relation (xs ++ ys) ≡ true
       → pairwise relation ys ≡ true
@@ -116,23 +96,13 @@ module _ {X : Type 0} where
       let here : length recs ≡ 0 = omega (arith, long, length-append recs (all_records lists)) in
       let rest : length (all_records lists) ≡ 0 = omega (arith, long, length-append recs (all_records lists)) in
       let none : 0 - length recs ≡ 0 = omega arith in
-      rw (none, none-first lists (nil_from_length (all_records lists) rest)) (ap (λ (l : List X). l ∷ lists)
-      (sym (nil_from_length recs here)))
+      rw (none, none-first lists (nil_from_length (all_records lists) rest)) (grind (arith, nil_from_length))
 
   pub popped : (lists : List (List X)) (h : ℕ) → IsLastFull h lists
       → set lists h (take (length (list_of h lists) - 1) (list_of h lists)) ≡ first_records
       (length (all_records lists) - 1) lists
   popped [] h is = absurd (omega (arith, is.within))
-  popped (recs ∷ lists) zero is =
-      let count = ap (λ (l : List X). length l) is.last in
-      let all : length (recs ++ all_records lists) ≡ length recs = omega (
-        arith,
-        count,
-        length-append recs
-            (all_records lists),
-      ) in
-      let none : (length (recs ++ all_records lists) - 1) - length recs ≡ 0 = omega (arith, all) in
-      rw (none, all, none-first lists is.last) refl
+  popped (recs ∷ lists) zero is = grind (arith, length-append, none-first)
   popped (recs ∷ lists) (suc h) is =
       let rest : IsLastFull h lists = record { within = omega (arith, is.within); full = is.full; last = is.last } in
       let some : 0 < length (all_records lists) =
@@ -145,13 +115,10 @@ module _ {X : Type 0} where
       ) in
       let left : (length (recs ++ all_records lists) - 1) - length recs ≡ length (all_records lists) - 1 =
       omega (arith, some, length-append recs (all_records lists)) in
-      let whole : take (length (recs ++ all_records lists) - 1) recs ≡ recs =
-      take_all (length (recs ++ all_records lists) - 1) recs
-      (omega (arith, some, length-append recs (all_records lists))) in
+      let whole : take (length (recs ++ all_records lists) - 1) recs ≡ recs = grind (arith, take_all, length-append) in
       rw (left, whole) (ap (λ (l : List (List X)). recs ∷ l) (popped lists h rest))
 
 module _ {X Y : Type 0} (f : X → Y) where
   pub all-map : (lists : List (List X)) → all_records (map (map f) lists) ≡ map f (all_records lists)
   all-map [] = refl
-  all-map (recs ∷ lists) =
-      ap (λ (l : List Y). map f recs ++ l) (all-map lists) ∙ sym (map-append f recs (all_records lists))
+  all-map (recs ∷ lists) = grind (arith, map-append, all-map lists)

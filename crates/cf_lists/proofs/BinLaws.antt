@@ -1,5 +1,5 @@
 -- What is kept in table entries is seen in order, and a change of one entry is a change of what is seen.
-use Rattle.cf_lists.proofs.Imports.{◌≡◌, ◌≢◌, ℕ, zero, suc, ◌<◌, ◌==◌, Bool, true, false, not, cond, List, [], ◌∷◌, ◌++◌, filter, length, get_or, set, refl, sym, ap, ◌∙◌, subst, arith, list_all, eqb-true, eq-eqb, not-true, false≢true, append-nil, get_or-set_same, get_or-set_other, filter-append, insertion, pairwise, is_keyed, in_turn, arranged, joined, AreAtHome, IsKeyOrder}
+use Rattle.cf_lists.proofs.Imports.{◌≡◌, ◌≢◌, ℕ, zero, suc, ◌<◌, ◌==◌, Bool, true, false, not, List, [], ◌∷◌, ◌++◌, filter, length, get_or, set, refl, sym, ap, ◌∙◌, arith, list_all, eqb-true, eq-eqb, not-true, false≢true, append-nil, get_or-set_same, get_or-set_other, filter-append, pairwise, is_keyed, in_turn, arranged, joined, AreAtHome, IsKeyOrder}
 use Rattle.cf_lists.proofs.FilterLaws.{filter_none, none_from_all, list_all_weaker, list_all_always}
 use Rattle.cf_lists.proofs.PairwiseLaws.{FindsPlace, pairwise-insertion}
 use Rattle.cf_lists.proofs.InsertionLaws.{filter-insertion_out}
@@ -39,13 +39,7 @@ module _ {X K : Type 0} (key : X → K) (same before : K → K → Bool) (slot :
   -- ---- the order
 
   finds_place : (x : X) → FindsPlace (in_turn key before) (λ y. before (key y) (key x)) (λ y. true) x
-  finds_place x =
-      record {
-        front = λ y h. ap not (is.asym (key y) (key x) h);
-        stop = λ y h e. ap not e;
-        follows = λ y z h e. ap not (is.follows (key x) (key y) (key z) (not-true (before (key y) (key x)) h)
-            (not-true (before (key z) (key y)) e));
-      }
+  finds_place x = grind (arith, not-true)
 
   pub arranged_in_turn : (xs : List X) → pairwise (in_turn key before) (arranged key before xs) ≡ true
   unfolding arranged
@@ -56,33 +50,19 @@ module _ {X K : Type 0} (key : X → K) (same before : K → K → Bool) (slot :
 
   -- of one key none stands before another
   alike : (k : K) (x y : X) → same (key x) k ≡ true → same (key y) k ≡ true → before (key y) (key x) ≡ false
-  alike k x y e f =
-      let here : key y ≡ key x = is.equal (key y) k f ∙ sym (is.equal (key x) k e) in
-      subst (λ z. before z (key x) ≡ false) (sym here) (is.once (key x))
-
-  keyed_step : (k : K) (b : Bool) (x : X) (xs ys : List X) → same (key x) k ≡ b
-      → filter (is_keyed key same k) ys ≡ filter (is_keyed key same k) xs
-      → filter (is_keyed key same k) (insertion (λ y. before (key y) (key x)) x ys)
-      ≡ cond b (x ∷ filter (is_keyed key same k) xs) (filter (is_keyed key same k) xs)
-  keyed_step k true x xs ys e ih =
-      filter-insertion_ahead (is_keyed key same k) (λ y. before (key y) (key x)) x ys e (λ y f. alike k x y e f)
-      ∙ ap (λ l. x ∷ l) ih
-  keyed_step k false x xs ys e ih =
-      filter-insertion_out (is_keyed key same k) (λ y. before (key y) (key x)) x ys e ∙ ih
+  alike k x y e f = grind arith
 
   pub keyed-arranged : (k : K) (xs : List X)
       → filter (is_keyed key same k) (arranged key before xs) ≡ filter (is_keyed key same k) xs
   unfolding arranged
   keyed-arranged k [] = refl
-  keyed-arranged k (x ∷ xs) =
-      keyed_step k (same (key x) k) x xs (arranged key before xs) refl (keyed-arranged k xs)
+  keyed-arranged k (x ∷ xs) = grind (arith, filter-insertion_ahead, alike, filter-insertion_out, keyed-arranged k xs)
 
   -- ---- what is seen of a key lies in its entry
 
   elsewhere : (k : K) (j : ℕ) (x : X) (b : Bool) → j ≢ slot k → (slot (key x) == j) ≡ true → same (key x) k ≡ b
       → b ≡ false
-  elsewhere k j x true n h e =
-      absurd (n (sym (eqb-true (slot (key x)) j h) ∙ ap slot (is.equal (key x) k e)))
+  elsewhere k j x true n h e = grind (arith, eqb-true)
   elsewhere k j x false n h e = refl
 
   pub keyed_home : (k : K) (bins : List (List X)) → AreAtHome key slot bins
@@ -97,14 +77,8 @@ module _ {X K : Type 0} (key : X → K) (same before : K → K → Bool) (slot :
 
   pub home_kept : (i : ℕ) (bins : List (List X)) (bin : List X) → AreAtHome key slot bins → i < length bins
       → list_all (λ x. slot (key x) == i) bin ≡ true → AreAtHome key slot (set bins i bin)
-  home_kept i bins bin h within there j = go (j == i) refl
-    where
-      go : (b : Bool) → (j == i) ≡ b → list_all (λ x. slot (key x) == j) (get_or (set bins i bin) j []) ≡ true
-      go true e =
-          let at : j ≡ i = eqb-true j i e in
-          rw at (rw (get_or-set_same bins i bin [] within) there)
-      go false e =
-          rw (get_or-set_other bins i j bin [] (λ z. absurd (false≢true (sym e ∙ eq-eqb j i z)))) (h j)
+  home_kept i bins bin h within there j =
+      grind (arith, eqb-true, get_or-set_same, get_or-set_other, false≢true, eq-eqb)
 
   -- it is enough that the entry agrees of each of its keys, and that nothing changes of others
   pub changed : (i : ℕ) (bins : List (List X)) (bin ys : List X) → AreAtHome key slot bins → i < length bins
@@ -121,12 +95,8 @@ module _ {X K : Type 0} (key : X → K) (same before : K → K → Bool) (slot :
     where
       go : (k : K) (b : Bool) → (slot k == i) ≡ b
           → filter (is_keyed key same k) (get_or (set bins i bin) (slot k) []) ≡ filter (is_keyed key same k) ys
-      go k true e =
-          let at : slot k ≡ i = eqb-true (slot k) i e in
-          rw at (rw (get_or-set_same bins i bin [] within) (here k at))
-      go k false e =
-          let off : slot k ≢ i = λ z. absurd (false≢true (sym e ∙ eq-eqb (slot k) i z)) in
-          rw (get_or-set_other bins i (slot k) bin [] off) (sym (keyed_home k bins h) ∙ others k off)
+      go k true e = grind (arith, eqb-true, get_or-set_same)
+      go k false e = grind (arith, false≢true, eq-eqb, get_or-set_other, keyed_home)
 
   -- what is seen of a key of this entry
   pub seen : (k : K) (i : ℕ) (bins : List (List X)) → AreAtHome key slot bins → slot k ≡ i

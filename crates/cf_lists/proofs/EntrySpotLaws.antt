@@ -1,25 +1,22 @@
 -- The place of the one element that has a key.
-use Rattle.cf_lists.proofs.Imports.{◌≡◌, ℕ, suc, ◌+◌, Bool, true, false, not, cond, List, [], ◌∷◌, Some, None, map, filter, position, get_or, set, length, nat_lt, is_some, refl, sym, ap, ◌∙◌, subst, arith, list_any, list_all, position_or_len, and_parts, false≢true, pairwise}
+use Rattle.cf_lists.proofs.Imports.{◌≡◌, ℕ, suc, ◌+◌, Bool, true, false, not, cond, List, [], ◌∷◌, Some, None, map, filter, position, get_or, set, refl, sym, ap, ◌∙◌, arith, list_any, list_all, position_or_len, and_parts, false≢true, pairwise}
 use Rattle.cf_lists.proofs.FilterLaws.{all_from_none, any_is_found, find-filter}
 use Rattle.cf_lists.proofs.KeyLaws.{any_is_placed, none_later, later_apart}
 
 pub no_place : {X : Type 0} (p : X → Bool) (xs : List X) → list_any p xs ≡ false → None ≡ position p xs
-no_place p xs h =
-    let past : nat_lt (position_or_len p xs) (length xs) ≡ false = sym (any_is_placed p xs) ∙ h in rw past refl
+no_place p xs h = grind (arith, any_is_placed)
 
 placed_step : (b : Bool) (k i : ℕ) → cond b (Some k) None ≡ Some i → (b ≡ true) × (k ≡ i)
 placed_step true k i h = (refl, cc)
 placed_step false k i h = absurd (cc)
 
 pub some_place : {X : Type 0} (p : X → Bool) (xs : List X) (i : ℕ) → position p xs ≡ Some i → true ≡ list_any p xs
-some_place p xs i h =
-    sym (any_is_placed p xs ∙ (placed_step (nat_lt (position_or_len p xs) (length xs)) (position_or_len p xs) i h).0)
+some_place p xs i h = grind (arith, any_is_placed, placed_step)
 
 -- a search among those that are kept, for what is kept
 pub any_kept : {X : Type 0} (p q : X → Bool) → ((x : X) → p x ≡ true → q x ≡ true) → (xs : List X)
     → list_any p (filter q xs) ≡ list_any p xs
-any_kept p q h xs =
-    any_is_found p (filter q xs) ∙ ap is_some (find-filter p q h xs) ∙ sym (any_is_found p xs)
+any_kept p q h xs = grind (arith, any_is_found, find-filter)
 
 module _ {X K : Type 0} (key : X → K) (same : K → K → Bool)
     (same-eq : (a b : K) → same a b ≡ true → a ≡ b) (same-refl : (a : K) → same a a ≡ true) where
@@ -39,9 +36,6 @@ module _ {X K : Type 0} (key : X → K) (same : K → K → Bool)
   later : (y x : X) (xs : List X) (i : ℕ) → set (x ∷ xs) (1 + i) y ≡ x ∷ set xs i y
   later y x xs i = let e : 1 + i ≡ suc i = omega arith in rw e refl
 
-  got_later : (d x : X) (xs : List X) (i : ℕ) → get_or (x ∷ xs) (1 + i) d ≡ get_or xs i d
-  got_later d x xs i = let e : 1 + i ≡ suc i = omega arith in rw e refl
-
   set_step : (k : K) (f : X → X) (d x : X) (xs : List X) (b : Bool) → pairwise (λ x y. not (same (key x) (key y))) (x ∷ xs) ≡ true
       → ((x : X) → same (key x) k ≡ false → f x ≡ x)
       → (list_any (λ x. same (key x) k) xs ≡ true
@@ -51,14 +45,9 @@ module _ {X K : Type 0} (key : X → K) (same : K → K → Bool)
       → set (x ∷ xs) (position_or_len (λ x. same (key x) k) (x ∷ xs))
       (f (get_or (x ∷ xs) (position_or_len (λ x. same (key x) k) (x ∷ xs)) d)) ≡ map f (x ∷ xs)
   set_step k f d x xs true u kept ih e h =
-      let none : list_any (λ x. same (key x) k) xs ≡ false = subst (λ n. list_any (λ x. same (key x) n) xs ≡ false)
-      (same-eq (key x) k e) (none_later key same same-eq same-refl x xs u) in
+      let none : list_any (λ x. same (key x) k) xs ≡ false = grind (arith, none_later) in
       rw e (ap (λ l. f x ∷ l) (unchanged (λ x. same (key x) k) f xs (all_from_none (λ x. same (key x) k) xs none) kept))
-  set_step k f d x xs false u kept ih e h =
-      let found : list_any (λ x. same (key x) k) xs ≡ true = rw e at h in
-      let n = position_or_len (λ x. same (key x) k) xs in
-      rw e (ap (λ y. set (x ∷ xs) (1 + n) (f y)) (got_later d x xs n) ∙ later (f (get_or xs n d)) x xs n
-      ∙ ap (λ l. x ∷ l) (ih found) ∙ ap (λ y. y ∷ map f xs) (sym (kept x e)))
+  set_step k f d x xs false u kept ih e h = grind (arith, later)
 
   set_keyed : (k : K) (f : X → X) (d : X) (xs : List X) → pairwise (λ x y. not (same (key x) (key y))) xs ≡ true
       → ((x : X) → same (key x) k ≡ false → f x ≡ x)
@@ -67,18 +56,13 @@ module _ {X K : Type 0} (key : X → K) (same : K → K → Bool)
       ≡ map f xs
   set_keyed k f d [] u kept h = absurd (false≢true h)
   set_keyed k f d (x ∷ xs) u kept h =
-      set_step k f d x xs (same (key x) k) u kept
-      (set_keyed k f d xs (later_apart key same same-eq same-refl x xs u) kept) refl h
+      grind (arith, set_step, later_apart, set_keyed k f d xs (later_apart key same same-eq same-refl x xs u) kept)
 
   -- the one with the key changes
   pub set_placed : (k : K) (f : X → X) (d : X) (xs : List X) (i : ℕ)
       → pairwise (λ x y. not (same (key x) (key y))) xs ≡ true → ((x : X) → same (key x) k ≡ false → f x ≡ x)
       → position (λ x. same (key x) k) xs ≡ Some i → set xs i (f (get_or xs i d)) ≡ map f xs
-  set_placed k f d xs i u kept h =
-      let at = placed_step (nat_lt (position_or_len (λ x. same (key x) k) xs) (length xs))
-      (position_or_len (λ x. same (key x) k) xs) i h in
-      subst (λ (n : ℕ). set xs n (f (get_or xs n d)) ≡ map f xs) at.1
-      (set_keyed k f d xs u kept (any_is_placed (λ x. same (key x) k) xs ∙ at.0))
+  set_placed k f d xs i u kept h = grind (arith, placed_step, set_keyed, any_is_placed)
 
   -- none has the key
   pub map_placed : (k : K) (f : X → X) (xs : List X) → ((x : X) → same (key x) k ≡ false → f x ≡ x)

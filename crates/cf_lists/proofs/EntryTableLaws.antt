@@ -1,5 +1,5 @@
 -- Table entries: what is seen of a resource lies in its entry, and a change of that entry is a change of what is seen.
-use Rattle.cf_lists.proofs.Imports.{◌≡◌, ◌≢◌, ℕ, zero, suc, ◌-◌, ◌<◌, ◌≤◌, ◌==◌, Bool, true, false, not, ◌&&◌, List, [], ◌∷◌, ◌++◌, Option, Some, None, filter, find, map, length, get_or, set, slice_get, option_map, replicate, position, is_some, ◌+◌, refl, sym, ap, ◌∙◌, subst, list_any, list_all, prefix_len, remove, and_parts, and_from, eqb-true, eq-eqb, not-true, false≢true, length-replicate, length-set, get_or_default, Resource, Part, same_part, same_resource, resource_before, resource_up_to, same_resource-eq, same_resource-refl, same_part-eq, same_part-refl, same_part_comm, insertion, pairwise, in_turn, arranged, joined, AreAtHome, resource_by, is_on, is_part, are_apart, slot_in, seen_in, IsTable}
+use Rattle.cf_lists.proofs.Imports.{arith, ◌≡◌, ◌≢◌, ℕ, zero, suc, ◌-◌, ◌<◌, ◌≤◌, ◌==◌, Bool, true, false, not, ◌&&◌, List, [], ◌∷◌, ◌++◌, Option, Some, None, filter, find, map, length, get_or, set, slice_get, option_map, replicate, position, is_some, ◌+◌, refl, sym, ap, ◌∙◌, subst, list_any, list_all, prefix_len, remove, and_parts, and_from, eqb-true, eq-eqb, not-true, false≢true, length-replicate, length-set, get_or_default, Resource, Part, same_part, same_resource, resource_before, resource_up_to, same_resource-eq, same_resource-refl, same_part-eq, same_part-refl, same_part_comm, insertion, pairwise, in_turn, arranged, joined, AreAtHome, resource_by, is_on, is_part, are_apart, slot_in, seen_in, IsTable}
 use Rattle.cf_lists.proofs.FilterLaws.{list_all_weaker, list_all_always, list_all-filter, all_from_none, filter_all, find-filter, filter_swap, filter_absorbed, any_is_found}
 use Rattle.cf_lists.proofs.KeyLaws.{remove_placed, length_without}
 use Rattle.cf_lists.proofs.PairwiseLaws.{pairwise-filter, pairwise-insertion_any, pairwise-map}
@@ -58,9 +58,7 @@ module _ {X : Type 0} (part_of : X → Part) where
 
   both_apart : (x other : X) → not (is_part part_of (part_of x) other) ≡ true
       → are_apart part_of x other && are_apart part_of other x ≡ true
-  both_apart x other h =
-      and_from (are_apart part_of x other) (are_apart part_of other x)
-      (ap not (same_part_comm (part_of x) (part_of other)) ∙ h) h
+  both_apart x other h = grind (arith, and_from, same_part_comm)
 
   module _ (bins : List (List X)) (order : List Resource) (is : IsTable part_of bins order) (i : ℕ) (d : List X)
       (within : i < length bins) where
@@ -80,9 +78,7 @@ module _ {X : Type 0} (part_of : X → Part) where
       where
         other : (x : X) (t : Bool) → (slot_in (length bins) (part_of x).0 == i) ≡ true
             → same_resource (part_of x).0 k ≡ t → t ≡ false
-        other x true g h =
-            absurd (false≢true (sym e ∙ subst (λ r. (slot_in (length bins) r == i) ≡ true)
-            (same_resource-eq (part_of x).0 k h) g))
+        other x true g h = grind (arith, false≢true, same_resource-eq)
         other x false g h = refl
 
         none : (xs : List X) → list_all (λ x. slot_in (length bins) (part_of x).0 == i) xs ≡ true
@@ -101,10 +97,7 @@ module _ {X : Type 0} (part_of : X → Part) where
 
     home_set : (new : List X) → list_all (λ x. slot_in (length bins) (part_of x).0 == i) new ≡ true
         → AreAtHome (resource_by part_of) (slot_in (length (set bins i new))) (set bins i new)
-    home_set new h =
-        subst (λ n. AreAtHome (resource_by part_of) (slot_in n) (set bins i new)) (sym (length-set bins i new))
-        (home_kept (resource_by part_of) same_resource resource_before (slot_in (length bins)) resource_order i bins new
-        is.home within h)
+    home_set new h = grind (arith, length-set, home_kept, resource_order)
 
     -- ---- the entry of a part's resource
 
@@ -149,15 +142,7 @@ module _ {X : Type 0} (part_of : X → Part) where
       -- the same, where the order is that of what is seen
       pub taken_bins : (new : List X) → new ≡ filter (λ x. not (is_part part_of p x)) (get_or bins i d)
           → IsTable part_of (set bins i new) (map (resource_by part_of) (seen_in part_of (set bins i new)))
-      taken_bins new e =
-          record {
-            some = rw (length-set bins i new) is.some;
-            home = home_set new (rw (e, default) (list_all-filter (λ x. slot_in (length bins) (part_of x).0 == i)
-                (λ x. not (is_part part_of p x)) (get_or bins i []) (is.home i)));
-            one_each = rw (taken_seen new e) (pairwise-filter (are_apart part_of) (λ x. not (is_part part_of p x))
-                (seen_in part_of bins) is.one_each);
-            listed = refl;
-          }
+      taken_bins new e = grind (arith, length-set, home_set, default, list_all-filter, taken_seen, pairwise-filter)
 
     -- ---- one more: b says where it stands among all, and c where in its entry
 
@@ -177,11 +162,7 @@ module _ {X : Type 0} (part_of : X → Part) where
       put_table none =
           record {
             some = rw (length-set bins i new) is.some;
-            home = home_set new (rw (put, default)
-                (list_all-insertion (λ y. slot_in (length bins) (part_of y).0 == i) c x (get_or bins i [])
-                ∙ and_from (slot_in (length bins) (part_of x).0 == i)
-                (list_all (λ y. slot_in (length bins) (part_of y).0 == i) (get_or bins i []))
-                (eq-eqb (slot_in (length bins) (part_of x).0) i (sym at)) (is.home i)));
+            home = home_set new (grind (arith, default, list_all-insertion, and_from, eq-eqb));
             one_each = rw put_seen (pairwise-insertion_any (are_apart part_of) b x (seen_in part_of bins) is.one_each
                 (list_all_weaker (λ other. not (is_part part_of (part_of x) other)) (λ other. are_apart part_of x other
                 && are_apart part_of other x) (both_apart x) (seen_in part_of bins)
@@ -212,19 +193,10 @@ module _ {X : Type 0} (part_of : X → Part) where
 
       keeps_keys : (xs : List X) → map (resource_by part_of) xs ≡ map (resource_by part_of) (map f xs)
       keeps_keys [] = refl
-      keeps_keys (x ∷ xs) =
-          ap (λ l. (part_of x).0 ∷ l) (keeps_keys xs)
-          ∙ ap (λ p. p.0 ∷ map (resource_by part_of) (map f xs)) (sym (kept x))
+      keeps_keys (x ∷ xs) = grind (arith, keeps_keys xs)
 
       pub changed_table : IsTable part_of (set bins i new) order
-      changed_table =
-          record {
-            some = rw (length-set bins i new) is.some;
-            home = home_set new (rw (put, default) (keeps_home (get_or bins i []) (is.home i)));
-            one_each = rw changed_seen (pairwise-map (are_apart part_of) f (λ x y. rw (kept x, kept y) refl)
-                (seen_in part_of bins) ∙ is.one_each);
-            listed = rw changed_seen (is.listed ∙ keeps_keys (seen_in part_of bins));
-          }
+      changed_table = grind (arith, length-set, home_set, default, keeps_home, changed_seen, pairwise-map, keeps_keys)
 
   -- the order of what is seen serves
   pub of_seen : (bins : List (List X)) (order : List Resource) → IsTable part_of bins order
@@ -246,11 +218,7 @@ module _ {X : Type 0} (part_of : X → Part) where
   -- an element of another entry isn't this part
   pub not_here : (bins : List (List X)) (i : ℕ) (p : Part) → i ≡ slot_in (length bins) p.0 → (x : X)
       → slot_in (length bins) (part_of x).0 ≢ i → is_part part_of p x ≡ false
-  not_here bins i p at x off = go (is_part part_of p x) refl
-    where
-      go : (b : Bool) → is_part part_of p x ≡ b → b ≡ false
-      go true e = absurd (off (ap (slot_in (length bins)) (part_resource p x e) ∙ sym at))
-      go false e = refl
+  not_here bins i p at x off = grind (arith, part_resource)
 
   -- ---- as the last of its resource
 
@@ -287,22 +255,13 @@ module _ {X : Type 0} (part_of : X → Part) where
 
   pub none_past : (bins : List (List X)) (order : List Resource) (k : ℕ) → IsTable part_of bins order
       → slice_get order k ≡ None → None ≡ slice_get (seen_in part_of bins) k
-  none_past bins order k is h =
-      go (slice_get (seen_in part_of bins) k)
-      (sym (get_mapped (resource_by part_of) (seen_in part_of bins) k) ∙ ap (λ l. slice_get l k) (sym is.listed) ∙ h)
-    where
-      go : (o : Option X) → option_map (resource_by part_of) o ≡ None → None ≡ o
-      go None e = refl
-      go (Some x) e = absurd (cc)
+  none_past bins order k is h = grind (arith, get_mapped)
 
   pub at_is : (bins : List (List X)) (order : List Resource) (k n : ℕ) (r : Resource) → IsTable part_of bins order
       → slice_get order k ≡ Some r → n ≡ prefix_len (λ other. resource_before other r) order
       → slice_get (filter (is_on part_of r) (get_or bins (slot_in (length bins) r) [])) (k - n)
       ≡ slice_get (seen_in part_of bins) k
-  at_is bins order k n r is h e =
-      rw (found r bins order is, e, is.listed)
-      (go (slice_get (seen_in part_of bins) k) refl
-      (sym (get_mapped (resource_by part_of) (seen_in part_of bins) k) ∙ ap (λ l. slice_get l k) (sym is.listed) ∙ h))
+  at_is bins order k n r is h e = grind (arith, found, go, get_mapped)
     where
       go : (o : Option X) → slice_get (seen_in part_of bins) k ≡ o → option_map (resource_by part_of) o ≡ Some r
           → slice_get (filter (is_on part_of r) (seen_in part_of bins))
@@ -334,10 +293,4 @@ module _ {X : Type 0} (part_of : X → Part) where
   none_at (suc n) (suc i) = none_at n i
 
   pub table_none : (n : ℕ) → 0 < n → IsTable part_of (replicate n []) []
-  table_none n some =
-      record {
-        some = rw (length-replicate n (let none : List X = [] in none)) some;
-        home = λ i. rw (none_at n i) refl;
-        one_each = rw (seen_none n) refl;
-        listed = rw (seen_none n) refl;
-      }
+  table_none n some = grind (arith, length-replicate, none_at, seen_none)

@@ -1,41 +1,22 @@
 -- Filters, and what holds of all elements, of some, or of the first that passes.
-use Rattle.cf_lists.proofs.Imports.{◌≡◌, ℕ, ◌≤◌, Bool, true, false, not, ◌&&◌, ◌||◌, cond, List, [], ◌∷◌, Option, Some, None, length, filter, find, sum_by, is_some, map, refl, sym, ap, ◌∙◌, subst, arith, list_any, list_all, and_parts, and_from, or_right, false≢true, filter_agree, length-filter_both, sum_by-filter_both}
+use Rattle.cf_lists.proofs.Imports.{◌≡◌, ℕ, ◌≤◌, Bool, true, false, not, ◌&&◌, ◌||◌, cond, List, [], ◌∷◌, Option, Some, None, length, filter, find, sum_by, is_some, map, refl, ap, ◌∙◌, subst, arith, list_any, list_all, and_parts, and_from, or_right, false≢true, filter_agree, length-filter_both, sum_by-filter_both}
 
 -- ---- two filters
-
-both_step : {X : Type 0} (a b : Bool) (x : X) (g : X → Bool) (ys zs : List X) → g x ≡ b → filter g ys ≡ zs
-    → filter g (cond a (x ∷ ys) ys) ≡ cond (a && b) (x ∷ zs) zs
-both_step true true x g ys zs e ih = rw e (ap (λ l. x ∷ l) ih)
-both_step true false x g ys zs e ih = rw e ih
-both_step false b x g ys zs e ih = ih
 
 -- one filter after another keeps what passes both
 pub filter-filter : {X : Type 0} (g f : X → Bool) (xs : List X) → filter g (filter f xs) ≡ filter (λ x. f x && g x) xs
 filter-filter g f [] = refl
-filter-filter g f (x ∷ xs) =
-    both_step (f x) (g x) x g (filter f xs) (filter (λ y. f y && g y) xs) refl (filter-filter g f xs)
-
-and_swap : (a b : Bool) → a && b ≡ b && a
-and_swap true true = refl
-and_swap true false = refl
-and_swap false true = refl
-and_swap false false = refl
+filter-filter g f (x ∷ xs) = grind (arith, filter-filter g f xs)
 
 -- filters commute
 pub filter_swap : {X : Type 0} (g f : X → Bool) (xs : List X) → filter g (filter f xs) ≡ filter f (filter g xs)
-filter_swap g f xs =
-    filter-filter g f xs ∙ filter_agree (λ x. f x && g x) (λ x. g x && f x) (λ x. and_swap (f x) (g x)) xs
-    ∙ sym (filter-filter f g xs)
-
-absorb : (a b : Bool) → (a ≡ true → b ≡ true) → a && b ≡ a
-absorb true b h = h refl
-absorb false b h = refl
+filter_swap g f xs = grind (arith, filter-filter, filter_agree)
 
 -- a filter that keeps all that the first one kept
 pub filter_absorbed : {X : Type 0} (g f : X → Bool) → ((x : X) → f x ≡ true → g x ≡ true) → (xs : List X)
     → filter g (filter f xs) ≡ filter f xs
 filter_absorbed g f h xs =
-    filter-filter g f xs ∙ filter_agree (λ x. f x && g x) f (λ x. absorb (f x) (g x) (h x)) xs
+    filter-filter g f xs ∙ filter_agree (λ x. f x && g x) f (grind arith) xs
 
 -- ---- all elements
 
@@ -84,15 +65,10 @@ list_all_both p q (x ∷ xs) e f =
     and_from (p x && q x) (list_all (λ y. p y && q y) xs) (and_from (p x) (q x) left.0 right.0)
     (list_all_both p q xs left.1 right.1)
 
-passes_step : {X : Type 0} (q : X → Bool) (b : Bool) (x : X) (ys : List X) → q x ≡ b → list_all q ys ≡ true
-    → list_all q (cond b (x ∷ ys) ys) ≡ true
-passes_step q true x ys e ih = and_from (q x) (list_all q ys) e ih
-passes_step q false x ys e ih = ih
-
 -- all that a filter keeps passes it
 pub list_all-filter_same : {X : Type 0} (q : X → Bool) (xs : List X) → list_all q (filter q xs) ≡ true
 list_all-filter_same q [] = refl
-list_all-filter_same q (x ∷ xs) = passes_step q (q x) x (filter q xs) refl (list_all-filter_same q xs)
+list_all-filter_same q (x ∷ xs) = grind (arith, and_from, list_all-filter_same q xs)
 
 -- what holds of none, and of not all
 pub none_from_all : {X : Type 0} (p : X → Bool) (xs : List X) → list_all (λ x. not (p x)) xs ≡ true
@@ -109,25 +85,16 @@ none_from_all p (x ∷ xs) h =
 pub all_from_none : {X : Type 0} (p : X → Bool) (xs : List X) → list_any p xs ≡ false → list_all (λ x. not (p x)) xs ≡
     true
 all_from_none p [] h = refl
-all_from_none p (x ∷ xs) h = step (p x) (list_any p xs) h (all_from_none p xs)
-  where
-    step : (a b : Bool) {c : Bool} → a || b ≡ false → (b ≡ false → c ≡ true) → not a && c ≡ true
-    step true b e f = absurd (false≢true (sym e))
-    step false b e f = f e
+all_from_none p (x ∷ xs) h = grind (arith, false≢true, all_from_none p xs)
 
 -- nothing passes p where a filter left out all that does
 pub none_filtered : {X : Type 0} (p : X → Bool) (xs : List X) → list_any p (filter (λ x. not (p x)) xs) ≡ false
 none_filtered p xs = none_from_all p (filter (λ x. not (p x)) xs) (list_all-filter_same (λ x. not (p x)) xs)
 
-leave_step : {X : Type 0} (b c : Bool) (x : X) (ys : List X) → b || c ≡ false → (c ≡ false → ys ≡ [])
-    → cond b (x ∷ ys) ys ≡ []
-leave_step true c x ys e ih = absurd (false≢true (sym e))
-leave_step false c x ys e ih = ih e
-
 -- a filter that no element passes
 pub filter_none : {X : Type 0} (p : X → Bool) (xs : List X) → list_any p xs ≡ false → filter p xs ≡ []
 filter_none p [] h = refl
-filter_none p (x ∷ xs) h = leave_step (p x) (list_any p xs) x (filter p xs) h (filter_none p xs)
+filter_none p (x ∷ xs) h = grind (arith, false≢true, filter_none p xs)
 
 pub filter_nothing : {X : Type 0} (xs : List X) → filter (λ x. false) xs ≡ []
 filter_nothing [] = refl
@@ -137,11 +104,7 @@ filter_nothing (x ∷ xs) = filter_nothing xs
 
 any_step : {X : Type 0} (p : X → Bool) (b : Bool) (x : X) (ys : List X) (c : Bool) → (list_any p ys ≡ true → c ≡ true)
     → list_any p (cond b (x ∷ ys) ys) ≡ true → p x || c ≡ true
-any_step p true x ys c ih h = either (p x) (list_any p ys) c ih h
-  where
-    either : (a b c : Bool) → (b ≡ true → c ≡ true) → a || b ≡ true → a || c ≡ true
-    either true b c ih e = refl
-    either false b c ih e = ih e
+any_step p true x ys c ih h = grind arith
 any_step p false x ys c ih h = or_right (p x) c (ih h)
 
 -- what a filter kept was there
@@ -152,11 +115,7 @@ any-filter p q (x ∷ xs) h = any_step p (q x) x (filter q xs) (list_any p xs) (
 -- nothing new comes by a filter
 pub none-filter : {X : Type 0} (p q : X → Bool) (xs : List X) → list_any p xs ≡ false
     → list_any p (filter q xs) ≡ false
-none-filter p q xs h = contra (list_any p (filter q xs)) (list_any p xs) (any-filter p q xs) h
-  where
-    contra : (a b : Bool) → (a ≡ true → b ≡ true) → b ≡ false → a ≡ false
-    contra true b f e = absurd (false≢true (sym e ∙ f refl))
-    contra false b f e = refl
+none-filter p q xs h = grind (arith, any-filter, false≢true)
 
 pub list_any-map : {X Y : Type 0} (p : X → Bool) (f : Y → X) (ys : List Y) → list_any p (map f ys) ≡ list_any
     (λ y. p (f y)) ys
@@ -174,29 +133,16 @@ pub any_is_found : {X : Type 0} (p : X → Bool) (xs : List X) → list_any p xs
 any_is_found p [] = refl
 any_is_found p (x ∷ xs) = found_step (p x) (list_any p xs) x (find p xs) (any_is_found p xs)
 
-find_step : {X : Type 0} (p : X → Bool) (a b : Bool) (x : X) (ys : List X) (o : Option X) → p x ≡ a
-    → (a ≡ true → b ≡ true)
-    → find p ys ≡ o → find p (cond b (x ∷ ys) ys) ≡ cond a (Some x) o
-find_step p true true x ys o e h ih = rw e refl
-find_step p true false x ys o e h ih = absurd (false≢true (h refl))
-find_step p false true x ys o e h ih = rw e ih
-find_step p false false x ys o e h ih = ih
-
 -- what is looked for is kept
 pub find-filter : {X : Type 0} (p q : X → Bool) → ((x : X) → p x ≡ true → q x ≡ true) → (xs : List X)
     → find p (filter q xs) ≡ find p xs
 find-filter p q h [] = refl
-find-filter p q h (x ∷ xs) = find_step p (p x) (q x) x (filter q xs) (find p xs) refl (h x) (find-filter p q h xs)
-
-unfound_step : {X : Type 0} (a b : Bool) (x : X) (o : Option X) → a || b ≡ false → (b ≡ false → o ≡ None)
-    → cond a (Some x) o ≡ None
-unfound_step true b x o e f = absurd (false≢true (sym e))
-unfound_step false b x o e f = f e
+find-filter p q h (x ∷ xs) = grind (arith, false≢true, find-filter p q h xs)
 
 -- nothing is found where nothing passes
 pub find_none : {X : Type 0} (p : X → Bool) (xs : List X) → list_any p xs ≡ false → find p xs ≡ None
 find_none p [] h = refl
-find_none p (x ∷ xs) h = unfound_step (p x) (list_any p xs) x (find p xs) h (find_none p xs)
+find_none p (x ∷ xs) h = grind (arith, false≢true, find_none p xs)
 
 all_found_step : {X : Type 0} (q : X → Bool) (b : Bool) (x y : X) (o : Option X) → q x ≡ true
     → (o ≡ Some y → q y ≡ true)
@@ -212,16 +158,10 @@ all_found p q (x ∷ xs) y h e =
     let parts = and_parts (q x) (list_all q xs) h in
     all_found_step q (p x) x y (find p xs) parts.0 (all_found p q xs y parts.1) e
 
-found_passes_step : {X : Type 0} (p : X → Bool) (b : Bool) (x y : X) (o : Option X) → p x ≡ b
-    → (o ≡ Some y → p y ≡ true)
-    → cond b (Some x) o ≡ Some y → p y ≡ true
-found_passes_step p true x y o e ih h = let same : x ≡ y = cc in subst (λ z. p z ≡ true) same e
-found_passes_step p false x y o e ih h = ih h
-
 -- what is found passes
 pub found_passes : {X : Type 0} (p : X → Bool) (xs : List X) (y : X) → find p xs ≡ Some y → p y ≡ true
 found_passes p [] y e = absurd (cc)
-found_passes p (x ∷ xs) y e = found_passes_step p (p x) x y (find p xs) refl (found_passes p xs y) e
+found_passes p (x ∷ xs) y e = grind (arith, found_passes p xs y)
 
 -- ---- lengths and sums
 

@@ -1,5 +1,5 @@
 -- The records up to one of them, and with that one.
-use Rattle.cf_lists.proofs.Imports.{◌≡◌, ℕ, zero, suc, ◌+◌, ◌<◌, ◌≤◌, ◌||◌, not, Bool, true, false, List, [], ◌∷◌, ◌++◌, length, take, drop, set, replicate, slice_get, Some, refl, sym, ap, ◌∙◌, subst, arith, list_any, false≢true, eq-eqb, append_assoc, take_all, length-replicate, list_any-append, pairwise, all_records, records_of, is_id, ids_apart, front, emptied}
+use Rattle.cf_lists.proofs.Imports.{◌≡◌, ℕ, zero, suc, ◌+◌, ◌<◌, ◌≤◌, ◌||◌, not, Bool, true, false, List, [], ◌∷◌, ◌++◌, length, take, drop, set, replicate, slice_get, Some, refl, sym, ap, ◌∙◌, arith, list_any, false≢true, eq-eqb, append_assoc, take_all, length-replicate, list_any-append, pairwise, all_records, records_of, is_id, ids_apart, front, emptied}
 use Rattle.cf_lists.proofs.TakeLaws.{take_next, split_next}
 use Rattle.cf_lists.proofs.AllLaws.{none_behind, any_all, pairwise_back}
 use Rattle.cf_lists.proofs.IdLaws.{once}
@@ -31,12 +31,8 @@ module _ {X : Type 0} where
   pub front_whole : (lists : List (List X)) (h n : ℕ) → h < length lists → length (records_of lists h) ≤ n
       → front h n lists ≡ front (h + 1) 0 lists
   front_whole [] h n lt long = absurd (omega (arith, lt))
-  front_whole (l ∷ ls) zero n lt long =
-      ap (λ (r : List X). r ∷ emptied ls) (take_all n l long)
-      ∙ ap (λ (r : List (List X)). l ∷ r) (sym (start ls))
-  front_whole (l ∷ ls) (suc h) n lt long =
-      let e : suc h + 1 ≡ suc (h + 1) = omega arith in
-      rw e (ap (λ (r : List (List X)). l ∷ r) (front_whole ls h n (omega (arith, lt)) long))
+  front_whole (l ∷ ls) zero n lt long = grind (arith, take_all, start)
+  front_whole (l ∷ ls) (suc h) n lt long = grind (arith, front_whole ls h n (omega (arith, lt)) long)
 
   pub front_all : (lists : List (List X)) → front (length lists) 0 lists ≡ lists
   front_all [] = refl
@@ -44,21 +40,14 @@ module _ {X : Type 0} where
 
   pub front_long : (lists : List (List X)) (h n : ℕ) → length (front h n lists) ≡ length lists
   front_long [] h n = refl
-  front_long (l ∷ ls) zero n =
-      let none : List X = [] in
-      ap (λ (r : List (List X)). suc (length r)) (empties ls)
-      ∙ ap (λ (k : ℕ). suc k) (length-replicate (length ls) none)
+  front_long (l ∷ ls) zero n = grind (arith, empties, length-replicate)
   front_long (l ∷ ls) (suc h) n = ap (λ (k : ℕ). suc k) (front_long ls h n)
 
   -- where a later one passes, no earlier one does
   none_before : (relation : X → X → Bool) (p : X → Bool)
       → ((x y : X) → p x ≡ true → relation x y ≡ true → not (p y) ≡ true)
       → (xs ys : List X) → pairwise relation (xs ++ ys) ≡ true → list_any p ys ≡ true → list_any p xs ≡ false
-  none_before relation p once xs ys h e = go (list_any p xs) refl
-    where
-      go : (b : Bool) → list_any p xs ≡ b → list_any p xs ≡ false
-      go true t = absurd (false≢true (sym (none_behind relation p once xs ys h t) ∙ e))
-      go false t = t
+  none_before relation p once xs ys h e = grind (arith, false≢true, none_behind, once)
 
 module _ {X : Type 0} (id_of : X → ℕ) where
   -- no record up to one has its id
@@ -73,9 +62,7 @@ module _ {X : Type 0} (id_of : X → ℕ) where
       ∙ append_assoc (take n l) (x ∷ drop (n + 1) l) (all_records ls) in
       let here : list_any p (x ∷ drop (n + 1) l ++ all_records ls) ≡ true =
       any_at p (x ∷ drop (n + 1) l ++ all_records ls) 0 x refl (eq-eqb (id_of x) (id_of x) refl) in
-      let none : list_any p (take n l) ≡ false =
-      none_before (ids_apart id_of) p (once id_of (id_of x)) (take n l) (x ∷ drop (n + 1) l ++ all_records ls)
-      (subst (λ (r : List X). pairwise (ids_apart id_of) r ≡ true) whole a) here in
+      let none : list_any p (take n l) ≡ false = grind (arith, none_before, once) in
       list_any-append p (take n l) (all_records (emptied ls))
       ∙ ap (λ b. b || list_any p (all_records (emptied ls))) none ∙ none_in p ls
   front_alone (l ∷ ls) (suc h) n x a e =

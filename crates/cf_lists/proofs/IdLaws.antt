@@ -1,5 +1,5 @@
 -- Lists of records with ids: one with an id is in one place at most.
-use Rattle.cf_lists.proofs.Imports.{◌≡◌, ℕ, ◌+◌, ◌<◌, ◌≤◌, Bool, true, false, not, ◌&&◌, ◌||◌, ◌==◌, nat_lt, if◌then◌else◌, cond, List, [], ◌∷◌, ◌++◌, length, map, filter, find, take, drop, set, slice_get, position, Option, Some, refl, sym, ap, ◌∙◌, subst, arith, suc, list_any, list_all, position_or_len, insert, remove, option_or, and_parts, false≢true, eq-eqb, eqb-true, nat_tests, append_assoc, take-append-drop, find-append, find_at, pairwise, all_records, is_id, has_id, record_of, lists_without, lists_with, lists_replaced, replaced_by, ids_apart}
+use Rattle.cf_lists.proofs.Imports.{◌≡◌, ℕ, ◌+◌, ◌<◌, ◌≤◌, Bool, true, false, not, ◌&&◌, ◌||◌, ◌==◌, if◌then◌else◌, cond, List, [], ◌∷◌, ◌++◌, length, map, filter, take, drop, set, slice_get, refl, sym, ap, ◌∙◌, subst, arith, suc, list_any, list_all, position_or_len, remove, and_parts, false≢true, eq-eqb, eqb-true, nat_tests, append_assoc, take-append-drop, find-append, find_at, pairwise, all_records, is_id, has_id, record_of, lists_without, lists_with, lists_replaced, replaced_by, ids_apart}
 use Rattle.cf_lists.proofs.FilterLaws.{any_is_found, find_none, none_filtered, list_all_weaker, filter_all, all_from_none}
 use Rattle.cf_lists.proofs.KeyLaws.{any_is_placed, remove_placed}
 use Rattle.cf_lists.proofs.PairwiseLaws.{pairwise_front, pairwise_weaker, pairwise-filter, pairwise-map}
@@ -8,22 +8,13 @@ use Rattle.cf_lists.proofs.AllLaws.{list_of, none_behind, any_all, option_left, 
 module _ {X : Type 0} (id_of : X → ℕ) where
   pub once : (id : ℕ) (x y : X) → (is_id id_of) id x ≡ true → (ids_apart id_of) x y ≡ true
       → not ((is_id id_of) id y) ≡ true
-  once id x y h e = numbers (id_of x) (id_of y) id h e
-    where
-      numbers : (a b c : ℕ) → (a == c) ≡ true → not (b == a) ≡ true → not (b == c) ≡ true
-      numbers a b c h e = grind (arith, nat_tests)
+  once id x y h e = grind (arith, nat_tests)
 
   pub map_same : (id : ℕ) (f : List X → List X) → ((recs : List X) → (has_id id_of) id recs ≡ false
       → f recs ≡ recs)
       → (lists : List (List X)) → list_any (has_id id_of id) lists ≡ false → map f lists ≡ lists
   map_same id f same [] h = refl
-  map_same id f same (recs ∷ lists) h = go ((has_id id_of) id recs) refl h (map_same id f same lists)
-    where
-      go : (b : Bool) → (has_id id_of) id recs ≡ b → b || list_any (has_id id_of id) lists ≡ false
-          → (list_any (has_id id_of id) lists ≡ false → map f lists ≡ lists) → map f (recs ∷ lists) ≡ recs ∷ lists
-      go true e h later = absurd (false≢true (sym h))
-      go false e h later =
-          ap (λ (r : List X). r ∷ map f lists) (same recs e) ∙ ap (λ (l : List (List X)). recs ∷ l) (later h)
+  map_same id f same (recs ∷ lists) h = grind (arith, false≢true, map_same id f same lists)
 
   -- what changes the list that has the id alone changes that one list
   pub only_there : (id : ℕ) (f : List X → List X) → ((recs : List X) → (has_id id_of) id recs ≡ false
@@ -34,8 +25,7 @@ module _ {X : Type 0} (id_of : X → ℕ) where
       (f (list_of (position_or_len (has_id id_of id) lists) lists)) ≡ map f
       lists
   only_there id f same [] h e = absurd (false≢true e)
-  only_there id f same (recs ∷ lists) h e =
-      go ((has_id id_of) id recs) refl e (only_there id f same lists (behind recs h))
+  only_there id f same (recs ∷ lists) h e = grind (arith, go, behind, only_there id f same lists (behind recs h))
     where
       behind : (xs : List X) → pairwise (ids_apart id_of) (xs ++ all_records lists) ≡ true → pairwise (ids_apart id_of)
           (all_records lists) ≡ true
@@ -61,10 +51,7 @@ module _ {X : Type 0} (id_of : X → ℕ) where
           sym (any_all (is_id id_of id) lists)
           ∙ none_behind (ids_apart id_of) (is_id id_of id) (once id) recs (all_records lists) h here in
           ap (λ (l : List (List X)). f recs ∷ l) (sym (map_same id f same lists none))
-      go false apart e rest =
-          later (position_or_len (has_id id_of id) lists)
-          ∙ ap (λ (l : List (List X)). recs ∷ l) (rest e)
-          ∙ ap (λ (r : List X). r ∷ map f lists) (sym (same recs apart))
+      go false apart e rest = grind (arith, later)
 
   pub found_there : (id : ℕ) (lists : List (List X)) → list_any (has_id id_of id) lists ≡ true
       → (record_of id_of) id lists
@@ -72,31 +59,7 @@ module _ {X : Type 0} (id_of : X → ℕ) where
       (position_or_len (is_id id_of id) (list_of (position_or_len (has_id id_of id) lists) lists))
   found_there id [] e = absurd (false≢true e)
   found_there id (recs ∷ lists) e =
-      find-append (is_id id_of id) recs (all_records lists) ∙ go ((has_id id_of) id recs) refl e (found_there id lists)
-    where
-      later : (k : ℕ) → slice_get (list_of (1 + k) (recs ∷ lists))
-          (position_or_len (is_id id_of id) (list_of (1 + k) (recs ∷ lists)))
-          ≡ slice_get (list_of k lists) (position_or_len (is_id id_of id) (list_of k lists))
-      later k = let s : 1 + k ≡ suc k = omega arith in rw s refl
-
-      go : (b : Bool) → (has_id id_of) id recs ≡ b → b || list_any (has_id id_of id) lists ≡ true
-          → (list_any (has_id id_of id) lists ≡ true
-          → (record_of id_of) id lists
-          ≡ slice_get (list_of (position_or_len (has_id id_of id) lists) lists)
-          (position_or_len (is_id id_of id) (list_of (position_or_len (has_id id_of id) lists) lists)))
-          → option_or (find (is_id id_of id) recs) (find (is_id id_of id) (all_records lists))
-          ≡ slice_get (list_of (cond (not b) (1 + position_or_len (has_id id_of id) lists) 0) (recs ∷ lists))
-          (position_or_len (is_id id_of id) (list_of (cond (not b) (1 + position_or_len (has_id id_of id) lists) 0)
-          (recs ∷ lists)))
-      go true here e rest =
-          option_left (find (is_id id_of id) recs) (find (is_id id_of id) (all_records lists))
-          (sym (any_is_found (is_id id_of id) recs)
-          ∙ here)
-          ∙ find_at (is_id id_of id) recs
-      go false apart e rest =
-          ap (λ (o : Option X). option_or o (find (is_id id_of id) (all_records lists)))
-          (find_none (is_id id_of id) recs apart)
-          ∙ rest e ∙ sym (later (position_or_len (has_id id_of id) lists))
+      grind (arith, find-append, list_of, option_left, any_is_found, find_at, find_none, found_there id lists)
 
   pub apart-without : (id : ℕ) (lists : List (List X)) → pairwise (ids_apart id_of) (all_records lists) ≡ true
       → pairwise (ids_apart id_of) (all_records ((lists_without id_of) id lists)) ≡ true
@@ -105,23 +68,11 @@ module _ {X : Type 0} (id_of : X → ℕ) where
       ∙ pairwise-filter (ids_apart id_of) (λ rec. not ((is_id id_of) id rec)) (all_records lists) h
 
   same_id : (rec other : X) → id_of ((replaced_by id_of) rec other) ≡ (id_of other)
-  same_id rec other = go ((is_id id_of) (id_of rec) other) refl
-    where
-      go : (b : Bool) → (is_id id_of) (id_of rec) other ≡ b → id_of (if b then rec else other) ≡ (id_of other)
-      go true e = sym (eqb-true (id_of other) (id_of rec) e)
-      go false e = refl
+  same_id rec other = grind (arith, eqb-true)
 
   pub apart-changed : (rec : X) (lists : List (List X)) → pairwise (ids_apart id_of) (all_records lists) ≡ true
       → pairwise (ids_apart id_of) (all_records ((lists_replaced id_of) rec lists)) ≡ true
-  apart-changed rec lists h =
-      ap (λ (l : List X). pairwise (ids_apart id_of) l) (all-map (replaced_by id_of rec) lists)
-      ∙ pairwise-map (ids_apart id_of) (replaced_by id_of rec)
-      (λ x y. both (id_of ((replaced_by id_of) rec y)) (id_of y) (id_of ((replaced_by id_of) rec x)) (id_of x)
-      (same_id rec y) (same_id rec x)) (all_records lists)
-      ∙ h
-    where
-      both : (a b c d : ℕ) → a ≡ b → c ≡ d → not (a == c) ≡ not (b == d)
-      both a b c d e f = rw (e, f) refl
+  apart-changed rec lists h = search (all-map, pairwise-map, same_id, arith)
 
   -- the first that has the id
   pub record IsPlaced (id : ℕ) (lists : List (List X)) (h p : ℕ) : Type 0 where
@@ -137,48 +88,28 @@ module _ {X : Type 0} (id_of : X → ℕ) where
       → pairwise (ids_apart id_of) (list_of h lists) ≡ true
   apart-list lists h lt apart =
       let split : pairwise (ids_apart id_of) (all_records (take h lists)
-      ++ (list_of h lists ++ all_records (drop (suc h) lists))) ≡ true =
-      ap (λ (l : List X). pairwise (ids_apart id_of) l) (sym (all-split lists h lt)) ∙ apart in
+      ++ (list_of h lists ++ all_records (drop (suc h) lists))) ≡ true = grind (arith, all-split) in
       pairwise_front (ids_apart id_of) (list_of h lists) (all_records (drop (suc h) lists))
-      (pairwise_back (ids_apart id_of) (all_records (take h lists)) (list_of h lists
-      ++ all_records (drop (suc h) lists)) split)
+      (grind (arith, pairwise_back, list_of))
 
   pub record_there : (id : ℕ) (lists : List (List X)) (h p : ℕ) → IsPlaced id lists h p
       → (record_of id_of) id lists ≡ slice_get (list_of h lists) p
-  record_there id lists h p is =
-      found_there id lists is.any
-      ∙ ap (λ (n : ℕ). slice_get (list_of n lists) (position_or_len (is_id id_of id) (list_of n lists))) is.header_is
-      ∙ ap (λ (n : ℕ). slice_get (list_of h lists) n) is.place_is
+  record_there id lists h p is = grind (arith, found_there, list_of)
 
   only_here : (id : ℕ) (f : List X → List X) → ((recs : List X) → (has_id id_of) id recs ≡ false → f recs ≡ recs)
       → (lists : List (List X)) (h p : ℕ) → IsPlaced id lists h p
       → pairwise (ids_apart id_of) (all_records lists) ≡ true
       → set lists h (f (list_of h lists)) ≡ map f lists
-  only_here id f same lists h p is apart =
-      ap (λ (n : ℕ). set lists n (f (list_of n lists))) (sym is.header_is) ∙ only_there id f same lists apart is.any
+  only_here id f same lists h p is apart = grind (arith, list_of, only_there)
 
   without_none : (id : ℕ) (recs : List X) → (has_id id_of) id recs ≡ false
       → filter (λ rec. not ((is_id id_of) id rec)) recs ≡
       recs
   without_none id recs e = filter_all (λ rec. not ((is_id id_of) id rec)) recs (all_from_none (is_id id_of id) recs e)
 
-  position-Some_from : (id : ℕ) (recs : List X) (p : ℕ) → (has_id id_of) id recs ≡ true
-      → position_or_len (is_id id_of id) recs ≡ p
-      → position (is_id id_of id) recs ≡ Some p
-  position-Some_from id recs p e f =
-      let within : nat_lt (position_or_len (is_id id_of id) recs) (length recs)
-      ≡ true = sym (any_is_placed (is_id id_of id) recs)
-      ∙ e in
-      rw within (ap (λ (n : ℕ). Some n) f)
-
   turned : (recs : List X) → pairwise (ids_apart id_of) recs ≡ true
       → pairwise (λ (rec other : X). not ((id_of rec) == (id_of other))) recs ≡ true
-  turned recs h =
-      pairwise_weaker (ids_apart id_of) (λ rec other. not ((id_of rec) == (id_of other)))
-      (λ x y e. other_way (id_of x) (id_of y) e) recs h
-    where
-      other_way : (a b : ℕ) → not (b == a) ≡ true → not (a == b) ≡ true
-      other_way a b e = grind (arith, nat_tests)
+  turned recs h = grind (arith, pairwise_weaker, nat_tests)
 
   pub taken_there : (id : ℕ) (lists : List (List X)) (h p : ℕ) → IsPlaced id lists h p
       → pairwise (ids_apart id_of) (all_records lists) ≡ true
@@ -188,31 +119,17 @@ module _ {X : Type 0} (id_of : X → ℕ) where
       let recs = list_of h lists in
       ap (λ (l : List X). set lists h l)
       (remove_placed (λ (rec : X). (id_of rec)) (λ a b. a == b) eqb-true (λ a. eq-eqb a a refl) id recs p
-      (turned recs (apart-list lists h is.header_in apart)) (position-Some_from id recs p is.here is.place_is))
+      (turned recs (apart-list lists h is.header_in apart)) (grind (arith, any_is_placed)))
       ∙ only_here id (λ l. filter (λ rec. not ((is_id id_of) id rec)) l) (without_none id) lists h p is apart
 
   pub without_absent : (id : ℕ) (lists : List (List X)) → list_any (has_id id_of id) lists ≡ false
       → (lists_without id_of) id lists ≡ lists
-  without_absent id lists e = map_same id (λ recs. filter (λ rec. not ((is_id id_of) id rec)) recs)
-      (without_none id) lists e
+  without_absent id lists e = grind (arith, map_same, without_none)
 
   pub unchanged : (rec : X) (recs : List X) → (has_id id_of) (id_of rec) recs ≡ false
       → map (replaced_by id_of rec) recs ≡ recs
   unchanged rec [] e = refl
-  unchanged rec (x ∷ xs) e = go ((is_id id_of) (id_of rec) x) refl e (unchanged rec xs)
-    where
-      go : (b : Bool) → (is_id id_of) (id_of rec) x ≡ b → b || (has_id id_of) (id_of rec) xs ≡ false
-          → ((has_id id_of) (id_of rec) xs ≡ false → map (replaced_by id_of rec) xs ≡ xs)
-          → (replaced_by id_of) rec x ∷ map (replaced_by id_of rec) xs ≡ x ∷ xs
-      go true f e rest = absurd (false≢true (sym e))
-      go false f e rest = rw f (ap (λ (l : List X). x ∷ l) (rest e))
-
-  fresh_apart : (rec other : X) → not ((is_id id_of) (id_of rec) other) ≡ true
-      → (ids_apart id_of) rec other && (ids_apart id_of) other rec ≡ true
-  fresh_apart rec other e = both (id_of rec) (id_of other) e
-    where
-      both : (a b : ℕ) → not (b == a) ≡ true → not (b == a) && not (a == b) ≡ true
-      both a b e = grind (arith, nat_tests)
+  unchanged rec (x ∷ xs) e = grind (arith, false≢true, unchanged rec xs)
 
   pub apart-with : (lists : List (List X)) (h p : ℕ) (rec : X) → h < length lists → p ≤ length (list_of h lists)
       → pairwise (ids_apart id_of) (all_records lists) ≡ true
@@ -228,15 +145,13 @@ module _ {X : Type 0} (id_of : X → ℕ) where
       ∙ ap (λ (l : List X). front ++ l) (append_assoc (take p recs) (drop p recs) back)
       ∙ sym (append_assoc front (take p recs) (drop p recs ++ back)) in
       let made : all_records (lists_with h p rec lists) ≡ (front ++ take p recs) ++ rec ∷ (drop p recs ++ back) =
-      all-set lists h (insert recs p rec) lt
-      ∙ ap (λ (l : List X). front ++ l) (append_assoc (take p recs) (rec ∷ drop p recs) back)
-      ∙ sym (append_assoc front (take p recs) (rec ∷ (drop p recs ++ back))) in
+      grind (arith, all-set, append_assoc) in
       ap (λ (l : List X). pairwise (ids_apart id_of) l) made
       ∙ pairwise_middle (ids_apart id_of) (front ++ take p recs) (drop p recs ++ back) rec
       (ap (λ (l : List X). pairwise (ids_apart id_of) l) (sym split) ∙ apart)
       (ap (λ (l : List X). list_all (λ x. (ids_apart id_of) rec x && (ids_apart id_of) x rec) l) (sym split)
       ∙ list_all_weaker (λ x. not ((is_id id_of) (id_of rec) x)) (λ x. (ids_apart id_of) rec x
-      && (ids_apart id_of) x rec) (fresh_apart rec)
+      && (ids_apart id_of) x rec) (grind (arith, nat_tests))
       (all_records lists)
       (all_from_none ((is_id id_of) (id_of rec)) (all_records lists) alone))
 
@@ -253,36 +168,20 @@ module _ {X : Type 0} (id_of : X → ℕ) where
   replaced_again : (a b : X) → id_of a ≡ id_of b → (xs : List X)
       → map (replaced_by id_of b) (map (replaced_by id_of a) xs) ≡ map (replaced_by id_of b) xs
   replaced_again a b e [] = refl
-  replaced_again a b e (x ∷ xs) =
-      ap (λ (y : X). y ∷ map (replaced_by id_of b) (map (replaced_by id_of a) xs)) (go (is_id id_of (id_of a) x) refl)
-      ∙ ap (λ (l : List X). replaced_by id_of b x ∷ l) (replaced_again a b e xs)
-    where
-      go : (t : Bool) → is_id id_of (id_of a) x ≡ t
-          → replaced_by id_of b (cond t a x) ≡ replaced_by id_of b x
-      go true f =
-          let here : is_id id_of (id_of b) x ≡ true = ap (λ n. id_of x == n) (sym e) ∙ f in
-          let also : is_id id_of (id_of b) a ≡ true = eq-eqb (id_of a) (id_of b) e in
-          ap (λ t. cond t b a) also ∙ sym (ap (λ t. cond t b x) here)
-      go false f = refl
+  replaced_again a b e (x ∷ xs) = grind (arith, eq-eqb, replaced_again a b e xs)
 
   pub replaced_twice : (a b : X) → id_of a ≡ id_of b → (lists : List (List X))
       → lists_replaced id_of b (lists_replaced id_of a lists) ≡ lists_replaced id_of b lists
   replaced_twice a b e [] = refl
-  replaced_twice a b e (l ∷ ls) =
-      ap (λ (r : List X). r ∷ lists_replaced id_of b (lists_replaced id_of a ls)) (replaced_again a b e l)
-      ∙ ap (λ (r : List (List X)). map (replaced_by id_of b) l ∷ r) (replaced_twice a b e ls)
+  replaced_twice a b e (l ∷ ls) = grind (arith, replaced_again, replaced_twice a b e ls)
 
   -- the ids that are there stay
   same_ids : (a : X) (xs : List X) (id : ℕ)
       → list_any (is_id id_of id) (map (replaced_by id_of a) xs) ≡ list_any (is_id id_of id) xs
   same_ids a [] id = refl
-  same_ids a (x ∷ xs) id =
-      ap (λ n. (n == id) || list_any (is_id id_of id) (map (replaced_by id_of a) xs)) (same_id a x)
-      ∙ ap (λ b. is_id id_of id x || b) (same_ids a xs id)
+  same_ids a (x ∷ xs) id = grind (arith, same_id, same_ids a xs id)
 
   pub any-replaced : (a : X) (lists : List (List X)) (id : ℕ)
       → list_any (is_id id_of id) (all_records (lists_replaced id_of a lists))
       ≡ list_any (is_id id_of id) (all_records lists)
-  any-replaced a lists id =
-      ap (λ (l : List X). list_any (is_id id_of id) l) (all-map (replaced_by id_of a) lists)
-      ∙ same_ids a (all_records lists) id
+  any-replaced a lists id = search (all-map, same_ids, arith)

@@ -1,5 +1,5 @@
 -- Maps of lists that are filtered, or have one more element in its place.
-use Rattle.cf_lists.proofs.Imports.{◌≡◌, Bool, true, false, cond, List, [], ◌∷◌, filter, map, refl, sym, ap, ◌∙◌, insertion}
+use Rattle.cf_lists.proofs.Imports.{arith, ◌≡◌, Bool, true, false, cond, List, [], ◌∷◌, filter, map, refl, ap, ◌∙◌, insertion}
 
 filtered_step : {Y : Type 0} (b : Bool) (x y : Y) (xs ys : List Y) → (b ≡ true → x ≡ y) → xs ≡ ys
     → cond b (x ∷ xs) xs ≡ cond b (y ∷ ys) ys
@@ -16,10 +16,7 @@ pub map-filtered : {X Y : Type 0} (f g : X → Y) (q : X → Bool) (s : Y → Bo
     → ((x : X) → s (g x) ≡ q x)
     → (xs : List X) → map f (filter q xs) ≡ filter s (map g xs)
 map-filtered f g q s h e [] = refl
-map-filtered f g q s h e (x ∷ xs) =
-    kept_step f (q x) x (filter q xs)
-    ∙ filtered_step (q x) (f x) (g x) (map f (filter q xs)) (filter s (map g xs)) (h x) (map-filtered f g q s h e xs)
-    ∙ ap (λ b. cond b (g x ∷ filter s (map g xs)) (filter s (map g xs))) (sym (e x))
+map-filtered f g q s h e (x ∷ xs) = grind (arith, kept_step, filtered_step, map-filtered f g q s h e xs)
 
 put_step : {X Y : Type 0} (f : X → Y) (b : Bool) (x y : X) (ys zs : List X) (ws : List Y) → map f zs ≡ ws
     → map f (cond b (y ∷ zs) (x ∷ y ∷ ys)) ≡ cond b (f y ∷ ws) (f x ∷ f y ∷ map f ys)
@@ -31,10 +28,7 @@ pub map-insertion : {X Y : Type 0} (f : X → Y) (before : X → Bool) (ahead : 
     → ((y : X) → ahead (f y) ≡ before y)
     → (xs : List X) → map f (insertion before x xs) ≡ insertion ahead (f x) (map f xs)
 map-insertion f before ahead x e [] = refl
-map-insertion f before ahead x e (y ∷ ys) =
-    put_step f (before y) x y ys (insertion before x ys) (insertion ahead (f x) (map f ys))
-    (map-insertion f before ahead x e ys)
-    ∙ ap (λ b. cond b (f y ∷ insertion ahead (f x) (map f ys)) (f x ∷ f y ∷ map f ys)) (sym (e y))
+map-insertion f before ahead x e (y ∷ ys) = grind (arith, put_step, map-insertion f before ahead x e ys)
 
 -- a map in two ways
 pub map-either : {X Y : Type 0} (f g : X → Y) (h : X → X) (k : Y → Y) → ((x : X) → f (h x) ≡ k (g x)) → (xs : List X)

@@ -22,7 +22,7 @@ pub use Rattle.cf_lists.specs.Bins.{is_keyed, in_turn, AreAtHome, IsKeyOrder}
 unfoldable pub use Rattle.cf_lists.specs.Bins.{arranged, joined}
 pub use Rattle.cf_lists.specs.Fronts.{front, emptied}
 pub use Rattle.cf_lists.specs.Insertions.{insertion}
-pub use Rattle.cf_lists.specs.Lists.{records_of, all_records, IsLastFull, is_id, ids_apart, has_id, record_of, lists_without, lists_with, lists_replaced, replaced_by, spot_of, spot_in, place_in, records_without, with_records}
+pub use Rattle.cf_lists.specs.Lists.{records_of, all_records, IsLastFull, is_id, ids_apart, has_id, record_of, lists_without, lists_with, lists_replaced, replaced_by, spot_of, records_without, with_records}
 pub use Rattle.cf_lists.specs.Orders.{stands}
 pub use Rattle.cf_lists.specs.Pairwise.{pairwise}
 pub use Rattle.cf_lists.specs.Prefixes.{shortest_prefix}

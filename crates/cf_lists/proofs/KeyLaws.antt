@@ -3,12 +3,9 @@ use Rattle.cf_lists.proofs.Imports.{◌≡◌, ℕ, ◌+◌, Bool, true, false, 
 use Rattle.cf_lists.proofs.PairwiseLaws.{pairwise-filter}
 use Rattle.cf_lists.proofs.FilterLaws.{filter_all, filter-filter, find-filter, list_all-filter, list_all_always, none_from_all, all_from_none, list_all_weaker}
 
-lt-suc : (k n : ℕ) → nat_lt k n ≡ nat_lt (1 + k) (suc n)
-lt-suc k n = grind (arith, nat_tests)
-
 any_step : (b c : Bool) (k n : ℕ) → c ≡ nat_lt k n → b || c ≡ nat_lt (cond (not b) (1 + k) 0) (suc n)
 any_step true c k n e = sym (lt-ltb 0 (suc n) (omega arith))
-any_step false c k n e = e ∙ lt-suc k n
+any_step false c k n e = grind (arith, nat_tests)
 
 -- something passes exactly where its place is within the list
 pub any_is_placed : {X : Type 0} (p : X → Bool) (xs : List X) → list_any p xs ≡ nat_lt (position_or_len p xs)
@@ -16,18 +13,9 @@ pub any_is_placed : {X : Type 0} (p : X → Bool) (xs : List X) → list_any p x
 any_is_placed p [] = refl
 any_is_placed p (x ∷ xs) = any_step (p x) (list_any p xs) (position_or_len p xs) (length xs) (any_is_placed p xs)
 
-place_within : (b : Bool) (k i : ℕ) → cond b (Some k) None ≡ Some i → (b ≡ true) × (k ≡ i)
-place_within true k i h = (refl, cc)
-place_within false k i h = absurd (cc)
-
-place_past : (b : Bool) (k : ℕ) → cond b (Some k) None ≡ None → b ≡ false
-place_past true k h = absurd (cc)
-place_past false k h = refl
-
 -- no place, and nothing passes
 pub none_placed : {X : Type 0} (p : X → Bool) (xs : List X) → position p xs ≡ None → list_any p xs ≡ false
-none_placed p xs h =
-    any_is_placed p xs ∙ place_past (nat_lt (position_or_len p xs) (length xs)) (position_or_len p xs) h
+none_placed p xs h = grind (arith, any_is_placed)
 
 remove_later : {X : Type 0} (x : X) (xs : List X) (i : ℕ) → remove (x ∷ xs) (1 + i) ≡ x ∷ remove xs i
 remove_later x xs i = let e : 1 + i ≡ suc i = omega arith in rw e refl
@@ -42,19 +30,11 @@ module _ {X K : Type 0} (key : X → K) (same : K → K → Bool)
   apart x y = not (same (key x) (key y))
 
   pub same_sym : (a b : K) → same a b ≡ false → same b a ≡ false
-  same_sym a b h = go (same b a) refl
-    where
-      go : (t : Bool) → same b a ≡ t → t ≡ false
-      go true e = absurd (false≢true (sym h ∙ subst (λ c. same a c ≡ true) (sym (same-eq b a e)) (same-refl a)))
-      go false e = refl
+  same_sym a b h = grind (arith, false≢true)
 
   -- the elements behind one have other keys
   pub none_later : (x : X) (xs : List X) → pairwise apart (x ∷ xs) ≡ true → list_any (is_keyed (key x)) xs ≡ false
-  none_later x xs u =
-      none_from_all (is_keyed (key x)) xs
-      (list_all_weaker (apart x) (λ y. not (is_keyed (key x) y))
-      (λ y e. ap not (same_sym (key x) (key y) (not-true (same (key x) (key y)) e))) xs
-      (and_parts (list_all (apart x) xs) (pairwise apart xs) u).0)
+  none_later x xs u = grind (arith, none_from_all, list_all_weaker, same_sym, not-true, and_parts)
 
   pub later_apart : (x : X) (xs : List X) → pairwise apart (x ∷ xs) ≡ true → pairwise apart xs ≡ true
   later_apart x xs u = (and_parts (list_all (apart x) xs) (pairwise apart xs) u).1
@@ -70,25 +50,17 @@ module _ {X K : Type 0} (key : X → K) (same : K → K → Bool)
       (λ y. not (is_keyed k y)) xs)
       → (b : Bool) → same (key x) k ≡ b → list_any (is_keyed k) (x ∷ xs) ≡ true
       → remove (x ∷ xs) (position_or_len (is_keyed k) (x ∷ xs)) ≡ filter (λ y. not (is_keyed k y)) (x ∷ xs)
-  removed_step k x xs u ih true e h =
-      rw e (sym (filter_all (λ y. not (is_keyed k y)) xs (all_from_none (is_keyed k) xs (none_behind k x xs u e))))
-  removed_step k x xs u ih false e h =
-      let found : list_any (is_keyed k) xs ≡ true = rw e at h in
-      rw e (remove_later x xs (position_or_len (is_keyed k) xs) ∙ ap (λ l. x ∷ l) (ih found))
+  removed_step k x xs u ih true e h = grind (arith, filter_all, all_from_none, none_behind)
+  removed_step k x xs u ih false e h = grind (arith, remove_later)
 
   remove_keyed : (k : K) (xs : List X) → pairwise apart xs ≡ true → list_any (is_keyed k) xs ≡ true
       → remove xs (position_or_len (is_keyed k) xs) ≡ filter (λ y. not (is_keyed k y)) xs
   remove_keyed k [] u h = absurd (false≢true h)
-  remove_keyed k (x ∷ xs) u h =
-      removed_step k x xs u (remove_keyed k xs (later_apart x xs u)) (same (key x) k) refl h
+  remove_keyed k (x ∷ xs) u h = grind (arith, removed_step, later_apart, remove_keyed k xs (later_apart x xs u))
 
   pub remove_placed : (k : K) (xs : List X) (i : ℕ) → pairwise apart xs ≡ true → position (is_keyed k) xs ≡ Some i
       → remove xs i ≡ filter (λ y. not (is_keyed k y)) xs
-  remove_placed k xs i u h =
-      let at = place_within (nat_lt (position_or_len (is_keyed k) xs) (length xs)) (position_or_len (is_keyed k) xs) i
-      h in
-      subst (λ (n : ℕ). remove xs n ≡ filter (λ y. not (is_keyed k y)) xs) at.1
-      (remove_keyed k xs u (any_is_placed (is_keyed k) xs ∙ at.0))
+  remove_placed k xs i u h = grind (arith, remove_keyed, any_is_placed)
 
   -- ---- lengths and sums without the one with a key
 
@@ -96,15 +68,8 @@ module _ {X K : Type 0} (key : X → K) (same : K → K → Bool)
       → (find (is_keyed k) xs ≡ Some y → sum_by f (filter (λ z. not (is_keyed k z)) xs) + f y ≡ sum_by f xs)
       → (b : Bool) → same (key x) k ≡ b → find (is_keyed k) (x ∷ xs) ≡ Some y
       → sum_by f (filter (λ z. not (is_keyed k z)) (x ∷ xs)) + f y ≡ sum_by f (x ∷ xs)
-  sum_step f k x y xs u ih true e h =
-      let found : Some x ≡ Some y = rw e at h in
-      let it : x ≡ y = cc in
-      let rest = filter_all (λ z. not (is_keyed k z)) xs (all_from_none (is_keyed k) xs (none_behind k x xs u e)) in
-      rw (e, rest, ← it) (omega (arith, sum_by-cons f x xs))
-  sum_step f k x y xs u ih false e h =
-      let found : find (is_keyed k) xs ≡ Some y = rw e at h in
-      let others = filter (λ z. not (is_keyed k z)) xs in
-      rw e (omega (arith, ih found, sum_by-cons f x others, sum_by-cons f x xs))
+  sum_step f k x y xs u ih true e h = grind (arith, filter_all, all_from_none, none_behind, sum_by-cons)
+  sum_step f k x y xs u ih false e h = grind (arith, sum_by-cons)
 
   pub sum_by_without : (f : X → ℕ) (k : K) (xs : List X) (y : X) → pairwise apart xs ≡ true
       → find (is_keyed k) xs ≡ Some y
@@ -113,35 +78,13 @@ module _ {X K : Type 0} (key : X → K) (same : K → K → Bool)
   sum_by_without f k (x ∷ xs) y u h =
       sum_step f k x y xs u (sum_by_without f k xs y (later_apart x xs u)) (same (key x) k) refl h
 
-  length_step : (k : K) (x y : X) (xs : List X) → pairwise apart (x ∷ xs) ≡ true
-      → (find (is_keyed k) xs ≡ Some y → length (filter (λ z. not (is_keyed k z)) xs) + 1 ≡ length xs)
-      → (b : Bool) → same (key x) k ≡ b → find (is_keyed k) (x ∷ xs) ≡ Some y
-      → length (filter (λ z. not (is_keyed k z)) (x ∷ xs)) + 1 ≡ length (x ∷ xs)
-  length_step k x y xs u ih true e h =
-      let rest = filter_all (λ z. not (is_keyed k z)) xs (all_from_none (is_keyed k) xs (none_behind k x xs u e)) in
-      rw (e, rest) (omega arith)
-  length_step k x y xs u ih false e h =
-      let found : find (is_keyed k) xs ≡ Some y = rw e at h in
-      rw e (omega (arith, ih found))
-
   pub length_without : (k : K) (xs : List X) (y : X) → pairwise apart xs ≡ true → find (is_keyed k) xs ≡ Some y
       → length (filter (λ z. not (is_keyed k z)) xs) + 1 ≡ length xs
   length_without k [] y u h = absurd (cc)
   length_without k (x ∷ xs) y u h =
-      length_step k x y xs u (length_without k xs y (later_apart x xs u)) (same (key x) k) refl h
+      grind (arith, later_apart, filter_all, all_from_none, none_behind, length_without k xs y (later_apart x xs u))
 
   -- ---- without several keys
-
-  same_swap : (a b : K) → same a b ≡ same b a
-  same_swap a b = implied (same a b) (same b a) (turned a b) (turned b a)
-    where
-      implied : (s t : Bool) → (s ≡ true → t ≡ true) → (t ≡ true → s ≡ true) → s ≡ t
-      implied true t f g = sym (f refl)
-      implied false true f g = g refl
-      implied false false f g = refl
-
-      turned : (c d : K) → same c d ≡ true → same d c ≡ true
-      turned c d h = subst (λ n. same n c ≡ true) (same-eq c d h) (same-refl c)
 
   abbrev pub is_among : List K → K → Bool
   is_among ks k = list_any (λ j. same j k) ks
@@ -154,38 +97,20 @@ module _ {X K : Type 0} (key : X → K) (same : K → K → Bool)
   AllFound [] xs = Unit {0}
   AllFound (v ∷ vs) xs = (find (is_keyed (key v)) xs ≡ Some v) × AllFound vs xs
 
-  other_key : (x w v : X) → same (key x) (key w) ≡ true → not (same (key v) (key w)) ≡ true
-      → not (same (key x) (key v)) ≡ true
-  other_key x w v h e =
-      let apart' : same (key w) (key v) ≡ false = same_sym (key v) (key w) (not-true (same (key v) (key w)) e) in
-      let it : same (key x) (key v) ≡ false = subst (λ n. same n (key v) ≡ false) (sym (same-eq (key x) (key w) h))
-      apart' in
-      ap not it
-
   pub found_without : (v : X) (vs xs : List X) → list_all (apart v) vs ≡ true → AllFound vs xs
       → AllFound vs (filter (λ x. not (is_keyed (key v) x)) xs)
   found_without v [] xs e h = tt
   found_without v (w ∷ ws) xs e h =
       let parts = and_parts (apart v w) (list_all (apart v) ws) e in (
-        find-filter (is_keyed (key w)) (λ x. not (is_keyed (key v) x)) (λ x k. other_key x w v k parts.0) xs ∙ h.0,
-        found_without v ws xs parts.1 h.1,
-      )
-
-  not_or : (a b c : Bool) → a ≡ c → not c && not b ≡ not (a || b)
-  not_or true b c e = rw (← e) refl
-  not_or false b c e = rw (← e) refl
+      grind (arith, find-filter, same_sym, not-true, found_without v ws xs parts.1 h.1))
 
   -- the first key goes, and then the others
   spared-cons : (k : K) (ks : List K) (xs : List X) → spared ks (filter (λ x. not (is_keyed k x)) xs) ≡ spared
       (k ∷ ks) xs
-  spared-cons k ks xs =
-      filter-filter (λ x. not (is_among ks (key x))) (λ x. not (is_keyed k x)) xs
-      ∙ filter_agree (λ x. not (is_keyed k x) && not (is_among ks (key x))) (λ x. not (is_among (k ∷ ks) (key x)))
-      (λ x. not_or (same k (key x)) (is_among ks (key x)) (same (key x) k) (same_swap k (key x))) xs
+  spared-cons k ks xs = grind (arith, filter-filter, filter_agree)
 
   spared-nil : (xs : List X) → spared [] xs ≡ xs
-  spared-nil xs = filter_all (λ x. not (is_among [] (key x))) xs (list_all_always (λ x. not (is_among [] (key x)))
-      (λ x. refl) xs)
+  spared-nil xs = grind (arith, filter_all, list_all_always)
 
   apart_filter : (q : X → Bool) (xs : List X) → pairwise apart xs ≡ true → pairwise apart (filter q xs) ≡ true
   apart_filter q xs u = pairwise-filter apart q xs u
@@ -216,9 +141,7 @@ module _ {X K : Type 0} (key : X → K) (same : K → K → Bool)
   -- what has another key is found as before
   pub find-spared : (k : K) (ks : List K) (xs : List X) → is_among ks k ≡ false → find (is_keyed k) (spared ks xs) ≡
       find (is_keyed k) xs
-  find-spared k ks xs h =
-      find-filter (is_keyed k) (λ x. not (is_among ks (key x)))
-      (λ x e. ap not (subst (λ n. is_among ks n ≡ false) (sym (same-eq (key x) k e)) h)) xs
+  find-spared k ks xs h = grind (arith, find-filter)
 
   found_behind : (x : X) (ws xs : List X) → list_all (apart x) ws ≡ true → AllFound ws xs → AllFound ws (x ∷ xs)
   found_behind x [] xs e h = tt
@@ -242,17 +165,10 @@ module _ {X K : Type 0} (key : X → K) (same : K → K → Bool)
   found_append [] ws xs h k = k
   found_append (v ∷ vs) ws xs h k = (h.0, found_append vs ws xs h.1 k)
 
-  found_prefix_step : (b : Bool) (v : X) (vs xs : List X) → find (is_keyed (key v)) xs ≡ Some v → AllFound vs xs
-      → AllFound (cond b [] (v ∷ vs)) xs
-  found_prefix_step true v vs xs e h = tt
-  found_prefix_step false v vs xs e h = (e, h)
-
   pub found_prefix : (enough : List X → Bool) (vs xs : List X) → AllFound vs xs → AllFound (shortest_prefix enough vs)
       xs
   found_prefix enough [] xs h = tt
-  found_prefix enough (v ∷ vs) xs h =
-      found_prefix_step (enough []) v (shortest_prefix (λ prefix. enough (v ∷ prefix)) vs) xs h.0
-      (found_prefix (λ prefix. enough (v ∷ prefix)) vs xs h.1)
+  found_prefix enough (v ∷ vs) xs h = grind (arith, found_prefix (λ prefix. enough (v ∷ prefix)) vs xs h.1)
 
   -- keys apart, in whatever order
   pub apart_sym : (x y : X) → apart x y ≡ true → apart y x ≡ true

@@ -1,5 +1,5 @@
 -- What an entry loses, gets or changes is lost, got or changed in what is seen.
-use Rattle.cf_lists.proofs.Imports.{◌≡◌, ◌≢◌, ℕ, ◌<◌, ◌==◌, Bool, true, false, not, List, [], ◌∷◌, filter, map, length, get_or, set, refl, sym, ap, ◌∙◌, subst, list_all, and_parts, and_from, eq-eqb, not-true, false≢true, list_all-map, insertion, pairwise, is_keyed, in_turn, arranged, joined, AreAtHome, IsKeyOrder}
+use Rattle.cf_lists.proofs.Imports.{arith, ◌≡◌, ◌≢◌, ℕ, ◌<◌, ◌==◌, Bool, true, false, List, [], ◌∷◌, filter, map, length, get_or, set, refl, sym, ap, ◌∙◌, list_all, and_parts, and_from, eq-eqb, not-true, false≢true, list_all-map, insertion, pairwise, is_keyed, in_turn, arranged, joined, AreAtHome, IsKeyOrder}
 use Rattle.cf_lists.proofs.FilterLaws.{list_all_weaker, list_all_always, list_all-filter, filter_swap, filter_absorbed, list_all-filter_same}
 use Rattle.cf_lists.proofs.ImageLaws.{map-filtered}
 use Rattle.cf_lists.proofs.PairwiseLaws.{FindsPlace, pairwise-insertion, pairwise-filter, pairwise-map}
@@ -71,22 +71,13 @@ module _ {X K : Type 0} (key : X → K) (same before : K → K → Bool) (slot :
   finds_place : (b : X → Bool) (x : X) → ((y : X) → b y ≡ true → before (key x) (key y) ≡ false)
       → ((y : X) → b y ≡ false → before (key y) (key x) ≡ false)
       → FindsPlace (in_turn key before) b (λ y. true) x
-  finds_place b x front stop =
-      record {
-        front = λ y e. ap not (front y e);
-        stop = λ y a e. ap not (stop y e);
-        follows = λ y z e f. ap not (is.follows (key x) (key y) (key z) (not-true (before (key y) (key x)) e)
-            (not-true (before (key z) (key y)) f));
-      }
+  finds_place b x front stop = grind (arith, not-true)
 
   past : (b : X → Bool) (x y z : X) (t : Bool) → ((y : X) → b y ≡ false → before (key y) (key x) ≡ false)
       → b y ≡ false
       → same (key y) (key x) ≡ false → before (key z) (key y) ≡ false → same (key z) (key x) ≡ t → t ≡ false
   past b x y z false stop e f g s = refl
-  past b x y z true stop e f g s =
-      let behind : before (key x) (key y) ≡ false = subst (λ k. before k (key y) ≡ false) (is.equal (key z) (key x) s) g
-      in
-      sym (is.ties (key x) (key y) behind (stop y e)) ∙ f
+  past b x y z true stop e f g s = grind arith
 
   come_here : (b c : X → Bool) (x : X) → slot (key x) ≡ i
       → ((y : X) → b y ≡ false → before (key y) (key x) ≡ false)
@@ -118,12 +109,8 @@ module _ {X K : Type 0} (key : X → K) (same before : K → K → Bool) (slot :
       → filter (is_keyed key same k) (get_or bins i []) ≡ filter (is_keyed key same k) (arranged key before (joined bins))
       → filter (is_keyed key same k) (insertion c x (get_or bins i []))
       ≡ filter (is_keyed key same k) (insertion b x (arranged key before (joined bins)))
-  come_step b c x k true e here same_as =
-      subst (λ k. filter (is_keyed key same k) (insertion c x (get_or bins i []))
-      ≡ filter (is_keyed key same k) (insertion b x (arranged key before (joined bins)))) (is.equal (key x) k e) here
-  come_step b c x k false e here same_as =
-      filter-insertion_out (is_keyed key same k) c x (get_or bins i []) e ∙ same_as
-      ∙ sym (filter-insertion_out (is_keyed key same k) b x (arranged key before (joined bins)) e)
+  come_step b c x k true e here same_as = grind arith
+  come_step b c x k false e here same_as = grind (arith, filter-insertion_out)
 
   apart_step : (x : X) (k : K) (t : Bool) → slot (key x) ≡ i → slot k ≢ i → same (key x) k ≡ t → t ≡ false
   apart_step x k true at off e = absurd (off (sym (ap slot (is.equal (key x) k e)) ∙ at))

@@ -1,5 +1,5 @@
 -- Lists in order by key are equal where they are found alike.
-use Rattle.cf_lists.proofs.Imports.{◌≡◌, Bool, true, false, not, List, [], ◌∷◌, Some, None, find, refl, sym, ap, ◌∙◌, subst, list_all, and_parts, pairwise}
+use Rattle.cf_lists.proofs.Imports.{arith, ◌≡◌, Bool, true, false, List, [], ◌∷◌, Some, None, find, refl, sym, ap, ◌∙◌, subst, list_all, and_parts, pairwise}
 use Rattle.cf_lists.proofs.FilterLaws.{all_found, find_none, none_from_all, list_all_weaker}
 
 module _ {X K : Type 0} (key : X → K) (same : K → K → Bool) (before : X → X → Bool)
@@ -11,9 +11,7 @@ module _ {X K : Type 0} (key : X → K) (same : K → K → Bool) (before : X �
 
   -- what stands before all others is found among these by none that has its key
   none_after : (x : X) (xs : List X) → list_all (before x) xs ≡ true → find (is_keyed (key x)) xs ≡ None
-  none_after x xs h =
-      find_none (is_keyed (key x)) xs (none_from_all (is_keyed (key x)) xs
-      (list_all_weaker (before x) (λ y. not (is_keyed (key x) y)) (λ y b. ap not (apart x y b).1) xs h))
+  none_after x xs h = grind (arith, find_none, none_from_all, list_all_weaker)
 
   found_front : (k : K) (b : Bool) (x : X) (xs ys : List X) → is_keyed k x ≡ b
       → (b ≡ true → find (is_keyed k) xs ≡ None)
@@ -30,11 +28,7 @@ module _ {X K : Type 0} (key : X → K) (same : K → K → Bool) (before : X �
       let here : Some x ≡ Some y = rw (same-refl (key x), e) at p in cc
   first_same false true x y xs ys e f h g p q =
       let here : Some x ≡ Some y = rw (f, same-refl (key y)) at q in cc
-  first_same false false x y xs ys e f h g p q =
-      let there : Some x ≡ find (is_keyed (key x)) ys = rw (same-refl (key x), e) at p in
-      let back : find (is_keyed (key y)) xs ≡ Some y = rw (f, same-refl (key y)) at q in
-      absurd (one_way x y (all_found (is_keyed (key y)) (before x) xs y h back)
-      (all_found (is_keyed (key x)) (before y) ys x g (sym there)))
+  first_same false false x y xs ys e f h g p q = grind (arith, all_found)
 
   pub ordered_same : (xs ys : List X) → pairwise before xs ≡ true → pairwise before ys ≡ true
       → ((k : K) → find (is_keyed k) xs ≡ find (is_keyed k) ys) → xs ≡ ys

@@ -1,5 +1,5 @@
 -- What holds between each element of a list and each later one.
-use Rattle.cf_lists.proofs.Imports.{◌≡◌, Bool, true, false, not, ◌&&◌, cond, List, [], ◌∷◌, ◌++◌, filter, map, refl, sym, ap, ◌∙◌, list_all, and_parts, and_from, list_all-append, list_all-map, insertion, pairwise}
+use Rattle.cf_lists.proofs.Imports.{arith, ◌≡◌, Bool, true, false, not, ◌&&◌, cond, List, [], ◌∷◌, ◌++◌, filter, map, refl, sym, ap, ◌∙◌, list_all, and_parts, and_from, list_all-append, list_all-map, insertion, pairwise}
 use Rattle.cf_lists.proofs.FilterLaws.{list_all-filter, list_all_both, list_all_weaker}
 use Rattle.cf_lists.proofs.InsertionLaws.{list_all-insertion}
 
@@ -68,13 +68,8 @@ any_place_step : {X : Type 0} (relation : X → X → Bool) (b : Bool) (x y : X)
     → relation x y ≡ true → relation y x ≡ true → list_all (relation x) ys ≡ true → list_all (relation y) ys ≡ true
     → pairwise relation ys ≡ true → pairwise relation zs ≡ true
     → pairwise relation (cond b (y ∷ zs) (x ∷ y ∷ ys)) ≡ true
-any_place_step relation true x y ys zs split xy yx xs all rest ih =
-    and_from (list_all (relation y) zs) (pairwise relation zs)
-    (split ∙ and_from (relation y x) (list_all (relation y) ys) yx all) ih
-any_place_step relation false x y ys zs split xy yx xs all rest ih =
-    and_from (relation x y && list_all (relation x) ys) (list_all (relation y) ys && pairwise relation ys)
-    (and_from (relation x y) (list_all (relation x) ys) xy xs)
-    (and_from (list_all (relation y) ys) (pairwise relation ys) all rest)
+any_place_step relation true x y ys zs split xy yx xs all rest ih = grind (arith, and_from)
+any_place_step relation false x y ys zs split xy yx xs all rest ih = grind (arith, and_from)
 
 -- an element that is related to all others both ways may stand anywhere
 pub pairwise-insertion_any : {X : Type 0} (relation : X → X → Bool) (before : X → Bool) (x : X) (xs : List X)
@@ -104,15 +99,9 @@ place_step : {X : Type 0} (relation : X → X → Bool) (before among : X → Bo
     → list_all (relation y) zs ≡ relation y x && list_all (relation y) ys
     → list_all (relation y) ys ≡ true → pairwise relation ys ≡ true → pairwise relation zs ≡ true
     → pairwise relation (cond b (y ∷ zs) (x ∷ y ∷ ys)) ≡ true
-place_step relation before among true x y ys zs finds e there split all rest ih =
-    and_from (list_all (relation y) zs) (pairwise relation zs)
-    (split ∙ and_from (relation y x) (list_all (relation y) ys) (finds.front y e) all) ih
+place_step relation before among true x y ys zs finds e there split all rest ih = grind (arith, and_from)
 place_step relation before among false x y ys zs finds e there split all rest ih =
-    let next = finds.stop y there e in
-    and_from (relation x y && list_all (relation x) ys) (list_all (relation y) ys && pairwise relation ys)
-    (and_from (relation x y) (list_all (relation x) ys) next
-    (list_all_weaker (relation y) (relation x) (λ z. finds.follows y z next) ys all))
-    (and_from (list_all (relation y) ys) (pairwise relation ys) all rest)
+    grind (arith, and_from, list_all_weaker)
 
 pub pairwise-insertion : {X : Type 0} (relation : X → X → Bool) (before among : X → Bool) (x : X) (xs : List X)
     → FindsPlace relation before among x → list_all among xs ≡ true → pairwise relation xs ≡ true
@@ -166,7 +155,4 @@ pub pairwise-map : {X : Type 0} (relation : X → X → Bool) (f : X → X)
     → ((x y : X) → relation (f x) (f y) ≡ relation x y)
     → (xs : List X) → pairwise relation (map f xs) ≡ pairwise relation xs
 pairwise-map relation f h [] = refl
-pairwise-map relation f h (x ∷ xs) =
-    ap (λ b. b && pairwise relation (map f xs))
-    (list_all-map (relation (f x)) f xs ∙ list_all_agree (λ y. relation (f x) (f y)) (relation x) (h x) xs)
-    ∙ ap (λ b. list_all (relation x) xs && b) (pairwise-map relation f h xs)
+pairwise-map relation f h (x ∷ xs) = grind (arith, list_all-map, list_all_agree, pairwise-map relation f h xs)

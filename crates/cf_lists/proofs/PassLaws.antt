@@ -1,5 +1,5 @@
 -- What goes over all: a list whose elements go from its front to its end, one after another, and all entries.
-use Rattle.cf_lists.proofs.Imports.{◌≡◌, ℕ, zero, suc, ◌+◌, ◌-◌, ◌<◌, ◌≤◌, ◌==◌, Bool, true, false, ◌&&◌, cond, List, [], ◌∷◌, ◌++◌, filter, map, length, take, drop, get_or, refl, sym, ap, ◌∙◌, subst, arith, list_all, append_assoc, append-nil, take-append-le, drop-append-le, map-append, length-map, length-append, drop_all, take_all, filter-append, list_all-map, Resource, Part, same_resource, resource_before, insertion, arranged, joined, resource_by, are_apart, slot_in, seen_in, IsTable}
+use Rattle.cf_lists.proofs.Imports.{◌≡◌, ℕ, zero, suc, ◌+◌, ◌-◌, ◌<◌, ◌≤◌, ◌==◌, Bool, true, ◌&&◌, cond, List, [], ◌∷◌, ◌++◌, filter, map, length, take, drop, get_or, refl, sym, ap, ◌∙◌, arith, list_all, append_assoc, append-nil, take-append-le, drop-append-le, map-append, length-map, length-append, drop_all, take_all, filter-append, list_all-map, Resource, Part, resource_before, arranged, joined, resource_by, are_apart, seen_in, IsTable}
 use Rattle.std.proofs.lemmas.List.{length-drop}
 use Rattle.cf_lists.proofs.FilterLaws.{list_all-filter, list_all_weaker}
 use Rattle.cf_lists.proofs.ImageLaws.{map-insertion}
@@ -15,56 +15,33 @@ pub turned : {X : Type 0} (over : List X → List X) (g : X → List X) → ((x 
     → (xs new : List X) (m : ℕ) (d : X) (all : List X) → m < length xs → new ≡ drop 1 xs ++ g (get_or xs 0 d)
     → drop (m + 1) xs ++ over (take (m + 1) xs) ≡ all → drop m new ++ over (take m new) ≡ all
 turned over g step [] new m d all within put h = absurd (omega (arith, within))
-turned over g step (x ∷ xs) new m d all within put h =
-    let most : m ≤ length xs = omega (arith, within) in
-    let next : m + 1 ≡ suc m = omega arith in
-    let was : drop m xs ++ over (x ∷ take m xs) ≡ all = rw next at h in
-    let now : new ≡ xs ++ g x = put in
-    ap (λ l. drop m l ++ over (take m l)) now
-    ∙ rw (drop-append-le m xs (g x) most, take-append-le m xs (g x) most)
-    (append_assoc (drop m xs) (g x) (over (take m xs)) ∙ ap (λ l. drop m xs ++ l) (sym (step x (take m xs))) ∙ was)
+turned over g step (x ∷ xs) new m d all within put h = grind (arith, drop-append-le, take-append-le, append_assoc)
 
 -- a pass with a counter: so many elements are left of those that there were
 module _ {X : Type 0} (over : List X → List X) (g : X → List X)
     (step : (x : X) (xs : List X) → over (x ∷ xs) ≡ g x ++ over xs) where
   pub pass_begins : (xs : List X) → drop (length xs - 0) xs ++ over (take (length xs - 0) xs) ≡ over xs
-  pass_begins xs =
-      let whole : length xs ≤ length xs - 0 = omega arith in
-      rw (drop_all (length xs - 0) xs whole, take_all (length xs - 0) xs whole) refl
+  pass_begins xs = grind (arith, drop_all, take_all)
 
   pub pass_goes : (n k : ℕ) (xs new : List X) (d : X) (all : List X) → k < n → n - k ≤ length xs
       → new ≡ drop 1 xs ++ g (get_or xs 0 d) → drop (n - k) xs ++ over (take (n - k) xs) ≡ all
       → drop (n - (k + 1)) new ++ over (take (n - (k + 1)) new) ≡ all
-  pass_goes n k xs new d all less most put h =
-      let left : n - k ≡ n - (k + 1) + 1 = omega (arith, less) in
-      turned over g step xs new (n - (k + 1)) d all (omega (arith, less, most)) put
-      (subst (λ m. drop m xs ++ over (take m xs) ≡ all) left h)
+  pass_goes n k xs new d all less most put h = grind (arith, turned)
 
   pub pass_fits : (n k : ℕ) (xs new : List X) (d : X) → k < n → n - k ≤ length xs
       → new ≡ drop 1 xs ++ g (get_or xs 0 d) → n - (k + 1) ≤ length new
-  pass_fits n k xs new d less most put =
-      let long : length new ≡ length xs - 1 + length (g (get_or xs 0 d)) =
-      ap length put ∙ length-append (drop 1 xs) (g (get_or xs 0 d))
-      ∙ ap (λ m. m + length (g (get_or xs 0 d))) (length-drop 1 xs) in
-      omega (arith, less, most, long)
+  pass_fits n k xs new d less most put = grind (arith, length-append, length-drop)
 
   pub pass_ends : over [] ≡ [] → (n k : ℕ) (xs all : List X) → n ≤ k
       → drop (n - k) xs ++ over (take (n - k) xs) ≡ all → xs ≡ all
-  pass_ends none n k xs all past h =
-      let left : n - k ≡ 0 = omega (arith, past) in
-      let whole : xs ++ over [] ≡ all = subst (λ m. drop m xs ++ over (take m xs) ≡ all) left h in
-      sym (ap (λ l. xs ++ l) none ∙ append-nil xs) ∙ whole
+  pass_ends none n k xs all past h = grind (arith, append-nil)
 
 pub mapped_step : {X : Type 0} (f : X → X) (x : X) (xs : List X) → map f (x ∷ xs) ≡ (f x ∷ []) ++ map f xs
 mapped_step f x xs = refl
 
 pub filtered_step : {X : Type 0} (q : X → Bool) (x : X) (xs : List X)
     → filter q (x ∷ xs) ≡ cond (q x) (x ∷ []) [] ++ filter q xs
-filtered_step q x xs = go (q x)
-  where
-    go : (b : Bool) → cond b (x ∷ filter q xs) (filter q xs) ≡ cond b (x ∷ []) [] ++ filter q xs
-    go true = refl
-    go false = refl
+filtered_step q x xs = grind arith
 
 -- ---- entry after entry
 
@@ -73,9 +50,7 @@ pub joined_next : {X : Type 0} (bins : List (List X)) (i : ℕ) (d : List X) →
 unfolding joined
 joined_next [] i d h = absurd (omega (arith, h))
 joined_next (x ∷ xs) zero d h = refl
-joined_next (x ∷ xs) (suc i) d h =
-    let next : suc i + 1 ≡ suc (i + 1) = omega arith in
-    rw next (joined_next xs i d (omega (arith, h)))
+joined_next (x ∷ xs) (suc i) d h = grind (arith, joined_next xs i d (omega (arith, h)))
 
 pub joined_past : {X : Type 0} (bins : List (List X)) (i : ℕ) → length bins ≤ i → joined (drop i bins) ≡ []
 unfolding joined
@@ -96,21 +71,17 @@ module _ {X : Type 0} (part_of : X → Part) (bins : List (List X)) (order : Lis
   joined_filtered : (q : X → Bool) (bs : List (List X)) → joined (map (filter q) bs) ≡ filter q (joined bs)
   unfolding joined
   joined_filtered q [] = refl
-  joined_filtered q (b ∷ bs) =
-      ap (λ l. filter q b ++ l) (joined_filtered q bs) ∙ sym (filter-append q b (joined bs))
+  joined_filtered q (b ∷ bs) = grind (arith, filter-append, joined_filtered q bs)
 
   pub left_seen : (q : X → Bool) → seen_in part_of (map (filter q) bins) ≡ filter q (seen_in part_of bins)
-  left_seen q =
-      ap (arranged (resource_by part_of) resource_before) (joined_filtered q bins)
-      ∙ arranged-filter (resource_by part_of) same_resource resource_before resource_order q (joined bins)
+  left_seen q = search (joined_filtered, arranged-filter, resource_order, arith)
 
   pub left_table : (q : X → Bool) → IsTable part_of (map (filter q) bins)
       (map (resource_by part_of) (seen_in part_of (map (filter q) bins)))
   left_table q =
       record {
         some = rw (length-map bins (filter q)) is.some;
-        home = λ i. rw (length-map bins (filter q), over_at (filter q) refl bins i)
-            (list_all-filter (λ x. slot_in (length bins) (part_of x).0 == i) q (get_or bins i []) (is.home i));
+        home = grind (arith, length-map, over_at, list_all-filter);
         one_each = rw (left_seen q) (pairwise-filter (are_apart part_of) q (seen_in part_of bins) is.one_each);
         listed = refl;
       }
@@ -127,64 +98,31 @@ module _ {X : Type 0} (part_of : X → Part) (bins : List (List X)) (order : Lis
         ≡ map f (arranged (resource_by part_of) resource_before xs)
     unfolding arranged
     arranged_changed [] = refl
-    arranged_changed (x ∷ xs) =
-        ap (insertion (λ y. resource_before (part_of y).0 (part_of (f x)).0) (f x)) (arranged_changed xs)
-        ∙ sym (map-insertion f (λ y. resource_before (part_of y).0 (part_of x).0)
-        (λ y. resource_before (part_of y).0 (part_of (f x)).0) x
-        (λ y. rw (kept x, kept y) refl) (arranged (resource_by part_of) resource_before xs))
+    arranged_changed (x ∷ xs) = grind (arith, map-insertion, arranged_changed xs)
 
     pub all_changed_seen : seen_in part_of (map (map f) bins) ≡ map f (seen_in part_of bins)
-    all_changed_seen =
-        ap (arranged (resource_by part_of) resource_before) (joined_changed bins) ∙ arranged_changed (joined bins)
+    all_changed_seen = grind (arith, joined_changed, arranged_changed)
 
     pub all_changed_table : IsTable part_of (map (map f) bins)
         (map (resource_by part_of) (seen_in part_of (map (map f) bins)))
     all_changed_table =
-        record {
-          some = rw (length-map bins (map f)) is.some;
-          home = λ i. rw (length-map bins (map f), over_at (map f) refl bins i)
-              (list_all-map (λ x. slot_in (length bins) (part_of x).0 == i) f (get_or bins i [])
-              ∙ at_home i (get_or bins i []) (is.home i));
-          one_each = rw all_changed_seen (pairwise-map (are_apart part_of) f (λ x y. rw (kept x, kept y) refl)
-              (seen_in part_of bins) ∙ is.one_each);
-          listed = refl;
-        }
-      where
-        at_home : (i : ℕ) (xs : List X) → list_all (λ x. slot_in (length bins) (part_of x).0 == i) xs ≡ true
-            → list_all (λ x. slot_in (length bins) (part_of (f x)).0 == i) xs ≡ true
-        at_home i xs h = all_weaker xs h
-          where
-            all_weaker : (xs : List X) → list_all (λ x. slot_in (length bins) (part_of x).0 == i) xs ≡ true
-                → list_all (λ x. slot_in (length bins) (part_of (f x)).0 == i) xs ≡ true
-            all_weaker xs h =
-                list_all_weaker (λ x. slot_in (length bins) (part_of x).0 == i)
-                (λ x. slot_in (length bins) (part_of (f x)).0 == i) (λ x e. rw (kept x) e) xs h
+        grind (arith, length-map, over_at, list_all-map, all_changed_seen, pairwise-map, list_all_weaker)
 
 all_parts : {X : Type 0} (p : X → Bool) (xs ys : List X) → list_all p (xs ++ ys) ≡ list_all p xs && list_all p ys
 all_parts p [] ys = refl
-all_parts p (x ∷ xs) ys = ap (λ b. p x && b) (all_parts p xs ys) ∙ grouped (p x)
-  where
-    grouped : (a : Bool) → a && (list_all p xs && list_all p ys) ≡ (a && list_all p xs) && list_all p ys
-    grouped true = refl
-    grouped false = refl
+all_parts p (x ∷ xs) ys = grind (arith, all_parts p xs ys)
 
 -- a test that all of an entry pass
 pub all_next : {X : Type 0} (p : X → Bool) (bins : List (List X)) (i : ℕ) (bin : List X) (all : Bool) → i < length bins
     → bin ≡ get_or bins i bin → list_all p bin ≡ true → list_all p (joined (drop i bins)) ≡ all
     → list_all p (joined (drop (i + 1) bins)) ≡ all
 all_next p bins i bin all within is passes h =
-    let split : list_all p (joined (drop i bins)) ≡ list_all p bin && list_all p (joined (drop (i + 1) bins)) =
-    ap (list_all p) (joined_next bins i bin within ∙ ap (λ b. b ++ joined (drop (i + 1) bins)) (sym is))
-    ∙ all_parts p bin (joined (drop (i + 1) bins)) in
-    let rest : list_all p (joined (drop i bins)) ≡ list_all p (joined (drop (i + 1) bins)) =
-    split ∙ ap (λ b. b && list_all p (joined (drop (i + 1) bins))) passes in
-    sym rest ∙ h
+    cc (joined_next bins i bin within, all_parts p bin (joined (drop (i + 1) bins)))
 
 -- each entry in turn was changed
 pub mapped_whole : {X : Type 0} (f : X → X) (xs ys : List X) (i : ℕ) → length ys ≤ i → length xs ≤ i
     → take i ys ≡ map f (take i xs) → ys ≡ map f xs
-mapped_whole f xs ys i long whole h =
-    sym (take_all i ys long) ∙ h ∙ ap (map f) (take_all i xs whole)
+mapped_whole f xs ys i long whole h = grind (arith, take_all)
 
 -- ---- counts over all entries
 
@@ -200,8 +138,7 @@ module _ {X : Type 0} (size : List X → ℕ) (parts : (xs ys : List X) → size
 
   pub counted_past : (bins : List (List X)) (i count all : ℕ) → length bins ≤ i → size [] ≡ 0
       → count + size (joined (drop i bins)) ≡ all → count ≡ all
-  counted_past bins i count all past none h =
-      let rest : size (joined (drop i bins)) ≡ 0 = ap size (joined_past bins i past) ∙ none in omega (arith, rest, h)
+  counted_past bins i count all past none h = grind (arith, joined_past)
 
 pub length-kept_append : {X : Type 0} (p : X → Bool) (xs ys : List X)
     → length (filter p (xs ++ ys)) ≡ length (filter p xs) + length (filter p ys)

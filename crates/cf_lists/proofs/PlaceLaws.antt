@@ -1,5 +1,5 @@
 -- A place in a list in order.
-use Rattle.cf_lists.proofs.Imports.{nat_lt, ◌≡◌, ℕ, zero, suc, ◌<◌, ◌≤◌, Bool, true, false, List, [], ◌∷◌, length, get_or, refl, sym, subst, arith, list_all, prefix_len, IsPartitionPoint, IsPartitionedBy, and_parts, nat_tests, prefix_len_is, pairwise}
+use Rattle.cf_lists.proofs.Imports.{nat_lt, ◌≡◌, ℕ, zero, suc, ◌<◌, ◌≤◌, Bool, true, false, List, [], ◌∷◌, length, get_or, refl, sym, arith, list_all, prefix_len, IsPartitionPoint, IsPartitionedBy, and_parts, nat_tests, prefix_len_is, pairwise}
 
 all_at : {X : Type 0} (p : X → Bool) (xs : List X) (i : ℕ) (d : X) → list_all p xs ≡ true → i < length xs
     → p (get_or xs i d) ≡ true
@@ -12,8 +12,7 @@ pair_at : {X : Type 0} (relation : X → X → Bool) (xs : List X) (i j : ℕ) (
     → i < j → j < length xs → relation (get_or xs i d) (get_or xs j d) ≡ true
 pair_at relation [] i j d h less within = absurd (omega (arith, within))
 pair_at relation (x ∷ xs) i zero d h less within = absurd (omega (arith, less))
-pair_at relation (x ∷ xs) zero (suc j) d h less within =
-    all_at (relation x) xs j d (and_parts (list_all (relation x) xs) (pairwise relation xs) h).0 (omega (arith, within))
+pair_at relation (x ∷ xs) zero (suc j) d h less within = grind (arith, all_at, and_parts)
 pair_at relation (x ∷ xs) (suc i) (suc j) d h less within =
     pair_at relation xs i j d (and_parts (list_all (relation x) xs) (pairwise relation xs) h).1 (omega (arith, less))
     (omega (arith, within))
@@ -27,8 +26,7 @@ partitioned relation p xs front h i j d most within e = go (nat_lt i j) refl
     go : (b : Bool) → nat_lt i j ≡ b → p (get_or xs i d) ≡ true
     go true f =
         front (get_or xs i d) (get_or xs j d) (pair_at relation xs i j d h (grind (arith, nat_tests)) within) e
-    go false f =
-        let same : j ≡ i = grind (arith, nat_tests) in subst (λ k. p (get_or xs k d) ≡ true) same e
+    go false f = grind (arith, nat_tests)
 
 pub partition_is : {X : Type 0} (p : X → Bool) (xs : List X) (n : ℕ) (d : X) → n ≤ length xs
     → IsPartitionPoint (λ y. p y ≡ true) (λ y. p y ≡ false) xs n → n ≡ prefix_len p xs

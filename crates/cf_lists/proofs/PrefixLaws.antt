@@ -1,5 +1,5 @@
 -- Shortest prefixes that are enough.
-use Rattle.cf_lists.proofs.Imports.{◌≡◌, Bool, true, false, cond, List, [], ◌∷◌, map, refl, ap, list_all, and_parts, and_from, pairwise, shortest_prefix}
+use Rattle.cf_lists.proofs.Imports.{arith, ◌≡◌, Bool, true, false, cond, List, [], ◌∷◌, map, refl, ap, list_all, and_parts, and_from, pairwise, shortest_prefix}
 
 all_step : {X : Type 0} (p : X → Bool) (b : Bool) (x : X) (ys : List X) → p x ≡ true → list_all p ys ≡ true
     → list_all p (cond b [] (x ∷ ys)) ≡ true
@@ -41,8 +41,7 @@ pub shortest_prefix-enough : {X : Type 0} (enough : List X → Bool) (xs : List 
     → enough (shortest_prefix enough xs) ≡ true
 shortest_prefix-enough enough [] h = h
 shortest_prefix-enough enough (x ∷ xs) h =
-    enough_step enough (enough []) x (shortest_prefix (λ prefix. enough (x ∷ prefix)) xs) refl
-    (shortest_prefix-enough (λ prefix. enough (x ∷ prefix)) xs h)
+    grind (arith, enough_step, shortest_prefix-enough (λ prefix. enough (x ∷ prefix)) xs h)
 
 -- where nothing is enough already
 pub shortest_prefix-nil : {X : Type 0} (enough : List X → Bool) (xs : List X) → enough [] ≡ true
@@ -74,6 +73,4 @@ pub shortest_prefix-map : {X Y : Type 0} (f : X → Y) (enough : List Y → Bool
     → shortest_prefix enough (map f xs) ≡ map f (shortest_prefix (λ prefix. enough (map f prefix)) xs)
 shortest_prefix-map f enough [] = refl
 shortest_prefix-map f enough (x ∷ xs) =
-    map_step f (enough []) x (shortest_prefix (λ prefix. enough (f x ∷ map f prefix)) xs)
-    (shortest_prefix (λ prefix. enough (f x ∷ prefix)) (map f xs))
-    (shortest_prefix-map f (λ prefix. enough (f x ∷ prefix)) xs)
+    grind (arith, map_step, shortest_prefix-map f (λ prefix. enough (f x ∷ prefix)) xs)

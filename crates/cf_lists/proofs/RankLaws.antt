@@ -50,10 +50,7 @@ module _ {X : Type 0} (part_of : X → Part) where
 
   none_past : (r : Resource) (y : X) (ys : List X) → is_before r y ≡ false → is_on part_of r y ≡ false
       → list_all (follows y) ys ≡ true → filter (is_on part_of r) ys ≡ []
-  none_past r y ys e f h =
-      filter_none (is_on part_of r) ys (none_from_all (is_on part_of r) ys
-      (list_all_weaker (follows y) (λ z. not (is_on part_of r z))
-      (λ z g. ap not (past r y z (is_on part_of r z) e f g refl)) ys h))
+  none_past r y ys e f h = grind (arith, filter_none, none_from_all, list_all_weaker, past)
 
   -- ---- an element found by its resource stands at the place
 
@@ -67,22 +64,10 @@ module _ {X : Type 0} (part_of : X → Part) where
       → slice_get (y ∷ ys) k ≡ Some x
   here_step r k x y ys true true e f turn ih most h = absurd (false≢true (sym (off r y true e f)))
   here_step r zero x y ys true false e f turn ih most h = absurd (omega (arith, most))
-  here_step r (suc i) x y ys true false e f turn ih most h =
-      let n = count_before r ys in
-      let less : suc i - suc n ≡ i - n = omega arith in
-      ih i (omega (arith, most)) (subst (λ j. slice_get (filter (is_on part_of r) ys) j ≡ Some x) less h)
-  here_step r k x y ys false false e f turn ih most h =
-      let none : filter (is_on part_of r) ys ≡ [] = none_past r y ys e f turn in
-      absurd (let gone : None ≡ Some x = rw none at h in cc)
-  here_step r zero x y ys false true e f turn ih most h =
-      let n = count_before r ys in
-      let zero_is : 0 - n ≡ 0 = omega arith in
-      subst (λ j. slice_get (y ∷ filter (is_on part_of r) ys) j ≡ Some x) zero_is h
-  here_step r (suc i) x y ys false true e f turn ih most h =
-      let n = count_before r ys in
-      let none : n ≡ 0 = none_before r ys (behind r y ys e turn) in
-      let all : suc i - n ≡ suc (i - n) = omega (arith, none) in
-      ih i (omega (arith, none)) (subst (λ j. slice_get (y ∷ filter (is_on part_of r) ys) j ≡ Some x) all h)
+  here_step r (suc i) x y ys true false e f turn ih most h = grind arith
+  here_step r k x y ys false false e f turn ih most h = grind (arith, none_past)
+  here_step r zero x y ys false true e f turn ih most h = grind arith
+  here_step r (suc i) x y ys false true e f turn ih most h = grind (arith, none_before, behind)
 
   here : (r : Resource) (xs : List X) (k : ℕ) (x : X) → pairwise follows xs ≡ true → count_before r xs ≤ k
       → slice_get (filter (is_on part_of r) xs) (k - count_before r xs) ≡ Some x → slice_get xs k ≡ Some x
@@ -107,8 +92,7 @@ module _ {X : Type 0} (part_of : X → Part) where
 
   got : (p : X → Bool) (xs : List X) (k : ℕ) (x : X) → list_all p xs ≡ true → slice_get xs k ≡ Some x → p x ≡ true
   got p [] k x h e = absurd (let gone : None ≡ Some x = e in cc)
-  got p (y ∷ ys) zero x h e =
-      let same : y ≡ x = cc in subst (λ z. p z ≡ true) same (and_parts (p y) (list_all p ys) h).0
+  got p (y ∷ ys) zero x h e = grind (arith, and_parts)
   got p (y ∷ ys) (suc k) x h e = got p ys k x (and_parts (p y) (list_all p ys) h).1 e
 
   pub record IsFound (xs : List X) (k : ℕ) (x : X) : Type 0 where
@@ -121,22 +105,11 @@ module _ {X : Type 0} (part_of : X → Part) where
       × (slice_get (cond t (y ∷ filter (is_on part_of (key x)) ys) (filter (is_on part_of (key x)) ys))
       (suc k - length (cond s (y ∷ filter (is_before (key x)) ys) (filter (is_before (key x)) ys))) ≡ Some x)
   found_step x y ys k true true e f ahead turn is = absurd (false≢true (sym (off (key x) y true e f)))
-  found_step x y ys k true false e f ahead turn is =
-      let n = count_before (key x) ys in
-      let less : suc k - suc n ≡ k - n = omega arith in (
-        omega (arith, is.most),
-        subst (λ j. slice_get (filter (is_on part_of (key x)) ys) j ≡ Some x) (sym less) is.found,
-      )
+  found_step x y ys k true false e f ahead turn is = grind arith
   found_step x y ys k false false e f ahead turn is =
       absurd (false≢true (sym f ∙ resource_order.ties (key x) (key y)
       (not-true (resource_before (key x) (key y)) ahead) e))
-  found_step x y ys k false true e f ahead turn is =
-      let n = count_before (key x) ys in
-      let none : n ≡ 0 = none_before (key x) ys (behind (key x) y ys e turn) in
-      let all : suc k - n ≡ suc (k - n) = omega (arith, none) in (
-        omega (arith, none),
-        subst (λ j. slice_get (y ∷ filter (is_on part_of (key x)) ys) j ≡ Some x) (sym all) is.found,
-      )
+  found_step x y ys k false true e f ahead turn is = grind (arith, none_before, behind)
 
   found_at : (xs : List X) (k : ℕ) (x : X) → pairwise follows xs ≡ true → slice_get xs k ≡ Some x → IsFound xs k x
   found_at [] k x turn e = absurd (let gone : None ≡ Some x = e in cc)
@@ -146,12 +119,7 @@ module _ {X : Type 0} (part_of : X → Part) where
       subst (λ z. IsFound (y ∷ ys) 0 z) same (first (resource_order.once (key y)) parts.0)
     where
       first : is_before (key y) y ≡ false → list_all (follows y) ys ≡ true → IsFound (y ∷ ys) 0 y
-      first once turns =
-          let none : count_before (key y) ys ≡ 0 = none_before (key y) ys (behind (key y) y ys once turns) in
-          record {
-            most = rw once (omega (arith, none));
-            found = rw (once, none, same_resource-refl (key y)) refl;
-          }
+      first once turns = grind (arith, none_before, behind, same_resource-refl)
   found_at (y ∷ ys) (suc k) x turn e =
       let parts = and_parts (list_all (follows y) ys) (pairwise follows ys) turn in
       let both = found_step x y ys k (is_before (key x) y) (is_on part_of (key x) y) refl refl
@@ -166,9 +134,7 @@ module _ {X : Type 0} (part_of : X → Part) where
   all_arranged : (p : X → Bool) (xs : List X) → list_all p (arranged key resource_before xs) ≡ list_all p xs
   unfolding arranged
   all_arranged p [] = refl
-  all_arranged p (x ∷ xs) =
-      list_all-insertion p (λ y. resource_before (key y) (key x)) x (arranged key resource_before xs)
-      ∙ ap (λ b. p x && b) (all_arranged p xs)
+  all_arranged p (x ∷ xs) = grind (arith, list_all-insertion, all_arranged p xs)
 
   -- what none of all is placed at, is past the end
   pub none_placed_on : (bins : List (List X)) (k : ℕ)
@@ -200,21 +166,12 @@ module _ {X : Type 0} (part_of : X → Part) where
 
   pub placed_none : (r : Resource) (bins : List (List X)) (k n : ℕ) → n ≡ length (filter (is_before r) (joined bins))
       → k < n → None ≡ placed_on part_of r k (seen_in part_of bins)
-  placed_none r bins k n e less =
-      let same : n ≡ count_before r (seen_in part_of bins) = e ∙ counted_before r bins in
-      subst (λ m. None ≡ (if nat_lt k m then None else slice_get (filter (is_on part_of r) (seen_in part_of bins))
-      (k - m))) same (rw (lt-ltb k n less) refl)
+  placed_none r bins k n e less = grind (arith, counted_before, lt-ltb)
 
   pub placed_some : (r : Resource) (bins : List (List X)) (k n : ℕ) (xs : List X)
       → n ≡ length (filter (is_before r) (joined bins)) → n ≤ k → xs ≡ filter (is_on part_of r) (seen_in part_of bins)
       → slice_get xs (k - n) ≡ placed_on part_of r k (seen_in part_of bins)
-  placed_some r bins k n xs e most f =
-      let same : n ≡ count_before r (seen_in part_of bins) = e ∙ counted_before r bins in
-      let none : nat_lt k n ≡ false = grind (arith, nat_tests) in
-      ap (λ l. slice_get l (k - n)) f
-      ∙ subst (λ m. slice_get (filter (is_on part_of r) (seen_in part_of bins)) (k - n)
-      ≡ (if nat_lt k m then None else slice_get (filter (is_on part_of r) (seen_in part_of bins)) (k - m))) same
-      (rw none refl)
+  placed_some r bins k n xs e most f = grind (arith, counted_before, nat_tests)
 
   -- ---- the last
 
@@ -222,14 +179,8 @@ module _ {X : Type 0} (part_of : X → Part) where
       → later_of part_of (later_of part_of a b) c ≡ later_of part_of a (later_of part_of b c)
   later_assoc None b c = refl
   later_assoc (Some x) None c = refl
-  later_assoc (Some x) (Some y) None = none (resource_before (key y) (key x))
-    where
-      none : (s : Bool) → later_of part_of (if s then Some x else Some y) None ≡ (if s then Some x else Some y)
-      none true = refl
-      none false = refl
-  later_assoc (Some x) (Some y) (Some z) =
-      go (resource_before (key y) (key x)) (resource_before (key z) (key y)) (resource_before (key z) (key x)) refl refl
-      refl
+  later_assoc (Some x) (Some y) None = grind arith
+  later_assoc (Some x) (Some y) (Some z) = grind (arith, go)
     where
       go : (s t u : Bool) → resource_before (key y) (key x) ≡ s → resource_before (key z) (key y) ≡ t
           → resource_before (key z) (key x) ≡ u
@@ -247,9 +198,7 @@ module _ {X : Type 0} (part_of : X → Part) where
   pub last_append : (xs ys : List X)
       → last_of part_of (xs ++ ys) ≡ later_of part_of (last_of part_of xs) (last_of part_of ys)
   last_append [] ys = refl
-  last_append (x ∷ xs) ys =
-      ap (later_of part_of (Some x)) (last_append xs ys)
-      ∙ sym (later_assoc (Some x) (last_of part_of xs) (last_of part_of ys))
+  last_append (x ∷ xs) ys = search (later_assoc, last_append xs ys, arith)
 
   -- the last of a list in order is the last of all
   abbrev end_of : List X → Option X
@@ -263,12 +212,7 @@ module _ {X : Type 0} (part_of : X → Part) where
       → end_of (cond s (y ∷ insertion b x ys) (x ∷ y ∷ ys)) ≡ later_of part_of (Some x) (end_of (y ∷ ys))
   end_step b x y [] true e turn is ih = rw (sym (is y) ∙ e) refl
   end_step b x y [] false e turn is ih = rw (sym (is y) ∙ e) refl
-  end_step b x y (z ∷ zs) true e turn is ih = longer (b z) ih
-    where
-      longer : (t : Bool) → end_of (cond t (z ∷ insertion b x zs) (x ∷ z ∷ zs)) ≡ later_of part_of (Some x) (end_of (z ∷ zs))
-          → end_of (y ∷ cond t (z ∷ insertion b x zs) (x ∷ z ∷ zs)) ≡ later_of part_of (Some x) (end_of (z ∷ zs))
-      longer true h = h
-      longer false h = h
+  end_step b x y (z ∷ zs) true e turn is ih = grind arith
   end_step b x y (z ∷ zs) false e turn is ih = sym (stays (z ∷ zs) (behind (key x) y (z ∷ zs) (sym (is y) ∙ e) turn) some)
     where
       some : (o : X) × (end_of (z ∷ zs) ≡ Some o)
@@ -280,8 +224,7 @@ module _ {X : Type 0} (part_of : X → Part) where
 
       passes : (p : X → Bool) (ws : List X) (o : X) → list_all p ws ≡ true → end_of ws ≡ Some o → p o ≡ true
       passes p [] o h g = absurd (let gone : None ≡ Some o = g in cc)
-      passes p (w ∷ []) o h g =
-          let same : w ≡ o = cc in subst (λ v. p v ≡ true) same (and_parts (p w) true h).0
+      passes p (w ∷ []) o h g = grind (arith, and_parts)
       passes p (w ∷ v ∷ vs) o h g = passes p (v ∷ vs) o (and_parts (p w) (list_all p (v ∷ vs)) h).1 g
 
       stays : (ws : List X) → list_all (λ w. not (is_before (key x) w)) ws ≡ true
@@ -334,14 +277,8 @@ module _ {X : Type 0} (part_of : X → Part) where
 
   pub last_past : (bins : List (List X)) (i : ℕ) (a all : Option X) → length bins ≤ i
       → later_of part_of a (last_of part_of (joined (drop i bins))) ≡ all → a ≡ all
-  last_past bins i a all past h =
-      sym (alone a) ∙ ap (λ l. later_of part_of a (last_of part_of l)) (sym (joined_past bins i past)) ∙ h
-    where
-      alone : (a : Option X) → later_of part_of a None ≡ a
-      alone None = refl
-      alone (Some x) = refl
+  last_past bins i a all past h = grind (arith, joined_past, past)
 
   pub last_more : (a new all : Option X) (x : X) (xs : List X) → new ≡ later_of part_of a (Some x)
       → later_of part_of a (last_of part_of (x ∷ xs)) ≡ all → later_of part_of new (last_of part_of xs) ≡ all
-  last_more a new all x xs put h =
-      ap (λ o. later_of part_of o (last_of part_of xs)) put ∙ later_assoc a (Some x) (last_of part_of xs) ∙ h
+  last_more a new all x xs put h = grind (arith, later_assoc)

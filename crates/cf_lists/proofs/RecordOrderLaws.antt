@@ -1,5 +1,5 @@
 -- Keys that stand in the orders of headers.
-use Rattle.cf_lists.proofs.Imports.{◌≡◌, ◌≢◌, ◌⊎◌, inl, inr, ℕ, ◌+◌, ◌<◌, Bool, true, false, ◌||◌, ◌==◌, List, [], ◌∷◌, ◌++◌, length, map, take, drop, set, slice_get, get_or, Some, refl, sym, ap, ◌∙◌, subst, arith, suc, zero, list_any, insert, remove, or_right, false≢true, eq-eqb, eqb-true, eqb_tells, take-append-drop, list_any-append, records_of, all_records, stands}
+use Rattle.cf_lists.proofs.Imports.{◌≡◌, ◌≢◌, ◌⊎◌, inl, inr, ℕ, ◌+◌, ◌<◌, Bool, true, false, ◌||◌, ◌==◌, List, [], ◌∷◌, ◌++◌, length, map, take, drop, set, slice_get, get_or, Some, refl, sym, ap, ◌∙◌, arith, suc, zero, list_any, insert, remove, or_right, false≢true, eq-eqb, eqb-true, eqb_tells, take-append-drop, list_any-append, records_of, all_records, stands}
 use Rattle.std.proofs.Common.{get_or-set_same, get_or-set_other}
 use Rattle.cf_lists.proofs.TakeLaws.{split_next}
 use Rattle.cf_lists.proofs.AllLaws.{list_of-get_or}
@@ -23,13 +23,6 @@ place_any {X} q (x ∷ xs) h = elim (or_cases (q x) (list_any q xs) h) [
   | inr e ↦ let later = place_any q xs e in (suc later.0, later.1, later.2, later.3)
 ]
 
-inserted_new : (xs : List ℕ) (p key : ℕ) → list_any (λ k. k == key) (insert xs p key) ≡ true
-inserted_new xs p key =
-    let here : (key == key) ≡ true = eq-eqb key key refl in
-    list_any-append (λ k. k == key) (take p xs) (key ∷ drop p xs)
-    ∙ or_right (list_any (λ k. k == key) (take p xs)) ((key == key) || list_any (λ k. k == key) (drop p xs))
-    (or_left (key == key) _ here)
-
 inserted_old : (xs : List ℕ) (p key other : ℕ) → list_any (λ k. k == other) xs ≡ true
     → list_any (λ k. k == other) (insert xs p key) ≡ true
 inserted_old xs p key other h =
@@ -49,10 +42,7 @@ inserted_either xs p key other h =
     elim (or_cases (list_any q (take p xs)) ((key == other) || list_any q (drop p xs))
     (sym (list_any-append q (take p xs) (key ∷ drop p xs)) ∙ h)) [
       | inl e ↦ inr (back ∙ or_left (list_any q (take p xs)) _ e)
-      | inr f ↦ elim (or_cases (key == other) (list_any q (drop p xs)) f) [
-        | inl e ↦ inl (sym (eqb-true key other e))
-        | inr e ↦ inr (back ∙ or_right (list_any q (take p xs)) _ e)
-      ]
+      | inr f ↦ grind (arith, or_cases, eqb-true, or_right)
     ]
 
 drop_next : (p : ℕ) (xs : List ℕ) → drop (p + 1) xs ≡ drop (suc p) xs
@@ -69,10 +59,7 @@ removed_old xs p key other at ne h =
     list_any-append q (take p xs) (drop (suc p) xs)
     ∙ elim (or_cases (list_any q (take p xs)) ((key == other) || list_any q (drop (suc p) xs)) halves) [
       | inl e ↦ or_left (list_any q (take p xs)) _ e
-      | inr f ↦ elim (or_cases (key == other) (list_any q (drop (suc p) xs)) f) [
-        | inl e ↦ absurd (ne (sym (eqb-true key other e)))
-        | inr e ↦ or_right (list_any q (take p xs)) _ e
-      ]
+      | inr f ↦ grind (arith, or_cases, eqb-true, or_right)
     ]
 
 removed_back : (xs : List ℕ) (p key other : ℕ) → slice_get xs p ≡ Some key
@@ -95,56 +82,31 @@ removed_back xs p key other at h =
 changed : (orders : List (List ℕ)) (h : ℕ) (new : List ℕ) (h' key : ℕ) → h < length orders
     → (list_any (λ k. k == key) (get_or orders h []) ≡ true → list_any (λ k. k == key) new ≡ true)
     → stands orders h' key ≡ true → stands (set orders h new) h' key ≡ true
-changed orders h new h' key lt keeps st = elim (eqb_tells h' h) [
-  | inl e ↦ subst (λ j. stands (set orders h new) j key ≡ true) (sym e.1)
-      (ap (list_any (λ k. k == key)) (get_or-set_same orders h new [] lt)
-      ∙ keeps (subst (λ j. stands orders j key ≡ true) e.1 st))
-  | inr e ↦ ap (list_any (λ k. k == key)) (get_or-set_other orders h h' new [] e.1) ∙ st
-]
+changed orders h new h' key lt keeps st = grind (arith, eqb_tells, get_or-set_same, get_or-set_other)
 
 unchanged : (orders : List (List ℕ)) (h : ℕ) (new : List ℕ) (h' key : ℕ) → h < length orders
     → stands (set orders h new) h' key ≡ true
     → ((h' ≡ h) × (list_any (λ k. k == key) new ≡ true)) ⊎ (stands orders h' key ≡ true)
-unchanged orders h new h' key lt st = elim (eqb_tells h' h) [
-  | inl e ↦ inl (
-    e.1,
-    sym (ap (list_any (λ k. k == key)) (get_or-set_same orders h new [] lt))
-        ∙ subst (λ j. stands (set orders h new) j key ≡ true) e.1 st,
-  )
-  | inr e ↦ inr (sym (ap (list_any (λ k. k == key)) (get_or-set_other orders h h' new [] e.1)) ∙ st)
-]
+unchanged orders h new h' key lt st = grind (arith, eqb_tells, get_or-set_same, get_or-set_other)
 
 module _ (orders : List (List ℕ)) (h p key : ℕ) (lt : h < length orders) where
   pub stands_new : stands (set orders h (insert (records_of orders h) p key)) h key ≡ true
-  stands_new = ap (list_any (λ k. k == key)) (get_or-set_same orders h _ [] lt)
-      ∙ inserted_new (records_of orders h) p key
+  stands_new = grind (arith, get_or-set_same, eq-eqb, list_any-append, or_right, or_left)
 
   pub stands_more : (h' other : ℕ) → stands orders h' other ≡ true
       → stands (set orders h (insert (records_of orders h) p key)) h' other ≡ true
-  stands_more h' other =
-      changed orders h (insert (records_of orders h) p key) h' other lt
-      (λ e. inserted_old (records_of orders h) p key other (ap (list_any (λ k. k == other)) (list_of-get_or orders h)
-      ∙ e))
+  stands_more h' other = grind (arith, changed, inserted_old, list_of-get_or)
 
   pub stands_either : (h' other : ℕ) → stands (set orders h (insert (records_of orders h) p key)) h' other ≡ true
       → ((h' ≡ h) × (other ≡ key)) ⊎ (stands orders h' other ≡ true)
-  stands_either h' other st = elim (unchanged orders h (insert (records_of orders h) p key) h' other lt st) [
-    | inl e ↦ elim (inserted_either (records_of orders h) p key other e.1) [
-      | inl f ↦ inl (e.0, f)
-      | inr f ↦ inr (subst (λ j. stands orders j other
-          ≡ true) (sym e.0) (sym (ap (list_any (λ k. k == other)) (list_of-get_or orders h)) ∙ f))
-    ]
-    | inr e ↦ inr e
-  ]
+  stands_either h' other st = grind (arith, unchanged, inserted_either, list_of-get_or)
 
 module _ (orders : List (List ℕ)) (h p key : ℕ) (at : slice_get (records_of orders h) p ≡ Some key) where
   within : h < length orders
   within = header_within orders h p key at
 
   pub stands_at : stands orders h key ≡ true
-  stands_at =
-      sym (ap (list_any (λ k. k == key)) (list_of-get_or orders h))
-      ∙ any_at (λ k. k == key) (records_of orders h) p key at (eq-eqb key key refl)
+  stands_at = grind (arith, list_of-get_or, any_at, eq-eqb)
 
   pub stands_still : (h' other : ℕ) → other ≢ key → stands orders h' other ≡ true
       → stands (set orders h (remove (records_of orders h) p)) h' other ≡ true
@@ -155,20 +117,12 @@ module _ (orders : List (List ℕ)) (h p key : ℕ) (at : slice_get (records_of 
 
   pub stands_before : (h' other : ℕ) → stands (set orders h (remove (records_of orders h) p)) h' other ≡ true
       → stands orders h' other ≡ true
-  stands_before h' other st = elim (unchanged orders h (remove (records_of orders h) p) h' other within st) [
-    | inl e ↦ subst (λ j. stands orders j other ≡ true) (sym e.0)
-        (sym (ap (list_any (λ k. k == other)) (list_of-get_or orders h))
-        ∙ removed_back (records_of orders h) p key other at e.1)
-    | inr e ↦ e
-  ]
+  stands_before h' other st = grind (arith, unchanged, within, list_of-get_or, removed_back)
 
 -- a key that stands has a place
 pub place_stands : (orders : List (List ℕ)) (h key : ℕ) → stands orders h key ≡ true
     → (p : ℕ) × (slice_get (records_of orders h) p ≡ Some key)
-place_stands orders h key st =
-    let one = place_any (λ k. k == key) (records_of orders h) (ap (list_any (λ k. k == key)) (list_of-get_or orders h)
-    ∙ st) in
-    (one.0, one.2 ∙ ap (λ k. Some k) (eqb-true one.1 key one.3))
+place_stands orders h key st = grind (arith, place_any, list_of-get_or, eqb-true)
 
 -- maps that agree on all keys that stand
 agree_one : {X : Type 0} (f g : ℕ → X) (xs : List ℕ) → ((k : ℕ) → list_any (λ j. j == k) xs ≡ true → f k ≡ g k)
@@ -181,9 +135,7 @@ agree_one {X} f g (x ∷ xs) h =
 pub agree : {X : Type 0} (f g : ℕ → X) (orders : List (List ℕ)) → ((h k : ℕ) → stands orders h k ≡ true → f k ≡ g k)
     → map (map f) orders ≡ map (map g) orders
 agree f g [] h = refl
-agree {X} f g (o ∷ os) h =
-    ap (λ (l : List X). l ∷ map (map f) os) (agree_one f g o (λ k e. h zero k e))
-    ∙ ap (λ (l : List (List X)). map g o ∷ l) (agree f g os (λ i k e. h (suc i) k e))
+agree {X} f g (o ∷ os) h = cc (agree_one f g o (λ k e. h zero k e), agree f g os (λ i k e. h (suc i) k e))
 
 one_stands : {X : Type 0} (f : ℕ → X) (q : X → Bool) (xs : List ℕ) (key : ℕ) → list_any (λ j. j == key) xs ≡ true
     → q (f key) ≡ true
@@ -199,12 +151,8 @@ pub any_stands : {X : Type 0} (f : ℕ → X) (q : X → Bool) (orders : List (L
     → stands orders h key ≡ true → q (f key) ≡ true
     → list_any q (all_records (map (map f) orders)) ≡ true
 any_stands f q [] h key st t = absurd (false≢true st)
-any_stands f q (o ∷ os) zero key st t =
-    list_any-append q (map f o) (all_records (map (map f) os))
-    ∙ or_left (list_any q (map f o)) _ (one_stands f q o key st t)
-any_stands f q (o ∷ os) (suc h) key st t =
-    list_any-append q (map f o) (all_records (map (map f) os))
-    ∙ or_right (list_any q (map f o)) _ (any_stands f q os h key st t)
+any_stands f q (o ∷ os) zero key st t = grind (arith, list_any-append, or_left, one_stands)
+any_stands f q (o ∷ os) (suc h) key st t = grind (arith, list_any-append, or_right, any_stands f q os h key st t)
 
 -- where one passes among all records, its key stands
 any_one : {X : Type 0} (f : ℕ → X) (q : X → Bool) (xs : List ℕ) → list_any q (map f xs) ≡ true
@@ -212,8 +160,7 @@ any_one : {X : Type 0} (f : ℕ → X) (q : X → Bool) (xs : List ℕ) → list
 any_one f q [] e = absurd (false≢true e)
 any_one f q (x ∷ xs) e = elim (or_cases (q (f x)) (list_any q (map f xs)) e) [
   | inl i ↦ (x, or_left (x == x) (list_any (λ j. j == x) xs) (eq-eqb x x refl), i)
-  | inr i ↦ let later = any_one f q xs i in
-      (later.0, or_right (x == later.0) (list_any (λ j. j == later.0) xs) later.1, later.2)
+  | inr i ↦ grind (arith, or_right, any_one f q xs i)
 ]
 
 pub any_key : {X : Type 0} (f : ℕ → X) (q : X → Bool) (orders : List (List ℕ))
@@ -234,6 +181,4 @@ twice_one {Y = Y} f g (x ∷ xs) = ap (λ (l : List Y). g (f x) ∷ l) (twice_on
 pub twice : {X Y : Type 0} (f : ℕ → X) (g : X → Y) (orders : List (List ℕ))
     → map (map (λ k. g (f k))) orders ≡ map (map g) (map (map f) orders)
 twice f g [] = refl
-twice {Y = Y} f g (o ∷ os) =
-    ap (λ (l : List Y). l ∷ map (map (λ k. g (f k))) os) (twice_one f g o)
-    ∙ ap (λ (l : List (List Y)). map g (map f o) ∷ l) (twice f g os)
+twice {Y = Y} f g (o ∷ os) = grind (arith, twice_one, twice f g os)

@@ -1,5 +1,5 @@
 -- A record with an id that stands somewhere: that is where it is found.
-use Rattle.cf_lists.proofs.Imports.{◌≡◌, ℕ, ◌+◌, ◌<◌, Bool, true, false, not, ◌==◌, nat_lt, cond, List, [], ◌∷◌, ◌++◌, length, slice_get, position, Option, Some, None, option_map, refl, sym, ap, ◌∙◌, subst, arith, suc, zero, list_any, list_all, position_or_len, and_parts, or_right, false≢true, eq-eqb, eqb-true, pairwise, all_records, is_id, has_id, spot_of, spot_in, ids_apart}
+use Rattle.cf_lists.proofs.Imports.{◌≡◌, ℕ, ◌+◌, ◌<◌, Bool, true, false, not, ◌==◌, cond, List, [], ◌∷◌, ◌++◌, length, slice_get, Some, None, refl, sym, ◌∙◌, arith, suc, zero, list_any, list_all, position_or_len, and_parts, or_right, false≢true, eq-eqb, eqb-true, pairwise, all_records, is_id, has_id, spot_of, ids_apart}
 use Rattle.cf_lists.proofs.KeyLaws.{any_is_placed}
 use Rattle.cf_lists.proofs.AllLaws.{list_of, none_behind, any_all}
 use Rattle.cf_lists.proofs.IdLaws.{IsPlaced, once, apart-list}
@@ -8,15 +8,13 @@ module _ {X : Type 0} where
   pub all_at : (p : X → Bool) (xs : List X) (k : ℕ) (x : X) → list_all p xs ≡ true → slice_get xs k ≡ Some x
       → p x ≡ true
   all_at p [] k x h e = absurd (cc)
-  all_at p (y ∷ ys) zero x h e =
-      let same : y ≡ x = cc in subst (λ z. p z ≡ true) same (and_parts (p y) (list_all p ys) h).0
+  all_at p (y ∷ ys) zero x h e = grind (arith, and_parts)
   all_at p (y ∷ ys) (suc k) x h e = all_at p ys k x (and_parts (p y) (list_all p ys) h).1 e
 
   pub any_at : (p : X → Bool) (xs : List X) (k : ℕ) (x : X) → slice_get xs k ≡ Some x → p x ≡ true
       → list_any p xs ≡ true
   any_at p [] k x e t = absurd (cc)
-  any_at p (y ∷ ys) zero x e t =
-      let same : y ≡ x = cc in let here : p y ≡ true = ap p same ∙ t in rw here refl
+  any_at p (y ∷ ys) zero x e t = grind arith
   any_at p (y ∷ ys) (suc k) x e t = or_right (p y) (list_any p ys) (any_at p ys k x e t)
 
   pub get_within : (xs : List X) (k : ℕ) (x : X) → slice_get xs k ≡ Some x → k < length xs
@@ -34,16 +32,13 @@ module _ {X : Type 0} where
       → p x ≡ true → list_any (λ recs. list_any p recs) lists ≡ true
   any_there p [] h k x e t = absurd (cc)
   any_there p (l ∷ ls) zero k x e t = let here = any_at p l k x e t in rw here refl
-  any_there p (l ∷ ls) (suc h) k x e t =
-      or_right (list_any p l) (list_any (λ recs. list_any p recs) ls) (any_there p ls h k x e t)
+  any_there p (l ∷ ls) (suc h) k x e t = grind (arith, or_right, any_there p ls h k x e t)
 
 module _ {X : Type 0} (id_of : X → ℕ) where
   first_is : (id : ℕ) (xs : List X) (p : ℕ) (x : X) → pairwise (ids_apart id_of) xs ≡ true → slice_get xs p ≡ Some x
       → id_of x ≡ id → position_or_len (is_id id_of id) xs ≡ p
   first_is id [] p x h e i = absurd (cc)
-  first_is id (y ∷ ys) zero x h e i =
-      let same : y ≡ x = cc in
-      let here : (id_of y == id) ≡ true = eq-eqb (id_of y) id (ap id_of same ∙ i) in rw here refl
+  first_is id (y ∷ ys) zero x h e i = grind (arith, eq-eqb)
   first_is id (y ∷ ys) (suc p) x h e i =
       let parts = and_parts (list_all (ids_apart id_of y) ys) (pairwise (ids_apart id_of) ys) h in
       let rest = first_is id ys p x parts.1 e i in
@@ -51,16 +46,13 @@ module _ {X : Type 0} (id_of : X → ℕ) where
     where
       go : (b : Bool) → (id_of y == id) ≡ b → ids_apart id_of y x ≡ true → position_or_len (is_id id_of id) ys ≡ p
           → cond (not b) (1 + position_or_len (is_id id_of id) ys) 0 ≡ suc p
-      go true t a r =
-          let eq = eq-eqb (id_of x) (id_of y) (i ∙ sym (eqb-true (id_of y) id t)) in
-          absurd (false≢true (sym (ap not eq) ∙ a))
+      go true t a r = grind (arith, eq-eqb, eqb-true, false≢true)
       go false t a r = omega (arith, r)
 
   header_is : (id : ℕ) (lists : List (List X)) (h p : ℕ) (x : X) → pairwise (ids_apart id_of) (all_records lists) ≡ true
       → slice_get (list_of h lists) p ≡ Some x → id_of x ≡ id → position_or_len (has_id id_of id) lists ≡ h
   header_is id [] h p x a e i = absurd (cc)
-  header_is id (l ∷ ls) zero p x a e i =
-      let here = any_at (is_id id_of id) l p x e (eq-eqb (id_of x) id i) in rw here refl
+  header_is id (l ∷ ls) zero p x a e i = grind (arith, any_at, eq-eqb)
   header_is id (l ∷ ls) (suc h) p x a e i =
       go (has_id id_of id l) refl a (any_there (is_id id_of id) ls h p x e (eq-eqb (id_of x) id i))
       (header_is id ls h p x (behind l a) e i)
@@ -76,8 +68,7 @@ module _ {X : Type 0} (id_of : X → ℕ) where
           → list_any (has_id id_of id) ls ≡ true → position_or_len (has_id id_of id) ls ≡ h
           → cond (not b) (1 + position_or_len (has_id id_of id) ls) 0 ≡ suc h
       go true t k any r =
-          absurd (false≢true (sym (none_behind (ids_apart id_of) (is_id id_of id) (once id_of id) l
-          (all_records ls) k t)
+          absurd (false≢true (sym (grind (arith, none_behind, once))
           ∙ any_all (is_id id_of id) ls ∙ any))
       go false t k any r = omega (arith, r)
 
@@ -86,34 +77,12 @@ module _ {X : Type 0} (id_of : X → ℕ) where
       → pairwise (ids_apart id_of) (all_records lists) ≡ true
       → slice_get (list_of h lists) p ≡ Some x → id_of x ≡ id → IsPlaced id_of id lists h p
   placed_at id lists h p x a e i =
-      let within = header_within lists h p x e in
-      let test = eq-eqb (id_of x) id i in
-      record {
-        any = any_there (is_id id_of id) lists h p x e test;
-        header_is = header_is id lists h p x a e i;
-        header_in = within;
-        here = any_at (is_id id_of id) (list_of h lists) p x e test;
-        place_is = first_is id (list_of h lists) p x (apart-list id_of lists h within a) e i;
-        place_in = get_within (list_of h lists) p x e;
-      }
+      grind (arith, header_within, eq-eqb, any_there, header_is, any_at, list_of, first_is, apart-list, get_within)
 
   pub spot_there : (id : ℕ) (lists : List (List X)) (h p : ℕ) → IsPlaced id_of id lists h p
       → spot_of id_of id lists ≡ Some (h, p)
-  spot_there id lists h p is =
-      ap (λ (o : Option ℕ). spot_in id_of id lists o) (some (has_id id_of id) lists h is.any is.header_is)
-      ∙ ap (λ (o : Option ℕ). option_map {U = ℕ × ℕ} (λ (place : ℕ). (h, place)) o)
-      (some (is_id id_of id) (list_of h lists) p is.here is.place_is)
-    where
-      some : {Y : Type 0} (q : Y → Bool) (ys : List Y) (k : ℕ) → list_any q ys ≡ true → position_or_len q ys ≡ k
-          → position q ys ≡ Some k
-      some q ys k a e =
-          let within : nat_lt (position_or_len q ys) (length ys) ≡ true = sym (any_is_placed q ys) ∙ a in
-          rw within (ap (λ (n : ℕ). Some n) e)
+  spot_there id lists h p is = grind (arith, list_of, any_is_placed)
 
   pub no_spot : (id : ℕ) (lists : List (List X)) → list_any (has_id id_of id) lists ≡ false
       → spot_of id_of id lists ≡ None
-  no_spot id lists a =
-      let within : nat_lt (position_or_len (has_id id_of id) lists) (length lists)
-      ≡ false = sym (any_is_placed (has_id id_of id) lists) ∙ a in
-      let none : position (has_id id_of id) lists ≡ None = rw within refl in
-      ap (λ (o : Option ℕ). spot_in id_of id lists o) none
+  no_spot id lists a = grind (arith, any_is_placed)

@@ -7,15 +7,11 @@ module _ {X K : Type 0} (key : X → K) (same before : K → K → Bool) (is : I
   none_before : (k : K) (xs : List X) → list_all (λ x. not (before (key x) k)) xs ≡ true
       → prefix_len (λ a. before a k) (map key xs) ≡ 0
   none_before k [] h = refl
-  none_before k (x ∷ xs) h =
-      let here = not-true (before (key x) k)
-      (and_parts (not (before (key x) k)) (list_all (λ x. not (before (key x) k)) xs) h).0 in
-      rw here refl
+  none_before k (x ∷ xs) h = grind (arith, not-true, and_parts)
 
   got : (p : X → Bool) (xs : List X) (k : ℕ) (x : X) → list_all p xs ≡ true → slice_get xs k ≡ Some x → p x ≡ true
   got p [] k x h e = absurd (cc)
-  got p (y ∷ ys) zero x h e =
-      let here : y ≡ x = cc in subst (λ z. p z ≡ true) here (and_parts (p y) (list_all p ys) h).0
+  got p (y ∷ ys) zero x h e = grind (arith, and_parts)
   got p (y ∷ ys) (suc k) x h e = got p ys k x (and_parts (p y) (list_all p ys) h).1 e
 
   -- behind one that isn't before its key
@@ -24,15 +20,9 @@ module _ {X K : Type 0} (key : X → K) (same before : K → K → Bool) (is : I
       → slice_get (filter (is_keyed key same (key x)) ys) (k - prefix_len (λ a. before a (key x)) (map key ys)) ≡ Some x
       → slice_get (cond t (y ∷ filter (is_keyed key same (key x)) ys) (filter (is_keyed key same (key x)) ys))
       (suc k - cond s (1 + prefix_len (λ a. before a (key x)) (map key ys)) 0) ≡ Some x
-  at_step true true x y ys k e f turn there ih =
-      absurd (false≢true (sym (is.once (key x))
-      ∙ subst (λ a. before a (key x) ≡ true) (is.equal (key y) (key x) f) e))
-  at_step true false x y ys k e f turn there ih =
-      let n = prefix_len (λ a. before a (key x)) (map key ys) in
-      let less : suc k - (1 + n) ≡ k - n = omega arith in rw less ih
-  at_step false false x y ys k e f turn there ih =
-      let ahead = not-true (before (key x) (key y)) (got (in_turn key before y) ys k x turn there) in
-      absurd (false≢true (sym f ∙ is.ties (key x) (key y) ahead e))
+  at_step true true x y ys k e f turn there ih = grind (arith, false≢true)
+  at_step true false x y ys k e f turn there ih = grind arith
+  at_step false false x y ys k e f turn there ih = grind (arith, not-true, got, false≢true)
   at_step false true x y ys k e f turn there ih =
       let alike : key y ≡ key x = is.equal (key y) (key x) f in
       let none : prefix_len (λ a. before a (key x)) (map key ys) ≡ 0 = none_before (key x) ys
@@ -45,11 +35,7 @@ module _ {X K : Type 0} (key : X → K) (same before : K → K → Bool) (is : I
   pub at_run : (xs : List X) (k : ℕ) (x : X) → pairwise (in_turn key before) xs ≡ true → slice_get xs k ≡ Some x
       → slice_get (filter (is_keyed key same (key x)) xs) (k - prefix_len (λ a. before a (key x)) (map key xs)) ≡ Some x
   at_run [] k x h e = absurd (cc)
-  at_run (y ∷ ys) zero x h e =
-      let here : y ≡ x = cc in
-      subst (λ z. slice_get (filter (is_keyed key same (key z)) (y ∷ ys))
-      (0 - prefix_len (λ a. before a (key z)) (map key (y ∷ ys))) ≡ Some z) here
-      (rw (is.itself (key y), is.once (key y)) refl)
+  at_run (y ∷ ys) zero x h e = grind arith
   at_run (y ∷ ys) (suc k) x h e =
       let parts = and_parts (list_all (in_turn key before y) ys) (pairwise (in_turn key before) ys) h in
       at_step (before (key y) (key x)) (same (key y) (key x)) x y ys k refl refl parts.0 e (at_run ys k x parts.1 e)
@@ -67,9 +53,7 @@ module _ {X K : Type 0} (key : X → K) (same before : K → K → Bool) (is : I
       step : (b : Bool) → before k a ≡ b → before a k ≡ false → insertion (λ a. not (before k a)) k ks ≡ k ∷ ks
           → cond (not b) (a ∷ insertion (λ a. not (before k a)) k ks) (k ∷ a ∷ ks) ≡ k ∷ a ∷ ks
       step true e f ih = refl
-      step false e f ih =
-          let same : a ≡ k = is.equal a k (is.ties k a e f) in
-          ap (λ l. a ∷ l) ih ∙ ap (λ z. z ∷ k ∷ ks) same ∙ ap (λ z. k ∷ z ∷ ks) (sym same)
+      step false e f ih = grind arith
 
   order_step : (b : X → Bool) (x y : X) (ys : List X) (s t : Bool) → b y ≡ s → before (key x) (key y) ≡ t
       → (s ≡ true → t ≡ false) → (s ≡ false → before (key y) (key x) ≡ false)
@@ -82,8 +66,7 @@ module _ {X K : Type 0} (key : X → K) (same before : K → K → Bool) (is : I
   order_step b x y ys false true e f front stop turn ih = refl
   order_step b x y ys false false e f front stop turn ih =
       let same : key y ≡ key x = is.equal (key y) (key x) (is.ties (key x) (key y) f (stop refl)) in
-      let later : list_all (λ a. not (before a (key x))) (map key ys) ≡ true =
-      behind ys (subst (λ k. list_all (λ z. not (before (key z) k)) ys ≡ true) same turn) in
+      let later : list_all (λ a. not (before a (key x))) (map key ys) ≡ true = grind (arith, behind) in
       ap (λ a. key x ∷ a ∷ map key ys) same ∙ ap (λ a. a ∷ key x ∷ map key ys) (sym same)
       ∙ ap (λ l. key y ∷ l) (sym (first_again (key x) (map key ys) later))
     where

@@ -1,5 +1,5 @@
 -- A sort of keys gives the keys of what is seen.
-use Rattle.cf_lists.proofs.Imports.{◌≡◌, ℕ, suc, ◌+◌, ◌<◌, Bool, true, false, not, cond, List, [], ◌∷◌, filter, map, length, get_or, sum_by, refl, sym, ap, ◌∙◌, subst, arith, list_all, IsPermutation, and_parts, and_from, not-true, sum_by-cons, sum_by-IsPermutation, insertion, pairwise, is_keyed, in_turn, arranged, IsKeyOrder}
+use Rattle.cf_lists.proofs.Imports.{◌≡◌, ℕ, suc, ◌+◌, ◌<◌, Bool, true, false, cond, List, [], ◌∷◌, filter, map, length, get_or, sum_by, refl, sym, ap, ◌∙◌, arith, list_all, IsPermutation, and_parts, and_from, not-true, sum_by-cons, sum_by-IsPermutation, insertion, pairwise, in_turn, arranged, IsKeyOrder}
 use Rattle.cf_lists.proofs.FilterLaws.{list_all_weaker, list_all-filter_same, filter_swap}
 use Rattle.cf_lists.proofs.PairwiseLaws.{pairwise-filter}
 use Rattle.cf_lists.proofs.TieLaws.{ordered_filters}
@@ -16,10 +16,8 @@ length_counts p (x ∷ xs) = sym (sum_by-cons (λ x. one (p x)) x xs ∙ step (p
   where
     step : (b : Bool) → length (filter p xs) ≡ sum_by (λ x. one (p x)) xs
         → one b + sum_by (λ x. one (p x)) xs ≡ length (cond b (x ∷ filter p xs) (filter p xs))
-    step true e =
-        let more : 1 + sum_by (λ x. one (p x)) xs ≡ suc (length (filter p xs)) = omega (arith, e) in more
-    step false e =
-        let none : 0 + sum_by (λ x. one (p x)) xs ≡ length (filter p xs) = omega (arith, e) in none
+    step true e = grind arith
+    step false e = grind arith
 
 module _ {K : Type 0} (same before : K → K → Bool) (is : IsKeyOrder same before) where
   -- as many of one key are the same
@@ -42,19 +40,14 @@ module _ {K : Type 0} (same before : K → K → Bool) (is : IsKeyOrder same bef
   neighbours (x ∷ []) h = refl
   neighbours (x ∷ y ∷ ys) h =
       let first : before y x ≡ false = h 0 x (omega arith) in
-      let rest : pairwise (in_turn (λ k. k) before) (y ∷ ys) ≡ true = neighbours (y ∷ ys) (λ k d less. shifted k d
-      (h (suc k) d (omega (arith, less)))) in
+      let rest : pairwise (in_turn (λ k. k) before) (y ∷ ys) ≡ true = neighbours (y ∷ ys) (grind (arith, shifted)) in
       let parts = and_parts (list_all (in_turn (λ k. k) before y) ys) (pairwise (in_turn (λ k. k) before) ys) rest in
       and_from (list_all (in_turn (λ k. k) before x) (y ∷ ys)) (pairwise (in_turn (λ k. k) before) (y ∷ ys))
-      (and_from (not (before y x)) (list_all (in_turn (λ k. k) before x) ys) (ap not first)
-      (list_all_weaker (in_turn (λ k. k) before y) (in_turn (λ k. k) before x)
-      (λ z e. ap not (is.follows x y z first (not-true (before z y) e))) ys parts.0)) rest
+      (grind (arith, and_from, list_all_weaker, not-true)) rest
     where
       shifted : (k : ℕ) (d : K) → before (get_or (x ∷ y ∷ ys) (suc k + 1) d) (get_or (y ∷ ys) k d) ≡ false
           → before (get_or (y ∷ ys) (k + 1) d) (get_or (y ∷ ys) k d) ≡ false
-      shifted k d e =
-          let next : suc k + 1 ≡ suc (k + 1) = omega arith in
-          subst (λ n. before (get_or (x ∷ y ∷ ys) n d) (get_or (y ∷ ys) k d) ≡ false) next e
+      shifted k d e = grind arith
 
   counted_step : (f : K → ℕ) (k j : K) (t : Bool) (ks ls : List K) → sum_by f ls ≡ f k + sum_by f ks
       → sum_by f (cond t (j ∷ ls) (k ∷ j ∷ ks)) ≡ f k + sum_by f (j ∷ ks)
@@ -69,17 +62,13 @@ module _ {K : Type 0} (same before : K → K → Bool) (is : IsKeyOrder same bef
   counted : {X : Type 0} (key : X → K) (f : K → ℕ) (b : X → Bool) (x : X) (ys : List X)
       → sum_by f (map key (insertion b x ys)) ≡ f (key x) + sum_by f (map key ys)
   counted key f b x [] = sum_by-cons f (key x) []
-  counted key f b x (y ∷ ys) =
-      ap (sum_by f) (mapped_if key (b y) (y ∷ insertion b x ys) (x ∷ y ∷ ys))
-      ∙ counted_step f (key x) (key y) (b y) (map key ys) (map key (insertion b x ys)) (counted key f b x ys)
+  counted key f b x (y ∷ ys) = grind (arith, mapped_if, counted_step, counted key f b x ys)
 
   same_counts : {X : Type 0} (key : X → K) (f : K → ℕ) (xs : List X)
       → sum_by f (map key (arranged key before xs)) ≡ sum_by f (map key xs)
   unfolding arranged
   same_counts key f [] = refl
-  same_counts key f (x ∷ xs) =
-      counted key f (λ y. before (key y) (key x)) x (arranged key before xs)
-      ∙ ap (λ n. f (key x) + n) (same_counts key f xs) ∙ sym (sum_by-cons f (key x) (map key xs))
+  same_counts key f (x ∷ xs) = grind (arith, counted, sum_by-cons, same_counts key f xs)
 
   -- the same keys in order are the keys of what is seen
   pub sorted_is : {X : Type 0} (key : X → K) (xs : List X) (ks : List K) → IsPermutation (map key xs) ks
@@ -90,9 +79,7 @@ module _ {K : Type 0} (same before : K → K → Bool) (is : IsKeyOrder same bef
       ∙ arranged_in_turn key same before (λ k. 0) is xs)
       (λ k. alike k (filter (λ x. same x k) ks) (filter (λ x. same x k) (map key (arranged key before xs)))
       (list_all-filter_same (λ x. same x k) ks) (list_all-filter_same (λ x. same x k) (map key (arranged key before xs)))
-      (length_counts (λ x. same x k) ks ∙ sum_by-IsPermutation (λ x. one (same x k)) (map key xs) ks perm
-      ∙ sym (same_counts key (λ x. one (same x k)) xs)
-      ∙ sym (length_counts (λ x. same x k) (map key (arranged key before xs)))))
+      (grind (arith, length_counts, sum_by-IsPermutation, same_counts)))
 
 module _ {X K : Type 0} (key : X → K) (same before : K → K → Bool) (is : IsKeyOrder same before) where
   -- what is seen of some
@@ -103,6 +90,4 @@ module _ {X K : Type 0} (key : X → K) (same before : K → K → Bool) (is : I
       (arranged key before (filter q xs)) (filter q (arranged key before xs))
       (arranged_in_turn key same before (λ k. 0) is (filter q xs))
       (pairwise-filter (in_turn key before) q (arranged key before xs) (arranged_in_turn key same before (λ k. 0) is xs))
-      (λ k. keyed-arranged key same before (λ k. 0) is k (filter q xs) ∙ filter_swap (is_keyed key same k) q xs
-      ∙ ap (filter q) (sym (keyed-arranged key same before (λ k. 0) is k xs))
-      ∙ filter_swap q (is_keyed key same k) (arranged key before xs))
+      (grind (arith, keyed-arranged, filter_swap))

@@ -1,5 +1,5 @@
 -- All records with one more, one less, or one in place of another: the records before it and behind it.
-use Rattle.cf_lists.proofs.Imports.{◌≡◌, ℕ, ◌<◌, Bool, true, false, not, ◌==◌, cond, List, [], ◌∷◌, ◌++◌, length, map, find, take, drop, slice_get, Some, refl, sym, ap, ◌∙◌, subst, suc, zero, list_all, insert, and_parts, append_assoc, take-append-drop, pairwise, all_records, records_of, lists_with, records_without, is_id, has_id, replaced_by, ids_apart}
+use Rattle.cf_lists.proofs.Imports.{arith, ◌≡◌, ℕ, ◌<◌, Bool, true, false, ◌==◌, cond, List, [], ◌∷◌, ◌++◌, length, map, find, take, drop, slice_get, Some, refl, sym, ap, ◌∙◌, subst, suc, zero, list_all, insert, and_parts, append_assoc, take-append-drop, pairwise, all_records, records_of, lists_with, records_without, is_id, replaced_by, ids_apart}
 use Rattle.cf_lists.proofs.FilterLaws.{none_from_all, list_all_weaker, filter_all}
 use Rattle.cf_lists.proofs.AllLaws.{all-split, all-set}
 use Rattle.cf_lists.proofs.IdLaws.{once, unchanged}
@@ -31,11 +31,7 @@ module _ {X : Type 0} where
 
   pub every_found : (P : X → Type 0) (q : X → Bool) (xs : List X) (x : X) → Every P xs → find q xs ≡ Some x → P x
   every_found P q [] x h e = absurd (cc)
-  every_found P q (y ∷ ys) x h e = go (q y) e (every_found P q ys x h.1)
-    where
-      go : (b : Bool) → cond b (Some y) (find q ys) ≡ Some x → (find q ys ≡ Some x → P x) → P x
-      go true e rest = let same : y ≡ x = cc in subst P same h.0
-      go false e rest = rest e
+  every_found P q (y ∷ ys) x h e = grind (arith, every_found P q ys x h.1)
 
   -- one record more
   pub all_with : (h p : ℕ) (rec : X) (lists : List (List X)) → h < length lists
@@ -87,20 +83,7 @@ module _ {X : Type 0} (id_of : X → ℕ) where
       go : (b : Bool) → is_id id_of id y ≡ b → cond b (Some y) (find (is_id id_of id) ys) ≡ Some x
           → list_all (ids_apart id_of y) ys ≡ true
           → (find (is_id id_of id) ys ≡ Some x → IsSplit id ys x) → IsSplit id (y ∷ ys) x
-      go true t e apart rest =
-          let same : y ≡ x = cc in
-          let others =
-          list_all_weaker (ids_apart id_of y) (λ z. not (is_id id_of id z)) (λ z. once id_of id y z t) ys apart in
-          let none = none_from_all (is_id id_of id) ys others in
-          record {
-            front = [];
-            back = ys;
-            whole = ap (λ (z : X). z ∷ ys) same;
-            less = rw t (filter_all (λ z. not (is_id id_of id z)) ys others);
-            other = λ new i. (let k : is_id id_of (id_of new) y ≡ true = ap (λ n. id_of y == n) i ∙ t in
-                ap (λ b. cond b new y ∷ map (replaced_by id_of new) ys) k
-                ∙ ap (λ (l : List X). new ∷ l) (unchanged id_of new ys (ap (λ n. has_id id_of n ys) i ∙ none)));
-          }
+      go true t e apart rest = grind (arith, list_all_weaker, once, none_from_all, filter_all, unchanged)
       go false t e apart rest =
           let r = rest e in
           record {

@@ -9,11 +9,7 @@ get_within (x ∷ xs) (suc i) within = get_within xs i (omega arith)
 
 pub get-set_same : {X : Type 0} (xs : List X) (i : ℕ) (x y : X) → slice_get xs i ≡ Some x
     → slice_get (set xs i y) i ≡ Some y
-get-set_same [] i x y e = absurd (none i e)
-  where
-    none : (i : ℕ) → slice_get [] i ≡ Some x → ⊥
-    none zero e = cc
-    none (suc i) e = cc
+get-set_same [] i x y e = grind arith
 get-set_same (z ∷ xs) zero x y e = refl
 get-set_same (z ∷ xs) (suc i) x y e = get-set_same xs i x y e
 

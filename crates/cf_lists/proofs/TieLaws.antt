@@ -1,5 +1,5 @@
 -- Lists in order by key, with several elements of one key, are equal where their filters per key are.
-use Rattle.cf_lists.proofs.Imports.{◌≡◌, Bool, true, false, not, List, [], ◌∷◌, filter, refl, sym, ap, ◌∙◌, subst, list_all, and_parts, false≢true, not-true, pairwise}
+use Rattle.cf_lists.proofs.Imports.{arith, ◌≡◌, Bool, true, false, not, List, [], ◌∷◌, filter, refl, sym, ap, ◌∙◌, subst, list_all, and_parts, false≢true, not-true, pairwise}
 use Rattle.cf_lists.proofs.FilterLaws.{list_all-filter}
 
 module _ {X K : Type 0} (key : X → K) (same : K → K → Bool) (before : X → X → Bool) (same-refl : (k : K) → same k k ≡ true)
@@ -24,12 +24,7 @@ module _ {X K : Type 0} (key : X → K) (same : K → K → Bool) (before : X �
       let here : x ∷ filter (is_keyed (key x)) xs ≡ y ∷ filter (is_keyed (key x)) ys = rw (same-refl (key x), e) at p in cc
   first_tied false true x y xs ys e f h g p q =
       let here : x ∷ filter (is_keyed (key y)) xs ≡ y ∷ filter (is_keyed (key y)) ys = rw (f, same-refl (key y)) at q in cc
-  first_tied false false x y xs ys e f h g p q =
-      let there : x ∷ filter (is_keyed (key x)) xs ≡ filter (is_keyed (key x)) ys = rw (same-refl (key x), e) at p in
-      let back : filter (is_keyed (key y)) xs ≡ y ∷ filter (is_keyed (key y)) ys = rw (f, same-refl (key y)) at q in
-      let after = not-true (before x y) (heads (in_turn y) (is_keyed (key x)) x _ ys g there) in
-      let ahead = not-true (before y x) (heads (in_turn x) (is_keyed (key y)) y _ xs h (sym back)) in
-      absurd (false≢true (sym e ∙ ties x y after ahead))
+  first_tied false false x y xs ys e f h g p q = grind (arith, not-true, heads, false≢true)
 
   rest_tied : (k : K) (b : Bool) (x : X) (xs ys : List X) → is_keyed k x ≡ b
       → filter (is_keyed k) (x ∷ xs) ≡ filter (is_keyed k) (x ∷ ys) → filter (is_keyed k) xs ≡ filter (is_keyed k) ys

@@ -6,9 +6,7 @@ pub length_arranged : {X K : Type 0} (key : X → K) (before : K → K → Bool)
     → length (arranged key before xs) ≡ length xs
 unfolding arranged
 length_arranged key before [] = refl
-length_arranged key before (x ∷ xs) =
-    length-insertion (λ y. before (key y) (key x)) x (arranged key before xs)
-    ∙ ap (λ n. n + 1) (length_arranged key before xs) ∙ omega arith
+length_arranged key before (x ∷ xs) = grind (arith, length-insertion, length_arranged key before xs)
 
 length_joined : {X : Type 0} (i : ℕ) (bins : List (List X)) → length (get_or bins i []) ≤ length (joined bins)
 unfolding joined
@@ -18,9 +16,7 @@ length_joined (suc i) (bin ∷ bins) = omega (arith, length-append bin (joined b
 
 pub length_in : {X K : Type 0} (key : X → K) (before : K → K → Bool) (i : ℕ) (bins : List (List X))
     → length (get_or bins i []) ≤ length (map key (arranged key before (joined bins)))
-length_in key before i bins =
-    rw (length-map (arranged key before (joined bins)) key, length_arranged key before (joined bins))
-    (length_joined i bins)
+length_in key before i bins = grind (arith, length-map, length_arranged, length_joined)
 
 all_mapped : {X Y : Type 0} (f : X → Y) (p : Y → Bool) (xs : List X) → list_all p (map f xs) ≡ list_all (λ x. p (f x)) xs
 all_mapped f p [] = refl

@@ -1,5 +1,5 @@
 -- What a legal history tells of the answers of links, turn by turn.
-use Rattle.engine_api.proofs.Imports.{◌≡◌, ℕ, ◌+◌, ◌==◌, Bool, true, false, List, [], ◌∷◌, ◌++◌, length, refl, sym, ap, ◌∙◌, arith, append_assoc, append-nil, length-append, fold, filter, Option, None, Some, fold_push, filter-append, CfId, Entry, links_asked, asked_unless, asks_of, Asks, AreDistinct, has, marks_of, answers_to, StrForm, Refusal, Meaning, Machine, opening, room_of, call_cause, Turn, replay, next_mark, next_entry, with_mark, with_marks, marks_by, after_turn, IsLegal, Reading, begun, read_entry, read_all, answers_in, answers_from, answers, is_mark_as, marks_at, trues}
+use Rattle.engine_api.proofs.Imports.{◌≡◌, ℕ, ◌+◌, ◌==◌, Bool, List, [], ◌∷◌, ◌++◌, length, refl, sym, ap, ◌∙◌, arith, append_assoc, append-nil, length-append, fold, filter, Option, None, Some, fold_push, filter-append, CfId, Entry, links_asked, asked_unless, Asks, AreDistinct, answers_to, StrForm, Refusal, Meaning, Machine, opening, Turn, replay, next_mark, with_mark, with_marks, after_turn, IsLegal, Reading, begun, read_entry, read_all, answers_in, answers_from, answers, marks_at, trues}
 use Rattle.engine_api.proofs.AskLaws.{answers_marked, times, marked_once, distinct_apart}
 use Rattle.engine_api.proofs.HistoryLaws.{replay-push, by_turns}
 
@@ -13,11 +13,7 @@ module _ {C R I S : Type 0} (meaning : Meaning C R I S) (form : StrForm) where
       ≡ answers_from meaning form reading xs cf ++ answers_from meaning form (fold (read_entry meaning form) reading xs) ys cf
   from-append reading [] ys cf = refl
   from-append reading (x ∷ xs) ys cf =
-      ap (λ (more : List Bool). answers_in meaning form reading x.by x.what cf ++ more)
-      (from-append (read_entry meaning form reading x) xs ys cf)
-      ∙ sym (append_assoc (answers_in meaning form reading x.by x.what cf)
-      (answers_from meaning form (read_entry meaning form reading x) xs cf) (answers_from meaning form
-      (fold (read_entry meaning form) (read_entry meaning form reading x) xs) ys cf))
+      grind (arith, append_assoc, from-append (read_entry meaning form reading x) xs ys cf)
 
   -- the answers of a history begin with those of a front of it
   pub answers-append : (xs ys : List (Entry C R)) (cf : CfId)
@@ -28,10 +24,7 @@ module _ {C R I S : Type 0} (meaning : Meaning C R I S) (form : StrForm) where
   answers-push : (history : List (Entry C R)) (entry : Entry C R) (cf : CfId)
       → answers meaning form (history ++ entry ∷ []) cf
       ≡ answers meaning form history cf ++ answers_in meaning form (read_all meaning form history) entry.by entry.what cf
-  answers-push history entry cf =
-      answers-append history (entry ∷ []) cf
-      ∙ ap (λ (some : List Bool). answers meaning form history cf ++ some)
-      (append-nil (answers_in meaning form (read_all meaning form history) entry.by entry.what cf))
+  answers-push history entry cf = grind (arith, answers-append, append-nil)
 
   -- ---- marks
 
@@ -58,8 +51,7 @@ module _ {C R I S : Type 0} (meaning : Meaning C R I S) (form : StrForm) where
       → answers meaning form (with_marks meaning form history marks) cf ≡ answers meaning form history cf
   answers-marks [] history cf = refl
   answers-marks (lost ∷ marks) history cf =
-      answers-marks marks (with_mark meaning form history lost) cf
-      ∙ answers-push history (next_mark meaning form history lost) cf ∙ append-nil (answers meaning form history cf)
+      grind (arith, answers-push, append-nil, answers-marks marks (with_mark meaning form history lost) cf)
 
   -- ---- turns
 
@@ -75,13 +67,7 @@ module _ {C R I S : Type 0} (meaning : Meaning C R I S) (form : StrForm) where
 
   pub group-turn : (history : List (Entry C R)) (turn : Turn C) → IsAtGroup history
       → IsAtGroup (after_turn meaning form history turn)
-  group-turn history turn e =
-      let marks : List CfId = marks_by meaning form turn.down history turn.by turn.ask in
-      let marked : List (Entry C R) = with_marks meaning form history marks in
-      let added : Entry C R = next_entry meaning form marked turn.by turn.ask in
-      read-push marked added
-      ∙ ap (λ (reading : Reading (Machine S)). read_entry meaning form reading added) (read-marked history marks e)
-      ∙ ap (λ (state : Machine S). begun state) (sym (replay-push meaning form marked added))
+  group-turn history turn e = grind (arith, read-push, read-marked, replay-push)
 
   pub legal_group : (history : List (Entry C R)) → IsLegal meaning form history → IsAtGroup history
   legal_group history legal = by_turns meaning form IsAtGroup refl (λ h turn fine e. group-turn h turn e) history legal
@@ -91,33 +77,16 @@ module _ {C R I S : Type 0} (meaning : Meaning C R I S) (form : StrForm) where
       → answers meaning form (after_turn meaning form history turn) cf
       ≡ answers meaning form history cf
       ++ answers_to turn.down (links_asked meaning form (replay meaning form history) turn.by turn.ask) cf
-  answers-turn history turn cf e =
-      let asks : Asks = links_asked meaning form (replay meaning form history) turn.by turn.ask in
-      let marks : List CfId = marks_of turn.down asks in
-      let marked : List (Entry C R) = with_marks meaning form history marks in
-      let added : Entry C R = next_entry meaning form marked turn.by turn.ask in
-      answers-push marked added cf
-      ∙ ap (λ (reading : Reading (Machine S)). answers meaning form marked cf ++ answers_in meaning form reading turn.by added.what cf)
-      (read-marked history marks e)
-      ∙ ap (λ (some : List Bool). some ++ answers_to (has marks) asks cf) (answers-marks marks history cf)
-      ∙ ap (λ (some : List Bool). answers meaning form history cf ++ some) (answers_marked turn.down asks cf)
+  answers-turn history turn cf e = grind (arith, answers-push, read-marked, answers-marks, answers_marked)
 
   -- ---- how many marks there are
 
   marks-append : (xs ys : List (Entry C R)) (cf : CfId) → marks_at (xs ++ ys) cf ≡ marks_at xs cf + marks_at ys cf
-  marks-append xs ys cf =
-      ap length (filter-append (λ (entry : Entry C R). is_mark_as cf entry.what) xs ys)
-      ∙ length-append (filter (λ (entry : Entry C R). is_mark_as cf entry.what) xs)
-      (filter (λ (entry : Entry C R). is_mark_as cf entry.what) ys)
+  marks-append xs ys cf = grind (arith, filter-append, length-append)
 
   one-mark : (history : List (Entry C R)) (mark cf : CfId)
       → marks_at (next_mark meaning form history mark ∷ []) cf ≡ times cf (mark ∷ [])
-  one-mark history mark cf = go (mark.0 == cf.0) refl
-    where
-      go : (b : Bool) → mark.0 == cf.0 ≡ b
-          → marks_at (next_mark meaning form history mark ∷ []) cf ≡ times cf (mark ∷ [])
-      go true same = rw same refl
-      go false same = rw same refl
+  one-mark history mark cf = grind (arith, times)
 
   marks-marks : (marks : List CfId) (history : List (Entry C R)) (cf : CfId)
       → marks_at (with_marks meaning form history marks) cf ≡ marks_at history cf + times cf marks
@@ -139,9 +108,7 @@ module _ {C R I S : Type 0} (meaning : Meaning C R I S) (form : StrForm) where
   asked_distinct (Some refusal) asks = tt
 
   trues-append : (xs ys : List Bool) → trues (xs ++ ys) ≡ trues xs + trues ys
-  trues-append xs ys =
-      ap length (filter-append (λ (b : Bool). b) xs ys)
-      ∙ length-append (filter (λ (b : Bool). b) xs) (filter (λ (b : Bool). b) ys)
+  trues-append xs ys = grind (arith, filter-append, length-append)
 
   abbrev AreCounted : CfId → List (Entry C R) → Type 0
   AreCounted cf history = IsAtGroup history × (marks_at history cf ≡ trues (answers meaning form history cf))
@@ -149,22 +116,17 @@ module _ {C R I S : Type 0} (meaning : Meaning C R I S) (form : StrForm) where
   counted-turn : (cf : CfId) (history : List (Entry C R)) (turn : Turn C) → AreCounted cf history
       → AreCounted cf (after_turn meaning form history turn)
   counted-turn cf history turn counted =
-      let state : Machine S = replay meaning form history in
-      let asks : Asks = links_asked meaning form state turn.by turn.ask in
-      let marks : List CfId = marks_of turn.down asks in
-      let marked : List (Entry C R) = with_marks meaning form history marks in
-      let added : Entry C R = next_entry meaning form marked turn.by turn.ask in
-      let told : List Bool = answers_to turn.down asks cf in
-      let whole : marks_at (marked ++ added ∷ []) cf ≡ marks_at marked cf + 0 =
-      marks-append marked (added ∷ []) cf in
-      let before : marks_at marked cf ≡ marks_at history cf + times cf marks = marks-marks marks history cf in
-      let here : times cf marks ≡ trues told =
-      marked_once turn.down asks cf (asked_distinct (call_cause form (room_of meaning form state) state.shell turn.by turn.ask)
-      (asks_of state.shell turn.ask)) in
-      let answered : trues (answers meaning form (marked ++ added ∷ []) cf) ≡ trues (answers meaning form history cf) + trues told =
-      ap (λ (some : List Bool). trues some) (answers-turn history turn cf counted.0)
-      ∙ trues-append (answers meaning form history cf) told in
-      (group-turn history turn counted.0, omega (arith, counted.1, whole, before, here, answered))
+      grind (
+        arith,
+        marks-append,
+        times,
+        marks-marks,
+        marked_once,
+        asked_distinct,
+        answers-turn,
+        trues-append,
+        group-turn,
+      )
 
   -- a history has as many marks of a facility as its link answered Down
   pub marks_counted : (history : List (Entry C R)) → IsLegal meaning form history → (cf : CfId)

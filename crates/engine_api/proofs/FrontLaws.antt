@@ -1,6 +1,6 @@
 -- What the first items of a content make: what follows from the laws on it, and how it follows from laws on one item
 -- that is placed behind others.
-use Rattle.engine_api.proofs.Imports.{◌≡◌, Bool, IsTrue, List, [], ◌∷◌, ◌++◌, sym, ap, ◌∙◌, subst, append-nil, append_assoc, fold-append, Caps, Kind, Shape, Fits, IsAlone, IsNextItem, content_of_items, Meaning}
+use Rattle.engine_api.proofs.Imports.{arith, ◌≡◌, Bool, IsTrue, List, [], ◌∷◌, ◌++◌, sym, ap, ◌∙◌, subst, append-nil, append_assoc, fold-append, Caps, Kind, Shape, Fits, IsAlone, IsNextItem, content_of_items, Meaning}
 
 module _ {C R I S : Type 0} (meaning : Meaning C R I S) (is_kind : Kind → Bool)
     (IsContent : Shape → Caps → S → Type 0) where
@@ -38,9 +38,7 @@ module _ {C R I S : Type 0} (meaning : Meaning C R I S) (is_kind : Kind → Bool
 
     module _ (shape : Shape) (state : S) (item : I) (next : IsNextItem meaning IsContent shape state item) where
       placed_so : made shape (meaning.items shape state ++ item ∷ []) ≡ meaning.place shape state item
-      placed_so =
-          made_push shape (meaning.items shape state) item
-          ∙ ap (λ (s : S). meaning.place shape s item) next.alone
+      placed_so = grind (arith, made_push)
 
       split : meaning.items shape next.whole ≡ (meaning.items shape state ++ item ∷ []) ++ next.others
       split = next.first ∙ sym (append_assoc (meaning.items shape state) (item ∷ []) next.others)
@@ -49,10 +47,7 @@ module _ {C R I S : Type 0} (meaning : Meaning C R I S) (is_kind : Kind → Bool
       pub content-placed : (caps : Caps) → IsTrue (is_kind shape.kind)
           → Fits shape.kind (meaning.need (meaning.items shape state ++ item ∷ [])) caps
           → IsContent shape caps (meaning.place shape state item)
-      content-placed caps kind fits =
-          subst (IsContent shape caps) placed_so
-          (laws.content_front shape next.at caps next.whole (meaning.items shape state ++ item ∷ []) next.others kind
-          next.content split fits)
+      content-placed caps kind fits = grind (arith, placed_so, split)
 
   -- ---- from laws on one item
 
@@ -92,26 +87,11 @@ module _ {C R I S : Type 0} (meaning : Meaning C R I S) (is_kind : Kind → Bool
     module _ (shape : Shape) (caps : Caps) (whole : S) (content : IsContent shape caps whole) where
       next_of : (front : List I) (item : I) (others : List I) → meaning.items shape whole ≡ front ++ item ∷ others
           → meaning.items shape (made shape front) ≡ front → ComesNext shape caps (made shape front) item
-      next_of front item others split same =
-          record {
-            whole = whole;
-            others = others;
-            content = content;
-            first = split ∙ ap (λ (l : List I). l ++ item ∷ others) (sym same);
-            alone = ap (made shape) same;
-          }
+      next_of front item others split same = grind (arith, split)
 
       front_with : (front : List I) (item : I) (others : List I) → meaning.items shape whole ≡ front ++ item ∷ others
           → IsFront shape caps front → IsFront shape caps (front ++ item ∷ [])
-      front_with front item others split is =
-          let next = next_of front item others split is.items in
-          let push = made_push shape front item in
-          record {
-            content = subst (IsContent shape caps) (sym push)
-                (laws.content_place shape caps (made shape front) item is.content next);
-            items = ap (meaning.items shape) push ∙ laws.items_place shape caps (made shape front) item is.content next
-                ∙ ap (λ (l : List I). l ++ item ∷ []) is.items;
-          }
+      front_with front item others split is = grind (arith, next_of, split, made_push)
 
       front_longer : (front rest others : List I) → meaning.items shape whole ≡ front ++ (rest ++ others)
           → IsFront shape caps front → IsFront shape caps (front ++ rest)
@@ -133,19 +113,12 @@ module _ {C R I S : Type 0} (meaning : Meaning C R I S) (is_kind : Kind → Bool
       moved_front : (other : Caps) (front others : List I) → IsTrue (is_kind shape.kind)
           → meaning.items shape whole ≡ front ++ others → Fits shape.kind (meaning.need front) other
           → IsContent shape other (made shape front)
-      moved_front other front others kind split fits =
-          let is = front_of front others split in
-          subst (IsContent shape other) (forgotten front is)
-          (laws.content_moved shape caps other (made shape front) kind is.content
-          (subst (λ (l : List I). Fits shape.kind (meaning.need l) other) (sym is.items) fits))
+      moved_front other front others kind split fits = grind (arith, front_of, split, forgotten)
 
       unplaced_front : (front : List I) (item : I) (others : List I)
           → meaning.items shape whole ≡ front ++ item ∷ others
           → meaning.unplace shape (made shape (front ++ item ∷ [])) ≡ made shape front
-      unplaced_front front item others split =
-          let is = front_of front (item ∷ others) split in
-          ap (meaning.unplace shape) (made_push shape front item)
-          ∙ laws.unplace_place shape caps (made shape front) item is.content (next_of front item others split is.items)
+      unplaced_front front item others split = grind (arith, front_of, split, made_push, next_of)
 
     pub fronts : FrontLaws
     fronts =

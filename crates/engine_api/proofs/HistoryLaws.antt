@@ -1,5 +1,5 @@
 -- Legal histories: what one more turn does to one, and what is known of each of its entries.
-use Rattle.engine_api.proofs.Imports.{◌≡◌, ℕ, zero, suc, ◌+◌, ◌<◌, ◌≤◌, inl, inr, List, [], ◌∷◌, ◌++◌, length, take, slice_get, Some, refl, sym, ap, subst, ◌∙◌, arith, append_assoc, append-nil, length-append, fold, take-append-le, length-take, map-append, fold_push, filter_map-append, CfId, What, Entry, StrForm, Meaning, opening, step, Call, Turn, call_of, calls, machine_after, replay, next_mark, next_entry, with_mark, with_marks, marks_by, after_turn, IsLegal, IsNext, IsNextAs, IsEachNext, Continues}
+use Rattle.engine_api.proofs.Imports.{◌≡◌, ℕ, zero, suc, ◌+◌, ◌<◌, ◌≤◌, inl, inr, List, [], ◌∷◌, ◌++◌, length, take, slice_get, Some, refl, sym, ap, subst, ◌∙◌, arith, append_assoc, append-nil, length-append, fold, take-append-le, length-take, fold_push, filter_map-append, CfId, What, Entry, StrForm, Meaning, opening, step, Call, Turn, call_of, calls, machine_after, replay, next_mark, next_entry, with_mark, with_marks, marks_by, after_turn, IsLegal, IsNext, IsNextAs, IsEachNext, Continues}
 use Rattle.std.proofs.lemmas.List as lists
 use Rattle.engine_api.specs.declared.asks.What.TheVariants as what
 use Rattle.engine_api.proofs.Pushed.{Each, each_none, each_push, cut_push}
@@ -82,11 +82,7 @@ module _ {C R I S : Type 0} (meaning : Meaning C R I S) (form : StrForm) where
   -- the numbers count from 1
   pub number_legal : (history : List (Entry C R)) → IsLegal meaning form history → (i : ℕ) (entry : Entry C R)
       → slice_get history i ≡ Some entry → entry.no ≡ i + 1
-  number_legal history legal i entry e =
-      let inside : i < length history = within history i entry e in
-      let front : length (take i history) ≡ i = omega (arith, length-take i history) in
-      number-next (take i history) entry entry.what (each_next history legal i entry e)
-      ∙ ap (λ (n : ℕ). n + 1) front
+  number_legal history legal i entry e = grind (arith, within, length-take, number-next, each_next)
 
   -- ---- fronts
 
@@ -96,8 +92,7 @@ module _ {C R I S : Type 0} (meaning : Meaning C R I S) (form : StrForm) where
       → calls (with_marks meaning form history marks) ≡ calls history
   calls-marks [] history = refl
   calls-marks (cf ∷ marks) history =
-      calls-marks marks (with_mark meaning form history cf) ∙ calls-append history (next_mark meaning form history cf ∷ [])
-      ∙ append-nil (calls history)
+      grind (arith, calls-append, append-nil, calls-marks marks (with_mark meaning form history cf))
 
   -- the call that a turn adds
   abbrev pub call_added : List (Entry C R) → Turn C → Call C R
@@ -112,11 +107,7 @@ module _ {C R I S : Type 0} (meaning : Meaning C R I S) (form : StrForm) where
 
   pub calls-turn : (history : List (Entry C R)) (turn : Turn C)
       → calls (after_turn meaning form history turn) ≡ calls history ++ call_added history turn ∷ []
-  calls-turn history turn =
-      let marks : List CfId = marks_by meaning form turn.down history turn.by turn.ask in
-      let marked : List (Entry C R) = with_marks meaning form history marks in
-      calls-append marked (next_entry meaning form marked turn.by turn.ask ∷ [])
-      ∙ ap (λ (some : List (Call C R)). some ++ call_added history turn ∷ []) (calls-marks marks history)
+  calls-turn history turn = grind (arith, calls-append, calls-marks)
 
   -- a call of a history: the entries up to it are the next ones of a legal history that has the calls before it
   pub record IsMade (history : List (Entry C R)) (front : List (Call C R)) (call : Call C R) : Type 0 where
@@ -132,20 +123,7 @@ module _ {C R I S : Type 0} (meaning : Meaning C R I S) (form : StrForm) where
 
   made_more : (history : List (Entry C R)) (entry : Entry C R) (front : List (Call C R)) (call : Call C R)
       → IsMade history front call → IsMade (history ++ entry ∷ []) front call
-  made_more history entry front call made =
-      record {
-        began = made.began;
-        turn = made.turn;
-        legal = made.legal;
-        before = made.before;
-        behind = made.behind ++ entry ∷ [];
-        starts =
-            ap (λ (h : List (Entry C R)). h ++ entry ∷ []) made.starts
-            ∙ append_assoc made.began made.behind (entry ∷ []);
-        is = made.is;
-        up_to = take-append-le call.no history (entry ∷ []) made.within ∙ made.up_to;
-        within = omega (arith, made.within, length-append history (entry ∷ []));
-      }
+  made_more history entry front call made = grind (arith, append_assoc, take-append-le, within, length-append)
 
   abbrev AreMade : List (Entry C R) → Type 0
   AreMade history =
@@ -161,11 +139,7 @@ module _ {C R I S : Type 0} (meaning : Meaning C R I S) (form : StrForm) where
       → (added : List (Entry C R)) × (with_marks meaning form history marks ≡ history ++ added)
   added_marks [] history = ([], sym (append-nil history))
   added_marks (cf ∷ marks) history =
-      let mark : Entry C R = next_mark meaning form history cf in
-      let rest : (added : List (Entry C R))
-      × (with_marks meaning form (with_mark meaning form history cf) marks ≡ with_mark meaning form history cf ++ added) =
-      added_marks marks (with_mark meaning form history cf) in
-      (mark ∷ rest.0, rest.1 ∙ append_assoc history (mark ∷ []) rest.0)
+      grind (arith, append_assoc, added_marks marks (with_mark meaning form history cf))
 
   -- and so is a turn
   pub added_turn : (history : List (Entry C R)) (turn : Turn C)

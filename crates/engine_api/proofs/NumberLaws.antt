@@ -1,5 +1,5 @@
 -- The numbers of calls, where marks stand between them.
-use Rattle.engine_api.proofs.Imports.{◌≡◌, ℕ, ◌+◌, ◌*◌, ◌<◌, ◌≤◌, ◌⊎◌, inl, inr, Bool, true, false, nat_lt, List, [], ◌∷◌, ◌++◌, length, fold, filter, map, refl, sym, ap, subst, ◌∙◌, arith, append-nil, length-append, Contains, if◌then◌else◌, cases_lt, nat_tests, map-append, fold_push, filter-append, Contains-push_cases, CfId, Entry, links_asked, Asks, marks_of, StrForm, ConnId, Ask, Meaning, Machine, Call, Turn, calls, replay, with_mark, with_marks, next_entry, next_mark, marks_by, after_turn, IsLegal, numbers, IsPoint, last_number, last_call_below, IsNumbered}
+use Rattle.engine_api.proofs.Imports.{◌≡◌, ℕ, ◌+◌, ◌*◌, ◌<◌, ◌≤◌, ◌⊎◌, inl, inr, Bool, true, false, nat_lt, List, [], ◌∷◌, ◌++◌, length, fold, filter, map, refl, sym, ap, subst, ◌∙◌, arith, append-nil, length-append, Contains, if◌then◌else◌, cases_lt, nat_tests, map-append, fold_push, filter-append, Contains-push_cases, CfId, Entry, links_asked, Asks, marks_of, StrForm, ConnId, Ask, Meaning, Machine, Call, Turn, calls, replay, with_mark, with_marks, marks_by, after_turn, IsLegal, numbers, IsPoint, last_number, last_call_below, IsNumbered}
 use Rattle.engine_api.proofs.AskLaws.{marks_few, two_asked}
 use Rattle.engine_api.proofs.HistoryLaws.{by_turns, calls-turn, call_added}
 
@@ -11,20 +11,7 @@ module _ {C R : Type 0} where
   below_push n all call false is = filter-append (λ (c : Call C R). nat_lt c.no n) all (call ∷ []) ∙ rw is refl
 
   pub numbered_none : IsNumbered {C = C} {R = R} []
-  numbered_none =
-      record {
-        within = λ n point. at_start n point;
-        below = λ n. omega arith;
-        ended = λ n past. refl;
-        points = λ n point. sym (no_point n point);
-      }
-    where
-      no_point : (n : ℕ) → IsPoint {C = C} {R = R} [] n → n ≡ 0
-      no_point n (inl none) = none
-      no_point n (inr there) = let less = there.1 in absurd (omega (arith, less))
-
-      at_start : (n : ℕ) → IsPoint {C = C} {R = R} [] n → n ≤ 0
-      at_start n point = let none = no_point n point in omega (arith, none)
+  numbered_none = grind arith
 
 module _ {C R I S : Type 0} (meaning : Meaning C R I S) (form : StrForm) where
   -- the number of the call that a turn adds: marks may stand before it
@@ -34,19 +21,13 @@ module _ {C R I S : Type 0} (meaning : Meaning C R I S) (form : StrForm) where
 
   pub length-turn : (history : List (Entry C R)) (turn : Turn C)
       → length (after_turn meaning form history turn) ≡ number_added history turn
-  length-turn history turn =
-      let marked : List (Entry C R) = with_marks meaning form history (marks_by meaning form turn.down history turn.by turn.ask) in
-      length-append marked (next_entry meaning form marked turn.by turn.ask ∷ [])
+  length-turn history turn = grind (arith, length-append)
 
   length-marks : (marks : List CfId) (history : List (Entry C R))
       → length (with_marks meaning form history marks) ≡ length history + length marks
   length-marks [] history = omega arith
   length-marks (cf ∷ marks) history =
-      let rest : length (with_marks meaning form (with_mark meaning form history cf) marks)
-      ≡ length (with_mark meaning form history cf) + length marks = length-marks marks (with_mark meaning form history cf) in
-      let here : length (with_mark meaning form history cf) ≡ length history + 1 =
-      length-append history (next_mark meaning form history cf ∷ []) in
-      omega arith
+      grind (arith, length-append, length-marks marks (with_mark meaning form history cf))
 
   pub number_past : (history : List (Entry C R)) (turn : Turn C) → length history < number_added history turn
   number_past history turn =

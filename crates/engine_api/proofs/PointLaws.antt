@@ -14,33 +14,14 @@ some_none (x ∷ xs) = inl (some_none xs)
 
 some_down : (stops : Bool) (d : CfId → Bool) (xs : List CfId) → AreSome (filter d (reached stops d xs)) xs
 some_down stops d [] = refl
-some_down stops d (x ∷ xs) = go (d x) stops (some_down stops d xs)
-  where
-    go : (b t : Bool) → AreSome (filter d (reached stops d xs)) xs
-        → AreSome (if b then x ∷ filter d (if t && b then [] else reached stops d xs)
-        else filter d (if t && b then [] else reached stops d xs)) (x ∷ xs)
-    go true true next = inr ([], refl, some_none xs)
-    go true false next = inr (filter d (reached stops d xs), refl, next)
-    go false true next = inl next
-    go false false next = inl next
+some_down stops d (x ∷ xs) = grind (arith, some_none, some_down stops d xs)
 
 one_down : (d : CfId → Bool) (xs : List CfId) → length (filter d (reached true d xs)) ≤ 1
 one_down d [] = omega arith
-one_down d (x ∷ xs) = go (d x) (one_down d xs)
-  where
-    go : (b : Bool) → length (filter d (reached true d xs)) ≤ 1
-        → length (if b then x ∷ filter d (if b then [] else reached true d xs)
-        else filter d (if b then [] else reached true d xs)) ≤ 1
-    go true next = omega arith
-    go false next = next
+one_down d (x ∷ xs) = grind (arith, one_down d xs)
 
 marks_made : (down : CfId → Bool) (asks : Asks) → AreMarksOf asks (marks_of down asks)
-marks_made down asks =
-    record {
-      some = some_down asks.stops down asks.links;
-      one = λ stops. subst (λ (b : Bool). length (filter down (reached b down asks.links)) ≤ 1) (sym stops)
-          (one_down down asks.links);
-    }
+marks_made down asks = grind (arith, some_down, one_down)
 
 some_has : (ms xs : List CfId) (cf : CfId) → AreSome ms xs → has xs cf ≡ false → has ms cf ≡ false
 some_has ms [] cf some none = rw some refl
@@ -143,13 +124,7 @@ module _ {C R I S : Type 0} (meaning : Meaning C R I S) (form : StrForm) where
   read_so_far : (history : List (Entry C R)) (far : IsSoFar history)
       → read_all meaning form history
       ≡ record { began = replay meaning form far.began; marks = far.marks; now = replay meaning form history }
-  read_so_far history far =
-      ap (read_all meaning form) far.is ∙ read-marked meaning form far.began far.marks (legal_group meaning form far.began far.legal)
-      ∙ ap (λ (state : Machine S). (let reading : Reading (Machine S) = record {
-        began = replay meaning form far.began;
-        marks = far.marks;
-        now = state;
-      } in reading)) (ap (replay meaning form) (sym far.is))
+  read_so_far history far = grind (arith, read-marked, legal_group)
 
   one_more : (history : List (Entry C R)) (number' : ℕ) (by : ConnId) (reply : Reply R) (told : What C) → IsSoFar history
       → number' ≡ length history + 1 → MayEnd meaning form (read_all meaning form history) by told

@@ -1,8 +1,7 @@
 -- What calls do to the connections: who is active after each, and that refused calls change nothing.
-use Rattle.engine_api.proofs.Imports.{◌≡◌, Bool, true, false, cond, List, [], ◌∷◌, length, Option, Some, None, refl, ap, ◌∙◌, fold, map, length-set, length-map, CALLERS, Event, Letter, StrForm, CfId, ConnId, Refusal, ShellCmd, Connections, no_connections, state_of, excused_state, with_departure, next_event, owed_event, Ask, What, Room, Entry, after_what, machine_after, replay, next_entry, with_call, next_reply, Machine, opening, unless, content_reply, content_done, capacity, room_of, departure_from, command_done, step, entered_machine, Meaning, Outcome, unless_refused, is_at, Shell, shell_cause, content_cause, shell_done, leaver, with_posted, no_deeds, facility_of, given_outcome, stop_outcome, rebuild_connect_outcome, complete_outcome, conns_answered, take_event, responded, response_outcome, is_kept, fresh_loss, primary_loss, loss_outcome, vary_outcome, simplex_again, stopped_outcome, simplex_outcome, idle_outcome, with_off, Rebuild, is_response}
+use Rattle.engine_api.proofs.Imports.{arith, ◌≡◌, Bool, true, false, List, [], ◌∷◌, length, Option, Some, None, refl, ap, ◌∙◌, fold, map, length-set, length-map, CALLERS, Event, StrForm, CfId, ConnId, Refusal, ShellCmd, Connections, no_connections, state_of, excused_state, with_departure, next_event, owed_event, Ask, What, Room, Entry, after_what, machine_after, replay, next_entry, with_call, next_reply, Machine, opening, unless, content_reply, content_done, room_of, command_done, step, entered_machine, Meaning, Outcome, unless_refused, Shell, shell_cause, content_cause, shell_done, with_posted, stop_outcome, rebuild_connect_outcome, complete_outcome, conns_answered, take_event, responded, response_outcome, is_kept, fresh_loss, primary_loss, loss_outcome, vary_outcome, simplex_again, with_off, Rebuild}
 use Rattle.cf_types.specs.declared.events.Event.TheVariants as event
 use Rattle.cf_types.specs.declared.shell_commands.ShellCmd.TheVariants as cmd
-use Rattle.cf_types.specs.declared.shell_commands.ShellReply.TheVariants as answer
 use Rattle.engine_api.specs.declared.asks.Ask.TheVariants as ask
 use Rattle.engine_api.specs.declared.asks.What.TheVariants as what
 use Rattle.engine_api.specs.declared.asks.Reply.TheVariants as reply
@@ -34,12 +33,7 @@ conns-stop shell (Some rebuild) = refl
 conns-fresh_loss : (cf : CfId) (rebuild : Option Rebuild) (shell : Shell)
     → (fresh_loss cf rebuild shell).shell.conns ≡ shell.conns
 conns-fresh_loss cf None shell = refl
-conns-fresh_loss cf (Some rebuild) shell = go (is_at cf rebuild.fresh)
-  where
-    go : (there : Bool) → (cond there (stopped_outcome rebuild shell) (idle_outcome answer.OkNone shell)).shell.conns
-        ≡ shell.conns
-    go true = refl
-    go false = refl
+conns-fresh_loss cf (Some rebuild) shell = grind arith
 
 conns-primary_loss : (form : StrForm) (cf : CfId) (other : Option CfId) (shell : Shell)
     → (primary_loss form cf other shell).shell.conns ≡ shell.conns
@@ -47,15 +41,7 @@ conns-primary_loss form cf None shell = refl
 conns-primary_loss form cf (Some other) shell = refl
 
 pub conns-loss : (form : StrForm) (cf : CfId) (shell : Shell) → (loss_outcome form cf shell).shell.conns ≡ shell.conns
-conns-loss form cf shell = go (is_at cf shell.instances.primary) (is_at cf shell.instances.secondary)
-  where
-    go : (first second : Bool) → (cond first (primary_loss form cf shell.instances.secondary shell)
-        (cond second (simplex_outcome cf (facility_of shell.instances.primary) shell)
-        (fresh_loss cf shell.rebuild shell))).shell.conns
-        ≡ shell.conns
-    go true second = conns-primary_loss form cf shell.instances.secondary shell
-    go false true = refl
-    go false false = conns-fresh_loss cf shell.rebuild shell
+conns-loss form cf shell = grind (arith, conns-primary_loss, conns-fresh_loss)
 
 pub conns-vary : (form : StrForm) (cf : CfId) (off : Bool) (shell : Shell)
     → (vary_outcome form cf off shell).shell.conns ≡ shell.conns
@@ -80,13 +66,7 @@ conns-complete shell by (Some rebuild) = refl
 conns-responded : (by : ConnId) (answered : Event) (rebuild : Option Rebuild) (shell : Shell)
     → (responded by answered rebuild shell).shell.conns ≡ shell.conns
 conns-responded by answered None shell = refl
-conns-responded by answered (Some rebuild) shell = go (is_response rebuild.stage rebuild.number answered)
-  where
-    go : (awaited : Bool)
-        → (cond awaited (given_outcome (answer.Responded answered) by rebuild shell)
-        (record { reply = answer.Responded answered; shell = shell; deeds = no_deeds })).shell.conns ≡ shell.conns
-    go true = refl
-    go false = refl
+conns-responded by answered (Some rebuild) shell = grind arith
 
 conns-respond : (shell : Shell) (by : ConnId) (answered : Event)
     → (response_outcome shell by (Some answered)).shell.conns ≡ conns_answered by answered shell.conns
@@ -144,9 +124,7 @@ module _ {C R I S : Type 0} (meaning : Meaning C R I S) (form : StrForm) where
           → let answered = unless meaning form cause machine (command_done meaning form machine by command) in
           length answered.machine.shell.conns ≡ length machine.shell.conns
       go (Some refusal) = refl
-      go None =
-          let letters : List Letter = (departure_from meaning form (leaver machine.shell by command) machine).letters in
-          length-shell_done form (room_of meaning form machine) (with_posted letters machine.shell) by command
+      go None = grind (arith, length-shell_done)
   length-conns-step machine by (ask.Content command) =
       ap (λ (c : Connections). length c) (conns-content machine by command (content_cause machine.shell by))
 
@@ -160,8 +138,7 @@ module _ {C R I S : Type 0} (meaning : Meaning C R I S) (form : StrForm) where
       → length (fold (machine_after meaning form) machine history).shell.conns ≡ length machine.shell.conns
   length-conns-fold machine [] = refl
   length-conns-fold machine (entry ∷ entries) =
-      length-conns-fold (machine_after meaning form machine entry) entries
-      ∙ length-conns-after machine entry.by entry.what
+      grind (arith, length-conns-after, length-conns-fold (machine_after meaning form machine entry) entries)
 
   -- there is a place for the operator and one for each connector
   pub length-conns-replay : (history : List (Entry C R)) → length (replay meaning form history).shell.conns ≡ CALLERS
@@ -189,10 +166,7 @@ module _ {C R I S : Type 0} (meaning : Meaning C R I S) (form : StrForm) where
       refusal
       → (unless meaning form cause machine (content_done meaning form machine by command)).machine ≡ machine
   refused_content machine by command (Some why) refusal is = refl
-  refused_content machine by command None refusal is =
-      let held = capacity meaning form machine in
-      refused_stepped machine (meaning.cause held.shape held.caps held.state by command)
-      (meaning.done held.shape held.caps held.state by command) refusal is
+  refused_content machine by command None refusal is = grind (arith, refused_stepped)
 
   -- a refused call changes nothing, but that a call has come
   pub machine-refused : (machine : Machine S) (by : ConnId) (asked : Ask C) (refusal : Refusal)
@@ -202,9 +176,7 @@ module _ {C R I S : Type 0} (meaning : Meaning C R I S) (form : StrForm) where
       ap (entered_machine)
       (refused_done machine by command (shell_cause form (room_of meaning form machine) machine.shell by command)
       refusal is)
-  machine-refused machine by (ask.Content command) refusal is =
-      ap (entered_machine)
-      (refused_content machine by command (content_cause machine.shell by) refusal is)
+  machine-refused machine by (ask.Content command) refusal is = grind (arith, refused_content)
 
   pub replay-refused : (history : List (Entry C R)) (by : ConnId) (asked : Ask C) (refusal : Refusal)
       → next_reply meaning form history by asked ≡ reply.Refused refusal

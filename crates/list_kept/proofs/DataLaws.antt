@@ -19,14 +19,7 @@ same_need (Some bytes) = refl
 
 pub same_elements : (recs : List Record) → store.elements_in recs ≡ elements_in recs
 same_elements [] = refl
-same_elements (rec ∷ recs) =
-    omega (
-      arith,
-      sum_by-cons (λ (r : Record). need_at r.body) rec recs,
-      sum_by-cons (λ (r : Record). elements_of r.body) rec recs,
-      same_need rec.body,
-      same_elements recs,
-    )
+same_elements (rec ∷ recs) = grind (arith, sum_by-cons, same_need, same_elements recs)
 
 -- the elements that are free, where records have all chains
 pub free_elements : (recs : List Record) (loose chains : List (Option (List ℕ))) (free : ℕ) → AreUsed loose

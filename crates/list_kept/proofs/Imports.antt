@@ -1,5 +1,5 @@
 -- What proofs here name of other crates, and of this one's definitions. Declares nothing.
-pub use Rattle.std.proofs.Common.{◌≡◌, ℕ, zero, suc, ◌+◌, ◌≤◌, ◌<◌, true, List, [], ◌∷◌, length, replicate, sum_by, Option, None, Some, refl, sym, ap, subst, arith, IfSome, is_none, Bool, false, not, cond, Ordering, Less, Equal, Greater, is_lt, is_gt, nat_cmp, find, slice_get, ◌∙◌, ◌-◌, ◌==◌, ◌++◌, length-append, take, drop, ◌&&◌, ◌||◌, option_map, unwrap_or, is_some, if◌then◌else◌, filter, Bor, set, nat_lt, position, map}
+pub use Rattle.std.proofs.Common.{◌≡◌, ℕ, zero, suc, ◌+◌, ◌≤◌, ◌<◌, true, List, [], ◌∷◌, length, replicate, sum_by, Option, None, Some, refl, sym, ap, subst, arith, IfSome, is_none, Bool, false, not, cond, Ordering, Less, Equal, Greater, is_lt, is_gt, nat_cmp, find, slice_get, ◌∙◌, ◌-◌, ◌==◌, ◌++◌, length-append, take, drop, ◌&&◌, ◌||◌, option_map, unwrap_or, is_some, if◌then◌else◌, filter, Bor, nat_lt, position, map}
 pub use Rattle.std.proofs.lemmas.Bool.{and_parts, not-true, false≢true, eqb-true, and_from}
 pub use Rattle.std.proofs.lemmas.Bool.Decides.{nat_tests}
 pub use Rattle.std.proofs.lemmas.List.{length-map, get_or_past, drop_more, length-replicate}
@@ -20,12 +20,11 @@ pub use Rattle.cf_lists.proofs.RecordPrefixLaws.{passes_first}
 pub use Rattle.cf_lists.proofs.SplitLaws.{split_found}
 pub use Rattle.cf_lists.proofs.TableLaws.{set_same}
 pub use Rattle.cf_lists.specs.Fronts.{front}
-pub use Rattle.cf_lists.specs.Insertions.{insertion}
 pub use Rattle.cf_lists.specs.Lists.{IsLastFull, lists_popped}
 pub use Rattle.cf_lists.specs.Pairwise.{pairwise}
 pub use Rattle.cf_lists.specs.RecordPrefixes.{goes_first}
 pub use Rattle.cf_types.proofs.ResourceLaws.{same_name-eq, same_name-refl}
-pub use Rattle.cf_types.specs.Gains.{Bits, Gains, difference}
+pub use Rattle.cf_types.specs.Gains.{Bits, Gains}
 pub use Rattle.cf_types.specs.declared.effects.BitChange.{BitChange}
 pub use Rattle.cf_types.specs.declared.list_commands.At.TheVariants.{Name}
 pub use Rattle.cf_types.specs.declared.names.Key16.{Key16}
@@ -39,9 +38,9 @@ pub use Rattle.list_model.proofs.ListLaws.{IsWith, with-pairwise, with-records, 
 pub use Rattle.list_model.proofs.RecordLaws.{key_back, key_up_to-either, not_false, names_apart-sym, key_up_to-trans}
 pub use Rattle.list_model.proofs.StoreLaws.{record_of-at, full-elsewhere, full-others, records-elsewhere, full-replaced, placed-with}
 pub use Rattle.list_model.specs.Commands.Move.{with_new_key}
-pub use Rattle.list_model.specs.Contents.{Content, has_records, holder_without, headers_of}
+pub use Rattle.list_model.specs.Contents.{Content, has_records, holder_without}
 pub use Rattle.list_model.specs.Keys.{key_up_to, key_before, same_key}
-pub use Rattle.list_model.specs.Lists.{first_records, with_record, stands_before}
+pub use Rattle.list_model.specs.Lists.{first_records, with_record}
 pub use Rattle.list_model.specs.Records.{names_apart, elements_in, elements_of, has_key, may_precede, has_name}
 pub use Rattle.list_store.proofs.HeldLaws.{set_twice}
 pub use Rattle.list_store.proofs.SpotLaws.{unplaced, spot_with}
@@ -49,16 +48,16 @@ pub use Rattle.list_store.proofs.StoreLaws.{none_shown}
 pub use Rattle.list_store.proofs.TiedLaws.{none_within}
 pub use Rattle.list_store.proofs.VecLaws.{all-replicate}
 pub use Rattle.list_store.specs.CfPool.Pools.{need_at}
-pub use Rattle.list_store.specs.Lists.{Lists, is_id, ids_apart, all_records, record_of, lists_replaced, records_of, with_records, count_of, record_id, records_without, lists_without, replaced_by, spot_of, has_id, lists_with}
+pub use Rattle.list_store.specs.Lists.{Lists, is_id, ids_apart, all_records, record_of, lists_replaced, records_of, with_records, count_of, record_id, records_without, lists_without, spot_of, has_id, lists_with}
 pub use Rattle.list_store.specs.Record.{Record}
-pub use Rattle.list_store.specs.Records.{record_in, body_in, chains_less}
+pub use Rattle.list_store.specs.Records.{record_in}
 pub use Rattle.list_store.specs.StoreView.{StoreView}
 pub use Rattle.list_store.specs.declared.records.Rec.{Rec}
 pub use Rattle.list_store.specs.declared.records.Spot.{Spot}
 pub use Rattle.list_watch.proofs.BitLaws.{monitors-turned, gains_two}
 pub use Rattle.list_watch.proofs.MonitorLaws.{filter-map, monitors_of-others, monitors_of-with, monitors_of-without}
 pub use Rattle.list_watch.specs.Ends.{differs}
-pub use Rattle.list_watch.specs.Monitors.{is_at, is_replaced, is_for, is_of}
+pub use Rattle.list_watch.specs.Monitors.{is_at}
 pub use Rattle.list_watch.specs.Rows.{monitors_of, is_lit, bit_of, row_turned, rows_turned, rows_with}
 pub use Rattle.list_watch.specs.declared.monitors.Monitor.{Monitor}
 pub use Rattle.list_watch.specs.declared.monitors.Watched.{Watched}
@@ -66,6 +65,6 @@ pub use Rattle.list_kept.specs.ContentView.{comes_behind, put_back, ContentView,
 pub use Rattle.list_kept.specs.Data.{AreUsed, blank, with_data, renewed}
 pub use Rattle.list_kept.specs.Named.{AreNamed, is_its, WritesIts}
 pub use Rattle.list_kept.specs.Orderly.{IsOrderly}
-pub use Rattle.list_kept.specs.Told.{is_told, AreTold}
+pub use Rattle.list_kept.specs.Told.{is_told}
 pub use Rattle.list_kept.specs.declared.bare.Bare.{Bare}
 pub use Rattle.list_kept.specs.declared.keeping.Kept.TheInside.{Inside}

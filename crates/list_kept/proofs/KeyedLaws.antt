@@ -1,5 +1,5 @@
 -- The first record with a key, among records in order.
-use Rattle.list_kept.proofs.Imports.{◌≡◌, ℕ, suc, ◌+◌, Bool, true, false, not, cond, List, [], ◌∷◌, Option, Some, None, Ordering, Less, Equal, Greater, is_lt, is_gt, nat_cmp, find, slice_get, refl, sym, ap, ◌∙◌, arith, is_eq, bytes_decides, slice_cmp, texts_ties, list_all, prefix_len, and_parts, not-true, false≢true, Key16, pairwise, find_none, none_from_all, list_all_weaker, Record, key_up_to, key_before, same_key, has_key, may_precede, key_back, key_up_to-either, not_false, comes_behind}
+use Rattle.list_kept.proofs.Imports.{◌≡◌, ℕ, ◌+◌, Bool, true, false, not, cond, List, [], ◌∷◌, Option, Some, None, Ordering, Less, Equal, Greater, is_lt, is_gt, nat_cmp, find, slice_get, refl, sym, ap, ◌∙◌, arith, is_eq, bytes_decides, slice_cmp, texts_ties, list_all, prefix_len, and_parts, not-true, false≢true, Key16, pairwise, find_none, none_from_all, list_all_weaker, Record, key_up_to, key_before, same_key, has_key, may_precede, key_back, key_up_to-either, not_false, comes_behind}
 
 -- a key that is given, if one is
 abbrev is_key : Key16 → Option Key16 → Bool
@@ -11,11 +11,7 @@ keys_same a b h =
     let keyed : List ℕ → Key16 = λ (bytes : List ℕ). record { 0 = bytes } in ap keyed ((bytes_decides a.0 b.0).0 h)
 
 up_to_itself : (key : Option Key16) → key_up_to key key ≡ true
-up_to_itself key = go (key_up_to key key) refl
-  where
-    go : (b : Bool) → key_up_to key key ≡ b → key_up_to key key ≡ true
-    go true e = e
-    go false e = key_up_to-either key key e
+up_to_itself key = grind (arith, key_up_to-either)
 
 -- of two keys neither of which is behind the other
 same_up : (a b : Key16) → key_up_to (Some a) (Some b) ≡ true → key_up_to (Some b) (Some a) ≡ true
@@ -80,18 +76,12 @@ find_keyed key (x ∷ xs) h =
         → list_all (may_precede x) xs ≡ true
         → cond b (Some x) (find (has_key key) xs) ≡ cond b (Some x) None
     none true e before each = refl
-    none false e before each =
-        find_none (has_key key) xs (none_from_all (has_key key) xs
-        (list_all_weaker (may_precede x) (λ y. not (has_key key y))
-        (λ y up. ap not (has_is y ∙ behind_apart key x.key y.key before up e)) xs each))
+    none false e before each = grind (arith, find_none, none_from_all, list_all_weaker, has_is, behind_apart)
 
     go : (b : Bool) → comes_behind true (Some key) x ≡ b
         → find (has_key key) xs ≡ keyed key (slice_get xs (prefix_len (comes_behind true (Some key)) xs))
         → list_all (may_precede x) xs ≡ true
         → cond (has_key key x) (Some x) (find (has_key key) xs)
         ≡ keyed key (slice_get (x ∷ xs) (cond b (1 + prefix_len (comes_behind true (Some key)) xs) 0))
-    go true e rest each =
-        let next : 1 + prefix_len (comes_behind true (Some key)) xs ≡ suc (prefix_len (comes_behind true (Some key)) xs)
-        = omega arith in
-        rw next (ap (λ b. cond b (Some x) (find (has_key key) xs)) (has_is x ∙ before_apart key x.key e) ∙ rest)
+    go true e rest each = grind (arith, has_is, before_apart)
     go false e rest each = turn (none (is_key key x.key) refl e each)

@@ -1,5 +1,5 @@
 -- The names of records stay right where a record comes, goes or stands in place of another.
-use Rattle.list_kept.proofs.Imports.{◌≡◌, ℕ, ◌+◌, ◌<◌, Bool, true, false, not, ◌&&◌, ◌||◌, cond, List, [], ◌∷◌, ◌++◌, length, Option, Some, None, find, option_map, unwrap_or, is_some, refl, sym, ap, ◌∙◌, subst, arith, IfSome, list_any, and_parts, eqb-true, false≢true, length-map, Name16, EntryId, Name, same_name-eq, same_name-refl, pairwise, none_from_all, list_all_weaker, find_none, found_passes, any_is_found, filter_all, all_from_none, Named, id_of, Key16, insertion, all-map, split_found, Record, Lists, record_id, is_id, ids_apart, all_records, records_of, with_records, record_of, records_without, lists_without, lists_replaced, replaced_by, has_name, names_apart, elements_in, elements_of, with_record, stands_before, with_new_key, IsWith, with-pairwise, with-records, with-insertion, with-push, sum-with, in-found, all-without, names_apart-sym, size, with-without, record_of-at, put_back, is_its, AreNamed, WritesIts}
+use Rattle.list_kept.proofs.Imports.{◌≡◌, ℕ, ◌+◌, ◌<◌, Bool, true, false, not, ◌&&◌, ◌||◌, cond, List, [], ◌∷◌, ◌++◌, length, Option, Some, None, find, option_map, unwrap_or, is_some, refl, sym, ap, ◌∙◌, subst, arith, IfSome, list_any, and_parts, eqb-true, false≢true, length-map, Name16, EntryId, Name, same_name-eq, same_name-refl, pairwise, none_from_all, list_all_weaker, find_none, found_passes, any_is_found, filter_all, all_from_none, Named, id_of, Key16, all-map, split_found, Record, Lists, record_id, is_id, ids_apart, all_records, records_of, with_records, record_of, records_without, lists_without, lists_replaced, has_name, names_apart, elements_in, elements_of, with_record, with_new_key, IsWith, with-pairwise, with-records, with-insertion, with-push, sum-with, in-found, all-without, names_apart-sym, size, with-without, record_of-at, put_back, is_its, AreNamed, WritesIts}
 
 -- what is found among records with one more
 find_front : (p : Record → Bool) (rec : Record) (front back : List Record)
@@ -26,10 +26,7 @@ find_front p rec (x ∷ xs) back alone = go (p x) (p rec) refl refl
 
 find_with : (p : Record → Bool) (rec : Record) (xs ys : List Record) → IsWith rec xs ys
     → (p rec ≡ true → list_any p xs ≡ false) → find p ys ≡ cond (p rec) (Some rec) (find p xs)
-find_with p rec xs ys w alone =
-    ap (find p) w.is
-    ∙ find_front p rec w.front w.back (λ e. sym (ap (λ (l : List Record). list_any p l) w.was) ∙ alone e)
-    ∙ ap (λ (l : List Record). cond (p rec) (Some rec) (find p l)) (sym w.was)
+find_with p rec xs ys w alone = grind (arith, find_front)
 
 -- of two records whose names are apart not both have a name
 apart_names : (name : Name16) (rec other : Record) → names_apart rec other ≡ true → has_name name rec ≡ true
@@ -54,11 +51,7 @@ alone_by name rec xs ys w h e =
     (with-pairwise names_apart names_apart-sym rec xs ys w h))
 
 has_is : (name : Name16) (rec : Record) → has_name name rec ≡ is_its rec.name name
-has_is name rec = go rec.name refl
-  where
-    go : (o : Option Name16) → rec.name ≡ o → has_name name rec ≡ is_its o name
-    go None e = rw e refl
-    go (Some own) e = rw e refl
+has_is name rec = grind arith
 
 id_with : (name : Name16) (rec : Record) (xs ys : List Record) → IsWith rec xs ys → pairwise names_apart ys ≡ true
     → option_map (λ r. r.id) (find (has_name name) ys)
@@ -97,9 +90,7 @@ named_less names after rec xs ys w h are writes name = go (is_its rec.name name)
         writes name ∙ ap (λ b. cond b None (id_of name names)) e
         ∙ sym (ap (option_map {T = Record} {U = EntryId} (λ r. r.id)) (find_none (has_name name) xs
         (alone_by name rec xs ys w h (has_is name rec ∙ e))))
-    go false e =
-        writes name ∙ ap (λ b. cond b None (id_of name names)) e ∙ before
-        ∙ ap (λ b. cond b (Some rec.id) (option_map (λ (r : Record). r.id) (find (has_name name) xs))) e
+    go false e = grind (arith, before)
 
 -- a record of the same name and id in place of another
 pub named_other : (names : Named) (rec other : Record) (xs ys zs : List Record) → IsWith rec xs ys → IsWith other xs zs
@@ -136,19 +127,12 @@ same_id id rec e =
 -- the record with an id is taken out
 pub taken : (id : EntryId) (lists : Lists) (rec : Record) → pairwise ids_apart (all_records lists) ≡ true
     → record_of id lists ≡ Some rec → IsWith rec (all_records (lists_without id lists)) (all_records lists)
-taken id lists rec apart e =
-    let all = all_records lists in
-    let same = same_id id rec (found_passes (is_id id) all rec e) in
-    subst (λ (l : List Record). IsWith rec l all)
-    (sym (all-without id lists ∙ ap (λ (i : EntryId). records_without i all) same))
-    (with-without rec all (in-found (is_id id) all rec e) apart)
+taken id lists rec apart e = grind (arith, same_id, found_passes, IsWith, all-without, with-without, in-found)
 
 -- a record comes to its place
 pub came : (head : Bool) (header : ℕ) (rec : Record) (lists : Lists) → header < length lists
     → IsWith rec (all_records lists) (all_records (with_record head header rec lists))
-came head header rec lists lt =
-    with-records rec lists header (insertion (stands_before head rec) rec (records_of lists header)) lt
-    (with-insertion (stands_before head rec) rec (records_of lists header))
+came head header rec lists lt = grind (arith, with-records, with-insertion)
 
 pub came_last : (header : ℕ) (rec : Record) (lists : Lists) → header < length lists
     → IsWith rec (all_records lists) (all_records (with_records lists header (records_of lists header ++ rec ∷ [])))
@@ -160,11 +144,7 @@ pub came_back : (head : Bool) (header : ℕ) (key : Option Key16) (id : EntryId)
     → header < length lists → record_of id lists ≡ Some rec
     → IsWith (with_new_key key rec) (all_records (lists_without id lists))
     (all_records (put_back head header key (record_of id lists) (lists_without id lists)))
-came_back head header key id rec lists lt e =
-    let rest = lists_without id lists in
-    subst (λ (o : Option Record). IsWith (with_new_key key rec) (all_records rest)
-    (all_records (put_back head header key o rest))) (sym e)
-    (came head header (with_new_key key rec) rest (omega (arith, lt, length-map lists (records_without id))))
+came_back head header key id rec lists lt e = grind (arith, IsWith, came, length-map)
 
 -- a record stands in place of another
 pub record IsReplaced (lists : Lists) (old rec : Record) : Type 0 where
@@ -179,12 +159,7 @@ replaced lists old rec apart e =
     record {
       others = s.front ++ s.back;
       before = record { front = s.front; back = s.back; was = refl; is = s.whole };
-      after = record {
-        front = s.front;
-        back = s.back;
-        was = refl;
-        is = all-map (replaced_by rec) lists ∙ s.other rec refl;
-      };
+      after = grind (arith, all-map);
     }
 
 -- a record that is there is found
@@ -210,9 +185,7 @@ named_found names lists name id apart are e = go (find (has_name name) (all_reco
   where
     go : (o : Option Record) → find (has_name name) (all_records lists) ≡ o
         → record_of id lists ≡ find (has_name name) (all_records lists)
-    go None f =
-        let none : id_of name names ≡ None = are name ∙ ap (option_map {T = Record} {U = EntryId} (λ r. r.id)) f in
-        absurd (cc)
+    go None f = grind arith
     go (Some rec) f =
         let its : id_of name names ≡ Some rec.id =
         are name ∙ ap (option_map {T = Record} {U = EntryId} (λ r. r.id)) f in

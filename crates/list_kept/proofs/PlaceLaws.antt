@@ -1,5 +1,5 @@
 -- Where a record comes to stand among records in order.
-use Rattle.list_kept.proofs.Imports.{◌≡◌, ℕ, ◌≤◌, Bool, true, false, not, ◌||◌, Option, List, [], length, replicate, zero, suc, option_map, find, refl, sym, ap, ◌∙◌, arith, list_all, false≢true, get_or_past, Key16, EntryId, pairwise, pairwise_weaker, pairwise-filter, goes_first, list_of-get_or, Record, Lists, records_of, all_records, is_id, lists_without, all-replicate, key_up_to, may_precede, names_apart, has_name, elements_in, key_up_to-trans, all-without, ordered_without, comes_behind, Named, id_of, AreNamed, IsOrderly}
+use Rattle.list_kept.proofs.Imports.{◌≡◌, ℕ, ◌≤◌, Bool, true, false, not, ◌||◌, Option, List, [], length, replicate, zero, suc, refl, sym, ap, ◌∙◌, arith, list_all, false≢true, get_or_past, Key16, EntryId, pairwise, pairwise_weaker, pairwise-filter, goes_first, list_of-get_or, Record, Lists, records_of, all_records, lists_without, all-replicate, key_up_to, may_precede, elements_in, key_up_to-trans, all-without, ordered_without, comes_behind, Named, AreNamed, IsOrderly}
 use Rattle.list_kept.proofs.ReadLaws.{elements_fewer}
 
 behind_too : (head : Bool) (key : Option Key16) (x y : Record) → may_precede x y ≡ true
@@ -13,11 +13,7 @@ behind_too false key x y h e = key_up_to-trans x.key y.key key h e
 
 first_behind : (head : Bool) (key : Option Key16) (x y : Record) → may_precede x y ≡ true
     → goes_first (comes_behind head key) x y ≡ true
-first_behind head key x y h = go (comes_behind head key y) refl
-  where
-    go : (b : Bool) → comes_behind head key y ≡ b → not b || comes_behind head key x ≡ true
-    go true e = behind_too head key x y h e
-    go false e = refl
+first_behind head key x y h = grind (arith, behind_too)
 
 -- those that stand before one that comes are the first ones
 pub ordered_first : (head : Bool) (key : Option Key16) (recs : List Record) → pairwise may_precede recs ≡ true
@@ -28,39 +24,20 @@ ordered_first head key recs h =
 -- records stay in order without one of them
 pub orderly-without : (n : ℕ) (id : EntryId) (lists : Lists) → IsOrderly n lists
     → IsOrderly n (lists_without id lists)
-orderly-without n id lists is =
-    record {
-      ordered = ordered_without id lists is.ordered;
-      one_for_name =
-          ap (pairwise names_apart) (all-without id lists)
-          ∙ pairwise-filter names_apart (λ rec. not (is_id id rec)) (all_records lists) is.one_for_name;
-      enough = omega (
-        arith,
-        is.enough,
-        ap elements_in (all-without id lists),
-        elements_fewer id (all_records lists),
-      );
-    }
+orderly-without n id lists is = grind (arith, ordered_without, all-without, pairwise-filter, elements_fewer)
 
 pub no_elements : (n : ℕ) → elements_in (all_records (replicate n [])) ≡ 0
 no_elements n = ap elements_in (all-replicate {X = Record} n)
 
 pub named_none : (names : Named) (n : ℕ) → names ≡ [] → AreNamed names (all_records (replicate n []))
-named_none names n e name =
-    ap (id_of name) e ∙ sym (ap (λ (l : List Record). option_map (λ (r : Record). r.id) (find (has_name name) l))
-    (all-replicate {X = Record} n))
+named_none names n e name = grind (arith, all-replicate)
 
 no_order : (n : ℕ) → list_all (pairwise may_precede) (replicate n []) ≡ true
 no_order zero = refl
 no_order (suc n) = no_order n
 
 pub orderly-none : (elements n : ℕ) → IsOrderly elements (replicate n [])
-orderly-none elements n =
-    record {
-      ordered = no_order n;
-      one_for_name = ap (pairwise names_apart) (all-replicate {X = Record} n);
-      enough = omega (arith, no_elements n);
-    }
+orderly-none elements n = grind (arith, no_order, all-replicate, no_elements)
 
 -- no header, no records
 pub none_past : (lists : Lists) (header : ℕ) → length lists ≤ header → records_of lists header ≡ []

@@ -1,5 +1,5 @@
 -- The bits that connectors were told stay those that stand.
-use Rattle.list_kept.proofs.Imports.{◌≡◌, ℕ, Bool, true, false, not, ◌&&◌, ◌||◌, ◌==◌, if◌then◌else◌, Option, Some, None, List, [], ◌∷◌, filter, refl, sym, ap, ◌∙◌, arith, list_all, and_parts, and_from, false≢true, eqb-true, nat_tests, list_all-append, ConnId, BitChange, Bits, Gains, difference, list_all-filter, Lists, all_records, ids_apart, record_of, spot_of, lists_without, Monitor, Watched, is_at, is_replaced, monitors_of, is_lit, bit_of, row_turned, rows_turned, rows_with, differs, Content, has_records, Key16, EntryId, pairwise, Record, Spot, with_new_key, full-elsewhere, full-others, put_back, is_told}
+use Rattle.list_kept.proofs.Imports.{◌≡◌, ℕ, Bool, true, false, not, ◌&&◌, ◌||◌, ◌==◌, if◌then◌else◌, Option, Some, List, [], ◌∷◌, filter, refl, sym, ap, ◌∙◌, arith, list_all, and_parts, and_from, false≢true, eqb-true, nat_tests, list_all-append, ConnId, BitChange, Bits, Gains, list_all-filter, Lists, all_records, ids_apart, record_of, spot_of, lists_without, Monitor, Watched, is_at, monitors_of, is_lit, bit_of, row_turned, rows_turned, rows_with, differs, Content, has_records, Key16, EntryId, pairwise, Spot, full-elsewhere, full-others, put_back, is_told}
 use Rattle.list_watch.specs.Monitors as watch
 
 -- ---- the bits that stand
@@ -29,23 +29,14 @@ pub gains_agree : (before after old new : Bits) (bits more : List BitChange)
     → ((conn : ConnId) (index : ℕ) → before conn index ≡ old conn index) → ((conn : ConnId) (index : ℕ)
     → after conn index ≡ new conn index)
     → Gains old new bits more → Gains before after bits more
-gains_agree before after old new bits more e f gains =
-    record {
-      added = gains.added;
-      behind = gains.behind;
-      exactly = λ conn index. gains.exactly conn index ∙ sym (ap (λ b. difference b (after conn index)) (e conn index)
-          ∙ ap (λ b. difference (old conn index) b) (f conn index));
-    }
+gains_agree before after old new bits more e f gains = grind arith
 
 pub gains-told : (lists later : Lists) (rows next : List Watched) (bits more : List BitChange)
     → list_all (is_told lists) rows ≡ true → list_all (is_told later) next ≡ true
     → Gains (bit_of rows) (bit_of next) bits more
     → Gains (watch.stands (monitors_of rows) (has_records lists)) (watch.stands (monitors_of next)
     (has_records later)) bits more
-gains-told lists later rows next bits more h k gains =
-    gains_agree (watch.stands (monitors_of rows) (has_records lists)) (watch.stands (monitors_of next)
-    (has_records later))
-    (bit_of rows) (bit_of next) bits more (told-stands lists rows h) (told-stands later next k) gains
+gains-told lists later rows next bits more h k gains = grind (arith, gains_agree, told-stands)
 
 -- ---- told of all headers but some
 
@@ -72,16 +63,7 @@ turn_step : (header : ℕ) (spared : ℕ → Bool) (lists : Lists) (row : Watche
     → (row.monitor.header == header) ≡ b
     → (b || spared row.monitor.header) || is_told lists row ≡ true
     → is_told_but spared lists (if b then record row { full = has_records lists header } else row) ≡ true
-turn_step header spared lists row true e h =
-    let there : has_records lists row.monitor.header ≡ has_records lists header = ap (has_records lists)
-    (eqb-true row.monitor.header header e) in
-    either (spared row.monitor.header) (not (differs (has_records lists header)
-    (has_records lists row.monitor.header)))
-    (ap (λ t. not (differs (has_records lists header) t)) there ∙ same (has_records lists header))
-  where
-    either : (a b : Bool) → b ≡ true → a || b ≡ true
-    either true b e = refl
-    either false b e = e
+turn_step header spared lists row true e h = grind (arith, eqb-true, same)
 turn_step header spared lists row false e h = h
 
 -- where a header is told, it is spared no more
@@ -119,9 +101,7 @@ pub told-two : (from to : ℕ) (lists later : Lists) (rows : List Watched)
     rows)) ≡ true
 told-two from to lists later rows same h =
     told-turned to (λ k. false) later (rows_turned from (has_records later from) rows)
-    (told-turned from (λ k. (k == to) || false) later rows
-    (told-but (λ k. (k == from) || ((k == to) || false)) lists later rows
-    (λ k e. same k (first (k == from) (k == to) e) (second (k == from) (k == to) e)) h))
+    (grind (arith, told-turned, told-but, same, first, second))
   where
     first : (a b : Bool) → a || (b || false) ≡ false → a ≡ false
     first true b e = e
@@ -147,17 +127,7 @@ told-filter p lists rows h = list_all-filter (is_told lists) p rows h
 pub told-with : (conn : ConnId) (index header : ℕ) (lists : Lists) (rows : List Watched)
     → list_all (is_told lists) rows ≡ true
     → list_all (is_told lists) (rows_with conn index header (has_records lists header) rows) ≡ true
-told-with conn index header lists rows h =
-    let new : Watched = record {
-      monitor = record { conn = conn; index = index; header = header };
-      full = has_records
-          lists header;
-    } in
-    let others = filter (λ row. not (is_replaced conn index header row.monitor)) rows in
-    list_all-append (is_told lists) others (new ∷ [])
-    ∙ and_from (list_all (is_told lists) others) (is_told lists new && true)
-    (told-filter (λ row. not (is_replaced conn index header row.monitor)) lists rows h)
-    (and_from (is_told lists new) true (same (has_records lists header)) refl)
+told-with conn index header lists rows h = grind (arith, list_all-append, and_from, told-filter, same)
 
 -- ---- contents by their parts
 
@@ -175,13 +145,5 @@ pub full-put_back : (head : Bool) (id : EntryId) (header : ℕ) (key : Option Ke
     → (other == spot.header) ≡ false → (other == header) ≡ false
     → has_records (put_back head header key (record_of id lists) (lists_without id lists)) other ≡ has_records lists
     other
-full-put_back head id header key lists spot other apart there e f = go (record_of id lists)
-  where
-    out : has_records (lists_without id lists) other ≡ has_records lists other
-    out = full-others id lists spot other apart there (sym_test other spot.header e)
-
-    go : (o : Option Record) → has_records (put_back head header key o (lists_without id lists)) other ≡ has_records
-        lists other
-    go None = out
-    go (Some rec) = full-elsewhere head header other (with_new_key key rec) (lists_without id lists)
-        (sym_test other header f) ∙ out
+full-put_back head id header key lists spot other apart there e f =
+    grind (arith, full-others, sym_test, full-elsewhere)

@@ -54,9 +54,7 @@ index_there vector index h = below vector index (unless_true (nat_le vector inde
 
 pub elements_fit : (caps : Caps) (need : ℕ) (records : List Record) → elements_refusal caps need records ≡ None
     → need ≤ caps.elements - sum_by size records
-elements_fit caps need records h =
-    at_most need (caps.elements - sum_by size records)
-    (unless_false (nat_le need (caps.elements - sum_by size records)) _ h)
+elements_fit caps need records h = grind (arith, at_most, unless_false)
 
 pub entry_fits : (caps : Caps) (records : List Record) → entries_refusal caps records ≡ None
     → length records < caps.entries
@@ -105,13 +103,7 @@ with-without rec all i h =
 -- ---- WRITE
 
 fresh_ids : (a n : ℕ) → nat_lt a n ≡ true → not (a == n) && not (n == a) ≡ true
-fresh_ids a n h = and_from (not (a == n)) (not (n == a)) (one a n h) (other a n h)
-  where
-    one : (a n : ℕ) → nat_lt a n ≡ true → not (a == n) ≡ true
-    one a n h = grind (arith, nat_tests)
-
-    other : (a n : ℕ) → nat_lt a n ≡ true → not (n == a) ≡ true
-    other a n h = grind (arith, nat_tests)
+fresh_ids a n h = grind (arith, and_from, nat_tests)
 
 lt_next : (a n : ℕ) → nat_lt a n ≡ true → nat_lt a (n + 1) ≡ true
 lt_next a n h = grind (arith, nat_tests)
@@ -125,9 +117,7 @@ not_taken (Some rec) h = absurd (cc)
 
 both_ways : (rec : Record) (records : List Record) → list_all (names_apart rec) records ≡ true
     → list_all (λ other. names_apart rec other && names_apart other rec) records ≡ true
-both_ways rec records h =
-    list_all_weaker (names_apart rec) (λ other. names_apart rec other && names_apart other rec)
-    (λ other k. and_from (names_apart rec other) (names_apart other rec) k (names_apart-sym other rec ∙ k)) records h
+both_ways rec records h = grind (arith, list_all_weaker, and_from, names_apart-sym)
 
 new_name : (content : Content) (name : Option Name16) (key : Option Key16) (body adj : Option (List ℕ))
     (records : List Record)
@@ -169,10 +159,7 @@ content-write shape caps content by header head name key body adj cond is h =
           (both_ways rec all (new_name content name key body adj all none.1.1.1.1.0));
       known = all-with (is_known (refs_of shape.kind)) rec all (all_records lists) w
           (unless_false (is_reference (refs_of shape.kind) name key) _ none.1.1.1.0) is.known;
-      ordered = each-records (pairwise may_precede) content.lists header records
-          (ordered-with head rec (records_of content.lists header) (one-records (pairwise may_precede) content.lists
-          header refl is.ordered))
-          is.ordered;
+      ordered = grind (arith, each-records, ordered-with, one-records);
       entries = omega (arith, length-with rec all (all_records lists) w, entry_fits caps all none.1.1.1.1.1.1.0);
       elements = omega (
         arith,
@@ -240,10 +227,7 @@ agree_one body adj rec other false e only = rw e refl
 agree_list : (body adj : Option (List ℕ)) (rec : Record) (records : List Record) → Each (IsOnly rec) records
     → map (replaced_by (update.with_new_data body adj rec)) records ≡ map (patched rec.id body adj) records
 agree_list body adj rec [] each = refl
-agree_list body adj rec (other ∷ records) each =
-    ap (λ (r : Record). r ∷ map (replaced_by (update.with_new_data body adj rec)) records)
-    (agree_one body adj rec other (is_id rec.id other) refl each.0)
-    ∙ ap (λ (l : List Record). patched rec.id body adj other ∷ l) (agree_list body adj rec records each.1)
+agree_list body adj rec (other ∷ records) each = grind (arith, agree_one, agree_list body adj rec records each.1)
 
 agree_lists : (body adj : Option (List ℕ)) (rec : Record) (lists : Lists) → Each (IsOnly rec) (all_records lists)
     → lists_replaced (update.with_new_data body adj rec) lists ≡ map
@@ -332,9 +316,7 @@ content_patched shape caps content id body adj is fits =
       given_ids = rw e (list_all-map (is_given content.next) f all ∙ is.given_ids);
       one_for_name = rw e (pairwise-map names_apart f (λ rec other. refl) all ∙ is.one_for_name);
       known = rw e (list_all-map (is_known (refs_of shape.kind)) f all ∙ is.known);
-      ordered = list_all-map (pairwise may_precede) (λ (records : List Record). map f records) content.lists
-          ∙ list_all_weaker (pairwise may_precede) (λ records. pairwise may_precede (map f records))
-          (λ records h. pairwise-map may_precede f (λ rec other. refl) records ∙ h) content.lists is.ordered;
+      ordered = grind (arith, list_all-map, list_all_weaker, pairwise-map);
       entries = rw e (omega (arith, length-map all f, is.entries));
       elements = rw e fits;
       watch = is.watch;
@@ -362,32 +344,22 @@ content-update shape caps content by at body adj version cond is h =
 
 pub ordered_without : (id : EntryId) (lists : Lists) → list_all (pairwise may_precede) lists ≡ true
     → list_all (pairwise may_precede) (lists_without id lists) ≡ true
-ordered_without id lists h =
-    list_all-map (pairwise may_precede) (records_without id) lists
-    ∙ list_all_weaker (pairwise may_precede) (λ records. pairwise may_precede (records_without id records))
-    (λ records k. pairwise-filter may_precede (λ rec. not (is_id id rec)) records k) lists h
+ordered_without id lists h = grind (arith, list_all-map, list_all_weaker, pairwise-filter)
 
 pub content-without : (shape : Shape) (caps : Caps) (content : Content) (id : EntryId)
     → IsContent shape caps content
     → IsContent shape caps (record content { lists = lists_without id content.lists })
 content-without shape caps content id is =
-    let kept = λ (rec : Record). not (is_id id rec) in
-    let all = all_records content.lists in
-    let e = all-without id content.lists in
-    record {
-      headers = length-map content.lists (records_without id) ∙ is.headers;
-      limits = is.limits;
-      locks = is.locks;
-      one_for_id = rw e (pairwise-filter ids_apart kept all is.one_for_id);
-      given_ids = rw e (list_all-filter (is_given content.next) kept all is.given_ids);
-      one_for_name = rw e (pairwise-filter names_apart kept all is.one_for_name);
-      known = rw e (list_all-filter (is_known (refs_of shape.kind)) kept all is.known);
-      ordered = ordered_without id content.lists is.ordered;
-      entries = rw e (omega (arith, length-filter-le kept all, is.entries));
-      elements = rw e (omega (arith, sum_by-filter-le size kept all, is.elements));
-      watch = is.watch;
-      within = is.within;
-    }
+    grind (
+      arith,
+      all-without,
+      length-map,
+      pairwise-filter,
+      list_all-filter,
+      ordered_without,
+      length-filter-le,
+      sum_by-filter-le,
+    )
 
 -- ---- MOVE
 
@@ -419,10 +391,7 @@ content-move shape caps content by at header head key version cond is h =
     let within : header < length left =
     omega (arith, header_there (headers_of shape.kind) header none.1.1.1.1.1.1.0, is.headers, few) in
     let w = with-without old all (the_record-in content.lists at none.1.1.1.1.0) is.one_for_id in
-    let v : IsWith rec rest (all_records lists) =
-    subst (λ (l : List Record). IsWith rec l (all_records lists)) (all-without old.id content.lists)
-    (with-records rec left header records within (with-insertion (stands_before head rec) rec
-    (records_of left header))) in
+    let v : IsWith rec rest (all_records lists) = grind (arith, IsWith, all-without, with-records, with-insertion) in
     let ordered = ordered_without old.id content.lists is.ordered in
     record {
       headers = length-set left header records ∙ few ∙ is.headers;
@@ -441,9 +410,7 @@ content-move shape caps content by at header head key version cond is h =
           (moved_known (refs_of shape.kind) key old none.1.1.1.1.1.1.1.0 (with-all (is_known (refs_of shape.kind)) old
           rest all w is.known))
           (list_all-filter (is_known (refs_of shape.kind)) kept all is.known);
-      ordered = each-records (pairwise may_precede) left header records
-          (ordered-with head rec (records_of left header) (one-records (pairwise may_precede) left header refl
-          ordered)) ordered;
+      ordered = grind (arith, each-records, ordered-with, one-records);
       entries = omega (arith, length-with rec rest (all_records lists) v, length-with old rest all w, is.entries);
       elements = omega
           (arith, sum-with size rec rest (all_records lists) v, sum-with size old rest all w, is.elements);
@@ -458,34 +425,16 @@ same_lists : (shape : Shape) (caps : Caps) (content : Content) (limits : List �
     → length limits ≡ headers_of shape.kind → length locks ≡ locks_of shape.kind → AreMonitors monitors
     → list_all (is_within shape) monitors ≡ true
     → IsContent shape caps (record content { limits = limits; locks = locks; monitors = monitors })
-same_lists shape caps content limits locks monitors is n m are within =
-    record {
-      headers = is.headers;
-      limits = n;
-      locks = m;
-      one_for_id = is.one_for_id;
-      given_ids = is.given_ids;
-      one_for_name = is.one_for_name;
-      known = is.known;
-      ordered = is.ordered;
-      entries = is.entries;
-      elements = is.elements;
-      watch = are;
-      within = within;
-    }
+same_lists shape caps content limits locks monitors is n m are within = grind arith
 
 pub content-limits : (shape : Shape) (caps : Caps) (content : Content) (header n : ℕ) → IsContent shape caps content
     → IsContent shape caps (set_limit.after content header n)
-content-limits shape caps content header n is =
-    same_lists shape caps content (set content.limits header n) content.locks content.monitors is
-    (length-set content.limits header n ∙ is.limits) is.locks is.watch is.within
+content-limits shape caps content header n is = grind (arith, same_lists, length-set)
 
 pub content-locks : (shape : Shape) (caps : Caps) (content : Content) (lock : ℕ) (holder : Option ConnId)
     → IsContent shape caps content
     → IsContent shape caps (record content { locks = set content.locks lock holder })
-content-locks shape caps content lock holder is =
-    same_lists shape caps content content.limits (set content.locks lock holder) content.monitors is is.limits
-    (length-set content.locks lock holder ∙ is.locks) is.watch is.within
+content-locks shape caps content lock holder is = grind (arith, same_lists, length-set)
 
 pub content-monitor : (shape : Shape) (caps : Caps) (content : Content) (by : ConnId) (header index : ℕ)
     → IsContent shape caps content
@@ -496,10 +445,7 @@ content-monitor shape caps content by header index is h =
     same_lists shape caps content content.limits content.locks
     (monitors_with by index header content.monitors) is is.limits is.locks
     (monitors-with by index header content.monitors is.watch)
-    (all-monitors_with (is_within shape) by index header content.monitors
-    (and_from (nat_lt header (headers_of shape.kind)) (nat_lt index shape.vector)
-    (below_test (headers_of shape.kind) header (header_there (headers_of shape.kind) header none.0))
-    (below_test shape.vector index (index_there shape.vector index none.1.0))) is.within)
+    (grind (arith, all-monitors_with, and_from, below_test, header_there, index_there))
 
 content_fewer : (shape : Shape) (caps : Caps) (content : Content) (q : watched.Monitor → Bool)
     (locks : List (Option ConnId))

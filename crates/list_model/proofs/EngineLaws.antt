@@ -1,5 +1,5 @@
 -- The laws of the engine's meaning.
-use Rattle.list_model.proofs.Imports.{◌&&◌, ◌≡◌, ℕ, zero, suc, ◌+◌, ◌-◌, ◌<◌, ◌≤◌, IsTrue, ◌==◌, ◌||◌, Bool, true, false, not, cond, List, [], ◌∷◌, ◌++◌, Option, None, is_some, length, length-append, length-take, map, take, drop, take-append-drop, replicate, sum_by, ◌⊎◌, inl, inr, refl, sym, ap, ◌∙◌, subst, append_assoc, arith, list_all, list_any, and_parts, and_from, or_from, nat_tests, length-replicate, sum_by-cons, sum_by-append, slice_get_within, is_list, Caps, Kind, ConnId, Key16, Name16, EntryId, Shape, Fits, IsNoMore, IsNoMoreOf, IsNextItem, content_of_items, FrontLaws, pairwise, pairwise_front, take_next, none_from_all, list_all_weaker, Record, Lists, all_records, count_of, ids_apart, records_of, with_records, is_id, ListItem, Row, elements_in, is_known, names_apart, may_precede, first_records, Content, IsContent, is_given, no_content, headers_of, locks_of, refs_of, content_without, has_controls, controls_of, row_of, rows_from, items_of, content_with, content_without_last, entries_for, elements_for, need_of, list_meaning}
+use Rattle.list_model.proofs.Imports.{◌&&◌, ◌≡◌, ℕ, zero, suc, ◌+◌, ◌-◌, ◌<◌, ◌≤◌, IsTrue, ◌==◌, ◌||◌, Bool, true, false, not, cond, List, [], ◌∷◌, ◌++◌, Option, None, is_some, length, length-append, length-take, map, take, drop, take-append-drop, replicate, sum_by, ◌⊎◌, inl, inr, refl, sym, ap, ◌∙◌, subst, append_assoc, arith, list_all, list_any, and_parts, and_from, or_from, nat_tests, length-replicate, sum_by-cons, sum_by-append, slice_get_within, is_list, Caps, Kind, ConnId, Key16, Name16, EntryId, Shape, Fits, IsNoMore, IsNoMoreOf, IsNextItem, content_of_items, FrontLaws, pairwise, pairwise_front, take_next, none_from_all, list_all_weaker, Record, Lists, all_records, count_of, ids_apart, records_of, with_records, is_id, ListItem, Row, elements_in, may_precede, first_records, Content, IsContent, no_content, headers_of, locks_of, content_without, has_controls, controls_of, row_of, rows_from, items_of, content_with, content_without_last, entries_for, elements_for, need_of, list_meaning}
 use Rattle.cf_types.specs.declared.forms.Kind.TheVariants as kind
 use Rattle.engine_api.proofs.FrontLaws as front
 use Rattle.list_model.proofs.RecordLaws.{ids_apart-sym}
@@ -23,31 +23,14 @@ all_ordered zero = refl
 all_ordered (suc n) = all_ordered n
 
 pub content-nothing : (shape : Shape) (caps : Caps) → IsContent shape caps (no_content shape)
-content-nothing shape caps =
-    let none = no_lists (headers_of shape.kind) in
-    record {
-      headers = length-replicate (headers_of shape.kind) [];
-      limits = length-replicate (headers_of shape.kind) shape.caps.entries;
-      locks = length-replicate (locks_of shape.kind) None;
-      one_for_id = ap (λ (l : List Record). pairwise ids_apart l) none;
-      given_ids = ap (λ (l : List Record). list_all (is_given 1) l) none;
-      one_for_name = ap (λ (l : List Record). pairwise names_apart l) none;
-      known = ap (λ (l : List Record). list_all (is_known (refs_of shape.kind)) l) none;
-      ordered = all_ordered (headers_of shape.kind);
-      entries = omega (arith, ap (λ (l : List Record). length l) none);
-      elements = omega (arith, ap (λ (l : List Record). elements_in l) none);
-      watch = record { one_at_index = refl; one_for_header = refl };
-      within = refl;
-    }
+content-nothing shape caps = grind (arith, no_lists, length-replicate, all_ordered)
 
 same_test : (n : ℕ) → not (n == n) ≡ false
 same_test n = grind (arith, nat_tests)
 
 no_limits : (k n : ℕ) → list_any (λ limit. not (limit == n)) (replicate k n) ≡ false
 no_limits zero n = refl
-no_limits (suc k) n =
-    or_from (not (n == n)) (list_any (λ (limit : ℕ). not (limit == n)) (replicate k n)) (same_test n)
-    (no_limits k n)
+no_limits (suc k) n = grind (arith, or_from, same_test, no_limits k n)
 
 no_holders : (k : ℕ) → list_any is_some (replicate k (let nobody : Option ConnId = None in nobody)) ≡ false
 no_holders zero = refl
@@ -66,10 +49,7 @@ no-controls shape =
     (no_holders (locks_of shape.kind))) refl
 
 pub items-nothing : (shape : Shape) → items_of shape (no_content shape) ≡ []
-items-nothing shape =
-    ap (λ (b : Bool). cond b (controls_of (no_content shape) ∷ rows_from 0 (no_content shape).lists)
-    (rows_from 0 (no_content shape).lists)) (no-controls shape)
-    ∙ no_rows (headers_of shape.kind) 0
+items-nothing shape = grind (arith, no-controls, no_rows)
 
 -- ---- departures
 
@@ -129,16 +109,11 @@ items-place shape state item next =
 
 without_none : (shape : Shape) (content : Content) → count_of content.lists ≡ 0
     → content_without_last shape content ≡ record (no_content shape) { lists = content.lists }
-without_none shape content h =
-    let e : (count_of content.lists == 0) ≡ true = grind (arith, nat_tests, h) in
-    rw e refl
+without_none shape content h = grind (arith, nat_tests)
 
 without_one : (shape : Shape) (content : Content) (n : ℕ) → count_of content.lists ≡ n + 1
     → content_without_last shape content ≡ record content { lists = first_records n content.lists }
-without_one shape content n h =
-    let e : (count_of content.lists == 0) ≡ false = grind (arith, nat_tests, h) in
-    let less : count_of content.lists - 1 ≡ n = omega (arith, h) in
-    rw e (ap (λ (k : ℕ). record content { lists = first_records k content.lists }) less)
+without_one shape content n h = grind (arith, nat_tests)
 
 place_back : (shape : Shape) (caps : Caps) (whole state : Content) (item : ListItem) → IsContent shape caps whole
     → ComesFirst shape whole state item ⊎ ComesNext shape whole state item
@@ -192,25 +167,13 @@ elements_of_map header (rec ∷ records) =
 entries_of_rows : (header : ℕ) (lists : Lists) → sum_by entries_for (rows_from header lists) ≡ count_of lists
 entries_of_rows header [] = refl
 entries_of_rows header (records ∷ lists) =
-    omega (
-      arith,
-      sum_by-append entries_for (map (row_of header) records) (rows_from (header + 1) lists),
-      entries_of_map header records,
-      length-append records (all_records lists),
-      entries_of_rows (header + 1) lists,
-    )
+    grind (arith, sum_by-append, entries_of_map, length-append, entries_of_rows (header + 1) lists)
 
 elements_of_rows : (header : ℕ) (lists : Lists)
     → sum_by elements_for (rows_from header lists) ≡ elements_in (all_records lists)
 elements_of_rows header [] = refl
 elements_of_rows header (records ∷ lists) =
-    omega (
-      arith,
-      sum_by-append elements_for (map (row_of header) records) (rows_from (header + 1) lists),
-      elements_of_map header records,
-      sum_by-append size records (all_records lists),
-      elements_of_rows (header + 1) lists,
-    )
+    grind (arith, sum_by-append, elements_of_map, size, elements_of_rows (header + 1) lists)
 
 either_sum : (f : ListItem → ℕ) (b : Bool) (item : ListItem) (rows : List ListItem) → f item ≡ 0
     → sum_by f (cond b (item ∷ rows) rows) ≡ sum_by f rows
@@ -225,15 +188,7 @@ pub need-items : (shape : Shape) (content : Content)
       elements = elements_in
           (all_records content.lists);
     }
-need-items shape content =
-    let rows = rows_from 0 content.lists in
-    let caps : ℕ → ℕ → Caps = λ entries elements. record { entries = entries; elements = elements } in
-    ap (λ (n : ℕ). caps n (sum_by elements_for (items_of shape content)))
-    (either_sum entries_for (has_controls shape content) (controls_of content) rows refl
-    ∙ entries_of_rows 0 content.lists)
-    ∙ ap (λ (n : ℕ). caps (count_of content.lists) n)
-    (either_sum elements_for (has_controls shape content) (controls_of content) rows refl
-    ∙ elements_of_rows 0 content.lists)
+need-items shape content = grind (arith, either_sum, entries_of_rows, elements_of_rows)
 
 same_need : (kind : Kind) (need other : Caps) → need ≡ other → IsNoMoreOf kind need other
 same_need kind.Cache need other e =
@@ -245,10 +200,7 @@ same_need kind.Lock need other e = omega (arith, ap (λ (c : Caps). c.elements) 
 pub need-leave : (shape : Shape) (content : Content) (conn : ConnId) (keep : Bool)
     → IsNoMoreOf shape.kind (need_of (items_of shape (content_without content conn keep)))
     (need_of (items_of shape content))
-need-leave shape content conn keep =
-    same_need shape.kind (need_of (items_of shape (content_without content conn keep)))
-    (need_of (items_of shape content))
-    (need-items shape (content_without content conn keep) ∙ sym (need-items shape content))
+need-leave shape content conn keep = grind (arith, same_need, need-items)
 
 -- a content whose items fit another capacity is one there
 fits_both : (kind : Kind) (need caps : Caps) → IsTrue (is_list kind) → Fits kind need caps
@@ -260,23 +212,7 @@ fits_both kind.Lock need caps is fits = absurd cc
 pub content-moved : (shape : Shape) (caps other : Caps) (content : Content) → IsTrue (is_list shape.kind)
     → IsContent shape caps content → Fits shape.kind (need_of (items_of shape content)) other
     → IsContent shape other content
-content-moved shape caps other content kind is fits =
-    let both = fits_both shape.kind (need_of (items_of shape content)) other kind fits in
-    let same = need-items shape content in
-    record {
-      headers = is.headers;
-      limits = is.limits;
-      locks = is.locks;
-      one_for_id = is.one_for_id;
-      given_ids = is.given_ids;
-      one_for_name = is.one_for_name;
-      known = is.known;
-      ordered = is.ordered;
-      entries = omega (arith, both.0, ap (λ (c : Caps). c.entries) same);
-      elements = omega (arith, both.1, ap (λ (c : Caps). c.elements) same);
-      watch = is.watch;
-      within = is.within;
-    }
+content-moved shape caps other content kind is fits = grind (arith, fits_both, need-items)
 
 -- ---- a front of the records
 
@@ -286,9 +222,7 @@ records-first n [] = sym (none_taken n)
     none_taken : (k : ℕ) → take {A = Record} k [] ≡ []
     none_taken zero = refl
     none_taken (suc k) = refl
-records-first n (records ∷ lists) =
-    ap (λ (l : List Record). take n records ++ l) (records-first (n - length records) lists)
-    ∙ sym (take_append n records (all_records lists))
+records-first n (records ∷ lists) = grind (arith, take_append, records-first (n - length records) lists)
 
 length_first : (n : ℕ) (lists : Lists) → length (first_records n lists) ≡ length lists
 length_first n [] = refl
@@ -328,22 +262,7 @@ sum_taken n records =
 pub content-front : (shape : Shape) (caps : Caps) (content : Content) (n : ℕ) → IsContent shape caps content
     → IsContent shape caps (content_front n content)
 content-front shape caps content n is =
-    let e = records-first n content.lists in
-    let all = all_records content.lists in
-    record {
-      headers = length_first n content.lists ∙ is.headers;
-      limits = is.limits;
-      locks = is.locks;
-      one_for_id = rw e (pair_taken ids_apart n all is.one_for_id);
-      given_ids = rw e (all_taken (is_given content.next) n all is.given_ids);
-      one_for_name = rw e (pair_taken names_apart n all is.one_for_name);
-      known = rw e (all_taken (is_known (refs_of shape.kind)) n all is.known);
-      ordered = first_ordered n content.lists is.ordered;
-      entries = rw e (omega (arith, length-take n all, is.entries));
-      elements = rw e (omega (arith, sum_taken n all, is.elements));
-      watch = is.watch;
-      within = is.within;
-    }
+    grind (arith, records-first, length_first, pair_taken, all_taken, first_ordered, length-take, sum_taken)
 
 place_content : (shape : Shape) (caps : Caps) (whole state : Content) (item : ListItem) → IsContent shape caps whole
     → ComesFirst shape whole state item ⊎ ComesNext shape whole state item
@@ -418,8 +337,7 @@ fits_next shape caps whole state item is next placed =
     ∙ ap (λ (h : ℕ). record state { lists = with_records state.lists h (records_of state.lists h ++ rec ∷ []) })
     (let e : 0 + row.place ≡ row.place = omega arith in e ∙ sym at) in
     let w : IsWith rec all (all_records (with_records state.lists (header_in item) records)) =
-    with-records rec state.lists (header_in item) records header
-    (with-push rec (records_of state.lists (header_in item))) in
+    grind (arith, with-records, header_in, with-push) in
     let apart : pairwise ids_apart (all_records (with_records state.lists (header_in item) records)) ≡ true =
     ap (λ (c : Content). pairwise ids_apart (all_records c.lists)) (sym placed_so) ∙ placed.one_for_id in
     record {

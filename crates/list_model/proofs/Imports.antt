@@ -9,7 +9,7 @@ pub use Rattle.std.proofs.lemmas.List.Folds.{list_all-map, list_all-append}
 pub use Rattle.std.proofs.lemmas.List.Sums.{sum_by-cons, sum_by-append, fold-append}
 pub use Rattle.std.proofs.lemmas.Option.{slice_get_within, slice_get-map}
 pub use Rattle.std.specs.Cmp.Lexicographic.{slice_cmp, nat_list_cmp_total}
-pub use Rattle.std.specs.List.{list_all, list_any, position_or_len, prefix_len}
+pub use Rattle.std.specs.List.{list_all, list_any, prefix_len}
 pub use Rattle.std.specs.Option.{option_or}
 pub use Rattle.std.specs.Ordering.{ordering_reverse}
 pub use Rattle.cf_lists.proofs.AllLaws.{none_behind, pairwise_back}
@@ -40,10 +40,10 @@ pub use Rattle.engine_api.proofs.FrontLaws.{FrontLaws}
 pub use Rattle.engine_api.specs.Items.{Fits, IsNoMore, IsNoMoreOf, IsNextItem, content_of_items}
 pub use Rattle.engine_api.specs.Meaning.{first_refusal}
 pub use Rattle.engine_api.specs.declared.shapes.Shape.{Shape}
-pub use Rattle.list_store.specs.Lists.{Lists, records_of, all_records, is_id, records_without, lists_without, replaced_by, lists_replaced, ids_apart, count_of, with_records, record_id, has_id, record_of, spot_in, spot_of, lists_with}
+pub use Rattle.list_store.specs.Lists.{Lists, records_of, all_records, is_id, records_without, lists_without, replaced_by, lists_replaced, ids_apart, count_of, with_records, has_id, record_of, spot_in, spot_of, lists_with}
 pub use Rattle.list_store.specs.Record.{Record}
 pub use Rattle.list_store.specs.declared.records.Spot.{Spot}
-pub use Rattle.list_watch.specs.Monitors.{is_of, is_for, monitors_with, AreMonitors, is_at, is_replaced, places_apart, headers_apart}
+pub use Rattle.list_watch.specs.Monitors.{is_of, is_for, monitors_with, AreMonitors, is_replaced}
 pub use Rattle.list_watch.specs.declared.monitors.Monitor.{Monitor}
 pub use Rattle.list_model.specs.Contents.{Content, IsContent, is_given, headers_of, locks_of, refs_of, is_within, content_without, holder_without, no_content, has_records}
 pub use Rattle.list_model.specs.Items.{has_controls, controls_of, row_of, rows_from, items_of, content_with, content_without_last, entries_for, elements_for, need_of, triple_of, monitor_of}

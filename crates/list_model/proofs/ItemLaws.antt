@@ -1,5 +1,5 @@
 -- The items of a content, and the content that the first of them make.
-use Rattle.list_model.proofs.Imports.{◌≡◌, ℕ, zero, suc, ◌+◌, ◌-◌, ◌<◌, ◌≤◌, ◌==◌, ◌||◌, Bool, true, false, not, cond, min, List, [], ◌∷◌, ◌++◌, Option, Some, None, is_some, option_map, length, length-append, length-take, map, nat_lt, take, replicate, slice_get, fold, ◌⊎◌, inl, inr, refl, sym, ap, ◌∙◌, subst, arith, list_any, or_parts, false≢true, eqb-true, nat_tests, length-map, take_all, take-take, take-map, fold-append, slice_get-map, Caps, ConnId, Shape, take_next, Record, Lists, records_of, with_records, all_records, count_of, Monitor, ListItem, Controls, Row, no_record, first_records, Content, IsContent, no_content, headers_of, locks_of, triple_of, monitor_of, has_controls, controls_of, row_of, rows_from, items_of, content_with}
+use Rattle.list_model.proofs.Imports.{◌≡◌, ℕ, zero, suc, ◌+◌, ◌-◌, ◌<◌, ◌≤◌, ◌==◌, ◌||◌, Bool, true, false, not, cond, min, List, [], ◌∷◌, ◌++◌, Option, Some, None, is_some, option_map, length, length-append, length-take, map, nat_lt, take, replicate, slice_get, fold, ◌⊎◌, inr, refl, sym, ap, ◌∙◌, subst, arith, list_any, or_parts, false≢true, eqb-true, nat_tests, length-map, take_all, take-take, take-map, fold-append, slice_get-map, Caps, ConnId, Shape, take_next, Record, Lists, records_of, with_records, all_records, count_of, Monitor, ListItem, Controls, Row, no_record, first_records, Content, IsContent, no_content, headers_of, locks_of, triple_of, monitor_of, has_controls, controls_of, row_of, rows_from, items_of, content_with}
 
 -- ---- lists
 
@@ -19,9 +19,7 @@ take_none (suc n) = refl
 pub take_append : {X : Type 0} (n : ℕ) (xs ys : List X) → take n (xs ++ ys) ≡ take n xs ++ take (n - length xs) ys
 take_append zero xs ys = rw (none_less (length xs)) refl
 take_append (suc n) [] ys = rw (less_none (suc n)) refl
-take_append (suc n) (x ∷ xs) ys =
-    ap (λ l. x ∷ l) (take_append n xs ys)
-    ∙ ap (λ (k : ℕ). x ∷ (take n xs ++ take k ys)) (sym (suc_less n (length xs)))
+take_append (suc n) (x ∷ xs) ys = grind (arith, suc_less, take_append n xs ys)
 
 slice_left : {X : Type 0} (xs ys : List X) (n : ℕ) → n < length xs → slice_get (xs ++ ys) n ≡ slice_get xs n
 slice_left [] ys n h = absurd (omega arith)
@@ -47,27 +45,14 @@ take_seam (x ∷ xs) ys = ap (λ l. x ∷ l) (take_seam xs ys)
 
 pub length-rows : (header : ℕ) (lists : Lists) → length (rows_from header lists) ≡ count_of lists
 length-rows header [] = refl
-length-rows header (records ∷ lists) =
-    omega (
-      arith,
-      length-append (map (row_of header) records) (rows_from (header + 1) lists),
-      length-map records (row_of header),
-      length-append records (all_records lists),
-      length-rows (header + 1) lists,
-    )
+length-rows header (records ∷ lists) = grind (arith, length-append, length-map, length-rows (header + 1) lists)
 
 -- the rows of the first records are the first rows
 pub rows-first : (header n : ℕ) (lists : Lists)
     → rows_from header (first_records n lists) ≡ take n (rows_from header lists)
 rows-first header n [] = sym (take_none n)
 rows-first header n (records ∷ lists) =
-    ap (λ (l : List ListItem). map (row_of header) (take n records) ++ l)
-    (rows-first (header + 1) (n - length records) lists)
-    ∙ ap (λ (l : List ListItem). l ++ take (n - length records) (rows_from (header + 1) lists))
-    (sym (take-map (row_of header) n records))
-    ∙ ap (λ (k : ℕ). take n (map (row_of header) records) ++ take (n - k) (rows_from (header + 1) lists))
-    (sym (length-map records (row_of header)))
-    ∙ sym (take_append n (map (row_of header) records) (rows_from (header + 1) lists))
+    grind (arith, take-map, length-map, take_append, rows-first (header + 1) (n - length records) lists)
 
 pub count-first : (n : ℕ) (lists : Lists) → count_of (first_records n lists) ≡ min n (count_of lists)
 count-first n lists =
@@ -89,9 +74,7 @@ first-all n (records ∷ lists) h =
 
 pub first-none : (lists : Lists) → first_records 0 lists ≡ replicate (length lists) []
 first-none [] = refl
-first-none (records ∷ lists) =
-    ap (λ (k : ℕ). [] ∷ first_records k lists) (none_less (length records))
-    ∙ ap (λ (l : Lists). [] ∷ l) (first-none lists)
+first-none (records ∷ lists) = grind (arith, none_less, first-none lists)
 
 pub first-first : (n m : ℕ) (lists : Lists) → n ≤ m
     → first_records n (first_records m lists) ≡ first_records n lists
@@ -127,28 +110,12 @@ pub record IsNext (header n : ℕ) (lists : Lists) (item : ListItem) : Type 0 wh
 row_there : (header : ℕ) (o : Option Record) (item : ListItem) → option_map (row_of header) o ≡ Some item
     → (o ≡ Some (record_in item)) × (item ≡ row_of header (record_in item))
 row_there header None item h = absurd (cc)
-row_there header (Some rec) item h =
-    let same : row_of header rec ≡ item = cc in
-    subst (λ (i : ListItem). (Some rec ≡ Some (record_in i)) × (i ≡ row_of header (record_in i))) same (refl, refl)
+row_there header (Some rec) item h = grind arith
 
 next_here : (header n : ℕ) (records : List Record) (lists : Lists) (item : ListItem) → n < length records
     → slice_get (rows_from header (records ∷ lists)) n ≡ Some item → IsNext header n (records ∷ lists) item
 next_here header n records lists item within h =
-    let long : n < length (map (row_of header) records) =
-    omega (arith, within, length-map records (row_of header)) in
-    let there = row_there header (slice_get records n) item
-    (sym (slice_get-map (row_of header) records n) ∙ sym (slice_left (map (row_of header) records)
-    (rows_from (header + 1) lists) n long) ∙ h) in
-    let none : n - length records ≡ (n + 1) - length records = omega (arith, within) in
-    let at : header + 0 ≡ header = omega arith in
-    record {
-      place = 0;
-      within = omega arith;
-      is_row = rw at there.1;
-      placed = ap (λ (k : ℕ). (take n records ++ record_in item ∷ []) ∷ first_records k lists) none
-          ∙ ap (λ (l : List Record). l ∷ first_records ((n + 1) - length records) lists)
-          (sym (take_next records n (record_in item) there.0));
-    }
+    grind (arith, length-map, row_there, slice_get-map, slice_left, take_next)
 
 next_later : (header n : ℕ) (records : List Record) (lists : Lists) (item : ListItem) → length records ≤ n
     → IsNext (header + 1) (n - length records) lists item → IsNext header n (records ∷ lists) item
@@ -159,10 +126,7 @@ next_later header n records lists item past next =
       place = suc next.place;
       within = omega (arith, next.within);
       is_row = rw (← at) next.is_row;
-      placed = ap (λ (l : Lists). take n records ∷ l) next.placed
-          ∙ ap (λ (k : ℕ). take n records ∷ first_records k lists) less
-          ∙ ap (λ (l : List Record). l ∷ first_records ((n + 1) - length records) lists)
-          (take_all n records past ∙ sym (take_all (n + 1) records (omega (arith, past))));
+      placed = grind (arith, take_all);
     }
 
 is_below : (n m : ℕ) → nat_lt n m ≡ true → n < m
@@ -174,24 +138,16 @@ is_past n m h = grind (arith, nat_tests)
 behind : (header n : ℕ) (records : List Record) (lists : Lists) (item : ListItem) → length records ≤ n
     → slice_get (rows_from header (records ∷ lists)) n ≡ Some item
     → slice_get (rows_from (header + 1) lists) (n - length records) ≡ Some item
-behind header n records lists item past h =
-    let e = length-map records (row_of header) in
-    ap (λ (k : ℕ). slice_get (rows_from (header + 1) lists) (n - k)) (sym e)
-    ∙ sym (slice_right (map (row_of header) records) (rows_from (header + 1) lists) n (omega (arith, past, e))) ∙ h
+behind header n records lists item past h = grind (arith, length-map, slice_right)
 
 -- the n-th row of headers from this one on is one of this header's records, or a row of the later headers
 pub row-here : (header n : ℕ) (records : List Record) (lists : Lists) → n < length records
     → slice_get (rows_from header (records ∷ lists)) n ≡ option_map (row_of header) (slice_get records n)
-row-here header n records lists within =
-    slice_left (map (row_of header) records) (rows_from (header + 1) lists) n
-    (omega (arith, within, length-map records (row_of header))) ∙ slice_get-map (row_of header) records n
+row-here header n records lists within = grind (arith, slice_left, length-map, slice_get-map)
 
 pub row-later : (header n : ℕ) (records : List Record) (lists : Lists) → length records ≤ n
     → slice_get (rows_from header (records ∷ lists)) n ≡ slice_get (rows_from (header + 1) lists) (n - length records)
-row-later header n records lists past =
-    let e = length-map records (row_of header) in
-    slice_right (map (row_of header) records) (rows_from (header + 1) lists) n (omega (arith, past, e))
-    ∙ ap (λ (k : ℕ). slice_get (rows_from (header + 1) lists) (n - k)) e
+row-later header n records lists past = grind (arith, length-map, slice_right)
 
 next_step : (header n : ℕ) (records : List Record) (lists : Lists) (item : ListItem)
     → slice_get (rows_from header (records ∷ lists)) n ≡ Some item
@@ -200,16 +156,13 @@ next_step : (header n : ℕ) (records : List Record) (lists : Lists) (item : Lis
     → (b : Bool) → nat_lt n (length records) ≡ b → IsNext header n (records ∷ lists) item
 next_step header n records lists item h ih true e =
     next_here header n records lists item (is_below n (length records) e) h
-next_step header n records lists item h ih false e =
-    let past = is_past n (length records) e in
-    next_later header n records lists item past (ih (behind header n records lists item past h))
+next_step header n records lists item h ih false e = grind (arith, is_past, next_later, behind)
 
 pub next-row : (header n : ℕ) (lists : Lists) (item : ListItem) → slice_get (rows_from header lists) n ≡ Some item
     → IsNext header n lists item
 next-row header n [] item h = absurd (cc)
 next-row header n (records ∷ lists) item h =
-    next_step header n records lists item h (next-row (header + 1) (n - length records) lists item)
-    (nat_lt n (length records)) refl
+    grind (arith, next_step, next-row (header + 1) (n - length records) lists item)
 
 -- ---- the content of the first records
 
@@ -301,10 +254,7 @@ all_free (lock ∷ locks) h =
 
 none_left : (monitors : List Monitor) → not (length monitors == 0) ≡ false → monitors ≡ []
 none_left [] h = refl
-none_left (monitor ∷ monitors) h = absurd (false≢true (sym h ∙ some (length monitors)))
-  where
-    some : (n : ℕ) → not (suc n == 0) ≡ true
-    some n = grind (arith, nat_tests)
+none_left (monitor ∷ monitors) h = grind (arith, false≢true, nat_tests)
 
 is_it : (n m : ℕ) → not (n == m) ≡ false → n ≡ m
 is_it n m h = grind (arith, nat_tests)
@@ -330,9 +280,7 @@ controls-absent shape caps content is h =
     let first = or_parts (given || limited || held) (not (length content.monitors == 0)) h in
     let second = or_parts (given || limited) held first.0 in
     let third = or_parts given limited second.0 in
-    let limits : replicate (headers_of shape.kind) shape.caps.entries ≡ content.limits =
-    sym (all_limits shape.caps.entries content.limits third.1 ∙ ap (λ (k : ℕ). replicate k shape.caps.entries)
-    is.limits) in
+    let limits : replicate (headers_of shape.kind) shape.caps.entries ≡ content.limits = grind (arith, all_limits) in
     let locks : free ≡ content.locks =
     sym (all_free content.locks second.1 ∙ ap (λ (k : ℕ). replicate k nobody) is.locks) in
     ap (λ (l : Lists). put l (replicate (headers_of shape.kind) shape.caps.entries) free [] 1)
@@ -394,9 +342,7 @@ made-again shape caps content is =
 -- the items of the content of the first n records
 pub items-front : (shape : Shape) (content : Content) (n : ℕ)
     → items_of shape (content_front n content) ≡ controls_in shape content ++ take n (rows_from 0 content.lists)
-items-front shape content n =
-    items-split shape (content_front n content)
-    ∙ ap (λ (l : List ListItem). controls_in shape content ++ l) (rows-first 0 n content.lists)
+items-front shape content n = grind (arith, items-split, rows-first)
 
 items_length : (b : Bool) (item : ListItem) (rows : List ListItem)
     → length (cond b (item ∷ rows) rows) ≡ cond b 1 0 + length rows
@@ -406,13 +352,7 @@ items_length false item rows = omega arith
 -- how many items there are
 pub length-items : (shape : Shape) (content : Content)
     → length (items_of shape content) ≡ cond (has_controls shape content) 1 0 + count_of content.lists
-length-items shape content =
-    omega (
-      arith,
-      items_length (has_controls shape content) (controls_of content) (rows_from 0 content.lists),
-      length-rows 0
-          content.lists,
-    )
+length-items shape content = grind (arith, items_length, length-rows)
 
 -- ---- one item more
 
@@ -453,9 +393,7 @@ comes : (shape : Shape) (caps : Caps) (whole state : Content) (item : ListItem) 
     → cond b (controls_of whole ∷ rows_from 0 whole.lists) (rows_from 0 whole.lists) ≡ items ++ item ∷ others
     → fold content_with (no_content shape) items ≡ state
     → ComesFirst shape whole state item ⊎ ComesNext shape whole state item
-comes shape caps whole state item [] others is true e split made =
-    let same : controls_of whole ≡ item = cc in
-    inl (record { start = sym made; there = e; controls = sym same })
+comes shape caps whole state item [] others is true e split made = grind arith
 comes shape caps whole state item (first ∷ items) others is true e split made =
     let same : controls_of whole ≡ first = cc in
     let rest : rows_from 0 whole.lists ≡ items ++ item ∷ others = cc in

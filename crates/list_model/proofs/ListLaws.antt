@@ -1,5 +1,5 @@
 -- Lists of records for each header: a record more, one taken out, one changed.
-use Rattle.list_model.proofs.Imports.{◌≡◌, ℕ, zero, suc, ◌+◌, ◌<◌, ◌&&◌, Bool, true, false, not, cond, List, [], ◌∷◌, ◌++◌, Option, Some, length, length-append, find, map, slice_get, sum_by, refl, sym, ap, ◌∙◌, subst, append_assoc, arith, list_all, and_parts, and_from, map-append, filter-append, sum_by-cons, sum_by-append, EntryId, insertion, pairwise, list_all_weaker, Record, Lists, records_of, with_records, all_records, is_id, records_without, lists_without}
+use Rattle.list_model.proofs.Imports.{◌≡◌, ℕ, zero, suc, ◌+◌, ◌<◌, ◌&&◌, Bool, true, false, cond, List, [], ◌∷◌, ◌++◌, Option, Some, length, length-append, find, map, slice_get, sum_by, refl, sym, ap, ◌∙◌, subst, append_assoc, arith, list_all, and_parts, and_from, map-append, filter-append, sum_by-cons, sum_by-append, EntryId, insertion, pairwise, list_all_weaker, Record, Lists, records_of, with_records, all_records, records_without, lists_without}
 
 -- ---- a list with one more element somewhere
 
@@ -31,23 +31,11 @@ with_behind x [] xs ys w = w
 with_behind x (z ∷ zs) xs ys w = with_later x z (zs ++ xs) (zs ++ ys) (with_behind x zs xs ys w)
 
 with_before : {X : Type 0} (x : X) (xs ys zs : List X) → IsWith x xs ys → IsWith x (xs ++ zs) (ys ++ zs)
-with_before x xs ys zs w =
-    record {
-      front = w.front;
-      back = w.back ++ zs;
-      was = ap (λ l. l ++ zs) w.was ∙ append_assoc w.front w.back zs;
-      is = ap (λ l. l ++ zs) w.is ∙ append_assoc w.front (x ∷ w.back) zs;
-    }
+with_before x xs ys zs w = grind (arith, append_assoc)
 
 pub with-map : {X Y : Type 0} (f : X → Y) (x : X) (xs ys : List X) → IsWith x xs ys
     → IsWith (f x) (map f xs) (map f ys)
-with-map f x xs ys w =
-    record {
-      front = map f w.front;
-      back = map f w.back;
-      was = ap (λ l. map f l) w.was ∙ map-append f w.front w.back;
-      is = ap (λ l. map f l) w.is ∙ map-append f w.front (x ∷ w.back);
-    }
+with-map f x xs ys w = grind (arith, map-append)
 
 -- what the one has that is more, and all others have, all have
 all_front : {X : Type 0} (p : X → Bool) (x : X) (front back : List X) → p x ≡ true
@@ -69,18 +57,13 @@ length-with x xs ys w =
     rw (w.was, w.is) (omega (arith, length-append w.front (x ∷ w.back), length-append w.front w.back))
 
 pub sum-with : {X : Type 0} (f : X → ℕ) (x : X) (xs ys : List X) → IsWith x xs ys → sum_by f ys ≡ sum_by f xs + f x
-sum-with f x xs ys w =
-    rw (w.was, w.is)
-    (omega (arith, sum_by-append f w.front (x ∷ w.back), sum_by-append f w.front w.back, sum_by-cons f x w.back))
+sum-with f x xs ys w = grind (arith, sum_by-append, sum_by-cons)
 
 pair_front : {X : Type 0} (relation : X → X → Bool) (x : X) (front back : List X)
     → pairwise relation (front ++ back) ≡ true
     → list_all (λ y. relation x y && relation y x) (front ++ back) ≡ true
     → pairwise relation (front ++ x ∷ back) ≡ true
-pair_front relation x [] back h e =
-    and_from (list_all (relation x) back) (pairwise relation back)
-    (list_all_weaker (λ y. relation x y && relation y x) (relation x)
-    (λ y k. (and_parts (relation x y) (relation y x) k).0) back e) h
+pair_front relation x [] back h e = grind (arith, and_from, list_all_weaker, and_parts)
 pair_front relation x (y ∷ front) back h e =
     let parts = and_parts (list_all (relation y) (front ++ back)) (pairwise relation (front ++ back)) h in
     let ends =
@@ -93,10 +76,7 @@ pair_front relation x (y ∷ front) back h e =
 pub pairwise-with : {X : Type 0} (relation : X → X → Bool) (x : X) (xs ys : List X) → IsWith x xs ys
     → pairwise relation xs ≡ true
     → list_all (λ y. relation x y && relation y x) xs ≡ true → pairwise relation ys ≡ true
-pairwise-with relation x xs ys w h e =
-    ap (λ l. pairwise relation l) w.is
-    ∙ pair_front relation x w.front w.back (sym (ap (λ l. pairwise relation l) w.was) ∙ h)
-    (sym (ap (λ l. list_all (λ y. relation x y && relation y x) l) w.was) ∙ e)
+pairwise-with relation x xs ys w h e = grind (arith, pair_front)
 
 -- ---- and back: the one is taken out
 
@@ -116,10 +96,7 @@ front_pair : {X : Type 0} (relation : X → X → Bool) → ((x y : X) → relat
     → (x : X) (front back : List X)
     → pairwise relation (front ++ x ∷ back) ≡ true
     → list_all (λ y. relation x y && relation y x) (front ++ back) ≡ true
-front_pair relation turns x [] back h =
-    list_all_weaker (relation x) (λ y. relation x y && relation y x)
-    (λ y k. and_from (relation x y) (relation y x) k (turns y x ∙ k)) back
-    (and_parts (list_all (relation x) back) (pairwise relation back) h).0
+front_pair relation turns x [] back h = grind (arith, list_all_weaker, and_from, and_parts)
 front_pair relation turns x (y ∷ front) back h =
     let parts = and_parts (list_all (relation y) (front ++ x ∷ back)) (pairwise relation (front ++ x ∷ back)) h in
     let yx = (front_all (relation y) x front back parts.0).0 in
@@ -129,9 +106,7 @@ front_pair relation turns x (y ∷ front) back h =
 pub with-pairwise : {X : Type 0} (relation : X → X → Bool) → ((x y : X) → relation x y ≡ relation y x)
     → (x : X) (xs ys : List X)
     → IsWith x xs ys → pairwise relation ys ≡ true → list_all (λ y. relation x y && relation y x) xs ≡ true
-with-pairwise relation turns x xs ys w h =
-    ap (λ l. list_all (λ y. relation x y && relation y x) l) w.was
-    ∙ front_pair relation turns x w.front w.back (sym (ap (λ l. pairwise relation l) w.is) ∙ h)
+with-pairwise relation turns x xs ys w h = grind (arith, front_pair)
 
 -- ---- an element of a list
 
@@ -187,8 +162,7 @@ pub with-records : (rec : Record) (lists : Lists) (header : ℕ) (records : List
 with-records rec [] header records within w = absurd (omega arith)
 with-records rec (first ∷ lists) zero records within w = with_before rec first records (all_records lists) w
 with-records rec (first ∷ lists) (suc header) records within w =
-    with_behind rec first (all_records lists) (all_records (with_records lists header records))
-    (with-records rec lists header records (omega arith) w)
+    grind (arith, with_behind, with-records rec lists header records (omega arith) w)
 
 -- what all lists have, and the new one has
 pub each-records : (p : List Record → Bool) (lists : Lists) (header : ℕ) (records : List Record) → p records ≡ true
@@ -215,9 +189,7 @@ one-records p (first ∷ lists) (suc header) e h =
 pub all-without : (id : EntryId) (lists : Lists)
     → all_records (lists_without id lists) ≡ records_without id (all_records lists)
 all-without id [] = refl
-all-without id (records ∷ lists) =
-    ap (λ l. records_without id records ++ l) (all-without id lists)
-    ∙ sym (filter-append (λ rec. not (is_id id rec)) records (all_records lists))
+all-without id (records ∷ lists) = grind (arith, filter-append, all-without id lists)
 
 pub all-map : (f : Record → Record) (lists : Lists)
     → all_records (map (λ records. map f records) lists) ≡ map f (all_records lists)

@@ -24,11 +24,7 @@ not_both Equal h = refl
 not_both Greater h = absurd (false≢true h)
 
 keys-either : (a b : Key16) → not (key_before b a) ≡ false → not (key_before a b) ≡ true
-keys-either a b h = go (key_before b a) refl h
-  where
-    go : (t : Bool) → key_before b a ≡ t → not t ≡ false → not (key_before a b) ≡ true
-    go true e h = ap not (key_back b a ∙ not_both (slice_cmp nat_cmp b.0 a.0) e)
-    go false e h = absurd (false≢true (sym h))
+keys-either a b h = grind (arith, key_back, not_both, false≢true)
 
 pub key_up_to-trans : (a b c : Option Key16) → key_up_to a b ≡ true → key_up_to b c ≡ true → key_up_to a c ≡ true
 key_up_to-trans None b c ab bc = refl
@@ -76,10 +72,7 @@ pub ids_apart-sym : (rec other : Record) → ids_apart rec other ≡ ids_apart o
 ids_apart-sym rec other = ap not (turn other.id.0 rec.id.0)
 
 pub is_id-refl : (rec : Record) → is_id rec.id rec ≡ true
-is_id-refl rec = same rec.id.0
-  where
-    same : (n : ℕ) → (n == n) ≡ true
-    same n = grind (arith, nat_tests)
+is_id-refl rec = grind (arith, nat_tests)
 
 implied : (s t : Bool) → (s ≡ true → t ≡ true) → (t ≡ true → s ≡ true) → s ≡ t
 implied true t f g = sym (f refl)

@@ -1,6 +1,6 @@
 -- What an engine over a store of records goes by: the record that is named by its id, where a record comes to stand,
 -- which headers have records then, and how many records and elements there are.
-use Rattle.list_model.proofs.Imports.{◌≡◌, ℕ, zero, suc, ◌==◌, ◌&&◌, ◌||◌, Bool, true, false, not, cond, List, [], ◌∷◌, ◌++◌, Option, Some, None, option_map, length, find, map, position, nat_lt, refl, sym, ap, ◌∙◌, subst, arith, list_all, list_any, position_or_len, prefix_len, and_parts, not-true, or_right, false≢true, nat_tests, length-map, Caps, At, EntryId, Shape, insertion, pairwise, none_from_all, list_all_weaker, filter_all, all_from_none, any_is_placed, insert-prefix_len, Record, Spot, record_id, Lists, records_of, with_records, all_records, is_id, has_id, record_of, spot_in, spot_of, records_without, lists_without, lists_with, replaced_by, lists_replaced, ids_apart, none_behind, pairwise_back, once, record_at, stands_before, with_record, Content, IsContent, is_given, has_records}
+use Rattle.list_model.proofs.Imports.{◌≡◌, ℕ, zero, suc, ◌==◌, ◌&&◌, ◌||◌, Bool, true, false, not, List, [], ◌∷◌, ◌++◌, Option, Some, None, length, find, map, position, refl, sym, ap, ◌∙◌, subst, arith, list_all, list_any, prefix_len, and_parts, not-true, or_right, false≢true, nat_tests, length-map, Caps, At, EntryId, Shape, pairwise, none_from_all, list_all_weaker, filter_all, all_from_none, any_is_placed, insert-prefix_len, Record, Spot, Lists, records_of, with_records, all_records, is_id, has_id, record_of, spot_in, spot_of, records_without, lists_without, lists_with, replaced_by, lists_replaced, ids_apart, none_behind, pairwise_back, once, record_at, stands_before, with_record, Content, IsContent, has_records}
 use Rattle.list_model.specs.Commands.Write as write
 use Rattle.list_model.proofs.RecordLaws.{is_id-refl, ids_apart-sym}
 use Rattle.list_model.proofs.ListLaws.{with-pairwise, IsIn}
@@ -64,9 +64,7 @@ records-replaced rec (first ∷ lists) (suc header) = records-replaced rec lists
 
 pub full-elsewhere : (head : Bool) (header other : ℕ) (rec : Record) (lists : Lists) → (header == other) ≡ false
     → has_records (with_record head header rec lists) other ≡ has_records lists other
-full-elsewhere head header other rec lists h =
-    ap (λ (l : List Record). not (length l == 0))
-    (records-elsewhere lists header other (insertion (stands_before head rec) rec (records_of lists header)) h)
+full-elsewhere head header other rec lists h = grind (arith, records-elsewhere)
 
 pub full-replaced : (rec : Record) (lists : Lists) (header : ℕ)
     → has_records (lists_replaced rec lists) header ≡ has_records lists header
@@ -90,12 +88,7 @@ any_later p (rec ∷ front) back h = or_right (p rec) (list_any p (front ++ back
 
 any_first : (p : Record → Bool) (front back : List Record) → list_any p front ≡ true → list_any p (front ++ back) ≡ true
 any_first p [] back h = absurd (false≢true h)
-any_first p (rec ∷ front) back h =
-    step (p rec) (list_any p front) (list_any p (front ++ back)) h (any_first p front back)
-  where
-    step : (a b c : Bool) → a || b ≡ true → (b ≡ true → c ≡ true) → a || c ≡ true
-    step true b c e f = refl
-    step false b c e f = f e
+any_first p (rec ∷ front) back h = grind (arith, any_first p front back)
 
 -- what a header has all have
 pub any-header : (p : Record → Bool) (lists : Lists) (header : ℕ) → list_any p (records_of lists header) ≡ true
@@ -114,13 +107,9 @@ pub one-header : (id : EntryId) (lists : Lists) (a b : ℕ) → pairwise ids_apa
 one-header id [] a b apart e h = refl
 one-header id (first ∷ lists) zero zero apart e h = absurd (false≢true (sym e))
 one-header id (first ∷ lists) zero (suc b) apart e h =
-    is_false (has_id id (records_of lists b))
-    (λ k. false≢true (sym (none_behind ids_apart (is_id id) (once record_id id.0) first (all_records lists) apart h)
-    ∙ any-header (is_id id) lists b k))
+    grind (arith, is_false, false≢true, none_behind, once, any-header)
 one-header id (first ∷ lists) (suc a) zero apart e h =
-    is_false (has_id id first)
-    (λ k. false≢true (sym (none_behind ids_apart (is_id id) (once record_id id.0) first (all_records lists) apart k)
-    ∙ any-header (is_id id) lists a h))
+    grind (arith, is_false, false≢true, none_behind, once, any-header)
 one-header id (first ∷ lists) (suc a) (suc b) apart e h =
     one-header id lists a b (pairwise_back ids_apart first (all_records lists) apart) (less a b ∙ e) h
   where
@@ -128,26 +117,12 @@ one-header id (first ∷ lists) (suc a) (suc b) apart e h =
     less n m = grind (arith, nat_tests)
 
 is_placed : {X : Type 0} (p : X → Bool) (xs : List X) (i : ℕ) → position p xs ≡ Some i → list_any p xs ≡ true
-is_placed p xs i h = any_is_placed p xs ∙ there (nat_lt (position_or_len p xs) (length xs)) (position_or_len p xs) i h
-  where
-    there : (b : Bool) (k j : ℕ) → cond b (Some k) None ≡ Some j → b ≡ true
-    there true k j e = refl
-    there false k j e = absurd (cc)
+is_placed p xs i h = grind (arith, any_is_placed)
 
 header_has : (id : EntryId) (lists : Lists) (o : Option ℕ) (spot : Spot) → spot_in id lists o ≡ Some spot
     → has_id id (records_of lists spot.header) ≡ true
 header_has id lists None spot h = absurd (cc)
-header_has id lists (Some header) spot h = go (position (is_id id) (records_of lists header)) refl h
-  where
-    go : (p : Option ℕ) → position (is_id id) (records_of lists header) ≡ p
-        → option_map (λ place. record { header = header; place = place }) p ≡ Some spot
-        → has_id id (records_of lists spot.header) ≡ true
-    go None e k = absurd (cc)
-    go (Some place) e k =
-        let made : Spot = record { header = header; place = place } in
-        let same : made ≡ spot = cc in
-        ap (λ (s : Spot). has_id id (records_of lists s.header)) (sym same)
-        ∙ is_placed (is_id id) (records_of lists header) place e
+header_has id lists (Some header) spot h = grind (arith, is_placed)
 
 pub spot-has : (id : EntryId) (lists : Lists) (spot : Spot) → spot_of id lists ≡ Some spot
     → has_id id (records_of lists spot.header) ≡ true
@@ -167,21 +142,13 @@ full-others id lists spot other apart h e =
 pub placed-with : (head : Bool) (header : ℕ) (rec : Record) (lists : Lists)
     → lists_with header
     (prefix_len (stands_before head rec) (records_of lists header)) rec lists ≡ with_record head header rec lists
-placed-with head header rec lists =
-    ap (λ (l : List Record). with_records lists header l)
-    (insert-prefix_len (stands_before head rec) rec (records_of lists header))
+placed-with head header rec lists = grind (arith, insert-prefix_len)
 
 -- ---- ids
 
 -- a new record has an id of its own
 pub new-alone : (shape : Shape) (caps : Caps) (content : Content) → IsContent shape caps content
     → list_any (is_id (write.new_id content)) (all_records content.lists) ≡ false
-new-alone shape caps content is =
-    none_from_all (is_id (write.new_id content)) (all_records content.lists)
-    (list_all_weaker (is_given content.next) (λ rec. not (is_id (write.new_id content) rec))
-    (λ rec k. other rec.id.0 content.next k) (all_records content.lists) is.given_ids)
-  where
-    other : (a n : ℕ) → nat_lt a n ≡ true → not (a == n) ≡ true
-    other a n h = grind (arith, nat_tests)
+new-alone shape caps content is = grind (arith, none_from_all, list_all_weaker, nat_tests)
 
 -- ---- records and elements

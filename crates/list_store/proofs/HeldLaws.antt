@@ -1,5 +1,5 @@
 -- The chains of records, and those that no record has.
-use Rattle.list_store.proofs.Imports.{◌≡◌, ◌≢◌, ℕ, zero, suc, ◌+◌, List, [], ◌∷◌, ◌++◌, set, get_or, slice_get, sum_by, Option, None, Some, refl, sym, ap, ◌∙◌, subst, arith, get_or-set_other, get_or_from_slice_get, get-set_other, sum_by-set, sum_by-cons, get_within, Every, Chain, IsChain, need_at, Rec, Record, record_in, body_in, HasChain, chains_less, loose_in, AreHeld}
+use Rattle.list_store.proofs.Imports.{◌≡◌, ◌≢◌, ℕ, zero, suc, ◌+◌, List, [], ◌∷◌, ◌++◌, set, get_or, slice_get, sum_by, Option, None, Some, refl, sym, ap, ◌∙◌, subst, arith, get_or-set_other, get_or_from_slice_get, get-set_other, sum_by-set, sum_by-cons, get_within, Every, Chain, IsChain, need_at, Rec, record_in, body_in, HasChain, chains_less, loose_in, AreHeld}
 
 -- ---- one list of chains
 
@@ -20,10 +20,7 @@ some_there o bytes e f = cc
 
 -- a chain that is there although another went is not that one
 not_gone : (xs : List (Option (List ℕ))) (i j : ℕ) → IsChain (set xs i None) j → j ≢ i
-not_gone xs i j c e =
-    let here : slice_get (set xs i None) i ≡ Some (Some c.0) =
-    subst (λ k. slice_get (set xs i None) k ≡ Some (Some c.0)) e c.1 in
-    go xs i c.0 here
+not_gone xs i j c e = grind (arith, go)
   where
     go : (ys : List (Option (List ℕ))) (k : ℕ) (b : List ℕ) → slice_get (set ys k None) k ≡ Some (Some b) → ⊥
     go [] k b h = cc
@@ -62,13 +59,7 @@ pub loose_middle : (chains : List (Option (List ℕ))) (front back : List Rec) (
     × (loose_in chains (front ++ rec ∷ back) ≡ chains_less rec.body (loose_in chains (front ++ back)))
 loose_middle chains [] back rec h = (h, refl)
 loose_middle chains (x ∷ front) back rec h =
-    let r = loose_middle chains front back rec h.1 in
-    let here : HasChain (chains_less rec.body (loose_in chains (front ++ back))) x.body =
-    subst (λ l. HasChain l x.body) r.1 h.0 in
-    let two = has_swap (loose_in chains (front ++ back)) rec.body x.body r.0.0 here in (
-      (two.1, (two.0, r.0.1)),
-      ap (chains_less x.body) r.1 ∙ less_swap (loose_in chains (front ++ back)) rec.body x.body here,
-    )
+    grind (arith, has_swap, less_swap, loose_middle chains front back rec h.1)
 
 pub held_middle : (chains : List (Option (List ℕ))) (front back : List Rec) (rec : Rec)
     → HasChain (loose_in chains (front ++ back)) rec.body
@@ -78,10 +69,7 @@ pub held_middle : (chains : List (Option (List ℕ))) (front back : List Rec) (r
 held_middle chains [] back rec h held = ((h, held), refl)
 held_middle chains (x ∷ front) back rec h held =
     let two = has_swap (loose_in chains (front ++ back)) x.body rec.body held.0 h in
-    let r = held_middle chains front back rec two.0 held.1 in (
-      (subst (λ l. HasChain l x.body) (sym r.1) two.1, r.0),
-      ap (chains_less x.body) r.1 ∙ less_swap (loose_in chains (front ++ back)) rec.body x.body two.1,
-    )
+    let r = held_middle chains front back rec two.0 held.1 in (grind (arith, less_swap))
 
 -- ---- what is loose is a chain
 
@@ -118,13 +106,7 @@ pub elsewhere_fresh : (chains : List (Option (List ℕ))) (recs : List Rec) (k :
     → AreHeld chains recs
     → Every (λ rec. IsElsewhere k rec.body) recs
 elsewhere_fresh chains [] k e h = tt
-elsewhere_fresh chains (rec ∷ recs) k e h =
-    (go rec.body (has_sub chains recs rec.body h.0), elsewhere_fresh chains recs k e h.1)
-  where
-    go : (a : Option Chain) → HasChain chains a → IsElsewhere k a
-    go None c = tt
-    go (Some a) c =
-        λ same. some_there (slice_get chains k) c.0 (subst (λ j. slice_get chains j ≡ Some (Some c.0)) same c.1) e
+elsewhere_fresh chains (rec ∷ recs) k e h = grind (arith, has_sub, some_there, elsewhere_fresh chains recs k e h.1)
 
 pub elsewhere_loose : (chains : List (Option (List ℕ))) (recs : List Rec) (k : ℕ) (bytes : List ℕ)
     → slice_get (loose_in chains recs) k ≡ Some (Some bytes) → Every (λ rec. IsElsewhere k rec.body) recs
@@ -151,9 +133,7 @@ pub loose_change : (chains : List (Option (List ℕ))) (recs : List Rec) (k : �
     → Every (λ rec. IsElsewhere k rec.body) recs
     → loose_in (set chains k o) recs ≡ set (loose_in chains recs) k o
 loose_change chains [] k o away = refl
-loose_change chains (rec ∷ recs) k o away =
-    ap (chains_less rec.body) (loose_change chains recs k o away.1)
-    ∙ less_change (loose_in chains recs) rec.body k o away.0
+loose_change chains (rec ∷ recs) k o away = grind (arith, less_change, loose_change chains recs k o away.1)
 
 pub held_change : (chains : List (Option (List ℕ))) (recs : List Rec) (k : ℕ) (o : Option (List ℕ))
     → Every (λ rec. IsElsewhere k rec.body) recs
@@ -174,13 +154,7 @@ pub record_change : (chains : List (Option (List ℕ))) (recs : List Rec) (k : �
     → Every (λ rec. IsElsewhere k rec.body) recs
     → Every (λ rec. record_in (set chains k o) rec ≡ record_in chains rec) recs
 record_change chains [] k o away = tt
-record_change chains (rec ∷ recs) k o away = (
-  ap (λ (b : Option (List ℕ)). one rec b) (body_change chains rec.body k o away.0),
-  record_change chains recs k o away.1,
-)
-  where
-    one : Rec → Option (List ℕ) → Record
-    one r b = record { id = r.id; version = r.version; name = r.name; key = r.key; body = b; adj = r.adj }
+record_change chains (rec ∷ recs) k o away = grind (arith, body_change, record_change chains recs k o away.1)
 
 -- ---- how many elements
 
@@ -212,10 +186,4 @@ pub loose_fresh : (chains : List (Option (List ℕ))) (recs : List Rec) (k : ℕ
     → AreHeld chains recs
     → slice_get (loose_in chains recs) k ≡ Some None
 loose_fresh chains [] k e h = e
-loose_fresh chains (rec ∷ recs) k e h =
-    go rec.body (elsewhere_fresh chains (rec ∷ recs) k e h).0 (loose_fresh chains recs k e h.1)
-  where
-    go : (a : Option Chain) → IsElsewhere k a → slice_get (loose_in chains recs) k ≡ Some None
-        → slice_get (chains_less a (loose_in chains recs)) k ≡ Some None
-    go None away f = f
-    go (Some a) away f = get-set_other (loose_in chains recs) a.head k None (λ e. away (sym e)) ∙ f
+loose_fresh chains (rec ∷ recs) k e h = grind (arith, elsewhere_fresh, get-set_other, loose_fresh chains recs k e h.1)

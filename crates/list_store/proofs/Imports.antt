@@ -1,5 +1,5 @@
 -- What proofs here name of other crates, and of this one's definitions. Declares nothing.
-pub use Rattle.std.proofs.Common.{◌≡◌, ◌≢◌, ℕ, zero, suc, ◌+◌, List, [], ◌∷◌, ◌++◌, set, get_or, slice_get, sum_by, Option, None, Some, refl, sym, ap, ◌∙◌, subst, arith, get_or-set_other, true, false, option_map, position, ◌-◌, ◌<◌, not, map, replicate, length, is_some, Result, Ok, Err, Bor, IfSome, IfNone, IfOk, OnErr, nat_le, ◌≤◌, inl, inr, Bool, cond, ◌==◌, take, unwrap_or, IsSome, slice_index_or, ◌&&◌, nat_lt, drop}
+pub use Rattle.std.proofs.Common.{◌≡◌, ◌≢◌, ℕ, zero, suc, ◌+◌, List, [], ◌∷◌, ◌++◌, set, get_or, slice_get, sum_by, Option, None, Some, refl, sym, ap, ◌∙◌, subst, arith, get_or-set_other, true, false, option_map, position, ◌-◌, ◌<◌, not, map, replicate, length, is_some, Result, Ok, Err, Bor, IfSome, IfNone, IfOk, OnErr, nat_le, ◌≤◌, inl, inr, Bool, cond, ◌==◌, take, unwrap_or, IsSome, slice_index_or, ◌&&◌, drop}
 pub use Rattle.std.proofs.lemmas.Bool.{false≢true, and_from, and_parts, le-leb, leb-true, eq-eqb, eqb-true, ltb-true, lt-ltb}
 pub use Rattle.std.proofs.lemmas.Bool.Decides.{eqb_tells}
 pub use Rattle.std.proofs.lemmas.List.{length-map, drop_all, append-nil, get_or-map, map-set, set-get_or, take_more_set, drop_more, nil_from_length, length-replicate}
@@ -8,7 +8,7 @@ pub use Rattle.std.proofs.lemmas.List.Folds.{list_all-append}
 pub use Rattle.std.proofs.lemmas.List.Quantifiers.{position-Some}
 pub use Rattle.std.proofs.lemmas.List.Sums.{sum_by-set, sum_by-cons}
 pub use Rattle.std.proofs.lemmas.Option.{get_or_from_slice_get, slice_get-get_or}
-pub use Rattle.std.specs.List.{list_any, list_all, remove, insert}
+pub use Rattle.std.specs.List.{list_any, list_all, remove}
 pub use Rattle.std.specs.Vec.{vec_len, vec_capacity}
 pub use Rattle.std.specs.declared.alloc.Global.{Global}
 pub use Rattle.std.specs.declared.vec.Vec.{Vec}

@@ -1,5 +1,5 @@
 -- A header and a place as a spot.
-use Rattle.list_store.proofs.Imports.{◌≡◌, ℕ, true, false, [], Option, Some, None, option_map, position, refl, sym, ap, ◌∙◌, list_any, false≢true, position-Some, none_placed, list_of-get_or, EntryId, Spot, Lists, record_id, is_id, has_id, spot_of, spot_in, as_spot}
+use Rattle.list_store.proofs.Imports.{arith, ◌≡◌, ℕ, true, false, [], Option, Some, None, option_map, position, refl, sym, ap, ◌∙◌, list_any, false≢true, position-Some, none_placed, list_of-get_or, EntryId, Spot, Lists, record_id, is_id, has_id, spot_of, spot_in, as_spot}
 use Rattle.cf_lists.specs.Lists as generic
 use Rattle.list_store.specs.Lists.{records_of}
 
@@ -27,9 +27,7 @@ header_in (Some s) = refl
 pub header_is : (id : EntryId) (lists : Lists)
     → option_map {T = ℕ × ℕ} {U = ℕ} (λ (s : ℕ × ℕ). s.0) (generic.spot_of record_id id.0 lists)
     ≡ option_map {T = Spot} {U = ℕ} (λ spot. spot.header) (spot_of id lists)
-header_is id lists =
-    sym (header_in (generic.spot_of record_id id.0 lists))
-    ∙ ap (option_map {T = Spot} {U = ℕ} (λ spot. spot.header)) (spot_is id lists)
+header_is id lists = grind (arith, header_in, spot_is)
 
 -- where no spot is found, no header has the id
 pub unplaced : (id : EntryId) (lists : Lists)
@@ -58,10 +56,4 @@ unplaced id lists e = go (position (has_id id) lists) refl e
 pub spot_with : (id : EntryId) (lists : Lists) (header : ℕ)
     → option_map {T = Spot} {U = ℕ} (λ spot. spot.header) (spot_of id lists) ≡ Some header
     → (spot : Spot) × (spot_of id lists ≡ Some spot) × (spot.header ≡ header)
-spot_with id lists header e = go (spot_of id lists) refl e
-  where
-    go : (o : Option Spot) → spot_of id lists ≡ o
-        → option_map {T = Spot} {U = ℕ} (λ spot. spot.header) o ≡ Some header
-        → (spot : Spot) × (spot_of id lists ≡ Some spot) × (spot.header ≡ header)
-    go None f same = absurd (cc)
-    go (Some spot) f same = (spot, f, cc)
+spot_with id lists header e = grind arith

@@ -49,10 +49,7 @@ module _ (chains : List (Option (List ℕ))) (lists : List (List Rec)) (held : A
     added =
         let s = all_with h p rec lists lt in
         let m = held_middle chains s.0 s.1 rec (subst (λ l. HasChain (loose_in chains l) rec.body) s.2 has)
-        (subst (λ l. AreHeld chains l) s.2 held) in (
-          subst (λ l. AreHeld chains l) (sym s.3) m.0,
-          ap (loose_in chains) s.3 ∙ m.1 ∙ ap (λ l. chains_less rec.body (loose_in chains l)) (sym s.2),
-        )
+        (subst (λ l. AreHeld chains l) s.2 held) in (grind arith)
 
     pub added_held : AreHeld chains (all_records (lists_with h p rec lists))
     added_held = added.0
@@ -122,24 +119,13 @@ module _ (chains : List (Option (List ℕ))) (lists : List (List Rec)) (held : A
 
     pub replaced_was : chains_less rec.body loose
         ≡ chains_less old.body (loose_in chains (all_records (lists_replaced rec_id rec lists)))
-    replaced_was =
-        ap (chains_less rec.body) was ∙ less_swap others old.body rec.body still
-        ∙ ap (chains_less old.body) (sym (ap (loose_in chains) now ∙ into.1))
+    replaced_was = grind (arith, was, less_swap, still, now, rec.body, old.body, into.1)
 
   -- ---- a record that was taken out, if it was there
   pub taken_out : (id : ℕ) (new : List (List Rec)) (o : Option Rec)
       → pairwise (ids_apart rec_id) (all_records lists) ≡ true
       → o ≡ record_of rec_id id lists → new ≡ lists_without rec_id id lists → TakenOut chains lists new o
-  taken_out id new (Some rec) apart found is =
-      let f = sym found in
-      record {
-        held = subst (λ l. AreHeld chains (all_records l)) (sym is) (taken_held id rec apart f);
-        chain = subst (λ l. HasChain (loose_in chains (all_records l)) rec.body) (sym is) (taken_chain id rec apart f);
-        was =
-            taken_was id rec apart f
-            ∙ ap (λ (l : List (List Rec)). chains_less rec.body (loose_in chains (all_records l))) (sym is);
-        none = tt;
-      }
+  taken_out id new (Some rec) apart found is = grind (arith, taken_held, taken_chain, was, taken_was)
   taken_out id new None apart found is =
       let absent : list_any (has_id rec_id id) lists ≡ false =
       sym (any_all (is_id rec_id id) lists) ∙ any_is_found (is_id rec_id id) (all_records lists)
@@ -161,12 +147,7 @@ module _ (chains : List (Option (List ℕ))) (lists : List (List Rec)) (held : A
   popped_out new (Some out) old is apart found without same =
       let r = taken_out out.1.id.0 new.lists (Some out.1) apart (sym found) without in
       record { held = r.held; chain = r.chain; was = r.was }
-  popped_out new None old is apart found without same =
-      record {
-        held = subst (λ l. AreHeld chains (all_records l)) (sym (ap (λ (v : TableView). v.lists) same ∙ is)) held;
-        chain = tt;
-        was = tt;
-      }
+  popped_out new None old is apart found without same = grind (arith, was)
 
   -- ---- what a reference shows
   pub chain_at : (h p : ℕ) (o : Option (Bor Rec)) → option_map (λ rec. rec.now) o ≡ slice_get (records_of lists h) p
@@ -355,9 +336,7 @@ module _ (table : TableView) (pool new : Chains) (held : AreHeld pool.chains (al
 -- ---- each chain has 1 to 4,096 bytes
 
 is_whole : (bytes : List ℕ) → 1 ≤ length bytes → length bytes ≤ 4096 → is_data (Some bytes) ≡ true
-is_whole bytes some few =
-    and_from (nat_le 1 (length bytes)) (nat_le (length bytes) 4096) (le-leb 1 (length bytes) some)
-    (le-leb (length bytes) 4096 few)
+is_whole bytes some few = grind (arith, and_from, le-leb)
 
 pub whole_none : (chains : List (Option (List ℕ))) (n : ℕ) → chains ≡ replicate n None → list_all is_data chains ≡ true
 whole_none chains n e = ap (λ (l : List (Option (List ℕ))). list_all is_data l) e ∙ go n
@@ -370,9 +349,7 @@ module _ (pool new : Chains) (bytes : List ℕ) (some : 1 ≤ length bytes) (few
     (whole : list_all is_data pool.chains ≡ true) where
   pub put_whole : (r : Result Chain NoElements) → IfOk r (λ chain. new ≡ with_chain pool chain.head bytes)
       → OnErr r (new ≡ pool) → list_all is_data new.chains ≡ true
-  put_whole (Ok chain) put same =
-      ap (λ (p : Chains). list_all is_data p.chains) put
-      ∙ list_all-set is_data pool.chains chain.head (Some bytes) whole (is_whole bytes some few)
+  put_whole (Ok chain) put same = grind (arith, list_all-set, is_whole)
   put_whole (Err e) put same = ap (λ (p : Chains). list_all is_data p.chains) same ∙ whole
 
 pub given_whole : (pool new : Chains) (k : ℕ) → list_all is_data pool.chains ≡ true → new ≡ without_chain pool k
@@ -384,10 +361,7 @@ pub replace_whole : (pool new : Chains) (k : ℕ) (bytes : List ℕ) → 1 ≤ l
     → list_all is_data pool.chains ≡ true → (r : Result Chain (Chain × NoElements))
     → IfOk r (λ chain. new ≡ with_chain (without_chain pool k) chain.head bytes) → OnErr r (new ≡ pool)
     → list_all is_data new.chains ≡ true
-replace_whole pool new k bytes some few whole (Ok chain) put same =
-    ap (λ (p : Chains). list_all is_data p.chains) put
-    ∙ list_all-set is_data (set pool.chains k None) chain.head (Some bytes)
-    (list_all-set is_data pool.chains k None whole refl) (is_whole bytes some few)
+replace_whole pool new k bytes some few whole (Ok chain) put same = grind (arith, list_all-set, is_whole)
 replace_whole pool new k bytes some few whole (Err e) put same =
     ap (λ (p : Chains). list_all is_data p.chains) same ∙ whole
 

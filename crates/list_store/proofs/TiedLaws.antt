@@ -28,10 +28,7 @@ module _ (slab : Slab Rec) (orders : List (List ℕ)) (spots : List (ℕ × (ℕ
   -- a key at a place, and its record
   pub key_there : (h p k : ℕ) (rec : Rec) → slice_get (records_of orders h) p ≡ Some k → get slab k ≡ Some rec
       → slice_get (records_of (lists_at slab orders) h) p ≡ Some rec
-  key_there h p k rec at e =
-      ap (λ (l : List Rec). slice_get l p) (records_of-map (rec_at slab) orders h)
-      ∙ get-map (rec_at slab) (records_of orders h) p ∙ ap (option_map (rec_at slab)) at
-      ∙ ap (λ (r : Rec). Some r) (at_is slab k rec e)
+  key_there h p k rec at e = grind (arith, records_of-map, get-map, at_is)
 
   pub key_placed : (h p k : ℕ) (rec : Rec) → slice_get (records_of orders h) p ≡ Some k → get slab k ≡ Some rec
       → IsPlaced rec_id rec.id.0 (lists_at slab orders) h p
@@ -68,35 +65,14 @@ module _ (slab : Slab Rec) (orders : List (List ℕ)) (spots : List (ℕ × (ℕ
 
     put_held : (i k : ℕ) → stands (lists_with h p key orders) i k ≡ true → IsHeld slab' spots' i k
     put_held i k st = elim (stands_either orders h p key lt i k st) [
-      | inl e ↦ subst (λ j. IsHeld slab' spots' j k) (sym e.0) (subst (λ j. IsHeld slab' spots' h j) (sym e.1) (record {
-        «record» = rec;
-        there = u.changed;
-        spot = w rec.id.0 ∙ ap (λ b. cond b (Some (h, key)) (spot_for spots rec.id.0)) (eq-eqb rec.id.0 rec.id.0 refl);
-      }))
-      | inr e ↦
-          let r = t.held i k e in
-          record {
-            «record» = r.«record»;
-            there = u.others k (another i k e) ∙ r.there;
-            spot = elim (eqb_tells rec.id.0 r.«record».id.0) [
-              | inl f ↦ absurd (other_id i k r.«record» e r.there f.1)
-              | inr f ↦ w r.«record».id.0 ∙ ap (λ b. cond b (Some (h, key)) (spot_for spots r.«record».id.0)) f.0
-                  ∙ r.spot
-            ];
-          }
+      | inl e ↦ subst (λ j. IsHeld slab' spots' j k) (sym e.0) (subst (λ j. IsHeld slab' spots' h j) (sym e.1) (
+          grind (arith, eq-eqb)))
+      | inr e ↦ grind (arith, another, eqb_tells, other_id)
     ]
 
     put_found : (id i k : ℕ) → spot_for spots' id ≡ Some (i, k) → IsFound slab' (lists_with h p key orders) id i k
     put_found id i k e = elim (eqb_tells rec.id.0 id) [
-      | inl f ↦
-          let pair = one_spot (spot_for spots' id) (h, key) (i, k) (w id
-          ∙ ap (λ b. cond b (Some (h, key)) (spot_for spots id)) f.0) e in
-          subst (λ (s : ℕ × ℕ). IsFound slab' (lists_with h p key orders) id s.0 s.1) pair (record {
-            «record» = rec;
-            there = u.changed;
-            same = f.1;
-            stands = stands_new orders h p key lt;
-          })
+      | inl f ↦ grind (arith, one_spot, stands_new)
       | inr f ↦
           let r = t.found id i k (sym (w id ∙ ap (λ b. cond b (Some (h, key)) (spot_for spots id)) f.0) ∙ e) in
           record {
@@ -165,10 +141,7 @@ module _ (slab : Slab Rec) (orders : List (List ℕ)) (spots : List (ℕ × (ℕ
         record {
           «record» = r.«record»;
           there = u.others k (key_gone i k st) ∙ r.there;
-          spot = elim (eqb_tells rec.id.0 r.«record».id.0) [
-            | inl f ↦ absurd (id_gone i k r.«record» st r.there f.1)
-            | inr f ↦ w r.«record».id.0 ∙ ap (λ b. cond b None (spot_for spots r.«record».id.0)) f.0 ∙ r.spot
-          ];
+          spot = grind (arith, eqb_tells, id_gone);
         }
 
     pull_found : (id i k : ℕ) → spot_for spots' id ≡ Some (i, k) → IsFound slab' left id i k
@@ -177,9 +150,7 @@ module _ (slab : Slab Rec) (orders : List (List ℕ)) (spots : List (ℕ × (ℕ
           ∙ ap (λ b. cond b None (spot_for spots id)) f.0) e)
       | inr f ↦
           let r = t.found id i k (sym (w id ∙ ap (λ b. cond b None (spot_for spots id)) f.0) ∙ e) in
-          let ne : k ≢ key = λ same. f.1
-          (ap (λ (x : Rec). x.id.0) (one_record (get slab k) rec r.«record» (ap (get slab) same ∙ value) r.there)
-          ∙ r.same) in
+          let ne : k ≢ key = grind (arith, one_record) in
           record {
             «record» = r.«record»;
             there = u.others k ne ∙ r.there;
@@ -189,12 +160,7 @@ module _ (slab : Slab Rec) (orders : List (List ℕ)) (spots : List (ℕ × (ℕ
     ]
 
     pub pull_tied : IsTied slab' left spots'
-    pull_tied = record {
-      apart = ap (λ (l : List (List Rec)). pairwise (ids_apart rec_id) (all_records l)) pull_lists
-          ∙ apart-without rec_id rec.id.0 (lists_at slab orders) t.apart;
-      held = pull_held;
-      found = pull_found;
-    }
+    pull_tied = grind (arith, pull_lists, apart-without, pull_held, pull_found)
 
   -- ---- what the map tells
   pub key_stands : (id h k : ℕ) → spot_for spots id ≡ Some (h, k) → list_any (λ j. j == k) (records_of orders h) ≡ true
@@ -231,18 +197,7 @@ module _ (slab : Slab Rec) (orders : List (List ℕ)) (spots : List (ℕ × (ℕ
 
   pub none_there : (id : ℕ) → spot_for spots id ≡ None
       → list_any (is_id rec_id id) (all_records (lists_at slab orders)) ≡ false
-  none_there id e = go (list_any (is_id rec_id id) (all_records (lists_at slab orders))) refl
-    where
-      go : (b : Bool) → list_any (is_id rec_id id) (all_records (lists_at slab orders)) ≡ b
-          → list_any (is_id rec_id id) (all_records (lists_at slab orders)) ≡ false
-      go false f = f
-      go true f =
-          let s = some_stands (is_id rec_id id) f in
-          let r = t.held s.0 s.1 s.2 in
-          let same : r.«record».id.0 ≡ id =
-          ap (λ (x : Rec). x.id.0) (sym (at_is slab s.1 r.«record» r.there)) ∙ eqb-true (rec_at slab s.1).id.0 id s.3 in
-          absurd (no_spot_left (spot_for spots id) (s.0, s.1) e
-          (subst (λ (i : ℕ). spot_for spots i ≡ Some (s.0, s.1)) same r.spot))
+  none_there id e = grind (arith, some_stands, at_is, eqb-true, no_spot_left)
 
   pub unfound_spot : (id : ℕ) → spot_for spots id ≡ None → spot_of rec_id id (lists_at slab orders) ≡ None
   unfound_spot id e = no_spot rec_id id (lists_at slab orders) (sym (any_all (is_id rec_id id) (lists_at slab orders))
@@ -269,10 +224,7 @@ module _ (slab : Slab Rec) (orders : List (List ℕ)) (spots : List (ℕ × (ℕ
   found_pulled id h k p rec e at got =
       let r = t.found id h k e in
       let own : r.«record» ≡ rec = one_record (slice_get (records_of (lists_at slab orders) h) p) r.«record» rec
-      (key_there h p k r.«record» at r.there) got in (
-        ap (λ (x : Rec). x.id.0) (sym own) ∙ r.same,
-        ap (λ (x : Rec). Some x) (sym own) ∙ sym r.there ∙ found_record id h k e,
-      )
+      (key_there h p k r.«record» at r.there) got in (grind (arith, found_record))
 
   pub get_there : (h p k : ℕ) → slice_get (records_of orders h) p ≡ Some k
       → get slab k ≡ slice_get (records_of (lists_at slab orders) h) p
@@ -281,9 +233,7 @@ module _ (slab : Slab Rec) (orders : List (List ℕ)) (spots : List (ℕ × (ℕ
 
   pub get_past : (h p : ℕ) → slice_get (records_of orders h) p ≡ None
       → slice_get (records_of (lists_at slab orders) h) p ≡ None
-  get_past h p at =
-      ap (λ (l : List Rec). slice_get l p) (records_of-map (rec_at slab) orders h)
-      ∙ get-map (rec_at slab) (records_of orders h) p ∙ ap (option_map (rec_at slab)) at
+  get_past h p at = grind (arith, records_of-map, get-map)
 
   pub without_unfound : (id : ℕ) → spot_for spots id ≡ None
       → lists_without rec_id id (lists_at slab orders) ≡ lists_at slab orders
@@ -296,28 +246,17 @@ module _ (slab : Slab Rec) (orders : List (List ℕ)) (spots : List (ℕ × (ℕ
       (u : Updates slab slab' key (Some rec)) where
     -- the key has the id, and no other key that stands has
     one_key : (i k : ℕ) (r : Rec) → stands orders i k ≡ true → get slab k ≡ Some r → r.id.0 ≡ rec.id.0 → k ≡ key
-    one_key i k r st g same =
-        let q = t.held i k st in
-        let own : q.«record» ≡ r = one_record (get slab k) q.«record» r q.there g in
-        let spot : spot_for spots rec.id.0 ≡ Some (i, k) =
-        subst (λ (n : ℕ). spot_for spots n ≡ Some (i, k)) (ap (λ (x : Rec). x.id.0) own ∙ same) q.spot in
-        ap (λ (s : ℕ × ℕ). s.1) (one_spot (spot_for spots rec.id.0) (i, k) (h, key) spot e)
+    one_key i k r st g same = grind (arith, one_record, one_spot)
 
     replaced_key : (i k : ℕ) → stands orders i k ≡ true → rec_at slab' k ≡ replaced_by rec_id rec (rec_at slab k)
     replaced_key i k st =
         let r = t.held i k st in
         let own : rec_at slab k ≡ r.«record» = at_is slab k r.«record» r.there in
         elim (eqb_tells r.«record».id.0 rec.id.0) [
-          | inl f ↦
-              let same = one_key i k r.«record» st r.there f.1 in
-              ap (rec_at slab') same ∙ at_is slab' key rec u.changed
-              ∙ sym (ap (λ (x : Rec). replaced_by rec_id rec x) own ∙ ap (λ b. cond b rec r.«record») f.0)
+          | inl f ↦ grind (arith, one_key, at_is)
           | inr f ↦
               let f0 = t.found rec.id.0 h key e in
-              let ne : k ≢ key = λ same. f.1
-              (ap (λ (x : Rec). x.id.0)
-              (one_record (get slab k) r.«record» f0.«record» r.there (ap (get slab) same ∙ f0.there))
-              ∙ f0.same) in
+              let ne : k ≢ key = grind (arith, one_record) in
               at_is slab' k r.«record» (u.others k ne ∙ r.there)
               ∙ sym (ap (λ (x : Rec). replaced_by rec_id rec x) own ∙ ap (λ b. cond b rec r.«record») f.0)
         ]
@@ -339,9 +278,7 @@ module _ (slab : Slab Rec) (orders : List (List ℕ)) (spots : List (ℕ × (ℕ
             there = ap (get slab') f.1 ∙ u.changed;
             spot = subst (λ (n : ℕ). spot_for spots n ≡ Some (i, k)) (ap (λ (x : Rec). x.id.0) own ∙ f0.same) r.spot;
           }
-      | inr f ↦
-          let r = t.held i k st in
-          record { «record» = r.«record»; there = u.others k f.1 ∙ r.there; spot = r.spot }
+      | inr f ↦ grind arith
     ]
 
     set_found : (id i k : ℕ) → spot_for spots id ≡ Some (i, k) → IsFound slab' orders id i k
@@ -385,9 +322,7 @@ same_get slab slab' k e = ap (λ (s : List (Option Rec)). slice_index_or s k Non
 pub same_lists_at : (slab slab' : Slab Rec) (orders orders' : List (List ℕ)) → slab'.slots ≡ slab.slots
     → orders' ≡ orders
     → lists_at slab' orders' ≡ lists_at slab orders
-same_lists_at slab slab' orders orders' e o =
-    ap (lists_at slab') o ∙ agree (rec_at slab') (rec_at slab) orders
-    (λ h k st. ap (λ (r : Option Rec). unwrap_or r no_rec) (same_get slab slab' k e))
+same_lists_at slab slab' orders orders' e o = grind (arith, agree, same_get)
 
 pub same_tied : (slab slab' : Slab Rec) (orders orders' : List (List ℕ)) (spots spots' : List (ℕ × (ℕ × ℕ)))
     → slab'.slots ≡ slab.slots → orders' ≡ orders → spots' ≡ spots → IsTied slab orders spots
@@ -397,12 +332,7 @@ same_tied slab slab' orders orders' spots spots' e o s t =
     (subst (λ (l : List (ℕ × (ℕ × ℕ))). IsTied slab' orders l) (sym s) (record {
       apart = ap (λ (l : List (List Rec)). pairwise (ids_apart rec_id) (all_records l))
           (same_lists_at slab slab' orders orders e refl) ∙ t.apart;
-      held = λ h k st. (let r = t.held h k st in record {
-        «record» = r.«record»;
-        there = same_get slab slab' k e
-            ∙ r.there;
-        spot = r.spot;
-      });
+      held = grind (arith, same_get);
       found = λ id h k f. (let r = t.found id h k f in record {
         «record» = r.«record»;
         there = same_get slab slab' k e
@@ -441,9 +371,7 @@ new_tied slab orders spots n o s =
 -- the keys of a header are few
 pub few-at : (orders : List (List ℕ)) (h : ℕ) → h < length orders → list_all is_few orders ≡ true
     → length (records_of orders h) < 4294967296
-few-at orders h lt few =
-    ltb-true (length (records_of orders h)) 4294967296 (ap is_few (list_of-get_or orders h)
-    ∙ list_all-get_or is_few orders h [] few lt)
+few-at orders h lt few = grind (arith, ltb-true, list_of-get_or, list_all-get_or)
 
 -- what holds of an option's value, weakened
 pub weaker_some : {X : Type 0} (o : Option X) (P Q : X → Type 0) → ((x : X) → P x → Q x) → IfSome o P → IfSome o Q
@@ -457,9 +385,7 @@ weaker_none (Some x) P Q f h = tt
 -- the last of a list goes
 pub remove_last : {X : Type 0} (xs : List X) (n : ℕ) → 0 < length xs → n ≡ length xs - 1
     → remove xs n ≡ take (length xs - 1) xs
-remove_last {X} xs n some e =
-    let past : length xs ≤ suc n = omega (arith, some, e) in
-    ap (λ (l : List X). take n xs ++ l) (drop_all (suc n) xs past) ∙ append-nil (take n xs) ∙ ap (λ k. take k xs) e
+remove_last {X} xs n some e = grind (arith, drop_all, append-nil)
 
 -- within a list there is something
 pub none_within : {X : Type 0} (xs : List X) (k : ℕ) → k < length xs → slice_get xs k ≡ None → ⊥

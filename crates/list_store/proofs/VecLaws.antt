@@ -1,5 +1,5 @@
 -- Vectors of slab keys, seen as lists.
-use Rattle.list_store.proofs.Imports.{◌≡◌, ℕ, ◌+◌, ◌<◌, ◌≤◌, true, ◌&&◌, Bool, nat_lt, List, [], ◌∷◌, length, get_or, set, take, replicate, zero, suc, refl, sym, ap, ◌∙◌, arith, ◌==◌, position, slice_get, Some, list_all, remove, vec_len, vec_capacity, Vec, Global, and_parts, and_from, ltb-true, lt-ltb, eqb-true, length-map, get_or-map, map-set, set-get_or, take_more_set, length-remove, list_all-append, position-Some, slice_get-get_or, all_records, orders_in, has_place, is_few, list_of, list_of-get_or}
+use Rattle.list_store.proofs.Imports.{◌≡◌, ℕ, ◌+◌, ◌<◌, ◌≤◌, true, ◌&&◌, Bool, List, [], ◌∷◌, length, get_or, set, take, replicate, zero, suc, refl, ap, ◌∙◌, arith, ◌==◌, position, slice_get, Some, list_all, remove, vec_len, vec_capacity, Vec, Global, and_parts, and_from, ltb-true, lt-ltb, eqb-true, length-map, get_or-map, map-set, set-get_or, take_more_set, length-remove, list_all-append, position-Some, slice_get-get_or, all_records, orders_in, has_place, is_few, list_of, list_of-get_or}
 
 pub list_all-set : {X : Type 0} (p : X → Bool) (xs : List X) (i : ℕ) (y : X) → list_all p xs ≡ true → p y ≡ true
     → list_all p (set xs i y) ≡ true
@@ -20,9 +20,7 @@ list_all-get_or p (x ∷ xs) (suc i) d h lt = list_all-get_or p xs i d (and_part
 pub list_of-in : (lists : List (Vec ℕ Global)) (h : ℕ) (recs : Vec ℕ Global) → h < length lists
     → recs ≡ get_or lists h recs
     → list_of h (orders_in lists) ≡ recs.items
-list_of-in lists h recs lt read =
-    list_of-get_or (orders_in lists) h ∙ get_or-map (λ (v : Vec ℕ Global). v.items) lists h recs [] lt
-    ∙ ap (λ (v : Vec ℕ Global). v.items) (sym read)
+list_of-in lists h recs lt read = grind (arith, list_of-get_or, get_or-map)
 
 pub orders_in-set : (lists : List (Vec ℕ Global)) (h : ℕ) (recs : Vec ℕ Global)
     → orders_in (set lists h recs) ≡ set (orders_in lists) h recs.items
@@ -33,10 +31,7 @@ pub few-less : (lists : List (List ℕ)) (h : ℕ) (recs : List ℕ) → h < len
     (list_of h lists)
     → list_all is_few lists ≡ true → list_all is_few (set lists h recs) ≡ true
 few-less lists h recs lt less few =
-    let was : is_few (list_of h lists) ≡ true = ap is_few (list_of-get_or lists h) ∙ list_all-get_or is_few lists h
-    [] few lt in
-    list_all-set is_few lists h recs few
-    (lt-ltb (length recs) 4294967296 (omega (arith, less, ltb-true (length (list_of h lists)) 4294967296 was)))
+    grind (arith, list_of, list_of-get_or, list_all-get_or, list_all-set, lt-ltb, ltb-true)
 
 -- a place in one fewer stays
 pub place-less : (lists : List (Vec ℕ Global)) (h : ℕ) (old new : Vec ℕ Global) → h < length lists
@@ -44,14 +39,7 @@ pub place-less : (lists : List (Vec ℕ Global)) (h : ℕ) (old new : Vec ℕ Gl
     → vec_len new ≤ vec_len old → vec_capacity old ≤ vec_capacity new → list_all has_place lists ≡ true
     → list_all has_place (set lists h new) ≡ true
 place-less lists h old new lt read less more places =
-    let was : has_place old ≡ true = ap has_place read ∙ list_all-get_or has_place lists h old places lt in
-    let parts = and_parts (nat_lt (vec_len old) (vec_capacity old)) (nat_lt (vec_len old) 4294967295) was in
-    let room : vec_len old < vec_capacity old = ltb-true (vec_len old) (vec_capacity old) parts.0 in
-    let bound : vec_len old < 4294967295 = ltb-true (vec_len old) 4294967295 parts.1 in
-    list_all-set has_place lists h new places
-    (and_from (nat_lt (vec_len new) (vec_capacity new)) (nat_lt (vec_len new) 4294967295)
-    (lt-ltb (vec_len new) (vec_capacity new) (omega (arith, less, more, room)))
-    (lt-ltb (vec_len new) 4294967295 (omega (arith, less, bound))))
+    grind (arith, list_all-get_or, and_parts, ltb-true, list_all-set, and_from, lt-ltb)
 
 -- a place is room for one more
 pub few-more : (lists : List (Vec ℕ Global)) (h : ℕ) (old new : Vec ℕ Global) → h < length lists
@@ -59,21 +47,13 @@ pub few-more : (lists : List (Vec ℕ Global)) (h : ℕ) (old new : Vec ℕ Glob
     → vec_len new ≡ vec_len old + 1 → list_all has_place lists ≡ true → list_all is_few (orders_in lists) ≡ true
     → list_all is_few (orders_in (set lists h new)) ≡ true
 few-more lists h old new lt read more places few =
-    let was : has_place old ≡ true = ap has_place read ∙ list_all-get_or has_place lists h old places lt in
-    let parts = and_parts (nat_lt (vec_len old) (vec_capacity old)) (nat_lt (vec_len old) 4294967295) was in
-    ap (λ (l : List (List ℕ)). list_all is_few l) (orders_in-set lists h new)
-    ∙ list_all-set is_few (orders_in lists) h new.items few
-    (lt-ltb (length new.items) 4294967296 (omega (arith, more, new.ok.0, ltb-true (vec_len old) 4294967295 parts.1)))
+    grind (arith, list_all-get_or, and_parts, orders_in-set, list_all-set, lt-ltb, ltb-true)
 
 -- room taken in a header changes no keys
 pub orders_in-kept : (lists : List (Vec ℕ Global)) (h : ℕ) (old new : Vec ℕ Global) → h < length lists
     → old ≡ get_or lists h old
     → new.items ≡ old.items → orders_in (set lists h new) ≡ orders_in lists
-orders_in-kept lists h old new lt read same =
-    orders_in-set lists h new
-    ∙ ap (λ (recs : List ℕ). set (orders_in lists) h recs) (same ∙ sym (list_of-in lists h old lt read)
-    ∙ list_of-get_or (orders_in lists) h)
-    ∙ set-get_or (orders_in lists) h []
+orders_in-kept lists h old new lt read same = grind (arith, orders_in-set, list_of-in, list_of-get_or, set-get_or)
 
 pub few-replicate : (n : ℕ) → list_all is_few (replicate n []) ≡ true
 few-replicate zero = refl
@@ -86,11 +66,7 @@ all-replicate (suc n) = all-replicate n
 pub places-more : (lists : List (Vec ℕ Global)) (h : ℕ) (new : Vec ℕ Global) → h < length lists
     → has_place new ≡ true
     → list_all has_place (take h lists) ≡ true → list_all has_place (take (h + 1) (set lists h new)) ≡ true
-places-more lists h new lt place before =
-    ap (λ (l : List (Vec ℕ Global)). list_all has_place l) (take_more_set lists h new lt)
-    ∙ list_all-append has_place (take h lists) (new ∷ [])
-    ∙ and_from (list_all has_place (take h lists)) (has_place new && true) before
-    (and_from (has_place new) true place refl)
+places-more lists h new lt place before = grind (arith, take_more_set, list_all-append, and_from)
 
 -- where a key is found, it stands
 pub stands_there : (keys : List ℕ) (key p : ℕ) → position (λ k. k == key) keys ≡ Some p → slice_get keys p ≡ Some key
@@ -103,6 +79,4 @@ pub few-removed : (lists : List (Vec ℕ Global)) (h p : ℕ) (new : Vec ℕ Glo
     → p < length (list_of h (orders_in lists)) → new.items ≡ remove (list_of h (orders_in lists)) p
     → list_all is_few (orders_in lists) ≡ true → list_all is_few (orders_in (set lists h new)) ≡ true
 few-removed lists h p new lt within made few =
-    ap (λ (l : List (List ℕ)). list_all is_few l) (orders_in-set lists h new)
-    ∙ few-less (orders_in lists) h new.items (omega (arith, lt, length-map lists (λ (v : Vec ℕ Global). v.items)))
-    (omega (arith, ap (λ (l : List ℕ). length l) made, length-remove (list_of h (orders_in lists)) p within)) few
+    grind (arith, orders_in-set, few-less, length-map, length-remove, list_of)

@@ -1,5 +1,5 @@
 -- The bits that change when monitors come, turn and end.
-use Rattle.list_watch.proofs.Imports.{◌≡◌, ℕ, Bool, true, false, not, ◌&&◌, ◌||◌, ◌==◌, if◌then◌else◌, List, [], ◌∷◌, ◌++◌, filter, map, refl, sym, ap, ◌∙◌, subst₂, inl, inr, ◌⊎◌, arith, list_any, list_all, and_parts, false≢true, eqb-true, eq-eqb, nat_tests, map-id, list_all-map, list_any-append, any-filter_same, ConnId, BitChange, Gains, bits_told, difference, gains_none, gains_one, gains_then, pairwise, none_from_all, list_all_weaker, Monitor, Watched, is_at, is_for, places_apart, monitors_of, is_lit, bit_of, row_turned, change_to, differs, is_turned, turn_changes, rows_put}
+use Rattle.list_watch.proofs.Imports.{◌≡◌, ℕ, Bool, true, false, not, ◌&&◌, ◌||◌, ◌==◌, if◌then◌else◌, List, [], ◌∷◌, ◌++◌, filter, map, refl, sym, ap, ◌∙◌, inl, inr, ◌⊎◌, arith, list_any, list_all, and_parts, false≢true, eqb-true, eq-eqb, nat_tests, map-id, list_all-map, list_any-append, any-filter_same, ConnId, BitChange, Gains, bits_told, difference, gains_none, gains_one, gains_then, pairwise, none_from_all, list_all_weaker, Watched, is_at, is_for, places_apart, monitors_of, is_lit, bit_of, row_turned, change_to, differs, is_turned, turn_changes, rows_put}
 
 -- ---- one monitor at most at an index
 
@@ -15,13 +15,7 @@ none_later : (row : Watched) (rows : List Watched) (conn : ConnId) (index : ℕ)
     (monitors_of (row ∷ rows)) ≡ true
     → stands_at conn index row ≡ true → list_any (stands_at conn index) rows ≡ false
 none_later row rows conn index apart here =
-    none_from_all (stands_at conn index) rows
-    (list_all_weaker (λ other. places_apart row.monitor other.monitor) (λ other. not (stands_at conn index other))
-    (λ other h. same_place row.monitor.conn.0 row.monitor.index other.monitor.conn.0 other.monitor.index conn.0 index
-    here h) rows
-    (sym (list_all-map (places_apart row.monitor) (λ (r : Watched). r.monitor) rows)
-    ∙ (and_parts (list_all (places_apart row.monitor) (monitors_of rows)) (pairwise places_apart (monitors_of rows))
-    apart).0))
+    grind (arith, none_from_all, list_all_weaker, same_place, list_all-map, and_parts)
 
 rest_apart : (row : Watched) (rows : List Watched) → pairwise places_apart (monitors_of (row ∷ rows)) ≡ true
     → pairwise places_apart (monitors_of rows) ≡ true
@@ -32,57 +26,25 @@ rest_apart row rows apart = (and_parts (list_all (places_apart row.monitor) (mon
 dark : (conn : ConnId) (index : ℕ) (rows : List Watched) → list_any (stands_at conn index) rows ≡ false
     → bit_of rows conn index ≡ false
 dark conn index [] e = refl
-dark conn index (row ∷ rows) e = go (stands_at conn index row) refl e (dark conn index rows)
-  where
-    go : (b : Bool) → stands_at conn index row ≡ b → b || list_any (stands_at conn index) rows ≡ false
-        → (list_any (stands_at conn index) rows ≡ false → bit_of rows conn index ≡ false)
-        → bit_of (row ∷ rows) conn index ≡
-        false
-    go true f e rest = absurd (false≢true (sym e))
-    go false f e rest = rw f (rest e)
+dark conn index (row ∷ rows) e = grind (arith, false≢true, dark conn index rows)
 
 dark_filter : (p : Watched → Bool) (conn : ConnId) (index : ℕ) (rows : List Watched) → list_any (stands_at conn index)
     rows ≡ false
     → bit_of (filter p rows) conn index ≡ false
 dark_filter p conn index [] e = refl
-dark_filter p conn index (row ∷ rows) e = go (stands_at conn index row) (p row) refl refl e
-    (dark_filter p conn index rows)
-  where
-    go : (b d : Bool) → stands_at conn index row ≡ b → p row ≡ d → b || list_any (stands_at conn index) rows ≡ false
-        → (list_any (stands_at conn index) rows ≡ false → bit_of (filter p rows) conn index ≡ false)
-        → bit_of (filter p (row ∷ rows)) conn index ≡ false
-    go true d f g e rest = absurd (false≢true (sym e))
-    go false true f g e rest = rw (g, f) (rest e)
-    go false false f g e rest = rw g (rest e)
+dark_filter p conn index (row ∷ rows) e = grind (arith, false≢true, dark_filter p conn index rows)
 
 dark_map : (f : Watched → Watched) → ((row : Watched) → (f row).monitor ≡ row.monitor) → (conn : ConnId) (index : ℕ)
     (rows : List Watched)
     → list_any (stands_at conn index) rows ≡ false → bit_of (map f rows) conn index ≡ false
 dark_map f same conn index [] e = refl
-dark_map f same conn index (row ∷ rows) e = go (stands_at conn index row) refl e (dark_map f same conn index rows)
-  where
-    go : (b : Bool) → stands_at conn index row ≡ b → b || list_any (stands_at conn index) rows ≡ false
-        → (list_any (stands_at conn index) rows ≡ false → bit_of (map f rows) conn index ≡ false)
-        → bit_of (map f (row ∷ rows)) conn index ≡ false
-    go true g e rest = absurd (false≢true (sym e))
-    go false g e rest =
-        let here : stands_at conn index (f row) ≡ false = ap (is_at conn index) (same row) ∙ g in
-        rw here (rest e)
+dark_map f same conn index (row ∷ rows) e = grind (arith, false≢true, dark_map f same conn index rows)
 
 quiet : (bit : Bool) (p : Watched → Bool) (conn : ConnId) (index : ℕ) (rows : List Watched)
     → list_any (stands_at conn index) rows ≡ false
     → bits_told (map (change_to bit) (filter p rows)) conn index ≡ []
 quiet bit p conn index [] e = refl
-quiet bit p conn index (row ∷ rows) e = go (stands_at conn index row) (p row) refl refl e
-    (quiet bit p conn index rows)
-  where
-    go : (b d : Bool) → stands_at conn index row ≡ b → p row ≡ d → b || list_any (stands_at conn index) rows ≡ false
-        → (list_any (stands_at conn index) rows ≡ false → bits_told (map (change_to bit) (filter p rows)) conn index
-        ≡ [])
-        → bits_told (map (change_to bit) (filter p (row ∷ rows))) conn index ≡ []
-    go true d f g e rest = absurd (false≢true (sym e))
-    go false true f g e rest = rw (g, f) (rest e)
-    go false false f g e rest = rw g (rest e)
+quiet bit p conn index (row ∷ rows) e = grind (arith, false≢true, quiet bit p conn index rows)
 
 -- ---- monitors end
 
@@ -93,37 +55,11 @@ ended_step : (p : Watched → Bool) (conn : ConnId) (index : ℕ) (row : Watched
     ≡ difference (bit_of rows conn index) (bit_of (filter (λ r. not (p r)) rows) conn index)
     → bits_told (map (change_to false) (filter (λ r. r.full && p r) (row ∷ rows))) conn index
     ≡ difference (bit_of (row ∷ rows) conn index) (bit_of (filter (λ r. not (p r)) (row ∷ rows)) conn index)
-ended_step p conn index row rows true true true e f g none ih =
-    rw (
-      f,
-      g,
-      e,
-      quiet false (λ r. r.full && p r) conn index rows (none refl),
-      dark_filter (λ r. not (p r)) conn index
-          rows (none refl),
-    ) refl
-ended_step p conn index row rows true true false e f g none ih =
-    rw (
-      f,
-      g,
-      e,
-      quiet false (λ r. r.full && p r) conn index rows (none refl),
-      dark_filter (λ r. not (p r)) conn index
-          rows (none refl),
-      dark conn index rows (none refl),
-    ) refl
+ended_step p conn index row rows true true true e f g none ih = grind (arith, quiet, dark_filter)
+ended_step p conn index row rows true true false e f g none ih = grind (arith, quiet, dark_filter, dark)
 ended_step p conn index row rows true false true e f g none ih =
     rw (f, g, e, quiet false (λ r. r.full && p r) conn index rows (none refl)) refl
-ended_step p conn index row rows true false false e f g none ih =
-    rw (
-      f,
-      g,
-      e,
-      quiet false (λ r. r.full && p r) conn index rows (none refl),
-      dark_filter (λ r. not (p r)) conn index
-          rows (none refl),
-      dark conn index rows (none refl),
-    ) refl
+ended_step p conn index row rows true false false e f g none ih = grind (arith, quiet, dark_filter, dark)
 ended_step p conn index row rows false true true e f g none ih = rw (f, g, e) ih
 ended_step p conn index row rows false true false e f g none ih = rw (f, g, e) ih
 ended_step p conn index row rows false false true e f g none ih = rw (f, g, e) ih
@@ -135,30 +71,19 @@ ended_told : (p : Watched → Bool) (conn : ConnId) (index : ℕ) (rows : List W
     ≡ difference (bit_of rows conn index) (bit_of (filter (λ r. not (p r)) rows) conn index)
 ended_told p conn index [] apart = refl
 ended_told p conn index (row ∷ rows) apart =
-    ended_step p conn index row rows (stands_at conn index row) (p row) row.full refl refl refl
-    (none_later row rows conn index apart)
-    (ended_told p conn index rows (rest_apart row rows apart))
+    grind (arith, ended_step, none_later, rest_apart, ended_told p conn index rows (rest_apart row rows apart))
 
 -- each monitor that ends clears its bit
 pub gains_ended : (p : Watched → Bool) (rows : List Watched) (bits : List BitChange) → pairwise places_apart
     (monitors_of rows) ≡ true
     → Gains (bit_of rows) (bit_of (filter (λ row. not (p row)) rows)) bits (bits ++ map (change_to false)
     (filter (λ row. row.full && p row) rows))
-gains_ended p rows bits apart =
-    record {
-      added = map (change_to false) (filter (λ row. row.full && p row) rows);
-      behind = refl;
-      exactly = λ conn index. ended_told p conn index rows apart;
-    }
+gains_ended p rows bits apart = grind (arith, ended_told)
 
 -- ---- the monitors of a header turn
 
 same_monitor : (header : ℕ) (full : Bool) (row : Watched) → (row_turned header full row).monitor ≡ row.monitor
-same_monitor header full row = go (row.monitor.header == header)
-  where
-    go : (b : Bool) → (if b then record row { full = full } else row).monitor ≡ row.monitor
-    go true = refl
-    go false = refl
+same_monitor header full row = grind arith
 
 turned_step : (header : ℕ) (full : Bool) (conn : ConnId) (index : ℕ) (row : Watched) (rows : List Watched)
     (a b c : Bool)
@@ -170,20 +95,11 @@ turned_step : (header : ℕ) (full : Bool) (conn : ConnId) (index : ℕ) (row : 
     ≡ difference (bit_of (row ∷ rows) conn index) (bit_of (map (row_turned header full) (row ∷ rows)) conn index)
 turned_step header true conn index row rows true true true e f g none ih =
     rw (f, g, e, quiet true (is_turned header true) conn index rows (none refl)) refl
-turned_step header true conn index row rows true true false e f g none ih =
-    rw (f, g, e, quiet true (is_turned header true) conn index rows (none refl), dark conn index rows (none refl))
-    refl
+turned_step header true conn index row rows true true false e f g none ih = grind (arith, quiet, dark)
 turned_step header true conn index row rows true false true e f g none ih =
     rw (f, g, e, quiet true (is_turned header true) conn index rows (none refl)) refl
 turned_step header true conn index row rows true false false e f g none ih =
-    rw (
-      f,
-      g,
-      e,
-      quiet true (is_turned header true) conn index rows (none refl),
-      dark conn index rows (none refl),
-      dark_map (row_turned header true) (same_monitor header true) conn index rows (none refl),
-    ) refl
+    grind (arith, quiet, dark, dark_map, same_monitor)
 turned_step header true conn index row rows false true true e f g none ih =
     rw (f, g, e) ih
 turned_step header true conn index row rows false true false e f g none ih =
@@ -193,34 +109,13 @@ turned_step header true conn index row rows false false true e f g none ih =
 turned_step header true conn index row rows false false false e f g none ih =
     rw (f, g, e) ih
 turned_step header false conn index row rows true true true e f g none ih =
-    rw (
-      f,
-      g,
-      e,
-      quiet false (is_turned header false) conn index rows (none refl),
-      dark_map (row_turned header false)
-          (same_monitor header false) conn index rows (none refl),
-    ) refl
+    grind (arith, quiet, dark_map, same_monitor)
 turned_step header false conn index row rows true true false e f g none ih =
-    rw (
-      f,
-      g,
-      e,
-      quiet false (is_turned header false) conn index rows (none refl),
-      dark conn index rows (none refl),
-      dark_map (row_turned header false) (same_monitor header false) conn index rows (none refl),
-    ) refl
+    grind (arith, quiet, dark, dark_map, same_monitor)
 turned_step header false conn index row rows true false true e f g none ih =
     rw (f, g, e, quiet false (is_turned header false) conn index rows (none refl)) refl
 turned_step header false conn index row rows true false false e f g none ih =
-    rw (
-      f,
-      g,
-      e,
-      quiet false (is_turned header false) conn index rows (none refl),
-      dark conn index rows (none refl),
-      dark_map (row_turned header false) (same_monitor header false) conn index rows (none refl),
-    ) refl
+    grind (arith, quiet, dark, dark_map, same_monitor)
 turned_step header false conn index row rows false true true e f g none ih =
     rw (f, g, e) ih
 turned_step header false conn index row rows false true false e f g none ih =
@@ -243,21 +138,14 @@ turned_told header full conn index (row ∷ rows) apart =
 pub gains_turned : (header : ℕ) (full : Bool) (rows : List Watched) (bits : List BitChange) → pairwise places_apart
     (monitors_of rows) ≡ true
     → Gains (bit_of rows) (bit_of (map (row_turned header full) rows)) bits (bits ++ turn_changes header full rows)
-gains_turned header full rows bits apart =
-    record {
-      added = turn_changes header full rows;
-      behind = refl;
-      exactly = λ conn index. turned_told header full conn index rows apart;
-    }
+gains_turned header full rows bits apart = grind (arith, turned_told)
 
 -- the monitors stay
 pub monitors-turned : (header : ℕ) (full : Bool) (rows : List Watched)
     → monitors_of (map (row_turned header full) rows) ≡
     monitors_of rows
 monitors-turned header full [] = refl
-monitors-turned header full (row ∷ rows) =
-    ap (λ (m : Monitor). m ∷ monitors_of (map (row_turned header full) rows)) (same_monitor header full row)
-    ∙ ap (λ (l : List Monitor). row.monitor ∷ l) (monitors-turned header full rows)
+monitors-turned header full (row ∷ rows) = grind (arith, same_monitor, monitors-turned header full rows)
 
 -- ---- a monitor comes
 
@@ -281,16 +169,9 @@ elsewhere_step conn i by index row rows false false true e f g h ih = rw (f, e) 
 lit_elsewhere : (rows : List Watched) (by conn : ConnId) (index i : ℕ)
     → bit_of (filter (λ r. not (is_at by index r.monitor)) rows) conn i ≡ (not ((by.0 == conn.0) && (index == i))
     && bit_of rows conn i)
-lit_elsewhere [] by conn index i = none (not ((by.0 == conn.0) && (index == i)))
-  where
-    none : (b : Bool) → false ≡ b && false
-    none true = refl
-    none false = refl
+lit_elsewhere [] by conn index i = grind arith
 lit_elsewhere (row ∷ rows) by conn index i =
-    elsewhere_step conn i by index row rows (stands_at conn i row) (not (is_at by index row.monitor))
-    (not ((by.0 == conn.0) && (index == i)))
-    refl refl refl (λ e. same_test row.monitor.conn.0 row.monitor.index conn.0 i by.0 index e)
-    (lit_elsewhere rows by conn index i)
+    grind (arith, elsewhere_step, same_test, lit_elsewhere rows by conn index i)
 
 -- with the new one behind
 lit_put : (new : Watched) (rows : List Watched) (conn : ConnId) (i : ℕ)
@@ -316,30 +197,19 @@ own_bit false x y e = absurd (false≢true e)
 lit_put-other : (new : Watched) (rows : List Watched) (conn : ConnId) (i : ℕ) → (new.monitor.conn.0 == conn.0)
     && (new.monitor.index == i) ≡ false
     → bit_of (rows_put new rows) conn i ≡ bit_of rows conn i
-lit_put-other new rows conn i e =
-    lit_put new rows conn i ∙ other_bits ((new.monitor.conn.0 == conn.0) && (new.monitor.index == i))
-    (bit_of rows conn i) new.full e
+lit_put-other new rows conn i e = grind (arith, lit_put, other_bits)
 
 self : (a b : ℕ) → (a == a) && (b == b) ≡ true
 self a b = grind (arith, nat_tests)
 
 lit_put-here : (new : Watched) (rows : List Watched) → bit_of (rows_put new rows) new.monitor.conn new.monitor.index ≡
     new.full
-lit_put-here new rows =
-    lit_put new rows new.monitor.conn new.monitor.index
-    ∙ own_bit ((new.monitor.conn.0 == new.monitor.conn.0) && (new.monitor.index == new.monitor.index))
-    (bit_of rows new.monitor.conn new.monitor.index) new.full
-    (self new.monitor.conn.0 new.monitor.index)
+lit_put-here new rows = grind (arith, lit_put, own_bit, self)
 
 same_pair : (new : Watched) (rows : List Watched) (conn : ConnId) (i : ℕ) (b : Bool) → (new.monitor.conn.0 == conn.0)
     && (new.monitor.index == i) ≡ b
     → bit_of rows new.monitor.conn new.monitor.index ≡ new.full → bit_of (rows_put new rows) conn i ≡ bit_of rows conn i
-same_pair new rows conn i true e stood =
-    let parts = and_parts (new.monitor.conn.0 == conn.0) (new.monitor.index == i) e in
-    subst₂ (λ (c n : ℕ). list_any (is_lit (record { 0 = c }) n) (rows_put new rows) ≡ list_any
-    (is_lit (record { 0 = c }) n) rows)
-    (eqb-true new.monitor.conn.0 conn.0 parts.0) (eqb-true new.monitor.index i parts.1) (lit_put-here new rows
-    ∙ sym stood)
+same_pair new rows conn i true e stood = grind (arith, and_parts, eqb-true, lit_put-here)
 same_pair new rows conn i false e stood = lit_put-other new rows conn i e
 
 unequal : (a b : Bool) → differs a b ≡ true → a ≡ b → ⊥
@@ -360,22 +230,7 @@ pub gains_put : (new : Watched) (rows : List Watched) (bits : List BitChange)
     (if differs (bit_of rows new.monitor.conn new.monitor.index) new.full
     then bits ++ record { conn = new.monitor.conn; index = new.monitor.index; bit = new.full } ∷ []
     else bits)
-gains_put new rows bits = go (differs (bit_of rows new.monitor.conn new.monitor.index) new.full) refl
-  where
-    go : (b : Bool) → differs (bit_of rows new.monitor.conn new.monitor.index) new.full ≡ b
-        → Gains (bit_of rows) (bit_of (rows_put new rows)) bits
-        (if b then bits ++ record { conn = new.monitor.conn; index = new.monitor.index; bit = new.full } ∷
-        [] else bits)
-    go true e =
-        let now = lit_put-here new rows in
-        let one = gains_one new.monitor.conn new.monitor.index (bit_of rows) (bit_of (rows_put new rows)) bits
-        (λ same. unequal (bit_of rows new.monitor.conn new.monitor.index) new.full e (same ∙ now))
-        (λ conn i f. lit_put-other new rows conn i f) in
-        rw now at one
-    go false e =
-        gains_none (bit_of rows) (bit_of (rows_put new rows)) bits
-        (λ conn i. same_pair new rows conn i ((new.monitor.conn.0 == conn.0) && (new.monitor.index == i)) refl
-        (equal (bit_of rows new.monitor.conn new.monitor.index) new.full e))
+gains_put new rows bits = grind (arith, lit_put-here, gains_one, unequal, lit_put-other, gains_none, same_pair, equal)
 
 -- ---- first the connector's monitor of the header elsewhere ends, and then it comes
 
@@ -385,9 +240,7 @@ spared false b e = refl
 spared true false e = absurd (false≢true e)
 
 at_index : (f c full : Bool) (j i n : ℕ) → (c && (j == i)) && full ≡ true → n ≡ i → not (f && not (j == n)) ≡ true
-at_index f c full j i n h e =
-    spared f (j == n) (eq-eqb j n (eqb-true j i (and_parts c (j == i) (and_parts (c && (j == i)) full h).0).1
-    ∙ sym e))
+at_index f c full j i n h e = grind (arith, spared, eq-eqb, eqb-true, and_parts)
 
 abbrev pub is_elsewhere : Watched → Watched → Bool
 is_elsewhere new row = is_for new.monitor.conn new.monitor.header row.monitor
@@ -397,10 +250,7 @@ pub gains_with : (new : Watched) (rows : List Watched) (xs ys zs : List BitChang
     → let middle = filter (λ row. not (is_elsewhere new row)) rows in
     Gains (bit_of rows) (bit_of middle) xs ys → Gains (bit_of middle) (bit_of (rows_put new middle)) ys zs
     → Gains (bit_of rows) (bit_of (rows_put new middle)) xs zs
-gains_with new rows xs ys zs first second =
-    let middle = filter (λ row. not (is_elsewhere new row)) rows in
-    gains_then (bit_of rows) (bit_of middle) (bit_of (rows_put new middle)) xs ys zs
-    (λ conn i. once conn i ((new.monitor.conn.0 == conn.0) && (new.monitor.index == i)) refl) first second
+gains_with new rows xs ys zs first second = grind (arith, gains_then, once)
   where
     once : (conn : ConnId) (i : ℕ) (b : Bool) → (new.monitor.conn.0 == conn.0) && (new.monitor.index == i) ≡ b
         → (bit_of (filter (λ row. not (is_elsewhere new row)) rows) conn i ≡ bit_of rows conn i)
@@ -417,37 +267,18 @@ gains_with new rows xs ys zs first second =
 
 row_two : (a b : ℕ) (x y : Bool) → ((a == b) ≡ true → y ≡ x) → (row : Watched)
     → ((row_turned a x row).full ≡ row.full) ⊎ ((row_turned b y (row_turned a x row)).full ≡ (row_turned a x row).full)
-row_two a b x y same row = go (row.monitor.header == a) (row.monitor.header == b) refl refl
-  where
-    both : (h a b : ℕ) → (h == a) ≡ true → (h == b) ≡ true → (a == b) ≡ true
-    both h a b e f = grind (arith, nat_tests)
-
-    go : (s t : Bool) → (row.monitor.header == a) ≡ s → (row.monitor.header == b) ≡ t
-        → ((row_turned a x row).full ≡ row.full) ⊎ ((row_turned b y (row_turned a x row)).full
-        ≡ (row_turned a x row).full)
-    go false t e f = inl (rw e refl)
-    go true true e f = inr (rw (e, f) (same (both row.monitor.header a b e f)))
-    go true false e f = inr (rw (e, f) refl)
+row_two a b x y same row = grind (arith, nat_tests)
 
 alone : (f : Watched → Watched) → ((row : Watched) → (f row).monitor ≡ row.monitor) → (conn : ConnId) (index : ℕ)
     (row : Watched) (rows : List Watched)
     → stands_at conn index row ≡ true → list_any (stands_at conn index) rows ≡ false → bit_of (map f (row ∷ rows)) conn
     index ≡ (f row).full
-alone f same conn index row rows here none =
-    let there : is_at conn index (f row).monitor ≡ true = ap (is_at conn index) (same row) ∙ here in
-    ap (λ b. is_lit conn index (f row) || b) (dark_map f same conn index rows none)
-    ∙ ap (λ b. (b && (f row).full) || false) there ∙ end (f row).full
-  where
-    end : (b : Bool) → (true && b) || false ≡ b
-    end true = refl
-    end false = refl
+alone f same conn index row rows here none = grind (arith, dark_map)
 
 absent : (f : Watched → Watched) → ((row : Watched) → (f row).monitor ≡ row.monitor) → (conn : ConnId) (index : ℕ)
     (row : Watched) (rows : List Watched)
     → stands_at conn index row ≡ false → bit_of (map f (row ∷ rows)) conn index ≡ bit_of (map f rows) conn index
-absent f same conn index row rows apart =
-    let there : is_at conn index (f row).monitor ≡ false = ap (is_at conn index) (same row) ∙ apart in
-    ap (λ b. (b && (f row).full) || bit_of (map f rows) conn index) there
+absent f same conn index row rows apart = grind arith
 
 two_once : (a b : ℕ) (x y : Bool) → ((a == b) ≡ true → y ≡ x) → (conn : ConnId) (index : ℕ) (rows : List Watched)
     → pairwise places_apart (monitors_of rows) ≡ true
@@ -473,18 +304,12 @@ two_once a b x y same conn index (row ∷ rows) apart =
         ⊎ (bit_of (map (λ r. row_turned b y (row_turned a x r)) (row ∷ rows)) conn index
         ≡ bit_of (map (row_turned a x) (row ∷ rows))
         conn index)
-    go true e none rest (inl h) =
-        inl (alone (row_turned a x) (same_monitor a x) conn index row rows e (none refl) ∙ h
-        ∙ sym (alone (λ r. r) (λ r. refl) conn index row rows e (none refl)))
+    go true e none rest (inl h) = grind (arith, alone, same_monitor)
     go true e none rest (inr h) =
         inr (alone (λ r. row_turned b y (row_turned a x r)) twice conn index row rows e (none refl) ∙ h
         ∙ sym (alone (row_turned a x) (same_monitor a x) conn index row rows e (none refl)))
-    go false e none (inl h) own =
-        inl (absent (row_turned a x) (same_monitor a x) conn index row rows e ∙ h
-        ∙ sym (absent (λ r. r) (λ r. refl) conn index row rows e))
-    go false e none (inr h) own =
-        inr (absent (λ r. row_turned b y (row_turned a x r)) twice conn index row rows e ∙ h
-        ∙ sym (absent (row_turned a x) (same_monitor a x) conn index row rows e))
+    go false e none (inl h) own = grind (arith, absent, same_monitor)
+    go false e none (inr h) own = grind (arith, absent, twice, same_monitor)
 
 map-twice : (f g : Watched → Watched) (rows : List Watched) → map g (map f rows) ≡ map (λ r. g (f r)) rows
 map-twice f g [] = refl
@@ -496,10 +321,7 @@ pub gains_two : (a b : ℕ) (x y : Bool) (rows : List Watched) (xs ys zs : List 
     → Gains (bit_of rows) (bit_of (map (row_turned a x) rows)) xs ys
     → Gains (bit_of (map (row_turned a x) rows)) (bit_of (map (row_turned b y) (map (row_turned a x) rows))) ys zs
     → Gains (bit_of rows) (bit_of (map (row_turned b y) (map (row_turned a x) rows))) xs zs
-gains_two a b x y rows xs ys zs same apart first second =
-    gains_then (bit_of rows) (bit_of (map (row_turned a x) rows))
-    (bit_of (map (row_turned b y) (map (row_turned a x) rows))) xs ys zs
-    (λ conn index. once conn index (two_once a b x y same conn index rows apart)) first second
+gains_two a b x y rows xs ys zs same apart first second = grind (arith, gains_then, once, two_once)
   where
     once : (conn : ConnId) (index : ℕ)
         → (bit_of (map (row_turned a x) rows) conn index ≡ bit_of (map (λ r. r) rows) conn index)

@@ -1,5 +1,5 @@
 -- What proofs here name of other crates, and of this one's definitions. Declares nothing.
-pub use Rattle.std.proofs.Common.{◌≡◌, ℕ, Bool, true, false, not, ◌&&◌, ◌||◌, ◌==◌, if◌then◌else◌, List, [], ◌∷◌, ◌++◌, filter, map, refl, sym, ap, ◌∙◌, subst₂, inl, inr, ◌⊎◌, arith, ◌≤◌, cond, length, find, Option, option_map, subst, rules, ◌+◌, drop, take}
+pub use Rattle.std.proofs.Common.{◌≡◌, ℕ, Bool, true, false, not, ◌&&◌, ◌||◌, ◌==◌, if◌then◌else◌, List, [], ◌∷◌, ◌++◌, filter, map, refl, sym, ap, ◌∙◌, inl, inr, ◌⊎◌, arith, ◌≤◌, cond, length, find, Option, option_map, subst, rules, ◌+◌, drop, take}
 pub use Rattle.std.proofs.lemmas.Bool.{and_parts, false≢true, eqb-true, eq-eqb}
 pub use Rattle.std.proofs.lemmas.Bool.Decides.{nat_tests}
 pub use Rattle.std.proofs.lemmas.Fn.{filter_same}

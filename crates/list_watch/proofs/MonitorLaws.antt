@@ -1,5 +1,5 @@
 -- Monitors stay one for an index and one for a header.
-use Rattle.list_watch.proofs.Imports.{◌≡◌, ℕ, ◌≤◌, Bool, true, false, not, ◌&&◌, ◌||◌, ◌==◌, cond, List, [], ◌∷◌, ◌++◌, filter, map, length, find, Option, option_map, refl, sym, ap, ◌∙◌, subst, arith, list_all, and_parts, nat_tests, map-append, list_all-map, filter_agree, ConnId, pairwise, filter-filter, list_all_weaker, list_all-filter_same, length-filter-le, filter_none, none_from_all, pairwise-filter, pairwise_push, Monitor, Watched, is_at, is_of, is_for, is_replaced, monitors_with, monitors_without, monitors_of_others, places_apart, headers_apart, AreMonitors, monitors_of, rows_turned, rows_with, rows_without, rows_of_others, rows_put}
+use Rattle.list_watch.proofs.Imports.{◌≡◌, ℕ, ◌≤◌, Bool, true, false, not, ◌&&◌, ◌||◌, ◌==◌, cond, List, [], ◌∷◌, ◌++◌, filter, map, length, find, option_map, refl, sym, ap, ◌∙◌, subst, arith, list_all, and_parts, nat_tests, map-append, list_all-map, filter_agree, ConnId, pairwise, filter-filter, list_all_weaker, list_all-filter_same, length-filter-le, filter_none, none_from_all, pairwise-filter, pairwise_push, Monitor, Watched, is_at, is_of, is_for, is_replaced, monitors_with, monitors_without, monitors_of_others, places_apart, headers_apart, AreMonitors, monitors_of, rows_turned, rows_with, rows_without, rows_of_others, rows_put}
 use Rattle.list_watch.proofs.BitLaws.{is_elsewhere, monitors-turned}
 
 -- ---- rows as monitors
@@ -7,47 +7,26 @@ use Rattle.list_watch.proofs.BitLaws.{is_elsewhere, monitors-turned}
 pub find-map : {X Y : Type 0} (p : Y → Bool) (f : X → Y) (xs : List X) → find p (map f xs) ≡ option_map f
     (find (λ x. p (f x)) xs)
 find-map p f [] = refl
-find-map p f (x ∷ xs) = go (p (f x)) (find-map p f xs)
-  where
-    go : (b : Bool) → find p (map f xs) ≡ option_map f (find (λ y. p (f y)) xs)
-        → cond b (Option.Some (f x)) (find p (map f xs)) ≡ option_map f
-        (cond b (Option.Some x) (find (λ y. p (f y)) xs))
-    go true ih = refl
-    go false ih = ih
+find-map p f (x ∷ xs) = grind (arith, find-map p f xs)
 
 pub filter-map : {X Y : Type 0} (p : Y → Bool) (f : X → Y) (xs : List X) → filter p (map f xs) ≡ map f
     (filter (λ x. p (f x)) xs)
 filter-map p f [] = refl
-filter-map {Y = Y} p f (x ∷ xs) = go (p (f x)) (filter-map p f xs)
-  where
-    go : (b : Bool) → filter p (map f xs) ≡ map f (filter (λ y. p (f y)) xs)
-        → cond b (f x ∷ filter p (map f xs)) (filter p (map f xs)) ≡ map f (cond b (x ∷ filter (λ y. p (f y)) xs)
-        (filter (λ y. p (f y)) xs))
-    go true ih = ap (λ (l : List Y). f x ∷ l) ih
-    go false ih = ih
+filter-map {Y = Y} p f (x ∷ xs) = grind (arith, filter-map p f xs)
 
 pub pairwise-of_map : {X Y : Type 0} (relation : Y → Y → Bool) (f : X → Y) (xs : List X)
     → pairwise relation (map f xs) ≡ pairwise (λ x y. relation (f x) (f y)) xs
 pairwise-of_map relation f [] = refl
-pairwise-of_map relation f (x ∷ xs) =
-    ap (λ b. b && pairwise relation (map f xs)) (list_all-map (relation (f x)) f xs)
-    ∙ ap (λ b. list_all (λ y. relation (f x) (f y)) xs && b) (pairwise-of_map relation f xs)
+pairwise-of_map relation f (x ∷ xs) = grind (arith, list_all-map, pairwise-of_map relation f xs)
 
 monitor_at : (relation : Monitor → Monitor → Bool) (p : Watched → Bool) (rows : List Watched)
     → pairwise relation (monitors_of rows) ≡ true
     → pairwise relation (monitors_of (filter p rows)) ≡ true
-monitor_at relation p rows h =
-    pairwise-of_map relation (λ (r : Watched). r.monitor) (filter p rows)
-    ∙ pairwise-filter (λ x y. relation x.monitor y.monitor) p rows
-    (sym (pairwise-of_map relation (λ (r : Watched). r.monitor) rows) ∙ h)
+monitor_at relation p rows h = grind (arith, pairwise-of_map, pairwise-filter)
 
 pub monitors-filter : (p : Watched → Bool) (rows : List Watched) → AreMonitors (monitors_of rows)
     → AreMonitors (monitors_of (filter p rows))
-monitors-filter p rows are =
-    record {
-      one_at_index = monitor_at places_apart p rows are.one_at_index;
-      one_for_header = monitor_at headers_apart p rows are.one_for_header;
-    }
+monitors-filter p rows are = grind (arith, monitor_at)
 
 pub monitors-turn : (header : ℕ) (full : Bool) (rows : List Watched) → AreMonitors (monitors_of rows)
     → AreMonitors (monitors_of (rows_turned header full rows))
@@ -86,10 +65,7 @@ pushed : (relation : Monitor → Monitor → Bool) (rows : List Watched) (new : 
     → pairwise relation (monitors_of rows) ≡ true
     → list_all (λ row. relation row.monitor new.monitor) rows ≡ true
     → pairwise relation (monitors_of (rows ++ new ∷ [])) ≡ true
-pushed relation rows new h e =
-    ap (λ (l : List Monitor). pairwise relation l) (map-append (λ (r : Watched). r.monitor) rows (new ∷ []))
-    ∙ pairwise_push relation (monitors_of rows) new.monitor h (list_all-map (λ m. relation m new.monitor)
-    (λ (r : Watched). r.monitor) rows ∙ e)
+pushed relation rows new h e = grind (arith, map-append, pairwise_push, list_all-map)
 
 pub monitors-with : (conn : ConnId) (index header : ℕ) (full : Bool) (rows : List Watched)
     → AreMonitors (monitors_of rows)
@@ -118,12 +94,7 @@ monitors-with conn index header full rows are =
 
 same_for : (row other : Watched) (conn : ConnId) (header : ℕ) → is_for conn header row.monitor ≡ true
     → headers_apart row.monitor other.monitor ≡ true → not (is_for conn header other.monitor) ≡ true
-same_for row other conn header h e =
-    numbers row.monitor.conn.0 row.monitor.header other.monitor.conn.0 other.monitor.header conn.0 header h e
-  where
-    numbers : (c i d j k n : ℕ) → (c == k) && (i == n) ≡ true → not ((c == d) && (i == j)) ≡ true
-        → not ((d == k) && (j == n)) ≡ true
-    numbers c i d j k n h e = grind (arith, nat_tests)
+same_for row other conn header h e = grind (arith, nat_tests)
 
 one_step : (conn : ConnId) (header : ℕ) (b : Bool) (row : Watched) (rows : List Watched)
     → is_for conn header row.monitor ≡ b
@@ -131,13 +102,7 @@ one_step : (conn : ConnId) (header : ℕ) (b : Bool) (row : Watched) (rows : Lis
     → length (filter (λ r. is_for conn header r.monitor) rows) ≤ 1
     → length (cond b (row ∷ filter (λ r. is_for conn header r.monitor) rows)
     (filter (λ r. is_for conn header r.monitor) rows)) ≤ 1
-one_step conn header true row rows e apart ih =
-    let none = none_from_all (λ (r : Watched). is_for conn header r.monitor) rows
-    (list_all_weaker (λ other. headers_apart row.monitor other.monitor)
-    (λ other. not (is_for conn header other.monitor)) (λ other h. same_for row other conn header e h) rows apart) in
-    let empty : filter (λ (r : Watched). is_for conn header r.monitor) rows ≡ [] = filter_none
-    (λ r. is_for conn header r.monitor) rows none in
-    rw empty (omega arith)
+one_step conn header true row rows e apart ih = grind (arith, none_from_all, list_all_weaker, same_for, filter_none)
 one_step conn header false row rows e apart ih = ih
 
 pub one_for : (conn : ConnId) (header : ℕ) (rows : List Watched) → pairwise headers_apart (monitors_of rows) ≡ true
@@ -175,12 +140,7 @@ one_elsewhere conn index header rows h =
 
 pub monitors_of-with : (conn : ConnId) (index header : ℕ) (full : Bool) (rows : List Watched)
     → monitors_of (rows_with conn index header full rows) ≡ monitors_with conn index header (monitors_of rows)
-monitors_of-with conn index header full rows =
-    let new : Watched = record { monitor = record { conn = conn; index = index; header = header }; full = full } in
-    map-append (λ (r : Watched). r.monitor) (filter (λ row. not (is_replaced conn index header row.monitor)) rows)
-    (new ∷ [])
-    ∙ ap (λ (l : List Monitor). l ++ new.monitor ∷ []) (sym (filter-map (λ m. not (is_replaced conn index header m))
-    (λ (r : Watched). r.monitor) rows))
+monitors_of-with conn index header full rows = grind (arith, map-append, filter-map)
 
 pub monitors_of-without : (conn : ConnId) (header : ℕ) (rows : List Watched)
     → monitors_of (rows_without conn header rows) ≡ monitors_without conn header (monitors_of rows)

@@ -1,13 +1,10 @@
 -- What the engine keeps of its content.
-use Rattle.lock_core.proofs.Imports.{◌≡◌, ℕ, ◌+◌, ◌-◌, ◌≤◌, ◌<◌, [], ◌∷◌, List, Option, Some, None, false, Result, Ok, Err, OnOk, OnErr, ◌++◌, length, length-append, sym, ap, subst, ◌∙◌, arith, length-map, length-take, Caps, ConnId, LockCmd, Waiter, Interest, Content, IsContent, records_in, items, need_of, content_with, content_without_last, with_returned, with_retained, cause, items_in, elements-items, entries-items, Plan, plan_for, LockItem, Owner, Waits, owner-next, waiter-next, content_placed, IsCounted}
+use Rattle.lock_core.proofs.Imports.{◌≡◌, ◌+◌, ◌-◌, ◌≤◌, ◌<◌, [], ◌∷◌, List, Option, Some, None, false, Result, Ok, Err, OnOk, OnErr, ◌++◌, length, length-append, sym, ap, ◌∙◌, arith, length-map, length-take, Caps, ConnId, LockCmd, Waiter, Interest, Content, IsContent, records_in, items, need_of, content_with, content_without_last, with_returned, with_retained, cause, items_in, elements-items, entries-items, Plan, plan_for, LockItem, Owner, Waits, owner-next, waiter-next, content_placed, IsCounted}
 
 -- the need of a content is the number of its interests, and of its record data
 pub need-content : (content : Content)
     → record { entries = length content.interests; elements = records_in content } ≡ need_of (items content)
-need-content content =
-    let caps : ℕ → ℕ → Caps = λ (entries elements : ℕ). record { entries = entries; elements = elements } in
-    ap (λ (n : ℕ). caps n (records_in content)) (sym (entries-items content))
-    ∙ ap (λ (n : ℕ). caps (need_of (items content)).entries n) (sym (elements-items content))
+need-content content = grind (arith, entries-items, elements-items)
 
 last_counted : (interests : List Interest) (waiters : List Waiter)
     → IsCounted (record { interests = interests; waiters = waiters })
@@ -43,11 +40,7 @@ placed-next caps content whole (Owner held rec) others is e =
 placed-next caps content whole (Waits w) others is e = sym (waiter-next caps content whole w others is e)
 
 placed_items : (content : Content) (item : LockItem) → items_in (content_with content item) ≤ items_in content + 1
-placed_items content (Owner held rec) = omega (
-  arith,
-  length-append content.interests
-      (record { held = held; rec = rec } ∷ []),
-)
+placed_items content (Owner held rec) = grind (arith, length-append)
 placed_items content (Waits w) = omega (arith, length-append content.waiters (w ∷ []))
 
 -- what is kept where the item is placed, and where it is handed back
@@ -56,14 +49,8 @@ pub kept_either : (caps : Caps) (result : Result (Unit {0}) LockItem) (content n
     → OnOk result (items_in content < 4294967295)
     → IsContent caps (content_with content item) → IsContent caps content → IsCounted content → IsContent caps now
     × IsCounted now
-kept_either caps (Ok u) content now item placed same few next is counted = (
-  subst (λ (k : Content). IsContent caps k) (sym placed) next,
-  subst (λ (k : Content). IsCounted k) (sym placed) (omega (arith, few, placed_items content item)),
-)
-kept_either caps (Err back) content now item placed same few next is counted = (
-  subst (λ (k : Content). IsContent caps k) (sym same) is,
-  subst (λ (k : Content). IsCounted k) (sym same) counted,
-)
+kept_either caps (Ok u) content now item placed same few next is counted = grind (arith, placed_items)
+kept_either caps (Err back) content now item placed same few next is counted = grind arith
 
 pub ok_weaker : (result : Result (Unit {0}) LockItem) {P Q : Type 0} → (P → Q) → OnOk result P → OnOk result Q
 ok_weaker (Ok u) h p = h p

@@ -1,5 +1,5 @@
 -- Waiters that are granted one after another.
-use Rattle.lock_core.proofs.Imports.{◌≡◌, ◌+◌, Bool, true, false, cond, ◌∷◌, [], List, Option, Some, None, length, filter, find, refl, sym, ap, ◌∙◌, subst, ◌≤◌, not, Resource, Part, same_part, same_part-eq, same_part-refl, length-filter-le, sum_by-filter-le, ConnId, Waiter, IsQueue, is_by, waiters_without_conn, is_on, is_waiter, waiter_of, first_of, waiters_without, may_own, Content, records_of, records_waiting, settlement_of, with_letters_before, grants, grant, held_by, content_granted, granted_letter, waiters_of-first, if_grantable, next_of}
+use Rattle.lock_core.proofs.Imports.{arith, ◌≡◌, ◌+◌, Bool, true, false, cond, ◌∷◌, [], List, Option, Some, None, length, filter, find, refl, sym, ap, ◌∙◌, subst, ◌≤◌, Resource, Part, same_part, same_part-eq, same_part-refl, length-filter-le, sum_by-filter-le, ConnId, Waiter, IsQueue, waiters_without_conn, is_on, waiter_of, first_of, waiters_without, may_own, Content, records_of, records_waiting, settlement_of, with_letters_before, grants, grant, held_by, content_granted, granted_letter, waiters_of-first, if_grantable, next_of}
 use Rattle.cf_lists.proofs.KeyLaws as keys
 
 abbrev part_of : Waiter → Part
@@ -26,9 +26,7 @@ pub record IsHead {X : Type 0} (x : X) (xs : List X) : Type 0 where
 head_step : {X : Type 0} (p : X → Bool) (b : Bool) (x y : X) (xs : List X)
     → (find p xs ≡ Some y → IsHead y (filter p xs))
     → cond b (Some x) (find p xs) ≡ Some y → IsHead y (cond b (x ∷ filter p xs) (filter p xs))
-head_step p true x y xs ih h =
-    let same : x ≡ y = cc in
-    record { rest = filter p xs; is = ap (λ z. z ∷ filter p xs) same }
+head_step p true x y xs ih h = grind arith
 head_step p false x y xs ih h = ih h
 
 head_of : {X : Type 0} (p : X → Bool) (xs : List X) (y : X) → find p xs ≡ Some y → IsHead y (filter p xs)
@@ -54,17 +52,7 @@ next_step : (content : Content) (r : Resource) (w : Waiter) (o : Option Waiter) 
     → first_of r content.waiters ≡ o
     → if_grantable content.interests o ≡ Some w → IsNext r content w
 next_step content r w None b e h = absurd (cc)
-next_step content r w (Some v) b e h = go (may_own (held_by v) content.interests) refl h
-  where
-    go : (t : Bool) → may_own (held_by v) content.interests ≡ t → cond t (Some v) None ≡ Some w → IsNext r content w
-    go true f g =
-        let same : v ≡ w = cc in
-        record {
-          first = e ∙ ap (λ u. Some u) same;
-          may = subst (λ (u : Waiter). may_own (held_by u) content.interests
-              ≡ true) same f;
-        }
-    go false f g = absurd (cc)
+next_step content r w (Some v) b e h = grind arith
 
 pub next-is : (content : Content) (r : Resource) (w : Waiter) → next_of r content ≡ Some w → IsNext r content w
 next-is content r w h = next_step content r w (first_of r content.waiters) true refl h
@@ -115,13 +103,9 @@ grant-none content r h = none_step content r (first_of r content.waiters) refl h
 pub fewer-without : (r : Resource) (conn : ConnId) (waiters : List Waiter)
     → (length (waiters_without r conn waiters) ≤ length waiters)
     × (records_waiting (waiters_without r conn waiters) ≤ records_waiting waiters)
-fewer-without r conn waiters =
-    let q : Waiter → Bool = λ w. not (is_waiter r conn w) in
-    (length-filter-le q waiters, sum_by-filter-le (λ (w : Waiter). records_of w.rec) q waiters)
+fewer-without r conn waiters = grind (arith, length-filter-le, sum_by-filter-le)
 
 pub fewer-left : (conn : ConnId) (waiters : List Waiter)
     → (length (waiters_without_conn conn waiters) ≤ length waiters)
     × (records_waiting (waiters_without_conn conn waiters) ≤ records_waiting waiters)
-fewer-left conn waiters =
-    let q : Waiter → Bool = λ w. not (is_by conn w) in
-    (length-filter-le q waiters, sum_by-filter-le (λ (w : Waiter). records_of w.rec) q waiters)
+fewer-left conn waiters = grind (arith, length-filter-le, sum_by-filter-le)

@@ -1,7 +1,6 @@
 -- How many letters a command sends at most.
-use Rattle.lock_core.proofs.Imports.{◌+◌, ◌≤◌, Bool, true, false, not, if◌then◌else◌, ◌∷◌, [], List, Option, Some, None, length, filter, ap, arith, ConnId, Resource, Deny, filter_swap, length-filter-le, Waiter, is_on, is_waiter, waiters_of, waiters_without, may_own, manager_of, interests_without, Content, Settlement, settlement_of, with_letters_before, grants, grant, held_by, content_granted, granted_letter}
+use Rattle.lock_core.proofs.Imports.{◌+◌, ◌≤◌, Bool, true, false, if◌then◌else◌, ◌∷◌, [], List, Option, Some, None, length, arith, ConnId, Resource, Deny, filter_swap, length-filter-le, Waiter, is_on, waiters_of, waiters_without, manager_of, interests_without, Content, Settlement, settlement_of, with_letters_before, grants, grant, content_granted, granted_letter}
 use Rattle.lock_model.specs.Requests as requests
-use Rattle.lock_model.specs.Commands.Obtain as obtain
 use Rattle.lock_model.specs.Commands.Alter as alter
 use Rattle.lock_model.specs.Commands.Release as release
 use Rattle.lock_model.specs.Commands.Decide as decide
@@ -18,9 +17,7 @@ granted_step false w ws content left h = omega arith
 
 grants_few : (ws : List Waiter) (content : Content) → length (grants ws content).letters ≤ length ws
 grants_few [] content = omega arith
-grants_few (w ∷ ws) content =
-    granted_step (may_own (held_by w) content.interests) w ws content (grants ws (content_granted w content))
-    (grants_few ws (content_granted w content))
+grants_few (w ∷ ws) content = grind (arith, granted_step, grants_few ws (content_granted w content))
 
 pub grant_few : (r : Resource) (content : Content)
     → length (grant r content).letters ≤ length (waiters_of r content.waiters)
@@ -32,13 +29,7 @@ grant_within r content = omega (arith, grant_few r content, length-filter-le (is
 
 fewer_without : (r : Resource) (conn : ConnId) (waiters : List Waiter)
     → length (waiters_of r (waiters_without r conn waiters)) ≤ length (waiters_of r waiters)
-fewer_without r conn waiters =
-    let q : Waiter → Bool = λ (w : Waiter). not (is_waiter r conn w) in
-    omega (
-      arith,
-      ap (λ (l : List Waiter). length l) (filter_swap (is_on r) q waiters),
-      length-filter-le q (filter (is_on r) waiters),
-    )
+fewer_without r conn waiters = grind (arith, filter_swap, length-filter-le)
 
 -- ---- those of a command
 

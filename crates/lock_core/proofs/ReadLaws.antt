@@ -1,5 +1,5 @@
 -- What is read of waiters and of interests, and what is found among them.
-use Rattle.lock_core.proofs.Imports.{◌≡◌, ℕ, ◌+◌, ◌≤◌, Bool, true, false, ◌||◌, cond, if◌then◌else◌, List, [], ◌∷◌, Option, Some, None, is_some, option_map, filter, find, refl, sym, ap, ◌∙◌, arith, list_any, sum_by-cons, any_is_found, Waiter, waiter_of, waiters_with, recorded_by, recorded_of, recorded_in, IsQueue, recorded_less, recorded_more, Interest, records_of, records_waiting, record_refusal, Refusal, NoRecord, first_refusal}
+use Rattle.lock_core.proofs.Imports.{◌≡◌, ◌+◌, ◌≤◌, Bool, true, false, ◌||◌, cond, if◌then◌else◌, List, [], ◌∷◌, Option, Some, None, is_some, option_map, filter, find, refl, sym, ap, ◌∙◌, arith, list_any, sum_by-cons, any_is_found, Waiter, waiter_of, waiters_with, recorded_by, recorded_of, recorded_in, IsQueue, recorded_less, recorded_more, Interest, records_of, records_waiting, record_refusal, Refusal, NoRecord, first_refusal}
 
 -- ---- one that is found
 
@@ -31,22 +31,11 @@ first_of_one (Some refusal) = refl
 -- ---- record data that waiters bring
 
 brought : (w : Waiter) → recorded_by w ≡ records_of w.rec
-brought w = go w.rec
-  where
-    go : (o : Option (List ℕ)) → (if is_some o then 1 else 0) ≡ records_of o
-    go None = refl
-    go (Some rec) = refl
+brought w = grind arith
 
 pub recorded-waiting : (waiters : List Waiter) → recorded_in waiters ≡ records_waiting waiters
 recorded-waiting [] = refl
-recorded-waiting (w ∷ ws) =
-    omega (
-      arith,
-      sum_by-cons recorded_by w ws,
-      sum_by-cons (λ (v : Waiter). records_of v.rec) w ws,
-      brought w,
-      recorded-waiting ws,
-    )
+recorded-waiting (w ∷ ws) = grind (arith, sum_by-cons, brought, recorded-waiting ws)
 
 -- one more waits, in place of its connector's own
 pub waiting-counted_with : (w : Waiter) (waiters : List Waiter) → IsQueue waiters

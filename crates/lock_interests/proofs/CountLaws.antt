@@ -1,6 +1,5 @@
 -- Record data are as many as the interests that have them, where each is of an owner.
-use Rattle.lock_interests.proofs.Imports.{◌≡◌, ℕ, suc, ◌+◌, Bool, true, false, not, ◌&&◌, ◌||◌, ◌==◌, cond, List, [], ◌∷◌, Option, Some, None, is_some, option_map, filter, find, map, length, refl, sym, ap, ◌∙◌, subst, arith, list_any, list_all, and_parts, and_from, false≢true, filter_agree, length-filter_both, ConnId, Resource, Part, same_part, resource_up_to, same_part-eq, same_part-refl, same_part_comm, pairwise, filter_nothing, any_is_found, find-filter, list_any-map, list_all_weaker, list_all-filter, list_all-insertion, list_any-insertion, length-insertion, none_later, length_without, Held, is_interest, has_interest, owners_with, owners_without, in_state, in_retention_of, IsOwners, owners-with, owners-in_state, Waiter, Record, stands_before, is_record, is_of, record_of, has_record, records_with, records_without, records_without_conn, AreRecords, records-filter, records-with, Interest, interests_with, interests_changed, records_of, records_owned, stays, with_alteration, with_record, interests_of, records_put, records_given, AreOwned}
-use Rattle.lock_record.specs.Recorded as book
+use Rattle.lock_interests.proofs.Imports.{◌≡◌, ℕ, suc, ◌+◌, Bool, true, false, not, ◌&&◌, ◌||◌, ◌==◌, cond, List, [], ◌∷◌, Option, Some, None, is_some, option_map, filter, find, map, length, refl, sym, ap, ◌∙◌, subst, arith, list_any, list_all, and_parts, and_from, false≢true, filter_agree, length-filter_both, ConnId, Resource, Part, same_part, resource_up_to, same_part-eq, same_part-refl, same_part_comm, filter_nothing, any_is_found, find-filter, list_any-map, list_all_weaker, list_all-filter, list_all-insertion, list_any-insertion, length-insertion, none_later, length_without, Held, is_interest, has_interest, owners_with, owners_without, in_state, in_retention_of, IsOwners, owners-with, owners-in_state, Waiter, Record, is_record, is_of, record_of, has_record, records_with, records_without, records_without_conn, AreRecords, records-filter, records-with, Interest, interests_with, interests_changed, records_of, records_owned, stays, with_alteration, with_record, interests_of, records_put, records_given, AreOwned}
 use Rattle.lock_model.specs.Interests as interests
 use Rattle.lock_interests.proofs.JoinLaws.{joined-with, joined-changed}
 use Rattle.lock_interests.proofs.ReadLaws.{records-joined}
@@ -48,9 +47,7 @@ some_mapped f (Some x) = refl
 
 pub has_is_some : (records : List Record) (held : Held)
     → is_some (record_of held.r held.conn records) ≡ has_record held.r held.conn records
-has_is_some records held =
-    some_mapped (λ (found : Record). found.rec) (find (is_record held.r held.conn) records)
-    ∙ sym (any_is_found (is_record held.r held.conn) records)
+has_is_some records held = grind (arith, some_mapped, any_is_found)
 
 counted_once : (owners : List Held) (records : List Record) → IsOwners owners → AreRecords records
     → AreOwned owners records
@@ -76,10 +73,7 @@ counted_once owners (x ∷ xs) are kept owned =
     finish m n e f = omega (arith, e, f)
 
     later : AreRecords (x ∷ xs) → AreRecords xs
-    later both = record {
-      ordered = (and_parts (list_all (book.in_order x) xs) (pairwise book.in_order xs) both.ordered).1;
-      one_each = (and_parts (list_all (book.are_apart x) xs) (pairwise book.are_apart xs) both.one_each).1;
-    }
+    later both = grind (arith, and_parts)
 
 pub records_counted : (owners : List Held) (records : List Record) → IsOwners owners → AreRecords records
     → AreOwned owners records → length records ≡ records_owned (interests_of owners records)
@@ -108,10 +102,7 @@ all_filtered p r q h (x ∷ xs) e =
 found_kept : (r : Resource) (conn : ConnId) (q : Held → Bool) (owners : List Held)
     → ((held : Held) → is_interest r conn held ≡ true → q held ≡ true)
     → has_interest r conn owners ≡ true → has_interest r conn (filter q owners) ≡ true
-found_kept r conn q owners keeps has =
-    any_is_found (is_interest r conn) (filter q owners)
-    ∙ ap (λ (o : Option Held). is_some o) (find-filter (is_interest r conn) q keeps owners)
-    ∙ sym (any_is_found (is_interest r conn) owners) ∙ has
+found_kept r conn q owners keeps has = grind (arith, any_is_found, find-filter)
 
 -- what is of another part than this one
 others_part : (r : Resource) (conn : ConnId) (x : Record) → not (is_record r conn x) ≡ true → (held : Held)
@@ -129,12 +120,7 @@ owned-unrecorded r conn owners records owned =
 -- a part goes, on both sides
 pub owned-without : (r : Resource) (conn : ConnId) (owners : List Held) (records : List Record)
     → AreOwned owners records → AreOwned (owners_without r conn owners) (records_without r conn records)
-owned-without r conn owners records owned =
-    all_filtered (λ (x : Record). has_interest x.r x.conn owners)
-    (λ (x : Record). has_interest x.r x.conn (owners_without r conn owners)) (λ x. not (is_record r conn x))
-    (λ x other has. found_kept x.r x.conn (λ held. not (is_interest r conn held)) owners
-    (others_part r conn x other) has)
-    records owned
+owned-without r conn owners records owned = grind (arith, all_filtered, found_kept, others_part)
 
 or_right : (a b : Bool) → b ≡ true → a || b ≡ true
 or_right true b e = refl
@@ -147,24 +133,13 @@ or_left false b e = absurd (false≢true e)
 -- an owner more
 owned-added : (held : Held) (owners : List Held) (records : List Record)
     → AreOwned (owners_without held.r held.conn owners) records → AreOwned (owners_with held owners) records
-owned-added held owners records owned =
-    list_all_weaker (λ (x : Record). has_interest x.r x.conn (owners_without held.r held.conn owners))
-    (λ (x : Record). has_interest x.r x.conn (owners_with held owners))
-    (λ x has. list_any-insertion (is_interest x.r x.conn) (λ (other : Held). resource_up_to other.r held.r) held
-    (owners_without held.r held.conn owners)
-    ∙ or_right (is_interest x.r x.conn held)
-    (list_any (is_interest x.r x.conn) (owners_without held.r held.conn owners)) has)
-    records owned
+owned-added held owners records owned = grind (arith, list_all_weaker, list_any-insertion, or_right)
 
 -- record data more, of an owner
 owned-recorded : (new : Record) (owners : List Held) (records : List Record)
     → has_interest new.r new.conn owners ≡ true → AreOwned owners (records_without new.r new.conn records)
     → AreOwned owners (records_with new records)
-owned-recorded new owners records has owned =
-    list_all-insertion (λ (x : Record). has_interest x.r x.conn owners)
-    (λ (other : Record). stands_before other new) new (records_without new.r new.conn records)
-    ∙ and_from (has_interest new.r new.conn owners)
-    (list_all (λ (x : Record). has_interest x.r x.conn owners) (records_without new.r new.conn records)) has owned
+owned-recorded new owners records has owned = grind (arith, list_all-insertion, and_from)
 
 owned_put : (held : Held) (rec : Option (List ℕ)) (owners : List Held) (records : List Record)
     → AreOwned (owners_with held owners) (records_without held.r held.conn records)
@@ -191,19 +166,7 @@ owned-with held rec owners records owned =
 owned-changed : (f : Held → Held) → ((r : Resource) (conn : ConnId) (held : Held) → is_interest r conn (f held)
     ≡ is_interest r conn held) → (owners : List Held) (records : List Record) → AreOwned owners records
     → AreOwned (map f owners) records
-owned-changed f same owners records owned =
-    list_all_weaker (λ (x : Record). has_interest x.r x.conn owners)
-    (λ (x : Record). has_interest x.r x.conn (map f owners))
-    (λ x has. list_any-map (is_interest x.r x.conn) f owners
-    ∙ agree x.r x.conn owners ∙ has) records owned
-  where
-    agree : (r : Resource) (conn : ConnId) (xs : List Held)
-        → list_any (λ held. is_interest r conn (f held)) xs ≡ list_any (is_interest r conn) xs
-    agree r conn [] = refl
-    agree r conn (x ∷ xs) = either (same r conn x) (agree r conn xs)
-      where
-        either : {a b c d : Bool} → a ≡ b → c ≡ d → a || c ≡ b || d
-        either e f = λ i. e i || f i
+owned-changed f same owners records owned = grind (arith, list_all_weaker, list_any-map)
 
 pub owned-retained : (conn : ConnId) (retained : Bool) (owners : List Held) (records : List Record)
     → AreOwned owners records → AreOwned (map (in_retention_of conn retained) owners) records
@@ -222,9 +185,7 @@ owned_given r conn (Some rec) owners records has owned =
 pub owned-altered : (r : Resource) (conn : ConnId) (excl : Bool) (rec : Option (List ℕ)) (owners : List Held)
     (records : List Record) → has_interest r conn owners ≡ true → AreOwned owners records
     → AreOwned (map (in_state r conn excl) owners) (records_given r conn rec records)
-owned-altered r conn excl rec owners records has owned =
-    owned-changed (in_state r conn excl) (λ other by held. refl) owners (records_given r conn rec records)
-    (owned_given r conn rec owners records has owned)
+owned-altered r conn excl rec owners records has owned = grind (arith, owned-changed, owned_given)
 
 -- ---- a connector departs
 
@@ -280,10 +241,7 @@ owned-gone conn owners records owned =
 length_put : (r : Resource) (conn : ConnId) (rec : Option (List ℕ)) (records : List Record)
     → length (records_put r conn rec records) ≡ length (records_without r conn records) + records_of rec
 length_put r conn None records = omega arith
-length_put r conn (Some rec) records =
-    length-insertion (λ (other : Record). stands_before other (record { r = r; conn = conn; rec = rec }))
-    (record { r = r; conn = conn; rec = rec })
-    (records_without r conn records)
+length_put r conn (Some rec) records = grind (arith, length-insertion)
 
 records_put-kept : (r : Resource) (conn : ConnId) (rec : Option (List ℕ)) (records : List Record)
     → AreRecords records → AreRecords (records_put r conn rec records)
@@ -328,9 +286,7 @@ none_step false f x xs ys c none rest = ap (λ (l : List Interest). x ∷ l) (re
 pub changed_none : (r : Resource) (conn : ConnId) (f : Interest → Interest) (is : List Interest)
     → interests.has_interest r conn is ≡ false → interests_changed r conn f is ≡ is
 changed_none r conn f [] none = refl
-changed_none r conn f (x ∷ xs) none =
-    none_step (interests.is_of r conn x) f x xs (interests_changed r conn f xs) (interests.has_interest r conn xs)
-    none (changed_none r conn f xs)
+changed_none r conn f (x ∷ xs) none = grind (arith, none_step, changed_none r conn f xs)
 
 -- an interest is there where its owner is
 pub has-joined : (r : Resource) (conn : ConnId) (owners : List Held) (records : List Record)
@@ -340,10 +296,7 @@ has-joined r conn owners records = sym (list_any-map (interests.is_of r conn) (w
 length_given : (r : Resource) (conn : ConnId) (rec : Option (List ℕ)) (records : List Record) → is_some rec ≡ true
     → length (records_given r conn rec records) ≡ length (records_without r conn records) + 1
 length_given r conn None records given = absurd (false≢true given)
-length_given r conn (Some rec) records given =
-    length-insertion (λ (other : Record). stands_before other (record { r = r; conn = conn; rec = rec }))
-    (record { r = r; conn = conn; rec = rec })
-    (records_without r conn records)
+length_given r conn (Some rec) records given = grind (arith, length-insertion)
 
 none_given : (r : Resource) (conn : ConnId) (rec : Option (List ℕ)) (records : List Record) → is_some rec ≡ false
     → records_given r conn rec records ≡ records
@@ -361,9 +314,7 @@ pub counted-given : (w : Waiter) (owners : List Held) (records : List Record)
     → length (records_without w.r w.conn records) + 1
     ≡ records_owned (interests_changed w.r w.conn (with_alteration w) (interests_of owners records))
 counted-given w owners records are kept owned given =
-    let parts = and_parts (is_some w.rec) (interests.has_interest w.r w.conn (interests_of owners records)) given in
-    sym (length_given w.r w.conn w.rec records parts.0)
-    ∙ counted-altered w owners records are kept owned (has-joined w.r w.conn owners records ∙ parts.1)
+    grind (arith, and_parts, length_given, counted-altered, has-joined)
 
 pub counted-ungiven : (w : Waiter) (owners : List Held) (records : List Record)
     → IsOwners owners → AreRecords records → AreOwned owners records
@@ -371,15 +322,4 @@ pub counted-ungiven : (w : Waiter) (owners : List Held) (records : List Record)
     → length records
     ≡ records_owned (interests_changed w.r w.conn (with_alteration w) (interests_of owners records))
 counted-ungiven w owners records are kept owned ungiven =
-    by_interest (interests.has_interest w.r w.conn (interests_of owners records)) refl
-  where
-    by_interest : (b : Bool) → interests.has_interest w.r w.conn (interests_of owners records) ≡ b
-        → length records
-        ≡ records_owned (interests_changed w.r w.conn (with_alteration w) (interests_of owners records))
-    by_interest true has =
-        ap length (sym (none_given w.r w.conn w.rec records
-        (without_right (is_some w.rec) (interests.has_interest w.r w.conn (interests_of owners records)) ungiven has)))
-        ∙ counted-altered w owners records are kept owned (has-joined w.r w.conn owners records ∙ has)
-    by_interest false has =
-        records_counted owners records are kept owned
-        ∙ ap records_owned (sym (changed_none w.r w.conn (with_alteration w) (interests_of owners records) has))
+    grind (arith, none_given, without_right, counted-altered, has-joined, records_counted, changed_none)

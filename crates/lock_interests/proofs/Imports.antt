@@ -1,5 +1,5 @@
 -- What proofs here name of other crates, and of this one's definitions. Declares nothing.
-pub use Rattle.std.proofs.Common.{◌≡◌, ℕ, suc, ◌+◌, Bool, true, false, not, ◌&&◌, ◌||◌, ◌==◌, cond, List, [], ◌∷◌, Option, Some, None, is_some, option_map, filter, find, map, length, refl, sym, ap, ◌∙◌, subst, arith, zero, ◌<◌, ◌++◌, drop, get_or, if◌then◌else◌, option_to_list, ◌≤◌, ◌-◌, subst₂, rules, tests, IfOk}
+pub use Rattle.std.proofs.Common.{◌≡◌, ℕ, suc, ◌+◌, Bool, true, false, not, ◌&&◌, ◌||◌, ◌==◌, cond, List, [], ◌∷◌, Option, Some, None, is_some, option_map, filter, find, map, length, refl, sym, ap, ◌∙◌, subst, arith, zero, ◌<◌, ◌++◌, drop, get_or, if◌then◌else◌, option_to_list, ◌≤◌, ◌-◌, subst₂, rules, tests}
 pub use Rattle.std.proofs.lemmas.Bool.{and_parts, and_from, false≢true, eqb-true}
 pub use Rattle.std.proofs.lemmas.Iterator.Consumers.{YieldsList-from_first}
 pub use Rattle.std.proofs.lemmas.Iterator.Search.{all_from_yields_List, find_from_yields_List}
@@ -26,7 +26,7 @@ pub use Rattle.lock_model.specs.Commands.RtDelete.{without_record}
 pub use Rattle.lock_model.specs.Contents.{records_of, records_owned}
 pub use Rattle.lock_model.specs.Departures.{stays, with_retained, interests_left}
 pub use Rattle.lock_model.specs.Grants.{with_alteration, held_by}
-pub use Rattle.lock_model.specs.Interests.{Interest, interests_with, interests_changed, interests_without, are_compatible, may_own, is_managing, manager_of, interest_of, AreInterests}
+pub use Rattle.lock_model.specs.Interests.{Interest, interests_with, interests_changed, interests_without, are_compatible, may_own, manager_of, interest_of, AreInterests}
 pub use Rattle.lock_model.specs.LockQueue.declared.waiters.Waiter.{Waiter}
 pub use Rattle.lock_record.proofs.RecordLaws.{records-filter, records-with}
 pub use Rattle.lock_record.specs.Recorded.{stands_before, is_record, is_of, record_of, has_record, records_with, records_without, records_without_conn, AreRecords}

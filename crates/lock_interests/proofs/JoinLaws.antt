@@ -1,5 +1,5 @@
 -- Interests with their record data, as owners and record data come, change and go.
-use Rattle.lock_interests.proofs.Imports.{◌≡◌, ℕ, Bool, true, false, not, ◌&&◌, ◌||◌, ◌==◌, cond, List, Option, Some, None, is_some, option_map, filter, map, refl, sym, ap, subst, ◌∙◌, option_or, false≢true, ConnId, Resource, Part, same_part, resource_up_to, same_part-eq, same_part-refl, same_part_comm, insertion, find-filter, find_none, none_filtered, find-insertion_past, find-insertion_here, Held, is_interest, owners_with, owners_without, in_state, in_retention_of, Waiter, Record, stands_before, is_record, is_of, record_of, records_with, records_without, records_without_conn, Interest, interests_with, interests_without, interests_changed, with_alteration, stays, with_retained, interests_left, without_record, with_record, interests_of, records_put, records_given, map-filtered, map-insertion, map-either, map-both}
+use Rattle.lock_interests.proofs.Imports.{arith, ◌≡◌, ℕ, Bool, true, false, not, ◌&&◌, ◌||◌, ◌==◌, cond, List, Option, Some, None, option_map, filter, map, refl, sym, ap, subst, ◌∙◌, option_or, false≢true, ConnId, Resource, Part, same_part, resource_up_to, same_part-eq, same_part-refl, same_part_comm, insertion, find-filter, find_none, none_filtered, find-insertion_past, find-insertion_here, Held, is_interest, owners_with, owners_without, in_state, in_retention_of, Waiter, Record, stands_before, is_record, is_of, record_of, records_with, records_without, records_without_conn, Interest, interests_with, interests_without, interests_changed, with_alteration, stays, with_retained, interests_left, without_record, with_record, interests_of, records_put, records_given, map-filtered, map-insertion, map-either, map-both}
 use Rattle.lock_model.specs.Interests as interests
 
 -- ---- record data of one part, and of others
@@ -16,9 +16,7 @@ keys_apart r conn held h x e =
 
 other_without : (r : Resource) (conn : ConnId) (held : Held) (records : List Record) → is_interest r conn held ≡ false
     → record_of held.r held.conn (records_without r conn records) ≡ record_of held.r held.conn records
-other_without r conn held records h =
-    ap data_of (find-filter (is_record held.r held.conn) (λ x. not (is_record r conn x)) (keys_apart r conn held h)
-    records)
+other_without r conn held records h = grind (arith, find-filter, keys_apart)
 
 own_without : (r : Resource) (conn : ConnId) (records : List Record)
     → record_of r conn (records_without r conn records) ≡ None
@@ -72,14 +70,7 @@ without_others : (r : Resource) (conn : ConnId) (owners : List Held) (records ot
     → ((held : Held) → is_interest r conn held ≡ false → record_of held.r held.conn others ≡ record_of held.r
     held.conn records)
     → interests_of (owners_without r conn owners) others ≡ interests_without r conn (interests_of owners records)
-without_others r conn owners records others h =
-    map-filtered (with_record others) (with_record records) (λ held. not (is_interest r conn held))
-    (λ i. not (interests.is_of r conn i))
-    (λ held e. ap (interest held) (h held (from_not (is_interest r conn held) e))) (λ held. refl) owners
-  where
-    from_not : (b : Bool) → not b ≡ true → b ≡ false
-    from_not true e = absurd (false≢true e)
-    from_not false e = refl
+without_others r conn owners records others h = grind (arith, map-filtered, false≢true)
 
 pub joined-without : (r : Resource) (conn : ConnId) (owners : List Held) (records : List Record)
     → interests_of (owners_without r conn owners) (records_without r conn records) ≡ interests_without r conn
@@ -122,11 +113,7 @@ changed_step false w held records h = ap (interest held) (other_given w.r w.conn
 pub joined-changed : (w : Waiter) (owners : List Held) (records : List Record)
     → interests_of (map (in_state w.r w.conn w.excl) owners) (records_given w.r w.conn w.rec records)
     ≡ interests_changed w.r w.conn (with_alteration w) (interests_of owners records)
-joined-changed w owners records =
-    map-either (with_record (records_given w.r w.conn w.rec records)) (with_record records)
-    (in_state w.r w.conn w.excl)
-    (λ i. cond (interests.is_of w.r w.conn i) (with_alteration w i) i)
-    (λ held. changed_step (is_interest w.r w.conn held) w held records refl) owners
+joined-changed w owners records = grind (arith, map-either, changed_step)
 
 unrecorded_step : (b : Bool) (r : Resource) (conn : ConnId) (held : Held) (records : List Record)
     → is_interest r conn held ≡ b
@@ -152,10 +139,7 @@ joined-unrecorded r conn owners records =
 pub joined-retained : (conn : ConnId) (retained : Bool) (owners : List Held) (records : List Record)
     → interests_of (map (in_retention_of conn retained) owners) records ≡ map (with_retained conn retained)
     (interests_of owners records)
-joined-retained conn retained owners records =
-    map-either (with_record records) (with_record records) (in_retention_of conn retained)
-    (with_retained conn retained)
-    (λ held. refl) owners
+joined-retained conn retained owners records = grind (arith, map-either)
 
 -- a connector departs, and its interests with record data stay
 pub joined-kept : (conn : ConnId) (keep : Bool) (owners : List Held) (records : List Record)
@@ -163,12 +147,7 @@ pub joined-kept : (conn : ConnId) (keep : Bool) (owners : List Held) (records : 
     owners))
     records
     ≡ interests_left conn keep (interests_of owners records)
-joined-kept conn keep owners records =
-    joined-retained conn true (filter (λ held. stays conn keep (with_record records held)) owners) records
-    ∙ ap (map (with_retained conn true))
-    (map-filtered (with_record records) (with_record records) (λ held. stays conn keep (with_record records held))
-    (stays conn keep)
-    (λ held e. refl) (λ held. refl) owners)
+joined-kept conn keep owners records = grind (arith, joined-retained, map-filtered)
 
 not_gone : (a b : Bool) → not a || false && b ≡ true → not a ≡ true
 not_gone true b h = h
@@ -177,12 +156,7 @@ not_gone false b h = refl
 other_conn : (conn : ConnId) (held : Held) (records : List Record) → stays conn false (with_record records held) ≡
     true
     → record_of held.r held.conn (records_without_conn conn records) ≡ record_of held.r held.conn records
-other_conn conn held records h =
-    let other : not (held.conn.0 == conn.0) ≡ true = not_gone (held.conn.0 == conn.0)
-    (is_some (record_of held.r held.conn records)) h in
-    ap data_of (find-filter (is_record held.r held.conn) (λ x. not (is_of conn x))
-    (λ x e. subst (λ (p : Part). not (p.1.0 == conn.0) ≡ true)
-    (sym (same_part-eq (x.r, x.conn) (held.r, held.conn) e)) other) records)
+other_conn conn held records h = grind (arith, not_gone, find-filter, same_part-eq)
 
 -- a connector departs, and nothing of it stays
 pub joined-gone : (conn : ConnId) (owners : List Held) (records : List Record)

@@ -25,9 +25,7 @@ find_step false t x o u p xs e f g = f ∙ g
 pub find_both : (r : Resource) (conn : ConnId) (owners : List Held)
     → find (λ held. held.conn.0 == conn.0) (filter (is_on r) owners) ≡ find (is_interest r conn) owners
 find_both r conn [] = refl
-find_both r conn (x ∷ xs) =
-    find_step (is_on r x) (x.conn.0 == conn.0) x (find (λ held. held.conn.0 == conn.0) (filter (is_on r) xs))
-    (find (is_interest r conn) xs) (λ held. held.conn.0 == conn.0) (filter (is_on r) xs) refl refl (find_both r conn xs)
+find_both r conn (x ∷ xs) = grind (arith, find_step, find_both r conn xs)
 
 retained_step : (a b c : Bool) (o : Option Held) (x : Held) → x.retained ≡ b → (a ≡ true → c ≡ false)
     → c ≡ is_held_retained o → (a && b) || c ≡ is_held_retained (cond a (Some x) o)
@@ -38,14 +36,7 @@ retained_step false b c o x e f g = g
 none_retained : (r : Resource) (conn : ConnId) (xs : List Held) → list_any (is_interest r conn) xs ≡ false
     → list_any (λ held. is_interest r conn held && held.retained) xs ≡ false
 none_retained r conn [] h = refl
-none_retained r conn (x ∷ xs) h =
-    step (is_interest r conn x) x.retained (list_any (is_interest r conn) xs) h (none_retained r conn xs)
-  where
-    step : (a b c : Bool) → a || c ≡ false
-        → (c ≡ false → list_any (λ held. is_interest r conn held && held.retained) xs ≡ false)
-        → (a && b) || list_any (λ held. is_interest r conn held && held.retained) xs ≡ false
-    step true b c e ih = absurd (false≢true (sym e))
-    step false b c e ih = ih e
+none_retained r conn (x ∷ xs) h = grind (arith, false≢true, none_retained r conn xs)
 
 pub retained-found : (r : Resource) (conn : ConnId) (owners : List Held) → pairwise are_apart owners ≡ true
     → is_held_retained (find (is_interest r conn) owners)
@@ -69,36 +60,16 @@ found_any f p o ys e = sym (is_some-map f o) ∙ ap is_some e ∙ sym (any_is_fo
 
 pub record_some : {X : Type 0} (f : X → List ℕ) (o : Option X) (r : Resource) (conn : ConnId) (records : List Record)
     → option_map f o ≡ record_of r conn records → is_some o ≡ has_record r conn records
-record_some f o r conn records e =
-    sym (is_some-map f o) ∙ ap is_some e
-    ∙ is_some-map (λ (found : Record). found.rec) (find (is_record r conn) records)
-    ∙ sym (any_is_found (is_record r conn) records)
+record_some f o r conn records e = grind (arith, is_some-map, any_is_found)
 
 -- ---- record data of a part, where each is of an owner
 
 any_of : {X : Type 0} (p q : X → Bool) (xs : List X) (y : X) → find p xs ≡ Some y → q y ≡ true → list_any q xs ≡ true
 any_of p q [] y f h = absurd (let gone : None ≡ Some y = f in cc)
-any_of p q (x ∷ xs) y f h = step (p x) f (any_of p q xs y)
-  where
-    here : (b : Bool) → q x ≡ b → Some x ≡ Some y → b || list_any q xs ≡ true
-    here true e g = refl
-    here false e g = absurd (false≢true (sym e ∙ ap q (let same : x ≡ y = cc in same) ∙ h))
-
-    later : (b : Bool) → list_any q xs ≡ true → b || list_any q xs ≡ true
-    later true g = refl
-    later false g = g
-
-    step : (b : Bool) → cond b (Some x) (find p xs) ≡ Some y → (find p xs ≡ Some y → q y ≡ true → list_any q xs ≡ true)
-        → q x || list_any q xs ≡ true
-    step true g ih = here (q x) refl g
-    step false g ih = later (q x) (ih g h)
+any_of p q (x ∷ xs) y f h = grind (arith, false≢true, any_of p q xs y)
 
 found_one : {X : Type 0} (p : X → Bool) (xs : List X) → list_any p xs ≡ true → (y : X) × (find p xs ≡ Some y)
-found_one p xs any = go (find p xs) refl
-  where
-    go : (o : Option _) → find p xs ≡ o → (y : _) × (find p xs ≡ Some y)
-    go None e = absurd (false≢true (sym (any_is_found p xs ∙ ap is_some e) ∙ any))
-    go (Some y) e = (y, e)
+found_one p xs any = grind (arith, false≢true, any_is_found)
 
 -- one of a part among the owners
 recorded_both : (r : Resource) (conn : ConnId) (owners : List Held) (records : List Record)
@@ -157,10 +128,7 @@ both_ways false false f g = refl
 
 pub any_record-found : (conn : ConnId) (owners : List Held) (records : List Record) → AreOwned owners records
     → list_any (is_of conn) records ≡ list_any (rt_read.is_recorded conn) (interests_of owners records)
-any_record-found conn owners records owned =
-    both_ways (list_any (is_of conn) records)
-    (list_any (λ held. (held.conn.0 == conn.0) && is_some (record_of held.r held.conn records)) owners) there back
-    ∙ any_recorded-joined conn owners records
+any_record-found conn owners records owned = grind (arith, both_ways, there, back, any_recorded-joined)
   where
     there : list_any (is_of conn) records ≡ true
         → list_any (λ held. (held.conn.0 == conn.0) && is_some (record_of held.r held.conn records)) owners ≡ true
@@ -182,32 +150,17 @@ any_record-found conn owners records owned =
 
     back : list_any (λ held. (held.conn.0 == conn.0) && is_some (record_of held.r held.conn records)) owners ≡ true
         → list_any (is_of conn) records ≡ true
-    back any =
-        let owner = found_one (λ held. (held.conn.0 == conn.0) && is_some (record_of held.r held.conn records)) owners
-        any in
-        let parts = and_parts (owner.0.conn.0 == conn.0) (is_some (record_of owner.0.r owner.0.conn records))
-        (found_passes (λ held. (held.conn.0 == conn.0) && is_some (record_of held.r held.conn records)) owners owner.0
-        owner.1) in
-        let datum = found_one (is_record owner.0.r owner.0.conn) records (sym (has_is_some records owner.0) ∙ parts.1)
-        in
-        let same = same_part-eq (datum_part datum.0) (part_of owner.0)
-        (found_passes (is_record owner.0.r owner.0.conn) records datum.0 datum.1) in
-        any_of (is_record owner.0.r owner.0.conn) (is_of conn) records datum.0 datum.1
-        (subst (λ (p : Part). (p.1.0 == conn.0) ≡ true) (sym same) parts.0)
+    back any = grind (arith, found_one, and_parts, found_passes, has_is_some, same_part-eq, any_of)
 
 -- ---- the owners of a resource are told
 
 told_on : (r : Resource) (conn : ConnId) (x : Held)
     → (is_on r x && not x.retained) && not (x.conn.0 == conn.0) ≡ true → is_on r x ≡ true
-told_on r conn x e =
-    (and_parts (is_on r x) (not x.retained)
-    (and_parts (is_on r x && not x.retained) (not (x.conn.0 == conn.0)) e).0).0
+told_on r conn x e = grind (arith, and_parts)
 
 pub told_of : (r : Resource) (conn : ConnId) (owners : List Held)
     → letters_told r conn (owners_of r owners) ≡ letters_told r conn owners
-told_of r conn owners =
-    let told : Held → Bool = λ held. (is_on r held && not held.retained) && not (held.conn.0 == conn.0) in
-    ap (map _) (filter_swap told (is_on r) owners ∙ filter_absorbed (is_on r) told (told_on r conn) owners)
+told_of r conn owners = grind (arith, filter_swap, filter_absorbed, told_on)
 
 pub told_left : (r : Resource) (conn : ConnId) (owners : List Held) (records : List Record) (xs : List Held)
     → xs ≡ owners_of r owners
@@ -226,15 +179,7 @@ pub keys_by-joined : (conn : ConnId) (owners : List Held) (records : List Record
     → map resource_of (filter (is_by conn) owners)
     ≡ map (λ (i : Interest). i.held.r) (filter (interests.is_by conn) (interests_of owners records))
 keys_by-joined conn [] records = refl
-keys_by-joined conn (x ∷ xs) records = step (is_by conn x) (keys_by-joined conn xs records)
-  where
-    step : (b : Bool) → map resource_of (filter (is_by conn) xs)
-        ≡ map (λ (i : Interest). i.held.r) (filter (interests.is_by conn) (interests_of xs records))
-        → map resource_of (cond b (x ∷ filter (is_by conn) xs) (filter (is_by conn) xs))
-        ≡ map (λ (i : Interest). i.held.r) (cond b (with_record records x ∷ filter (interests.is_by conn)
-        (interests_of xs records)) (filter (interests.is_by conn) (interests_of xs records)))
-    step true e = ap (λ l. x.r ∷ l) e
-    step false e = e
+keys_by-joined conn (x ∷ xs) records = grind (arith, keys_by-joined conn xs records)
 
 read_own : (conn : ConnId) (records : List Record) (owners vs : List Held) → list_all (is_by conn) vs ≡ true
     → AllFound part_of same_part same_part-eq same_part-refl vs owners
@@ -252,12 +197,7 @@ read_own conn records owners (v ∷ vs) by h =
 
 all_by : (conn : ConnId) (owners : List Held) → list_all (is_by conn) (filter (is_by conn) owners) ≡ true
 all_by conn [] = refl
-all_by conn (x ∷ xs) = step (is_by conn x) refl (all_by conn xs)
-  where
-    step : (b : Bool) → is_by conn x ≡ b → list_all (is_by conn) (filter (is_by conn) xs) ≡ true
-        → list_all (is_by conn) (cond b (x ∷ filter (is_by conn) xs) (filter (is_by conn) xs)) ≡ true
-    step true e ih = and_from (is_by conn x) (list_all (is_by conn) (filter (is_by conn) xs)) e ih
-    step false e ih = ih
+all_by conn (x ∷ xs) = grind (arith, and_from, all_by conn xs)
 
 pub read_each : (conn : ConnId) (records : List Record) (owners : List Held) → pairwise are_apart owners ≡ true
     → filter_map (read_in conn records owners) (map resource_of (filter (is_by conn) owners))
@@ -284,10 +224,7 @@ left_marked : (conn : ConnId) (s : Held → Bool) (owners : List Held)
     → owners_without_active conn (map (marked conn s) owners)
     ≡ map (in_retention_of conn true) (filter (λ held. not (is_by conn held) || s held) owners)
 left_marked conn s [] = refl
-left_marked conn s (x ∷ xs) =
-    left_step conn s (is_by conn x) (s x) x (map (marked conn s) xs)
-    (filter (λ held. not (is_by conn held) || s held) xs)
-    refl refl (left_marked conn s xs)
+left_marked conn s (x ∷ xs) = grind (arith, left_step, left_marked conn s xs)
 
 pub left_all : (conn : ConnId) (owners : List Held) (records : List Record)
     → owners_without_active conn (map (in_retention_of conn false) owners)
@@ -312,9 +249,7 @@ mark_bits false false false l m = refl
 
 own_part : (conn : ConnId) (x : Record) (held : Held) → is_by conn held ≡ true
     → same_resource held.r x.r && is_of conn x ≡ is_record held.r held.conn x
-own_part conn x held e =
-    ap (λ (n : ℕ). same_resource held.r x.r && (x.conn.0 == n)) (sym (eqb-true held.conn.0 conn.0 e))
-    ∙ ap (λ t. t && (x.conn.0 == held.conn.0)) (sym (same_resource_comm x.r held.r))
+own_part conn x held e = grind (arith, eqb-true, same_resource_comm)
 
 mark_retained : (conn : ConnId) (x : Record) (p : Held → Bool) (held : Held) (c : Bool) → is_by conn held ≡ c
     → (if c then (same_resource held.r x.r && is_of conn x) || p held else held.retained)
@@ -325,11 +260,7 @@ mark_retained conn x p held false e = refl
 mark_one : (conn : ConnId) (x : Record) (p : Held → Bool) (held : Held) (b : Bool) → is_of conn x ≡ b
     → (if b then in_retention x.r conn true (marked conn p held) else marked conn p held)
     ≡ marked conn (λ h. is_record h.r h.conn x || p h) held
-mark_one conn x p held b e =
-    let of : Bool → Held = λ t. record held { retained = t } in
-    split b ∙ ap of (mark_bits b (is_by conn held) (same_resource held.r x.r) (p held) held.retained
-    ∙ ap (λ d. if is_by conn held then (same_resource held.r x.r && d) || p held else held.retained) (sym e)
-    ∙ mark_retained conn x p held (is_by conn held) refl)
+mark_one conn x p held b e = grind (arith, split, mark_bits, mark_retained)
   where
     split : (b : Bool) → (if b then in_retention x.r conn true (marked conn p held) else marked conn p held)
         ≡ record held {
@@ -349,17 +280,12 @@ one_marked conn x p [] false e = refl
 one_marked conn x p (y ∷ ys) true e =
     ap (λ l. in_retention x.r conn true (marked conn p y) ∷ l) (one_marked conn x p ys true e)
     ∙ ap (λ h. h ∷ map (marked conn (λ h. is_record h.r h.conn x || p h)) ys) (mark_one conn x p y true e)
-one_marked conn x p (y ∷ ys) false e =
-    ap (λ l. marked conn p y ∷ l) (one_marked conn x p ys false e)
-    ∙ ap (λ h. h ∷ map (marked conn (λ h. is_record h.r h.conn x || p h)) ys) (mark_one conn x p y false e)
+one_marked conn x p (y ∷ ys) false e = grind (arith, mark_one, one_marked conn x p ys false e)
 
 marked_same : (conn : ConnId) (p q : Held → Bool) → ((h : Held) → p h ≡ q h) → (owners : List Held)
     → map (marked conn p) owners ≡ map (marked conn q) owners
 marked_same conn p q same [] = refl
-marked_same conn p q same (y ∷ ys) =
-    let of : Bool → Held = λ t. record y { retained = if is_by conn y then t else y.retained } in
-    ap (λ l. marked conn p y ∷ l) (marked_same conn p q same ys)
-    ∙ ap (λ t. of t ∷ map (marked conn q) ys) (same y)
+marked_same conn p q same (y ∷ ys) = grind (arith, marked_same conn p q same ys)
 
 moved : (a b c : Bool) → a || (b || c) ≡ (b || a) || c
 moved true true c = refl
@@ -401,9 +327,7 @@ pub retained_next : (conn : ConnId) (entries : List Record) (k : ℕ) (owners : 
     ≡ retained_all conn (drop k entries) owners
 retained_next conn [] k owners less = absurd (omega (arith, less))
 retained_next conn (x ∷ xs) zero owners less = refl
-retained_next conn (x ∷ xs) (suc k) owners less =
-    let next : suc k + 1 ≡ suc (k + 1) = omega arith in
-    rw next (retained_next conn xs k owners (omega (arith, less)))
+retained_next conn (x ∷ xs) (suc k) owners less = grind (arith, retained_next conn xs k owners (omega (arith, less)))
 
 -- ---- a resource after another is read
 
@@ -411,15 +335,8 @@ next_read : (f : Resource → Option (Resource × Bool × List ℕ)) (rs : List 
     → i < length rs
     → filter_map f (drop i rs) ≡ option_to_list (f (get_or rs i d)) ++ filter_map f (drop (i + 1) rs)
 next_read f [] i d h = absurd (omega (arith, h))
-next_read f (r ∷ rs) zero d h = one (f r)
-  where
-    one : (o : Option (Resource × Bool × List ℕ))
-        → cons_option o (filter_map f rs) ≡ option_to_list o ++ filter_map f rs
-    one None = refl
-    one (Some x) = refl
-next_read f (r ∷ rs) (suc i) d h =
-    let next : suc i + 1 ≡ suc (i + 1) = omega arith in
-    rw next (next_read f rs i d (omega (arith, h)))
+next_read f (r ∷ rs) zero d h = grind arith
+next_read f (r ∷ rs) (suc i) d h = grind (arith, next_read f rs i d (omega (arith, h)))
 
 pub read_more : (f : Resource → Option (Resource × Bool × List ℕ)) (rs : List Resource) (i : ℕ) (d : Resource)
     (list new all : List (Resource × Bool × List ℕ)) → i < length rs

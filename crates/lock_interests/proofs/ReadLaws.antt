@@ -1,5 +1,5 @@
 -- What is read of interests is read of their owners and their record data.
-use Rattle.lock_interests.proofs.Imports.{◌≡◌, ℕ, ◌+◌, ◌≤◌, ◌<◌, ◌-◌, get_or, Bool, true, false, not, ◌&&◌, ◌||◌, ◌==◌, cond, List, [], ◌∷◌, Option, Some, None, is_some, option_map, length, filter, find, map, refl, sym, ap, ◌∙◌, arith, list_any, list_all, filter_map, cons_option, slice_get, false≢true, sum_by-cons, length-map, slice_get-map, slice_get-get_or, ConnId, Resource, same_resource, same_resource_comm, list_any-map, Held, is_on, is_interest, owners_of, Record, record_of, Interest, are_compatible, may_own, is_managing, manager_of, interest_of, interests_with, interests_without, interests_changed, records_of, records_owned, Letter, Inside, InterestsView, interests_view, with_record, interests_of, letters_told, record_read, records_read}
+use Rattle.lock_interests.proofs.Imports.{◌≡◌, ℕ, ◌+◌, ◌≤◌, ◌<◌, ◌-◌, get_or, Bool, true, false, not, ◌&&◌, ◌||◌, ◌==◌, cond, List, [], ◌∷◌, Option, Some, None, is_some, option_map, length, filter, find, map, refl, sym, ap, ◌∙◌, arith, list_any, list_all, filter_map, cons_option, slice_get, false≢true, sum_by-cons, length-map, slice_get-map, slice_get-get_or, ConnId, Resource, same_resource_comm, list_any-map, Held, is_interest, owners_of, Record, record_of, Interest, are_compatible, may_own, manager_of, interest_of, records_of, records_owned, Letter, Inside, InterestsView, interests_view, with_record, interests_of, letters_told, record_read, records_read}
 use Rattle.lock_model.specs.Interests as interests
 use Rattle.lock_model.specs.Interests.{is_by}
 use Rattle.lock_model.specs.Commands.RtRead as rt_read
@@ -16,22 +16,14 @@ all_step p false x xs c e = e
 pub may_own-joined : (held : Held) (owners : List Held) (records : List Record)
     → list_all (are_compatible held) (owners_of held.r owners) ≡ may_own held (interests_of owners records)
 may_own-joined held [] records = refl
-may_own-joined held (x ∷ xs) records =
-    all_step (are_compatible held) (same_resource x.r held.r) x (owners_of held.r xs)
-    (may_own held (interests_of xs records))
-    (may_own-joined held xs records)
-    ∙ ap (λ b. (not b || are_compatible held x) && may_own held (interests_of xs records))
-    (same_resource_comm x.r held.r)
+may_own-joined held (x ∷ xs) records = grind (arith, all_step, same_resource_comm, may_own-joined held xs records)
 
 -- and with those that are left to ask of what is seen of all
 pub may_own_beside : (held : Held) (i : Inside) (view : InterestsView) (left : List Held) (all : Bool)
     → interests_view i ≡ view → left ≡ owners_of held.r i.owners.owners
     → all ≡ list_all (are_compatible held) left
     → all ≡ may_own held view.interests
-may_own_beside held i view left all seen is each =
-    each ∙ ap (λ (l : List Held). list_all (are_compatible held) l) is
-    ∙ may_own-joined held i.owners.owners i.records.records
-    ∙ ap (λ (v : InterestsView). may_own held v.interests) seen
+may_own_beside held i view left all seen is each = grind (arith, may_own-joined)
 
 manager_step : (a b : Bool) (x : Held) (xs : List Held) (o : Option ConnId) (i : Interest) (is : Option Interest)
     → x.retained ≡ b
@@ -49,10 +41,7 @@ pub manager-joined : (r : Resource) (owners : List Held) (records : List Record)
     → option_map (λ (held : Held). held.conn) (find (λ (held : Held). not held.retained) (owners_of r owners)) ≡
     manager_of r (interests_of owners records)
 manager-joined r [] records = refl
-manager-joined r (x ∷ xs) records =
-    manager_step (is_on r x) x.retained x (owners_of r xs) None (with_record records x)
-    (find (is_managing r) (interests_of xs records)) refl refl
-    (manager-joined r xs records)
+manager-joined r (x ∷ xs) records = grind (arith, manager_step, manager-joined r xs records)
 
 found_step : (b : Bool) (x : Held) (rec : Option (List ℕ)) (o : Option Held) (i : Option Interest)
     → o ≡ option_map (λ (j : Interest). j.held) i
@@ -64,10 +53,7 @@ pub part-joined : (r : Resource) (conn : ConnId) (owners : List Held) (records :
     → find (is_interest r conn) owners ≡ option_map (λ (i : Interest). i.held)
     (interest_of r conn (interests_of owners records))
 part-joined r conn [] records = refl
-part-joined r conn (x ∷ xs) records =
-    found_step (is_interest r conn x) x (record_of x.r x.conn records) (find (is_interest r conn) xs)
-    (interest_of r conn (interests_of xs records))
-    (part-joined r conn xs records)
+part-joined r conn (x ∷ xs) records = grind (arith, found_step, part-joined r conn xs records)
 
 pub any_recorded-joined : (conn : ConnId) (owners : List Held) (records : List Record)
     → list_any (λ held. (held.conn.0 == conn.0) && is_some (record_of held.r held.conn records)) owners
@@ -135,11 +121,7 @@ told_step r conn false x rec xs is e = e
 pub told-joined : (r : Resource) (conn : ConnId) (owners : List Held) (records : List Record)
     → letters_told r conn owners ≡ decide.notify_letters r conn (interests_of owners records)
 told-joined r conn [] records = refl
-told-joined r conn (x ∷ xs) records =
-    told_step r conn ((is_on r x && not x.retained) && not (x.conn.0 == conn.0)) x (record_of x.r x.conn records)
-    (filter (λ held. (is_on r held && not held.retained) && not (held.conn.0 == conn.0)) xs)
-    (filter (decide.is_told r conn) (interests_of xs records))
-    (told-joined r conn xs records)
+told-joined r conn (x ∷ xs) records = grind (arith, told_step, told-joined r conn xs records)
 
 read_step : (records : List Record) (b : Bool) (x : Held) (xs : List Held) (is : List Interest)
     → filter_map (λ held. record_read held (record_of held.r held.conn records)) xs ≡ filter_map rt_read.record_in is
@@ -152,20 +134,14 @@ pub read-joined : (conn : ConnId) (records : List Record) (owners : List Held)
     → records_read conn records owners ≡ filter_map rt_read.record_in
     (filter (is_by conn) (interests_of owners records))
 read-joined conn records [] = refl
-read-joined conn records (x ∷ xs) =
-    read_step records (x.conn.0 == conn.0) x (filter (λ held. held.conn.0 == conn.0) xs)
-    (filter (is_by conn) (interests_of xs records))
-    (read-joined conn records xs)
+read-joined conn records (x ∷ xs) = grind (arith, read_step, read-joined conn records xs)
 
 -- the last interest is that of the last owner
 pub last-joined : (owners : List Held) (records : List Record) (last : Held)
     → slice_get owners (length owners - 1) ≡ Some last
     → slice_get (interests_of owners records) (length (interests_of owners records) - 1)
     ≡ Some (with_record records last)
-last-joined owners records last h =
-    ap (λ (n : ℕ). slice_get (interests_of owners records) (n - 1)) (length-map owners (with_record records))
-    ∙ slice_get-map (with_record records) owners (length owners - 1)
-    ∙ ap (λ (o : Option Held). option_map (with_record records) o) h
+last-joined owners records last h = grind (arith, length-map, slice_get-map)
 
 pub last_there : (owners : List Held) → 0 < length owners → slice_get owners (length owners - 1) ≡ None → ⊥
 last_there [] some h = absurd (omega (arith, some))

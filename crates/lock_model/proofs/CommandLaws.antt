@@ -1,5 +1,5 @@
 -- Every command leads from content to content.
-use Rattle.lock_model.proofs.Imports.{◌≡◌, ℕ, ◌+◌, ◌≤◌, Bool, true, false, not, cond, List, [], ◌∷◌, Option, Some, None, is_some, length, map, nat_le, refl, ap, ◌∙◌, arith, list_all, and_parts, and_from, not-true, leb-true, length-map, Caps, ConnId, Refusal, StillPending, RecordsFull, Resource, Decision, Keep, Deny, Notify, LockCmd, Obtain, Alter, Release, Decide, RtRead, RtDelete, same_part, first_refusal, list_all-filter, list_all-filter_same, list_all_always, all_from_none, any_is_found, length-filter-le, sum_by-filter-le, list_all-insertion, length-insertion, Waiter, is_waiter, waits, waiters_without, stands_before, Interest, is_of, interest_of, has_interest, interests_with, interests_without, interests_changed, may_own, Content, IsContent, is_due, records_of, records_in, settlement_of, held_by, interests_granted, grant, interested_refusal, interest_refusal, records_refusal, content_asked, wait_settlement, cause, done, queue-filter, queue-with}
+use Rattle.lock_model.proofs.Imports.{◌≡◌, ℕ, ◌+◌, ◌≤◌, Bool, true, false, not, cond, List, [], ◌∷◌, Option, Some, None, is_some, length, map, refl, ◌∙◌, arith, list_all, and_parts, and_from, not-true, leb-true, length-map, Caps, ConnId, Refusal, StillPending, Resource, Decision, Keep, Deny, Notify, LockCmd, Obtain, Alter, Release, Decide, RtRead, RtDelete, same_part, first_refusal, list_all-filter, list_all-filter_same, list_all_always, all_from_none, any_is_found, length-filter-le, sum_by-filter-le, list_all-insertion, length-insertion, Waiter, is_waiter, waits, waiters_without, stands_before, Interest, is_of, has_interest, interests_with, interests_without, interests_changed, may_own, Content, IsContent, is_due, records_of, records_in, settlement_of, held_by, interests_granted, grant, interested_refusal, interest_refusal, records_refusal, content_asked, wait_settlement, cause, done, queue-filter, queue-with}
 use Rattle.lock_model.specs.Grants as grants
 use Rattle.lock_model.specs.Commands.Obtain as obtain
 use Rattle.lock_model.specs.Commands.Alter as alter
@@ -39,9 +39,7 @@ interested None h = absurd (cc)
 interested (Some interest) h = refl
 
 within : (caps : Caps) (content : Content) → records_refusal caps content ≡ None → records_in content ≤ caps.elements
-within caps content h =
-    leb-true (records_in content) caps.elements
-    (passed (nat_le (records_in content) caps.elements) (RecordsFull caps.elements) h)
+within caps content h = grind (arith, leb-true, passed)
 
 -- ---- requests
 
@@ -79,9 +77,7 @@ obtained : (caps : Caps) (w : Waiter) (content : Content) → IsContent caps con
     → is_due content.interests w ≡ true → (b : Bool) → obtain.at_once w content ≡ b
     → records_refusal caps (content_asked b w content) ≡ None
     → IsContent caps (cond b (settlement_of (content_asked true w content)) (wait_settlement w content)).content
-obtained caps w content is out due true e few =
-    content-at_once caps w content is out
-    (and_parts (not (obtain.is_awaited w.r content.waiters)) (may_own (held_by w) content.interests) e).1 few
+obtained caps w content is out due true e few = grind (arith, content-at_once, and_parts)
 obtained caps w content is out due false e few = content-waiting caps w content is due few
 
 pub content-obtain : (caps : Caps) (content : Content) (by : ConnId) (r : Resource) (excl : Bool)
@@ -89,12 +85,7 @@ pub content-obtain : (caps : Caps) (content : Content) (by : ConnId) (r : Resour
     → cause caps content by (Obtain r excl rec) ≡ None
     → IsContent caps (obtain.after (obtain.request by r excl rec) content).content
 content-obtain caps content by r excl rec is h =
-    let w = obtain.request by r excl rec in
-    let causes = none_hold (obtain.causes caps w content) h in
-    let out : waits r by content.waiters ≡ false = unrefused (waits r by content.waiters) StillPending causes.0 in
-    let none : has_interest r by content.interests ≡ false =
-    any_is_found (is_of r by) content.interests ∙ uninterested (interest_of r by content.interests) causes.1.0 in
-    obtained caps w content is out (ap not none) (obtain.at_once w content) refl causes.1.1.0
+    grind (arith, none_hold, unrefused, any_is_found, uninterested, obtained)
 
 altered : (caps : Caps) (w : Waiter) (content : Content) → IsContent caps content
     → waits w.r w.conn content.waiters ≡ false
@@ -109,13 +100,7 @@ pub content-alter : (caps : Caps) (content : Content) (by : ConnId) (r : Resourc
     (rec : Option (List ℕ)) → IsContent caps content
     → cause caps content by (Alter r excl rec) ≡ None
     → IsContent caps (alter.after (alter.request by r excl rec) content).content
-content-alter caps content by r excl rec is h =
-    let w = alter.request by r excl rec in
-    let causes = none_hold (alter.causes caps w content) h in
-    let out : waits r by content.waiters ≡ false = unrefused (waits r by content.waiters) StillPending causes.0 in
-    let there : has_interest r by content.interests ≡ true =
-    any_is_found (is_of r by) content.interests ∙ interested (interest_of r by content.interests) causes.1.0 in
-    altered caps w content is out there (alter.at_once w content) refl causes.1.1.0
+content-alter caps content by r excl rec is h = grind (arith, none_hold, unrefused, any_is_found, interested, altered)
 
 -- ---- interests and waiters go
 
@@ -190,14 +175,7 @@ abbrev pub unrecorded : Resource → ConnId → Interest → Interest
 unrecorded r conn x = cond (is_of r conn x) (rt_delete.without_record x) x
 
 unrecorded-keeps : (r : Resource) (conn : ConnId) → KeepsState (unrecorded r conn)
-unrecorded-keeps r conn =
-    record {
-      part = record {
-        r = λ x. ap (λ held. held.r) (unrecorded_r (is_of r conn x) x);
-        conn = λ x. ap (λ held. held.conn) (unrecorded_r (is_of r conn x) x);
-      };
-      excl = λ x. ap (λ held. held.excl) (unrecorded_r (is_of r conn x) x);
-    }
+unrecorded-keeps r conn = grind (arith, unrecorded_r)
 
 content-unrecorded : (caps : Caps) (r : Resource) (conn : ConnId) (content : Content) → IsContent caps content
     → IsContent caps (rt_delete.content_unrecorded r conn content)
@@ -271,13 +249,7 @@ granted_items false w interests = length-with (record { held = held_by w; rec = 
 asked_items : (b : Bool) (w : Waiter) (content : Content) → items_in (content_asked b w content) ≤ items_in content +
     1
 asked_items true w content = omega (arith, granted_items w.alter w content.interests)
-asked_items false w content =
-    let rest = waiters_without w.r w.conn content.waiters in
-    omega (
-      arith,
-      length-insertion (λ other. stands_before other w) w rest,
-      length-filter-le (λ v. not (is_waiter w.r w.conn v)) content.waiters,
-    )
+asked_items false w content = grind (arith, length-insertion, length-filter-le)
 
 obtained_items : (w : Waiter) (content : Content) (b : Bool)
     → items_in (cond b (settlement_of (content_asked true w content)) (wait_settlement w content)).content ≤ items_in
@@ -326,11 +298,7 @@ pub items-done : (caps : Caps) (content : Content) (by : ConnId) (cmd : LockCmd)
     → cause caps content by cmd ≡ None → items_in (done content by cmd).state ≤ items_in content + 1
 items-done caps content by (Obtain r excl rec) is h =
     let w = obtain.request by r excl rec in obtained_items w content (obtain.at_once w content)
-items-done caps content by (Alter r excl rec) is h =
-    let w = alter.request by r excl rec in
-    let causes = none_hold (alter.causes caps w content) h in
-    let out : waits r by content.waiters ≡ false = unrefused (waits r by content.waiters) StillPending causes.0 in
-    altered_items caps w content is out (alter.at_once w content) refl causes.1.1.0
+items-done caps content by (Alter r excl rec) is h = grind (arith, none_hold, unrefused, altered_items)
 items-done caps content by (Release r) is h =
     let causes = none_hold (release.causes by r content) h in
     let gone : Content = record content { interests = interests_without r by content.interests } in

@@ -18,12 +18,7 @@ pub led_nowhere : (caps : Caps) (content : Content) → IsContent caps content �
 led_nowhere caps content is = record { content = is; records = omega arith; items = omega arith }
 
 pub led_on : (caps : Caps) (old middle new : Content) → Led caps old middle → Led caps middle new → Led caps old new
-led_on caps old middle new one two =
-    record {
-      content = two.content;
-      records = omega (arith, one.records, two.records);
-      items = omega (arith, one.items, two.items);
-    }
+led_on caps old middle new one two = grind arith
 
 -- ---- interests change, and no waiter's own comes or goes
 

@@ -1,6 +1,6 @@
 -- A departure leads from content to content, with no more record data and no more items; so does the return of a
 -- connection.
-use Rattle.lock_model.proofs.Imports.{◌≡◌, ℕ, ◌≤◌, Bool, true, false, not, ◌&&◌, ◌==◌, List, is_some, filter, sum_by, map, refl, sym, ◌∙◌, subst, arith, and_parts, or_left, eqb-true, length-map, Caps, ConnId, same_resource, list_all-filter, list_all-filter_same, list_all_always, sum_by-filter-le, length-filter-le, Waiter, Interest, is_of, is_by, Content, IsContent, is_due, records_of, records_in, grant_each, stays, with_retained, interests_left, resources_of, departure_of, with_returned, queue-filter, waiters_without_conn}
+use Rattle.lock_model.proofs.Imports.{◌≡◌, ◌≤◌, Bool, true, false, not, ◌&&◌, ◌==◌, List, filter, sum_by, map, refl, ◌∙◌, arith, and_parts, or_left, eqb-true, length-map, Caps, ConnId, list_all-filter, list_all-filter_same, list_all_always, sum_by-filter-le, length-filter-le, Waiter, Interest, is_of, Content, IsContent, is_due, records_of, records_in, grant_each, stays, with_retained, interests_left, resources_of, departure_of, with_returned, queue-filter, waiters_without_conn}
 use Rattle.lock_model.proofs.InterestLaws.{KeepsState, has-filter, has-map, interests-filter, interests-same, records-map}
 use Rattle.lock_queue.specs.Waiters.{is_by as is_by_waiter}
 use Rattle.lock_model.proofs.ContentLaws.{Led, led_on, led_grant_each, due_all}
@@ -35,11 +35,7 @@ content-returned caps conn content is =
 other_stays : (conn : ConnId) (keep : Bool) (v : Waiter) (x : Interest) → not (is_by_waiter conn v) ≡ true
     → is_of v.r v.conn x ≡ true
     → stays conn keep x ≡ true
-other_stays conn keep v x out is =
-    let same : x.held.conn.0 ≡ v.conn.0 =
-    eqb-true x.held.conn.0 v.conn.0 (and_parts (same_resource x.held.r v.r) (x.held.conn.0 == v.conn.0) is).1 in
-    or_left (not (is_by conn x)) (keep && is_some x.rec)
-    (subst (λ (n : ℕ). not (n == conn.0) ≡ true) (sym same) out)
+other_stays conn keep v x out is = grind (arith, eqb-true, and_parts, or_left)
 
 abbrev pub content_left : ConnId → Bool → Content → Content
 content_left conn keep content =

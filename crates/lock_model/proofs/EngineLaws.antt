@@ -4,13 +4,7 @@ use Rattle.cf_types.specs.declared.forms.Kind.TheVariants as kind
 use Rattle.lock_model.proofs.DepartureLaws as departures
 
 pub content-nothing : (caps : Caps) → IsContent caps no_content
-content-nothing caps =
-    record {
-      owners = record { ordered = refl; one_each = refl; compatible = refl };
-      queue = record { ordered = refl; one_each = refl };
-      due = refl;
-      records = omega arith;
-    }
+content-nothing caps = grind arith
 
 pub leave-content : (shape : Shape) (caps : Caps) (content : Content) (conn : ConnId) (keep : Bool)
     → IsContent caps content
@@ -27,16 +21,12 @@ made-interests : (content : Content) (interests : List Interest)
     → fold content_with content (map owner interests) ≡ record content { interests = content.interests ++ interests }
 made-interests content [] = ap (λ (l : List Interest). record content { interests = l })
     (sym (append-nil content.interests))
-made-interests content (x ∷ xs) =
-    made-interests (content_with content (owner x)) xs
-    ∙ ap (λ (l : List Interest). record content { interests = l }) (append_assoc content.interests (x ∷ []) xs)
+made-interests content (x ∷ xs) = grind (arith, append_assoc, made-interests (content_with content (owner x)) xs)
 
 made-waiters : (content : Content) (waiters : List Waiter)
     → fold content_with content (map Waits waiters) ≡ record content { waiters = content.waiters ++ waiters }
 made-waiters content [] = ap (λ (l : List Waiter). record content { waiters = l }) (sym (append-nil content.waiters))
-made-waiters content (w ∷ ws) =
-    made-waiters (content_with content (Waits w)) ws
-    ∙ ap (λ (l : List Waiter). record content { waiters = l }) (append_assoc content.waiters (w ∷ []) ws)
+made-waiters content (w ∷ ws) = grind (arith, append_assoc, made-waiters (content_with content (Waits w)) ws)
 
 made-append : (content : Content) (xs ys : List LockItem)
     → fold content_with content (xs ++ ys) ≡ fold content_with (fold content_with content xs) ys
@@ -44,11 +34,7 @@ made-append content [] ys = refl
 made-append content (x ∷ xs) ys = made-append (content_with content x) xs ys
 
 pub made-items : (content : Content) → fold content_with no_content (items content) ≡ content
-made-items content =
-    made-append no_content (map owner content.interests) (map Waits content.waiters)
-    ∙ ap (λ (c : Content). fold content_with c (map Waits content.waiters))
-    (made-interests no_content content.interests)
-    ∙ made-waiters (record { interests = content.interests; waiters = [] }) content.waiters
+made-items content = grind (arith, made-append, made-interests, made-waiters)
 
 -- ---- an owner doesn't come behind a waiter
 
@@ -96,19 +82,12 @@ nobody whole interests (w ∷ ws) x others e =
 owner_placed : (interests : List Interest) (waiters : List Waiter) (x : Interest) → waiters ≡ []
     → map owner (interests ++ x ∷ []) ++ map Waits waiters ≡ (map owner interests ++ map Waits waiters) ++ owner x
     ∷ []
-owner_placed interests waiters x e =
-    ap (λ (l : List Waiter). map owner (interests ++ x ∷ []) ++ map Waits l) e
-    ∙ append-nil (map owner (interests ++ x ∷ []))
-    ∙ map-append owner interests (x ∷ [])
-    ∙ ap (λ (l : List LockItem). l ++ owner x ∷ [])
-    (sym (append-nil (map owner interests)) ∙ ap (λ (l : List Waiter). map owner interests ++ map Waits l) (sym e))
+owner_placed interests waiters x e = grind (arith, append-nil, map-append)
 
 waiter_placed : (interests : List Interest) (waiters : List Waiter) (w : Waiter)
     → map owner interests ++ map Waits (waiters ++ w ∷ []) ≡ (map owner interests ++ map Waits waiters) ++ Waits w
     ∷ []
-waiter_placed interests waiters w =
-    ap (λ (l : List LockItem). map owner interests ++ l) (map-append Waits waiters (w ∷ []))
-    ∙ sym (append_assoc (map owner interests) (map Waits waiters) (Waits w ∷ []))
+waiter_placed interests waiters w = grind (arith, map-append, append_assoc)
 
 pub items-place : (content whole : Content) (item : LockItem) (others : List LockItem)
     → items whole ≡ items content ++ item ∷ others
@@ -150,11 +129,7 @@ unplace-place content whole (Waits w) others first = waiter_away content.interes
 -- ---- what items need
 
 pub need-front : (xs others : List LockItem) → IsNoMore (need_of xs) (need_of (xs ++ others))
-need-front xs others = (
-  omega (arith, sum_by-append entries_of_item xs others),
-  omega
-      (arith, sum_by-append records_of_item xs others),
-)
+need-front xs others = grind (arith, sum_by-append)
 
 records_owners : (interests : List Interest)
     → sum_by records_of_item (map owner interests) ≡ sum_by (λ (x : Interest). records_of x.rec) interests
@@ -193,22 +168,10 @@ entries_waiters (w ∷ ws) =
 
 -- the record data of the items are those of the content, and the entries are its interests
 pub elements-items : (content : Content) → (need_of (items content)).elements ≡ records_in content
-elements-items content =
-    omega (
-      arith,
-      sum_by-append records_of_item (map owner content.interests) (map Waits content.waiters),
-      records_owners content.interests,
-      records_waiters content.waiters,
-    )
+elements-items content = grind (arith, sum_by-append, records_owners, records_waiters)
 
 pub entries-items : (content : Content) → (need_of (items content)).entries ≡ length content.interests
-entries-items content =
-    omega (
-      arith,
-      sum_by-append entries_of_item (map owner content.interests) (map Waits content.waiters),
-      entries_owners content.interests,
-      entries_waiters content.waiters,
-    )
+entries-items content = grind (arith, sum_by-append, entries_owners, entries_waiters)
 
 -- of a lock structure the elements decide
 no_more_of : (of : Kind) (need other : Caps) → is_lock of ≡ true → need.elements ≤ other.elements
@@ -235,11 +198,4 @@ fits_records kind.Lock need caps fits = fits
 
 pub content-moved : (shape : Shape) (caps other : Caps) (content : Content) → IsContent caps content
     → Fits shape.kind (need_of (items content)) other → IsContent other content
-content-moved shape caps other content is fits =
-    let few = fits_records shape.kind (need_of (items content)) other fits in
-    record {
-      owners = is.owners;
-      queue = is.queue;
-      due = is.due;
-      records = omega (arith, few, elements-items content);
-    }
+content-moved shape caps other content is fits = grind (arith, fits_records, elements-items)

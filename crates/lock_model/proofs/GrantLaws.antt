@@ -1,5 +1,5 @@
 -- The grant rule leads from content to content, and to no more record data and no more items.
-use Rattle.lock_model.proofs.Imports.{◌≡◌, ℕ, ◌+◌, ◌≤◌, Bool, true, false, not, ◌&&◌, ◌||◌, ◌==◌, cond, List, [], ◌∷◌, Option, Some, None, map, refl, sym, ap, ◌∙◌, subst, arith, list_any, list_all, option_or, and_parts, or_parts, or_right, false≢true, eq-eqb, sum_by-cons, ConnId, same_resource, Part, same_part, same_part-eq, same_part-refl, pairwise, Held, Waiter, Interest, AreInterests, is_of, has_interest, interests_changed, may_coexist, may_own, parts_apart, owners_agree, records_of, records_owned, held_by, with_alteration}
+use Rattle.lock_model.proofs.Imports.{◌≡◌, ℕ, ◌+◌, ◌≤◌, Bool, true, false, ◌&&◌, ◌||◌, ◌==◌, cond, List, [], ◌∷◌, Option, Some, None, map, refl, sym, ap, ◌∙◌, subst, arith, list_any, list_all, option_or, and_parts, or_parts, or_right, false≢true, eq-eqb, sum_by-cons, Part, same_part, same_part-eq, same_part-refl, pairwise, Held, Waiter, Interest, AreInterests, is_of, has_interest, interests_changed, may_coexist, may_own, parts_apart, owners_agree, records_of, records_owned, held_by, with_alteration}
 use Rattle.cf_lists.proofs.KeyLaws as keys
 use Rattle.lock_model.proofs.InterestLaws.{part_of, KeepsPart, interests-map, agree_same, agree_sym}
 
@@ -30,22 +30,15 @@ its_part w x h = same_part-eq (part_of x) (waiter_part w) h
 
 altered_agrees : (w : Waiter) (x : Interest) (other : Held) → is_of w.r w.conn x ≡ true
     → may_coexist (held_by w) other ≡ true → may_coexist (with_alteration w x).held other ≡ true
-altered_agrees w x other h may =
-    agree_same (with_alteration w x).held (held_by w) other (ap (λ (p : Part). p.0) (its_part w x h))
-    (ap (λ (p : Part). p.1) (its_part w x h)) refl ∙ may
+altered_agrees w x other h may = grind (arith, agree_same, its_part)
 
 one_connector : (a b : Held) → a.conn ≡ b.conn → may_coexist a b ≡ true
-one_connector a b e =
-    or_right (not (same_resource a.r b.r)) (not a.excl && not b.excl || (a.conn.0 == b.conn.0))
-    (or_right (not a.excl && not b.excl) (a.conn.0 == b.conn.0)
-    (eq-eqb a.conn.0 b.conn.0 (ap (λ (conn : ConnId). conn.0) e)))
+one_connector a b e = grind (arith, or_right, eq-eqb)
 
 alteration_agrees : (w : Waiter) (a b : Bool) (x y : Interest) → is_of w.r w.conn x ≡ a → is_of w.r w.conn y ≡ b
     → may_coexist (held_by w) x.held ≡ true → may_coexist (held_by w) y.held ≡ true → owners_agree x y ≡ true
     → owners_agree (cond a (with_alteration w x) x) (cond b (with_alteration w y) y) ≡ true
-alteration_agrees w true true x y ex ey gx gy h =
-    one_connector (with_alteration w x).held (with_alteration w y).held
-    (ap (λ (p : Part). p.1) (its_part w x ex) ∙ sym (ap (λ (p : Part). p.1) (its_part w y ey)))
+alteration_agrees w true true x y ex ey gx gy h = grind (arith, one_connector, its_part)
 alteration_agrees w true false x y ex ey gx gy h = altered_agrees w x y.held ex gy
 alteration_agrees w false true x y ex ey gx gy h =
     agree_sym x.held (with_alteration w y).held ∙ altered_agrees w y x.held ey gx

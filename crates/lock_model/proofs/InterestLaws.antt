@@ -1,6 +1,6 @@
 -- Interests that are added, changed or taken away stay in their order, one for a connector and resource, and
 -- compatible.
-use Rattle.lock_model.proofs.Imports.{◌≡◌, ℕ, ◌+◌, ◌≤◌, Bool, true, false, not, ◌&&◌, ◌||◌, ◌==◌, List, [], ◌∷◌, length, filter, map, refl, sym, ap, ◌∙◌, subst, arith, list_all, and_parts, and_from, nat_tests, list_all-map, sum_by-cons, any-filter_same, ConnId, Resource, same_resource, resource_up_to, Part, same_part, same_part-eq, same_part_comm, same_resource_comm, resource_up_to-either, resource_up_to-trans, pairwise, list_all-filter, list_all-filter_same, list_all_weaker, list_all_both, list_all_always, sum_by-filter-le, length-filter-le, list_any-insertion, sum_by-insertion, length-insertion, FindsPlace, pairwise-filter, pairwise-insertion, pairwise-insertion_any, pairwise-map, Held, Interest, AreInterests, is_of, has_interest, interests_without, interests_with, may_coexist, may_own, stands_up_to, parts_apart, owners_agree, records_of, records_owned}
+use Rattle.lock_model.proofs.Imports.{◌≡◌, ℕ, ◌+◌, ◌≤◌, Bool, true, false, not, ◌&&◌, ◌||◌, ◌==◌, List, [], ◌∷◌, length, filter, map, refl, sym, ap, ◌∙◌, subst, arith, list_all, and_parts, and_from, nat_tests, list_all-map, sum_by-cons, any-filter_same, ConnId, Resource, resource_up_to, Part, same_part, same_part-eq, same_part_comm, same_resource_comm, resource_up_to-either, resource_up_to-trans, pairwise, list_all-filter, list_all-filter_same, list_all_weaker, list_all_both, list_all_always, sum_by-filter-le, length-filter-le, list_any-insertion, sum_by-insertion, length-insertion, FindsPlace, pairwise-filter, pairwise-insertion, pairwise-insertion_any, pairwise-map, Held, Interest, AreInterests, is_of, has_interest, interests_without, interests_with, may_coexist, may_own, stands_up_to, parts_apart, owners_agree, records_of, records_owned}
 
 -- ---- two interests
 
@@ -20,10 +20,7 @@ agree_parts : (p q x y m n : Bool) → p ≡ q → x ≡ y → m ≡ n → not p
 agree_parts p q x y m n e f g = rw (e, f, g) refl
 
 pub agree_sym : (a b : Held) → may_coexist a b ≡ may_coexist b a
-agree_sym a b =
-    agree_parts (same_resource a.r b.r) (same_resource b.r a.r) (not a.excl && not b.excl) (not b.excl && not a.excl)
-    (a.conn.0 == b.conn.0) (b.conn.0 == a.conn.0)
-    (same_resource_comm a.r b.r) (swapped (not a.excl) (not b.excl)) (turned a.conn.0 b.conn.0)
+agree_sym a b = grind (arith, agree_parts, same_resource_comm, swapped, turned)
 
 apart_sym : (x y : Interest) → parts_apart x y ≡ parts_apart y x
 apart_sym x y = ap not (same_part_comm (part_of x) (part_of y))
@@ -35,22 +32,12 @@ both b c h e = and_from b c h (e ∙ h)
 
 pub interests-filter : (q : Interest → Bool) (interests : List Interest) → AreInterests interests
     → AreInterests (filter q interests)
-interests-filter q interests are =
-    record {
-      ordered = pairwise-filter stands_up_to q interests are.ordered;
-      one_each = pairwise-filter parts_apart q interests are.one_each;
-      compatible = pairwise-filter owners_agree q interests are.compatible;
-    }
+interests-filter q interests are = grind (arith, pairwise-filter)
 
 -- ---- one more interest
 
 finds : (x : Interest) → FindsPlace stands_up_to (λ other. stands_up_to other x) (λ y. true) x
-finds x =
-    record {
-      front = λ y h. h;
-      stop = λ y t h. resource_up_to-either y.held.r x.held.r h;
-      follows = λ y z a b. resource_up_to-trans x.held.r y.held.r z.held.r a b;
-    }
+finds x = grind (arith, resource_up_to-either, resource_up_to-trans)
 
 pub interests-with : (x : Interest) (interests : List Interest) → AreInterests interests
     → may_own x.held interests ≡ true
@@ -89,12 +76,7 @@ other_part x y r conn out is =
 -- the others are there as before
 pub has-with : (r : Resource) (conn : ConnId) (x : Interest) (interests : List Interest) → is_of r conn x ≡ false
     → has_interest r conn (interests_with x interests) ≡ has_interest r conn interests
-has-with r conn x interests out =
-    let rest = interests_without x.held.r x.held.conn interests in
-    list_any-insertion (is_of r conn) (λ other. stands_up_to other x) x rest
-    ∙ ap (λ b. b || has_interest r conn rest) out
-    ∙ has-filter r conn (λ other. not (is_of x.held.r x.held.conn other)) (λ y h. other_part x y r conn out h)
-    interests
+has-with r conn x interests out = grind (arith, list_any-insertion, has-filter, other_part)
 
 pub has-without : (r : Resource) (conn : ConnId) (s : Resource) (other : ConnId) (interests : List Interest)
     → same_part (r, conn) (s, other) ≡ false
@@ -108,23 +90,11 @@ has-without r conn s other interests out =
 
 pub records-with : (x : Interest) (interests : List Interest)
     → records_owned (interests_with x interests) ≤ records_owned interests + records_of x.rec
-records-with x interests =
-    let rest = interests_without x.held.r x.held.conn interests in
-    omega (
-      arith,
-      sum_by-insertion (λ i. records_of i.rec) (λ other. stands_up_to other x) x rest,
-      sum_by-filter-le (λ i. records_of i.rec) (λ other. not (is_of x.held.r x.held.conn other)) interests,
-    )
+records-with x interests = grind (arith, sum_by-insertion, sum_by-filter-le)
 
 pub length-with : (x : Interest) (interests : List Interest)
     → length (interests_with x interests) ≤ length interests + 1
-length-with x interests =
-    let rest = interests_without x.held.r x.held.conn interests in
-    omega (
-      arith,
-      length-insertion (λ other. stands_up_to other x) x rest,
-      length-filter-le (λ other. not (is_of x.held.r x.held.conn other)) interests,
-    )
+length-with x interests = grind (arith, length-insertion, length-filter-le)
 
 -- ---- changes that leave each interest with its resource and its connector
 
@@ -133,9 +103,7 @@ pub record KeepsPart (f : Interest → Interest) : Type 0 where
   pub conn : (x : Interest) → (f x).held.conn ≡ x.held.conn
 
 part_same : (f : Interest → Interest) → KeepsPart f → (x : Interest) → part_of (f x) ≡ part_of x
-part_same f keeps x =
-    ap (λ (r : Resource). (let it : Part = (r, (f x).held.conn) in it)) (keeps.r x)
-    ∙ ap (λ (conn : ConnId). (let it : Part = (x.held.r, conn) in it)) (keeps.conn x)
+part_same f keeps x = grind arith
 
 or_same : (a b c d : Bool) → a ≡ b → c ≡ d → a || c ≡ b || d
 or_same a b c d e f = rw (e, f) refl
@@ -143,9 +111,7 @@ or_same a b c d e f = rw (e, f) refl
 pub has-map : (f : Interest → Interest) → KeepsPart f → (r : Resource) (conn : ConnId) (interests : List Interest)
     → has_interest r conn (map f interests) ≡ has_interest r conn interests
 has-map f keeps r conn [] = refl
-has-map f keeps r conn (x ∷ xs) =
-    or_same (is_of r conn (f x)) (is_of r conn x) (has_interest r conn (map f xs)) (has_interest r conn xs)
-    (ap (λ (p : Part). same_part p (r, conn)) (part_same f keeps x)) (has-map f keeps r conn xs)
+has-map f keeps r conn (x ∷ xs) = grind (arith, or_same, part_same, has-map f keeps r conn xs)
 
 -- a relation that a map keeps between elements that pass a test
 map_keeps : {X : Type 0} (relation : X → X → Bool) (f : X → X) (good : X → Bool)
@@ -169,35 +135,18 @@ pub interests-map : (f : Interest → Interest) → KeepsPart f → (good : Inte
     → ((x y : Interest) → good x ≡ true → good y ≡ true → owners_agree x y ≡ true → owners_agree (f x) (f y) ≡ true)
     → (interests : List Interest) → list_all good interests ≡ true → AreInterests interests
     → AreInterests (map f interests)
-interests-map f keeps good h interests g are =
-    record {
-      ordered = pairwise-map stands_up_to f
-          (λ x y. up_to_same (f x).held.r (f y).held.r x.held.r y.held.r (keeps.r x) (keeps.r y)) interests
-          ∙ are.ordered;
-      one_each = pairwise-map parts_apart f
-          (λ x y. ap (λ (p : Part). not (same_part p (part_of (f y)))) (part_same f keeps x)
-          ∙ ap (λ (p : Part). not (same_part (part_of x) p)) (part_same f keeps y)) interests ∙ are.one_each;
-      compatible = map_keeps owners_agree f good h interests g are.compatible;
-    }
+interests-map f keeps good h interests g are = grind (arith, pairwise-map, up_to_same, part_same, map_keeps)
 
 -- who agrees goes by the resource, the connector and the state alone
 pub agree_same : (a b c : Held) → a.r ≡ b.r → a.conn ≡ b.conn → a.excl ≡ b.excl → may_coexist a c ≡ may_coexist b c
-agree_same a b c e f g =
-    agree_parts (same_resource a.r c.r) (same_resource b.r c.r) (not a.excl && not c.excl) (not b.excl && not c.excl)
-    (a.conn.0 == c.conn.0) (b.conn.0 == c.conn.0)
-    (ap (λ (r : Resource). same_resource r c.r) e) (ap (λ x. not x && not c.excl) g)
-    (ap (λ (conn : ConnId). conn.0 == c.conn.0) f)
+agree_same a b c e f g = grind (arith, agree_parts)
 
 pub record KeepsState (f : Interest → Interest) : Type 0 where
   pub part : KeepsPart f
   pub excl : (x : Interest) → (f x).held.excl ≡ x.held.excl
 
 state_same : (f : Interest → Interest) → KeepsState f → (x y : Interest) → owners_agree (f x) (f y) ≡ owners_agree x y
-state_same f keeps x y =
-    agree_same (f x).held x.held (f y).held (keeps.part.r x) (keeps.part.conn x) (keeps.excl x)
-    ∙ agree_sym x.held (f y).held
-    ∙ agree_same (f y).held y.held x.held (keeps.part.r y) (keeps.part.conn y) (keeps.excl y)
-    ∙ agree_sym y.held x.held
+state_same f keeps x y = grind (arith, agree_same, agree_sym)
 
 pub interests-same : (f : Interest → Interest) → KeepsState f → (interests : List Interest) → AreInterests interests
     → AreInterests (map f interests)

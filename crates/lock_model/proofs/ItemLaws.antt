@@ -1,6 +1,6 @@
 -- Items that come and go one after another: what a content is meanwhile, and where the one that is added or taken
 -- away stands.
-use Rattle.lock_model.proofs.Imports.{◌≡◌, ◌+◌, ◌-◌, Bool, true, false, not, cond, List, [], ◌∷◌, ◌++◌, append-nil, append_assoc, Some, length, filter, map, take, drop, sum_by, refl, sym, ap, ◌∙◌, subst, arith, list_all, slice_get, and_parts, and_from, false≢true, take-append-drop, take_all, take_more, filter-append, list_all-append, sum_by-append, get_or_from_slice_get, is_lock, Caps, Resource, same_part, same_part-eq, same_part-refl, FrontLaws, fronts, pairwise, insertion, filter_all, filter_swap, all_from_none, pairwise-filter, pairwise_front, Waiter, is_on, is_waiter, waiters_of, waiters_without, waiters_with, stands_before, are_apart, IsQueue, LockItem, Owner, Waits, Interest, AreInterests, is_of, interests_with, interests_without, stands_up_to, parts_apart, owners_agree, Content, IsContent, is_due, records_of, owner, items, content_with, content_without_last, without_last, lock_meaning}
+use Rattle.lock_model.proofs.Imports.{◌≡◌, ◌+◌, ◌-◌, Bool, true, false, not, cond, List, [], ◌∷◌, ◌++◌, append-nil, append_assoc, Some, length, filter, map, take, drop, refl, sym, ap, ◌∙◌, subst, arith, list_all, slice_get, and_parts, and_from, false≢true, take-append-drop, take_all, take_more, filter-append, list_all-append, sum_by-append, get_or_from_slice_get, is_lock, Caps, Resource, same_part, same_part-eq, same_part-refl, FrontLaws, fronts, pairwise, insertion, filter_all, filter_swap, all_from_none, pairwise-filter, pairwise_front, Waiter, is_on, is_waiter, waiters_of, waiters_without, waiters_with, stands_before, are_apart, IsQueue, LockItem, Owner, Waits, Interest, AreInterests, is_of, interests_with, interests_without, stands_up_to, parts_apart, Content, IsContent, owner, items, content_with, content_without_last, without_last, lock_meaning}
 use Rattle.cf_lists.proofs.KeyLaws as keys
 use Rattle.lock_model.proofs.InterestLaws.{part_of}
 use Rattle.lock_model.proofs.GrantLaws.{waiter_part}
@@ -10,43 +10,11 @@ use Rattle.lock_model.proofs.EngineLaws.{behind_owners, behind_items, nobody, co
 
 pub front-interests : (caps : Caps) (whole : Content) (interests more : List Interest) → IsContent caps whole
     → whole.interests ≡ interests ++ more → IsContent caps (record { interests = interests; waiters = [] })
-front-interests caps whole interests more is e =
-    let ordered : pairwise stands_up_to (interests ++ more) ≡ true = rw e at is.owners.ordered in
-    let separate : pairwise parts_apart (interests ++ more) ≡ true = rw e at is.owners.one_each in
-    let agree : pairwise owners_agree (interests ++ more) ≡ true = rw e at is.owners.compatible in
-    let all : sum_by (λ (x : Interest). records_of x.rec) whole.interests ≡ sum_by
-    (λ (x : Interest). records_of x.rec) (interests ++ more) =
-    ap (λ (l : List Interest). sum_by (λ (x : Interest). records_of x.rec) l) e in
-    record {
-      owners = record {
-        ordered = pairwise_front stands_up_to interests more ordered;
-        one_each = pairwise_front parts_apart interests more separate;
-        compatible = pairwise_front owners_agree interests more agree;
-      };
-      queue = record { ordered = refl; one_each = refl };
-      due = refl;
-      records = omega (arith, is.records, all, sum_by-append (λ (x : Interest). records_of x.rec) interests more);
-    }
+front-interests caps whole interests more is e = grind (arith, pairwise_front, sum_by-append)
 
 pub front-waiters : (caps : Caps) (whole : Content) (waiters more : List Waiter) → IsContent caps whole
     → whole.waiters ≡ waiters ++ more → IsContent caps (record { interests = whole.interests; waiters = waiters })
-front-waiters caps whole waiters more is e =
-    let ordered : pairwise stands_before (waiters ++ more) ≡ true = rw e at is.queue.ordered in
-    let apart' : pairwise are_apart (waiters ++ more) ≡ true = rw e at is.queue.one_each in
-    let due : list_all (is_due whole.interests) (waiters ++ more) ≡ true = rw e at is.due in
-    let all : sum_by (λ (w : Waiter). records_of w.rec) whole.waiters ≡ sum_by (λ (w : Waiter). records_of w.rec)
-    (waiters ++ more) =
-    ap (λ (l : List Waiter). sum_by (λ (w : Waiter). records_of w.rec) l) e in
-    record {
-      owners = is.owners;
-      queue = record {
-        ordered = pairwise_front stands_before waiters more ordered;
-        one_each = pairwise_front are_apart waiters more apart';
-      };
-      due = (and_parts (list_all (is_due whole.interests) waiters) (list_all (is_due whole.interests) more)
-          (sym (list_all-append (is_due whole.interests) waiters more) ∙ due)).0;
-      records = omega (arith, is.records, all, sum_by-append (λ (w : Waiter). records_of w.rec) waiters more);
-    }
+front-waiters caps whole waiters more is e = grind (arith, pairwise_front, and_parts, list_all-append, sum_by-append)
 
 without_last_of : (caps : Caps) (interests : List Interest) (waiters : List Waiter)
     → IsContent caps (record { interests = interests; waiters = waiters })
@@ -276,13 +244,7 @@ without_keyed_last : {X K : Type 0} (key : X → K) (same : K → K → Bool) �
     → (xs : List X) (x : X)
     → pairwise (λ y z. not (same (key y) (key z))) (xs ++ x ∷ []) ≡ true
     → filter (λ y. not (same (key y) (key x))) (xs ++ x ∷ []) ≡ xs
-without_keyed_last {X} key same same-refl xs x u =
-    let others = filter_all (λ y. not (same (key y) (key x))) xs
-    (before_next (λ y z. not (same (key y) (key z))) xs [] x u) in
-    filter-append (λ y. not (same (key y) (key x))) xs (x ∷ [])
-    ∙ ap (λ (l : List X). l ++ filter (λ y. not (same (key y) (key x))) (x ∷ [])) others
-    ∙ ap (λ (b : Bool). xs ++ cond (not b) (x ∷ []) []) (same-refl (key x))
-    ∙ append-nil xs
+without_keyed_last {X} key same same-refl xs x u = grind (arith, filter_all, before_next, filter-append, append-nil)
 
 pub waiters_without-last : (waiters : List Waiter) (w : Waiter) → IsQueue waiters
     → slice_get waiters (length waiters - 1) ≡ Some w

@@ -1,5 +1,5 @@
 -- Any two owners of one resource are compatible.
-use Rattle.lock_model.proofs.Imports.{◌≡◌, Bool, true, false, not, ◌&&◌, ◌||◌, ◌==◌, List, [], ◌∷◌, Contains, refl, ◌∙◌, list_all, and_parts, and_from, or_right, eq-eqb, false≢true, All-contains, AllPass-from_list_all, Caps, same_resource, pairwise, list_all_weaker, list_all_both, Interest, are_compatible, owners_agree, Content, IsContent, OwnersAreCompatible}
+use Rattle.lock_model.proofs.Imports.{arith, ◌≡◌, Bool, true, false, not, ◌&&◌, ◌||◌, ◌==◌, List, [], ◌∷◌, Contains, refl, ◌∙◌, list_all, and_parts, and_from, or_right, eq-eqb, false≢true, All-contains, AllPass-from_list_all, Caps, same_resource, pairwise, list_all_weaker, list_all_both, Interest, are_compatible, owners_agree, Content, IsContent, OwnersAreCompatible}
 use Rattle.lock_model.proofs.InterestLaws.{agree_sym}
 
 -- a relation with no direction, between each element and itself too
@@ -16,10 +16,7 @@ each_with_each relation turn own (x ∷ xs) h =
     (each_with_each relation turn own xs parts.1))
 
 agrees_itself : (x : Interest) → owners_agree x x ≡ true
-agrees_itself x =
-    or_right (not (same_resource x.held.r x.held.r)) (are_compatible x.held x.held)
-    (or_right (not x.held.excl && not x.held.excl) (x.held.conn.0 == x.held.conn.0)
-    (eq-eqb x.held.conn.0 x.held.conn.0 refl))
+agrees_itself x = grind (arith, or_right, eq-eqb)
 
 all_contained : {X : Type 0} (p : X → Bool) (xs : List X) (x : X) → list_all p xs ≡ true → Contains xs x → p x ≡ true
 all_contained p xs x h there = All-contains (λ y. p y ≡ true) xs x (AllPass-from_list_all p xs h) there

@@ -1,5 +1,5 @@
 -- How many interests there are.
-use Rattle.lock_queue.proofs.Imports.{◌≡◌, ℕ, zero, suc, ◌+◌, ◌<◌, ◌≤◌, Bool, true, false, not, if◌then◌else◌, Option, Some, None, is_some, sum_by, List, [], ◌∷◌, ◌++◌, map, filter, drop, get_or, length, refl, sym, ap, ◌∙◌, arith, append_assoc, append-nil, map-append, drop_all, filter-append, arranged, joined, ConnId, Resource, insertion, pairwise, length-insertion, sum_by-insertion, sum_by_without, any_is_found, length-filter-le, list_any, sum_by-append, sum_by-cons, same_part, resource_before, same_part-eq, same_part-refl, one_less, none_out, Waiter, is_waiter, waits, waiter_of, waiters_without, waiters_with, stands_before, are_apart, recorded_by, recorded_of, recorded_in, part_of, resource_of, waiters_in, one_where}
+use Rattle.lock_queue.proofs.Imports.{◌≡◌, ℕ, zero, suc, ◌+◌, ◌<◌, ◌≤◌, Bool, true, false, not, if◌then◌else◌, Option, Some, None, is_some, sum_by, List, [], ◌∷◌, ◌++◌, map, filter, drop, get_or, length, refl, sym, ap, ◌∙◌, arith, append_assoc, append-nil, map-append, drop_all, filter-append, arranged, joined, ConnId, Resource, insertion, pairwise, length-insertion, sum_by-insertion, sum_by_without, any_is_found, length-filter-le, list_any, sum_by-append, sum_by-cons, same_part, resource_before, same_part-eq, same_part-refl, one_less, none_out, Waiter, is_waiter, waits, waiter_of, waiters_without, waiters_with, are_apart, recorded_by, recorded_of, recorded_in, part_of, resource_of, waiters_in, one_where}
 
 pub less_one : (r : Resource) (conn : ConnId) (waiters : List Waiter) (b : Bool) → b ≡ waits r conn waiters
     → pairwise are_apart waiters ≡ true → length (waiters_without r conn waiters) + one_where b ≡ length waiters
@@ -12,12 +12,8 @@ less_one r conn waiters false h u =
 
 pub one_more : (before : Waiter → Bool) (waiter : Waiter) (waiters : List Waiter) (n : ℕ) (b : Bool)
     → length waiters + one_where b ≡ n → length (insertion before waiter waiters) ≡ n + one_where (not b)
-one_more before waiter waiters n true h =
-    let all : length waiters + 1 ≡ n = h in
-    let more : length waiters + 1 ≡ n + 0 = omega (arith, all) in length-insertion before waiter waiters ∙ more
-one_more before waiter waiters n false h =
-    let all : length waiters + 0 ≡ n = h in
-    let more : length waiters + 1 ≡ n + 1 = omega (arith, all) in length-insertion before waiter waiters ∙ more
+one_more before waiter waiters n true h = grind (arith, length-insertion)
+one_more before waiter waiters n false h = grind (arith, length-insertion)
 
 -- ---- the resources of all entries
 
@@ -26,9 +22,7 @@ joined_next : (entries : List (List Waiter)) (i : ℕ) (d : List Waiter) → i <
 unfolding joined
 joined_next [] i d h = absurd (omega (arith, h))
 joined_next (x ∷ xs) zero d h = refl
-joined_next (x ∷ xs) (suc i) d h =
-    let next : suc i + 1 ≡ suc (i + 1) = omega arith in
-    rw next (joined_next xs i d (omega (arith, h)))
+joined_next (x ∷ xs) (suc i) d h = grind (arith, joined_next xs i d (omega (arith, h)))
 
 pub keys_more : (entries : List (List Waiter)) (keys new : List Resource) (i : ℕ) (entry : List Waiter)
     (all : List Resource)
@@ -77,11 +71,7 @@ pub recorded_parts : (xs ys : List Waiter) → recorded_in (xs ++ ys) ≡ record
 recorded_parts xs ys = sum_by-append recorded_by xs ys
 
 once : (w : Waiter) → recorded_by w ≤ 1
-once w = go (is_some w.rec)
-  where
-    go : (b : Bool) → (if b then 1 else 0) ≤ 1
-    go true = omega arith
-    go false = omega arith
+once w = grind arith
 
 pub recorded_few : (xs : List Waiter) → recorded_in xs ≤ length xs
 recorded_few [] = omega arith
@@ -125,17 +115,7 @@ recorded_less r conn waiters u = go (waiter_of r conn waiters) refl
 pub recorded_more : (w : Waiter) (waiters : List Waiter) → pairwise are_apart waiters ≡ true
     → recorded_in (waiters_with w waiters) + recorded_of (waiter_of w.r w.conn waiters)
     ≡ recorded_in waiters + recorded_by w
-recorded_more w waiters u =
-    omega (
-      arith,
-      counted_more recorded_by (λ other. stands_before other w) w (waiters_without w.r w.conn waiters),
-      recorded_less w.r w.conn waiters u,
-    )
+recorded_more w waiters u = grind (arith, counted_more, recorded_less)
 
 pub few_with : (w : Waiter) (waiters : List Waiter) → length (waiters_with w waiters) ≤ length waiters + 1
-few_with w waiters =
-    omega (
-      arith,
-      length-insertion (λ other. stands_before other w) w (waiters_without w.r w.conn waiters),
-      length-filter-le (λ other. not (is_waiter w.r w.conn other)) waiters,
-    )
+few_with w waiters = grind (arith, length-insertion, length-filter-le)

@@ -5,7 +5,7 @@ pub use Rattle.std.proofs.lemmas.Iterator.Consumers.{nth_from_yields_List, Yield
 pub use Rattle.std.proofs.lemmas.List.{append_assoc, append-nil, map-append, drop_all, get_or_default, length-append, length-map}
 pub use Rattle.std.proofs.lemmas.List.Elements.{filter-append}
 pub use Rattle.std.proofs.lemmas.List.Sums.{sum_by-append, sum_by-cons, prefix_len-le-length}
-pub use Rattle.std.specs.List.{list_any, list_all, insert}
+pub use Rattle.std.specs.List.{list_any, list_all}
 pub use Rattle.std.specs.List.Sorted.{IsPermutation}
 pub use Rattle.std.specs.Ordering.{is_lt, ordering_reverse}
 pub use Rattle.std.specs.declared.cmp.Ordering.{Ordering}
@@ -29,7 +29,6 @@ pub use Rattle.cf_types.proofs.ResourceLaws.{same_part-eq, same_part-refl, resou
 pub use Rattle.cf_types.specs.Resources.{same_part, resource_before, resource_cmp, same_resource, resource_up_to}
 pub use Rattle.cf_types.specs.declared.numbers.ConnId.{ConnId}
 pub use Rattle.cf_types.specs.declared.resources.Resource.{Resource}
-pub use Rattle.lock_queue.specs.QueueView.{QueueView}
 pub use Rattle.lock_queue.specs.Tables.{part_of, resource_of, waiters_in, one_where, is_ahead, AreEntries}
 pub use Rattle.lock_queue.specs.Waiters.{is_waiter, waits, waiter_of, waiters_without, waiters_with, stands_before, are_apart, recorded_by, recorded_of, recorded_in, is_on, IsQueue, waiters_of, is_by, waiters_without_conn, first_of}
 pub use Rattle.lock_queue.specs.declared.waiters.Waiter.{Waiter}

@@ -1,12 +1,8 @@
 -- Waiters stay in order, with one of a connector for a resource.
-use Rattle.lock_queue.proofs.Imports.{◌≡◌, Bool, true, false, not, ◌&&◌, ◌||◌, List, filter, refl, sym, ap, ◌∙◌, Ordering, Less, Equal, Greater, is_lt, ordering_reverse, and_from, and_parts, not-true, false≢true, Resource, resource_cmp, same_resource, resource_before, resource_up_to, resource_cmp_total, same_part_comm, same_resource-eq, list_all_weaker, list_all-filter_same, list_all_always, FindsPlace, pairwise-filter, pairwise-insertion, pairwise-insertion_any, resource_order, is_ahead, Waiter, is_on, is_waiter, waiters_with, waiters_without, stands_before, are_apart, IsQueue}
+use Rattle.lock_queue.proofs.Imports.{arith, ◌≡◌, Bool, true, false, not, ◌&&◌, ◌||◌, List, filter, refl, sym, ap, ◌∙◌, Ordering, Less, Equal, Greater, is_lt, ordering_reverse, and_from, and_parts, not-true, false≢true, Resource, resource_cmp, same_resource, resource_before, resource_up_to, resource_cmp_total, same_part_comm, same_resource-eq, list_all_weaker, list_all-filter_same, list_all_always, FindsPlace, pairwise-filter, pairwise-insertion, pairwise-insertion_any, resource_order, is_ahead, Waiter, is_on, is_waiter, waiters_with, waiters_without, stands_before, are_apart, IsQueue}
 
 pub queue-filter : (q : Waiter → Bool) (waiters : List Waiter) → IsQueue waiters → IsQueue (filter q waiters)
-queue-filter q waiters is =
-    record {
-      ordered = pairwise-filter stands_before q waiters is.ordered;
-      one_each = pairwise-filter are_apart q waiters is.one_each;
-    }
+queue-filter q waiters is = grind (arith, pairwise-filter)
 
 -- ---- the order
 
@@ -36,10 +32,7 @@ turned Equal false false h = absurd (false≢true (sym h))
 turned Greater a b h = refl
 
 stops : (waiter other : Waiter) → stands_before other waiter ≡ false → stands_before waiter other ≡ true
-stops waiter other h =
-    before_ranked waiter other
-    ∙ ap (λ o. ranked o waiter.alter other.alter) (resource_cmp_total.antisymm waiter.r other.r)
-    ∙ turned (resource_cmp other.r waiter.r) other.alter waiter.alter (sym (before_ranked other waiter) ∙ h)
+stops waiter other h = grind (arith, before_ranked, turned)
 
 either_way : (a b c : Bool) → a || not b ≡ true → b || not c ≡ true → a || not c ≡ true
 either_way true b c h e = refl
@@ -69,12 +62,7 @@ follows x y z h k =
 
 finds_place : (waiter : Waiter) → FindsPlace stands_before (λ other. stands_before other waiter) (λ other. true)
     waiter
-finds_place waiter =
-    record {
-      front = λ other h. h;
-      stop = λ other h e. stops waiter other e;
-      follows = λ y z h e. follows waiter y z h e;
-    }
+finds_place waiter = grind (arith, stops, follows)
 
 apart_both : (waiter other : Waiter) → not (is_waiter waiter.r waiter.conn other) ≡ true
     → are_apart waiter other && are_apart other waiter ≡ true
@@ -102,9 +90,7 @@ queue-with waiter waiters is =
 -- ---- where a waiter is put, among all and in its entry
 
 pub ahead_front : (waiter y : Waiter) → stands_before y waiter ≡ true → resource_before waiter.r y.r ≡ false
-ahead_front waiter y h =
-    not-true (resource_before waiter.r y.r)
-    (and_parts (resource_up_to y.r waiter.r) (resource_before y.r waiter.r || y.alter || not waiter.alter) h).0
+ahead_front waiter y h = grind (arith, not-true, and_parts)
 
 pub ahead_stop : (waiter y : Waiter) → stands_before y waiter ≡ false → resource_before y.r waiter.r ≡ false
 ahead_stop waiter y h = go (resource_before y.r waiter.r) refl

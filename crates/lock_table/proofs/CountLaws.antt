@@ -12,12 +12,8 @@ less_one r conn owners false h u =
 
 pub one_more : (before : Held → Bool) (held : Held) (owners : List Held) (n : ℕ) (b : Bool)
     → length owners + one_where b ≡ n → length (insertion before held owners) ≡ n + one_where (not b)
-one_more before held owners n true h =
-    let all : length owners + 1 ≡ n = h in
-    let more : length owners + 1 ≡ n + 0 = omega (arith, all) in length-insertion before held owners ∙ more
-one_more before held owners n false h =
-    let all : length owners + 0 ≡ n = h in
-    let more : length owners + 1 ≡ n + 1 = omega (arith, all) in length-insertion before held owners ∙ more
+one_more before held owners n true h = grind (arith, length-insertion)
+one_more before held owners n false h = grind (arith, length-insertion)
 
 -- ---- the resources of all entries
 
@@ -26,9 +22,7 @@ joined_next : (entries : List (List Held)) (i : ℕ) (d : List Held) → i < len
 unfolding joined
 joined_next [] i d h = absurd (omega (arith, h))
 joined_next (x ∷ xs) zero d h = refl
-joined_next (x ∷ xs) (suc i) d h =
-    let next : suc i + 1 ≡ suc (i + 1) = omega arith in
-    rw next (joined_next xs i d (omega (arith, h)))
+joined_next (x ∷ xs) (suc i) d h = grind (arith, joined_next xs i d (omega (arith, h)))
 
 pub keys_more : (entries : List (List Held)) (keys new : List Resource) (i : ℕ) (entry : List Held)
     (all : List Resource)

@@ -1,5 +1,5 @@
 -- A table entry: its mask, and the place of an interest in it.
-use Rattle.lock_table.proofs.Imports.{◌≡◌, ◌≢◌, ℕ, ◌==◌, Bool, true, false, not, ◌&&◌, ◌||◌, if◌then◌else◌, cond, nat_lt, List, [], ◌∷◌, ◌++◌, Some, None, map, filter, position, get_or, set, refl, sym, ap, ◌∙◌, subst, arith, list_any, list_all, remove, and_parts, not-true, eqb-true, eq-eqb, false≢true, lt-ltb, list_any-append, position-Some, SET_NUMBERS, ConnId, Resource, same_part, same_resource, is_member, with_member, without_member, same_part-eq, same_part-refl, pairwise, filter_all, filter_none, all_from_none, any-filter, list_any-map, list_all_weaker, remove_placed, no_place, any_kept, set_placed, map_placed, Held, is_by, is_interest, are_apart, owners_without, owners_without_active, in_state, in_retention, in_retention_of, part_of, IsMasked}
+use Rattle.lock_table.proofs.Imports.{◌≡◌, ◌≢◌, ℕ, ◌==◌, Bool, true, false, not, ◌&&◌, ◌||◌, if◌then◌else◌, cond, nat_lt, List, [], ◌∷◌, ◌++◌, Some, None, map, filter, position, get_or, set, refl, sym, ap, ◌∙◌, subst, arith, list_any, list_all, remove, and_parts, not-true, eqb-true, eq-eqb, false≢true, lt-ltb, list_any-append, position-Some, SET_NUMBERS, ConnId, Resource, same_part, is_member, with_member, without_member, same_part-eq, same_part-refl, pairwise, filter_all, filter_none, all_from_none, any-filter, list_any-map, list_all_weaker, remove_placed, no_place, any_kept, set_placed, map_placed, Held, is_by, is_interest, are_apart, owners_without, owners_without_active, in_state, in_retention, in_retention_of, part_of, IsMasked}
 use Rattle.lock_table.proofs.MaskLaws.{is_member-with_member_same, is_member-with_member_other, is_member-without_member_same, is_member-without_member_other}
 
 or_false : (a : Bool) → a ≡ a || false
@@ -22,9 +22,7 @@ same_conn a c e = let of : ℕ → ConnId = λ n. record { 0 = n } in ap of e
 -- one interest more
 pub masked_more : (mask : List ConnId) (owners : List Held) (held : Held) → IsMasked mask owners
     → IsMasked (if nat_lt held.conn.0 SET_NUMBERS then with_member held.conn mask else mask) (owners ++ held ∷ [])
-masked_more mask owners held h c within =
-    go (held.conn.0 == c.0) (nat_lt held.conn.0 SET_NUMBERS) refl refl
-    ∙ sym (list_any-append (is_by c) owners (held ∷ []))
+masked_more mask owners held h c within = grind (arith, go, list_any-append)
   where
     go : (s t : Bool) → (held.conn.0 == c.0) ≡ s → nat_lt held.conn.0 SET_NUMBERS ≡ t
         → is_member c (cond t (with_member held.conn mask) mask)
@@ -33,12 +31,8 @@ masked_more mask owners held h c within =
         subst (λ a. is_member c (with_member a mask) ≡ true) (sym (same_conn held.conn c (eqb-true held.conn.0 c.0 e)))
         (is_member-with_member_same c mask)
         ∙ or_true (list_any (is_by c) owners) (held.conn.0 == c.0) e
-    go true false e f =
-        let same = eqb-true held.conn.0 c.0 e in
-        absurd (false≢true (sym f ∙ lt-ltb held.conn.0 SET_NUMBERS (rw same within)))
-    go false true e f =
-        is_member-with_member_other held.conn c mask (apart_from held.conn.0 c.0 e) ∙ h c within
-        ∙ or_none (list_any (is_by c) owners) (held.conn.0 == c.0) e
+    go true false e f = grind (arith, eqb-true, false≢true, lt-ltb)
+    go false true e f = grind (arith, is_member-with_member_other, apart_from, or_none)
     go false false e f = h c within ∙ or_none (list_any (is_by c) owners) (held.conn.0 == c.0) e
 
 by_other : (conn c : ConnId) (x : Held) (t : Bool) → (conn.0 == c.0) ≡ false → is_by c x ≡ true → is_by conn x ≡ t
@@ -61,17 +55,12 @@ masked_left mask owners q conn stays h c within =
     go : (s t u : Bool) → (conn.0 == c.0) ≡ s → nat_lt conn.0 SET_NUMBERS ≡ t
         → list_any (is_by conn) (filter q owners) ≡ u
         → is_member c (cond (t && not u) (without_member conn mask) mask) ≡ list_any (is_by c) (filter q owners)
-    go true false u e f g =
-        let same = eqb-true conn.0 c.0 e in
-        absurd (false≢true (sym f ∙ lt-ltb conn.0 SET_NUMBERS (rw same within)))
+    go true false u e f g = grind (arith, eqb-true, false≢true, lt-ltb)
     go true true false e f g =
         let same = same_conn conn c (eqb-true conn.0 c.0 e) in
         subst (λ a. is_member c (without_member a mask) ≡ false) (sym same) (is_member-without_member_same c mask)
         ∙ sym (subst (λ a. list_any (is_by a) (filter q owners) ≡ false) same g)
-    go true true true e f g =
-        let same = same_conn conn c (eqb-true conn.0 c.0 e) in
-        let there = subst (λ a. list_any (is_by a) (filter q owners) ≡ true) same g in
-        h c within ∙ any-filter (is_by c) q owners there ∙ sym there
+    go true true true e f g = grind (arith, same_conn, eqb-true, any-filter)
     go false true false e f g =
         is_member-without_member_other conn c mask (apart_from conn.0 c.0 e) ∙ h c within ∙ others e
     go false true true e f g = h c within ∙ others e
@@ -88,39 +77,23 @@ not_active false retained e = refl
 pub masked_less : (mask : List ConnId) (owners : List Held) (r : Resource) (conn : ConnId) → IsMasked mask owners
     → IsMasked (if nat_lt conn.0 SET_NUMBERS && not (list_any (is_by conn) (owners_without r conn owners))
     then without_member conn mask else mask) (owners_without r conn owners)
-masked_less mask owners r conn h =
-    masked_left mask owners (λ held. not (is_interest r conn held)) conn
-    (λ x e. not_part (same_resource x.r r) (is_by conn x) e) h
+masked_less mask owners r conn h = grind (arith, masked_left, not_part)
 
 pub masked_active : (mask : List ConnId) (owners : List Held) (conn : ConnId) → IsMasked mask owners
     → IsMasked (if nat_lt conn.0 SET_NUMBERS && not (list_any (is_by conn) (owners_without_active conn owners))
     then without_member conn mask else mask) (owners_without_active conn owners)
-masked_active mask owners conn h =
-    masked_left mask owners (λ held. not (is_by conn held && not held.retained)) conn
-    (λ x e. not_active (is_by conn x) x.retained e) h
+masked_active mask owners conn h = grind (arith, masked_left, not_active)
 
 -- interests change, and whose they are doesn't
 pub masked_same : (mask : List ConnId) (owners : List Held) (f : Held → Held) → ((x : Held) → (f x).conn ≡ x.conn)
     → IsMasked mask owners → IsMasked mask (map f owners)
-masked_same mask owners f kept h c within =
-    h c within ∙ sym (list_any-map (is_by c) f owners ∙ agree owners)
-  where
-    agree : (xs : List Held) → list_any (λ x. is_by c (f x)) xs ≡ list_any (is_by c) xs
-    agree [] = refl
-    agree (x ∷ xs) = rw (kept x, agree xs) refl
+masked_same mask owners f kept h c within = grind (arith, list_any-map)
 
 -- the mask lacks the connector
 interest_none : (r : Resource) (conn : ConnId) (owners : List Held) → list_any (is_by conn) owners ≡ false
     → list_any (is_interest r conn) owners ≡ false
 interest_none r conn [] h = refl
-interest_none r conn (x ∷ xs) h =
-    step (same_resource x.r r) (x.conn.0 == conn.0) (list_any (is_by conn) xs) (list_any (is_interest r conn) xs) h
-    (interest_none r conn xs)
-  where
-    step : (s t u v : Bool) → t || u ≡ false → (u ≡ false → v ≡ false) → (s && t) || v ≡ false
-    step s true u v e ih = absurd (false≢true (sym e))
-    step true false u v e ih = ih e
-    step false false u v e ih = ih e
+interest_none r conn (x ∷ xs) h = grind (arith, false≢true, interest_none r conn xs)
 
 absent_parts : (s t : Bool) → s && not t ≡ true → (s ≡ true) × (t ≡ false)
 absent_parts true false h = (refl, refl)
@@ -129,10 +102,7 @@ absent_parts false t h = absurd (false≢true h)
 
 pub absent : (mask : List ConnId) (owners : List Held) (r : Resource) (conn : ConnId) → IsMasked mask owners
     → nat_lt conn.0 SET_NUMBERS && not (is_member conn mask) ≡ true → None ≡ position (is_interest r conn) owners
-absent mask owners r conn h e =
-    let parts = absent_parts (nat_lt conn.0 SET_NUMBERS) (is_member conn mask) e in
-    no_place (is_interest r conn) owners
-    (interest_none r conn owners (sym (h conn (grind (arith, parts.0))) ∙ parts.1))
+absent mask owners r conn h e = grind (arith, absent_parts, no_place, interest_none)
 
 pub cut_out : (r : Resource) (conn : ConnId) (owners : List Held) (i : ℕ) → pairwise are_apart owners ≡ true
     → position (is_interest r conn) owners ≡ Some i → remove owners i ≡ owners_without r conn owners
@@ -195,17 +165,13 @@ retention_none r conn retained owners h =
 
 pub none_by : (mask : List ConnId) (owners : List Held) (conn : ConnId) → IsMasked mask owners
     → nat_lt conn.0 SET_NUMBERS && not (is_member conn mask) ≡ true → filter (is_by conn) owners ≡ []
-none_by mask owners conn h e =
-    let parts = absent_parts (nat_lt conn.0 SET_NUMBERS) (is_member conn mask) e in
-    filter_none (is_by conn) owners (sym (h conn (grind (arith, parts.0))) ∙ parts.1)
+none_by mask owners conn h e = grind (arith, absent_parts, filter_none)
 
 -- no interest of the connector is here
 
 not_by : (mask : List ConnId) (owners : List Held) (conn : ConnId) → IsMasked mask owners
     → nat_lt conn.0 SET_NUMBERS && not (is_member conn mask) ≡ true → list_any (is_by conn) owners ≡ false
-not_by mask owners conn h e =
-    let parts = absent_parts (nat_lt conn.0 SET_NUMBERS) (is_member conn mask) e in
-    sym (h conn (grind (arith, parts.0))) ∙ parts.1
+not_by mask owners conn h e = grind (arith, absent_parts)
 
 pub none_retained : (mask : List ConnId) (owners : List Held) (conn : ConnId) (retained : Bool) → IsMasked mask owners
     → nat_lt conn.0 SET_NUMBERS && not (is_member conn mask) ≡ true

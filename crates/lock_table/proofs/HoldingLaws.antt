@@ -1,21 +1,12 @@
 -- Interests stay in order, with one of a connector in a resource.
-use Rattle.lock_table.proofs.Imports.{◌≡◌, Bool, true, not, ◌&&◌, List, filter, map, refl, ap, ◌∙◌, and_from, ConnId, Resource, resource_up_to, resource_up_to-trans, resource_up_to-either, same_part_comm, list_all_weaker, list_all-filter_same, list_all_always, FindsPlace, pairwise-filter, pairwise-insertion, pairwise-insertion_any, pairwise-map, Held, is_interest, owners_with, owners_without, in_state, are_apart, IsOwners}
+use Rattle.lock_table.proofs.Imports.{arith, ◌≡◌, Bool, true, not, ◌&&◌, List, filter, map, refl, ap, ◌∙◌, and_from, ConnId, Resource, resource_up_to, resource_up_to-trans, resource_up_to-either, same_part_comm, list_all_weaker, list_all-filter_same, list_all_always, FindsPlace, pairwise-filter, pairwise-insertion, pairwise-insertion_any, pairwise-map, Held, is_interest, owners_with, owners_without, in_state, are_apart, IsOwners}
 use Rattle.lock_table.specs.Holdings.{in_order}
 
 pub owners-filter : (q : Held → Bool) (owners : List Held) → IsOwners owners → IsOwners (filter q owners)
-owners-filter q owners is =
-    record {
-      ordered = pairwise-filter in_order q owners is.ordered;
-      one_each = pairwise-filter are_apart q owners is.one_each;
-    }
+owners-filter q owners is = grind (arith, pairwise-filter)
 
 finds_place : (held : Held) → FindsPlace in_order (λ other. resource_up_to other.r held.r) (λ other. true) held
-finds_place held =
-    record {
-      front = λ other h. h;
-      stop = λ other h e. resource_up_to-either other.r held.r e;
-      follows = λ y z h e. resource_up_to-trans held.r y.r z.r h e;
-    }
+finds_place held = grind (arith, resource_up_to-either, resource_up_to-trans)
 
 apart_both : (held other : Held) → not (is_interest held.r held.conn other) ≡ true → are_apart held other
     && are_apart other held ≡ true
@@ -41,8 +32,4 @@ owners-with held owners is =
 
 pub owners-in_state : (r : Resource) (conn : ConnId) (excl : Bool) (owners : List Held) → IsOwners owners
     → IsOwners (map (in_state r conn excl) owners)
-owners-in_state r conn excl owners is =
-    record {
-      ordered = pairwise-map in_order (in_state r conn excl) (λ x y. refl) owners ∙ is.ordered;
-      one_each = pairwise-map are_apart (in_state r conn excl) (λ x y. refl) owners ∙ is.one_each;
-    }
+owners-in_state r conn excl owners is = grind (arith, pairwise-map)

@@ -1,12 +1,12 @@
 -- What proofs here name of other crates, and of this one's definitions. Declares nothing.
-pub use Rattle.std.proofs.Common.{◌≡◌, ℕ, zero, suc, ◌+◌, ◌<◌, ◌≤◌, Bool, true, false, not, List, [], ◌∷◌, ◌++◌, map, filter, drop, get_or, length, refl, sym, ap, ◌∙◌, arith, ◌≢◌, ◌==◌, ◌&&◌, ◌||◌, if◌then◌else◌, cond, nat_lt, Some, None, position, set, subst, eqb, ltb, option_map, ◌-◌, take, is_some, replicate}
+pub use Rattle.std.proofs.Common.{◌≡◌, ℕ, zero, suc, ◌+◌, ◌<◌, ◌≤◌, Bool, true, false, not, List, [], ◌∷◌, ◌++◌, map, filter, drop, get_or, length, refl, sym, ap, ◌∙◌, arith, ◌≢◌, ◌==◌, ◌&&◌, ◌||◌, if◌then◌else◌, cond, nat_lt, Some, None, position, set, subst, option_map, ◌-◌, take, is_some, replicate}
 pub use Rattle.std.proofs.lemmas.Bool.{and_parts, not-true, eqb-true, eq-eqb, false≢true, lt-ltb, and_from, ne_eqb}
 pub use Rattle.std.proofs.lemmas.Iterator.Consumers.{nth_from_yields_List, YieldsList-from_first}
 pub use Rattle.std.proofs.lemmas.List.{append_assoc, append-nil, map-append, drop_all, length-append, length-map}
 pub use Rattle.std.proofs.lemmas.List.Elements.{filter-append}
 pub use Rattle.std.proofs.lemmas.List.Folds.{list_any-append}
 pub use Rattle.std.proofs.lemmas.List.Quantifiers.{position-Some}
-pub use Rattle.std.specs.List.{list_any, list_all, remove, insert}
+pub use Rattle.std.specs.List.{list_any, list_all, remove}
 pub use Rattle.std.specs.List.Sorted.{IsPermutation}
 pub use Rattle.cf_lists.proofs.EntryKeyLaws.{resource_order}
 pub use Rattle.cf_lists.proofs.EntrySpotLaws.{no_place, any_kept, set_placed, map_placed, some_place}
@@ -33,6 +33,5 @@ pub use Rattle.cf_types.specs.declared.resources.Resource.{Resource}
 pub use Rattle.lock_table.specs.EntryView.{owners_left}
 pub use Rattle.lock_table.specs.Holdings.{has_interest, owners_without, are_apart, is_by, is_interest, owners_without_active, in_state, in_retention, in_retention_of, owners_with, IsOwners, owners_of, owners_retained_of}
 pub use Rattle.lock_table.specs.Masks.{IsMasked}
-pub use Rattle.lock_table.specs.TableView.{TableView}
 pub use Rattle.lock_table.specs.Tables.{part_of, resource_of, one_where, owners_in, AreEntries}
 pub use Rattle.lock_table.specs.declared.holdings.Held.{Held}

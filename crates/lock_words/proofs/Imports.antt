@@ -1,9 +1,8 @@
 -- What proofs here name of other crates, and of this one's definitions. Declares nothing.
-pub use Rattle.std.proofs.Common.{◌≡◌, ◌≢◌, ◌+◌, ◌<◌, ℕ, zero, suc, Bool, true, false, List, [], ◌∷◌, ◌++◌, length, set, get_or, All, AllPairs, Contains, Option, refl, sym, ap, ◌∙◌, subst, ⊎_elim, arith, append-nil, slice_index, ◌==◌, ◌*◌, not, filter, Some, None, eq-eqb, ne_eqb, if◌then◌else◌, ◌≤◌, ◌⊎◌, inl, inr, true≢false, length-append, ◌-◌, ◌%◌, ◌^◌, cond, ◌&&◌, sum_by, eq-zero-or-pos, map, append_assoc, rules}
-pub use Rattle.std.proofs.Math.Seq.{map-set_same}
+pub use Rattle.std.proofs.Common.{◌≡◌, ◌≢◌, ◌+◌, ◌<◌, ℕ, zero, suc, Bool, true, false, List, [], ◌∷◌, ◌++◌, length, set, get_or, All, AllPairs, Contains, Option, refl, sym, ap, ◌∙◌, subst, ⊎_elim, arith, append-nil, slice_index, ◌==◌, ◌*◌, not, filter, Some, None, eq-eqb, ne_eqb, if◌then◌else◌, ◌≤◌, ◌⊎◌, inl, inr, true≢false, length-append, ◌-◌, ◌%◌, ◌^◌, cond, ◌&&◌, sum_by, eq-zero-or-pos, map, append_assoc}
 pub use Rattle.std.proofs.lemmas.Bool.{eqb-true, eqb-false}
 pub use Rattle.std.proofs.lemmas.List.{get_or-set_same, get_or-set_other, length-set, get_or_default}
-pub use Rattle.std.proofs.lemmas.List.Elements.{All-weaker, All-nil, All-cons, All-append, All-map, All-contains, All-contains_itself, Contains-append_left, Contains-append_right, Contains-push, All-set, All-push, All-filter, All-head, All-tail}
+pub use Rattle.std.proofs.lemmas.List.Elements.{All-weaker, All-nil, All-cons, All-append, All-map, All-contains, All-contains_itself, Contains-append_left, Contains-append_right, Contains-push, All-push, All-filter, All-head, All-tail}
 pub use Rattle.std.proofs.lemmas.List.FromFn.{get_or-range_with_len, length-range_with_len, map-range_with_len_more}
 pub use Rattle.std.proofs.lemmas.List.Sums.{sum_by_push, sum_by-cons, sum_by-append, get_or-le-sum_by}
 pub use Rattle.std.specs.List.{range_with_len}

@@ -1,5 +1,5 @@
 -- What a hand's notes tell of the locks that it holds.
-use Rattle.lock_words.proofs.Imports.{◌≡◌, ◌≢◌, ◌==◌, ◌+◌, ◌*◌, ◌<◌, ℕ, suc, Bool, true, false, not, List, [], ◌∷◌, ◌++◌, length, set, get_or, filter, Option, Some, None, refl, sym, ap, ◌∙◌, subst, arith, eq-eqb, ne_eqb, if◌then◌else◌, get_or-set_same, get_or-set_other, length-set, All-push, dite, ℕ_discrete, Me, TableId, Hold, Reading, Grant, View, tally, held_as, noted, says_excl, hold, reading, grant, looked, granted, tried, released, Becomes, Size, IsHand, IsLocks, HandSeen, LocksSeen, hand_seen}
+use Rattle.lock_words.proofs.Imports.{◌≡◌, ◌≢◌, ◌==◌, ◌+◌, ◌*◌, ◌<◌, ℕ, suc, Bool, true, false, not, List, [], ◌∷◌, ◌++◌, length, set, get_or, filter, Option, Some, None, refl, sym, ap, ◌∙◌, subst, arith, if◌then◌else◌, get_or-set_same, get_or-set_other, length-set, All-push, dite, ℕ_discrete, Me, TableId, Hold, Reading, Grant, View, tally, held_as, noted, says_excl, hold, reading, grant, looked, granted, tried, released, Becomes, Size, IsHand, IsLocks, HandSeen, LocksSeen, hand_seen}
 use Rattle.lock_words.proofs.Tallies.{one, tally-push, one-other, one-same, one-opposite, tally-released, tally-spared, held-as}
 
 module _ (notes : List (Option Bool)) (table : TableId) (me : Me ℕ View) (hand : IsHand notes table me) where
@@ -91,17 +91,7 @@ module _ (notes : List (Option Bool)) (table : TableId) (me : Me ℕ View) (hand
 
   pub hand-released : (here : TableId) (after : Me ℕ View) (word : ℕ) → word < length notes → here ≡ table
       → Becomes me (released me.0 word) after → IsHand (set notes word None) here after
-  hand-released here after word below t b =
-      subst (λ (x : TableId × Me ℕ View). IsHand (set notes word None) x.0 x.1) (λ i. (sym t i, (sym b.0 i, sym b.1 i)))
-      record {
-        live = hand.live;
-        alone = hand.alone;
-        no_slot = hand.no_slot;
-        length_is = ap suc (length-set notes word None) ∙ hand.length_is;
-        notes_are = counts;
-        read = hand.read;
-        ever = hand.ever;
-      }
+  hand-released here after word below t b = grind (arith, length-set, counts)
     where
       nothing : (e : Bool) → noted e None ≡ 0
       nothing true = refl
@@ -126,27 +116,13 @@ pub at-locks : (notes : List (Option Bool)) (table : TableId) (me : Me ℕ View)
     → record { table = place; words = size.words; hands = size.hands } ≡ locks → seen.table ≡ locks.table
     → word < locks.words
     → (table ≡ place) × (word < size.words) × (word < place.words) × (word < length notes)
-at-locks notes table me size place room word seen locks hand its mine ours same below =
-    let here : table ≡ place = ap (λ (h : HandSeen). h.table) mine
-    ∙ (same ∙ sym (ap (λ (l : LocksSeen). l.table) ours)) in
-    let less : word < size.words = subst (λ n. word < n) (sym (ap (λ (l : LocksSeen). l.words) ours)) below in
-    let count : suc (length notes) ≡ place.words = hand.length_is ∙ ap (λ (t : TableId). t.words) here in
-    (here, less, omega (arith, less, its.words), omega (arith, less, its.words, count))
+at-locks notes table me size place room word seen locks hand its mine ours same below = grind arith
 
 -- an exchange that found the value which it expected, or another
 pub tried-won : (me after : Me ℕ View) (word old new found : ℕ) (excl : Bool) → found ≡ old → says_excl new ≡ excl
     → Becomes me (tried me.0 word old new found) after → Becomes me (granted (looked me.0 word found) word excl) after
-tried-won me after word old new found excl same says b = (
-  b.0 ∙ (ap (λ t. if t then granted (looked me.0 word found) word (says_excl new) else looked me.0 word found)
-      (eq-eqb found old same)
-      ∙ ap (granted (looked me.0 word found) word) says),
-  b.1,
-)
+tried-won me after word old new found excl same says b = grind arith
 
 pub tried-lost : (me after : Me ℕ View) (word old new found : ℕ) → found ≢ old
     → Becomes me (tried me.0 word old new found) after → Becomes me (looked me.0 word found) after
-tried-lost me after word old new found ne b = (
-  b.0 ∙ ap (λ t. if t then granted (looked me.0 word found) word (says_excl new) else looked me.0 word found)
-      (ne_eqb found old ne),
-  b.1,
-)
+tried-lost me after word old new found ne b = grind arith

@@ -1,5 +1,5 @@
 -- A seat is split, and a seat takes in another.
-use Rattle.lock_words.proofs.Imports.{◌≡◌, ◌≢◌, ◌+◌, ◌<◌, ◌≤◌, ◌⊎◌, ℕ, zero, suc, Bool, true, false, List, [], ◌∷◌, ◌++◌, length, set, get_or, Contains, refl, sym, ap, ◌∙◌, subst, inl, inr, ⊎_elim, arith, true≢false, length-append, length-set, sum_by_push, All-weaker, All-nil, All-cons, All-append, Contains-append_left, Contains-append_right, some, some-injective, some-ne-none, dite, ℕ_discrete, get_elem?, Me, Allows, Splits, Joins, at_set, set_here, set_else, at_longer, Hold, Reading, Grant, View, Size, tally, says_excl, grant, spent_view, without_right, next_view, joined, total, IsSpent, IsOwn, IsAnswered, IsLive, AllFit, Kept}
+use Rattle.lock_words.proofs.Imports.{◌≡◌, ◌≢◌, ◌+◌, ◌<◌, ◌≤◌, ◌⊎◌, ℕ, zero, suc, Bool, true, false, List, [], ◌∷◌, ◌++◌, length, set, get_or, Contains, refl, sym, ap, ◌∙◌, subst, inl, inr, ⊎_elim, arith, true≢false, length-append, length-set, sum_by_push, All-weaker, All-nil, All-cons, All-append, Contains-append_left, Contains-append_right, some, some-injective, some-ne-none, dite, ℕ_discrete, get_elem?, Me, Allows, Splits, Joins, at_set, set_here, set_else, at_longer, Hold, Reading, Grant, View, Size, tally, grant, spent_view, without_right, next_view, joined, total, IsSpent, IsOwn, IsAnswered, IsLive, AllFit, Kept}
 use Rattle.lock_words.proofs.Tallies.{tally-append, sum-set, value-same, value-sum}
 use Rattle.lock_words.proofs.Steps.{within, same-at, not-spent, moved, fit-set}
 
@@ -18,38 +18,16 @@ one-more vs w = omega (arith, length-append vs (w ∷ []))
 -- the hand that has the right makes the next one
 pub splits : (size : Size) (id : ℕ) (v : View) → 0 < v.number → v.right ≡ true → v.number < size.hands
     → Splits (Kept size) id v (without_right v) (next_view v)
-splits size id v pos has room s kept at =
-    let views = set s.views id (without_right v) in
-    let mine = live (kept.fit id v at) in
-    let count : suc id ≡ length views = mine.right has ∙ sym (length-set s.views id (without_right v)) in
-    let number : v.number ≡ suc id = mine.number in
-    record {
-      length_is = kept.length_is;
-      few = omega (arith, one-more views (next_view v), count, number, room);
-      words = λ k. value-same _ _ (get_or s.words k 0) _ _ _ (sums k false) (sums k true) refl (kept.words k);
-      fit = fit count number;
-    }
+splits size id v pos has room s kept at = grind (arith, live, length-set, one-more, value-same, sums, fit)
   where
     live : (v ≡ spent_view) ⊎ IsLive s.views id v → IsLive s.views id v
     live f = ⊎_elim (λ (z : v ≡ spent_view). absurd (not-spent v pos (sym z))) (λ (f : IsLive s.views id v). f) f
 
     sums : (k : ℕ) (e : Bool) → total k e s.views ≡ total k e (set s.views id (without_right v) ++ next_view v ∷ [])
-    sums k e = omega (
-      arith,
-      sum-set (λ u. tally k e u.held) s.views id v (without_right v) at,
-      sum_by_push (λ (u : View). tally k e u.held) (set s.views id (without_right v)) (next_view v),
-    )
+    sums k e = grind (arith, sum-set, sum_by_push)
 
     before : AllFit (set s.views id (without_right v))
-    before = fit-set s.views id v (without_right v) at pos kept.fit (λ g h. h) (λ f. record {
-      number = f.number;
-      own = f.own;
-      right = λ r. absurd (true≢false (sym r));
-      gathered = f.gathered;
-      ever = f.ever;
-      held = f.held;
-      read = f.read;
-    })
+    before = grind (arith, fit-set, true≢false)
 
     spent : (k : ℕ) → IsSpent (set s.views id (without_right v)) k
         → IsSpent (set s.views id (without_right v) ++ next_view v ∷ []) k
@@ -89,12 +67,7 @@ splits size id v pos has room s kept at =
 -- a hand takes in another
 pub joins : (size : Size) (id : ℕ) (v : View) (other : ℕ) (w : View) → 0 < v.number → 0 < w.number
     → Joins (Kept size) id v other w (joined v w) spent_view
-joins size id v other w pos pos' s kept at apart there = record {
-  length_is = kept.length_is;
-  few = subst (λ l. l ≤ size.hands) (sym lengths) kept.few;
-  words = λ k. value-same _ _ (get_or s.words k 0) _ _ _ (sums k false) (sums k true) refl (kept.words k);
-  fit = fit;
-}
+joins size id v other w pos pos' s kept at apart there = grind (arith, lengths, value-same, sums, fit)
   where
     lengths : length (set (set s.views id (joined v w)) other spent_view) ≡ length s.views
     lengths = length-set (set s.views id (joined v w)) other spent_view ∙ length-set s.views id (joined v w)
@@ -128,14 +101,7 @@ joins size id v other w pos pos' s kept at apart there = record {
         ∙ (set_else s.views id j (joined v w) far ∙ e)
 
     spent : (k : ℕ) → IsSpent s.views k → IsSpent (set (set s.views id (joined v w)) other spent_view) k
-    spent k t = (
-      t.0,
-      t.1,
-      dite (ℕ_discrete t.0 other)
-          (λ (e : t.0 ≡ other). ap (get_elem? (set (set s.views id (joined v w)) other spent_view)) e ∙ at-other)
-          (λ (ne : t.0 ≢ other). at-else t.0 spent_view
-          (λ e. not-spent v pos (same-at s.views t.0 id spent_view v e t.2 at)) ne t.2),
-    )
+    spent k t = grind (arith, dite, ℕ_discrete, get_elem?, at-other, at-else, not-spent, same-at)
 
     gone : (k : ℕ) → IsOwn s.views other k → IsSpent (set (set s.views id (joined v w)) other spent_view) k
     gone k o = ⊎_elim (λ (e : k ≡ suc other). (other, e, at-other)) (λ (t : IsSpent s.views k). spent k t) o
@@ -145,29 +111,7 @@ joins size id v other w pos pos' s kept at apart there = record {
 
     answered : (r : Reading) → IsAnswered s.views r → IsAnswered (set (set s.views id (joined v w)) other spent_view) r
     answered r answer some_value =
-        let a = answer some_value in
-        let g = grant a.2 r.word (says_excl r.value) in
-        dite (ℕ_discrete a.0 other)
-        (λ (e : a.0 ≡ other). (
-          id,
-          joined v w,
-          a.2,
-          at-first,
-          a.4,
-          Contains-append_right v.ever w.ever g
-              (subst (λ (u : View). Contains u.ever g) (same-at s.views a.0 other a.1 w e a.3 was) a.5),
-        ))
-        (λ (off : a.0 ≢ other). dite (ℕ_discrete a.0 id)
-        (λ (e : a.0 ≡ id). (
-          id,
-          joined v w,
-          a.2,
-          at-first,
-          a.4,
-          Contains-append_left v.ever w.ever g
-              (subst (λ (u : View). Contains u.ever g) (same-at s.views a.0 id a.1 v e a.3 at) a.5),
-        ))
-        (λ (far : a.0 ≢ id). (a.0, a.1, a.2, at-else a.0 a.1 far off a.3, a.4, a.5)))
+        grind (arith, dite, ℕ_discrete, at-first, Contains-append_right, same-at, was, Contains-append_left, at-else)
 
     Has : Hold → Type 0
     Has x = (hand : ℕ) × Contains (v.ever ++ w.ever) (grant hand x.word x.excl)

@@ -21,27 +21,11 @@ pub moved : (views views' : List View) (seat : ℕ) (v : View) → ((k : ℕ) �
     → ((r : Reading) → IsAnswered views r → IsAnswered views' r)
     → (v.right ≡ true → suc seat ≡ length views → suc seat ≡ length views') → IsLive views seat v
     → IsLive views' seat v
-moved views views' seat v spent answered right f = record {
-  number = f.number;
-  own = f.own;
-  right = λ r. right r (f.right r);
-  gathered = All-weaker (IsOwn views seat) (IsOwn views' seat) own v.gathered f.gathered;
-  ever = All-weaker (λ (g : Grant). IsOwn views seat g.hand) (λ (g : Grant). IsOwn views' seat g.hand) (λ g. own g.hand)
-      v.ever f.ever;
-  held = f.held;
-  read = All-weaker (IsAnswered views) (IsAnswered views') answered v.read f.read;
-}
-  where
-    own : (k : ℕ) → IsOwn views seat k → IsOwn views' seat k
-    own k o = ⊎_elim (λ (p : k ≡ suc seat). inl p) (λ (p : IsSpent views k). inr (spent k p)) o
+moved views views' seat v spent answered right f = grind (arith, All-weaker, ⊎_elim)
 
 module _ (views : List View) (id : ℕ) (v w : View) (at : get_elem? views id ≡ some v) (pos : 0 < v.number) where
   pub spent-set : (k : ℕ) → IsSpent views k → IsSpent (set views id w) k
-  spent-set k s = (
-    s.0,
-    s.1,
-    set_else views id s.0 w (λ e. not-spent v pos (same-at views s.0 id spent_view v e s.2 at)) ∙ s.2,
-  )
+  spent-set k s = grind (arith, set_else, not-spent, same-at)
 
   pub answered-set : ((g : Grant) → Contains v.ever g → Contains w.ever g) → (r : Reading) → IsAnswered views r
       → IsAnswered (set views id w) r
@@ -97,16 +81,7 @@ answers size s id word v kept at pos no_share no_excl some_value =
 
     apart : (seat : ℕ) (u : View) (hand : ℕ) (b : Bool) → get_elem? s.views seat ≡ some u → 0 < tally word b u.held
         → IsOwn s.views seat hand → hand ≢ v.number
-    apart seat u hand b there has own same =
-        let mine : v.number ≡ suc id =
-        ⊎_elim (λ (z : v ≡ spent_view). absurd (not-spent v pos (sym z))) (λ (f : IsLive s.views id v). f.number)
-        (kept.fit id v at) in
-        ⊎_elim
-        (λ (p : hand ≡ suc seat). let e : tally word b u.held ≡ 0 = ap (λ (x : View). tally word b x.held)
-        (same-at s.views seat id u v (omega arith) there at) ∙ nothing b in omega arith)
-        (λ (p : IsSpent s.views hand). let n = p.1
-        in not-spent v pos (same-at s.views p.0 id spent_view v (omega arith) p.2 at))
-        own
+    apart seat u hand b there has own same = grind (arith, ⊎_elim, not-spent, same-at, nothing)
 
     go : (seat : ℕ) (u : View) (b : Bool) → get_elem? s.views seat ≡ some u → 0 < tally word b u.held
         → (u ≡ spent_view) ⊎ IsLive s.views seat u
@@ -134,12 +109,7 @@ pub stepped-kept : (size : Size) (s : State ℕ View) (id i n : ℕ) (v w : View
     → ((k : ℕ) (e : Bool) → k ≢ i → tally k e w.held ≡ tally k e v.held)
     → IsValue (total i false (set s.views id w)) (total i true (set s.views id w)) n
     → Kept size (record { words = set s.words i n; homes = s.homes; views = set s.views id w })
-stepped-kept size s id i n v w kept at pos below more mine same here = record {
-  length_is = length-set s.words i n ∙ kept.length_is;
-  few = subst (λ l. l ≤ size.hands) (sym (length-set s.views id w)) kept.few;
-  words = values-set s.words s.views id i n v w at (subst (λ l. i < l) (sym kept.length_is) below) kept.words same here;
-  fit = fit-set s.views id v w at pos kept.fit more mine;
-}
+stepped-kept size s id i n v w kept at pos below more mine same here = grind (arith, length-set, values-set, fit-set)
 
 -- a reading more
 pub live-looked : (views : List View) (seat : ℕ) (v : View) (word value : ℕ)
@@ -248,14 +218,8 @@ tries size slots id i old new excl me below pos no_share no_excl admits adds s k
     value : (e : Bool) → excl ≡ e → Admits old e → new ≡ cond e 9223372036854775808 (old + 1) → (n : ℕ) → n ≡ old
         → IsValue (total i false s.views) (total i true s.views) n
         → IsValue (total i false s.views + one i false (hold i e)) (total i true s.views + one i true (hold i e)) new
-    value true is adm q n same v =
-        let t = value-sum (total i false s.views) (total i true s.views) n v in let a : old ≡ 0 = adm in
-        value-is _ _ _ (omega (arith, t.0, t.1, a, q, same, one-same i true, one-opposite i true))
-        (omega (arith, t.0, t.1, a, same, one-same i true, one-opposite i true))
-    value false is adm q n same v =
-        let t = value-sum (total i false s.views) (total i true s.views) n v in let a : old < 65535 = adm in
-        value-is _ _ _ (omega (arith, t.0, t.1, a, q, same, one-same i false, one-opposite i false))
-        (omega (arith, t.0, t.1, a, same, one-same i false, one-opposite i false))
+    value true is adm q n same v = grind (arith, value-sum, value-is, same, one-same, one-opposite)
+    value false is adm q n same v = grind (arith, value-sum, value-is, same, one-same, one-opposite)
 
     same : (n : ℕ) (e : Bool) → total i e s.views ≡ total i e (set s.views id (looked me.0 i n))
     same n e = omega (arith, sum-set (λ u. tally i e u.held) s.views id me.0 (looked me.0 i n) at)

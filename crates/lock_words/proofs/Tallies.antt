@@ -35,17 +35,7 @@ left w xs = filter (λ (x : Hold). not (x.word == w)) xs
 -- a released word counts nothing, and each other one as before
 pub tally-released : (w : ℕ) (e : Bool) (xs : List Hold) → tally w e (left w xs) ≡ 0
 tally-released w e [] = refl
-tally-released w e (x ∷ xs) = go (tally-released w e xs) (x.word == w) refl
-  where
-    go : tally w e (left w xs) ≡ 0 → (b : Bool) → (x.word == w) ≡ b → tally w e (left w (x ∷ xs)) ≡ 0
-    go more true is = ap (λ t. tally w e (cond (not t) (x ∷ left w xs) (left w xs))) is ∙ more
-    go more false is = ap (λ t. tally w e (cond (not t) (x ∷ left w xs) (left w xs))) is
-        ∙ (tally-cons w e x (left w xs)
-        ∙ omega (
-          arith,
-          ap (λ t. bit (t && cond e x.excl (not x.excl))) is,
-          more,
-        ))
+tally-released w e (x ∷ xs) = grind (arith, tally-cons, tally-released w e xs)
 
 pub tally-spared : (w k : ℕ) (e : Bool) (xs : List Hold) → k ≢ w → tally k e (left w xs) ≡ tally k e xs
 tally-spared w k e [] ne = refl
@@ -53,41 +43,15 @@ tally-spared w k e (x ∷ xs) ne = go (tally-spared w k e xs ne) (x.word == w) r
   where
     go : tally k e (left w xs) ≡ tally k e xs → (b : Bool) → (x.word == w) ≡ b
         → tally k e (left w (x ∷ xs)) ≡ tally k e (x ∷ xs)
-    go more true is = ap (λ t. tally k e (cond (not t) (x ∷ left w xs) (left w xs))) is
-        ∙ (more
-        ∙ omega (
-          arith,
-          tally-cons k e x xs,
-          ap (λ t. bit (t && cond e x.excl (not x.excl)))
-              (ne_eqb x.word k (λ q. ne (sym q ∙ eqb-true x.word w is))),
-        ))
+    go more true is = grind (arith, tally-cons, eqb-true)
     go more false is = ap (λ t. tally k e (cond (not t) (x ∷ left w xs) (left w xs))) is
         ∙ omega (arith, tally-cons k e x (left w xs), tally-cons k e x xs, more)
 
 -- a hold that is counted has what all of them have
 pub counted : (P : Hold → Type 0) (w : ℕ) (e : Bool) (xs : List Hold) → All P xs → 0 < tally w e xs → P (hold w e)
 counted P w e [] all pos = absurd (omega arith)
-counted P w e (x ∷ xs) all pos = go e (x.word == w) x.excl refl refl (counted P w e xs (All-tail P x xs all)) pos
-  where
-    it : (b : Bool) → x.word ≡ w → x.excl ≡ b → P (hold w b)
-    it b p q = subst P (λ i. hold (p i) (q i)) (All-head P x xs all)
-
-    rest : (d b c : Bool) → (x.word == w) ≡ b → x.excl ≡ c → (b && cond d c (not c)) ≡ false
-        → 0 < tally w d (x ∷ xs) → 0 < tally w d xs
-    rest d b c p q off pos = omega (
-      arith,
-      tally-cons w d x xs,
-      ap bit ((λ i. p i && cond d (q i) (not (q i))) ∙ off),
-      pos,
-    )
-
-    go : (d b c : Bool) → (x.word == w) ≡ b → x.excl ≡ c → (0 < tally w d xs → P (hold w d))
-        → 0 < tally w d (x ∷ xs) → P (hold w d)
-    go d false c p q later pos = later (rest d false c p q refl pos)
-    go true true true p q later pos = it true (eqb-true x.word w p) q
-    go true true false p q later pos = later (rest true true false p q refl pos)
-    go false true true p q later pos = later (rest false true true p q refl pos)
-    go false true false p q later pos = it false (eqb-true x.word w p) q
+counted P w e (x ∷ xs) all pos =
+    grind (arith, All-tail, All-head, tally-cons, eqb-true, counted P w e xs (All-tail P x xs all))
 
 -- the first hold of a word tells how it is held, where there is at most one
 pub held-as : (w : ℕ) (o : Option Bool) (xs : List Hold) → tally w false xs ≡ noted false o
@@ -157,10 +121,7 @@ alone f (x ∷ xs) (suc i) v e others = omega (
 
 -- a word's value, as one sum
 pub value-sum : (s x n : ℕ) → IsValue s x n → (n ≡ s + x * 9223372036854775808) × (s + x * 65535 ≤ 65535)
-value-sum s x n v = ⊎_elim
-    (λ (t : (x ≡ 0) × (n ≡ s) × (s ≤ 65535)). let a = t.0 in let b = t.1 in let c = t.2 in (omega arith, omega arith))
-    (λ (t : (x ≡ 1) × (s ≡ 0) × (n ≡ 9223372036854775808)). let a = t.0 in let b = t.1 in let c = t.2
-    in (omega arith, omega arith)) v
+value-sum s x n v = grind (arith, ⊎_elim)
 
 pub value-is : (s x n : ℕ) → n ≡ s + x * 9223372036854775808 → s + x * 65535 ≤ 65535 → IsValue s x n
 value-is s x n sum most = ⊎_elim (λ (z : x ≡ 0). inl (z, omega arith, omega arith))
@@ -173,9 +134,7 @@ value-same s x n s' x' n' p q r = subst (λ (t : ℕ × ℕ × ℕ). IsValue t.0
 pub value-state : (s x n : ℕ) → IsValue s x n → 0 < n → (b : Bool) → says_excl n ≡ b → 0 < cond b x s
 value-state s x n v pos true is =
     let t = value-sum s x n v in let e = eqb-true n 9223372036854775808 is in omega (arith, t.0, t.1, e)
-value-state s x n v pos false is = let t = value-sum s x n v in let ne = eqb-false n 9223372036854775808 is in
-    ⊎_elim (λ (a : (x ≡ 0) × (n ≡ s) × (s ≤ 65535)). let b = a.1 in omega arith)
-    (λ (a : (x ≡ 1) × (s ≡ 0) × (n ≡ 9223372036854775808)). absurd (ne a.2)) v
+value-state s x n v pos false is = grind (arith, value-sum, eqb-false, ⊎_elim)
 
 -- one seat's change, seen from the words
 pub values-set : (ws : List ℕ) (views : List View) (id i n : ℕ) (v w : View) → get_elem? views id ≡ some v
@@ -184,15 +143,8 @@ pub values-set : (ws : List ℕ) (views : List View) (id i n : ℕ) (v w : View)
     → ((k : ℕ) (e : Bool) → k ≢ i → tally k e w.held ≡ tally k e v.held)
     → IsValue (total i false (set views id w)) (total i true (set views id w)) n
     → (k : ℕ) → IsValue (total k false (set views id w)) (total k true (set views id w)) (get_or (set ws i n) k 0)
-values-set ws views id i n v w at within all same here k = dite (ℕ_discrete k i)
-    (λ (e : k ≡ i). subst
-    (λ j. IsValue (total j false (set views id w)) (total j true (set views id w)) (get_or (set ws i n) j 0))
-    (sym e)
-    (subst (λ m. IsValue (total i false (set views id w)) (total i true (set views id w)) m)
-    (sym (get_or-set_same ws i n 0 within)) here))
-    (λ (ne : k ≢ i). value-same (total k false views) (total k true views) (get_or ws k 0) _ _ _ (sums k false ne)
-    (sums k true ne)
-    (sym (get_or-set_other ws i k n 0 ne)) (all k))
+values-set ws views id i n v w at within all same here k =
+    grind (arith, dite, ℕ_discrete, get_or-set_same, value-same, sums, get_or-set_other)
   where
     sums : (k : ℕ) (e : Bool) → k ≢ i → total k e views ≡ total k e (set views id w)
     sums k e ne = omega (arith, sum-set (λ u. tally k e u.held) views id v w at, same k e ne)

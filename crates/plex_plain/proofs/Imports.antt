@@ -1,5 +1,5 @@
 -- What proofs here name of other crates, and of this one's definitions. Declares nothing.
-pub use Rattle.std.proofs.Common.{◌≡◌, ℕ, Bool, true, false, List, [], ◌∷◌, ◌++◌, Option, None, Some, codes, refl, sym, ap, ◌∙◌, if◌then◌else◌, decimal, ◌≢◌, ◌-◌, ◌<◌, ◌≤◌, ◌==◌, ◌||◌, nat_lt, length, length-append, get_or, position, arith, zero, suc, ◌+◌, ◌^◌, nat_le, ◌&&◌, not, option_map, inl, append_assoc, lit<, All, ◌*◌, cond, subst, inr, replicate}
+pub use Rattle.std.proofs.Common.{◌≡◌, ℕ, Bool, true, false, List, [], ◌∷◌, ◌++◌, Option, None, Some, codes, refl, sym, ap, ◌∙◌, if◌then◌else◌, decimal, ◌≢◌, ◌-◌, ◌<◌, ◌≤◌, ◌==◌, ◌||◌, nat_lt, length, length-append, get_or, position, arith, zero, suc, ◌+◌, ◌^◌, nat_le, ◌&&◌, not, option_map, inl, append_assoc, lit<, All, ◌*◌, subst, inr, replicate}
 pub use Rattle.std.proofs.lemmas.Bool.{and_parts, and_from}
 pub use Rattle.std.proofs.lemmas.Bool.Decides.{nat_tests}
 pub use Rattle.std.proofs.lemmas.Fmt.{length-decimal-le, decimal_nonempty, digits_decimal, decimal_digit}
@@ -10,7 +10,6 @@ pub use Rattle.std.proofs.lemmas.List.Sums.{take_while-cons}
 pub use Rattle.std.proofs.lemmas.Option.{slice_get-get_or}
 pub use Rattle.std.specs.Char.{is_ascii_digit}
 pub use Rattle.std.specs.List.{position_or_len, list_any, list_all, flat_map, filter, slice_split}
-pub use Rattle.std.specs.Option.{option_map_or}
 pub use Rattle.cf_types.specs.Forms.{IsFacility}
 pub use Rattle.cf_types.specs.Term.{block_of, IsTerm, IsPadded, text_in_block, term_byte}
 pub use Rattle.cf_types.specs.declared.cache_commands.CacheCmd.{CacheCmd}
@@ -46,5 +45,5 @@ pub use Rattle.plex_spell.specs.Tokens.Token.{Literal, OnResource, Number, Term,
 pub use Rattle.plex_spell.specs.Words.{same_word, is_nonempty, tail_of, is_blank, words_of, without_return, lines_in, lines_of, line_of, line_text}
 pub use Rattle.plex_spell.specs.declared.rigour.Rigour.TheVariants.{Names}
 pub use Rattle.plex_plain.specs.Naming.{resource_word, caller_name, facility_word}
-pub use Rattle.plex_plain.specs.PlainWords.{plain_word, plain_words, storage_told, class_told, castout_words, keep_word, end_word, cache_words, list_words, state_word, refs_word, told_words, number_words, text_words, name_words, key_words}
+pub use Rattle.plex_plain.specs.PlainWords.{plain_word, plain_words, storage_told, class_told, castout_words, keep_word, end_word, state_word, refs_word, told_words, number_words, text_words, name_words, key_words}
 pub use Rattle.plex_plain.specs.Ranges.{IsNamed, AreNames, IsWithin, AreWithin, IsOneOf}

@@ -1,5 +1,5 @@
 -- Where a name stands among names.
-use Rattle.plex_plain.proofs.Imports.{◌≡◌, ◌≢◌, ℕ, ◌-◌, ◌<◌, ◌≤◌, ◌==◌, ◌||◌, Bool, true, false, nat_lt, List, [], ◌∷◌, ◌++◌, length, length-append, get_or, Option, Some, position, decimal, refl, sym, ap, ◌∙◌, arith, zero, suc, position_or_len, list_any, option_map_or, nat_tests, slice_get-get_or, Name16, block_of, same_word, name_word, same_word-refl, word-same, caller_name, IsNamed}
+use Rattle.plex_plain.proofs.Imports.{◌≡◌, ◌≢◌, ℕ, ◌-◌, ◌<◌, ◌≤◌, ◌==◌, ◌||◌, Bool, true, false, List, [], ◌∷◌, ◌++◌, length, length-append, get_or, Some, position, refl, ◌∙◌, arith, zero, suc, position_or_len, list_any, nat_tests, slice_get-get_or, Name16, same_word, name_word, same_word-refl, word-same, caller_name, IsNamed}
 
 -- ---- the first place at which a test holds
 
@@ -15,24 +15,15 @@ first_place p (x ∷ xs) (suc i) d low here before =
 pub position-first : {X : Type 0} (p : X → Bool) (xs : List X) (i : ℕ) (d : X) → i < length xs
     → p (get_or xs i d) ≡ true
     → ((k : ℕ) → k < i → p (get_or xs k d) ≡ false) → position p xs ≡ Some i
-position-first p xs i d low here before =
-    let at = first_place p xs i d low here before in
-    let within : nat_lt i (length xs) ≡ true = grind (arith, nat_tests) in
-    rw (at, within) refl
+position-first p xs i d low here before = grind (arith, first_place, nat_tests)
 
 -- ---- names
 
 same_bytes : (a b : Name16) → IsNamed a → IsNamed b → name_word a ≡ name_word b → a ≡ b
-same_bytes a b h k e =
-    let bytes : a.0 ≡ b.0 = h.0.1 ∙ ap block_of e ∙ sym k.0.1 in
-    ap (λ (bs : List ℕ). (let name : Name16 = record { 0 = bs } in name)) bytes
+same_bytes a b h k e = grind arith
 
 pub apart_words : (a b : Name16) → IsNamed a → IsNamed b → a ≢ b → same_word (name_word a) (name_word b) ≡ false
-apart_words a b h k apart = at_test (same_word (name_word a) (name_word b)) refl
-  where
-    at_test : (t : Bool) → same_word (name_word a) (name_word b) ≡ t → t ≡ false
-    at_test true e = absurd (apart (same_bytes a b h k (word-same (name_word a) (name_word b) e)))
-    at_test false e = refl
+apart_words a b h k apart = grind (arith, same_bytes, word-same)
 
 -- things that have names, each once
 pub record HaveNames {X : Type 0} (name : X → Name16) (xs : List X) : Type 0 where
@@ -52,10 +43,7 @@ name-place name xs i d h low =
 -- a connector by its name
 pub caller-word : (connectors : List Name16) (n : ℕ) (d : Name16) → 1 ≤ n → n ≤ length connectors
     → caller_name connectors n ≡ name_word (get_or connectors (n - 1) d)
-caller-word connectors n d some most =
-    let no : (n == 0) ≡ false = grind (arith, nat_tests) in
-    let known = slice_get-get_or connectors (n - 1) d (omega arith) in
-    rw no (ap (λ (o : Option Name16). option_map_or name_word o (decimal n)) known)
+caller-word connectors n d some most = grind (arith, nat_tests, slice_get-get_or)
 
 -- behind things at which a test fails
 seam_place : {X : Type 0} (p : X → Bool) (front : List X) (x : X) (back : List X) → list_any p front ≡ false
@@ -74,8 +62,4 @@ seam_place p (y ∷ front) x back before here =
 
 pub position-seam : {X : Type 0} (p : X → Bool) (front : List X) (x : X) (back : List X) → list_any p front ≡ false
     → p x ≡ true → position p (front ++ x ∷ back) ≡ Some (length front)
-position-seam p front x back before here =
-    let at = seam_place p front x back before here in
-    let within : nat_lt (length front) (length (front ++ x ∷ back)) ≡ true =
-    grind (arith, nat_tests, length-append front (x ∷ back)) in
-    rw (at, within) refl
+position-seam p front x back before here = grind (arith, seam_place, nat_tests, length-append)

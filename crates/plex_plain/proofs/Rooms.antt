@@ -1,5 +1,5 @@
 -- Plain words are words, and how many bytes they take in a line.
-use Rattle.plex_plain.proofs.Imports.{◌≡◌, ℕ, ◌+◌, ◌-◌, ◌≤◌, ◌<◌, ◌^◌, Bool, true, false, nat_le, List, [], ◌∷◌, ◌++◌, length, get_or, Option, Some, None, codes, decimal, refl, arith, zero, suc, length-append, is_ascii_digit, list_all, and_parts, and_from, nat_tests, length-decimal-le, decimal_nonempty, digits_decimal, Name16, CfId, Resource, IsTerm, IsPadded, text_in_block, term_byte, is_nonempty, tail_of, Declared, Token, name_word, Literal, Number, Term, Short, Data, OnResource, Record, OfFacility, OfConnector, OfStructure, NewFacility, NewName, option_tokens, flag_tokens, own, facility_word, resource_word, caller_name, plain_word, plain_words, AreNames, IsWithin, AreWithin}
+use Rattle.plex_plain.proofs.Imports.{◌≡◌, ℕ, ◌+◌, ◌-◌, ◌≤◌, ◌<◌, ◌^◌, Bool, true, false, List, [], ◌∷◌, ◌++◌, length, get_or, Option, Some, None, codes, decimal, refl, arith, zero, suc, length-append, is_ascii_digit, list_all, and_parts, and_from, nat_tests, length-decimal-le, decimal_nonempty, digits_decimal, Name16, CfId, Resource, IsTerm, IsPadded, text_in_block, term_byte, is_nonempty, tail_of, Declared, Token, name_word, Literal, Number, Term, Short, Data, OnResource, Record, OfFacility, OfConnector, OfStructure, NewFacility, NewName, option_tokens, flag_tokens, own, facility_word, resource_word, caller_name, plain_word, plain_words, AreNames, IsWithin, AreWithin}
 use Rattle.plex_plain.proofs.Places.{caller-word}
 use Rattle.plex_plain.proofs.Said.{solid, is_short_word, is_plain, small_high}
 use Rattle.plex_plain.proofs.Tests.{all-append, all-weaker}
@@ -18,12 +18,7 @@ nonempty [] h = absurd (omega arith)
 nonempty (b ∷ word) h = refl
 
 text-good : (limit most : ℕ) (text : List ℕ) → limit ≤ most → IsTerm limit text → IsGood most text
-text-good limit most text less h =
-    record {
-      some = nonempty text h.nonempty;
-      solid_all = all-weaker term_byte solid solid_term text h.characters;
-      short = omega (arith, h.short);
-    }
+text-good limit most text less h = grind (arith, nonempty, all-weaker, solid, solid_term)
 
 pub name-good : (name : Name16) → IsPadded name.0 → IsGood 64 (name_word name)
 name-good name h = text-good 16 64 (name_word name) (omega arith) h.0
@@ -32,12 +27,7 @@ digits-solid : (n : ℕ) → n < 2 ^ 64 → list_all solid (decimal n) ≡ true
 digits-solid n small = all-weaker is_ascii_digit solid solid_digit (decimal n) (digits_decimal own n small)
 
 pub number-good : (n : ℕ) → n < 2 ^ 64 → IsGood 20 (decimal n)
-number-good n small =
-    record {
-      some = nonempty (decimal n) (decimal_nonempty n small);
-      solid_all = digits-solid n small;
-      short = length-decimal-le 20 n (omega arith) (omega arith) small;
-    }
+number-good n small = grind (arith, nonempty, decimal_nonempty, digits-solid, length-decimal-le)
 
 -- something before a number
 led-good : (front : List ℕ) (n most : ℕ) → n < 2 ^ 64 → is_nonempty front ≡ true → list_all solid front ≡ true
@@ -81,10 +71,7 @@ caller-good connectors (suc n) h most = connector-good connectors (suc n) h (ome
 
 short-good : (text : List ℕ) → is_short_word text ≡ true → IsGood 64 text
 short-good [] h = absurd (cc)
-short-good (b ∷ bs) h =
-    let parts = and_parts (nat_le (length (b ∷ bs)) 64) (list_all solid (b ∷ bs)) h in
-    let less : length (b ∷ bs) ≤ 64 = grind (arith, nat_tests) in
-    record { some = refl; solid_all = parts.1; short = less }
+short-good (b ∷ bs) h = grind (arith, and_parts, solid, nat_tests)
 
 -- how many bytes the word of a token takes at most
 abbrev pub room_of : Token → ℕ
@@ -148,24 +135,14 @@ no_tokens = record { plain = refl; short = omega arith }
 
 pub token-first : (token : Token) (tokens : List Token) (most : ℕ) → is_plain token ≡ true → IsRow most tokens
     → IsRow (room_of token + 1 + most) (token ∷ tokens)
-token-first token tokens most plain h =
-    record {
-      plain = and_from (is_plain token) (list_all is_plain tokens) plain h.plain;
-      short =
-          omega (arith, h.short);
-    }
+token-first token tokens most plain h = grind (arith, and_from, is_plain)
 
 rooms-append : (xs ys : List Token) → rooms (xs ++ ys) ≡ rooms xs + rooms ys
 rooms-append [] ys = omega arith
 rooms-append (x ∷ xs) ys = omega (arith, rooms-append xs ys)
 
 pub row-append : (m n : ℕ) (xs ys : List Token) → IsRow m xs → IsRow n ys → IsRow (m + n) (xs ++ ys)
-row-append m n xs ys h k =
-    record {
-      plain = all-append is_plain xs ys h.plain k.plain;
-      short =
-          omega (arith, rooms-append xs ys, h.short, k.short);
-    }
+row-append m n xs ys h k = grind (arith, all-append, is_plain, rooms-append)
 
 pub row-wider : (m n : ℕ) (tokens : List Token) → m ≤ n → IsRow m tokens → IsRow n tokens
 row-wider m n tokens less h = record { plain = h.plain; short = omega (arith, h.short) }

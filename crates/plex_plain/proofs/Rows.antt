@@ -1,5 +1,5 @@
 -- The tokens of each command: which they are made of, and how much room their words take.
-use Rattle.plex_plain.proofs.Imports.{ℕ, Bool, true, false, List, [], ◌∷◌, Option, Some, None, codes, refl, arith, Name16, Key16, Resource, ShellCmd, Connect, Disconnect, Fail, Next, Respond, RebuildStart, RebuildStop, RebuildConnect, Copy, RebuildComplete, ForceConn, ForceStr, LoseConn, RestoreConn, Vary, DuplexStart, DuplexStop, CacheCmd, At, Cond, NotHeld, HeldBy, ListCmd, Keep, Deny, Notify, LockCmd, Token, Literal, Term, Data, OnResource, number, end, state, name_tokens, key_tokens, number_tokens, version_tokens, short_tokens, data_tokens, option_tokens, shell_tokens, class_tokens, cache_tokens, at_tokens, cond_tokens, list_tokens, lock_tokens}
+use Rattle.plex_plain.proofs.Imports.{ℕ, Bool, true, false, List, [], ◌∷◌, Option, Some, None, codes, refl, arith, Name16, Key16, Resource, ShellCmd, Connect, Disconnect, Fail, Next, Respond, RebuildStart, RebuildStop, RebuildConnect, Copy, RebuildComplete, ForceConn, ForceStr, LoseConn, RestoreConn, Vary, DuplexStart, DuplexStop, CacheCmd, At, Cond, NotHeld, HeldBy, ListCmd, Keep, Deny, Notify, LockCmd, Token, Literal, OnResource, number, end, state, name_tokens, key_tokens, number_tokens, version_tokens, short_tokens, data_tokens, option_tokens, shell_tokens, class_tokens, cache_tokens, at_tokens, cond_tokens, list_tokens, lock_tokens}
 use Rattle.cf_types.specs.declared.cache_commands.CacheCmd.TheVariants as cache
 use Rattle.cf_types.specs.declared.list_commands.At.TheVariants as at
 use Rattle.cf_types.specs.declared.list_commands.ListCmd.TheVariants as list
@@ -71,19 +71,9 @@ class-row (Some class) = record { plain = refl; short = omega arith }
 
 pub cache-row : (given : Option ℕ) (cmd : CacheCmd) → IsCommandRow (cache_tokens given cmd)
 cache-row given (cache.Read name index old stg) =
-    row-wider 455 6000 _ (omega arith)
-    (row-append 195 260 (Literal (codes "READ") ∷ Term name.0 ∷ number index ∷ []) _
-    (record { plain = refl; short = omega arith })
-    (row-append 130 130 _ _ (old-row old) (row-append 130 0 _ _ (storage-row given) no_tokens)))
+    grind (arith, row-wider, row-append, old-row, storage-row, no_tokens)
 cache-row given (cache.Write name index body class adj old stg when_reg) =
-    row-wider 4877 6000 _ (omega arith)
-    (row-append 4292 585 (Literal (codes "WRITE") ∷ Term name.0 ∷ number index ∷ Data body ∷ []) _
-    (record { plain = refl; short = omega arith })
-    (row-append 130 455 _ _ (class-row class)
-    (row-append 130 325 _ _ (adjunct-row adj)
-    (row-append 130 195 _ _ (old-row old)
-    (row-append 130 65 _ _ (storage-row given)
-    (row-append 65 0 _ _ (row-flag (codes "WHENREG") when_reg refl) no_tokens))))))
+    grind (arith, row-wider, row-append, class-row, adjunct-row, old-row, storage-row, row-flag, no_tokens)
 cache-row given (cache.CrossInval name) = record { plain = refl; short = omega arith }
 cache-row given cache.RegList = record { plain = refl; short = omega arith }
 cache-row given (cache.Castout name) = record { plain = refl; short = omega arith }
@@ -118,35 +108,14 @@ place-row header false = record { plain = refl; short = omega arith }
 
 pub list-row : (cmd : ListCmd) → IsCommandRow (list_tokens cmd)
 list-row (list.Write header head name key body adj cond) =
-    row-wider 4877 6000 _ (omega arith)
-    (row-append 195 4682 (Literal (codes "WRITE") ∷ number header ∷ end head ∷ []) _ (make-row header head)
-    (row-append 130 4552 _ _ (name-row (codes "NAME") name (record { plain = refl; short = omega arith }))
-    (row-append 130 4422 _ _ (key-row key)
-    (row-append 4162 260 _ _ (data-row body)
-    (row-append 130 130 _ _ (adjunct-row adj) (row-append 130 0 _ _ (cond-row cond) no_tokens))))))
+    grind (arith, row-wider, row-append, make-row, name-row, key-row, data-row, adjunct-row, cond-row, no_tokens)
 list-row (list.Update ref body adj version cond) =
-    row-wider 4812 6000 _ (omega arith)
-    (row-append 65 4747 (Literal (codes "UPDATE") ∷ []) _ (record { plain = refl; short = omega arith })
-    (row-append 195 4552 _ _ (at-row ref)
-    (row-append 4162 390 _ _ (data-row body)
-    (row-append 130 260 _ _ (adjunct-row adj)
-    (row-append 130 130 _ _ (version-row version) (row-append 130 0 _ _ (cond-row cond) no_tokens))))))
-list-row (list.Read ref cond) =
-    row-wider 390 6000 _ (omega arith)
-    (row-append 65 325 (Literal (codes "READ") ∷ []) _ (record { plain = refl; short = omega arith })
-    (row-append 195 130 _ _ (at-row ref) (row-append 130 0 _ _ (cond-row cond) no_tokens)))
+    grind (arith, row-wider, row-append, at-row, data-row, adjunct-row, version-row, cond-row, no_tokens)
+list-row (list.Read ref cond) = grind (arith, row-wider, row-append, at-row, cond-row, no_tokens)
 list-row (list.Move ref header head key version cond) =
-    row-wider 780 6000 _ (omega arith)
-    (row-append 65 715 (Literal (codes "MOVE") ∷ []) _ (record { plain = refl; short = omega arith })
-    (row-append 195 520 _ _ (at-row ref)
-    (row-append 130 390 (number header ∷ end head ∷ []) _ (place-row header head)
-    (row-append 130 260 _ _ (key-row key)
-    (row-append 130 130 _ _ (version-row version) (row-append 130 0 _ _ (cond-row cond) no_tokens))))))
+    grind (arith, row-wider, row-append, at-row, place-row, key-row, version-row, cond-row, no_tokens)
 list-row (list.Delete ref version cond) =
-    row-wider 520 6000 _ (omega arith)
-    (row-append 65 455 (Literal (codes "DELETE") ∷ []) _ (record { plain = refl; short = omega arith })
-    (row-append 195 260 _ _ (at-row ref)
-    (row-append 130 130 _ _ (version-row version) (row-append 130 0 _ _ (cond-row cond) no_tokens))))
+    grind (arith, row-wider, row-append, at-row, version-row, cond-row, no_tokens)
 list-row (list.ReadList header) = record { plain = refl; short = omega arith }
 list-row (list.LockSet lock) = record { plain = refl; short = omega arith }
 list-row (list.LockReset lock) = record { plain = refl; short = omega arith }
@@ -170,14 +139,8 @@ alter-row r true = record { plain = refl; short = omega arith }
 alter-row r false = record { plain = refl; short = omega arith }
 
 pub lock-row : (cmd : LockCmd) → IsCommandRow (lock_tokens cmd)
-lock-row (lock.Obtain r excl rec) =
-    row-wider 325 6000 _ (omega arith)
-    (row-append 195 130 (Literal (codes "OBTAIN") ∷ OnResource r ∷ state excl ∷ []) _ (obtain-row r excl)
-    (row-append 130 0 _ _ (record-row rec) no_tokens))
-lock-row (lock.Alter r excl rec) =
-    row-wider 325 6000 _ (omega arith)
-    (row-append 195 130 (Literal (codes "ALTER") ∷ OnResource r ∷ state excl ∷ []) _ (alter-row r excl)
-    (row-append 130 0 _ _ (record-row rec) no_tokens))
+lock-row (lock.Obtain r excl rec) = grind (arith, row-wider, row-append, obtain-row, record-row, no_tokens)
+lock-row (lock.Alter r excl rec) = grind (arith, row-wider, row-append, alter-row, record-row, no_tokens)
 lock-row (lock.Release r) = record { plain = refl; short = omega arith }
 lock-row (lock.Decide r conn Keep) = record { plain = refl; short = omega arith }
 lock-row (lock.Decide r conn Deny) = record { plain = refl; short = omega arith }

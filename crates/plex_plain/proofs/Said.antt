@@ -32,18 +32,7 @@ term_at : (b : ℕ) → term_byte b ≡ true → not (b == 64) ≡ true
 term_at b h = grind (arith, nat_tests)
 
 resource-said : (r : Resource) → IsPadded r.name.0 → r.hash ≤ 4294967295 → IsResource Names r (resource_word r)
-resource-said r named least =
-    record {
-      name = name_word r.name;
-      hash = decimal r.hash;
-      cut = record {
-        whole = append_assoc (name_word r.name) (codes "@") (decimal r.hash);
-        first = all-weaker term_byte (λ b. not (b == 64)) term_at (name_word r.name) named.0.characters;
-      };
-      named = (term-said r.name.0 named, (named.0.short, refl));
-      padded = named.1;
-      numeral = number-said 0 4294967295 r.hash (lit< tt) (omega arith) least;
-    }
+resource-said r named least = grind (arith, append_assoc, all-weaker, term_at, term-said, number-said, lit<)
 
 -- ---- names
 

@@ -89,9 +89,7 @@ parts-back (line ∷ lines) h =
 ended-back : (lines : List (List ℕ)) → AreClear lines → lines_in (lines ++ [] ∷ []) ≡ lines
 ended-back [] h = refl
 ended-back (line ∷ []) h = ap (λ (l : List ℕ). l ∷ []) (whole_line line h.0)
-ended-back (line ∷ next ∷ lines) h =
-    ap (λ (l : List ℕ). l ∷ lines_in ((next ∷ lines) ++ [] ∷ [])) (whole_line line h.0)
-    ∙ ap (λ (ls : List (List ℕ)). line ∷ ls) (ended-back (next ∷ lines) h.1)
+ended-back (line ∷ next ∷ lines) h = grind (arith, whole_line, ended-back (next ∷ lines) h.1)
 
 -- the lines of a text are those that it was made of
 pub lines-back : (lines : List (List ℕ)) → AreClear lines → lines_of (flat_map line_text lines) ≡ lines

@@ -1,5 +1,5 @@
 -- The words that lists of tokens are printed as.
-use Rattle.plex_plain.proofs.Imports.{◌≡◌, ℕ, Bool, true, false, List, [], ◌∷◌, ◌++◌, Option, None, Some, refl, ap, ◌∙◌, if◌then◌else◌, map-append, Token, all_tokens, option_tokens, flag_tokens, Name16, plain_word, plain_words, told_words}
+use Rattle.plex_plain.proofs.Imports.{arith, ◌≡◌, ℕ, Bool, true, false, List, [], ◌∷◌, ◌++◌, Option, None, Some, refl, ◌∙◌, if◌then◌else◌, map-append, Token, all_tokens, option_tokens, flag_tokens, Name16, plain_words, told_words}
 
 pub words_option : {X : Type 0} (connectors : List Name16) (word : List ℕ) (tokens : X → List Token) (o : Option X)
     → plain_words [] connectors (option_tokens word tokens o) ≡ told_words word
@@ -20,6 +20,4 @@ joined_words connectors (part ∷ parts) = plain_words [] connectors part ++ joi
 pub words_joined : (connectors : List Name16) (parts : List (List Token))
     → plain_words [] connectors (all_tokens parts) ≡ joined_words connectors parts
 words_joined connectors [] = refl
-words_joined connectors (part ∷ parts) =
-    map-append (plain_word [] connectors) part (all_tokens parts)
-    ∙ ap (λ words. plain_words [] connectors part ++ words) (words_joined connectors parts)
+words_joined connectors (part ∷ parts) = grind (arith, map-append, words_joined connectors parts)

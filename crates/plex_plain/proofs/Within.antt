@@ -1,5 +1,5 @@
 -- What words stand for is in its form and its range.
-use Rattle.plex_plain.proofs.Imports.{◌≡◌, ℕ, ◌+◌, ◌*◌, ◌-◌, ◌≤◌, ◌<◌, ◌==◌, Bool, true, false, not, cond, nat_lt, List, [], ◌∷◌, ◌++◌, Option, Some, None, length, codes, refl, sym, ap, ◌∙◌, arith, subst, zero, suc, inl, inr, replicate, position, list_all, position_or_len, option_map_or, and_parts, nat_tests, take_while-cons, Name16, CfId, ConnId, StrNo, StrForm, IsFacility, IsTerm, IsPadded, block_of, text_in_block, term_byte, Names, same_word, Declared, Token, IsWord, IsText, IsData, IsRecord, Spells, is_term, is_name, facility_of, connector_of, structure_of, name_word, Literal, Number, Term, Short, Data, OnResource, Record, OfFacility, OfConnector, OfStructure, NewFacility, NewName, mapped, Words, characters-term, IsTerm-whole, IsTerm-repeat, length-repeat, term-name, IsOneOf, IsNamed, IsWithin, AreWithin}
+use Rattle.plex_plain.proofs.Imports.{◌≡◌, ℕ, ◌+◌, ◌*◌, ◌-◌, ◌≤◌, ◌<◌, ◌==◌, Bool, true, not, List, [], ◌∷◌, ◌++◌, Some, length, refl, sym, ap, ◌∙◌, arith, subst, zero, suc, inl, inr, replicate, position, list_all, and_parts, nat_tests, take_while-cons, Name16, CfId, ConnId, StrNo, StrForm, IsFacility, IsTerm, IsPadded, block_of, text_in_block, term_byte, Names, Declared, Token, IsWord, IsText, IsData, IsRecord, Spells, is_term, is_name, facility_of, connector_of, structure_of, Literal, Number, Term, Short, Data, OnResource, Record, OfFacility, OfConnector, OfStructure, NewFacility, NewName, mapped, Words, characters-term, IsTerm-whole, IsTerm-repeat, length-repeat, term-name, IsOneOf, IsNamed, IsWithin, AreWithin}
 use Rattle.std.specs.Bool.{if◌then◌else◌}
 
 -- ---- names and data
@@ -23,9 +23,7 @@ unpadded-is : (bytes word : List ℕ) → is_term word ≡ true → bytes ≡ bl
 unpadded-is bytes word term e = ap text_in_block e ∙ word-front word (16 - length word) (characters-term word term)
 
 term-within : (bytes word : List ℕ) → is_term word ≡ true → length word ≤ 16 → bytes ≡ block_of word → IsPadded bytes
-term-within bytes word term short e =
-    let is = unpadded-is bytes word term e in
-    (subst (IsTerm 16) (sym is) (IsTerm-whole 16 word short term), e ∙ ap block_of (sym is))
+term-within bytes word term short e = grind (arith, unpadded-is, IsTerm-whole)
 
 name-within : (name : Name16) (word : List ℕ) → is_name word ≡ true → length word ≤ 16 → name.0 ≡ block_of word
     → IsNamed name
@@ -39,71 +37,27 @@ text-within limit text word h = subst (IsTerm limit) (sym h.1.1) (IsTerm-whole l
 
 data-within : (text word : List ℕ) → IsData Names text word → IsTerm 4096 text
 data-within text word (inl h) = text-within 4096 text word h
-data-within text word (inr h) =
-    let long : length text ≡ h.count * length h.piece = ap length h.whole.0 ∙ length-repeat h.count h.piece in
-    let short : h.count * length h.piece ≤ 4096 = omega (arith, long, h.whole.1) in
-    let some : 0 < h.count = omega (arith, h.numeral.1.1) in
-    subst (IsTerm 4096) (sym h.whole.0) (IsTerm-repeat 4096 h.count h.piece h.term some short)
+data-within text word (inr h) = grind (arith, length-repeat, IsTerm-repeat)
 
 -- ---- what a word names
 
-abbrev number_or : ℕ → Option CfId → ℕ
-number_or d o = option_map_or (λ (cf : CfId). cf.0) o d
-
 facility-number : (n : ℕ) (cf : CfId) → 1 ≤ n → n ≤ 4 → (let f : CfId = record { 0 = n } in Some f) ≡ Some cf
     → IsFacility cf
-facility-number n cf low high h =
-    let same : n ≡ cf.0 = ap (number_or 0) h in
-    (omega (arith, same), omega (arith, same))
+facility-number n cf low high h = grind arith
 
 facility-bounds : (word : List ℕ) (cf : CfId) → facility_of word ≡ Some cf → IsFacility cf
-facility-bounds word cf h = by_tests (same_word word (codes "CF1")) (same_word word (codes "CF2"))
-    (same_word word (codes "CF3")) (same_word word (codes "CF4")) h
-  where
-    by_tests : (a b c d : Bool)
-        → (if a then Some (record { 0 = 1 })
-        else if b then Some (record { 0 = 2 })
-        else if c then Some (record { 0 = 3 })
-        else if d then Some (record { 0 = 4 })
-        else None) ≡ Some cf
-        → IsFacility cf
-    by_tests true b c d k = facility-number 1 cf (omega arith) (omega arith) k
-    by_tests false true c d k = facility-number 2 cf (omega arith) (omega arith) k
-    by_tests false false true d k = facility-number 3 cf (omega arith) (omega arith) k
-    by_tests false false false true k = facility-number 4 cf (omega arith) (omega arith) k
-    by_tests false false false false k = absurd (cc)
+facility-bounds word cf h = grind (arith, facility-number)
 
 position-within : {X : Type 0} (p : X → Bool) (xs : List X) (i : ℕ) → position p xs ≡ Some i → i < length xs
-position-within p xs i h = at_test (nat_lt (position_or_len p xs) (length xs)) refl h
-  where
-    at_test : (b : Bool) → nat_lt (position_or_len p xs) (length xs) ≡ b
-        → cond b (Some (position_or_len p xs)) None ≡ Some i
-        → i < length xs
-    at_test true e k =
-        let low : position_or_len p xs < length xs = grind (arith, nat_tests) in
-        let is : position_or_len p xs ≡ i = cc in
-        omega (arith, low, is)
-    at_test false e k = absurd (cc)
+position-within p xs i h = grind (arith, nat_tests)
 
 pub connector-bounds : (connectors : List Name16) (word : List ℕ) (conn : ConnId)
     → connector_of connectors word ≡ Some conn → IsOneOf (length connectors) conn
-connector-bounds connectors word conn h =
-    let named : Name16 → Bool = λ name. same_word (name_word name) word in
-    let numbered : ℕ → ConnId = λ place. (record { 0 = place + 1 }) in
-    let found = mapped numbered (position named connectors) conn h in
-    let low = position-within named connectors found.value found.read in
-    let same : found.value + 1 ≡ conn.0 = ap (λ (c : ConnId). c.0) found.made in
-    (omega (arith, same), omega (arith, same, low))
+connector-bounds connectors word conn h = grind (arith, mapped, position-within)
 
 structure-bounds : (structures : List StrForm) (word : List ℕ) (on : StrNo) → structure_of structures word ≡ Some on
     → on.0 < length structures
-structure-bounds structures word on h =
-    let named : StrForm → Bool = λ form. same_word (name_word form.name) word in
-    let numbered : ℕ → StrNo = λ place. (record { 0 = place }) in
-    let found = mapped numbered (position named structures) on h in
-    let low = position-within named structures found.value found.read in
-    let same : found.value ≡ on.0 = ap (λ (s : StrNo). s.0) found.made in
-    omega (arith, same, low)
+structure-bounds structures word on h = grind (arith, mapped, position-within)
 
 record-within : (id : ℕ) (word : List ℕ) → IsRecord Names id word → (1 ≤ id) × (id ≤ 4294967295)
 record-within id [] h = absurd h

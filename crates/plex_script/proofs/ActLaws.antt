@@ -1,5 +1,5 @@
 -- What is read of a whole line of a caller is spelled so, and what is spelled so is read.
-use Rattle.plex_script.proofs.Imports.{◌≡◌, ℕ, ◌==◌, ◌&&◌, ◌<◌, Bool, true, false, cond, List, [], ◌∷◌, ◌++◌, Option, Some, None, option_map, unwrap_or, codes, refl, sym, ap, ◌∙◌, arith, lit<, nat_le, ◌≤◌, subst, nat_tests, ConnId, Kind, Rigour, Form, Limits, Names, digits_value, and_parts, within_limits, is_names, on_first, number_of, same_word, begins_with, words_behind, Declared, Spells, Literal, Number, is_operator, number_at, tokens_at, pick, not_some, mapped, bound, word-same, same_word-of, Words, FindsAll, Spells-append, Spells-split, led, led-by, number_at-sound, number_at-complete, is_tail, is_own, any_ask_at, retry_at, call_at, own_at, done_at, act_at, whole_read, value-sound, value-complete, Amount, AnOption, number, AnyAsk, Act, Call, Test, TestWord, Post, Take, Events, ask_tokens, act_tokens, retry_tokens, MayAsk, MayDo, is_ask_of, has_vectors, SaysDone}
+use Rattle.plex_script.proofs.Imports.{◌≡◌, ℕ, ◌==◌, ◌&&◌, ◌<◌, Bool, true, false, cond, List, [], ◌∷◌, ◌++◌, Option, Some, None, option_map, unwrap_or, codes, refl, sym, ap, ◌∙◌, arith, lit<, nat_le, ◌≤◌, nat_tests, ConnId, Kind, Rigour, Form, Limits, Names, digits_value, and_parts, within_limits, is_names, on_first, number_of, same_word, begins_with, words_behind, Declared, Spells, Literal, Number, is_operator, number_at, tokens_at, pick, not_some, mapped, bound, word-same, same_word-of, Words, FindsAll, Spells-append, Spells-split, led, led-by, number_at-sound, number_at-complete, is_tail, is_own, any_ask_at, retry_at, call_at, own_at, done_at, act_at, whole_read, value-sound, value-complete, Amount, AnOption, AnyAsk, Act, Call, Test, TestWord, Post, Take, Events, ask_tokens, act_tokens, retry_tokens, MayAsk, MayDo, is_ask_of, has_vectors, SaysDone}
 use Rattle.plex_script.proofs.AskLaws.{any_ask-sound, any_ask-complete, ask-not_own, not_operator, operator_not}
 
 -- ---- once more
@@ -7,22 +7,14 @@ use Rattle.plex_script.proofs.AskLaws.{any_ask-sound, any_ask-complete, ask-not_
 first_read : {V : Type 0} (f : List ℕ → Option V) (ws rest : Words) (v : V) → on_first f ws ≡ Some (v, rest)
     → (w : List ℕ) × (f w ≡ Some v)
 first_read f [] rest v h = absurd (cc)
-first_read {V} f (w ∷ ws) rest v h =
-    let m = mapped (λ (x : V). (x, ws)) (f w) (v, rest) h in
-    let made : m.value ≡ v = ap (λ (p : V × Words). p.0) m.made in
-    (w, m.read ∙ ap Some made)
+first_read {V} f (w ∷ ws) rest v h = grind (arith, mapped, Words)
 
 retry_number : (rigour : Rigour) (w : List ℕ) (n : ℕ) → number_of rigour 1 1000 w ≡ Some n → 0 < n
-retry_number rigour w n h =
-    pick h (λ _ k. at_test (nat_le 1 (digits_value 10 w) && nat_le (digits_value 10 w) 1000) rigour refl k)
-    (λ _ k. not_some n k)
+retry_number rigour w n h = grind (arith, pick, at_test, not_some)
   where
     at_test : (b : Bool) (r : Rigour) → (nat_le 1 (digits_value 10 w) && nat_le (digits_value 10 w) 1000) ≡ b
         → within_limits r b (digits_value 10 w) 1 ≡ Some n → 0 < n
-    at_test true r e k =
-        let same : digits_value 10 w ≡ n = cc in
-        let low = (and_parts (nat_le 1 (digits_value 10 w)) (nat_le (digits_value 10 w) 1000) e).0 in
-        let le : 1 ≤ digits_value 10 w = grind (arith, nat_tests) in omega arith
+    at_test true r e k = grind (arith, and_parts, nat_tests)
     at_test false Form e k = let same : 1 ≡ n = cc in omega (arith, same)
     at_test false Limits e k = absurd (cc)
     at_test false Names e k = absurd (cc)
@@ -35,10 +27,7 @@ positive_not n h = grind (arith, nat_tests)
 
 nothing_there : (ws rest : Words) (n : ℕ) → (let q : Option ℕ × Words = (None, ws) in Some q) ≡ Some (Some n, rest)
     → 0 < n
-nothing_there ws rest n h =
-    let wrong : (let q : Option ℕ × Words = (None, ws) in q) ≡ (Some n, rest) = cc in
-    let no_number : None ≡ Some n = ap (λ (q : Option ℕ × Words). q.0) wrong in
-    absurd (cc)
+nothing_there ws rest n h = grind (arith, Words)
 
 retry-sound : (rigour : Rigour) (declared : Declared) (ws rest : Words) (o : Option ℕ) → retry_at rigour ws ≡ Some
     (o, rest)
@@ -52,17 +41,7 @@ retry-sound rigour declared ws rest o h =
         → Spells rigour declared (retry_tokens (unwrap_or x 0)) ws rest
     at_option None k spelled = spelled
     at_option (Some n) k spelled =
-        let some : 0 < n =
-        pick k (λ _ m.
-        let f : ℕ × Words → Option ℕ × Words = λ read. (Some read.0, read.1) in
-        let p = mapped f (on_first (number_of rigour 1 1000) (words_behind ws)) (Some n, rest) m in
-        let v : Some p.value.0 ≡ Some n = ap (λ (q : Option ℕ × Words). q.0) p.made in
-        let is : p.value.0 ≡ n = ap (λ (x : Option ℕ). unwrap_or x 0) v in
-        let w = first_read (number_of rigour 1 1000) (words_behind ws) p.value.1 n
-        (p.read ∙ ap (λ (x : ℕ). (let q : ℕ × Words = (x, p.value.1) in Some q)) is) in
-        retry_number rigour w.0 n w.1)
-        (λ _ m. nothing_there ws rest n m) in
-        rw (retry-none n (positive_not n some)) spelled
+        grind (arith, pick, Words, mapped, first_read, retry_number, nothing_there, retry-none, positive_not)
 
 -- the option that the words of a retry tell
 abbrev told_retry : ℕ → Option ℕ
@@ -116,12 +95,7 @@ call-sound rigour declared by kind ws rest told h =
     let ask = any_ask-sound rigour declared by kind ws b.value.1 b.value.0 b.read in
     let retry = retry-sound rigour declared b.value.1 rest m.value.0
     (m.read ∙ ap (λ (r : Words). (let p : Option ℕ × Words = (m.value.0, r) in Some p)) left) in
-    rw (← made) (record {
-      given = ask.1.given;
-      allowed = (ask.0, ask.1.allowed);
-      spelled = Spells-append rigour declared (ask_tokens ask.1.given b.value.0)
-          (retry_tokens (unwrap_or m.value.0 0)) ws b.value.1 rest ask.1.spelled retry;
-    })
+    rw (← made) (grind (arith, Spells-append))
 
 own-sound : (rigour : Rigour) (declared : Declared) (by : ConnId) (kind : Kind) (ws rest : Words) (told : Act × ℕ)
     → is_operator by ≡ false
@@ -134,19 +108,7 @@ own-sound rigour declared by kind ws rest told other h =
     (λ _ a. pick a (λ b k. pick k (λ v m. numbered (codes "TESTWORD") TestWord
     (λ n s. record { given = None; allowed = (v, may, refl, refl); spelled = s }) b m)
     (λ _ n. not_some (let p : (Act × ℕ) × Words = (told, rest) in p) n))
-    (λ _ c. pick c (λ b k. alone (codes "POST") Post (λ s. record {
-      given = None;
-      allowed = (may, refl, refl);
-      spelled = s;
-    }) b k)
-    (λ _ d. pick d (λ b k. alone (codes "TAKE") Take (λ s. record {
-      given = None;
-      allowed = (may, refl, refl);
-      spelled = s;
-    }) b k)
-    (λ _ e. pick e (λ b k. alone (codes "EVENTS") Events
-    (λ s. record { given = None; allowed = (may, refl, refl); spelled = s }) b k)
-    (λ _ n. not_some (let p : (Act × ℕ) × Words = (told, rest) in p) n)))))
+    (grind (arith, pick, alone, not_some, Words)))
   where
     numbered : (word : List ℕ) (made : ℕ → Act)
         → ((n : ℕ) → Spells rigour declared (Literal word ∷ Number 0 4294967295 n ∷ []) ws rest
@@ -277,59 +239,23 @@ alone-complete rigour declared by kind ws word act other own does h =
 
 post_at : (rigour : Rigour) (kind : Kind) (us : Words) → begins_with (codes "POST") us ≡ true
     → own_at rigour kind us ≡ (let p : (Act × ℕ) × Words = ((Post, 0), words_behind us) in Some p)
-post_at rigour kind us e =
-    let a = first_apart (codes "POST") (codes "TEST") us e refl in let b = first_apart (codes "POST")
-    (codes "TESTWORD") us e refl in rw (a, b, e) refl
+post_at rigour kind us e = grind (arith, first_apart)
 
 take_at : (rigour : Rigour) (kind : Kind) (us : Words) → begins_with (codes "TAKE") us ≡ true
     → own_at rigour kind us ≡ (let p : (Act × ℕ) × Words = ((Take, 0), words_behind us) in Some p)
-take_at rigour kind us e =
-    let a = first_apart (codes "TAKE") (codes "TEST") us e refl in let b = first_apart (codes "TAKE")
-    (codes "TESTWORD") us e refl in
-    let c = first_apart (codes "TAKE") (codes "POST") us e refl in rw (a, b, c, e) refl
+take_at rigour kind us e = grind (arith, first_apart)
 
 events_at : (rigour : Rigour) (kind : Kind) (us : Words) → begins_with (codes "EVENTS") us ≡ true
     → own_at rigour kind us ≡ (let p : (Act × ℕ) × Words = ((Events, 0), words_behind us) in Some p)
-events_at rigour kind us e =
-    let a = first_apart (codes "EVENTS") (codes "TEST") us e refl in let b = first_apart (codes "EVENTS")
-    (codes "TESTWORD") us e refl in
-    let c = first_apart (codes "EVENTS") (codes "POST") us e refl in let d = first_apart (codes "EVENTS")
-    (codes "TAKE") us e refl in rw (a, b, c, d, e) refl
+events_at rigour kind us e = grind (arith, first_apart)
 
 pub act-complete : (rigour : Rigour) (declared : Declared) (by : ConnId) (kind : Kind) (ws : Words) (act : Act)
     (retry : ℕ)
     → SaysDone rigour declared by kind ws act retry → ActFinds rigour (act_at rigour declared by kind ws) (act, retry)
 act-complete rigour declared by kind ws (Call ask) retry h = call-complete rigour declared by kind ws h.given ask
     retry h.allowed.0 h.allowed.1 h.spelled
-act-complete rigour declared by kind ws (Test index) retry h =
-    let zero : retry ≡ 0 = h.allowed.3 in
-    let P : ℕ → Type 0 = λ n. Spells rigour declared ((Literal (codes "TEST") ∷ number index ∷ []) ++ retry_tokens n)
-    ws [] in
-    let spelled = subst P zero h.spelled in
-    rw zero (test-complete rigour declared by kind ws index h.allowed.0 (not_operator (is_operator by) h.allowed.1)
-    spelled)
-act-complete rigour declared by kind ws (TestWord index) retry h =
-    let zero : retry ≡ 0 = h.allowed.3 in
-    let P : ℕ → Type 0 = λ n. Spells rigour declared ((Literal (codes "TESTWORD") ∷ number index ∷ [])
-    ++ retry_tokens n) ws [] in
-    let spelled = subst P zero h.spelled in
-    rw zero (word-complete rigour declared by kind ws index h.allowed.0 (not_operator (is_operator by) h.allowed.1)
-    spelled)
-act-complete rigour declared by kind ws Post retry h =
-    let zero : retry ≡ 0 = h.allowed.2 in
-    let P : ℕ → Type 0 = λ n. Spells rigour declared ((Literal (codes "POST") ∷ []) ++ retry_tokens n) ws [] in
-    let spelled = subst P zero h.spelled in
-    rw zero (alone-complete rigour declared by kind ws (codes "POST") Post (not_operator (is_operator by) h.allowed.0)
-    (λ us. refl) (post_at rigour kind) spelled)
-act-complete rigour declared by kind ws Take retry h =
-    let zero : retry ≡ 0 = h.allowed.2 in
-    let P : ℕ → Type 0 = λ n. Spells rigour declared ((Literal (codes "TAKE") ∷ []) ++ retry_tokens n) ws [] in
-    let spelled = subst P zero h.spelled in
-    rw zero (alone-complete rigour declared by kind ws (codes "TAKE") Take (not_operator (is_operator by) h.allowed.0)
-    (λ us. refl) (take_at rigour kind) spelled)
-act-complete rigour declared by kind ws Events retry h =
-    let zero : retry ≡ 0 = h.allowed.2 in
-    let P : ℕ → Type 0 = λ n. Spells rigour declared ((Literal (codes "EVENTS") ∷ []) ++ retry_tokens n) ws [] in
-    let spelled = subst P zero h.spelled in
-    rw zero (alone-complete rigour declared by kind ws (codes "EVENTS") Events
-    (not_operator (is_operator by) h.allowed.0) (λ us. refl) (events_at rigour kind) spelled)
+act-complete rigour declared by kind ws (Test index) retry h = grind (arith, test-complete, not_operator)
+act-complete rigour declared by kind ws (TestWord index) retry h = grind (arith, word-complete, not_operator)
+act-complete rigour declared by kind ws Post retry h = grind (arith, alone-complete, not_operator, post_at)
+act-complete rigour declared by kind ws Take retry h = grind (arith, alone-complete, not_operator, take_at)
+act-complete rigour declared by kind ws Events retry h = grind (arith, alone-complete, not_operator, events_at)

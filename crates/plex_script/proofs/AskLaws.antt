@@ -1,5 +1,5 @@
 -- What is read of what a caller does is spelled so, and what is spelled so is read.
-use Rattle.plex_script.proofs.Imports.{◌≡◌, ℕ, Bool, true, false, not, Option, Some, None, option_map, refl, sym, ap, ◌∙◌, ConnId, Kind, ShellCmd, CacheCmd, ListCmd, LockCmd, Ask, Shell, Content, Rigour, Declared, Spells, shell_tokens, may_give, is_operator, shell_at, cache_at, list_at, lock_at, pick, not_some, mapped, Words, FindsAll, is_tail, shell-sound, shell-complete, cache-sound, cache-complete, list-sound, list-complete, lock-sound, lock-complete, is_own, ask_at, cache_ask_at, list_ask_at, lock_ask_at, any_ask_at, AnyAsk, ask_tokens, MayAsk, is_ask_of}
+use Rattle.plex_script.proofs.Imports.{arith, ◌≡◌, ℕ, Bool, true, false, not, Option, Some, None, option_map, refl, ap, ◌∙◌, ConnId, Kind, ShellCmd, CacheCmd, ListCmd, LockCmd, Ask, Shell, Content, Rigour, Declared, Spells, shell_tokens, may_give, is_operator, shell_at, cache_at, list_at, lock_at, pick, not_some, mapped, Words, FindsAll, is_tail, shell-sound, shell-complete, cache-sound, cache-complete, list-sound, list-complete, lock-sound, lock-complete, is_own, ask_at, cache_ask_at, list_ask_at, lock_ask_at, any_ask_at, AnyAsk, ask_tokens, MayAsk, is_ask_of}
 use Rattle.cf_types.specs.declared.forms.Kind.TheVariants as kind
 use Rattle.plex_script.specs.declared.scripts.AnyAsk.TheVariants as any
 use Rattle.plex_script.proofs.FirstWords.{gives, shell-not_own, cache-content, list-content, lock-content}
@@ -17,21 +17,8 @@ ask-sound : {C : Type 0} (by : ConnId) (rest : Words) (common : Option (ShellCmd
     → ((cmd : ShellCmd) → common ≡ Some (cmd, rest) → may_give by cmd ≡ true → P (Shell cmd))
     → ((cmd : C) → content ≡ Some (cmd, rest) → is_operator by ≡ false → P (Content cmd))
     → ask_at by common content ≡ Some (ask, rest) → P ask
-ask-sound {C} by rest None content ask P f g h =
-    pick h (λ _ k. not_some (let p : Ask C × Words = (ask, rest) in p) k)
-    (λ e k.
-    let m = mapped (λ (read : C × Words). (let p : Ask C × Words = (Content read.0, read.1) in p)) content (ask, rest)
-    k in
-    let made : Content m.value.0 ≡ ask = ap (λ (p : Ask C × Words). p.0) m.made in
-    let left : m.value.1 ≡ rest = ap (λ (p : Ask C × Words). p.1) m.made in
-    rw (← made) (g m.value.0 (m.read ∙ ap (λ (r : Words). (let p : C × Words = (m.value.0, r) in Some p)) left) e))
-ask-sound {C} by rest (Some read) content ask P f g h =
-    pick h (λ e k.
-    let same : (let p : Ask C × Words = (Shell read.0, read.1) in p) ≡ (ask, rest) = cc in
-    let made : Shell read.0 ≡ ask = ap (λ (p : Ask C × Words). p.0) same in
-    let left : read.1 ≡ rest = ap (λ (p : Ask C × Words). p.1) same in
-    rw (← made) (f read.0 (ap (λ (r : Words). (let p : ShellCmd × Words = (read.0, r) in Some p)) left) e))
-    (λ _ k. not_some (let p : Ask C × Words = (ask, rest) in p) k)
+ask-sound {C} by rest None content ask P f g h = grind (arith, pick, not_some, Words, mapped)
+ask-sound {C} by rest (Some read) content ask P f g h = grind (arith, pick, Words, not_some)
 
 common-complete : {C : Type 0} (rigour : Rigour) (declared : Declared) (by : ConnId) (ws rest : Words)
     (content : Option (C × Words)) (cmd : ShellCmd) → is_tail rest ≡ true
@@ -39,9 +26,7 @@ common-complete : {C : Type 0} (rigour : Rigour) (declared : Declared) (by : Con
     → FindsAll rigour (ask_at by (shell_at rigour declared ws) content) (Shell cmd) rest
 common-complete {C} rigour declared by ws rest content cmd tail may h =
     let f = shell-complete rigour declared ws rest cmd tail h in
-    let given : may_give by f.found ≡ true =
-    gives rigour declared by ws rest f.found (shell-sound rigour declared ws rest f.found f.read)
-    ∙ sym (gives rigour declared by ws rest cmd h) ∙ may in
+    let given : may_give by f.found ≡ true = grind (arith, gives, shell-sound) in
     let wrap : ShellCmd → Ask C = λ c. Shell c in
     rw f.read (record { found = wrap f.found; read = rw given refl; same = λ e. ap wrap (f.same e) })
 
@@ -57,37 +42,20 @@ content-complete : {C : Type 0} (rigour : Rigour) (by : ConnId) (common : Option
     (content : Option (C × Words)) (cmd : C) (rest : Words)
     → common ≡ None → not (is_operator by) ≡ true → FindsAll rigour content cmd rest
     → FindsAll rigour (ask_at by common content) (Content cmd) rest
-content-complete {C} rigour by common content cmd rest none may f =
-    let other = not_operator (is_operator by) may in
-    let wrap : C → Ask C = λ c. Content c in
-    rw (none, other) (record {
-      found = wrap f.found;
-      read = ap (option_map (λ (read : C × Words). (let p : Ask C × Words = (wrap read.0, read.1) in p))) f.read;
-      same = λ e. ap wrap (f.same e);
-    })
+content-complete {C} rigour by common content cmd rest none may f = grind (arith, not_operator, Words)
 
 wrapped-sound : {C : Type 0} (wrap : Ask C → AnyAsk) (reading : Option (Ask C × Words)) (ask : AnyAsk) (rest : Words)
     (P : AnyAsk → Type 0)
     → ((a : Ask C) → reading ≡ Some (a, rest) → P (wrap a))
     → option_map (λ (read : Ask C × Words). (let p : AnyAsk × Words = (wrap read.0, read.1) in p)) reading ≡ Some
     (ask, rest) → P ask
-wrapped-sound {C} wrap reading ask rest P f h =
-    let m = mapped (λ (read : Ask C × Words). (let p : AnyAsk × Words = (wrap read.0, read.1) in p)) reading
-    (ask, rest) h in
-    let made : wrap m.value.0 ≡ ask = ap (λ (p : AnyAsk × Words). p.0) m.made in
-    let left : m.value.1 ≡ rest = ap (λ (p : AnyAsk × Words). p.1) m.made in
-    rw (← made) (f m.value.0 (m.read ∙ ap (λ (r : Words). (let p : Ask C × Words = (m.value.0, r) in Some p)) left))
+wrapped-sound {C} wrap reading ask rest P f h = grind (arith, mapped, Words)
 
 wrapped-complete : {C : Type 0} (rigour : Rigour) (wrap : Ask C → AnyAsk) (reading : Option (Ask C × Words))
     (ask : Ask C) (rest : Words) → FindsAll rigour reading ask rest
     → FindsAll rigour (option_map (λ (read : Ask C × Words). (let p : AnyAsk × Words = (wrap read.0, read.1) in p))
     reading) (wrap ask) rest
-wrapped-complete {C} rigour wrap reading ask rest f =
-    record {
-      found = wrap f.found;
-      read = ap (option_map (λ (read : Ask C × Words). (let p : AnyAsk × Words = (wrap read.0, read.1) in p))) f.read;
-      same = λ e. ap wrap (f.same e);
-    }
+wrapped-complete {C} rigour wrap reading ask rest f = grind (arith, Words)
 
 -- the ask is one of the kind, and is told
 abbrev pub AnyTold : Rigour → Declared → ConnId → Kind → Words → Words → AnyAsk → Type 0
@@ -101,72 +69,22 @@ any_ask-sound rigour declared by kind.Cache ws rest ask h =
     let wrap : Ask CacheCmd → AnyAsk = λ a. any.Cache a in
     wrapped-sound wrap (cache_ask_at rigour declared by ws) ask rest P
     (λ a k. ask-sound by rest (shell_at rigour declared ws) (cache_at rigour declared ws) a (λ x. P (wrap x))
-    (λ cmd m may. (
-      refl,
-      record {
-        given = None;
-        allowed = (may, refl);
-        spelled = shell-sound rigour declared ws rest
-            cmd m;
-      },
-    ))
+    (grind (arith, shell-sound))
     (λ cmd m other. let t = cache-sound rigour declared ws rest cmd m
-    in (
-      refl,
-      record {
-        given = t.given;
-        allowed = (operator_not (is_operator by) other, t.is_given);
-        spelled =
-            t.spelled;
-      },
-    )) k) h
+    in (grind (arith, operator_not))) k) h
 any_ask-sound rigour declared by (kind.List headers locks refs) ws rest ask h =
     let P : AnyAsk → Type 0 = AnyTold rigour declared by (kind.List headers locks refs) ws rest in
     let wrap : Ask ListCmd → AnyAsk = λ a. any.List a in
     wrapped-sound wrap (list_ask_at rigour declared by ws) ask rest P
     (λ a k. ask-sound by rest (shell_at rigour declared ws) (list_at rigour declared ws) a (λ x. P (wrap x))
-    (λ cmd m may. (
-      refl,
-      record {
-        given = None;
-        allowed = (may, refl);
-        spelled = shell-sound rigour declared ws rest
-            cmd m;
-      },
-    ))
+    (grind (arith, shell-sound))
     (λ cmd m other. let t = list-sound rigour declared ws rest cmd m
-    in (
-      refl,
-      record {
-        given = None;
-        allowed = (operator_not (is_operator by) other, t.is_line, refl);
-        spelled =
-            t.spelled;
-      },
-    )) k) h
+    in (grind (arith, operator_not))) k) h
 any_ask-sound rigour declared by kind.Lock ws rest ask h =
     let P : AnyAsk → Type 0 = AnyTold rigour declared by kind.Lock ws rest in
     let wrap : Ask LockCmd → AnyAsk = λ a. any.Lock a in
     wrapped-sound wrap (lock_ask_at rigour declared by ws) ask rest P
-    (λ a k. ask-sound by rest (shell_at rigour declared ws) (lock_at rigour declared ws) a (λ x. P (wrap x))
-    (λ cmd m may. (
-      refl,
-      record {
-        given = None;
-        allowed = (may, refl);
-        spelled = shell-sound rigour declared ws rest
-            cmd m;
-      },
-    ))
-    (λ cmd m other. (
-      refl,
-      record {
-        given = None;
-        allowed = (operator_not (is_operator by) other, refl);
-        spelled =
-            lock-sound rigour declared ws rest cmd m;
-      },
-    )) k) h
+    (grind (arith, ask-sound, shell-sound, operator_not, lock-sound)) h
 
 pub any_ask-complete : (rigour : Rigour) (declared : Declared) (by : ConnId) (kind : Kind) (ws rest : Words)
     (given : Option ℕ) (ask : AnyAsk) → is_tail rest ≡ true
@@ -177,9 +95,7 @@ any_ask-complete rigour declared by kind.Cache ws rest given (any.Cache (Shell c
     (common-complete rigour declared by ws rest (cache_at rigour declared ws) cmd tail may.0 h)
 any_ask-complete rigour declared by kind.Cache ws rest given (any.Cache (Content cmd)) tail of may h =
     wrapped-complete rigour any.Cache (cache_ask_at rigour declared by ws) (Content cmd) rest
-    (content-complete rigour by (shell_at rigour declared ws) (cache_at rigour declared ws) cmd rest
-    (cache-content rigour declared ws rest given cmd h).0 may.0 (cache-complete rigour declared ws rest given cmd tail
-    may.1 h))
+    (grind (arith, content-complete, cache-content, cache-complete))
 any_ask-complete rigour declared by (kind.List headers locks refs) ws rest given (any.List (Shell cmd)) tail of may h
     =
     wrapped-complete rigour any.List (list_ask_at rigour declared by ws) (Shell cmd) rest

@@ -1,5 +1,5 @@
 -- What is wrong with a line, from what was read of it.
-use Rattle.plex_script.proofs.Imports.{◌≡◌, ℕ, ◌<◌, ◌||◌, Bool, true, false, not, List, [], ◌∷◌, ◌++◌, Option, Some, None, refl, sym, ap, ◌∙◌, arith, inl, inr, Ok, Err, IsTrue, codes, length, is_some, CONNECTORS, ConnId, Kind, Rigour, Form, Limits, Names, Declared, structure_of, Words, Spells-limits, Spells-form, Declaration, Why, Late, Syntax, Limit, Unknown, Twice, Space, Act, Script, SaysDone, act_tokens, retry_tokens, Declares, declaration_tokens, act_at, declaration_at, declared_in, kind_of, has_lines, is_full, is_twice, is_too_much, PolicyCause, DoneCause, CallerCause, IsFirst, rank, with_declaration, AddsDeclaration, AddsLine, AddsOfCaller, LineFault, Wrong, NoMemory, StrNo, nat_tests, unread_why, Judged, IsFaultBy, HasRoom}
+use Rattle.plex_script.proofs.Imports.{◌≡◌, ℕ, ◌<◌, ◌||◌, Bool, true, false, not, List, [], ◌∷◌, ◌++◌, Option, Some, None, refl, sym, ap, ◌∙◌, arith, inl, inr, Ok, Err, IsTrue, codes, length, is_some, CONNECTORS, ConnId, Kind, Rigour, Form, Limits, Names, Declared, structure_of, Words, Spells-limits, Spells-form, Declaration, Why, Late, Syntax, Limit, Unknown, Twice, Space, Act, Script, SaysDone, Declares, act_at, declaration_at, declared_in, kind_of, has_lines, is_full, is_twice, is_too_much, PolicyCause, DoneCause, CallerCause, IsFirst, rank, with_declaration, AddsDeclaration, AddsLine, AddsOfCaller, LineFault, Wrong, NoMemory, StrNo, nat_tests, unread_why, Judged, IsFaultBy, HasRoom}
 use Rattle.plex_script.specs.declared.declarations.Declaration.TheVariants as declaration
 use Rattle.plex_script.proofs.ActLaws.{act-sound, act-complete}
 use Rattle.plex_script.proofs.PolicyLaws.{declaration-sound, declaration-complete}
@@ -8,37 +8,19 @@ use Rattle.plex_script.proofs.PolicyLaws.{declaration-sound, declaration-complet
 
 pub Declares-limits : (declared : Declared) (ws : Words) (d : Declaration) → Declares Names declared ws d
     → Declares Limits declared ws d
-Declares-limits declared ws d h = record {
-  whole = h.whole;
-  spelled = Spells-limits declared (declaration_tokens d) ws
-      [] h.spelled;
-}
+Declares-limits declared ws d h = grind (arith, Spells-limits)
 
 pub Declares-form : (declared : Declared) (ws : Words) (d : Declaration) → Declares Limits declared ws d
     → Declares Form declared ws d
-Declares-form declared ws d h = record {
-  whole = h.whole;
-  spelled = Spells-form declared (declaration_tokens d) ws
-      [] h.spelled;
-}
+Declares-form declared ws d h = grind (arith, Spells-form)
 
 pub SaysDone-limits : (declared : Declared) (by : ConnId) (kind : Kind) (ws : Words) (act : Act) (retry : ℕ)
     → SaysDone Names declared by kind ws act retry → SaysDone Limits declared by kind ws act retry
-SaysDone-limits declared by kind ws act retry h = record {
-  given = h.given;
-  allowed = h.allowed;
-  spelled =
-      Spells-limits declared (act_tokens h.given act ++ retry_tokens retry) ws [] h.spelled;
-}
+SaysDone-limits declared by kind ws act retry h = grind (arith, Spells-limits)
 
 pub SaysDone-form : (declared : Declared) (by : ConnId) (kind : Kind) (ws : Words) (act : Act) (retry : ℕ)
     → SaysDone Limits declared by kind ws act retry → SaysDone Form declared by kind ws act retry
-SaysDone-form declared by kind ws act retry h = record {
-  given = h.given;
-  allowed = h.allowed;
-  spelled = Spells-form
-      declared (act_tokens h.given act ++ retry_tokens retry) ws [] h.spelled;
-}
+SaysDone-form declared by kind ws act retry h = grind (arith, Spells-form)
 
 -- ---- what a reading tells
 
@@ -84,30 +66,12 @@ not_late script h k = cc
 policy-syntax : (script : Script) (long : Bool) (first : List ℕ) (ws : Words) → has_lines script ≡ false
     → is_some (declaration_at Form (declared_in script) ws) ≡ false
     → IsFirst (PolicyCause script long first ws) Syntax
-policy-syntax script long first ws early form =
-    record { here = none_declared Form (declared_in script) ws form; none = earlier }
-  where
-    earlier : (other : Why) → rank other < 1 → PolicyCause script long first ws other → ⊥
-    earlier Late less h = not_late script early h
-    earlier Syntax less h = omega (arith, less)
-    earlier Limit less h = omega (arith, less)
-    earlier Unknown less h = omega (arith, less)
-    earlier Twice less h = omega (arith, less)
-    earlier Space less h = omega (arith, less)
+policy-syntax script long first ws early form = grind (arith, none_declared, not_late)
 
 policy-limit : (script : Script) (long : Bool) (first : List ℕ) (ws : Words) → has_lines script ≡ false
     → is_some (declaration_at Form (declared_in script) ws) ≡ true
     → PolicyCause script long first ws Limit → IsFirst (PolicyCause script long first ws) Limit
-policy-limit script long first ws early form here =
-    record { here = here; none = earlier }
-  where
-    earlier : (other : Why) → rank other < 2 → PolicyCause script long first ws other → ⊥
-    earlier Late less h = not_late script early h
-    earlier Syntax less h = some_declared Form (declared_in script) ws form h
-    earlier Limit less h = omega (arith, less)
-    earlier Unknown less h = omega (arith, less)
-    earlier Twice less h = omega (arith, less)
-    earlier Space less h = omega (arith, less)
+policy-limit script long first ws early form here = grind (arith, not_late, some_declared)
 
 policy-unknown : (script : Script) (long : Bool) (first : List ℕ) (ws : Words) → has_lines script ≡ false
     → is_some (declaration_at Form (declared_in script) ws) ≡ true
@@ -131,9 +95,7 @@ pub policy-unread : (script : Script) (long : Bool) (first : List ℕ) (ws : Wor
     → IsFirst (PolicyCause script long first ws)
     (unread_why (is_some (declaration_at Form (declared_in script) ws)) (long || is_full script first)
     (is_some (declaration_at Limits (declared_in script) ws)))
-policy-unread script long first ws early names =
-    by_tests (is_some (declaration_at Form (declared_in script) ws)) (long || is_full script first)
-    (is_some (declaration_at Limits (declared_in script) ws)) refl refl refl
+policy-unread script long first ws early names = grind (arith, by_tests)
   where
     by_tests : (f e l : Bool) → is_some (declaration_at Form (declared_in script) ws) ≡ f
         → (long || is_full script first) ≡ e
@@ -174,28 +136,13 @@ pub policy-twice : (script : Script) (long : Bool) (first : List ℕ) (ws : Word
     → has_lines script ≡ false → (long || is_full script first) ≡ false
     → Declares Names (declared_in script) ws d → is_twice script d ≡ true → IsFirst (PolicyCause script long first ws)
     Twice
-policy-twice script long first ws d early fits h twice =
-    record {
-      here = (d, h, twice);
-      none = λ other less k. policy-read script long first ws d early fits h other less k;
-    }
+policy-twice script long first ws d early fits h twice = grind (arith, policy-read)
 
 pub policy-space : (script : Script) (long : Bool) (first : List ℕ) (ws : Words) (d : Declaration)
     → has_lines script ≡ false → (long || is_full script first) ≡ false
     → Declares Names (declared_in script) ws d → is_twice script d ≡ false → is_too_much script d ≡ true
     → IsFirst (PolicyCause script long first ws) Space
-policy-space script long first ws d early fits h once much =
-    record { here = (d, h, much); none = earlier }
-  where
-    earlier : (other : Why) → rank other < 5 → PolicyCause script long first ws other → ⊥
-    earlier Late less k = policy-read script long first ws d early fits h Late (omega arith) k
-    earlier Syntax less k = policy-read script long first ws d early fits h Syntax (omega arith) k
-    earlier Limit less k = policy-read script long first ws d early fits h Limit (omega arith) k
-    earlier Unknown less k = policy-read script long first ws d early fits h Unknown (omega arith) k
-    earlier Twice less k =
-        let same = Declares-one (declared_in script) ws k.0 d k.1 h in
-        let wrong : is_twice script d ≡ true = rw same at k.2 in cc
-    earlier Space less k = omega (arith, less)
+policy-space script long first ws d early fits h once much = grind (arith, policy-read, Declares-one)
 
 -- ---- lines of callers
 
@@ -247,9 +194,7 @@ pub done-unread : (declared : Declared) (long : Bool) (by : ConnId) (kind : Kind
     → (long ≡ false → act_at Names declared by kind ws ≡ None)
     → IsFirst (DoneCause declared long by kind ws) (unread_why (is_some (act_at Form declared by kind ws)) long
     (is_some (act_at Limits declared by kind ws)))
-done-unread declared long by kind ws names =
-    by_tests (is_some (act_at Form declared by kind ws)) long (is_some (act_at Limits declared by kind ws)) refl refl
-    refl
+done-unread declared long by kind ws names = grind (arith, by_tests)
   where
     by_tests : (f e l : Bool) → is_some (act_at Form declared by kind ws) ≡ f → long ≡ e
         → is_some (act_at Limits declared by kind ws) ≡ l
@@ -347,18 +292,7 @@ pub adds-fits : (script after : Script) (long : Bool) (first : List ℕ) (ws : W
     → has_lines script ≡ false → Fits script long first ws d
     → is_twice script d ≡ false → is_too_much script d ≡ false → after ≡ with_declaration script d
     → IsTrue (not long) × AddsDeclaration script first ws after
-adds-fits script after long first ws d early h once within same = (
-  h.short,
-  record {
-    early = not_true (has_lines script) early;
-    declaration = d;
-    declares = h.declares;
-    not_full = not_true (is_full script first) h.full;
-    once = not_true (is_twice script d) once;
-    within = not_true (is_too_much script d) within;
-    same = same;
-  },
-)
+adds-fits script after long first ws d early h once within same = grind (arith, not_true)
 
 pub adds-done : (script after : Script) (at : ℕ) (long : Bool) (by : ConnId) (second : List ℕ) (ws words : Words)
     (on : StrNo) (act : Act) (retry : ℕ) → words ≡ second ∷ ws

@@ -12,21 +12,14 @@ pub record LeadsOne (script : Script) (count : ℕ) (line : List ℕ) (after : S
 
 adds-append : (xs ys : List (List ℕ)) (script mid after : Script) (count : ℕ) → AddsAll script count xs mid
     → AddsAll mid (count + length xs) ys after → AddsAll script count (xs ++ ys) after
-adds-append [] ys script mid after count h k =
-    let none : count + 0 ≡ count = omega arith in
-    let here : AddsAll mid count ys after = subst (λ (n : ℕ). AddsAll mid n ys after) none k in
-    subst (λ (s : Script). AddsAll s count ys after) h here
+adds-append [] ys script mid after count h k = grind arith
 adds-append (x ∷ xs) ys script mid after count h k =
     let more : count + length (x ∷ xs) ≡ count + 1 + length xs = omega arith in
     (h.0, h.1, adds-append xs ys h.0 mid after (count + 1) h.2 (subst (λ (n : ℕ). AddsAll mid n ys after) more k))
 
 pub leads-append : (xs ys : List (List ℕ)) (script mid after : Script) (count : ℕ) → Leads script count xs mid
     → Leads mid (count + length xs) ys after → Leads script count (xs ++ ys) after
-leads-append xs ys script mid after count h k =
-    record {
-      clear_lines = clear-append xs ys h.clear_lines k.clear_lines;
-      adds = adds-append xs ys script mid after count h.adds k.adds;
-    }
+leads-append xs ys script mid after count h k = grind (arith, clear-append, adds-append)
 
 pub leads-one : (script mid after : Script) (count : ℕ) (line : List ℕ) (lines : List (List ℕ))
     → LeadsOne script count line mid → Leads mid (count + 1) lines after → Leads script count (line ∷ lines) after

@@ -1,5 +1,5 @@
 -- Each line leads on, or has a cause.
-use Rattle.plex_script.proofs.Imports.{◌≡◌, ℕ, ◌<◌, ◌+◌, ◌||◌, Bool, true, false, not, List, [], ◌∷◌, ◌++◌, length, nat_lt, Option, Some, None, IsTrue, refl, ap, arith, inl, inr, ◌⊎◌, MatchBool, MatchOption, is_some, ConnId, StrNo, Form, Limits, Names, words_of, lines_of, is_name, structure_of, Words, Declaration, Why, Late, Syntax, Limit, Unknown, Twice, Space, Act, Script, act_at, declaration_at, declared_in, kind_of, has_lines, is_full, is_twice, is_too_much, is_long, is_long_name, is_comment, is_policy_word, caller_of, EmptyCause, PolicyCause, StrangeCause, NoStructureCause, DoneCause, CallerCause, LineCause, IsFirst, rank, strange_why, with_declaration, AddsDeclaration, AddsLine, AddsOfCaller, AddsWords, Adds, AddsAll, line_number, empty_script, IsScript, IsFault, unread_why}
+use Rattle.plex_script.proofs.Imports.{◌≡◌, ℕ, ◌<◌, ◌+◌, ◌||◌, Bool, true, false, not, List, [], ◌∷◌, ◌++◌, length, nat_lt, Option, Some, None, IsTrue, refl, ap, arith, inl, inr, ◌⊎◌, MatchBool, MatchOption, is_some, ConnId, StrNo, Form, Limits, Names, words_of, lines_of, is_name, structure_of, Words, Declaration, Why, Late, Syntax, Limit, Unknown, Twice, Space, Act, Script, act_at, declaration_at, declared_in, kind_of, has_lines, is_full, is_twice, is_too_much, is_long, is_long_name, is_comment, is_policy_word, caller_of, EmptyCause, PolicyCause, StrangeCause, NoStructureCause, DoneCause, CallerCause, LineCause, IsFirst, strange_why, with_declaration, AddsDeclaration, AddsLine, AddsOfCaller, AddsWords, Adds, AddsAll, line_number, empty_script, IsScript, IsFault, unread_why}
 use Rattle.plex_script.proofs.ActLaws.{act-sound}
 use Rattle.plex_script.proofs.PolicyLaws.{declaration-sound}
 use Rattle.plex_script.proofs.CauseLaws.{policy-late, policy-unread, policy-twice, policy-space, done-unread}
@@ -26,38 +26,14 @@ or_false false b h = (refl, h)
 -- ---- empty lines and strange words
 
 limit-alone : (cause : Why → Type 0) → cause Limit → (cause Late → ⊥) → (cause Syntax → ⊥) → IsFirst cause Limit
-limit-alone cause here late syntax = record { here = here; none = earlier }
-  where
-    earlier : (other : Why) → rank other < 2 → cause other → ⊥
-    earlier Late less h = late h
-    earlier Syntax less h = syntax h
-    earlier Limit less h = omega (arith, less)
-    earlier Unknown less h = omega (arith, less)
-    earlier Twice less h = omega (arith, less)
-    earlier Space less h = omega (arith, less)
+limit-alone cause here late syntax = grind arith
 
 syntax-alone : (cause : Why → Type 0) → cause Syntax → (cause Late → ⊥) → IsFirst cause Syntax
-syntax-alone cause here late = record { here = here; none = earlier }
-  where
-    earlier : (other : Why) → rank other < 1 → cause other → ⊥
-    earlier Late less h = late h
-    earlier Syntax less h = omega (arith, less)
-    earlier Limit less h = omega (arith, less)
-    earlier Unknown less h = omega (arith, less)
-    earlier Twice less h = omega (arith, less)
-    earlier Space less h = omega (arith, less)
+syntax-alone cause here late = grind arith
 
 unknown-alone : (cause : Why → Type 0) → cause Unknown → (cause Late → ⊥) → (cause Syntax → ⊥) → (cause Limit → ⊥)
     → IsFirst cause Unknown
-unknown-alone cause here late syntax limit = record { here = here; none = earlier }
-  where
-    earlier : (other : Why) → rank other < 3 → cause other → ⊥
-    earlier Late less h = late h
-    earlier Syntax less h = syntax h
-    earlier Limit less h = limit h
-    earlier Unknown less h = omega (arith, less)
-    earlier Twice less h = omega (arith, less)
-    earlier Space less h = omega (arith, less)
+unknown-alone cause here late syntax limit = grind arith
 
 -- the first of two tests that holds, and else Unknown
 tested : (cause : Why → Type 0) (s l : Bool) → (s ≡ true → cause Syntax) → (cause Syntax → s ≡ true)
@@ -73,9 +49,7 @@ tested cause false false s_to s_from l_to l_from unknown late =
 
 policy-decided : (script : Script) (long : Bool) (first : List ℕ) (ws : Words)
     → Decided (λ after. IsTrue (not long) × AddsDeclaration script first ws after) (PolicyCause script long first ws)
-policy-decided script long first ws =
-    by_tests (has_lines script) (long || is_full script first) (declaration_at Names (declared_in script) ws) refl
-    refl refl
+policy-decided script long first ws = grind (arith, by_tests)
   where
     by_checks : (d : Declaration) (t m : Bool) → has_lines script ≡ false → (long || is_full script first) ≡ false
         → declaration_at Names (declared_in script) ws ≡ Some d
@@ -161,16 +135,7 @@ done-decided script at long by on ws = by_tests long (act_at Names (declared_in 
             lines = script.lines ++ (record { at = at; by = by; on = on; act = told.0; retry = told.1 })
                 ∷ [];
           },
-          (
-            not_true long l_is,
-            record {
-              act = told.0;
-              retry = told.1;
-              says = act-sound Names (declared_in script) by
-                  (kind_of script.structures on) ws told o_is;
-              same = refl;
-            },
-          ),
+          (grind (arith, not_true, act-sound)),
         )
 
 caller-decided : (script : Script) (at : ℕ) (long : Bool) (by : ConnId) (ws : Words)

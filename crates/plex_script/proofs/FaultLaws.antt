@@ -1,5 +1,5 @@
 -- A text has one fault.
-use Rattle.plex_script.proofs.Imports.{◌≡◌, ℕ, suc, ◌+◌, ◌<◌, ◌==◌, Bool, true, false, nat_lt, List, [], ◌∷◌, ◌++◌, drop, length, refl, sym, ap, subst, ◌∙◌, arith, nat_tests, lines_of, Why, Late, Syntax, Limit, Unknown, Twice, Space, Script, IsFirst, IsCause, LineCause, rank, Adds, AddsAll, IsFault, empty_script, line_number}
+use Rattle.plex_script.proofs.Imports.{◌≡◌, ℕ, suc, ◌+◌, ◌<◌, ◌==◌, List, [], ◌∷◌, ◌++◌, drop, length, refl, sym, ap, subst, ◌∙◌, arith, nat_tests, Why, Late, Syntax, Limit, Unknown, Twice, Space, Script, IsFirst, IsCause, LineCause, rank, Adds, AddsAll, IsFault, empty_script, line_number}
 use Rattle.std.proofs.Common.{if◌then◌else◌}
 use Rattle.plex_script.proofs.LineLaws.{adds-one, line-clean}
 
@@ -23,16 +23,7 @@ rank-one one other same = sym (why_at-rank one) ∙ ap why_at same ∙ why_at-ra
 
 -- of some causes one is the first
 first-one : (holds : Why → Type 0) (one other : Why) → IsFirst holds one → IsFirst holds other → one ≡ other
-first-one holds one other f g = by_rank (nat_lt (rank one) (rank other)) refl (nat_lt (rank other) (rank one)) refl
-  where
-    by_rank : (p : Bool) → nat_lt (rank one) (rank other) ≡ p → (q : Bool) → nat_lt (rank other) (rank one) ≡ q
-        → one ≡ other
-    by_rank true less q k =
-        let below : rank one < rank other = grind (arith, nat_tests) in absurd (g.none one below f.here)
-    by_rank false e true less =
-        let below : rank other < rank one = grind (arith, nat_tests) in absurd (f.none other below g.here)
-    by_rank false e false k =
-        let same : rank one ≡ rank other = grind (arith, nat_tests) in rank-one one other same
+first-one holds one other f g = grind (arith, nat_tests, rank-one)
 
 -- ---- the first line that is wrong
 
@@ -61,9 +52,7 @@ one-wrong : (front other : List (List ℕ)) (script : Script) (count : ℕ) (lin
     → IsCause before' line' why' → (length front ≡ length other) × (why ≡ why')
 one-wrong [] [] script count line line' behind behind' before before' why why' whole f g cause cause' =
     let here : IsCause script line why = subst (λ (s : Script). IsCause s line why) f cause in
-    let there : IsCause script line why' =
-    subst (λ (l : List ℕ). IsCause script l why') (sym (same_line line line' behind behind' whole))
-    (subst (λ (s : Script). IsCause s line' why') g cause') in
+    let there : IsCause script line why' = grind (arith, same_line) in
     (refl, first-one (LineCause script line) why why' here there)
 one-wrong [] (l ∷ other) script count line line' behind behind' before before' why why' whole f g cause cause' =
     let same : l ≡ line = sym (same_line line l behind (other ++ line' ∷ behind') whole) in

@@ -1,5 +1,5 @@
 -- What a declaration adds to a script keeps it well formed.
-use Rattle.plex_script.proofs.Imports.{◌≡◌, ◌≢◌, ℕ, ◌+◌, ◌≤◌, ◌<◌, ◌==◌, ◌||◌, Bool, true, false, not, List, [], ◌∷◌, ◌++◌, Option, Some, None, length, codes, refl, sym, ap, ◌∙◌, arith, subst, slice_get, slice_set, get_or, All, AllPairs, nat_le, option_map_or, nat_tests, length-set, length_push, All-nil, All-push, All-set, list_any_at, all_pairs_push, get_or_from_slice_get, slice_get_within, CONNECTORS, StrNo, Kind, Pref as Set, StrForm, IsPref, IsKind, IsVectorOf, IsForm, Names, Declared, is_declared, Words, Declaration, Facility, Structure, Connector, Line, Script, form_tokens, declaration_tokens, IsVectorTold, Declares, declared_in, has_lines, is_full, is_twice, has_pref, with_pref, with_declaration, AddsDeclaration, IsLineOf, IsWellFormed, AreWithin, words-within}
+use Rattle.plex_script.proofs.Imports.{◌≡◌, ◌≢◌, ℕ, ◌+◌, ◌≤◌, ◌<◌, ◌==◌, ◌||◌, Bool, true, false, not, List, [], ◌∷◌, ◌++◌, Option, Some, None, length, codes, refl, ◌∙◌, arith, slice_get, slice_set, get_or, All, AllPairs, option_map_or, nat_tests, length-set, length_push, All-nil, All-push, All-set, list_any_at, all_pairs_push, get_or_from_slice_get, slice_get_within, CONNECTORS, StrNo, Kind, Pref as Set, StrForm, IsPref, IsKind, IsVectorOf, IsForm, Names, Declared, is_declared, Words, Declaration, Facility, Structure, Connector, Line, Script, form_tokens, declaration_tokens, IsVectorTold, Declares, declared_in, has_lines, is_full, is_twice, has_pref, with_pref, with_declaration, AddsDeclaration, IsLineOf, IsWellFormed, AreWithin, words-within}
 use Rattle.cf_types.specs.declared.forms.Kind.TheVariants as kind
 use Rattle.plex_script.specs.declared.declarations.Declaration.TheVariants.{Pref}
 
@@ -18,31 +18,13 @@ Within high n = (1 ≤ n) × (n ≤ high)
 
 formed : (form : StrForm) → IsKind form.kind → Within 4096 form.caps.entries → Within 4096 form.caps.elements
     → Within CONNECTORS form.conns → IsVectorOf form.kind form.vector → form.prefs ≡ [] → IsForm form
-formed form kind_ entries elements conns vector none =
-    let told = no_pref form.prefs none in
-    record {
-      kind = kind_;
-      caps = record {
-        some_entries = entries.0;
-        most_entries = entries.1;
-        some_elements = elements.0;
-        most_elements = elements.1;
-      };
-      some_conns = conns.0;
-      most_conns = conns.1;
-      vector = vector;
-      prefs = told.0;
-      apart = told.1;
-    }
+formed form kind_ entries elements conns vector none = grind (arith, no_pref)
 
 pub told-form : (declared : Declared) (k : Kind) (form : StrForm) → form.kind ≡ k → form.prefs ≡ []
     → IsVectorTold k form.vector → AreWithin declared (form_tokens k form) → IsForm form
 told-form declared kind.Cache form is none told h =
     formed form (rw is tt) h.1.0 h.1.1.0 h.1.1.1.0 (rw is h.1.1.1.1.0) none
-told-form declared (kind.List headers locks refs) form is none told h =
-    let headers_and_locks : IsKind (kind.List headers locks refs) =
-    (h.1.1.1.1.1.1.0.0, h.1.1.1.1.1.1.0.1, h.1.1.1.1.1.1.1.0.1) in
-    formed form (rw is headers_and_locks) h.1.0 h.1.1.0 h.1.1.1.0 (rw is h.1.1.1.1.0) none
+told-form declared (kind.List headers locks refs) form is none told h = grind (arith, formed)
 told-form declared kind.Lock form is none told h =
     formed form (rw is tt) h.1.0 h.1.1.0 h.1.1.1.0 (rw is told) none
 
@@ -50,19 +32,12 @@ told-form declared kind.Lock form is none told h =
 
 pub known-form : (structures : List StrForm) (place : ℕ) (form : StrForm) → slice_get structures place ≡ Some form
     → All IsForm structures → IsForm form
-known-form structures place form known forms =
-    let here : IsForm (get_or structures place form) =
-    forms place form (slice_get_within structures place form known) in
-    subst IsForm (get_or_from_slice_get structures place form form known) here
+known-form structures place form known forms = grind (arith, slice_get_within, get_or_from_slice_get)
 
 pub apart-new : (prefs : List Set) (pref : Set) → is_declared prefs pref.cf ≡ false → (k : ℕ) (d : Set)
     → k < length prefs
     → (get_or prefs k d).cf.0 ≢ pref.cf.0
-apart-new prefs pref new k d low same =
-    let one : ((get_or prefs k d).cf.0 == pref.cf.0) ≡ true = grind (arith, nat_tests) in
-    let found : is_declared prefs pref.cf ≡ true = list_any_at (λ (p : Set). p.cf.0 == pref.cf.0) prefs k d low one in
-    let wrong : true ≡ false = sym found ∙ new in
-    absurd (cc)
+apart-new prefs pref new k d low same = grind (arith, nat_tests, list_any_at)
 
 pub form-with : (form : StrForm) (pref : Set) → IsForm form → IsPref pref → is_declared form.prefs pref.cf ≡ false
     → IsForm (record form { prefs = form.prefs ++ pref ∷ [] })
@@ -99,10 +74,7 @@ pref-keeps structures on pref p new forms = at_form (slice_get structures on.0) 
 
 pub no_lines : (P : Line → Type 0) (script after : Script) → has_lines script ≡ false → after.lines ≡ script.lines
     → All P after.lines
-no_lines P script after early same =
-    let none : length script.lines ≡ 0 = grind (arith, nat_tests) in
-    let none_after : length after.lines ≡ 0 = ap length same ∙ none in
-    λ k d low. absurd (omega (arith, low, none_after))
+no_lines P script after early same = grind (arith, nat_tests)
 
 or-false : (a b : Bool) → (a || b) ≡ false → (a ≡ false) × (b ≡ false)
 or-false true b h = absurd (cc)
@@ -110,33 +82,17 @@ or-false false b h = (refl, h)
 
 pub room_structures : (script : Script) (first : List ℕ) → first ≡ codes "STRUCTURE" → is_full script first ≡ false
     → length script.structures + 1 ≤ 16
-room_structures script first is h =
-    let full : is_full script (codes "STRUCTURE") ≡ false =
-    subst (λ (word : List ℕ). is_full script word ≡ false) is h in
-    let less : nat_le 16 (length script.structures) ≡ false =
-    (or-false (nat_le 16 (length script.structures)) false full).0 in
-    grind (arith, nat_tests)
+room_structures script first is h = grind (arith, or-false, nat_tests)
 
 pub room_connectors : (script : Script) (first : List ℕ) → first ≡ codes "CONNECTOR" → is_full script first ≡ false
     → length script.connectors + 1 ≤ CONNECTORS
-room_connectors script first is h =
-    let full : is_full script (codes "CONNECTOR") ≡ false =
-    subst (λ (word : List ℕ). is_full script word ≡ false) is h in
-    let less : nat_le CONNECTORS (length script.connectors) ≡ false = full in
-    grind (arith, nat_tests)
+room_connectors script first is h = grind (arith, nat_tests)
 
 declared-keeps : (script : Script) (first : List ℕ) (ws : Words) (declaration : Declaration) → IsWellFormed script
     → has_lines script ≡ false → Declares Names (declared_in script) (first ∷ ws) declaration
     → is_full script first ≡ false → is_twice script declaration ≡ false
     → IsWellFormed (with_declaration script declaration)
-declared-keeps script first ws (Facility pref) h early told room new =
-    record {
-      structures = h.structures;
-      connectors = h.connectors;
-      forms = h.forms;
-      lines = no_lines (IsLineOf (with_declaration script (Facility pref))) script
-          (with_declaration script (Facility pref)) early refl;
-    }
+declared-keeps script first ws (Facility pref) h early told room new = grind (arith, no_lines)
 declared-keeps script first ws (Structure form) h early told room new =
     let bounds = words-within (declared_in script) (declaration_tokens (Structure form)) (first ∷ ws) [] told.spelled
     in
@@ -149,30 +105,10 @@ declared-keeps script first ws (Structure form) h early told room new =
           (with_declaration script (Structure form)) early refl;
     }
 declared-keeps script first ws (Pref on pref) h early told room new =
-    let bounds = words-within (declared_in script) (declaration_tokens (Pref on pref)) (first ∷ ws) [] told.spelled in
-    let is : IsPref pref = (bounds.1.1.0.0, bounds.1.1.1.0.0, bounds.1.1.1.0.1) in
-    let kept = pref-keeps script.structures on pref is new h.forms in
-    record {
-      structures = rw kept.0 h.structures;
-      connectors = h.connectors;
-      forms = kept.1;
-      lines = no_lines (IsLineOf (with_declaration script (Pref on pref))) script
-          (with_declaration script (Pref on pref)) early refl;
-    }
+    grind (arith, words-within, pref-keeps, no_lines)
 declared-keeps script first ws (Connector name) h early told room new =
-    record {
-      structures = h.structures;
-      connectors = rw (length_push script.connectors name) (room_connectors script first told.spelled.0 room);
-      forms = h.forms;
-      lines = no_lines (IsLineOf (with_declaration script (Connector name))) script
-          (with_declaration script (Connector name)) early refl;
-    }
+    grind (arith, length_push, room_connectors, no_lines)
 
 pub declaration-keeps : (script : Script) (first : List ℕ) (ws : Words) (after : Script) → IsWellFormed script
     → AddsDeclaration script first (first ∷ ws) after → IsWellFormed after
-declaration-keeps script first ws after h adds =
-    let early = not-true (has_lines script) adds.early in
-    let room = not-true (is_full script first) adds.not_full in
-    let new = not-true (is_twice script adds.declaration) adds.once in
-    subst IsWellFormed (sym adds.same) (declared-keeps script first ws adds.declaration h early adds.declares room
-    new)
+declaration-keeps script first ws after h adds = grind (arith, not-true, declared-keeps)

@@ -1,5 +1,5 @@
 -- What a line adds to a script keeps it well formed, and so does a whole text.
-use Rattle.plex_script.proofs.Imports.{◌≡◌, ℕ, ◌≤◌, ◌==◌, Bool, true, false, not, List, [], ◌∷◌, ◌++◌, Option, Some, length, codes, refl, sym, ap, ◌∙◌, arith, subst, slice_get, All, if◌then◌else◌, nat_tests, All-nil, All-push, All-weaker, CONNECTORS, ConnId, StrNo, Kind, StrForm, ShellCmd, IsForm, IsConnector, Shell, Content, IsOperator, MayCommand, Declared, Literal, Number, shell_tokens, may_give, is_operator, Words, AnyAsk, Act, Call, Test, TestWord, Post, Take, Events, Line, Script, ask_tokens, act_tokens, retry_tokens, MayAsk, MayDo, declared_in, kind_of, AddsLine, IsScript, empty_script, MayAskAny, IsActOf, IsLineOf, IsWellFormed, IsOneOf, AreWithin, words-within, within-front, within-back}
+use Rattle.plex_script.proofs.Imports.{◌≡◌, ℕ, ◌≤◌, ◌==◌, true, not, List, [], ◌∷◌, ◌++◌, Option, Some, length, refl, sym, ◌∙◌, arith, subst, slice_get, All, if◌then◌else◌, nat_tests, All-nil, All-push, All-weaker, CONNECTORS, ConnId, StrNo, Kind, StrForm, ShellCmd, IsConnector, Shell, Content, IsOperator, MayCommand, Declared, shell_tokens, may_give, is_operator, Words, AnyAsk, Act, Call, Test, TestWord, Post, Take, Events, Line, Script, ask_tokens, act_tokens, retry_tokens, MayAsk, MayDo, declared_in, kind_of, AddsLine, IsScript, empty_script, MayAskAny, IsActOf, IsLineOf, IsWellFormed, IsOneOf, AreWithin, words-within, within-front, within-back}
 use Rattle.cf_types.specs.declared.shell_commands.ShellCmd.TheVariants as cmd
 use Rattle.plex_script.specs.declared.scripts.AnyAsk.TheVariants as any
 use Rattle.plex_script.proofs.FormLaws.{declaration-keeps}
@@ -26,15 +26,7 @@ command-may declared by cmd.Disconnect few low may h = no_operator by low may
 command-may declared by cmd.Fail few low may h = no_operator by low may
 command-may declared by cmd.Next few low may h = low
 command-may declared by cmd.Respond few low may h = low
-command-may declared by (cmd.RebuildStart caps) few low may h = (
-  low,
-  record {
-    some_entries = h.1.1.0.0;
-    most_entries = h.1.1.0.1;
-    some_elements = h.1.1.1.0.0;
-    most_elements = h.1.1.1.0.1;
-  },
-)
+command-may declared by (cmd.RebuildStart caps) few low may h = grind arith
 command-may declared by cmd.RebuildStop few low may h = low
 command-may declared by cmd.RebuildConnect few low may h = no_operator by low may
 command-may declared by (cmd.Copy n) few low may h = (no_operator by low may, h.1.0.0, h.1.0.1)
@@ -63,11 +55,7 @@ ask-may declared by given (any.Lock (Content command)) few low may h = no_operat
 act-may : (declared : Declared) (by : ConnId) (k : Kind) (given : Option ℕ) (act : Act) (retry : ℕ)
     → length declared.connectors ≤ CONNECTORS → by.0 ≤ CONNECTORS
     → MayDo by k given act retry → AreWithin declared (act_tokens given act) → IsActOf k by act
-act-may declared by k given (Call asked) retry few low may h = (
-  may.0,
-  ask-may declared by given asked few low may.1
-      h,
-)
+act-may declared by k given (Call asked) retry few low may h = grind (arith, ask-may)
 act-may declared by k given (Test index) retry few low may h = no_operator by low may.1
 act-may declared by k given (TestWord word) retry few low may h = no_operator by low may.1
 act-may declared by k given Post retry few low may h = no_operator by low may.0
@@ -75,12 +63,7 @@ act-may declared by k given Take retry few low may h = no_operator by low may.0
 act-may declared by k given Events retry few low may h = no_operator by low may.0
 
 retry-few : (declared : Declared) (retry : ℕ) → AreWithin declared (retry_tokens retry) → retry ≤ 1000
-retry-few declared retry h = at_test (retry == 0) refl h
-  where
-    at_test : (b : Bool) → (retry == 0) ≡ b
-        → AreWithin declared (if b then [] else Literal (codes "RETRY") ∷ Number 1 1000 retry ∷ []) → retry ≤ 1000
-    at_test true e k = let zero : retry ≡ 0 = grind (arith, nat_tests) in omega (arith, zero)
-    at_test false e k = k.1.0.1
+retry-few declared retry h = grind (arith, nat_tests)
 
 -- ---- a line
 
@@ -91,14 +74,7 @@ kind-known structures on form h = rw h refl
 -- a line is one of each script with the same structures and connectors
 line-same : (script after : Script) (line : Line) → after.structures ≡ script.structures
     → after.connectors ≡ script.connectors → IsLineOf script line → IsLineOf after line
-line-same script after line structures connectors h =
-    record {
-      form = h.form;
-      known = ap (λ (forms : List StrForm). slice_get forms line.on.0) structures ∙ h.known;
-      caller = rw connectors h.caller;
-      act = h.act;
-      retry = h.retry;
-    }
+line-same script after line structures connectors h = grind arith
 
 line-keeps : (script : Script) (at : ℕ) (by : ConnId) (on : StrNo) (ws : Words) (after : Script) → IsWellFormed script
     → by.0 ≤ length script.connectors
@@ -115,14 +91,7 @@ line-keeps script at by on ws after h caller known adds =
     let k = kind_of script.structures on in
     let does : IsActOf k by adds.act =
     act-may (declared_in script) by k adds.says.given adds.act adds.retry h.connectors low adds.says.allowed front in
-    let is : IsLineOf next line =
-    record {
-      form = known.form;
-      known = known.known;
-      caller = caller;
-      act = subst (λ (k : Kind). IsActOf k by adds.act) (kind-known script.structures on known.form known.known) does;
-      retry = retry-few (declared_in script) adds.retry back;
-    } in
+    let is : IsLineOf next line = grind (arith, kind-known, retry-few) in
     let stays : (other : Line) → IsLineOf script other → IsLineOf next other =
     λ other m. line-same script next other refl refl m in
     let others : All (IsLineOf next) script.lines =
@@ -137,13 +106,7 @@ line-keeps script at by on ws after h caller known adds =
     subst IsWellFormed (sym adds.same) kept
 
 empty-formed : IsWellFormed empty_script
-empty-formed =
-    record {
-      structures = omega arith;
-      connectors = omega arith;
-      forms = All-nil IsForm;
-      lines = All-nil (IsLineOf empty_script);
-    }
+empty-formed = grind (arith, All-nil)
 
 pub script-formed : (text : List ℕ) (script : Script) → IsScript text script → IsWellFormed script
 script-formed text script h = script-keeps IsWellFormed declaration-keeps line-keeps text script empty-formed h

@@ -14,7 +14,7 @@ pub use Rattle.std.proofs.lemmas.Option.{get_or_from_slice_get, slice_get_within
 pub use Rattle.std.proofs.lemmas.Result.{err_from_is_err_and, on_ok_weaker}
 pub use Rattle.std.specs.Bool.{MatchBool, if◌then◌else◌}
 pub use Rattle.std.specs.Char.{is_ascii_uppercase}
-pub use Rattle.std.specs.List.{list_all, flat_map, list_any, sum_by, slice_split, position_or_len, before_first, after_first}
+pub use Rattle.std.specs.List.{list_all, flat_map, list_any, sum_by, slice_split}
 pub use Rattle.std.specs.Option.{is_some, MatchOption, option_map_or}
 pub use Rattle.std.specs.Str.Parse.{digits_value}
 pub use Rattle.cf_types.specs.Forms.{IsPref, IsKind, IsVectorOf, IsForm, IsConnector}
@@ -25,7 +25,7 @@ pub use Rattle.cf_types.specs.declared.forms.Kind.{Kind}
 pub use Rattle.cf_types.specs.declared.forms.Pref.{Pref}
 pub use Rattle.cf_types.specs.declared.forms.Refs.{Refs}
 pub use Rattle.cf_types.specs.declared.forms.StrForm.{StrForm}
-pub use Rattle.cf_types.specs.declared.limits.TheConstants.{CONNECTORS, CAPACITY, VECTOR_BITS, HEADERS, LIST_LOCKS}
+pub use Rattle.cf_types.specs.declared.limits.TheConstants.{CONNECTORS}
 pub use Rattle.cf_types.specs.declared.list_commands.ListCmd.{ListCmd}
 pub use Rattle.cf_types.specs.declared.lock_commands.LockCmd.{LockCmd}
 pub use Rattle.cf_types.specs.declared.names.Name16.{Name16}
@@ -55,10 +55,10 @@ pub use Rattle.plex_plain.proofs.Said.{words-said, connector-said, number-said, 
 pub use Rattle.plex_plain.proofs.Texts.{clear, AreClear, clear-append, AreGood, words-back, line-clear, lines-back}
 pub use Rattle.plex_plain.proofs.Within.{words-within, within-front, within-back, connector-bounds, within-append}
 pub use Rattle.plex_plain.specs.Naming.{caller_name, structure_name, facility_word}
-pub use Rattle.plex_plain.specs.PlainWords.{plain_words, plain_word, class_told, storage_told}
+pub use Rattle.plex_plain.specs.PlainWords.{plain_words, class_told, storage_told}
 pub use Rattle.plex_plain.specs.PlexSpell.CacheReading.{cache_at}
-pub use Rattle.plex_plain.specs.PlexSpell.CacheWords.{cache_tokens, class_tokens, IsGiven}
-pub use Rattle.plex_plain.specs.PlexSpell.Fields.{number, disposition, references, option_tokens, flag_tokens, name_tokens, number_tokens, short_tokens}
+pub use Rattle.plex_plain.specs.PlexSpell.CacheWords.{cache_tokens, IsGiven}
+pub use Rattle.plex_plain.specs.PlexSpell.Fields.{disposition, references, option_tokens, number_tokens}
 pub use Rattle.plex_plain.specs.PlexSpell.FormWords.{form_tokens}
 pub use Rattle.plex_plain.specs.PlexSpell.ListReading.{list_at}
 pub use Rattle.plex_plain.specs.PlexSpell.ListWords.{list_tokens}
@@ -69,7 +69,7 @@ pub use Rattle.plex_plain.specs.PlexSpell.Patterns.Place.{Amount, AnOption, ANew
 pub use Rattle.plex_plain.specs.PlexSpell.Places.{within_limits, is_names, on_first, number_of, new_name_of}
 pub use Rattle.plex_plain.specs.PlexSpell.ShellReading.{shell_at}
 pub use Rattle.plex_plain.specs.PlexSpell.ShellWords.{is_operator, shell_tokens, may_give}
-pub use Rattle.plex_plain.specs.PlexSpell.Tokens.{Declared, Spells, structure_of, is_name, Token, is_declared, connector_of, name_word, is_capital, reserved_words}
+pub use Rattle.plex_plain.specs.PlexSpell.Tokens.{Declared, Spells, structure_of, is_name, Token, is_declared, connector_of, name_word}
 pub use Rattle.plex_plain.specs.PlexSpell.Tokens.Token.{Literal, Number, NewName}
 pub use Rattle.plex_plain.specs.PlexSpell.Words.{same_word, begins_with, words_behind, words_of, lines_of, line_of, tail_of, is_nonempty, without_return, lines_in, line_text}
 pub use Rattle.plex_plain.specs.PlexSpell.declared.rigour.Rigour.{Rigour}
@@ -87,7 +87,7 @@ pub use Rattle.plex_script.specs.LineWords.{ask_tokens, act_tokens, retry_tokens
 pub use Rattle.plex_script.specs.PolicyReading.{declaration_at, facility_places, facility_from, pref_places, pref_from, cache_places, cache_from, list_places, list_from, lock_places, lock_from, form_at, structure_at, declared_at}
 pub use Rattle.plex_script.specs.PolicyWords.{Declares, declaration_tokens, IsVectorTold, IsDeclaration}
 pub use Rattle.plex_script.specs.Printed.{class_in, line_tokens, body_line, numbered_behind, policy_lines, printed_lines, script_text, with_line_numbers}
-pub use Rattle.plex_script.specs.Reading.{unread_why, Judged, IsFaultBy, HasRoom, fault_at, TellsFault, remainder, script_of}
+pub use Rattle.plex_script.specs.Reading.{unread_why, Judged, IsFaultBy, HasRoom, remainder, script_of}
 pub use Rattle.plex_script.specs.Scripts.{with_declaration, AddsDeclaration, AddsLine, AddsOfCaller, line_number, Adds, AddsAll, AddsWords, empty_script, IsScript, IsFault, with_pref}
 pub use Rattle.plex_script.specs.WellFormed.{IsLineOf, IsWellFormed, MayAskAny, IsActOf}
 pub use Rattle.plex_script.specs.declared.agents.Step.{Step}

@@ -1,5 +1,5 @@
 -- What each line keeps, a text keeps.
-use Rattle.plex_script.proofs.Imports.{◌≡◌, ℕ, ◌+◌, ◌≤◌, Bool, true, false, List, [], ◌∷◌, Option, Some, None, length, codes, refl, sym, ap, arith, subst, slice_get, get_or, MatchBool, if◌then◌else◌, MatchOption, position-Some, slice_get-get_or, Name16, ConnId, StrNo, StrForm, same_word, words_of, lines_of, connector_of, structure_of, name_word, mapped, Words, connector-bounds, Script, caller_of, is_comment, is_policy_word, AddsDeclaration, AddsLine, AddsOfCaller, AddsWords, AddsAll, IsScript, empty_script, line_number}
+use Rattle.plex_script.proofs.Imports.{◌≡◌, ℕ, ◌+◌, ◌≤◌, Bool, true, false, List, [], ◌∷◌, Option, Some, None, length, refl, sym, ap, arith, subst, slice_get, get_or, MatchBool, if◌then◌else◌, MatchOption, position-Some, slice_get-get_or, Name16, ConnId, StrNo, StrForm, same_word, words_of, lines_of, structure_of, name_word, mapped, Words, connector-bounds, Script, caller_of, is_comment, is_policy_word, AddsDeclaration, AddsLine, AddsOfCaller, AddsWords, AddsAll, IsScript, empty_script, line_number}
 use Rattle.std.specs.List.{position}
 use Rattle.cf_types.specs.declared.forms.Kind.TheVariants as kind
 
@@ -7,14 +7,7 @@ use Rattle.cf_types.specs.declared.forms.Kind.TheVariants as kind
 
 pub caller-few : (connectors : List Name16) (word : List ℕ) (by : ConnId) → caller_of connectors word ≡ Some by
     → by.0 ≤ length connectors
-caller-few connectors word by h = at_test (same_word word (codes "OP")) h
-  where
-    at_test : (b : Bool) → (if b then Some (record { 0 = 0 }) else connector_of connectors word) ≡ Some by
-        → by.0 ≤ length connectors
-    at_test true k =
-        let here : (let operator_ : ConnId = record { 0 = 0 } in operator_) ≡ by = cc in
-        let same : 0 ≡ by.0 = ap (λ (conn : ConnId). conn.0) here in omega (arith, same)
-    at_test false k = (connector-bounds connectors word by k).1
+caller-few connectors word by h = grind (arith, connector-bounds)
 
 abbrev any_form : StrForm
 any_form =
@@ -63,14 +56,7 @@ module _ (P : Script → Type 0) (declaration : KeepsDeclaration P) (line : Keep
   caller-keeps : (script : Script) (at : ℕ) (by : ConnId) (ws : Words) (after : Script) → P script
       → by.0 ≤ length script.connectors → AddsOfCaller script at by ws after → P after
   caller-keeps script at by [] after h caller adds = absurd adds
-  caller-keeps script at by (second ∷ ws) after h caller adds =
-      at_structure (structure_of script.structures second) refl adds
-    where
-      at_structure : (o : Option StrNo) → structure_of script.structures second ≡ o
-          → MatchOption o ⊥ (λ on. AddsLine script at by on ws after) → P after
-      at_structure None e k = absurd k
-      at_structure (Some on) e k =
-          line script at by on ws after h caller (structure-known script.structures second on e) k
+  caller-keeps script at by (second ∷ ws) after h caller adds = grind (arith, structure-known)
 
   words-keep : (script : Script) (at : ℕ) (ws : Words) (after : Script) → P script → AddsWords script at ws after
       → P after

@@ -1,5 +1,5 @@
 -- Each script of a text keeps the limits.
-use Rattle.plex_script.proofs.Imports.{◌≡◌, ◌≢◌, ℕ, ◌+◌, ◌≤◌, ◌==◌, ◌||◌, Bool, true, false, cond, List, [], ◌∷◌, ◌++◌, Option, Some, None, length, map, refl, sym, ap, ◌∙◌, arith, subst, slice_get, slice_set, get_or, All, list_any, sum_by, option_map_or, map-set_same, nat_tests, length-set, length_push, map-append, All-nil, All-push, All-set, All-weaker, list_any_at, list_any-append, all_pairs_push, sum_by-cons, sum_by-set, get_or_from_slice_get, slice_get_within, Name16, CfId, ConnId, StrNo, Kind, Pref as Set, StrForm, IsPref, IsForm, Names, same_word, is_declared, name_word, same_word-of, Words, IsNamed, AreNames, AreWithin, words-within, within-front, within-back, within-append, Declaration, Facility, Structure, Connector, Line, Script, act_tokens, retry_tokens, MayDo, declaration_tokens, Declares, declared_in, has_lines, kind_of, is_full, is_twice, is_too_much, facility_units, units_of, all_prefs, with_declaration, AddsDeclaration, AddsLine, IsScript, empty_script, class_in, line_tokens, AreFacilities, IsStructureIn, IsLineIn, KeepsLimits}
+use Rattle.plex_script.proofs.Imports.{◌≡◌, ◌≢◌, ℕ, ◌+◌, ◌≤◌, ◌==◌, ◌||◌, Bool, true, false, cond, List, [], ◌∷◌, ◌++◌, Option, Some, None, length, map, refl, sym, ap, ◌∙◌, arith, subst, slice_get, slice_set, get_or, All, list_any, sum_by, option_map_or, map-set_same, nat_tests, length-set, length_push, map-append, All-nil, All-push, All-set, All-weaker, list_any_at, list_any-append, all_pairs_push, sum_by-cons, sum_by-set, get_or_from_slice_get, slice_get_within, Name16, CfId, ConnId, StrNo, Pref as Set, StrForm, IsPref, IsForm, Names, same_word, is_declared, name_word, same_word-of, Words, IsNamed, AreNames, words-within, within-front, within-back, within-append, Declaration, Facility, Structure, Connector, Line, Script, act_tokens, retry_tokens, declaration_tokens, Declares, declared_in, has_lines, kind_of, is_full, is_twice, is_too_much, facility_units, units_of, all_prefs, with_declaration, AddsDeclaration, AddsLine, IsScript, empty_script, AreFacilities, IsStructureIn, IsLineIn, KeepsLimits}
 use Rattle.plex_script.specs.declared.declarations.Declaration.TheVariants.{Pref}
 use Rattle.plex_script.proofs.FormLaws.{not-true, told-form, apart-new, form-with, no_lines, room_structures, room_connectors}
 use Rattle.plex_script.proofs.FormedLines.{kind-known}
@@ -16,12 +16,7 @@ names-push : (names : List Name16) (name : Name16) → AreNames names → IsName
     → list_any (λ other. same_word (name_word other) (name_word name)) names ≡ false → AreNames (names ++ name ∷ [])
 names-push names name h named new = (
   All-push IsNamed names name h.0 named,
-  all_pairs_push (λ (one : Name16) other. one ≢ other) names name h.1 (λ k d low same.
-      let here : same_word (name_word (get_or names k d)) (name_word name) ≡ true =
-      same_word-of _ _ (ap name_word same) in
-      let found = list_any_at (λ (other : Name16). same_word (name_word other) (name_word name)) names k d low here in
-      let wrong : true ≡ false = sym found ∙ new in
-      absurd (cc)),
+  all_pairs_push (λ (one : Name16) other. one ≢ other) names name h.1 (grind (arith, same_word-of, list_any_at)),
 )
 
 any-map : {X Y : Type 0} (q : Y → Bool) (f : X → Y) (xs : List X) → list_any q (map f xs) ≡ list_any (λ x. q (f x)) xs
@@ -46,13 +41,7 @@ still-declared facilities pref cf h =
 more-units : (facilities : List Set) (pref : Set) (cf : CfId)
     → facility_units facilities cf ≤ facility_units (facilities ++ pref ∷ []) cf
 more-units [] pref cf = omega arith
-more-units (facility ∷ facilities) pref cf = at_test (facility.cf.0 == cf.0) (more-units facilities pref cf)
-  where
-    at_test : (b : Bool) → facility_units facilities cf ≤ facility_units (facilities ++ pref ∷ []) cf
-        → cond b facility.units (facility_units facilities cf)
-        ≤ cond b facility.units (facility_units (facilities ++ pref ∷ []) cf)
-    at_test true rest = omega arith
-    at_test false rest = rest
+more-units (facility ∷ facilities) pref cf = grind (arith, more-units facilities pref cf)
 
 -- ---- units set aside
 
@@ -99,21 +88,7 @@ room-set : (facilities : List Set) (structures : List StrForm) (place : ℕ) (fo
     → (cf : CfId)
     → units_of (all_prefs (slice_set structures place (record form { prefs = form.prefs ++ pref ∷ [] }))) cf
     ≤ facility_units facilities cf
-room-set facilities structures place form pref known room enough cf =
-    at_test (pref.cf.0 == cf.0) refl (units-set structures place form pref cf known)
-  where
-    total : ℕ
-    total = units_of (all_prefs (slice_set structures place (record form { prefs = form.prefs ++ pref ∷ [] }))) cf
-
-    at_test : (b : Bool) → (pref.cf.0 == cf.0) ≡ b
-        → total ≡ units_of (all_prefs structures) cf + cond b pref.units 0 → total ≤ facility_units facilities cf
-    at_test true e set =
-        let number : pref.cf.0 ≡ cf.0 = grind (arith, nat_tests) in
-        let same = same_cf pref.cf cf number in
-        let there = subst (λ (c : CfId). units_of (all_prefs structures) c + pref.units
-        ≤ facility_units facilities c) same enough in
-        omega (arith, set, there)
-    at_test false e set = omega (arith, set, room cf)
+room-set facilities structures place form pref known room enough cf = grind (arith, units-set, nat_tests, same_cf)
 
 -- ---- lines
 
@@ -121,25 +96,7 @@ room-set facilities structures place form pref known room enough cf =
 line-same : (script after : Script) (line : Line) → after.structures ≡ script.structures
     → after.connectors ≡ script.connectors
     → after.facilities ≡ script.facilities → IsLineIn script line → IsLineIn after line
-line-same script after line structures connectors facilities h =
-    record {
-      form = h.form;
-      known = ap (λ (forms : List StrForm). slice_get forms line.on.0) structures ∙ h.known;
-      caller = rw connectors h.caller;
-      allowed = h.allowed;
-      within = same_within (sym structures) (sym connectors) (sym facilities) h.within;
-    }
-  where
-    same_within : {f g : List Set} {s t : List StrForm} {c d : List Name16} → s ≡ t → c ≡ d → f ≡ g
-        → AreWithin (record { facilities = f; structures = s; connectors = c }) (line_tokens line)
-        → AreWithin (record { facilities = g; structures = t; connectors = d }) (line_tokens line)
-    same_within {f} {g} {s} {t} {c} {d} e k l w =
-        subst (λ (x : List Set). AreWithin (record { facilities = x; structures = t; connectors = d })
-        (line_tokens line)) l
-        (subst (λ (x : List Name16). AreWithin (record { facilities = f; structures = t; connectors = x })
-        (line_tokens line)) k
-        (subst (λ (x : List StrForm). AreWithin (record { facilities = f; structures = x; connectors = c })
-        (line_tokens line)) e w))
+line-same script after line structures connectors facilities h = grind arith
 
 -- ---- declarations
 
@@ -148,40 +105,13 @@ declared-keeps : (script : Script) (first : List ℕ) (ws : Words) (declaration 
     → is_full script first ≡ false → is_twice script declaration ≡ false → is_too_much script declaration ≡ false
     → KeepsLimits (with_declaration script declaration)
 declared-keeps script first ws (Facility pref) h early told room new enough =
-    let within = words-within (declared_in script) (declaration_tokens (Facility pref)) (first ∷ ws) [] told.spelled
-    in
-    let is : IsPref pref = (within.1.0, within.1.1.0.0, within.1.1.0.1) in
-    let facilities = script.facilities ++ pref ∷ [] in
-    let stays : (form : StrForm) → IsStructureIn script.facilities form → IsStructureIn facilities form =
-    λ form k. (record {
-      formed = k.formed;
-      declared = All-weaker (λ (p : Set). is_declared script.facilities p.cf ≡ true)
-          (λ (p : Set). is_declared facilities p.cf ≡ true)
-          (λ p. still-declared script.facilities pref p.cf) form.prefs k.declared;
-    }) in
-    record {
-      facilities = facilities-push script.facilities pref h.facilities is new;
-      few_structures = h.few_structures;
-      structures = All-weaker (IsStructureIn script.facilities)
-          (IsStructureIn facilities) stays script.structures h.structures;
-      structure_names = h.structure_names;
-      few_connectors = h.few_connectors;
-      connectors = h.connectors;
-      room = λ cf. omega (arith, h.room cf, more-units script.facilities pref cf);
-      lines = no_lines (IsLineIn (with_declaration script (Facility pref))) script
-          (with_declaration script (Facility pref)) early refl;
-    }
+    grind (arith, words-within, All-weaker, still-declared, facilities-push, more-units, no_lines)
 declared-keeps script first ws (Structure form) h early told room new enough =
     let within = words-within (declared_in script) (declaration_tokens (Structure form)) (first ∷ ws) [] told.spelled
     in
     let is : IsForm form = told-form (declared_in script) form.kind form refl told.whole.0 told.whole.1 within.1.1 in
     let bare = told.whole.0 in
-    let in_script : IsStructureIn script.facilities form =
-    record {
-      formed = is;
-      declared = subst (All (λ (p : Set). is_declared script.facilities p.cf ≡ true)) (sym bare)
-          (All-nil (λ (p : Set). is_declared script.facilities p.cf ≡ true));
-    } in
+    let in_script : IsStructureIn script.facilities form = grind (arith, All-nil) in
     let fresh : list_any (λ (other : Name16). same_word (name_word other) (name_word form.name))
     (map name_of script.structures) ≡ false =
     any-map (λ (other : Name16). same_word (name_word other) (name_word form.name)) name_of script.structures ∙ new in
@@ -259,13 +189,7 @@ declared-keeps script first ws (Connector name) h early told room new enough =
 
 limits-declaration : (script : Script) (first : List ℕ) (ws : Words) (after : Script) → KeepsLimits script
     → AddsDeclaration script first (first ∷ ws) after → KeepsLimits after
-limits-declaration script first ws after h adds =
-    let early = not-true (has_lines script) adds.early in
-    let room = not-true (is_full script first) adds.not_full in
-    let new = not-true (is_twice script adds.declaration) adds.once in
-    let enough = not-true (is_too_much script adds.declaration) adds.within in
-    subst KeepsLimits (sym adds.same)
-    (declared-keeps script first ws adds.declaration h early adds.declares room new enough)
+limits-declaration script first ws after h adds = grind (arith, not-true, declared-keeps)
 
 -- ---- a line of a caller
 
@@ -282,20 +206,8 @@ limits-line script at by on ws after h caller known adds =
     let front = act-told declared by
     (kind_of script.structures on) adds.says.given adds.act adds.retry adds.says.allowed
     (within-front declared acts retries within) in
-    let is : IsLineIn next line =
-    record {
-      form = known.form;
-      known = known.known;
-      caller = caller;
-      allowed = subst (λ (k : Kind). MayDo by k (class_in adds.act) adds.act adds.retry)
-          (kind-known script.structures on known.form known.known)
-          (may-told by (kind_of script.structures on) adds.says.given adds.act adds.retry adds.says.allowed);
-      within = within-append declared (act_tokens (class_in adds.act) adds.act) retries front
-          (within-back declared acts retries within);
-    } in
-    let others : All (IsLineIn next) script.lines =
-    All-weaker (IsLineIn script) (IsLineIn next)
-    (λ other. line-same script next other refl refl refl) script.lines h.lines in
+    let is : IsLineIn next line = grind (arith, kind-known, may-told, within-append, within-back) in
+    let others : All (IsLineIn next) script.lines = grind (arith, All-weaker, line-same) in
     let kept : KeepsLimits next =
     record {
       facilities = h.facilities;
@@ -312,17 +224,7 @@ limits-line script at by on ws after h caller known adds =
 -- ---- a text
 
 empty-limits : KeepsLimits empty_script
-empty-limits =
-    record {
-      facilities = (λ k d low. absurd (omega (arith, low)), λ i j d before low. absurd (omega (arith, low)));
-      few_structures = omega arith;
-      structures = All-nil (IsStructureIn []);
-      structure_names = (λ k d low. absurd (omega (arith, low)), λ i j d before low. absurd (omega (arith, low)));
-      few_connectors = omega arith;
-      connectors = (λ k d low. absurd (omega (arith, low)), λ i j d before low. absurd (omega (arith, low)));
-      room = λ cf. omega arith;
-      lines = All-nil (IsLineIn empty_script);
-    }
+empty-limits = grind (arith, All-nil)
 
 pub script-limits : (text : List ℕ) (script : Script) → IsScript text script → KeepsLimits script
 script-limits text script h = script-keeps KeepsLimits limits-declaration limits-line text script empty-limits h

@@ -1,5 +1,5 @@
 -- Lines lead to one script, or are wrong, and not both.
-use Rattle.plex_script.proofs.Imports.{◌≡◌, ℕ, ◌+◌, ◌||◌, Bool, true, false, not, List, [], ◌∷◌, ◌++◌, Option, Some, None, refl, sym, ap, ◌∙◌, arith, inl, inr, MatchBool, MatchOption, ConnId, StrNo, Kind, Names, words_of, Declared, structure_of, Words, Why, Late, Syntax, Limit, Unknown, Twice, Space, Act, Script, SaysDone, declared_in, kind_of, has_lines, is_full, is_twice, is_too_much, is_long, is_comment, is_policy_word, caller_of, EmptyCause, PolicyCause, StrangeCause, NoStructureCause, DoneCause, CallerCause, LineCause, with_declaration, AddsDeclaration, AddsLine, AddsOfCaller, AddsWords, Adds, AddsAll, line_number}
+use Rattle.plex_script.proofs.Imports.{◌≡◌, ℕ, ◌+◌, ◌||◌, Bool, true, false, not, List, [], ◌∷◌, ◌++◌, Option, Some, None, refl, sym, ap, ◌∙◌, arith, inl, inr, MatchBool, MatchOption, ConnId, StrNo, Kind, Names, words_of, Declared, structure_of, Words, Why, Late, Syntax, Limit, Unknown, Twice, Space, Act, Script, SaysDone, declared_in, kind_of, has_lines, is_full, is_long, is_comment, is_policy_word, caller_of, EmptyCause, PolicyCause, StrangeCause, NoStructureCause, DoneCause, CallerCause, LineCause, AddsDeclaration, AddsLine, AddsOfCaller, AddsWords, Adds, AddsAll, line_number}
 use Rattle.plex_script.proofs.ActLaws.{act-complete}
 use Rattle.plex_script.proofs.CauseLaws.{Declares-one, SaysDone-limits, SaysDone-form, policy-read}
 
@@ -28,19 +28,12 @@ line-one script at by on ws a b h k =
 
 declaration-one : (script : Script) (first : List ℕ) (ws : Words) (a b : Script) → AddsDeclaration script first ws a
     → AddsDeclaration script first ws b → a ≡ b
-declaration-one script first ws a b h k =
-    let one = Declares-one (declared_in script) ws h.declaration k.declaration h.declares k.declares in
-    h.same ∙ ap (with_declaration script) one ∙ sym k.same
+declaration-one script first ws a b h k = grind (arith, Declares-one)
 
 caller-one : (script : Script) (at : ℕ) (by : ConnId) (ws : Words) (a b : Script) → AddsOfCaller script at by ws a
     → AddsOfCaller script at by ws b → a ≡ b
 caller-one script at by [] a b h k = absurd h
-caller-one script at by (second ∷ ws) a b h k = by_structure (structure_of script.structures second) h k
-  where
-    by_structure : (o : Option StrNo) → MatchOption o ⊥ (λ on. AddsLine script at by on ws a)
-        → MatchOption o ⊥ (λ on. AddsLine script at by on ws b) → a ≡ b
-    by_structure None m n = absurd m
-    by_structure (Some on) m n = line-one script at by on ws a b m n
+caller-one script at by (second ∷ ws) a b h k = grind (arith, line-one)
 
 words-one : (script : Script) (at : ℕ) (ws : Words) (a b : Script) → AddsWords script at ws a
     → AddsWords script at ws b → a ≡ b
@@ -108,14 +101,8 @@ policy-clean script after long first ws why short h k =
     by_why Syntax m = policy-read script long first ws h.declaration early fits h.declares Syntax (omega arith) m
     by_why Limit m = policy-read script long first ws h.declaration early fits h.declares Limit (omega arith) m
     by_why Unknown m = policy-read script long first ws h.declaration early fits h.declares Unknown (omega arith) m
-    by_why Twice m =
-        let same = Declares-one (declared_in script) ws m.0 h.declaration m.1 h.declares in
-        let wrong : is_twice script h.declaration ≡ true = rw same at m.2 in not_long (is_twice script h.declaration)
-        h.once wrong
-    by_why Space m =
-        let same = Declares-one (declared_in script) ws m.0 h.declaration m.1 h.declares in
-        let wrong : is_too_much script h.declaration ≡ true = rw same at m.2 in not_long
-        (is_too_much script h.declaration) h.within wrong
+    by_why Twice m = grind (arith, Declares-one, not_long)
+    by_why Space m = grind (arith, Declares-one, not_long)
 
 done-clean : (declared : Declared) (long : Bool) (by : ConnId) (kind : Kind) (ws : Words) (act : Act) (retry : ℕ)
     (why : Why) → not long ≡ true

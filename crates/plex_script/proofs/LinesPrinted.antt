@@ -1,5 +1,5 @@
 -- The printed lines of callers do the same again.
-use Rattle.plex_script.proofs.Imports.{◌≡◌, ℕ, ◌+◌, ◌≤◌, ◌==◌, ◌||◌, Bool, true, false, not, cond, List, [], ◌∷◌, ◌++◌, length, map, Option, Some, option_map, position, slice_get, codes, decimal, refl, sym, ap, ◌∙◌, arith, zero, suc, length-append, subst, All, MatchBool, list_any, MatchOption, option_map_or, and_parts, nat_tests, get_or_from_slice_get, slice_get_within, is_ascii_uppercase, Name16, ConnId, StrNo, Kind, StrForm, IsPadded, Shell, Content, same_word, line_of, tail_of, name_word, is_name, is_capital, reserved_words, connector_of, structure_of, Literal, Number, caller_name, structure_name, plain_words, AreNames, HaveNames, name-place, words-said, connector-said, AreGood, IsRow, row-append, words-good, name-good, caller-good, shell-row, cache-row, list-row, lock-row, Act, Call, Test, TestWord, Post, Take, Events, Line, Script, act_tokens, retry_tokens, MayDo, declared_in, caller_of, is_comment, is_policy_word, line_number, AddsWords, AddsLine, class_in, line_tokens, body_line, numbered_behind, IsLineIn}
+use Rattle.plex_script.proofs.Imports.{◌≡◌, ℕ, ◌+◌, ◌≤◌, ◌==◌, ◌||◌, Bool, true, false, not, List, [], ◌∷◌, ◌++◌, length, map, Option, Some, option_map, position, slice_get, codes, decimal, refl, sym, ap, ◌∙◌, arith, zero, suc, length-append, subst, All, MatchBool, MatchOption, option_map_or, and_parts, nat_tests, get_or_from_slice_get, slice_get_within, is_ascii_uppercase, Name16, ConnId, StrNo, StrForm, IsPadded, Shell, Content, same_word, line_of, name_word, is_name, connector_of, structure_of, caller_name, structure_name, plain_words, AreNames, HaveNames, name-place, words-said, connector-said, AreGood, IsRow, row-append, words-good, name-good, caller-good, shell-row, cache-row, list-row, lock-row, Act, Call, Test, TestWord, Post, Take, Events, Line, Script, act_tokens, retry_tokens, declared_in, caller_of, is_comment, is_policy_word, line_number, AddsWords, AddsLine, class_in, line_tokens, body_line, numbered_behind, IsLineIn}
 use Rattle.plex_script.specs.declared.scripts.AnyAsk.TheVariants as any
 use Rattle.plex_script.proofs.Chains.{Leads, LeadsOne, leads-each}
 use Rattle.plex_script.proofs.FormedLines.{kind-known}
@@ -12,9 +12,7 @@ upper_first b h = grind (arith, nat_tests)
 
 no_comment : (word : List ℕ) → is_name word ≡ true → is_comment word ≡ false
 no_comment [] h = absurd (cc)
-no_comment (b ∷ word) h =
-    let capital = (and_parts (is_capital (b ∷ word)) (not (list_any (same_word (b ∷ word)) reserved_words)) h).0 in
-    upper_first b (and_parts (is_ascii_uppercase b) _ capital).0
+no_comment (b ∷ word) h = grind (arith, and_parts, upper_first)
 
 reserved : (op sys none_ a b c d : Bool) → not (op || (sys || (none_ || (a || (b || (c || (d || false))))))) ≡ true
     → (op ≡ false) × ((a || (b || (c || (d || false)))) ≡ false)
@@ -29,11 +27,7 @@ reserved false false false false false false false h = (refl, refl)
 
 no_policy : (word : List ℕ) → is_name word ≡ true
     → (same_word word (codes "OP") ≡ false) × (is_policy_word word ≡ false)
-no_policy word h =
-    reserved (same_word word (codes "OP")) (same_word word (codes "SYS")) (same_word word (codes "NONE"))
-    (same_word word (codes "FACILITY")) (same_word word (codes "STRUCTURE")) (same_word word (codes "PREF"))
-    (same_word word (codes "CONNECTOR"))
-    (and_parts (is_capital word) (not (list_any (same_word word) reserved_words)) h).1
+no_policy word h = grind (arith, reserved, and_parts)
 
 -- the word names this caller
 record Calls (connectors : List Name16) (word : List ℕ) (by : ConnId) : Type 0 where
@@ -73,8 +67,7 @@ structure-read structures on form names known =
     let place = name-place (λ (f : StrForm). f.name) structures on.0 form names low in
     let numbered : ℕ → StrNo = λ n. (record { 0 = n }) in
     let read : position (λ (f : StrForm). same_word (name_word f.name) (name_word form.name)) structures ≡ Some on.0 =
-    subst (λ (g : StrForm). position (λ (f : StrForm). same_word (name_word f.name) (name_word g.name)) structures
-    ≡ Some on.0) here place in
+    grind arith in
     ap (option_map numbered) read
 
 -- ---- what is done
@@ -93,15 +86,7 @@ act-row Take = record { plain = refl; short = omega arith }
 act-row Events = record { plain = refl; short = omega arith }
 
 retry-row : (retry : ℕ) → IsRow 130 (retry_tokens retry)
-retry-row retry = elim (retry == 0) as
-    (λ b. IsRow 130 (cond b [] (Literal (codes "RETRY") ∷ Number 1 1000 retry ∷ []))) [
-      | true ↦ record {
-        plain =
-            refl;
-        short = omega arith;
-      }
-      | false ↦ record { plain = refl; short = omega arith }
-    ]
+retry-row retry = grind (arith, IsRow)
 
 line-row : (line : Line) → IsRow 6130 (line_tokens line)
 line-row line =
@@ -140,35 +125,12 @@ body-adds script front line count names structures h =
     let second = name-good h.form.name (subst (λ (f : StrForm). IsPadded f.name.0) here named.0) in
     let words = who ∷ name_word h.form.name ∷ plain_words [] script.connectors tokens in
     let good : AreGood words = (caller.some, caller.solid_all, (second.some, second.solid_all, fine.0)) in
-    let short : length (line_of words) ≤ 8192 = omega (
-      arith,
-      caller.short,
-      second.short,
-      fine.1,
-      row.short,
-      length-append (32 ∷ name_word h.form.name) (tail_of (plain_words [] script.connectors tokens)),
-      length-append who (tail_of (name_word h.form.name ∷ plain_words [] script.connectors tokens)),
-    ) in
+    let short : length (line_of words) ≤ 8192 = grind (arith, length-append) in
     let read = calls script.connectors line.by.0 names h.caller in
     let on = structure-read script.structures line.on h.form structures h.known in
     let does : AddsLine state (line_number (count + 1)) line.by line.on
-    (plain_words [] script.connectors tokens) after =
-    record {
-      act = line.act;
-      retry = line.retry;
-      says = record {
-        given = class_in line.act;
-        allowed = subst (λ (k : Kind). MayDo line.by k (class_in line.act) line.act line.retry)
-            (sym (kind-known script.structures line.on h.form h.known)) h.allowed;
-        spelled = told;
-      };
-      same = refl;
-    } in
-    let adds : AddsWords state (line_number (count + 1)) words after =
-    of_caller (is_comment who) (is_policy_word who)
-    (caller_of script.connectors who) line.by _ _ _ read.comment read.policy_
-    read.caller
-    (at_structure (structure_of script.structures (name_word h.form.name)) line.on _ on does) in
+    (plain_words [] script.connectors tokens) after = grind (arith, kind-known) in
+    let adds : AddsWords state (line_number (count + 1)) words after = grind (arith, of_caller, at_structure) in
     let leads = line-adds state after count words good short adds in
     subst (λ (w : List ℕ). LeadsOne state count (line_of (who ∷ w ∷ plain_words [] script.connectors tokens)) after)
     (sym is) leads
@@ -178,15 +140,8 @@ body-adds script front line count names structures h =
 numbered-more : (base : ℕ) (front : List Line) (line : Line)
     → numbered_behind base (front ++ line ∷ []) ≡ numbered_behind base front ++
     (record line { at = line_number (base + length front + 1) }) ∷ []
-numbered-more base [] line =
-    let same : base + 1 ≡ base + 0 + 1 = omega arith in
-    ap (λ (n : ℕ). (let l : Line = record line { at = line_number n } in l ∷ [])) same
-numbered-more base (first ∷ front) line =
-    let one : Line = record first { at = line_number (base + 1) } in
-    let same : base + 1 + length front + 1 ≡ base + length (first ∷ front) + 1 = omega arith in
-    ap (λ (ls : List Line). one ∷ ls) (numbered-more (base + 1) front line)
-    ∙ ap (λ (n : ℕ). (let l : Line =
-    record line { at = line_number n } in one ∷ (numbered_behind (base + 1) front ++ l ∷ []))) same
+numbered-more base [] line = grind arith
+numbered-more base (first ∷ front) line = grind (arith, numbered-more (base + 1) front line)
 
 line-of-all : (P : Line → Type 0) (front : List Line) (line : Line) (back all : List Line)
     → front ++ line ∷ back ≡ all → All P all → P line

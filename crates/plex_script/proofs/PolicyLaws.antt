@@ -1,5 +1,5 @@
 -- What is read of a line of a policy is spelled so, and what is spelled so is read.
-use Rattle.plex_script.proofs.Imports.{◌≡◌, ℕ, Bool, true, false, List, [], ◌∷◌, Option, Some, codes, refl, sym, ap, ◌∙◌, lit<, subst, Name16, Caps, Kind, Pref as Set, StrForm, Rigour, same_word, begins_with, words_behind, Declared, Spells, Literal, NewName, is_names, on_first, new_name_of, Place, Values, tokens_of, values_at, ANewName, pick, not_some, bound, word-same, new_name-sound, new_name-complete, Words, FindsAll, Spells-append, Spells-split, single-sound, single-complete, led, led-by, ArePlaces, are_rows, values-sound, values-complete, verb-sound, command-complete, led-complete, AreFree-tail, all_lack_retry, Declaration, Facility, Structure, Connector, form_tokens, declaration_tokens, IsDeclaration, IsVectorTold, Declares, whole_read, facility_places, facility_from, pref_places, pref_from, cache_places, cache_from, list_places, list_from, lock_places, lock_from, form_at, structure_at, declared_at, declaration_at}
+use Rattle.plex_script.proofs.Imports.{arith, ◌≡◌, ℕ, Bool, true, false, List, [], ◌∷◌, Option, Some, codes, refl, sym, ap, ◌∙◌, lit<, subst, Name16, Caps, Kind, Pref as Set, StrForm, Rigour, same_word, begins_with, words_behind, Declared, Spells, Literal, NewName, is_names, on_first, new_name_of, Place, Values, tokens_of, values_at, ANewName, pick, not_some, bound, word-same, new_name-sound, new_name-complete, Words, FindsAll, Spells-append, Spells-split, single-sound, single-complete, led, led-by, ArePlaces, are_rows, values-sound, values-complete, verb-sound, command-complete, led-complete, AreFree-tail, all_lack_retry, Declaration, Facility, Structure, Connector, form_tokens, declaration_tokens, IsDeclaration, IsVectorTold, Declares, whole_read, facility_places, facility_from, pref_places, pref_from, cache_places, cache_from, list_places, list_from, lock_places, lock_from, form_at, structure_at, declared_at, declaration_at}
 use Rattle.cf_types.specs.declared.forms.Kind.TheVariants as kind
 use Rattle.plex_script.specs.declared.declarations.Declaration.TheVariants.{Pref}
 use Rattle.plex_script.proofs.ActLaws.{ended-is}
@@ -19,23 +19,7 @@ are_cache : ArePlaces cache_places
 are_cache = (lit< tt, tt, (lit< tt, tt, (lit< tt, tt, (lit< tt, tt, (refl, tt, tt)))))
 
 are_list : ArePlaces list_places
-are_list = (
-  lit< tt,
-  tt,
-  (
-    lit< tt,
-    tt,
-    (
-      lit< tt,
-      tt,
-      (
-        lit< tt,
-        tt,
-        (refl, tt, (lit< tt, tt, (lit< tt, tt, (tt, tt, tt)))),
-      ),
-    ),
-  ),
-)
+are_list = grind (arith, lit<)
 
 are_lock : ArePlaces lock_places
 are_lock = (lit< tt, tt, (lit< tt, tt, (lit< tt, tt, (refl, tt, tt))))
@@ -49,9 +33,7 @@ name-sound rigour declared ws rest name h = single-sound rigour declared (new_na
 name-complete : (rigour : Rigour) (declared : Declared) (ws rest : Words) (name : Name16) → Spells rigour declared
     (NewName name ∷ []) ws rest
     → FindsAll rigour (on_first (new_name_of rigour) ws) name rest
-name-complete rigour declared ws rest name h =
-    single-complete rigour declared (new_name_of rigour) NewName name (λ w e. new_name-complete rigour w name e.0 e.1)
-    ws rest h
+name-complete rigour declared ws rest name h = grind (arith, single-complete, new_name-complete)
 
 form-sound : (rigour : Rigour) (declared : Declared) (verb : List ℕ) (name : Name16) (ws mid rest : Words)
     (declaration : Declaration)
@@ -64,36 +46,15 @@ form-sound rigour declared verb name ws mid rest declaration e named h =
     let t = values-sound rigour declared cache_places (cache_from name)
     (words_behind mid) rest declaration are_cache k in
     let s = led rigour declared (codes "CACHE") (tokens_of cache_places t.values) mid rest b t.spelled in
-    rw t.same (record {
-      whole = (refl, tt);
-      spelled = (
-        here,
-        Spells-append rigour declared (NewName name ∷ [])
-            (Literal (codes "CACHE") ∷ tokens_of cache_places t.values) ws mid rest named s,
-      );
-    }))
+    rw t.same (grind (arith, Spells-append)))
     (λ _ a. pick a (λ b k.
     let t = values-sound rigour declared list_places (list_from name) (words_behind mid) rest declaration are_list k in
     let s = led rigour declared (codes "LIST") (tokens_of list_places t.values) mid rest b t.spelled in
-    rw t.same (record {
-      whole = (refl, tt);
-      spelled = (
-        here,
-        Spells-append rigour declared (NewName name ∷ [])
-            (Literal (codes "LIST") ∷ tokens_of list_places t.values) ws mid rest named s,
-      );
-    }))
+    rw t.same (grind (arith, Spells-append)))
     (λ _ c. pick c (λ b k.
     let t = values-sound rigour declared lock_places (lock_from name) (words_behind mid) rest declaration are_lock k in
     let s = led rigour declared (codes "LOCK") (tokens_of lock_places t.values) mid rest b t.spelled in
-    rw t.same (record {
-      whole = (refl, refl);
-      spelled = (
-        here,
-        Spells-append rigour declared (NewName name ∷ [])
-            (Literal (codes "LOCK") ∷ tokens_of lock_places t.values) ws mid rest named s,
-      );
-    }))
+    rw t.same (grind (arith, Spells-append)))
     (λ _ n. not_some (let p : Declaration × Words = (declaration, rest) in p) n)))
 
 declared-sound : (rigour : Rigour) (declared : Declared) (ws rest : Words) (declaration : Declaration)
@@ -147,12 +108,7 @@ kind-complete rigour declared word places made name values ws are rows free does
     let l = led-by rigour declared word (tokens_of places values) split.mid [] split.behind_ in
     let v = values-complete rigour declared places (made n.found) values (words_behind split.mid) [] are rows
     (AreFree-tail places [] refl free) l.rest_is in
-    rw n.read (record {
-      found = made n.found v.found;
-      read = does n.found split.mid l.begins ∙ v.read;
-      same = λ e. ap (λ (x : Name16). made x v.found) (n.same e) ∙ ap (λ (xs : Values places). made name xs)
-          (v.same e);
-    })) h
+    rw n.read (grind arith)) h
 
 first_apart : (word other : List ℕ) (us : Words) → begins_with word us ≡ true → same_word word other ≡ false
     → begins_with other us ≡ false
@@ -169,9 +125,7 @@ does_list rigour declared n us e = let a = first_apart (codes "LIST") (codes "CA
 
 does_lock : (rigour : Rigour) (declared : Declared) (n : Name16) (us : Words) → begins_with (codes "LOCK") us ≡ true
     → form_at rigour declared n us ≡ values_at rigour declared lock_places (lock_from n) (words_behind us)
-does_lock rigour declared n us e =
-    let a = first_apart (codes "LOCK") (codes "CACHE") us e refl in let b = first_apart (codes "LOCK") (codes "LIST")
-    us e refl in rw (a, b, e) refl
+does_lock rigour declared n us e = grind (arith, first_apart)
 
 abbrev form_of : Name16 → Kind → Caps → ℕ → ℕ → Bool → List Set → StrForm
 form_of name k caps conns vector keep prefs = record {

@@ -1,5 +1,5 @@
 -- The printed lines of a policy declare it again.
-use Rattle.plex_script.proofs.Imports.{◌≡◌, ◌≢◌, ℕ, ◌+◌, ◌<◌, ◌≤◌, ◌==◌, Bool, true, false, not, cond, nat_le, nat_lt, List, [], ◌∷◌, ◌++◌, length, map, get_or, Option, Some, option_map, slice_get, slice_set, codes, decimal, refl, sym, ap, ◌∙◌, arith, length-append, subst, All, lit<, list_any, flat_map, option_map_or, get_or-append_seam, set-append_seam, nat_tests, flat_map-append, get_or_append_left, get_or-map, length-map, list_any_none, sum_by-append, sum_by-cons, slice_get-get_or, CAPACITY, CONNECTORS, VECTOR_BITS, HEADERS, LIST_LOCKS, Name16, CfId, StrNo, Kind, Refs, Pref as Set, StrForm, IsForm, IsPref, IsKind, IsVectorOf, Names, same_word, line_of, tail_of, form_tokens, disposition, references, Declared, Token, Spells, name_word, is_declared, structure_of, Literal, Number, same_word-refl, facility_word, plain_words, facility_line, form_line, pref_line, connector_line, structure_lines, IsNamed, AreNames, AreWithin, apart_words, HaveNames, position-seam, words-said, number-said, facility-said, name-said, connectors-named, AreGood, words-back, line-clear, IsRow, row-append, row-wider, words-good, name-good, number-good, facility-good, Facility, Structure, Connector, Script, IsVectorTold, declared_in, is_long, has_pref, facility_units, units_of, all_prefs, with_pref, AddsWords, line_number, AreFacilities, IsStructureIn}
+use Rattle.plex_script.proofs.Imports.{◌≡◌, ◌≢◌, ℕ, ◌+◌, ◌<◌, ◌≤◌, ◌==◌, Bool, true, false, not, cond, nat_le, nat_lt, List, [], ◌∷◌, ◌++◌, length, map, get_or, Option, Some, option_map, slice_get, codes, decimal, refl, sym, ap, ◌∙◌, arith, length-append, subst, All, lit<, list_any, flat_map, option_map_or, get_or-append_seam, set-append_seam, nat_tests, flat_map-append, get_or_append_left, get_or-map, length-map, list_any_none, sum_by-append, sum_by-cons, slice_get-get_or, CONNECTORS, Name16, CfId, StrNo, Kind, Refs, Pref as Set, StrForm, IsForm, IsPref, IsKind, IsVectorOf, Names, same_word, line_of, form_tokens, disposition, references, Declared, name_word, is_declared, structure_of, same_word-refl, facility_word, plain_words, facility_line, form_line, pref_line, connector_line, structure_lines, IsNamed, AreNames, AreWithin, apart_words, HaveNames, position-seam, words-said, number-said, facility-said, name-said, connectors-named, AreGood, words-back, line-clear, IsRow, row-append, row-wider, words-good, name-good, number-good, facility-good, Facility, Structure, Connector, Script, IsVectorTold, declared_in, is_long, has_pref, facility_units, units_of, all_prefs, with_pref, AddsWords, line_number, AreFacilities, IsStructureIn}
 use Rattle.cf_types.specs.declared.forms.Kind.TheVariants as kind
 use Rattle.cf_types.specs.declared.forms.Refs.TheVariants as refs
 use Rattle.plex_script.specs.declared.declarations.Declaration.TheVariants.{Pref}
@@ -18,15 +18,7 @@ short_line line h = grind (arith, nat_tests)
 pub line-adds : (script after : Script) (count : ℕ) (words : List (List ℕ)) → AreGood words
     → length (line_of words) ≤ 8192 → AddsWords script (line_number (count + 1)) words after
     → LeadsOne script count (line_of words) after
-line-adds script after count words good short adds =
-    record {
-      clear_line = line-clear words good;
-      adds = (
-        short_line (line_of words) short,
-        subst (λ (ws : List (List ℕ)). AddsWords script (line_number (count + 1)) ws after)
-            (sym (words-back words good)) adds,
-      );
-    }
+line-adds script after count words good short adds = grind (arith, line-clear, short_line, words-back)
 
 -- ---- facilities
 
@@ -44,10 +36,7 @@ fresh_cf front x back h =
     (get_or (front ++ x ∷ back) (length front) d) x left here apart)
   where
     not_same : (a b c e : Set) → a ≡ b → c ≡ e → a.cf.0 ≢ c.cf.0 → (b.cf.0 == e.cf.0) ≡ false
-    not_same a b c e left here apart =
-        let first : a.cf.0 ≡ b.cf.0 = ap (λ (s : Set). s.cf.0) left in
-        let second : c.cf.0 ≡ e.cf.0 = ap (λ (s : Set). s.cf.0) here in
-        unlike b.cf.0 e.cf.0 (λ same. apart (first ∙ (same ∙ sym second)))
+    not_same a b c e left here apart = grind (arith, unlike)
 
 pub element : {X : Type 0} (P : X → Type 0) (front : List X) (x : X) (back : List X) → All P (front ++ x ∷ back) → P x
 element P front x back h =
@@ -66,22 +55,12 @@ facility-adds front x back count h =
     let words = codes "FACILITY" ∷ facility_word x.cf ∷ decimal x.units ∷ [] in
     let good : AreGood words =
     (refl, refl, (cf.some, cf.solid_all, (units.some, units.solid_all, tt))) in
-    let short : length (line_of words) ≤ 8192 = omega (
-      arith,
-      cf.short,
-      units.short,
-      length-append (32 ∷ facility_word x.cf) ((32 ∷ decimal x.units) ++ []),
-      length-append (32 ∷ decimal x.units) [],
-      length-append (codes "FACILITY") (tail_of (facility_word x.cf ∷ decimal x.units ∷ [])),
-    ) in
+    let short : length (line_of words) ≤ 8192 = grind (arith, length-append) in
     line-adds (policy front [] []) (policy (front ++ x ∷ []) [] []) count words good short
     (record {
       early = refl;
       declaration = Facility x;
-      declares = record {
-        whole = tt;
-        spelled = (refl, (facility-said x.cf is.0, (number-said 1 1000000 x.units (lit< tt) is.1 is.2, refl)));
-      };
+      declares = grind (arith, facility-said, number-said, lit<);
       not_full = refl;
       once = not_false (is_declared front x.cf) (fresh_cf front x back h);
       within = refl;
@@ -107,9 +86,7 @@ structures-named structures h =
     record {
       named = λ k d low.
           subst IsNamed (at k d low) (h.0 k (name d) (omega (arith, low, length-map structures name)));
-      apart = λ j k d before low same.
-          h.1 j k (name d) before (omega (arith, low, length-map structures name))
-          (at j d (omega (arith, before, low)) ∙ (same ∙ sym (at k d low)));
+      apart = grind (arith, length-map);
     }
 
 -- a name isn't one of those before it
@@ -128,9 +105,7 @@ fresh_name {X} name front x back h =
   where
     other_word : (a b c e : X) → a ≡ b → c ≡ e → same_word (name_word (name a)) (name_word (name c)) ≡ false
         → same_word (name_word (name b)) (name_word (name e)) ≡ false
-    other_word a b c e left here apart =
-        ap (λ (y : X). same_word (name_word (name y)) (name_word (name e))) (sym left)
-        ∙ (ap (λ (y : X). same_word (name_word (name a)) (name_word (name y))) (sym here) ∙ apart)
+    other_word a b c e left here apart = grind arith
 
 name_of_element : {X : Type 0} (name : X → Name16) (front : List X) (x : X) (back : List X)
     → HaveNames name (front ++ x ∷ back)
@@ -149,27 +124,9 @@ references-row refs.Keys = record { plain = refl; short = omega arith }
 references-row refs.Nothing = record { plain = refl; short = omega arith }
 
 form-row : (k : Kind) (form : StrForm) → IsRow 1000 (form_tokens k form)
-form-row kind.Cache form =
-    row-wider 390 1000 _ (omega arith)
-    (row-append 325 65 (Literal (codes "CACHE")
-    ∷ Number 1 CAPACITY form.caps.entries ∷ Number 1 CAPACITY form.caps.elements
-    ∷ Number 1 CONNECTORS form.conns ∷ Number 1 VECTOR_BITS form.vector ∷ []) _ (record { plain = refl; short = omega arith })
-    (disposition-row form.keep))
-form-row (kind.List headers locks how) form =
-    row-wider 585 1000 _ (omega arith)
-    (row-append 325 260 (Literal (codes "LIST")
-    ∷ Number 1 CAPACITY form.caps.entries ∷ Number 1 CAPACITY form.caps.elements
-    ∷ Number 1 CONNECTORS form.conns ∷ Number 1 VECTOR_BITS form.vector ∷ []) _ (record { plain = refl; short = omega arith })
-    (row-append 65 195 _ _ (disposition-row form.keep)
-    (row-append 130 65 (Number 1 HEADERS headers ∷ Number 0 LIST_LOCKS locks ∷ []) _
-    (record { plain = refl; short = omega arith })
-    (references-row how))))
-form-row kind.Lock form =
-    row-wider 325 1000 _ (omega arith)
-    (row-append 260 65 (Literal (codes "LOCK")
-    ∷ Number 1 CAPACITY form.caps.entries ∷ Number 1 CAPACITY form.caps.elements
-    ∷ Number 1 CONNECTORS form.conns ∷ []) _ (record { plain = refl; short = omega arith })
-    (disposition-row form.keep))
+form-row kind.Cache form = grind (arith, row-wider, row-append, disposition-row)
+form-row (kind.List headers locks how) form = grind (arith, row-wider, row-append, disposition-row, references-row)
+form-row kind.Lock form = grind (arith, row-wider, row-append, disposition-row)
 
 disposition-within : (declared : Declared) (keep : Bool) → AreWithin declared (disposition keep ∷ [])
 disposition-within declared true = (tt, tt)
@@ -182,51 +139,10 @@ references-within declared refs.Nothing = (tt, tt)
 
 form-within : (declared : Declared) (k : Kind) (form : StrForm) → IsForm form → IsKind k → IsVectorOf k form.vector
     → AreWithin declared (form_tokens k form)
-form-within declared kind.Cache form h is vector = (
-  tt,
-  (
-    (h.caps.some_entries, h.caps.most_entries),
-    (
-      (h.caps.some_elements, h.caps.most_elements),
-      (
-        (h.some_conns, h.most_conns),
-        (vector, disposition-within declared form.keep),
-      ),
-    ),
-  ),
-)
-form-within declared (kind.List headers locks how) form h is vector = (
-  tt,
-  (
-    (h.caps.some_entries, h.caps.most_entries),
-    (
-      (h.caps.some_elements, h.caps.most_elements),
-      (
-        (h.some_conns, h.most_conns),
-        (
-          vector,
-          (
-            (disposition-within declared form.keep).0,
-            ((is.0, is.1), ((omega arith, is.2), references-within declared how)),
-          ),
-        ),
-      ),
-    ),
-  ),
-)
-form-within declared kind.Lock form h is vector = (
-  tt,
-  (
-    (h.caps.some_entries, h.caps.most_entries),
-    (
-      (h.caps.some_elements, h.caps.most_elements),
-      (
-        (h.some_conns, h.most_conns),
-        disposition-within declared form.keep,
-      ),
-    ),
-  ),
-)
+form-within declared kind.Cache form h is vector = grind (arith, disposition-within)
+form-within declared (kind.List headers locks how) form h is vector =
+    grind (arith, disposition-within, references-within)
+form-within declared kind.Lock form h is vector = grind (arith, disposition-within)
 
 vector-told : (k : Kind) (vector : ℕ) → IsVectorOf k vector → IsVectorTold k vector
 vector-told kind.Cache vector h = tt
@@ -266,32 +182,14 @@ form-adds facilities front form back count names few h =
     let fine = words-good declared tokens no_names row.plain within in
     let words = codes "STRUCTURE" ∷ name_word form.name ∷ plain_words [] [] tokens in
     let good : AreGood words = (refl, refl, (name.some, name.solid_all, fine.0)) in
-    let short : length (line_of words) ≤ 8192 = omega (
-      arith,
-      name.short,
-      fine.1,
-      row.short,
-      length-append (32 ∷ name_word form.name) (tail_of (plain_words [] [] tokens)),
-      length-append (codes "STRUCTURE") (tail_of (name_word form.name ∷ plain_words [] [] tokens)),
-    ) in
+    let short : length (line_of words) ≤ 8192 = grind (arith, length-append) in
     let full : nat_le 16 (length front) ≡ false = room-left (length front) 16 few in
     let fresh = fresh_name (λ (f : StrForm). f.name) front form back names in
     line-adds script after count words good short
     (record {
       early = refl;
       declaration = Structure bare;
-      declares = record {
-        whole = (refl, vector-told form.kind form.vector h.vector);
-        spelled = (
-          refl,
-          (
-            (name-said form.name named, named.0.1),
-            subst
-                (λ (ts : List Token). Spells Names declared ts (plain_words [] [] tokens) [])
-                (sym (same_tokens form.kind form [])) told,
-          ),
-        );
-      };
+      declares = grind (arith, vector-told, name-said, same_tokens);
       not_full = rw full refl;
       once = not_false (list_any
           (λ (other : StrForm). same_word (name_word other.name) (name_word form.name)) front) fresh;
@@ -314,25 +212,14 @@ units-first pref rest =
 
 pub prefs-append : (xs ys : List StrForm) (cf : CfId)
     → units_of (all_prefs (xs ++ ys)) cf ≡ units_of (all_prefs xs) cf + units_of (all_prefs ys) cf
-prefs-append xs ys cf =
-    ap (λ (prefs : List Set). units_of prefs cf) (flat_map-append (λ (form : StrForm). form.prefs) xs ys)
-    ∙ units-append (all_prefs xs) (all_prefs ys) cf
+prefs-append xs ys cf = grind (arith, flat_map-append, units-append)
 
 -- one more stays within what all take
 room-for : (front : List StrForm) (form : StrForm) (back : List StrForm) (done : List Set) (pref : Set)
     (rest : List Set) (units : ℕ)
     → done ++ pref ∷ rest ≡ form.prefs → units_of (all_prefs (front ++ form ∷ back)) pref.cf ≤ units
     → units_of (all_prefs (front ++ with_prefs form done ∷ [])) pref.cf + pref.units ≤ units
-room-for front form back done pref rest units e most =
-    let cf = pref.cf in
-    let all = prefs-append front (form ∷ back) cf in
-    let some = prefs-append front (with_prefs form done ∷ []) cf in
-    let parts = units-append form.prefs (all_prefs back) cf in
-    let here : units_of form.prefs cf ≡ units_of done cf + units_of (pref ∷ rest) cf =
-    ap (λ (prefs : List Set). units_of prefs cf) (sym e) ∙ units-append done (pref ∷ rest) cf in
-    let one = units-first pref rest in
-    let last = units-append done [] cf in
-    omega (arith, all, some, parts, here, one, last, most)
+room-for front form back done pref rest units e most = grind (arith, prefs-append, units-append, units-first)
 
 slice_seam : (front : List StrForm) (form : StrForm) → slice_get (front ++ form ∷ []) (length front) ≡ Some form
 slice_seam front form =
@@ -357,25 +244,14 @@ pref-adds facilities front form back done pref rest count names h e room =
     let named = name_of_element (λ (f : StrForm). f.name) front form back names in
     let prefs : AreFacilities (done ++ pref ∷ rest) = subst AreFacilities (sym e) (h.formed.prefs, h.formed.apart) in
     let is : IsPref pref = element IsPref done pref rest prefs.0 in
-    let known : is_declared facilities pref.cf ≡ true =
-    element (λ (p : Set). is_declared facilities p.cf ≡ true) done pref rest
-    (subst (All (λ (p : Set). is_declared facilities p.cf ≡ true)) (sym e) h.declared) in
+    let known : is_declared facilities pref.cf ≡ true = grind (arith, element) in
     let name = name-good form.name named.0 in
     let cf = facility-good pref.cf is.0.1 in
     let units = number-good pref.units (omega (arith, is.2)) in
     let words = codes "PREF" ∷ name_word form.name ∷ facility_word pref.cf ∷ decimal pref.units ∷ [] in
     let good : AreGood words =
     (refl, refl, (name.some, name.solid_all, (cf.some, cf.solid_all, (units.some, units.solid_all, tt)))) in
-    let short : length (line_of words) ≤ 8192 = omega (
-      arith,
-      name.short,
-      cf.short,
-      units.short,
-      length-append (32 ∷ decimal pref.units) [],
-      length-append (32 ∷ facility_word pref.cf) (tail_of (decimal pref.units ∷ [])),
-      length-append (32 ∷ name_word form.name) (tail_of (facility_word pref.cf ∷ decimal pref.units ∷ [])),
-      length-append (codes "PREF") (tail_of (name_word form.name ∷ facility_word pref.cf ∷ decimal pref.units ∷ [])),
-    ) in
+    let short : length (line_of words) ≤ 8192 = grind (arith, length-append) in
     let fresh = fresh_name (λ (f : StrForm). f.name) front form back names in
     let is_it : StrForm → Bool = λ other. same_word (name_word other.name) (name_word form.name) in
     let numbered : ℕ → StrNo = λ place. (record { 0 = place }) in
@@ -385,10 +261,7 @@ pref-adds facilities front form back done pref rest count names h e room =
     let once : has_pref structures on pref.cf ≡ false =
     ap (λ (o : Option StrForm). option_map_or (λ (f : StrForm). is_declared f.prefs pref.cf) o false) here
     ∙ fresh_cf done pref rest prefs in
-    let set : with_pref structures on pref ≡ front ++ more ∷ [] =
-    ap (λ (o : Option StrForm). option_map_or
-    (λ (f : StrForm). slice_set structures on.0 (record f { prefs = f.prefs ++ pref ∷ [] })) o structures) here
-    ∙ set-append_seam front now [] more in
+    let set : with_pref structures on pref ≡ front ++ more ∷ [] = grind (arith, set-append_seam) in
     let enough = room-for front form back done pref rest (facility_units facilities pref.cf) e room in
     let within : nat_lt (facility_units facilities pref.cf) (units_of (all_prefs structures) pref.cf + pref.units)
     ≡ false =
@@ -397,19 +270,7 @@ pref-adds facilities front form back done pref rest count names h e room =
     (record {
       early = refl;
       declaration = Pref on pref;
-      declares = record {
-        whole = tt;
-        spelled = (
-          refl,
-          (
-            (name-said form.name named, place),
-            (
-              (facility-said pref.cf is.0, known),
-              (number-said 1 1000000 pref.units (lit< tt) is.1 is.2, refl),
-            ),
-          ),
-        );
-      };
+      declares = grind (arith, name-said, facility-said, number-said, lit<);
       not_full = refl;
       once = not_false (has_pref structures on pref.cf) once;
       within = not_false _ within;
@@ -462,12 +323,7 @@ connector-adds facilities structures front name back count names few =
     let word = name-good name named.0 in
     let words = codes "CONNECTOR" ∷ name_word name ∷ [] in
     let good : AreGood words = (refl, refl, (word.some, word.solid_all, tt)) in
-    let short : length (line_of words) ≤ 8192 = omega (
-      arith,
-      word.short,
-      length-append (32 ∷ name_word name) [],
-      length-append (codes "CONNECTOR") (tail_of (name_word name ∷ [])),
-    ) in
+    let short : length (line_of words) ≤ 8192 = grind (arith, length-append) in
     let full : nat_le CONNECTORS (length front) ≡ false = room-left (length front) CONNECTORS few in
     let fresh = fresh_name (λ (n : Name16). n) front name back names in
     line-adds (policy facilities structures front)

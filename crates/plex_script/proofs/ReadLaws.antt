@@ -1,5 +1,5 @@
 -- Reading a text line by line.
-use Rattle.plex_script.proofs.Imports.{◌≡◌, ◌≢◌, ℕ, ◌<◌, ◌+◌, ◌-◌, ◌==◌, ◌||◌, Bool, true, false, min, nat_lt, List, [], ◌∷◌, ◌++◌, length, get_or, take, drop, Some, None, position, refl, sym, ap, ◌∙◌, arith, zero, suc, append_assoc, length-append, slice_split, list_any, position_or_len, before_first, after_first, nat_tests, append-nil, slice_split_first, is_nonempty, without_return, lines_in, lines_of, any-some, any-none, any-place, Script, LineFault, Wrong, NoMemory, LineCause, empty_script, Adds, AddsAll, line_number, IsScript, IsFaultBy, fault_at, TellsFault}
+use Rattle.plex_script.proofs.Imports.{◌≡◌, ◌≢◌, ℕ, ◌<◌, ◌+◌, ◌-◌, ◌==◌, ◌||◌, Bool, true, false, min, List, [], ◌∷◌, ◌++◌, length, get_or, take, drop, Some, None, position, refl, sym, ap, ◌∙◌, arith, zero, suc, append_assoc, length-append, slice_split, list_any, nat_tests, slice_split_first, is_nonempty, without_return, lines_in, lines_of, any-some, any-none, any-place, Script, empty_script, Adds, AddsAll, line_number}
 
 -- ---- carriage returns
 
@@ -35,13 +35,7 @@ lines_in-more part p xs = let more = split_cons p xs in rw more.2 refl
 
 pub lines-feed : (text : List ℕ) (place : ℕ) → position (λ b. b == 10) text ≡ Some place
     → lines_of text ≡ without_return (take place text) ∷ lines_of (drop (place + 1) text)
-lines-feed text place h =
-    let p = λ (b : ℕ). b == 10 in
-    let any = any-some p text place h in
-    let within : nat_lt (position_or_len p text) (length text) ≡ true = sym (any-place p text) ∙ any.0 in
-    let lt : position_or_len p text < length text = grind (arith, nat_tests) in
-    ap lines_in (slice_split_first p text 0 lt) ∙ lines_in-more (before_first p text) p (after_first p text)
-    ∙ ap (λ (n : ℕ). without_return (take n text) ∷ lines_of (drop (n + 1) text)) (sym any.1)
+lines-feed text place h = grind (arith, any-some, any-place, nat_tests, slice_split_first, lines_in-more)
 
 or_none : (a b : Bool) → (a || b) ≡ false → (a ≡ false) × (b ≡ false)
 or_none true b h = absurd (cc)
@@ -56,19 +50,14 @@ nonempty_is [] h = absurd (omega arith)
 nonempty_is (b ∷ bs) h = refl
 
 pub lines-last : (text : List ℕ) → 0 < length text → position (λ b. b == 10) text ≡ None → lines_of text ≡ text ∷ []
-lines-last text some h =
-    let p = λ (b : ℕ). b == 10 in
-    ap lines_in (split_free p text (any-none p text h)) ∙ rw (nonempty_is text some) refl
+lines-last text some h = grind (arith, split_free, any-none, nonempty_is)
 
 -- ---- line after line
 
 pub AddsAll-more : (script : Script) (count : ℕ) (front : List (List ℕ)) (mid : Script) (line : List ℕ)
     (next : Script) → AddsAll script count front mid
     → Adds mid (line_number (count + length front + 1)) line next → AddsAll script count (front ++ line ∷ []) next
-AddsAll-more script count [] mid line next h k =
-    let n : count + 0 + 1 ≡ count + 1 = omega arith in
-    let here : Adds script (line_number (count + 1)) line next = rw (← h, ← n) k in
-    (next, here, refl)
+AddsAll-more script count [] mid line next h k = grind arith
 AddsAll-more script count (l ∷ front) mid line next h k =
     let n : count + length (l ∷ front) + 1 ≡ count + 1 + length front + 1 = omega arith in
     (h.0, h.1, AddsAll-more h.0 (count + 1) front mid line next h.2 (rw n at k))

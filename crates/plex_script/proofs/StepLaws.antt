@@ -28,14 +28,8 @@ taking_asks (suc left) behind = omega arith
 -- each call leaves fewer
 pub fewer_asks : (now : Step) (told : Told) → now ≢ step.Rest → suc (most_asks (step_after now told)) ≤ most_asks now
 fewer_asks (step.Call zero) told goes = omega arith
-fewer_asks (step.Call (suc asks)) told goes =
-    either_le told.again (step.Next 63 (Some asks)) step.Rest (most_asks (step.Call (suc asks)))
-    (omega arith) (omega arith)
-fewer_asks (step.Next left behind) told goes =
-    either_le told.owes (step.Respond left behind) (cond told.event (round_step left behind) (after_round behind))
-    (most_asks (step.Next left behind)) (omega arith)
-    (either_le told.event (round_step left behind) (after_round behind) (most_asks (step.Next left behind))
-    (omega (arith, taking_asks left behind)) (omega (arith, round_asks behind)))
+fewer_asks (step.Call (suc asks)) told goes = grind (arith, either_le)
+fewer_asks (step.Next left behind) told goes = grind (arith, either_le, taking_asks, round_asks)
 fewer_asks (step.Respond left behind) told goes = omega (arith, taking_asks left behind)
 fewer_asks step.Rest told goes = absurd (goes refl)
 
@@ -55,9 +49,7 @@ pub ready_after : (line : Option AnyAsk) (now : Step) (told : Told) → IsReady 
 ready_after (Some asked) now told ready = tt
 ready_after None (step.Call asks) told ready = absurd ready
 ready_after None (step.Next left (Some asks)) told ready = absurd cc
-ready_after None (step.Next left None) told ready =
-    either_ready None told.owes (step.Respond left None) (cond told.event (round_step left None) step.Rest) refl
-    (either_ready None told.event (round_step left None) step.Rest (taking_ready left) tt)
+ready_after None (step.Next left None) told ready = grind (arith, either_ready, taking_ready)
 ready_after None (step.Respond left (Some asks)) told ready = absurd cc
 ready_after None (step.Respond left None) told ready = taking_ready left
 ready_after None step.Rest told ready = tt

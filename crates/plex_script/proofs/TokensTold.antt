@@ -1,16 +1,12 @@
 -- A line that writes storage class 1 out says the same without it.
-use Rattle.plex_script.proofs.Imports.{◌≡◌, ℕ, ◌≤◌, ◌==◌, Bool, true, false, cond, List, [], ◌++◌, Option, Some, None, codes, refl, arith, unwrap_or, nat_tests, ConnId, Kind, CacheCmd, Shell, Content, Declared, Token, option_tokens, flag_tokens, name_tokens, number_tokens, short_tokens, class_tokens, cache_tokens, IsGiven, class_told, storage_told, AreWithin, within-front, within-back, within-append, Act, Call, Test, TestWord, Post, Take, Events, act_tokens, MayDo, class_in}
+use Rattle.plex_script.proofs.Imports.{◌≡◌, ℕ, ◌≤◌, ◌==◌, List, [], ◌++◌, Option, Some, None, codes, refl, arith, unwrap_or, nat_tests, ConnId, Kind, CacheCmd, Shell, Content, Declared, Token, option_tokens, number_tokens, cache_tokens, IsGiven, class_told, storage_told, AreWithin, within-front, within-back, within-append, Act, Call, Test, TestWord, Post, Take, Events, act_tokens, MayDo, class_in}
 use Rattle.cf_types.specs.declared.cache_commands.CacheCmd.TheVariants as cache
 use Rattle.plex_script.specs.declared.scripts.AnyAsk.TheVariants as any
 
 -- ---- which storage class is told
 
 told-class : (stg : ℕ) → stg ≡ unwrap_or (class_told stg) 1
-told-class stg = at_test (stg == 1) refl
-  where
-    at_test : (b : Bool) → (stg == 1) ≡ b → stg ≡ unwrap_or (cond b None (Some stg)) 1
-    at_test true e = grind (arith, nat_tests)
-    at_test false e = refl
+told-class stg = grind (arith, nat_tests)
 
 given-told : (cmd : CacheCmd) → IsGiven (storage_told cmd) cmd
 given-told (cache.Read name index old stg) = told-class stg
@@ -53,14 +49,7 @@ class-small declared (Some n) stg e h = omega (arith, e, h.1.0.1)
 storage-within : (declared : Declared) (given : Option ℕ) (stg : ℕ) → stg ≡ unwrap_or given 1
     → AreWithin declared (storage given)
     → AreWithin declared (storage (class_told stg))
-storage-within declared given stg e h = at_test (stg == 1)
-  where
-    small : stg ≤ 4294967295
-    small = class-small declared given stg e h
-
-    at_test : (b : Bool) → AreWithin declared (storage (cond b None (Some stg)))
-    at_test true = tt
-    at_test false = (tt, ((omega arith, small), tt))
+storage-within declared given stg e h = grind (arith, class-small)
 
 -- a part behind others, and before others
 behind-part : (declared : Declared) (front one other : List Token)
@@ -77,36 +66,10 @@ before-part declared back one other f h =
 
 cache-told : (declared : Declared) (given : Option ℕ) (cmd : CacheCmd) → IsGiven given cmd
     → AreWithin declared (cache_tokens given cmd) → AreWithin declared (cache_tokens (storage_told cmd) cmd)
-cache-told declared given (cache.Read name index old stg) e h = (
-  h.0,
-  (
-    h.1.0,
-    (
-      h.1.1.0,
-      behind-part declared (option_tokens (codes "OLD") name_tokens old) _ _
-          (before-part declared [] (storage given) (storage (class_told stg))
-          (storage-within declared given stg e)) h.1.1.1,
-    ),
-  ),
-)
-cache-told declared given (cache.Write name index body class adj old stg when_reg) e h = (
-  h.0,
-  (
-    h.1.0,
-    (
-      h.1.1.0,
-      (
-        h.1.1.1.0,
-        behind-part declared (class_tokens class) _ _
-            (behind-part declared (option_tokens (codes "ADJ") short_tokens adj) _ _
-            (behind-part declared (option_tokens (codes "OLD") name_tokens old) _ _
-            (before-part declared (flag_tokens (codes "WHENREG") when_reg ++ []) (storage given)
-            (storage (class_told stg))
-            (storage-within declared given stg e)))) h.1.1.1.1,
-      ),
-    ),
-  ),
-)
+cache-told declared given (cache.Read name index old stg) e h =
+    grind (arith, behind-part, before-part, storage-within)
+cache-told declared given (cache.Write name index body class adj old stg when_reg) e h =
+    grind (arith, behind-part, before-part, storage-within)
 cache-told declared given (cache.CrossInval name) e h = h
 cache-told declared given cache.RegList e h = h
 cache-told declared given (cache.Castout name) e h = h

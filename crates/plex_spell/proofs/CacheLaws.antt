@@ -1,5 +1,5 @@
 -- What is read as a command of a cache is spelled so, and what is spelled so is read.
-use Rattle.plex_spell.proofs.Imports.{◌≡◌, ℕ, true, [], ◌∷◌, Option, Some, None, codes, refl, lit<, CacheCmd, Read, Write, CrossInval, RegList, Castout, Unlock, CoClass, CoStats, DirInfo, Delete, StgStats, cache_tokens, IsGiven, cache_at, read_places, read_of, write_places, write_of, name_places, number_places, Rigour, Declared, Spells}
+use Rattle.plex_spell.proofs.Imports.{arith, ◌≡◌, ℕ, true, [], ◌∷◌, Option, Some, None, codes, refl, lit<, CacheCmd, Read, Write, CrossInval, RegList, Castout, Unlock, CoClass, CoStats, DirInfo, Delete, StgStats, cache_tokens, IsGiven, cache_at, read_places, read_of, write_places, write_of, name_places, number_places, Rigour, Declared, Spells}
 use Rattle.plex_spell.proofs.Choices.{pick, not_some}
 use Rattle.plex_spell.proofs.PlaceLaws.{Words, FindsAll}
 use Rattle.plex_spell.proofs.PatternLaws.{ArePlaces}
@@ -14,27 +14,7 @@ are_read : ArePlaces read_places
 are_read = (tt, tt, (lit< tt, tt, (tt, (refl, tt), (lit< tt, (refl, tt), tt))))
 
 are_write : ArePlaces write_places
-are_write = (
-  tt,
-  tt,
-  (
-    lit< tt,
-    tt,
-    (
-      tt,
-      tt,
-      (
-        tt,
-        tt,
-        (
-          tt,
-          (refl, tt),
-          (tt, (refl, tt), (lit< tt, (refl, tt), (tt, tt, tt))),
-        ),
-      ),
-    ),
-  ),
-)
+are_write = grind (arith, lit<)
 
 pub are_name : ArePlaces name_places
 are_name = (tt, tt, tt)

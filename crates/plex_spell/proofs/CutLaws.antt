@@ -1,5 +1,5 @@
 -- Words of two parts: data that are repeated, and resources.
-use Rattle.plex_spell.proofs.Imports.{◌≡◌, ℕ, ◌<◌, ◌≤◌, ◌+◌, ◌*◌, ◌==◌, ◌||◌, Bool, true, false, not, cond, nat_lt, nat_le, List, [], ◌∷◌, ◌++◌, length, get_or, take, drop, Option, Some, None, option_map, refl, sym, ap, ◌∙◌, arith, inl, inr, lit<, decimal, list_all, repeat, before_first, after_first, position_or_len, take_while, and_parts, and_from, nat_tests, take_while-cons, split_at_first, passes_at_first, Name16, Resource, term_byte, block_of, Rigour, Form, Limits, Names, IsCut, AtLimits, IsNumber, IsRepeated, IsData, IsResource, is_term, ◌>>=◌, within_limits, number_of, text_of, name_of, stands_in, repeated_of, data_of, resource_in, resource_of}
+use Rattle.plex_spell.proofs.Imports.{◌≡◌, ℕ, ◌<◌, ◌≤◌, ◌+◌, ◌*◌, ◌==◌, ◌||◌, Bool, true, false, not, nat_lt, nat_le, List, [], ◌∷◌, ◌++◌, length, get_or, take, drop, Option, Some, None, option_map, refl, sym, ap, ◌∙◌, arith, inl, inr, lit<, decimal, list_all, repeat, before_first, after_first, position_or_len, take_while, and_parts, and_from, nat_tests, take_while-cons, split_at_first, passes_at_first, Name16, Resource, term_byte, block_of, Rigour, Form, Limits, Names, IsCut, AtLimits, IsNumber, IsRepeated, IsData, IsResource, is_term, ◌>>=◌, within_limits, number_of, text_of, name_of, stands_in, repeated_of, data_of, resource_in, resource_of}
 use Rattle.plex_spell.proofs.Choices.{chosen, not_some, mapped, bound}
 use Rattle.plex_spell.proofs.TextLaws.{any-place, characters-term, length-repeat}
 use Rattle.plex_spell.proofs.WordLaws.{Finds, kept_value, kept_finds, at_limits-map, at_limits-both, number-sound, number-complete, number-strict, text-sound, text-complete, name-sound, name-complete, le_true, true_le}
@@ -9,15 +9,9 @@ is_free at word = list_all (λ b. not (b == at)) word
 
 -- ---- where a byte first stands
 
-list_all-passed : (q : ℕ → Bool) (x : ℕ) (xs : List ℕ) (b : Bool) → q x ≡ b → list_all q xs ≡ true
-    → list_all q (cond b (x ∷ xs) []) ≡ true
-list_all-passed q x xs true e h = and_from (q x) (list_all q xs) e h
-list_all-passed q x xs false e h = refl
-
 list_all-take_while : (q : ℕ → Bool) (xs : List ℕ) → list_all q (take_while q xs) ≡ true
 list_all-take_while q [] = refl
-list_all-take_while q (x ∷ xs) =
-    rw (take_while-cons q x xs) (list_all-passed q x (take_while q xs) (q x) refl (list_all-take_while q xs))
+list_all-take_while q (x ∷ xs) = grind (arith, take_while-cons, and_from, list_all-take_while q xs)
 
 pub IsCut-stands : (at : ℕ) (word : List ℕ) → stands_in at word ≡ true
     → IsCut at word (before_first (λ b. b == at) word) (after_first (λ b. b == at) word)
@@ -98,11 +92,7 @@ resource-sound rigour word r h =
           name = name;
           hash = hash;
           cut = cut;
-          named = (
-            n.0,
-            at_limits-map rigour (Unit {0}) ((length name ≤ 16) × (b.value.0 ≡ block_of name))
-                ((length name ≤ 16) × (name ≡ name)) (λ q. (q.0, refl)) n.1,
-          );
+          named = grind (arith, at_limits-map);
           padded = at_limits-map rigour (Unit {0}) ((length name ≤ 16) × (b.value.0 ≡ block_of name))
               (r.name.0 ≡ block_of name) (λ q. sym (ap (λ (x : Name16). x.0) same_name) ∙ q.1) n.1;
           numeral = rw (← same_hash) (number-sound rigour 0 4294967295 hash m.value (lit< tt) m.read);
@@ -113,17 +103,11 @@ pub resource-complete : (rigour : Rigour) (word : List ℕ) (r : Resource) → I
 resource-complete rigour word r h =
     let p = parts-IsCut 64 word h.name h.hash h.cut in
     let n = name-complete rigour h.name r.name h.named.0
-    (at_limits-both rigour (length h.name ≤ 16) (r.name.0 ≡ block_of h.name)
-    (at_limits-map rigour (Unit {0}) ((length h.name ≤ 16) × (h.name ≡ h.name)) (length h.name ≤ 16) (λ q. q.0)
-    h.named.1) h.padded) in
+    (grind (arith, at_limits-both, at_limits-map)) in
     let k = number-complete rigour 0 4294967295 h.hash r.hash (lit< tt) h.numeral in
     let made : Name16 → ℕ → Resource = λ name hash. record { name = name; hash = hash } in
     let read : resource_in rigour h.name h.hash ≡ Some (made n.found k.found) = rw (n.read, k.read) refl in
-    rw (p.stands, p.before_is, p.after_is) (record {
-      found = made n.found k.found;
-      read = read;
-      same = λ e. ap (λ (x : Name16). made x k.found) (n.same e) ∙ ap (λ (y : ℕ). made r.name y) (k.same e);
-    })
+    rw (p.stands, p.before_is, p.after_is) (grind arith)
 
 -- ---- data
 

@@ -1,5 +1,5 @@
 -- What proofs here name of other crates, and of this one's definitions. Declares nothing.
-pub use Rattle.std.proofs.Common.{◌≡◌, ℕ, true, [], ◌∷◌, Option, Some, None, codes, refl, lit<, ◌==◌, Bool, false, cond, List, option_map, arith, ◌<◌, ◌≤◌, ◌+◌, ◌*◌, ◌||◌, not, nat_lt, nat_le, ◌++◌, length, get_or, take, drop, sym, ap, ◌∙◌, inl, inr, ◌^◌, ◌&&◌, Result, Ok, Err, zero, suc, rules, ◌-◌, position, length-drop, length-append, eqb-true, eq-eqb, unwrap_or}
+pub use Rattle.std.proofs.Common.{◌≡◌, ℕ, true, [], ◌∷◌, Option, Some, None, codes, refl, lit<, ◌==◌, Bool, false, cond, List, option_map, arith, ◌<◌, ◌≤◌, ◌+◌, ◌*◌, ◌||◌, not, nat_lt, nat_le, ◌++◌, length, get_or, take, drop, sym, ap, ◌∙◌, inl, inr, ◌^◌, ◌&&◌, Result, Ok, Err, zero, suc, rules, ◌-◌, position, length-drop, length-append, eq-eqb, unwrap_or}
 pub use Rattle.std.proofs.lemmas.Bool.{and_parts, and_from}
 pub use Rattle.std.proofs.lemmas.Bool.Decides.{nat_tests}
 pub use Rattle.std.proofs.lemmas.Fmt.{decimal_is_IsNumeral, decimal_digit, first_decimal, decimal-digits_value, digits_decimal, digits_value-decimal}
@@ -50,7 +50,7 @@ pub use Rattle.plex_spell.specs.Patterns.Place.{AResource, AConnector, Amount, A
 pub use Rattle.plex_spell.specs.Places.{◌>>=◌, within_limits, number_of, text_of, name_of, stands_in, repeated_of, data_of, resource_in, resource_of, is_names, new_name_of, facility_in, connector_in, structure_in, on_first, key_of, record_of, named_value}
 pub use Rattle.plex_spell.specs.ShellReading.{shell_at, an_amount, caps_places, start_of, rebuild_at, duplex_at, operator_at}
 pub use Rattle.plex_spell.specs.ShellWords.{shell_tokens}
-pub use Rattle.plex_spell.specs.Tokens.{Declared, Spells, IsCut, AtLimits, IsNumber, IsRepeated, IsData, IsResource, is_term, is_numeral, Token, facility_of, connector_of, structure_of, IsWord, IsRecord, AtNames, IsText, IsName, is_name, is_capital, reserved_words, is_declared}
+pub use Rattle.plex_spell.specs.Tokens.{Declared, Spells, IsCut, AtLimits, IsNumber, IsRepeated, IsData, IsResource, is_term, is_numeral, Token, facility_of, connector_of, structure_of, IsWord, IsRecord, AtNames, IsText, IsName, is_name, is_declared}
 pub use Rattle.plex_spell.specs.Tokens.Token.{Literal, Number, Term, Short, Data, OnResource, OfFacility, OfConnector, OfStructure, NewFacility, NewName, Record}
 pub use Rattle.plex_spell.specs.Words.{same_word, begins_with, words_behind, is_blank, is_nonempty, words_of, begins_word}
 pub use Rattle.plex_spell.specs.declared.labels.Label.{Label}

@@ -1,5 +1,5 @@
 -- What is read as a command of a list structure is spelled so, and what is spelled so is read.
-use Rattle.plex_spell.proofs.Imports.{◌≡◌, ℕ, Bool, true, false, List, [], ◌∷◌, Option, Some, None, codes, refl, ap, ◌∙◌, lit<, Cond, ListCmd, Update, Move, ReadList, LockSet, LockReset, LockTest, LControls, SetLimit, Monitor, Unmonitor, Label, list_tokens, IsListLine, number_places, list_at, use_at, lock_use_at, make_places, make_of, update_places, update_of, record_places, move_places, move_of, delete_places, delete_of, two_places, label_name, label_key, Rigour, same_word, begins_with, words_behind, Declared, Spells, Literal, Number, tokens_of, number_at}
+use Rattle.plex_spell.proofs.Imports.{arith, ◌≡◌, ℕ, Bool, true, false, List, [], ◌∷◌, Option, Some, None, codes, refl, ap, ◌∙◌, lit<, Cond, ListCmd, Update, Move, ReadList, LockSet, LockReset, LockTest, LControls, SetLimit, Monitor, Unmonitor, Label, list_tokens, IsListLine, number_places, list_at, use_at, lock_use_at, make_places, make_of, update_places, update_of, record_places, move_places, move_of, delete_places, delete_of, two_places, label_name, label_key, Rigour, same_word, begins_with, words_behind, Declared, Spells, Literal, Number, tokens_of, number_at}
 use Rattle.cf_types.specs.declared.list_commands.ListCmd.TheVariants.{Write, Read, Delete}
 use Rattle.plex_spell.specs.declared.labels.Label.TheVariants as label
 use Rattle.plex_spell.proofs.CacheLaws.{are_number}
@@ -47,11 +47,7 @@ use-sound : (rigour : Rigour) (declared : Declared) (lock : ℕ) (ws rest : Word
     word ∷ [] → IsListLine c
     → Spells rigour declared (Literal word ∷ []) ws rest → ListTold rigour declared front rest c)
     → ListTold rigour declared front rest cmd
-use-sound rigour declared lock ws rest cmd front h told =
-    pick h (λ e k. one (codes "SET") (LockSet lock) refl tt e k)
-    (λ _ a. pick a (λ e k. one (codes "RESET") (LockReset lock) refl tt e k)
-    (λ _ b. pick b (λ e k. one (codes "TEST") (LockTest lock) refl tt e k)
-    (λ _ n. not_some (let p : ListCmd × Words = (cmd, rest) in p) n)))
+use-sound rigour declared lock ws rest cmd front h told = grind (arith, pick, one, not_some, Words)
   where
     one : (word : List ℕ) (c : ListCmd) → list_tokens c ≡ Literal (codes "LOCK") ∷ Number 0 4294967295 lock ∷ Literal
         word ∷ [] → IsListLine c
@@ -70,14 +66,7 @@ lock_use-sound rigour declared verb ws rest cmd e h =
     let b = bound (λ (lock : ℕ × Words). use_at lock.0 lock.1) (number_at rigour ws) (cmd, rest) h in
     let n = number_at-sound rigour declared ws b.value.1 b.value.0 b.read in
     use-sound rigour declared b.value.0 b.value.1 rest cmd (verb ∷ ws) b.then_
-    (λ word c is line s. record {
-      is_line = line;
-      spelled = rw is (
-        word-same verb (codes "LOCK") e,
-        Spells-append rigour declared (Number 0 4294967295 b.value.0 ∷
-            []) (Literal word ∷ []) ws b.value.1 rest n s,
-      );
-    })
+    (grind (arith, word-same, Spells-append))
 
 pub list-sound : (rigour : Rigour) (declared : Declared) (ws rest : Words) (cmd : ListCmd)
     → list_at rigour declared ws ≡ Some (cmd, rest)
@@ -133,12 +122,7 @@ used-complete rigour declared ws rest lock word made is h =
     let split = Spells-split rigour declared (Number 0 4294967295 lock ∷ []) (Literal word ∷ []) us rest s in
     let n = number_at-complete rigour declared us split.mid lock split.front in
     let l = led-by rigour declared word [] split.mid rest split.behind_ in
-    rw n.read (record {
-      found = made n.found;
-      read = is n.found split.mid l.begins ∙ ap (λ (r : Words). (let p : ListCmd × Words = (made n.found, r) in Some
-          p)) l.rest_is;
-      same = λ e. ap made (n.same e);
-    })) h
+    rw n.read (grind (arith, Words))) h
 
 use_set : (n : ℕ) (us : Words) → begins_with (codes "SET") us ≡ true → use_at n us ≡ (let p : ListCmd
     × Words = (LockSet n, words_behind us) in Some p)
@@ -155,9 +139,7 @@ use_reset n us e = let a = first_apart (codes "RESET") (codes "SET") us e refl i
 
 use_test : (n : ℕ) (us : Words) → begins_with (codes "TEST") us ≡ true → use_at n us ≡ (let p : ListCmd
     × Words = (LockTest n, words_behind us) in Some p)
-use_test n us e =
-    let a = first_apart (codes "TEST") (codes "SET") us e refl in let b = first_apart (codes "TEST") (codes "RESET")
-    us e refl in rw (a, b, e) refl
+use_test n us e = grind (arith, first_apart)
 
 pub list-complete : (rigour : Rigour) (declared : Declared) (ws rest : Words) (cmd : ListCmd) → is_tail rest ≡ true
     → IsListLine cmd

@@ -1,5 +1,5 @@
 -- Rows of places: what a reader makes of them is what the words stand for.
-use Rattle.plex_spell.proofs.Imports.{◌≡◌, ℕ, ◌<◌, ◌^◌, ◌&&◌, Bool, true, false, not, List, [], ◌∷◌, ◌++◌, Option, Some, None, option_map, codes, refl, sym, ap, ◌∙◌, list_any, and_parts, ADJUNCT_BYTES, NotHeld, HeldBy, Rigour, same_word, begins_with, words_behind, Declared, Token, Spells, facility_of, connector_of, structure_of, Literal, Number, Term, Short, Data, OnResource, OfFacility, OfConnector, OfStructure, NewFacility, NewName, one_of_two, references, option_tokens, flag_tokens, decision, is_names, number_of, text_of, data_of, resource_of, new_name_of, facility_in, connector_in, structure_in, Place, Value, Values, tokens_at, tokens_of, value_at, values_at, option_at, flag_at, either_of, decision_of, refs_of, Amount, AName, AKey, AShort, AData, AResource, AFacility, ANewFacility, AConnector, AStructure, ANewName, Either, ADecision, SomeRefs, AClass, ARecord, ACond, ALabel, AFlag, AnOption}
+use Rattle.plex_spell.proofs.Imports.{arith, ◌≡◌, ℕ, ◌<◌, ◌^◌, ◌&&◌, Bool, true, false, not, List, [], ◌∷◌, ◌++◌, Option, Some, None, codes, refl, ap, ◌∙◌, list_any, and_parts, ADJUNCT_BYTES, NotHeld, HeldBy, Rigour, same_word, Declared, Token, Spells, facility_of, connector_of, structure_of, Literal, Number, Term, Short, Data, OnResource, OfConnector, OfStructure, NewFacility, NewName, references, option_tokens, flag_tokens, decision, is_names, number_of, text_of, data_of, resource_of, new_name_of, connector_in, structure_in, Place, Value, Values, tokens_at, tokens_of, value_at, values_at, option_at, flag_at, decision_of, refs_of, Amount, AName, AKey, AShort, AData, AResource, AFacility, ANewFacility, AConnector, AStructure, ANewName, Either, ADecision, SomeRefs, AClass, ARecord, ACond, ALabel, AFlag, AnOption}
 use Rattle.plex_spell.specs.declared.labels.Label.TheVariants as label
 use Rattle.plex_spell.proofs.Choices.{chosen, bound}
 use Rattle.plex_spell.proofs.WordLaws.{number-sound, number-complete, text-sound, text-complete, new_name-sound, new_name-complete, declared-sound, declared-complete, facility-sound, facility-complete}
@@ -58,38 +58,15 @@ keys (AnOption word place) = word ∷ []
 flag-sound : (rigour : Rigour) (declared : Declared) (word : List ℕ) (ws rest : Words) (given : Bool)
     → flag_at word ws ≡ Some (given, rest)
     → Spells rigour declared (flag_tokens word given) ws rest
-flag-sound rigour declared word ws rest given h =
-    chosen (begins_with word ws) (Some (true, words_behind ws)) (Some (false, ws)) (given, rest)
-    (λ e k. told true (words_behind ws) (led rigour declared word [] ws (words_behind ws) e refl) k)
-    (λ _ k. told false ws refl k) h
-  where
-    told : (b : Bool) (left : Words) → Spells rigour declared (flag_tokens word b) ws left
-        → (let p : Bool × Words = (b, left) in Some p) ≡ Some (given, rest)
-        → Spells rigour declared (flag_tokens word given) ws rest
-    told b left here k =
-        let same : (let p : Bool × Words = (b, left) in p) ≡ (given, rest) = cc in
-        let v : b ≡ given = ap (λ (p : Bool × Words). p.0) same in
-        let r : left ≡ rest = ap (λ (p : Bool × Words). p.1) same in
-        rw (← v, ← r) here
+flag-sound rigour declared word ws rest given h = grind (arith, chosen, led, Words)
 
 flag-complete : (rigour : Rigour) (declared : Declared) (word : List ℕ) (ws rest : Words) (given : Bool)
     → free_of (word ∷ []) rest ≡ true
     → Spells rigour declared (flag_tokens word given) ws rest → FindsAll rigour (flag_at word ws) given rest
-flag-complete rigour declared word ws rest false free h =
-    let other : begins_with word ws ≡ false = rw h (free-begins word [] rest free) in
-    rw other (record {
-      found = false;
-      read = ap (λ (r : Words). (let p : Bool × Words = (false, r) in Some p)) h;
-      same = λ _. refl;
-    })
+flag-complete rigour declared word ws rest false free h = grind (arith, free-begins, Words)
 flag-complete rigour declared word ws rest true free h =
     let l = led-by rigour declared word [] ws rest h in
-    rw l.begins (record {
-      found = true;
-      read = ap (λ (r : Words). (let p : Bool × Words = (true, r) in Some p))
-          l.rest_is;
-      same = λ _. refl;
-    })
+    rw l.begins (grind (arith, Words))
 
 option-sound : {V : Type 0} (rigour : Rigour) (declared : Declared) (word : List ℕ) (reading : Words
     → Option (V × Words)) (tokens : V → List Token)
@@ -97,12 +74,7 @@ option-sound : {V : Type 0} (rigour : Rigour) (declared : Declared) (word : List
     → (ws rest : Words) (value : Option V) → option_at word reading ws ≡ Some (value, rest) → Spells rigour declared
     (option_tokens word tokens value) ws rest
 option-sound {V} rigour declared word reading tokens sound ws rest value h =
-    let some : V → Option V = λ v. Some v in
-    chosen (begins_with word ws) (option_map (λ (read : V × Words). (let p : Option V × Words = (some read.0, read.1)
-    in p)) (reading (words_behind ws))) (Some (None, ws)) (value, rest)
-    (λ e k. behind-sound rigour declared some (reading (words_behind ws)) (option_tokens word tokens) ws rest value
-    (λ v m. led rigour declared word (tokens v) ws rest e (sound (words_behind ws) rest v m)) k)
-    (λ _ k. nothing-sound rigour declared (option_tokens word tokens) ws rest value refl k) h
+    grind (arith, chosen, Words, behind-sound, led, nothing-sound)
 
 option-complete : {V : Type 0} (rigour : Rigour) (declared : Declared) (word : List ℕ) (reading : Words
     → Option (V × Words)) (tokens : V → List Token)
@@ -111,24 +83,14 @@ option-complete : {V : Type 0} (rigour : Rigour) (declared : Declared) (word : L
     (option_tokens word tokens value) ws rest
     → FindsAll rigour (option_at word reading ws) value rest
 option-complete {V} rigour declared word reading tokens complete ws rest None free h =
-    let other : begins_with word ws ≡ false = rw h (free-begins word [] rest free) in
-    rw other (record {
-      found = None;
-      read = ap (λ (r : Words). (let p : Option V × Words = (None, r) in Some p)) h;
-      same = λ _. refl;
-    })
+    grind (arith, free-begins, Words)
 option-complete {V} rigour declared word reading tokens complete ws rest (Some v) free h =
-    let l = led-by rigour declared word (tokens v) ws rest h in
-    let some : V → Option V = λ x. Some x in
-    rw l.begins (behind-complete rigour some (reading (words_behind ws)) rest v
-    (complete (words_behind ws) rest v l.rest_is))
+    grind (arith, led-by, behind-complete)
 
 pub value-sound : (rigour : Rigour) (declared : Declared) (place : Place) (ws rest : Words) (v : Value place)
     → IsPlace place
     → value_at rigour declared place ws ≡ Some (v, rest) → Spells rigour declared (tokens_at place v) ws rest
-value-sound rigour declared (Amount low high) ws rest v is h =
-    single-sound rigour declared (number_of rigour low high) (Number low high) (λ w x e. number-sound rigour low high
-    w x is e) ws rest v h
+value-sound rigour declared (Amount low high) ws rest v is h = grind (arith, single-sound, number-sound)
 value-sound rigour declared AName ws rest v is h = name_at-sound rigour declared ws rest v h
 value-sound rigour declared AKey ws rest v is h = key_word-sound rigour declared ws rest v h
 value-sound rigour declared AShort ws rest v is h =
@@ -138,9 +100,7 @@ value-sound rigour declared AData ws rest v is h = single-sound rigour declared 
     (λ w x e. data-sound rigour w x e) ws rest v h
 value-sound rigour declared AResource ws rest v is h =
     single-sound rigour declared (resource_of rigour) OnResource (λ w x e. resource-sound rigour w x e) ws rest v h
-value-sound rigour declared AFacility ws rest v is h =
-    single-sound rigour declared (facility_in rigour declared) OfFacility (λ w x e. facility-sound rigour declared w x
-    e) ws rest v h
+value-sound rigour declared AFacility ws rest v is h = grind (arith, single-sound, facility-sound)
 value-sound rigour declared ANewFacility ws rest v is h = single-sound rigour declared facility_of NewFacility
     (λ w x e. e) ws rest v h
 value-sound rigour declared AConnector ws rest v is h =
@@ -151,9 +111,7 @@ value-sound rigour declared AStructure ws rest v is h =
     (λ w x e. declared-sound rigour w (structure_of declared.structures w) (record { 0 = 0 }) x e) ws rest v h
 value-sound rigour declared ANewName ws rest v is h =
     single-sound rigour declared (new_name_of rigour) NewName (λ w x e. new_name-sound rigour w x e) ws rest v h
-value-sound rigour declared (Either first second) ws rest v is h =
-    single-sound rigour declared (either_of first second) (one_of_two first second)
-    (λ w x e. either-sound first second rigour declared w x e) ws rest v h
+value-sound rigour declared (Either first second) ws rest v is h = grind (arith, single-sound, either-sound)
 value-sound rigour declared ADecision ws rest v is h =
     single-sound rigour declared decision_of decision (λ w x e. decision-sound rigour declared w x e) ws rest v h
 value-sound rigour declared SomeRefs ws rest v is h =
@@ -214,24 +172,17 @@ value-complete rigour declared AData ws rest v is fixed free h =
 value-complete rigour declared AResource ws rest v is fixed free h =
     single-complete rigour declared (resource_of rigour) OnResource v (λ w e. resource-complete rigour w v e) ws rest
     h
-value-complete rigour declared AFacility ws rest v is fixed free h =
-    single-complete rigour declared (facility_in rigour declared) OfFacility v
-    (λ w e. facility-complete rigour declared w v e.0 e.1) ws rest h
-value-complete rigour declared ANewFacility ws rest v is fixed free h =
-    single-complete rigour declared facility_of NewFacility v
-    (λ w e. record { found = v; read = e; same = λ _. refl }) ws rest h
+value-complete rigour declared AFacility ws rest v is fixed free h = grind (arith, single-complete, facility-complete)
+value-complete rigour declared ANewFacility ws rest v is fixed free h = grind (arith, single-complete)
 value-complete rigour declared AConnector ws rest v is fixed free h =
     single-complete rigour declared (connector_in rigour declared) OfConnector v
     (λ w e. declared-complete rigour w (connector_of declared.connectors w) (record { 0 = 0 }) v e) ws rest h
 value-complete rigour declared AStructure ws rest v is fixed free h =
     single-complete rigour declared (structure_in rigour declared) OfStructure v
     (λ w e. declared-complete rigour w (structure_of declared.structures w) (record { 0 = 0 }) v e) ws rest h
-value-complete rigour declared ANewName ws rest v is fixed free h =
-    single-complete rigour declared (new_name_of rigour) NewName v (λ w e. new_name-complete rigour w v e.0 e.1) ws
-    rest h
+value-complete rigour declared ANewName ws rest v is fixed free h = grind (arith, single-complete, new_name-complete)
 value-complete rigour declared (Either first second) ws rest v is fixed free h =
-    single-complete rigour declared (either_of first second) (one_of_two first second) v
-    (λ w e. either-complete first second is rigour declared v w e) ws rest h
+    grind (arith, single-complete, either-complete)
 value-complete rigour declared ADecision ws rest v is fixed free h =
     single-complete rigour declared decision_of decision v (λ w e. decision-complete rigour declared v w e) ws rest h
 value-complete rigour declared SomeRefs ws rest v is fixed free h =
@@ -263,9 +214,7 @@ pub values-sound : {C : Type 0} (rigour : Rigour) (declared : Declared) (places 
     → C) (ws rest : Words) (c : C)
     → ArePlaces places → values_at rigour declared places made ws ≡ Some (c, rest) → Told rigour declared places made
     ws rest c
-values-sound {C} rigour declared [] made ws rest c are h =
-    let same : (let p : C × Words = (made tt, ws) in p) ≡ (c, rest) = cc in
-    record { values = tt; same = sym (ap (λ (p : C × Words). p.0) same); spelled = ap (λ (p : C × Words). p.1) same }
+values-sound {C} rigour declared [] made ws rest c are h = grind (arith, Words)
 values-sound {C} rigour declared (place ∷ places) made ws rest c are h =
     let b = bound (λ (read : Value place × Words). values_at rigour declared places (λ values. made (read.0, values))
     read.1) (value_at rigour declared place ws) (c, rest) h in
@@ -388,13 +337,7 @@ pub values-complete : {C : Type 0} (rigour : Rigour) (declared : Declared) (plac
     → ArePlaces places → are_rows places ≡ true → AreFree places rest → Spells rigour declared
     (tokens_of places values) ws rest
     → FindsRow rigour (values_at rigour declared places made ws) places made values rest
-values-complete {C} rigour declared [] made values ws rest are rows free h =
-    record {
-      found = values;
-      read = ap (λ (r : Words). (let p : C × Words = (made tt, r) in Some p)) h;
-      same = λ _.
-          refl;
-    }
+values-complete {C} rigour declared [] made values ws rest are rows free h = grind (arith, Words)
 values-complete {C} rigour declared (place ∷ places) made values ws rest are rows free h =
     let s = Spells-split rigour declared (tokens_at place values.0) (tokens_of places values.1) ws rest h in
     let parts = and_parts (are_apart (keys place) places) (are_rows places) rows in

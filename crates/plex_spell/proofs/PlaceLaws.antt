@@ -1,5 +1,5 @@
 -- A reader of a row of places reads what the words stand for, and misses nothing.
-use Rattle.plex_spell.proofs.Imports.{◌≡◌, ℕ, Bool, true, false, cond, List, [], ◌∷◌, ◌++◌, Option, Some, None, option_map, codes, refl, sym, ap, ◌∙◌, lit<, Refs, Decision, Keep, Deny, Notify, Rigour, same_word, begins_with, words_behind, Declared, Token, IsWord, Spells, Literal, Number, one_of_two, references, decision, is_names, on_first, number_of, either_of, decision_of, refs_of, number_at}
+use Rattle.plex_spell.proofs.Imports.{arith, ◌≡◌, ℕ, Bool, true, false, List, [], ◌∷◌, ◌++◌, Option, Some, option_map, refl, ap, ◌∙◌, lit<, Refs, Decision, Keep, Deny, Notify, Rigour, same_word, begins_with, words_behind, Declared, Token, IsWord, Spells, Literal, Number, one_of_two, references, decision, is_names, on_first, number_of, either_of, decision_of, refs_of, number_at}
 use Rattle.cf_types.specs.declared.forms.Refs.TheVariants as refs
 use Rattle.plex_spell.proofs.Choices.{chosen, not_some, mapped, word-same, same_word-of}
 use Rattle.plex_spell.proofs.WordLaws.{Finds, number-sound, number-complete}
@@ -21,11 +21,8 @@ pub Spells-append : (rigour : Rigour) (declared : Declared) (ts us : List Token)
     rest
 Spells-append rigour declared [] us ws mid rest h k = rw h k
 Spells-append rigour declared (t ∷ ts) us [] mid rest h k = absurd h
-Spells-append rigour declared (t ∷ ts) us (w ∷ ws) mid rest h k = (
-  h.0,
-  Spells-append rigour declared ts us ws mid
-      rest h.1 k,
-)
+Spells-append rigour declared (t ∷ ts) us (w ∷ ws) mid rest h k =
+    grind (arith, Spells-append rigour declared ts us ws mid rest h.1 k)
 
 pub record Split (rigour : Rigour) (declared : Declared) (ts us : List Token) (ws rest : Words) : Type 0 where
   pub mid : Words
@@ -37,12 +34,7 @@ pub Spells-split : (rigour : Rigour) (declared : Declared) (ts us : List Token) 
 Spells-split rigour declared [] us ws rest h = record { mid = ws; front = refl; behind_ = h }
 Spells-split rigour declared (t ∷ ts) us [] rest h = absurd h
 Spells-split rigour declared (t ∷ ts) us (w ∷ ws) rest h =
-    let s = Spells-split rigour declared ts us ws rest h.1 in record {
-      mid = s.mid;
-      front = (h.0, s.front);
-      behind_ =
-          s.behind_;
-    }
+    grind (arith, Spells-split rigour declared ts us ws rest h.1)
 
 -- ---- single words
 
@@ -50,67 +42,31 @@ pub single-sound : {V : Type 0} (rigour : Rigour) (declared : Declared) (f : Lis
     → ((w : List ℕ) (v : V) → f w ≡ Some v → IsWord rigour declared (token v) w)
     → (ws rest : Words) (v : V) → on_first f ws ≡ Some (v, rest) → Spells rigour declared (token v ∷ []) ws rest
 single-sound rigour declared f token sound [] rest v h = absurd (cc)
-single-sound {V} rigour declared f token sound (w ∷ ws) rest v h =
-    let m = mapped (λ (x : V). (x, ws)) (f w) (v, rest) h in
-    let same : m.value ≡ v = ap (λ (p : V × Words). p.0) m.made in
-    (rw (← same) (sound w m.value m.read), ap (λ (p : V × Words). p.1) m.made)
+single-sound {V} rigour declared f token sound (w ∷ ws) rest v h = grind (arith, mapped)
 
 pub single-complete : {V : Type 0} (rigour : Rigour) (declared : Declared) (f : List ℕ → Option V) (token : V → Token)
     (v : V)
     → ((w : List ℕ) → IsWord rigour declared (token v) w → Finds rigour (f w) v)
     → (ws rest : Words) → Spells rigour declared (token v ∷ []) ws rest → FindsAll rigour (on_first f ws) v rest
 single-complete rigour declared f token v complete [] rest h = absurd h
-single-complete {V} rigour declared f token v complete (w ∷ ws) rest h =
-    let k = complete w h.0 in
-    record {
-      found = k.found;
-      read = ap (option_map (λ (x : V). (x, ws))) k.read
-          ∙ ap (λ (r : Words). (let p : V × Words = (k.found, r) in Some p)) h.1;
-      same = k.same;
-    }
+single-complete {V} rigour declared f token v complete (w ∷ ws) rest h = grind arith
 
 -- ---- choices of words
 
 pub either-sound : (first second : List ℕ) (rigour : Rigour) (declared : Declared) (w : List ℕ) (b : Bool)
     → either_of first second w ≡ Some b → IsWord rigour declared (one_of_two first second b) w
-either-sound first second rigour declared w b h =
-    chosen (same_word w first) (Some true) (cond (same_word w second) (Some false) None) b
-    (λ e k. at_first b (word-same w first e) k)
-    (λ _ k. chosen (same_word w second) (Some false) None b (λ e m. at_second b (word-same w second e) m)
-    (λ _ n. not_some b n) k) h
-  where
-    at_first : (x : Bool) → w ≡ first → Some true ≡ Some x → IsWord rigour declared (one_of_two first second x) w
-    at_first true e k = e
-    at_first false e k = absurd (cc)
-
-    at_second : (x : Bool) → w ≡ second → Some false ≡ Some x → IsWord rigour declared (one_of_two first second x) w
-    at_second true e k = absurd (cc)
-    at_second false e k = e
+either-sound first second rigour declared w b h = grind (arith, chosen, word-same, not_some)
 
 pub either-complete : (first second : List ℕ) → same_word second first ≡ false
     → (rigour : Rigour) (declared : Declared) (b : Bool) (w : List ℕ)
     → IsWord rigour declared (one_of_two first second b) w → Finds rigour (either_of first second w) b
 either-complete first second other rigour declared true w h =
     record { found = true; read = rw (same_word-of w first h) refl; same = λ _. refl }
-either-complete first second other rigour declared false w h =
-    let not_first : same_word w first ≡ false = rw h other in
-    record { found = false; read = rw (not_first, same_word-of w second h) refl; same = λ _. refl }
+either-complete first second other rigour declared false w h = grind (arith, same_word-of)
 
 pub decision-sound : (rigour : Rigour) (declared : Declared) (w : List ℕ) (how : Decision) → decision_of w ≡ Some how
     → IsWord rigour declared (decision how) w
-decision-sound rigour declared w how h =
-    chosen (same_word w (codes "KEEP")) (Some Keep) (cond (same_word w (codes "DENY")) (Some Deny)
-    (cond (same_word w (codes "NOTIFY")) (Some Notify) None)) how
-    (λ e k. is_it Keep (word-same w (codes "KEEP") e) k)
-    (λ _ k. chosen (same_word w (codes "DENY")) (Some Deny) (cond (same_word w (codes "NOTIFY")) (Some Notify) None)
-    how
-    (λ e m. is_it Deny (word-same w (codes "DENY") e) m)
-    (λ _ m. chosen (same_word w (codes "NOTIFY")) (Some Notify) None how
-    (λ e n. is_it Notify (word-same w (codes "NOTIFY") e) n) (λ _ n. not_some how n) m) k) h
-  where
-    is_it : (d : Decision) → IsWord rigour declared (decision d) w → Some d ≡ Some how → IsWord rigour declared
-        (decision how) w
-    is_it d here k = let same : d ≡ how = cc in rw (← same) here
+decision-sound rigour declared w how h = grind (arith, chosen, word-same, not_some)
 
 pub decision-complete : (rigour : Rigour) (declared : Declared) (how : Decision) (w : List ℕ) → IsWord rigour declared
     (decision how) w → Finds rigour (decision_of w) how
@@ -120,29 +76,13 @@ decision-complete rigour declared Notify w h = record { found = Notify; read = a
 
 pub refs-sound : (rigour : Rigour) (declared : Declared) (w : List ℕ) (how : Refs) → refs_of w ≡ Some how
     → IsWord rigour declared (references how) w
-refs-sound rigour declared w how h =
-    chosen (same_word w (codes "NAMES")) (Some refs.Names) (cond (same_word w (codes "KEYS")) (Some refs.Keys)
-    (cond (same_word w (codes "NOTHING")) (Some refs.Nothing) None)) how
-    (λ e k. is_it refs.Names (word-same w (codes "NAMES") e) k)
-    (λ _ k. chosen (same_word w (codes "KEYS")) (Some refs.Keys) (cond (same_word w (codes "NOTHING"))
-    (Some refs.Nothing) None) how
-    (λ e m. is_it refs.Keys (word-same w (codes "KEYS") e) m)
-    (λ _ m. chosen (same_word w (codes "NOTHING")) (Some refs.Nothing) None how
-    (λ e n. is_it refs.Nothing (word-same w (codes "NOTHING") e) n) (λ _ n. not_some how n) m) k) h
-  where
-    is_it : (d : Refs) → IsWord rigour declared (references d) w → Some d ≡ Some how → IsWord rigour declared
-        (references how) w
-    is_it d here k = let same : d ≡ how = cc in rw (← same) here
+refs-sound rigour declared w how h = grind (arith, chosen, word-same, not_some)
 
 pub refs-complete : (rigour : Rigour) (declared : Declared) (how : Refs) (w : List ℕ) → IsWord rigour declared
     (references how) w → Finds rigour (refs_of w) how
 refs-complete rigour declared refs.Names w h = record { found = refs.Names; read = ap refs_of h; same = λ _. refl }
 refs-complete rigour declared refs.Keys w h = record { found = refs.Keys; read = ap refs_of h; same = λ _. refl }
-refs-complete rigour declared refs.Nothing w h = record {
-  found = refs.Nothing;
-  read = ap refs_of h;
-  same = λ _. refl;
-}
+refs-complete rigour declared refs.Nothing w h = grind arith
 
 -- ---- words that come first
 
@@ -162,13 +102,7 @@ pub record Led (rigour : Rigour) (declared : Declared) (word : List ℕ) (tokens
 pub led-by : (rigour : Rigour) (declared : Declared) (word : List ℕ) (tokens : List Token) (ws rest : Words)
     → Spells rigour declared (Literal word ∷ tokens) ws rest → Led rigour declared word tokens ws rest
 led-by rigour declared word tokens [] rest h = absurd h
-led-by rigour declared word tokens (w ∷ ws) rest h =
-    record {
-      begins = same_word-of w word h.0;
-      rest_is = h.1;
-      first_is = λ other. ap
-          (λ (x : List ℕ). same_word x other) (sym h.0);
-    }
+led-by rigour declared word tokens (w ∷ ws) rest h = grind (arith, same_word-of)
 
 -- a value that is read behind a word
 pub behind-sound : {V W : Type 0} (rigour : Rigour) (declared : Declared) (f : V → W) (reading : Option (V × Words))
@@ -176,29 +110,18 @@ pub behind-sound : {V W : Type 0} (rigour : Rigour) (declared : Declared) (f : V
     → ((v : V) → reading ≡ Some (v, rest) → Spells rigour declared (tokens (f v)) ws rest)
     → option_map (λ (read : V × Words). (let p : W × Words = (f read.0, read.1) in p)) reading ≡ Some (value, rest)
     → Spells rigour declared (tokens value) ws rest
-behind-sound {V} {W} rigour declared f reading tokens ws rest value sound h =
-    let m = mapped (λ (read : V × Words). (let p : W × Words = (f read.0, read.1) in p)) reading (value, rest) h in
-    let made : f m.value.0 ≡ value = ap (λ (p : W × Words). p.0) m.made in
-    let left : m.value.1 ≡ rest = ap (λ (p : W × Words). p.1) m.made in
-    rw (← made) (sound m.value.0 (m.read ∙ ap (λ (r : Words). (let p : V × Words = (m.value.0, r) in Some p)) left))
+behind-sound {V} {W} rigour declared f reading tokens ws rest value sound h = grind (arith, mapped)
 
 pub behind-complete : {V W : Type 0} (rigour : Rigour) (f : V → W) (reading : Option (V × Words)) (rest : Words)
     (v : V)
     → FindsAll rigour reading v rest → FindsAll rigour
     (option_map (λ (read : V × Words). (let p : W × Words = (f read.0, read.1) in p)) reading) (f v) rest
-behind-complete {V} {W} rigour f reading rest v h =
-    record {
-      found = f h.found;
-      read = ap (option_map (λ (read : V × Words). (let p : W × Words = (f read.0, read.1) in p))) h.read;
-      same = λ e. ap f (h.same e);
-    }
+behind-complete {V} {W} rigour f reading rest v h = grind arith
 
 pub number_at-sound : (rigour : Rigour) (declared : Declared) (ws rest : Words) (n : ℕ) → number_at rigour ws ≡ Some
     (n, rest)
     → Spells rigour declared (Number 0 4294967295 n ∷ []) ws rest
-number_at-sound rigour declared ws rest n h =
-    single-sound rigour declared (number_of rigour 0 4294967295) (Number 0 4294967295)
-    (λ w v e. number-sound rigour 0 4294967295 w v (lit< tt) e) ws rest n h
+number_at-sound rigour declared ws rest n h = grind (arith, single-sound, number-sound, lit<)
 
 pub number_at-complete : (rigour : Rigour) (declared : Declared) (ws rest : Words) (n : ℕ) → Spells rigour declared
     (Number 0 4294967295 n ∷ []) ws rest

@@ -1,5 +1,5 @@
 -- Places of several words, and rows of places.
-use Rattle.plex_spell.proofs.Imports.{◌≡◌, ℕ, ◌||◌, Bool, true, false, not, ◌==◌, cond, List, [], ◌∷◌, Option, Some, None, option_map, codes, refl, sym, ap, ◌∙◌, list_any, Name16, Key16, EntryId, At, Cond, NotHeld, HeldBy, Label, Rigour, same_word, begins_with, words_behind, Declared, Token, Spells, Number, Term, Record, class_tokens, at_tokens, cond_tokens, on_first, name_of, key_of, record_of, label_tokens, number_at, class_at, cond_at, label_at, key_at, record_at}
+use Rattle.plex_spell.proofs.Imports.{arith, ◌≡◌, ℕ, ◌||◌, Bool, true, false, not, ◌==◌, cond, List, [], ◌∷◌, Option, Some, None, option_map, codes, refl, sym, ◌∙◌, list_any, Name16, Key16, EntryId, At, Cond, NotHeld, HeldBy, Label, Rigour, same_word, begins_with, words_behind, Declared, Token, Spells, Number, Term, Record, class_tokens, at_tokens, cond_tokens, on_first, name_of, key_of, record_of, label_tokens, number_at, class_at, cond_at, label_at, key_at, record_at}
 use Rattle.cf_types.specs.declared.list_commands.At.TheVariants as at
 use Rattle.plex_spell.specs.declared.labels.Label.TheVariants as label
 use Rattle.plex_spell.proofs.Choices.{chosen, not_some, bound, word-same}
@@ -18,9 +18,7 @@ name_at-sound rigour declared ws rest name h =
 pub name_at-complete : (rigour : Rigour) (declared : Declared) (ws rest : Words) (name : Name16)
     → Spells rigour declared (Term name.0 ∷ []) ws rest
     → FindsAll rigour (on_first (name_of rigour) ws) name rest
-name_at-complete rigour declared ws rest name h =
-    single-complete rigour declared (name_of rigour) (λ (n : Name16). Term n.0) name
-    (λ w e. name-complete rigour w name e.0 e.1) ws rest h
+name_at-complete rigour declared ws rest name h = grind (arith, single-complete, name-complete)
 
 pub key_word-sound : (rigour : Rigour) (declared : Declared) (ws rest : Words) (key : Key16)
     → on_first (key_of rigour) ws ≡ Some (key, rest)
@@ -32,9 +30,7 @@ key_word-sound rigour declared ws rest key h =
 pub key_word-complete : (rigour : Rigour) (declared : Declared) (ws rest : Words) (key : Key16)
     → Spells rigour declared (Term key.0 ∷ []) ws rest
     → FindsAll rigour (on_first (key_of rigour) ws) key rest
-key_word-complete rigour declared ws rest key h =
-    single-complete rigour declared (key_of rigour) (λ (k : Key16). Term k.0) key
-    (λ w e. key-complete rigour w key e.0 e.1) ws rest h
+key_word-complete rigour declared ws rest key h = grind (arith, single-complete, key-complete)
 
 -- ---- nothing there
 
@@ -42,11 +38,7 @@ pub nothing-sound : {V : Type 0} (rigour : Rigour) (declared : Declared) (tokens
     (ws rest : Words) (value : Option V)
     → tokens None ≡ [] → (let p : Option V × Words = (None, ws) in Some p) ≡ Some (value, rest)
     → Spells rigour declared (tokens value) ws rest
-nothing-sound {V} rigour declared tokens ws rest value none h =
-    let same : (let p : Option V × Words = (None, ws) in p) ≡ (value, rest) = cc in
-    let v : None ≡ value = ap (λ (p : Option V × Words). p.0) same in
-    let r : ws ≡ rest = ap (λ (p : Option V × Words). p.1) same in
-    rw (← v, none) r
+nothing-sound {V} rigour declared tokens ws rest value none h = grind (arith, Words)
 
 -- ---- castout classes
 
@@ -58,34 +50,14 @@ class-sound rigour declared ws rest class h =
     chosen (begins_with (codes "CHANGED") ws) (option_map (λ (read : ℕ × Words). (let p : Option ℕ
     × Words = (Some read.0, read.1) in p)) (number_at rigour (words_behind ws)))
     (cond (begins_with (codes "UNCHANGED") ws) (Some (None, words_behind ws)) None) (class, rest)
-    (λ e k. behind-sound rigour declared some (number_at rigour (words_behind ws)) class_tokens ws rest class
-    (λ n m. led rigour declared (codes "CHANGED") (Number 0 4294967295 n ∷ []) ws rest e
-    (number_at-sound rigour declared (words_behind ws) rest n m)) k)
-    (λ _ k. chosen (begins_with (codes "UNCHANGED") ws) (Some (None, words_behind ws)) None (class, rest)
-    (λ e m.
-    let same : (let p : Option ℕ × Words = (None, words_behind ws) in p) ≡ (class, rest) = cc in
-    let v : None ≡ class = ap (λ (p : Option ℕ × Words). p.0) same in
-    let r : words_behind ws ≡ rest = ap (λ (p : Option ℕ × Words). p.1) same in
-    rw (← v) (led rigour declared (codes "UNCHANGED") [] ws rest e r))
-    (λ _ n. not_some (let p : Option ℕ × Words = (class, rest) in p) n) k) h
+    (grind (arith, behind-sound, led, number_at-sound))
+    (grind (arith, chosen, Words, led, not_some)) h
 
 pub class-complete : (rigour : Rigour) (declared : Declared) (ws rest : Words) (class : Option ℕ)
     → Spells rigour declared (class_tokens class) ws rest
     → FindsAll rigour (class_at rigour ws) class rest
-class-complete rigour declared ws rest None h =
-    let l = led-by rigour declared (codes "UNCHANGED") [] ws rest h in
-    let other : begins_with (codes "CHANGED") ws ≡ false = sym (l.first_is (codes "CHANGED")) in
-    rw (other, l.begins) (record {
-      found = None;
-      read = ap
-          (λ (r : Words). (let p : Option ℕ × Words = (None, r) in Some p)) l.rest_is;
-      same = λ _. refl;
-    })
-class-complete rigour declared ws rest (Some class) h =
-    let l = led-by rigour declared (codes "CHANGED") (Number 0 4294967295 class ∷ []) ws rest h in
-    let some : ℕ → Option ℕ = λ n. Some n in
-    rw l.begins (behind-complete rigour some (number_at rigour (words_behind ws)) rest class
-    (number_at-complete rigour declared (words_behind ws) rest class l.rest_is))
+class-complete rigour declared ws rest None h = grind (arith, led-by, Words)
+class-complete rigour declared ws rest (Some class) h = grind (arith, led-by, behind-complete, number_at-complete)
 
 -- ---- conditions
 
@@ -99,14 +71,10 @@ cond-sound rigour declared ws rest value h =
     × Words = (not_held read.0, read.1) in p)) (number_at rigour (words_behind ws)))
     (cond (begins_with (codes "HELDBY") ws) (option_map (λ (read : ℕ × Words). (let p : Option Cond
     × Words = (held read.0, read.1) in p)) (number_at rigour (words_behind ws))) (Some (None, ws))) (value, rest)
-    (λ e k. behind-sound rigour declared not_held (number_at rigour (words_behind ws)) cond_tokens ws rest value
-    (λ n m. led rigour declared (codes "NOTHELD") (Number 0 4294967295 n ∷ []) ws rest e
-    (number_at-sound rigour declared (words_behind ws) rest n m)) k)
+    (grind (arith, behind-sound, led, number_at-sound))
     (λ _ k. chosen (begins_with (codes "HELDBY") ws) (option_map (λ (read : ℕ × Words). (let p : Option Cond
     × Words = (held read.0, read.1) in p)) (number_at rigour (words_behind ws))) (Some (None, ws)) (value, rest)
-    (λ e m. behind-sound rigour declared held (number_at rigour (words_behind ws)) cond_tokens ws rest value
-    (λ n o. led rigour declared (codes "HELDBY") (Number 0 4294967295 n ∷ []) ws rest e
-    (number_at-sound rigour declared (words_behind ws) rest n o)) m)
+    (grind (arith, behind-sound, led, number_at-sound))
     (λ _ m. nothing-sound rigour declared cond_tokens ws rest value refl m) k) h
 
 -- the first of the words is none of these
@@ -138,28 +106,11 @@ cond_keys = codes "NOTHELD" ∷ codes "HELDBY" ∷ []
 pub cond-complete : (rigour : Rigour) (declared : Declared) (ws rest : Words) (value : Option Cond)
     → free_of cond_keys rest ≡ true
     → Spells rigour declared (cond_tokens value) ws rest → FindsAll rigour (cond_at rigour ws) value rest
-cond-complete rigour declared ws rest None free h =
-    let a : begins_with (codes "NOTHELD") ws ≡ false = rw h (free-begins (codes "NOTHELD") (codes "HELDBY" ∷ []) rest
-    free) in
-    let b : begins_with (codes "HELDBY") ws ≡ false = rw h (free-begins (codes "HELDBY") [] rest
-    (free-others (codes "NOTHELD") (codes "HELDBY" ∷ []) rest free)) in
-    rw (a, b) (record {
-      found = None;
-      read = ap (λ (r : Words). (let p : Option Cond × Words = (None, r) in Some p))
-          h;
-      same = λ _. refl;
-    })
+cond-complete rigour declared ws rest None free h = grind (arith, free-begins, free-others, Words)
 cond-complete rigour declared ws rest (Some (NotHeld lock)) free h =
-    let l = led-by rigour declared (codes "NOTHELD") (Number 0 4294967295 lock ∷ []) ws rest h in
-    let made : ℕ → Option Cond = λ n. Some (NotHeld n) in
-    rw l.begins (behind-complete rigour made (number_at rigour (words_behind ws)) rest lock
-    (number_at-complete rigour declared (words_behind ws) rest lock l.rest_is))
+    grind (arith, led-by, behind-complete, number_at-complete)
 cond-complete rigour declared ws rest (Some (HeldBy lock)) free h =
-    let l = led-by rigour declared (codes "HELDBY") (Number 0 4294967295 lock ∷ []) ws rest h in
-    let other : begins_with (codes "NOTHELD") ws ≡ false = sym (l.first_is (codes "NOTHELD")) in
-    let made : ℕ → Option Cond = λ n. Some (HeldBy n) in
-    rw (other, l.begins) (behind-complete rigour made (number_at rigour (words_behind ws)) rest lock
-    (number_at-complete rigour declared (words_behind ws) rest lock l.rest_is))
+    grind (arith, led-by, behind-complete, number_at-complete)
 
 -- ---- names and keys of new records
 
@@ -174,17 +125,11 @@ label-sound rigour declared ws rest value h =
     (cond (begins_with (codes "KEY") ws) (option_map (λ (read : Key16 × Words). (let p : Option Label
     × Words = (keyed read.0, read.1) in p)) (on_first (key_of rigour) (words_behind ws))) (Some (None, ws)))
     (value, rest)
-    (λ e k. behind-sound rigour declared named (on_first (name_of rigour) (words_behind ws)) label_tokens ws rest value
-    (λ n m. led rigour declared (codes "NAME") (Term n.0 ∷ []) ws rest e
-    (name_at-sound rigour declared (words_behind ws)
-    rest n m)) k)
+    (grind (arith, behind-sound, led, name_at-sound))
     (λ _ k. chosen (begins_with (codes "KEY") ws) (option_map (λ (read : Key16 × Words). (let p : Option Label
     × Words = (keyed read.0, read.1) in p)) (on_first (key_of rigour) (words_behind ws))) (Some (None, ws))
     (value, rest)
-    (λ e m. behind-sound rigour declared keyed (on_first (key_of rigour) (words_behind ws)) label_tokens ws rest value
-    (λ n o. led rigour declared (codes "KEY") (Term n.0 ∷ []) ws rest e
-    (key_word-sound rigour declared (words_behind ws)
-    rest n o)) m)
+    (grind (arith, behind-sound, led, key_word-sound))
     (λ _ m. nothing-sound rigour declared label_tokens ws rest value refl m) k) h
 
 abbrev pub label_keys : List (List ℕ)
@@ -193,27 +138,11 @@ label_keys = codes "NAME" ∷ codes "KEY" ∷ []
 pub label-complete : (rigour : Rigour) (declared : Declared) (ws rest : Words) (value : Option Label)
     → free_of label_keys rest ≡ true
     → Spells rigour declared (label_tokens value) ws rest → FindsAll rigour (label_at rigour ws) value rest
-label-complete rigour declared ws rest None free h =
-    let a : begins_with (codes "NAME") ws ≡ false = rw h (free-begins (codes "NAME") (codes "KEY" ∷ []) rest free) in
-    let b : begins_with (codes "KEY") ws ≡ false = rw h (free-begins (codes "KEY") [] rest
-    (free-others (codes "NAME") (codes "KEY" ∷ []) rest free)) in
-    rw (a, b) (record {
-      found = None;
-      read = ap (λ (r : Words). (let p : Option Label × Words = (None, r) in Some p))
-          h;
-      same = λ _. refl;
-    })
+label-complete rigour declared ws rest None free h = grind (arith, free-begins, free-others, Words)
 label-complete rigour declared ws rest (Some (label.Name name)) free h =
-    let l = led-by rigour declared (codes "NAME") (Term name.0 ∷ []) ws rest h in
-    let made : Name16 → Option Label = λ n. Some (label.Name n) in
-    rw l.begins (behind-complete rigour made (on_first (name_of rigour) (words_behind ws)) rest name
-    (name_at-complete rigour declared (words_behind ws) rest name l.rest_is))
+    grind (arith, led-by, behind-complete, name_at-complete)
 label-complete rigour declared ws rest (Some (label.Key key)) free h =
-    let l = led-by rigour declared (codes "KEY") (Term key.0 ∷ []) ws rest h in
-    let other : begins_with (codes "NAME") ws ≡ false = sym (l.first_is (codes "NAME")) in
-    let made : Key16 → Option Label = λ k. Some (label.Key k) in
-    rw (other, l.begins) (behind-complete rigour made (on_first (key_of rigour) (words_behind ws)) rest key
-    (key_word-complete rigour declared (words_behind ws) rest key l.rest_is))
+    grind (arith, led-by, behind-complete, key_word-complete)
 
 -- ---- which record
 
@@ -241,12 +170,7 @@ key_at-complete rigour declared ws rest header key h =
     let s = Spells-split rigour declared (Number 0 4294967295 header ∷ []) (Term key.0 ∷ []) ws rest h in
     let n = number_at-complete rigour declared ws s.mid header s.front in
     let k = key_word-complete rigour declared s.mid rest key s.behind_ in
-    rw n.read (record {
-      found = at.Key n.found k.found;
-      read = ap (option_map (λ (read : Key16 × Words). (let p : At × Words = (at.Key n.found read.0, read.1) in p)))
-          k.read;
-      same = λ e. ap (λ (x : ℕ). at.Key x k.found) (n.same e) ∙ ap (λ (y : Key16). at.Key header y) (k.same e);
-    })
+    rw n.read (grind (arith, Words))
 
 id_at-sound : (rigour : Rigour) (declared : Declared) (ws rest : Words) (id : EntryId) → on_first (record_of rigour)
     ws ≡ Some (id, rest)
@@ -317,14 +241,7 @@ id_apart rigour declared c word ((b ∷ w) ∷ ws) rest id apart h = let hash : 
 pub record-at-complete : (rigour : Rigour) (declared : Declared) (ws rest : Words) (value : At)
     → Spells rigour declared (at_tokens value) ws rest
     → FindsAll rigour (record_at rigour ws) value rest
-record-at-complete rigour declared ws rest (at.Id id) h =
-    let a = id_apart rigour declared 78 (codes "AME") ws rest id refl h in
-    let b = id_apart rigour declared 72 (codes "EAD") ws rest id refl h in
-    let c = id_apart rigour declared 84 (codes "AIL") ws rest id refl h in
-    let d = id_apart rigour declared 75 (codes "EY") ws rest id refl h in
-    let made : EntryId → At = λ n. at.Id n in
-    rw (a, b, c, d) (behind-complete rigour made (on_first (record_of rigour) ws) rest id
-    (id_at-complete rigour declared ws rest id h))
+record-at-complete rigour declared ws rest (at.Id id) h = grind (arith, id_apart, behind-complete, id_at-complete)
 record-at-complete rigour declared ws rest (at.Name name) h =
     let l = led-by rigour declared (codes "NAME") (Term name.0 ∷ []) ws rest h in
     let made : Name16 → At = λ n. at.Name n in

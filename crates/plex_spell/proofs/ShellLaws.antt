@@ -1,5 +1,5 @@
 -- What is read as a command that structures share is spelled so, and what is spelled so is read.
-use Rattle.plex_spell.proofs.Imports.{◌≡◌, ℕ, true, false, List, [], ◌∷◌, Option, Some, codes, refl, ap, ◌∙◌, lit<, ShellCmd, Connect, Disconnect, Fail, Next, Respond, RebuildStart, RebuildStop, RebuildConnect, Copy, RebuildComplete, ForceConn, ForceStr, LoseConn, RestoreConn, Vary, DuplexStart, DuplexStop, shell_tokens, shell_at, an_amount, caps_places, start_of, rebuild_at, duplex_at, operator_at, AFacility, AConnector, Either, Rigour, same_word, begins_with, words_behind, Declared, Spells, Literal, tokens_of}
+use Rattle.plex_spell.proofs.Imports.{arith, ◌≡◌, ℕ, true, false, List, [], ◌∷◌, Option, Some, codes, refl, ap, ◌∙◌, lit<, ShellCmd, Connect, Disconnect, Fail, Next, Respond, RebuildStart, RebuildStop, RebuildConnect, Copy, RebuildComplete, ForceConn, ForceStr, LoseConn, RestoreConn, Vary, DuplexStart, DuplexStop, shell_tokens, shell_at, an_amount, caps_places, start_of, rebuild_at, duplex_at, operator_at, AFacility, AConnector, Either, Rigour, same_word, begins_with, words_behind, Declared, Spells, Literal, tokens_of}
 use Rattle.plex_spell.proofs.Choices.{pick, not_some, word-same}
 use Rattle.plex_spell.proofs.PlaceLaws.{Words, FindsAll, led, led-by}
 use Rattle.plex_spell.proofs.PatternLaws.{ArePlaces, values-sound}
@@ -38,12 +38,7 @@ rebuild-sound rigour declared verb ws rest cmd e h =
 duplex-sound : (rigour : Rigour) (declared : Declared) (verb : List ℕ) (ws rest : Words) (cmd : ShellCmd)
     → same_word verb (codes "DUPLEX") ≡ true
     → duplex_at ws ≡ Some (cmd, rest) → Spells rigour declared (shell_tokens cmd) (verb ∷ ws) rest
-duplex-sound rigour declared verb ws rest cmd e h =
-    let P : ShellCmd → Type 0 = λ c. Spells rigour declared (shell_tokens c) (verb ∷ ws) rest in
-    let here = word-same verb (codes "DUPLEX") e in
-    pick h (λ b k. inner-plain rigour declared (codes "START") DuplexStart ws rest cmd P (λ s. (here, s)) b k)
-    (λ _ c. pick c (λ b k. inner-plain rigour declared (codes "STOP") DuplexStop ws rest cmd P (λ s. (here, s)) b k)
-    (λ _ n. not_some (let p : ShellCmd × Words = (cmd, rest) in p) n))
+duplex-sound rigour declared verb ws rest cmd e h = grind (arith, word-same, pick, inner-plain, not_some, Words)
 
 operator-sound : (rigour : Rigour) (declared : Declared) (verb : List ℕ) (ws rest : Words) (cmd : ShellCmd)
     → operator_at rigour declared verb ws ≡ Some (cmd, rest)
@@ -80,9 +75,6 @@ shell-sound rigour declared (verb ∷ ws) rest cmd h =
     P (lit< tt, tt, tt) (λ vs s. s) e k)
     (λ _ n. operator-sound rigour declared verb ws rest cmd n)))))))
 
-abbrev rebuilt : Rigour → Declared → Words → Option (ShellCmd × Words)
-rebuilt rigour declared us = rebuild_at rigour declared us
-
 first_apart : (word other : List ℕ) (us : Words) → begins_with word us ≡ true → same_word word other ≡ false
     → begins_with other us ≡ false
 first_apart word other [] e apart = refl
@@ -113,16 +105,11 @@ rebuild_stop rigour declared us e = let a = first_apart (codes "STOP") (codes "S
 
 rebuild_connect : (rigour : Rigour) (declared : Declared) (us : Words) → begins_with (codes "CONNECT") us ≡ true
     → rebuild_at rigour declared us ≡ (let p : ShellCmd × Words = (RebuildConnect, words_behind us) in Some p)
-rebuild_connect rigour declared us e =
-    let a = first_apart (codes "CONNECT") (codes "START") us e refl in let b = first_apart (codes "CONNECT")
-    (codes "STOP") us e refl in rw (a, b, e) refl
+rebuild_connect rigour declared us e = grind (arith, first_apart)
 
 rebuild_complete : (rigour : Rigour) (declared : Declared) (us : Words) → begins_with (codes "COMPLETE") us ≡ true
     → rebuild_at rigour declared us ≡ (let p : ShellCmd × Words = (RebuildComplete, words_behind us) in Some p)
-rebuild_complete rigour declared us e =
-    let a = first_apart (codes "COMPLETE") (codes "START") us e refl in
-    let b = first_apart (codes "COMPLETE") (codes "STOP") us e refl in
-    let c = first_apart (codes "COMPLETE") (codes "CONNECT") us e refl in rw (a, b, c, e) refl
+rebuild_complete rigour declared us e = grind (arith, first_apart)
 
 duplex_start : (us : Words) → begins_with (codes "START") us ≡ true → duplex_at us ≡ (let p : ShellCmd
     × Words = (DuplexStart, words_behind us) in Some p)
@@ -134,11 +121,7 @@ duplex_stop us e = let a = first_apart (codes "STOP") (codes "START") us e refl 
 
 pub shell-complete : (rigour : Rigour) (declared : Declared) (ws rest : Words) (cmd : ShellCmd) → is_tail rest ≡ true
     → Spells rigour declared (shell_tokens cmd) ws rest → FindsAll rigour (shell_at rigour declared ws) cmd rest
-shell-complete rigour declared ws rest (Connect keep) tail h =
-    command-complete rigour declared (codes "CONNECT") (Either (codes "KEEP") (codes "DELETE") ∷ [])
-    (λ v. Connect v.0) (keep, tt) ws rest (refl, tt, tt) refl
-    (AreFree-tail (Either (codes "KEEP") (codes "DELETE") ∷ []) rest tail refl) (shell_at rigour declared)
-    (λ us. refl) h
+shell-complete rigour declared ws rest (Connect keep) tail h = grind (arith, command-complete, AreFree-tail)
 shell-complete rigour declared ws rest Disconnect tail h = plain-complete rigour declared (codes "DISCONNECT")
     Disconnect ws rest (shell_at rigour declared) (λ us. refl) h
 shell-complete rigour declared ws rest Fail tail h = plain-complete rigour declared (codes "FAIL") Fail ws rest
@@ -157,18 +140,12 @@ shell-complete rigour declared ws rest (RebuildStart caps) tail h =
     rw l.begins (verb-complete rigour declared caps_places start_of (caps.entries, (caps.elements, tt))
     (words_behind us)
     rest are_caps refl (AreFree-tail caps_places rest tail refl) l.rest_is)) h
-shell-complete rigour declared ws rest RebuildStop tail h =
-    inner-complete rigour declared (codes "REBUILD") (codes "STOP") RebuildStop ws rest (rebuilt rigour declared)
-    (λ us. refl) (rebuild_stop rigour declared) h
-shell-complete rigour declared ws rest RebuildConnect tail h =
-    inner-complete rigour declared (codes "REBUILD") (codes "CONNECT") RebuildConnect ws rest
-    (rebuilt rigour declared) (λ us. refl) (rebuild_connect rigour declared) h
+shell-complete rigour declared ws rest RebuildStop tail h = grind (arith, inner-complete, rebuild_stop)
+shell-complete rigour declared ws rest RebuildConnect tail h = grind (arith, inner-complete, rebuild_connect)
 shell-complete rigour declared ws rest (Copy n) tail h =
     command-complete rigour declared (codes "COPY") (an_amount ∷ []) (λ v. Copy v.0) (n, tt) ws rest (lit< tt, tt, tt)
     refl (AreFree-tail (an_amount ∷ []) rest tail refl) (shell_at rigour declared) (λ us. refl) h
-shell-complete rigour declared ws rest RebuildComplete tail h =
-    inner-complete rigour declared (codes "REBUILD") (codes "COMPLETE") RebuildComplete ws rest
-    (rebuilt rigour declared) (λ us. refl) (rebuild_complete rigour declared) h
+shell-complete rigour declared ws rest RebuildComplete tail h = grind (arith, inner-complete, rebuild_complete)
 shell-complete rigour declared ws rest (ForceConn conn) tail h =
     command-complete rigour declared (codes "FORCECONN") (AConnector ∷ []) (λ v. ForceConn v.0) (conn, tt) ws rest
     (tt, tt, tt) refl (AreFree-tail (AConnector ∷ []) rest tail refl) (shell_at rigour declared) (λ us. refl) h
@@ -187,9 +164,5 @@ shell-complete rigour declared ws rest (Vary cf off) tail h =
     (λ v. Vary v.0 v.1.0) (cf, (off, tt)) ws rest (tt, tt, (refl, tt, tt)) refl
     (AreFree-tail (AFacility ∷ Either (codes "OFF") (codes "ON") ∷ []) rest tail refl) (shell_at rigour declared)
     (λ us. refl) h
-shell-complete rigour declared ws rest DuplexStart tail h =
-    inner-complete rigour declared (codes "DUPLEX") (codes "START") DuplexStart ws rest duplex_at (λ us. refl)
-    duplex_start h
-shell-complete rigour declared ws rest DuplexStop tail h =
-    inner-complete rigour declared (codes "DUPLEX") (codes "STOP") DuplexStop ws rest duplex_at (λ us. refl)
-    duplex_stop h
+shell-complete rigour declared ws rest DuplexStart tail h = grind (arith, inner-complete, duplex_start)
+shell-complete rigour declared ws rest DuplexStop tail h = grind (arith, inner-complete, duplex_stop)

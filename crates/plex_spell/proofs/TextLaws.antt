@@ -22,44 +22,22 @@ list_all-take q (suc n) (x ∷ xs) h =
 
 -- the front of such a text
 pub IsTerm-take : (limit : ℕ) (word : List ℕ) → 0 < limit → is_term word ≡ true → IsTerm limit (take limit word)
-IsTerm-take limit word some h =
-    record {
-      nonempty = omega (arith, length-take limit word, nonempty-term word h);
-      short = omega (arith, length-take limit word);
-      characters = list_all-take term_byte limit word (characters-term word h);
-    }
+IsTerm-take limit word some h = grind (arith, length-take, nonempty-term, list_all-take, characters-term)
 
 pub IsTerm-whole : (limit : ℕ) (word : List ℕ) → length word ≤ limit → is_term word ≡ true → IsTerm limit word
 IsTerm-whole limit word short h =
     record { nonempty = nonempty-term word h; short = short; characters = characters-term word h }
 
--- a byte stands in a text where its place is within
-any_step : (here : Bool) (any : Bool) (n m : ℕ) → any ≡ nat_lt n m → (here || any) ≡ nat_lt
-    (cond (not here) (1 + n) 0) (suc m)
-any_step true any n m h = grind (arith, nat_tests)
-any_step false any n m h = h ∙ grind (arith, nat_tests)
-
 pub any-place : (p : ℕ → Bool) (xs : List ℕ) → list_any p xs ≡ nat_lt (position_or_len p xs) (length xs)
 any-place p [] = refl
-any-place p (x ∷ xs) = any_step (p x) (list_any p xs) (position_or_len p xs) (length xs) (any-place p xs)
+any-place p (x ∷ xs) = grind (arith, nat_tests, any-place p xs)
 
 pub any-some : (p : ℕ → Bool) (xs : List ℕ) (i : ℕ) → position p xs ≡ Some i → (list_any p xs ≡ true)
     × (i ≡ position_or_len p xs)
-any-some p xs i h = at_test (nat_lt (position_or_len p xs) (length xs)) refl h
-  where
-    at_test : (b : Bool) → nat_lt (position_or_len p xs) (length xs) ≡ b → cond b (Some (position_or_len p xs)) None ≡
-        Some i
-        → (list_any p xs ≡ true) × (i ≡ position_or_len p xs)
-    at_test true e h = (any-place p xs ∙ e, cc)
-    at_test false e h = absurd (cc)
+any-some p xs i h = grind (arith, any-place)
 
 pub any-none : (p : ℕ → Bool) (xs : List ℕ) → position p xs ≡ None → list_any p xs ≡ false
-any-none p xs h = at_test (nat_lt (position_or_len p xs) (length xs)) refl h
-  where
-    at_test : (b : Bool) → nat_lt (position_or_len p xs) (length xs) ≡ b → cond b (Some (position_or_len p xs)) None ≡
-        None → list_any p xs ≡ false
-    at_test true e h = absurd (cc)
-    at_test false e h = any-place p xs ∙ e
+any-none p xs h = grind (arith, any-place)
 
 pub rest_whole : (i : ℕ) (xs : List ℕ) → take (length xs - (i + 1)) (drop (i + 1) xs) ≡ drop (i + 1) xs
 rest_whole i xs = take_all (length xs - (i + 1)) (drop (i + 1) xs) (omega (arith, length-drop (i + 1) xs))
@@ -91,12 +69,4 @@ length-repeat (suc n) xs = omega (arith, length-append xs (repeat n xs), length-
 pub IsTerm-repeat : (limit n : ℕ) (word : List ℕ) → is_term word ≡ true → 0 < n → n * length word ≤ limit
     → IsTerm limit (repeat n word)
 IsTerm-repeat limit n word h some short =
-    record {
-      nonempty = nonempty-repeat n some;
-      short = omega (arith, length-repeat n word);
-      characters = list_all-repeat term_byte n word (characters-term word h);
-    }
-  where
-    nonempty-repeat : (m : ℕ) → 0 < m → 0 < length (repeat m word)
-    nonempty-repeat zero k = absurd (omega arith)
-    nonempty-repeat (suc m) k = omega (arith, length-append word (repeat m word), nonempty-term word h)
+    grind (arith, length-repeat, list_all-repeat, characters-term, length-append, nonempty-term)

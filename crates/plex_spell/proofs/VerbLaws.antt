@@ -1,5 +1,5 @@
 -- Commands by their first words.
-use Rattle.plex_spell.proofs.Imports.{◌≡◌, ℕ, Bool, true, not, ◌&&◌, List, [], ◌∷◌, Option, Some, codes, refl, ap, ◌∙◌, list_any, and_parts, Rigour, same_word, Declared, Token, Spells, Literal, Place, Values, tokens_of, values_at}
+use Rattle.plex_spell.proofs.Imports.{arith, ◌≡◌, ℕ, Bool, true, not, ◌&&◌, List, [], ◌∷◌, Option, Some, codes, refl, ap, ◌∙◌, list_any, and_parts, Rigour, same_word, Declared, Token, Spells, Literal, Place, Values, tokens_of, values_at}
 use Rattle.plex_spell.proofs.Choices.{word-same}
 use Rattle.plex_spell.proofs.PlaceLaws.{Words, FindsAll}
 use Rattle.plex_spell.proofs.RowLaws.{free_of}
@@ -21,11 +21,7 @@ pub plain-sound : {C : Type 0} (rigour : Rigour) (declared : Declared) (verb wor
     (ws rest : Words) (c : C)
     (P : C → Type 0) → (Spells rigour declared (Literal word ∷ []) (verb ∷ ws) rest → P made)
     → same_word verb word ≡ true → (let p : C × Words = (made, ws) in Some p) ≡ Some (c, rest) → P c
-plain-sound {C} rigour declared verb word made ws rest c P told e h =
-    let same : (let p : C × Words = (made, ws) in p) ≡ (c, rest) = cc in
-    let v : made ≡ c = ap (λ (p : C × Words). p.0) same in
-    let r : ws ≡ rest = ap (λ (p : C × Words). p.1) same in
-    rw (← v) (told (word-same verb word e, r))
+plain-sound {C} rigour declared verb word made ws rest c P told e h = grind (arith, Words, word-same)
 
 -- the words of a command behind its first word are read
 pub verb-complete : {C : Type 0} (rigour : Rigour) (declared : Declared) (places : List Place) (made : Values places
@@ -45,22 +41,14 @@ pub command-complete : {C : Type 0} (rigour : Rigour) (declared : Declared) (wor
     (made values) rest
 command-complete rigour declared word places made values [] rest are rows free reading is h = absurd h
 command-complete rigour declared word places made values (w ∷ ws) rest are rows free reading is h =
-    let f = verb-complete rigour declared places made values ws rest are rows free h.1 in
-    let same : w ≡ word = h.0 in
-    rw (same, is ws) f
+    grind (arith, verb-complete)
 
 pub plain-complete : {C : Type 0} (rigour : Rigour) (declared : Declared) (word : List ℕ) (made : C) (ws rest : Words)
     (reading : Words → Option (C × Words))
     → ((us : Words) → reading (word ∷ us) ≡ (let p : C × Words = (made, us) in Some p))
     → Spells rigour declared (Literal word ∷ []) ws rest → FindsAll rigour (reading ws) made rest
 plain-complete rigour declared word made [] rest reading is h = absurd h
-plain-complete {C} rigour declared word made (w ∷ ws) rest reading is h =
-    let same : w ≡ word = h.0 in
-    rw same (record {
-      found = made;
-      read = is ws ∙ ap (λ (r : Words). (let p : C × Words = (made, r) in Some p)) h.1;
-      same = λ _. refl;
-    })
+plain-complete {C} rigour declared word made (w ∷ ws) rest reading is h = grind (arith, Words)
 
 -- a command with a reading of its own behind its first word
 pub led-complete : {C : Type 0} (rigour : Rigour) (declared : Declared) (word : List ℕ) (tokens : List Token) (c : C)
@@ -69,10 +57,7 @@ pub led-complete : {C : Type 0} (rigour : Rigour) (declared : Declared) (word : 
     → ((us : Words) → Spells rigour declared tokens us rest → FindsAll rigour (inner us) c rest)
     → Spells rigour declared (Literal word ∷ tokens) ws rest → FindsAll rigour (reading ws) c rest
 led-complete rigour declared word tokens c [] rest reading inner is complete h = absurd h
-led-complete rigour declared word tokens c (w ∷ ws) rest reading inner is complete h =
-    let f = complete ws h.1 in
-    let same : w ≡ word = h.0 in
-    rw (same, is ws) f
+led-complete rigour declared word tokens c (w ∷ ws) rest reading inner is complete h = grind arith
 
 -- ---- what may stand behind a command: nothing, or RETRY
 

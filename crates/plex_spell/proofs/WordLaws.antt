@@ -1,5 +1,5 @@
 -- A reader of a word reads what the word stands for, and misses nothing.
-use Rattle.plex_spell.proofs.Imports.{◌≡◌, ℕ, ◌<◌, ◌≤◌, ◌^◌, ◌==◌, ◌&&◌, ◌||◌, Bool, true, false, not, cond, nat_le, List, [], ◌∷◌, length, take, Option, Some, None, option_map, refl, sym, ap, ◌∙◌, arith, eqb-true, eq-eqb, lit<, is_ascii_uppercase, is_ascii_digit, decimal, list_all, list_any, digits_value, and_parts, and_from, nat_tests, Name16, Key16, CfId, EntryId, term_byte, block_of, Rigour, Form, Limits, Names, same_word, Declared, AtLimits, AtNames, IsNumber, IsText, IsName, IsRecord, is_numeral, is_term, is_name, is_capital, reserved_words, facility_of, is_declared, ◌>>=◌, within_limits, named_value, is_names, number_of, text_of, name_of, key_of, new_name_of, record_of, facility_in}
+use Rattle.plex_spell.proofs.Imports.{◌≡◌, ℕ, ◌<◌, ◌≤◌, ◌^◌, ◌==◌, ◌&&◌, ◌||◌, Bool, true, false, nat_le, List, [], ◌∷◌, length, Option, Some, None, option_map, refl, ap, ◌∙◌, arith, eq-eqb, lit<, is_ascii_uppercase, is_ascii_digit, decimal, list_all, and_parts, and_from, nat_tests, Name16, Key16, CfId, EntryId, term_byte, block_of, Rigour, Form, Limits, Names, Declared, AtLimits, AtNames, IsNumber, IsText, IsName, IsRecord, is_term, is_name, facility_of, is_declared, ◌>>=◌, within_limits, named_value, is_names, number_of, text_of, name_of, key_of, new_name_of, record_of, facility_in}
 use Rattle.plex_spell.proofs.Choices.{chosen, not_some, mapped, bound}
 use Rattle.plex_spell.proofs.NumberLaws.{decimal-numeral, value-decimal, numeral-decimal}
 
@@ -8,12 +8,6 @@ pub record Finds {V : Type 0} (rigour : Rigour) (reading : Option V) (value : V)
   pub found : V
   pub read : reading ≡ Some found
   pub same : is_names rigour ≡ true → found ≡ value
-
--- at limits, a fact that counts in any case and one that counts behind the form
-pub at_limits : (rigour : Rigour) {P Q : Type 0} → P → Q → AtLimits rigour P Q
-at_limits Form p q = p
-at_limits Limits p q = q
-at_limits Names p q = q
 
 pub kept_value : {V : Type 0} (rigour : Rigour) (fits : Bool) (value other v : V) (P : Type 0) (Q : V → Type 0)
     → P → (fits ≡ true → Q value) → within_limits rigour fits value other ≡ Some v → AtLimits rigour P (Q v)
@@ -28,69 +22,30 @@ pub kept_finds : {V : Type 0} (rigour : Rigour) (fits : Bool) (value other v : V
     → (Q → (fits ≡ true) × (value ≡ v)) → AtLimits rigour P Q → Finds rigour (within_limits rigour fits value other) v
 kept_finds Form true value other v P Q f h = record { found = value; read = refl; same = λ e. absurd (cc) }
 kept_finds Form false value other v P Q f h = record { found = other; read = refl; same = λ e. absurd (cc) }
-kept_finds Limits fits value other v P Q f h = let k = f h in record {
-  found = value;
-  read = rw k.0 refl;
-  same = λ e.
-      k.1;
-}
-kept_finds Names fits value other v P Q f h = let k = f h in record {
-  found = value;
-  read = rw k.0 refl;
-  same = λ e.
-      k.1;
-}
+kept_finds Limits fits value other v P Q f h = grind arith
+kept_finds Names fits value other v P Q f h = grind arith
 
 -- ---- numbers
 
 in_range : (low high v : ℕ) → (nat_le low v && nat_le v high) ≡ true → (low ≤ v) × (v ≤ high)
-in_range low high v h = let parts = and_parts (nat_le low v) (nat_le v high) h in (
-  grind (arith, nat_tests),
-  grind
-      (arith, nat_tests),
-)
-
-range_in : (low high v : ℕ) → low ≤ v → v ≤ high → (nat_le low v && nat_le v high) ≡ true
-range_in low high v h k = and_from (nat_le low v) (nat_le v high) (grind (arith, nat_tests))
-    (grind (arith, nat_tests))
+in_range low high v h = grind (arith, and_parts, nat_tests)
 
 pub number-sound : (rigour : Rigour) (low high : ℕ) (word : List ℕ) (n : ℕ) → high < 2 ^ 64
     → number_of rigour low high word ≡ Some n
     → IsNumber rigour low high n word
-number-sound rigour low high word n small h =
-    chosen (is_numeral word) (within_limits rigour (nat_le low v && nat_le v high) v low) None n
-    (λ numeral read. (
-      numeral,
-      kept_value rigour (nat_le low v && nat_le v high) v low n (Unit {0}) (λ m. (word ≡ decimal m) × (low ≤ m)
-          × (m ≤ high)) tt
-          (λ fits. let range = in_range low high v fits in (
-            decimal-numeral word numeral (omega (arith, range.1)),
-            range.0,
-            range.1,
-          )) read,
-    ))
-    (λ _ none. not_some n none) h
-  where
-    v : ℕ
-    v = digits_value 10 word
+number-sound rigour low high word n small h = grind (arith, chosen, kept_value, in_range, decimal-numeral, not_some)
 
 -- a number that keeps its range is read
 pub number-strict : (rigour : Rigour) (low high : ℕ) (word : List ℕ) (n : ℕ) → high < 2 ^ 64 → word ≡ decimal n
     → low ≤ n → n ≤ high
     → number_of rigour low high word ≡ Some n
 number-strict rigour low high word n small e at_least at_most =
-    let numeral : is_numeral word ≡ true = rw e (numeral-decimal n (omega arith)) in
-    let value : digits_value 10 word ≡ n = rw e (value-decimal n (omega arith)) in
-    let fits : (nat_le low (digits_value 10 word) && nat_le (digits_value 10 word) high) ≡ true = rw value
-    (range_in low high n at_least at_most) in
-    rw (numeral, fits) (ap Some value)
+    grind (arith, numeral-decimal, value-decimal, and_from, nat_tests)
 
 pub number-complete : (rigour : Rigour) (low high : ℕ) (word : List ℕ) (n : ℕ) → high < 2 ^ 64
     → IsNumber rigour low high n word
     → Finds rigour (number_of rigour low high word) n
-number-complete Form low high word n small h =
-    rw h.0 (kept_finds Form (nat_le low (digits_value 10 word) && nat_le (digits_value 10 word) high)
-    (digits_value 10 word) low n (Unit {0}) ⊥ (λ x. absurd x) tt)
+number-complete Form low high word n small h = grind (arith, kept_finds)
 number-complete Limits low high word n small h =
     record { found = n; read = number-strict Limits low high word n small h.1.0 h.1.1 h.1.2; same = λ _. refl }
 number-complete Names low high word n small h =
@@ -106,22 +61,11 @@ true_le m n h = grind (arith, nat_tests)
 
 pub text-sound : (rigour : Rigour) (limit : ℕ) (word text : List ℕ) → text_of rigour limit word ≡ Some text
     → IsText rigour limit text word
-text-sound rigour limit word text h =
-    chosen (is_term word) (within_limits rigour (nat_le (length word) limit) word (take limit word)) None text
-    (λ term read. (
-      term,
-      kept_value rigour (nat_le (length word) limit) word (take limit word) text (Unit {0})
-          (λ (t : List ℕ). (length word ≤ limit) × (t ≡ word))
-          tt (λ fits. (true_le (length word) limit fits, refl)) read,
-    ))
-    (λ _ none. not_some text none) h
+text-sound rigour limit word text h = grind (arith, chosen, kept_value, true_le, not_some)
 
 pub text-complete : (rigour : Rigour) (limit : ℕ) (word text : List ℕ) → IsText rigour limit text word
     → Finds rigour (text_of rigour limit word) text
-text-complete rigour limit word text h =
-    rw h.0 (kept_finds rigour (nat_le (length word) limit) word (take limit word) text (Unit {0})
-    ((length word ≤ limit) × (text ≡ word))
-    (λ q. (le_true (length word) limit q.0, sym q.1)) h.1)
+text-complete rigour limit word text h = grind (arith, kept_finds, le_true)
 
 -- ---- limits and names
 
@@ -149,30 +93,18 @@ name-sound rigour word name h =
     let m = mapped (λ (text : List ℕ). (let n : Name16 = record { 0 = block_of text } in n)) (text_of rigour 16 word)
     name h in
     let t = text-sound rigour 16 word m.value m.read in
-    let is : block_of m.value ≡ name.0 = ap (λ (n : Name16). n.0) m.made in (
-      t.0,
-      at_limits-map rigour (Unit {0}) ((length word ≤ 16) × (m.value ≡ word)) ((length word ≤ 16)
-          × (name.0 ≡ block_of word))
-          (λ q. (q.0, sym is ∙ ap block_of q.1)) t.1,
-    )
+    let is : block_of m.value ≡ name.0 = ap (λ (n : Name16). n.0) m.made in (grind (arith, at_limits-map))
 
 pub name-complete : (rigour : Rigour) (word : List ℕ) (name : Name16) → is_term word ≡ true
     → AtLimits rigour (Unit {0}) ((length word ≤ 16) × (name.0 ≡ block_of word)) → Finds rigour (name_of rigour word)
     name
 name-complete rigour word name term h =
     let make = λ (text : List ℕ). (let n : Name16 = record { 0 = block_of text } in n) in
-    let t = text-complete rigour 16 word word (
-      term,
-      at_limits-map rigour (Unit {0}) ((length word ≤ 16)
-          × (name.0 ≡ block_of word)) ((length word ≤ 16) × (word ≡ word)) (λ q. (q.0, refl)) h,
-    ) in
+    let t = text-complete rigour 16 word word (grind (arith, at_limits-map)) in
     record {
       found = make t.found;
       read = ap (option_map make) t.read;
-      same = λ e.
-          let q = limits_at_names rigour (Unit {0}) ((length word ≤ 16) × (name.0 ≡ block_of word)) e h in
-          let bytes : block_of t.found ≡ name.0 = ap block_of (t.same e) ∙ sym q.1 in
-          ap (λ (bs : List ℕ). (let n : Name16 = record { 0 = bs } in n)) bytes;
+      same = grind (arith, limits_at_names);
     }
 
 pub key-sound : (rigour : Rigour) (word : List ℕ) (key : Key16) → key_of rigour word ≡ Some key
@@ -181,35 +113,20 @@ key-sound rigour word key h =
     let m = mapped (λ (text : List ℕ). (let n : Key16 = record { 0 = block_of text } in n)) (text_of rigour 16 word) key
     h in
     let t = text-sound rigour 16 word m.value m.read in
-    let is : block_of m.value ≡ key.0 = ap (λ (n : Key16). n.0) m.made in (
-      t.0,
-      at_limits-map rigour (Unit {0}) ((length word ≤ 16) × (m.value ≡ word)) ((length word ≤ 16)
-          × (key.0 ≡ block_of word))
-          (λ q. (q.0, sym is ∙ ap block_of q.1)) t.1,
-    )
+    let is : block_of m.value ≡ key.0 = ap (λ (n : Key16). n.0) m.made in (grind (arith, at_limits-map))
 
 pub key-complete : (rigour : Rigour) (word : List ℕ) (key : Key16) → is_term word ≡ true
     → AtLimits rigour (Unit {0}) ((length word ≤ 16) × (key.0 ≡ block_of word)) → Finds rigour (key_of rigour word) key
 key-complete rigour word key term h =
     let make = λ (text : List ℕ). (let n : Key16 = record { 0 = block_of text } in n) in
-    let t = text-complete rigour 16 word word (
-      term,
-      at_limits-map rigour (Unit {0}) ((length word ≤ 16)
-          × (key.0 ≡ block_of word)) ((length word ≤ 16) × (word ≡ word)) (λ q. (q.0, refl)) h,
-    ) in
+    let t = text-complete rigour 16 word word (grind (arith, at_limits-map)) in
     record {
       found = make t.found;
       read = ap (option_map make) t.read;
-      same = λ e.
-          let q = limits_at_names rigour (Unit {0}) ((length word ≤ 16) × (key.0 ≡ block_of word)) e h in
-          let bytes : block_of t.found ≡ key.0 = ap block_of (t.same e) ∙ sym q.1 in
-          ap (λ (bs : List ℕ). (let n : Key16 = record { 0 = bs } in n)) bytes;
+      same = grind (arith, limits_at_names);
     }
 
 -- ---- names of structures and connectors
-
-capital_term : (b : ℕ) → (is_ascii_uppercase b || is_ascii_digit b || b == 95) ≡ true → term_byte b ≡ true
-capital_term b h = grind (arith, nat_tests)
 
 capitals_term : (word : List ℕ) → list_all (λ c. is_ascii_uppercase c || is_ascii_digit c || c == 95) word ≡ true
     → list_all term_byte word ≡ true
@@ -217,34 +134,18 @@ capitals_term [] h = refl
 capitals_term (b ∷ word) h =
     let parts = and_parts (is_ascii_uppercase b || is_ascii_digit b || b == 95)
     (list_all (λ c. is_ascii_uppercase c || is_ascii_digit c || c == 95) word) h in
-    and_from (term_byte b) (list_all term_byte word) (capital_term b parts.0) (capitals_term word parts.1)
-
-upper_term : (b : ℕ) → is_ascii_uppercase b ≡ true → term_byte b ≡ true
-upper_term b h = grind (arith, nat_tests)
+    and_from (term_byte b) (list_all term_byte word) (grind (arith, nat_tests)) (capitals_term word parts.1)
 
 pub term-name : (word : List ℕ) → is_name word ≡ true → is_term word ≡ true
 term-name [] h = absurd (cc)
-term-name (b ∷ word) h =
-    let capital = (and_parts (is_capital (b ∷ word)) (not (list_any (same_word (b ∷ word)) reserved_words)) h).0 in
-    let parts = and_parts (is_ascii_uppercase b) (list_all (λ c. is_ascii_uppercase c || is_ascii_digit c || c == 95)
-    word) capital in
-    and_from (term_byte b) (list_all term_byte word) (upper_term b parts.0) (capitals_term word parts.1)
+term-name (b ∷ word) h = grind (arith, and_parts, and_from, capitals_term, nat_tests)
 
 pub new_name-sound : (rigour : Rigour) (word : List ℕ) (name : Name16) → new_name_of rigour word ≡ Some name
     → IsName rigour word × AtLimits rigour (Unit {0}) (name.0 ≡ block_of word)
 new_name-sound rigour word name h =
     chosen (is_name word) (name_of rigour word) None name
     (λ named read.
-    let n = name-sound rigour word name read in (
-      (
-        named,
-        at_limits-map rigour (Unit {0}) ((length word ≤ 16) × (name.0 ≡ block_of word)) (length word ≤ 16)
-            (λ q. q.0) n.1,
-      ),
-      at_limits-map rigour (Unit {0}) ((length word ≤ 16) × (name.0 ≡ block_of word)) (name.0 ≡ block_of word)
-          (λ q. q.1)
-          n.1,
-    ))
+    let n = name-sound rigour word name read in (grind (arith, at_limits-map)))
     (λ _ none. not_some name none) h
 
 pub new_name-complete : (rigour : Rigour) (word : List ℕ) (name : Name16) → IsName rigour word
@@ -293,26 +194,14 @@ pub declared-complete : {V : Type 0} (rigour : Rigour) (word : List ℕ) (o : Op
     → IsDeclaredName rigour o v word
     → Finds rigour (new_name_of rigour word >>= (λ name. named_value rigour o other)) v
 declared-complete rigour word o other v h =
-    let n = new_name-complete rigour word (padded_name word) h.0 (at_limits rigour tt (padded_name-is word)) in
+    let n = new_name-complete rigour word (padded_name word) h.0 (grind (arith, padded_name-is)) in
     let k = known-complete rigour o other v h.1 in
     rw n.read (record { found = k.found; read = k.read; same = k.same })
 
 pub facility-sound : (rigour : Rigour) (declared : Declared) (word : List ℕ) (cf : CfId) → facility_in rigour declared
     word ≡ Some cf
     → (facility_of word ≡ Some cf) × AtNames rigour (Unit {0}) (is_declared declared.facilities cf ≡ true)
-facility-sound rigour declared word cf h =
-    let b = bound (λ (c : CfId). cond (is_names rigour && not (is_declared declared.facilities c)) None (Some c))
-    (facility_of word) cf h in
-    let k = at_test rigour (is_declared declared.facilities b.value) b.value cf refl b.then_ in
-    (b.read ∙ ap Some k.0, rw (← k.0) k.1)
-  where
-    at_test : (r : Rigour) (t : Bool) (x y : CfId) → is_declared declared.facilities x ≡ t
-        → cond (is_names r && not t) None (Some x) ≡ Some y
-        → (x ≡ y) × AtNames r (Unit {0}) (is_declared declared.facilities x ≡ true)
-    at_test Form t x y e k = (cc, tt)
-    at_test Limits t x y e k = (cc, tt)
-    at_test Names true x y e k = (cc, e)
-    at_test Names false x y e k = absurd (cc)
+facility-sound rigour declared word cf h = grind (arith, bound)
 
 pub facility-complete : (rigour : Rigour) (declared : Declared) (word : List ℕ) (cf : CfId)
     → facility_of word ≡ Some cf
@@ -327,15 +216,7 @@ facility-complete Names declared word cf e h = rw e (record { found = cf; read =
 pub record-sound : (rigour : Rigour) (word : List ℕ) (id : EntryId) → record_of rigour word ≡ Some id
     → IsRecord rigour id.0 word
 record-sound rigour [] id h = absurd (cc)
-record-sound rigour (b ∷ digits) id h =
-    chosen (b == 35) (option_map (λ n. (let i : EntryId = record { 0 = n } in i))
-    (number_of rigour 1 4294967295 digits)) None id
-    (λ here read.
-    let m = mapped (λ (n : ℕ). (let i : EntryId = record { 0 = n } in i)) (number_of rigour 1 4294967295 digits) id
-    read in
-    let is : m.value ≡ id.0 = ap (λ (i : EntryId). i.0) m.made in
-    (eqb-true b 35 here, rw (← is) (number-sound rigour 1 4294967295 digits m.value (lit< tt) m.read)))
-    (λ _ none. not_some id none) h
+record-sound rigour (b ∷ digits) id h = grind (arith, chosen, mapped, number-sound, lit<, not_some)
 
 pub record-complete : (rigour : Rigour) (word : List ℕ) (id : EntryId) → IsRecord rigour id.0 word
     → Finds rigour (record_of rigour word) id
@@ -343,8 +224,4 @@ record-complete rigour [] id h = absurd h
 record-complete rigour (b ∷ digits) id h =
     let here : (b == 35) ≡ true = eq-eqb b 35 h.0 in
     let n = number-complete rigour 1 4294967295 digits id.0 (lit< tt) h.1 in
-    rw here (record {
-      found = record { 0 = n.found };
-      read = ap (option_map (λ k. (let i : EntryId = record { 0 = k } in i))) n.read;
-      same = λ e. ap (λ (k : ℕ). (let i : EntryId = record { 0 = k } in i)) (n.same e);
-    })
+    rw here (grind arith)

@@ -1,5 +1,5 @@
 -- A line and its words.
-use Rattle.plex_spell.proofs.Imports.{◌≡◌, ℕ, ◌+◌, Bool, true, false, not, List, [], ◌∷◌, length, drop, position, unwrap_or, refl, sym, ap, ◌∙◌, arith, suc, slice_split, filter, take_while, prefix_len, position_or_len, take_while-cons, prefix_len-le-length, common_steps, is_blank, is_nonempty, words_of, begins_word}
+use Rattle.plex_spell.proofs.Imports.{◌≡◌, ℕ, ◌+◌, Bool, true, false, not, List, [], ◌∷◌, length, drop, position, unwrap_or, refl, ap, ◌∙◌, arith, suc, slice_split, filter, take_while, prefix_len, position_or_len, take_while-cons, prefix_len-le-length, common_steps, is_blank, is_nonempty, words_of, begins_word}
 
 abbrev pub is_mark : ℕ → Bool
 is_mark b = not (is_blank b)
@@ -24,10 +24,7 @@ IsFront-cons b text false e h =
     record {
       parts = h.parts;
       split = rw (take_while-cons is_mark b text, e, h.split) refl;
-      rest =
-          let len : prefix_len is_mark (b ∷ text) ≡ 1 + prefix_len is_mark text = rw e refl in
-          h.rest ∙ ap words_of (sym (ap (λ (n : ℕ). drop n (b ∷ text)) len ∙ drop_next (prefix_len is_mark text) b
-          text));
+      rest = grind (arith, drop_next);
     }
 
 pub front_of : (text : List ℕ) → IsFront text

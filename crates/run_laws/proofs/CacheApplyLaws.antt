@@ -1,5 +1,5 @@
 -- A command after others: copies are fresh, and changed pages that aren't cast out are kept.
-use Rattle.run_laws.proofs.Imports.{◌≡◌, ℕ, List, [], ◌∷◌, ◌++◌, refl, sym, ap, ◌∙◌, subst, CacheCmd, Caps, ConnId, Held, Content, no_content, Deed, Copies, after_deed, after_run, Calls, orderly-content, fresh-copy, content-run, content-nothing, uncast-kept, IsHeldAfter, content_applied, copies_then, uncast_then, AreFresh, AreKept, IsUnique}
+use Rattle.run_laws.proofs.Imports.{arith, ◌≡◌, ℕ, List, [], ◌∷◌, ◌++◌, refl, sym, ◌∙◌, subst, CacheCmd, Caps, ConnId, Held, Content, no_content, Deed, Copies, after_deed, after_run, Calls, orderly-content, fresh-copy, content-run, content-nothing, uncast-kept, IsHeldAfter, content_applied, copies_then, uncast_then, AreFresh, AreKept, IsUnique}
 use Rattle.run_laws.proofs.UniqueLaws.{unique-content}
 
 after_run-push : (vector : ℕ) (caps : Caps) (content : Content) (deeds : List Deed) (deed : Deed)
@@ -12,9 +12,7 @@ after_run-push vector caps content (first ∷ deeds) deed =
 -- the command is one deed more
 applied-run : (held : Held Content) (deeds : List Deed) (by : ConnId) (cmd : CacheCmd) → IsHeldAfter deeds held
     → content_applied held by cmd ≡ after_run held.shape.vector held.caps no_content (deeds ++ Calls by cmd ∷ [])
-applied-run held deeds by cmd led =
-    ap (λ (content : Content). after_deed held.shape.vector held.caps content (Calls by cmd)) led
-    ∙ sym (after_run-push held.shape.vector held.caps no_content deeds (Calls by cmd))
+applied-run held deeds by cmd led = grind (arith, after_run-push)
 
 pub applied-fresh : (held : Held Content) (deeds : List Deed) (by : ConnId) (cmd : CacheCmd) (copies : Copies)
     → IsHeldAfter deeds held → AreFresh (content_applied held by cmd) (copies_then held copies deeds by cmd)
@@ -26,10 +24,7 @@ applied-fresh held deeds by cmd copies led =
 
 pub applied-kept : (held : Held Content) (deeds : List Deed) (by : ConnId) (cmd : CacheCmd) → IsHeldAfter deeds held
     → AreKept (content_applied held by cmd) (uncast_then held deeds by cmd)
-applied-kept held deeds by cmd led =
-    subst (λ (content : Content). AreKept content (uncast_then held deeds by cmd))
-    (sym (applied-run held deeds by cmd led))
-    (λ name. uncast-kept held.shape.vector held.caps (deeds ++ Calls by cmd ∷ []) name)
+applied-kept held deeds by cmd led = grind (arith, applied-run, uncast-kept)
 
 pub applied-unique : (held : Held Content) (deeds : List Deed) (by : ConnId) (cmd : CacheCmd) → IsHeldAfter deeds held
     → IsUnique (content_applied held by cmd)

@@ -1,5 +1,5 @@
 -- What accepted commands are answered, read off the rows.
-use Rattle.run_laws.proofs.Imports.{◌≡◌, ℕ, true, List, Option, Some, None, is_some, option_map, unwrap_or, refl, ap, ◌∙◌, CacheCmd, CacheReply, Caps, StrForm, Name16, ConnId, Refusal, next_reply, replay, Machine, unless, content_done, content_reply, unless_refused, content_cause, CacheItem, Content, cache_meaning, row_of, row_or_new, is_changed, new_row, reply_copy, copy_in, cause, done, reply as answer_to, copy-row_or_new, CacheHistory, content_after}
+use Rattle.run_laws.proofs.Imports.{arith, ◌≡◌, ℕ, true, List, Option, Some, None, option_map, unwrap_or, refl, ap, ◌∙◌, CacheCmd, CacheReply, Caps, StrForm, Name16, ConnId, Refusal, next_reply, replay, Machine, unless, content_done, content_reply, unless_refused, content_cause, CacheItem, Content, cache_meaning, row_of, row_or_new, new_row, reply_copy, copy_in, done, reply as answer_to, copy-row_or_new, CacheHistory, content_after}
 use Rattle.plex_board.specs.CfTypes.declared.cache_commands.CacheReply.TheVariants as replies
 use Rattle.plex_board.specs.EngineApi.declared.asks.Ask.TheVariants as ask
 use Rattle.plex_board.specs.EngineApi.declared.asks.Reply.TheVariants as reply
@@ -27,9 +27,7 @@ answer-content form history by cmd answer told = go (content_cause machine.shell
         ≡ reply.Content answer
         → answer ≡ answer_to machine.content by cmd
     go (Some refusal) told = absurd cc
-    go None told =
-        answer_unless machine.shell.caps machine.content by cmd answer
-        (cause form.vector machine.shell.caps machine.content by cmd) told
+    go None told = grind (arith, answer_unless)
 
 copy_of_data : (row : CacheItem) (body : Option (List ℕ))
     → reply_copy (read.data_reply row body) ≡ option_map (λ data'. (data', row.adj)) body
@@ -51,19 +49,14 @@ read_data : (row : CacheItem) (body : List ℕ) (adj : Option (List ℕ)) (class
     → found ≡ Some body → row.adj ≡ adj → row.class ≡ Some class
     → read.data_reply row found ≡ replies.Data body adj true
 read_data row body adj class None has same changed = absurd cc
-read_data row body adj class (Some other) has same changed =
-    let is : other ≡ body = cc in
-    let now : is_changed row ≡ true = ap (λ (c : Option ℕ). is_some c) changed in
-    rw (is, same, now) refl
+read_data row body adj class (Some other) has same changed = grind arith
 
 -- a READ of a changed row answers its data and adjunct, and that it is changed
 pub read-changed : (rows : List CacheItem) (name : Name16) (stg : ℕ) (row : CacheItem) (body : List ℕ)
     (adj : Option (List ℕ)) (class : ℕ)
     → row_of name rows ≡ Some row → row.body ≡ Some body → row.adj ≡ adj → row.class ≡ Some class
     → read.reply rows name stg ≡ replies.Data body adj true
-read-changed rows name stg row body adj class there has same changed =
-    ap (λ (r : CacheItem). read.data_reply r r.body) (the_row rows name stg row there)
-    ∙ read_data row body adj class row.body has same changed
+read-changed rows name stg row body adj class there has same changed = grind (arith, the_row, read_data)
 
 cast_data : (row : CacheItem) (body : List ℕ) (adj : Option (List ℕ)) (found : Option (List ℕ)) → found ≡ Some body
     → row.adj ≡ adj → castout.data_reply row found ≡ replies.CastData body adj
@@ -75,6 +68,4 @@ pub castout-changed : (rows : List CacheItem) (name : Name16) (row : CacheItem) 
     (adj : Option (List ℕ))
     → row_of name rows ≡ Some row → row.body ≡ Some body → row.adj ≡ adj
     → castout.reply rows name ≡ replies.CastData body adj
-castout-changed rows name row body adj there has same =
-    ap (λ (r : CacheItem). castout.data_reply r r.body) (the_row rows name 1 row there)
-    ∙ cast_data row body adj row.body has same
+castout-changed rows name row body adj there has same = grind (arith, the_row, cast_data)

@@ -1,5 +1,5 @@
 -- What connectors hold after a history of a cache: where they are registered, what the rows have.
-use Rattle.run_laws.proofs.Imports.{◌≡◌, ℕ, Bool, true, false, ◌&&◌, ◌==◌, cond, [], ◌∷◌, ◌++◌, Option, None, Some, unwrap_or, refl, sym, ap, ◌∙◌, subst, fold_push, CacheCmd, Read, Write, Caps, StrForm, ConnId, Refusal, Continues, replay, unless_refused, Content, IsOrderly, cache_meaning, Copy, Copies, Deed, after_deed, copies_done, copies_unless, copies_after, reply_copy, Calls, Leaves, Forgets, cause, done, reply as answer_to, Fresh, AllFresh, each_weaker, deed-fresh, IsQuiet, IsTraced, traced-replay, legal-answered, copy_at, copy_of, copy_brought, copy_held, CacheEntry, CacheHistory, Accepted, acceptance_of, content_after}
+use Rattle.run_laws.proofs.Imports.{arith, ◌≡◌, ℕ, Bool, true, false, ◌&&◌, ◌==◌, cond, [], ◌∷◌, ◌++◌, Option, None, Some, unwrap_or, refl, sym, ap, ◌∙◌, subst, fold_push, CacheCmd, Read, Write, Caps, StrForm, ConnId, Refusal, Continues, replay, unless_refused, Content, IsOrderly, cache_meaning, Copy, Copies, Deed, after_deed, copies_done, copies_unless, copies_after, Calls, Leaves, cause, done, reply as answer_to, Fresh, AllFresh, each_weaker, deed-fresh, IsQuiet, IsTraced, traced-replay, legal-answered, copy_at, copy_of, copy_brought, copy_held, CacheEntry, CacheHistory, Accepted, acceptance_of, content_after}
 use Rattle.run_laws.proofs.UniqueLaws.{orderly-kept}
 
 -- ---- what an entry brings
@@ -17,9 +17,7 @@ one_brought false at new copy = refl
 done_brought : (content : Content) (by : ConnId) (cmd : CacheCmd) (copies : Copies) (conn : ConnId) (index : ℕ)
     → unwrap_or (cond (by.0 == conn.0) (copy_at index cmd (answer_to content by cmd)) None) (copies conn index)
     ≡ copies_done content by cmd copies conn index
-done_brought content by (Read name at old stg) copies conn index =
-    one_brought (by.0 == conn.0) (at == index) (reply_copy (answer_to content by (Read name at old stg)))
-    (copies conn index)
+done_brought content by (Read name at old stg) copies conn index = grind (arith, one_brought)
 done_brought content by (Write name at body class adj old stg when_reg) copies conn index =
     one_brought (by.0 == conn.0) (at == index) (Some (body, adj)) (copies conn index)
 done_brought content by _ copies conn index = nothing_brought (by.0 == conn.0) (copies conn index)
@@ -27,19 +25,14 @@ done_brought content by _ copies conn index = nothing_brought (by.0 == conn.0) (
 held-push : (history : CacheHistory) (entry : CacheEntry) (conn : ConnId) (index : ℕ)
     → copy_held (history ++ entry ∷ []) conn index ≡ unwrap_or (copy_brought conn index entry)
     (copy_held history conn index)
-held-push history entry conn index =
-    fold_push (λ (copy : Copy) (entry : CacheEntry). unwrap_or (copy_brought conn index entry) copy) None history
-    entry
+held-push history entry conn index = grind (arith, fold_push)
 
 -- by what the entry tells as accepted
 held_told : (history : CacheHistory) (entry : CacheEntry) (told : Option Accepted) → acceptance_of entry ≡ told
     → (conn : ConnId) (index : ℕ)
     → copy_held (history ++ entry ∷ []) conn index
     ≡ unwrap_or (cond (entry.by.0 == conn.0) (copy_of index told) None) (copy_held history conn index)
-held_told history entry told is conn index =
-    held-push history entry conn index
-    ∙ ap (λ (o : Option Accepted). unwrap_or (cond (entry.by.0 == conn.0) (copy_of index o) None)
-    (copy_held history conn index)) is
+held_told history entry told is conn index = grind (arith, held-push)
 
 -- an entry that tells none brings none
 quiet_held : (form : StrForm) (history : CacheHistory) (entry : CacheEntry) → IsQuiet cache_meaning form entry
@@ -54,9 +47,7 @@ quiet_held form history entry quiet conn index =
 same_copies : (content : Content) (copies others : Copies)
     → ((conn : ConnId) (index : ℕ) → others conn index ≡ copies conn index) → AllFresh content copies
     → AllFresh content others
-same_copies content copies others same all =
-    each_weaker (Fresh content.rows copies) (Fresh content.rows others)
-    (λ reg fresh. same reg.conn reg.index ∙ fresh) content.regs all
+same_copies content copies others same all = grind (arith, each_weaker, Fresh)
 
 -- one more deed, at whatever capacity
 fresh_deed : (vector : ℕ) (caps : Caps) (before after : Content) (copies others : Copies) (deed : Deed)
@@ -122,12 +113,7 @@ traced form =
                 (Leaves who.conn) refl (quiet_held form history entry quiet) is.orderly is.fresh;
           };
       back = λ history entry content quiet returns is. same_trace form history entry content quiet is;
-      forget = λ history entry content quiet is.
-          record {
-            orderly = (orderly-kept form).forget content is.orderly;
-            fresh = fresh_deed form.vector form.caps content _ (copy_held history) (copy_held (history ++ entry ∷ []))
-                Forgets refl (quiet_held form history entry quiet) is.orderly is.fresh;
-          };
+      forget = grind (arith, orderly-kept, fresh_deed, quiet_held);
       clear = λ history entry content quiet gone is. record { orderly = (orderly-kept form).empty; fresh = tt };
     }
 

@@ -1,5 +1,5 @@
 -- The callers of a script have words of their own.
-use Rattle.run_laws.proofs.Imports.{◌≡◌, ◌≢◌, ℕ, zero, suc, ◌+◌, ◌-◌, ◌≤◌, ◌<◌, ◌==◌, inl, inr, Bool, true, false, not, cond, List, [], ◌∷◌, ◌++◌, length, Option, Some, None, codes, replicate, get_or, slice_get, refl, sym, ap, subst, ◌∙◌, arith, MatchBool, MatchOption, list_all, list_any, and_parts, and_from, nat_tests, list_any_at, take_while-cons, slice_get-get_or, slice_get_within, get_or_from_slice_get, Name16, ConnId, StrNo, block_of, text_in_block, term_byte, pushed_cases, Names, same_word, words_of, is_name, is_capital, reserved_words, name_word, structure_of, same_word-of, Words, characters-term, term-name, Declaration, Script, declared_in, caller_of, is_comment, is_policy_word, is_twice, Declares, AddsDeclaration, AddsLine, AddsOfCaller, AddsWords, AddsAll, IsScript, empty_script, line_number, with_declaration, caller_name}
+use Rattle.run_laws.proofs.Imports.{◌≡◌, ◌≢◌, ℕ, zero, suc, ◌+◌, ◌-◌, ◌≤◌, ◌<◌, ◌==◌, Bool, true, false, not, cond, List, [], ◌∷◌, ◌++◌, length, Option, Some, None, codes, replicate, get_or, slice_get, refl, sym, ap, ◌∙◌, arith, MatchBool, MatchOption, list_all, list_any, and_parts, and_from, nat_tests, list_any_at, take_while-cons, slice_get-get_or, slice_get_within, get_or_from_slice_get, Name16, ConnId, block_of, text_in_block, term_byte, pushed_cases, Names, same_word, words_of, is_name, is_capital, reserved_words, name_word, same_word-of, Words, characters-term, term-name, Declaration, Script, declared_in, caller_of, is_comment, is_policy_word, is_twice, Declares, AddsDeclaration, AddsOfCaller, AddsWords, AddsAll, IsScript, empty_script, line_number, with_declaration, caller_name}
 use Rattle.plex_report.specs.PlexSpell.Words.{lines_of}
 use Rattle.plex_board.specs.PlexScript.declared.declarations.Declaration.TheVariants as declaration
 use Rattle.run_laws.proofs.Cuts.{is_free}
@@ -42,16 +42,10 @@ unreserved : (word : List ℕ) → is_name word ≡ true → not (list_any (same
 unreserved word named = (and_parts (is_capital word) (not (list_any (same_word word) reserved_words)) named).1
 
 no_operator : (word : List ℕ) → is_name word ≡ true → word ≢ codes "OP"
-no_operator word named same =
-    let wrong : not (list_any (same_word (codes "OP")) reserved_words) ≡ true =
-    subst (λ (w : List ℕ). not (list_any (same_word w) reserved_words) ≡ true) same (unreserved word named) in
-    absurd (cc)
+no_operator word named same = grind (arith, unreserved)
 
 no_system : (word : List ℕ) → is_name word ≡ true → word ≢ codes "SYS"
-no_system word named same =
-    let wrong : not (list_any (same_word (codes "SYS")) reserved_words) ≡ true =
-    subst (λ (w : List ℕ). not (list_any (same_word w) reserved_words) ≡ true) same (unreserved word named) in
-    absurd (cc)
+no_system word named same = grind (arith, unreserved)
 
 -- the word of a caller that isn't the operator, nor that of the system, which tells marks
 pub record IsOwn (word : List ℕ) : Type 0 where
@@ -70,11 +64,7 @@ nothing_there zero x e = cc
 nothing_there (suc i) x e = cc
 
 no_names : AreApart []
-no_names =
-    record {
-      named = λ i name e. absurd (nothing_there i name e);
-      apart = λ i j a b e f same. absurd (nothing_there i a e);
-    }
+no_names = grind (arith, nothing_there)
 
 new_word : (names : List Name16) (name : Name16)
     → list_any (λ other. same_word (name_word other) (name_word name)) names ≡ false
@@ -82,31 +72,13 @@ new_word : (names : List Name16) (name : Name16)
 new_word names name new i other e same =
     let here : get_or names i other ≡ other = get_or_from_slice_get names i other other e in
     let found : list_any (λ (o : Name16). same_word (name_word o) (name_word name)) names ≡ true =
-    list_any_at (λ (o : Name16). same_word (name_word o) (name_word name)) names i other
-    (slice_get_within names i other e)
-    (rw here (same_word-of (name_word other) (name_word name) same)) in
+    grind (arith, list_any_at, slice_get_within, same_word-of) in
     let wrong : true ≡ false = sym found ∙ new in
     absurd (cc)
 
 one_more : (names : List Name16) (name : Name16) → AreApart names → IsOwn (name_word name)
     → list_any (λ other. same_word (name_word other) (name_word name)) names ≡ false → AreApart (names ++ name ∷ [])
-one_more names name h named new =
-    record {
-      named = λ i other e. elim (pushed_cases names name i other e) [
-        | inl old ↦ h.named i other old.1
-        | inr fresh ↦ subst (λ (n : Name16). IsOwn (name_word n)) (sym fresh.1) named
-      ];
-      apart = λ i j a b e f same. elim (pushed_cases names name i a e) [
-        | inl old ↦ elim (pushed_cases names name j b f) [
-          | inl other ↦ h.apart i j a b old.1 other.1 same
-          | inr fresh ↦ absurd (new_word names name new i a old.1 (same ∙ ap name_word fresh.1))
-        ]
-        | inr fresh ↦ elim (pushed_cases names name j b f) [
-          | inl other ↦ absurd (new_word names name new j b other.1 (sym same ∙ ap name_word fresh.1))
-          | inr also ↦ fresh.0 ∙ sym also.0
-        ]
-      ];
-    }
+one_more names name h named new = grind (arith, pushed_cases, new_word)
 
 not-false : (b : Bool) → not b ≡ true → b ≡ false
 not-false true h = absurd (cc)
@@ -122,23 +94,13 @@ declared script ws (declaration.Pref on pref) says once h = h
 declared script [] (declaration.Connector name) says once h = absurd says.spelled
 declared script (verb ∷ []) (declaration.Connector name) says once h = absurd says.spelled.1
 declared script (verb ∷ word ∷ ws) (declaration.Connector name) says once h =
-    let named : is_name word ≡ true = says.spelled.1.0.0.0 in
-    let is : name_word name ≡ word = named_word name word named says.spelled.1.0.1 in
-    one_more script.connectors name h (record {
-      operator = λ same. no_operator word named (sym is ∙ same);
-      system = λ same. no_system word named (sym is ∙ same);
-    }) once
+    grind (arith, named_word, one_more, no_operator, no_system)
 
 of_caller : (script : Script) (at : ℕ) (by : ConnId) (ws : Words) (after : Script)
     → AddsOfCaller script at by ws after
     → AreApart script.connectors → AreApart after.connectors
 of_caller script at by [] after adds h = absurd adds
-of_caller script at by (second ∷ ws) after adds h = at_structure (structure_of script.structures second) adds
-  where
-    at_structure : (o : Option StrNo) → MatchOption o ⊥ (λ on. AddsLine script at by on ws after)
-        → AreApart after.connectors
-    at_structure None k = absurd k
-    at_structure (Some on) k = rw k.same h
+of_caller script at by (second ∷ ws) after adds h = grind arith
 
 of_words : (script : Script) (at : ℕ) (ws : Words) (after : Script) → AddsWords script at ws after
     → AreApart script.connectors → AreApart after.connectors
@@ -152,9 +114,7 @@ of_words script at (first ∷ ws) after adds h =
         (MatchOption o ⊥ (λ by. AddsOfCaller script at by ws after)))
         → AreApart after.connectors
     by_tests true p o k = rw k h
-    by_tests false true o k =
-        rw k.same
-        (declared script (first ∷ ws) k.declaration k.declares (not-false (is_twice script k.declaration) k.once) h)
+    by_tests false true o k = grind (arith, declared, not-false)
     by_tests false false None k = absurd k
     by_tests false false (Some by) k = of_caller script at by ws after k h
 

@@ -1,7 +1,6 @@
 -- How many calls on a structure the items of a caller show: no more than its lines and its closing make.
-use Rattle.run_laws.proofs.Imports.{◌≡◌, ◌≢◌, ◌⊎◌, inl, inr, ℕ, zero, suc, ◌+◌, ◌≤◌, ◌==◌, Bool, true, false, cond, List, [], ◌∷◌, ◌++◌, length, take, Option, Some, None, refl, sym, ap, subst, ◌∙◌, arith, length-append, nat_tests, filter_map-append, sum_by-append, sum_by-cons, Kind, StrForm, ConnId, StrNo, Told, Step, AnyHistory, Act, AnyAsk, Line, Script, Shown, first_step, step_after, most_asks, asked_by, call_of, shell_ask, AnyCall, IsHeard, Runs, RunsUpTo, ShowsAct, ShowsLines, ShowsClosing, ShowsClosings, Follows, StopsInLine, StopsInClosing, is_linked_by, lines_of, number_on, numbers_on, fewer_asks, test_numbers, word_numbers, most_of_line, most_of_lines}
+use Rattle.run_laws.proofs.Imports.{◌≡◌, ◌≢◌, ◌⊎◌, inl, inr, ℕ, zero, suc, ◌+◌, ◌≤◌, ◌==◌, Bool, true, false, cond, List, [], ◌∷◌, ◌++◌, length, take, Option, Some, None, refl, sym, ap, subst, ◌∙◌, arith, length-append, nat_tests, filter_map-append, sum_by-append, sum_by-cons, Kind, StrForm, ConnId, StrNo, Told, Step, AnyHistory, Act, AnyAsk, Line, Script, Shown, first_step, step_after, most_asks, asked_by, call_of, AnyCall, IsHeard, Runs, RunsUpTo, ShowsAct, ShowsLines, ShowsClosing, ShowsClosings, Follows, StopsInLine, StopsInClosing, lines_of, numbers_on, fewer_asks, test_numbers, word_numbers, most_of_line, most_of_lines}
 use Rattle.std.proofs.Common.{MatchBool}
-use Rattle.plex_board.specs.CfTypes.declared.shell_commands.ShellCmd.TheVariants as cmd
 use Rattle.plex_board.specs.PlexScript.declared.agents.Step.TheVariants as step
 use Rattle.plex_board.specs.PlexScript.declared.scripts.Act.TheVariants as act
 use Rattle.plex_board.specs.PlexScript.declared.transcripts.Shown.TheVariants as shown
@@ -13,9 +12,7 @@ calls_shown on items = length (numbers_on on items)
 -- items in two parts
 shown_both : (on : StrNo) (items first others : List Shown) → items ≡ first ++ others
     → calls_shown on items ≡ calls_shown on first + calls_shown on others
-shown_both on items first others split =
-    ap (calls_shown on) split ∙ ap length (filter_map-append (number_on on) first others)
-    ∙ length-append (numbers_on on first) (numbers_on on others)
+shown_both on items first others split = grind (arith, filter_map-append, length-append)
 
 shown_none : (on : StrNo) (items : List Shown) (most : ℕ) → numbers_on on items ≡ [] → calls_shown on items ≤ most
 shown_none on items most none = rw none (omega arith)
@@ -32,12 +29,8 @@ heard_goes kind line calls by number told now heard rests =
 call_few : (there : Bool) (on at place : StrNo) (number : ℕ) (items : List Shown) (less most : ℕ) → place ≡ at
     → at.0 == on.0 ≡ there → suc less ≤ most → calls_shown on items ≤ cond there less 0
     → calls_shown on (shown.Call place number ∷ items) ≤ cond there most 0
-call_few true on at place number items less most same is fewer few =
-    let here : place.0 == on.0 ≡ true = ap (λ (p : StrNo). p.0 == on.0) same ∙ is in
-    rw here (omega (arith, fewer, few))
-call_few false on at place number items less most same is fewer few =
-    let here : place.0 == on.0 ≡ false = ap (λ (p : StrNo). p.0 == on.0) same ∙ is in
-    rw here few
+call_few true on at place number items less most same is fewer few = grind arith
+call_few false on at place number items less most same is fewer few = grind arith
 
 -- a step and the steps behind it make as many calls as are left at most, and all of them on their structure
 module _ (kind : Kind) (line : Option AnyAsk) (calls : List AnyCall) (by : ConnId) (on at : StrNo) (there : Bool)
@@ -46,18 +39,14 @@ module _ (kind : Kind) (line : Option AnyAsk) (calls : List AnyCall) (by : ConnI
       → calls_shown on items ≤ cond there (most_asks now) 0
   runs_few now [] runs = omega arith
   runs_few now (shown.Call place number ∷ items) runs =
-      call_few there on at place number items (most_asks (step_after now runs.0)) (most_asks now) runs.1 is
-      (fewer_asks now runs.0 (heard_goes kind line calls by number runs.0 now runs.2))
-      (runs_few (step_after now runs.0) items runs.3)
+      grind (arith, call_few, fewer_asks, heard_goes, runs_few (step_after now runs.0) items runs.3)
   runs_few now (_ ∷ items) runs = absurd runs
 
   runs_up_to_few : (now : Step) (items : List Shown) → RunsUpTo kind line calls by at now items
       → calls_shown on items ≤ cond there (most_asks now) 0
   runs_up_to_few now [] runs = omega arith
   runs_up_to_few now (shown.Call place number ∷ items) runs =
-      call_few there on at place number items (most_asks (step_after now runs.0)) (most_asks now) runs.1 is
-      (fewer_asks now runs.0 (heard_goes kind line calls by number runs.0 now runs.2))
-      (runs_up_to_few (step_after now runs.0) items runs.3)
+      grind (arith, call_few, fewer_asks, heard_goes, runs_up_to_few (step_after now runs.0) items runs.3)
   runs_up_to_few now (_ ∷ items) runs = absurd runs
 
 -- an act makes as many calls as its first step has left at most
@@ -99,15 +88,7 @@ lines_few forms histories on (line ∷ lines) items shows =
 -- a closing makes one call at most
 closing_few : (form : StrForm) (calls : List AnyCall) (conn : ConnId) (on at : StrNo) (before items : List Shown)
     → ShowsClosing form calls conn at before items → calls_shown on items ≤ cond (at.0 == on.0) 1 0
-closing_few form calls conn on at before items shows = by_link (is_linked_by calls conn at before) shows
-  where
-    by_link : (b : Bool)
-        → MatchBool b (Runs form.kind (Some (shell_ask form.kind cmd.Disconnect)) calls conn at (step.Call 0) items)
-        (items ≡ []) → calls_shown on items ≤ cond (at.0 == on.0) 1 0
-    by_link true runs =
-        runs_few form.kind (Some (shell_ask form.kind cmd.Disconnect)) calls conn on at (at.0 == on.0) refl
-        (step.Call 0) items runs
-    by_link false none = shown_none on items _ (ap (numbers_on on) none)
+closing_few form calls conn on at before items shows = grind (arith, runs_few, shown_none)
 
 -- the closings of structures from one on make one call at most, and none on those before it
 closings_few : (histories : List AnyHistory) (conn : ConnId) (on : StrNo) (first : ℕ) (forms : List StrForm)

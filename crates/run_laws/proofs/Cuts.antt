@@ -1,14 +1,12 @@
 -- Texts that are the same, from their fronts on.
-use Rattle.run_laws.proofs.Imports.{◌≡◌, ℕ, ◌≤◌, ◌<◌, ◌==◌, ◌^◌, Bool, true, not, List, [], ◌∷◌, ◌++◌, length, refl, sym, ap, ◌∙◌, arith, append_assoc, length-append, is_ascii_digit, decimal, list_all, flat_map, and_parts, and_from, nat_tests, decimal_injective, flat_map-append, append_cancel_left, is_numeral, numeral-decimal, heading, line_text}
+use Rattle.run_laws.proofs.Imports.{◌≡◌, ℕ, ◌≤◌, ◌<◌, ◌==◌, ◌^◌, Bool, true, not, List, [], ◌∷◌, ◌++◌, length, refl, ap, ◌∙◌, arith, append_assoc, length-append, is_ascii_digit, decimal, list_all, flat_map, and_parts, and_from, nat_tests, decimal_injective, flat_map-append, append_cancel_left, is_numeral, numeral-decimal, heading, line_text}
 
 -- the byte doesn't stand in the text
 abbrev pub is_free : ℕ → List ℕ → Bool
 is_free at text = list_all (λ b. not (b == at)) text
 
 not_free-middle : (at : ℕ) (xs ys : List ℕ) → is_free at (xs ++ at ∷ ys) ≡ true → ⊥
-not_free-middle at [] ys h =
-    let same : (at == at) ≡ true = grind (arith, nat_tests) in
-    let free = (and_parts (not (at == at)) (is_free at ys) h).0 in cc
+not_free-middle at [] ys h = grind (arith, nat_tests, and_parts)
 not_free-middle at (x ∷ xs) ys h = not_free-middle at xs ys
     (and_parts (not (x == at)) (is_free at (xs ++ at ∷ ys)) h).1
 
@@ -73,24 +71,17 @@ text-long (line ∷ lines) =
 -- behind lines that are the same
 pub same_behind : (front xs ys : List (List ℕ)) → text_of (front ++ xs) ≡ text_of (front ++ ys)
     → text_of xs ≡ text_of ys
-same_behind front xs ys e =
-    append_cancel_left (text_of front) (text_of xs) (text_of ys)
-    (sym (text-append front xs) ∙ e ∙ text-append front ys)
+same_behind front xs ys e = grind (arith, append_cancel_left, text-append)
 
 -- lines that are told in other words
 pub texts : (a b x y : List ℕ) (xs ys : List (List ℕ)) → x ≡ a → y ≡ b → text_of (x ∷ xs) ≡ text_of (y ∷ ys)
     → a ++ 10 ∷ text_of xs ≡ b ++ 10 ∷ text_of ys
-texts a b x y xs ys is is' e =
-    ap (λ (l : List ℕ). l ++ 10 ∷ text_of xs) (sym is) ∙ sym (text-cons x xs) ∙ e ∙ text-cons y ys
-    ∙ ap (λ (l : List ℕ). l ++ 10 ∷ text_of ys) is'
+texts a b x y xs ys is is' e = grind (arith, text-cons)
 
 -- numbers behind one front are one
 pub same_end : (front : List ℕ) (m n : ℕ) (xs ys : List ℕ) → m < 2 ^ 64 → n < 2 ^ 64
     → (front ++ decimal m) ++ 10 ∷ xs ≡ (front ++ decimal n) ++ 10 ∷ ys → (m ≡ n) × (xs ≡ ys)
-same_end front m n xs ys small_m small_n e =
-    same_number 10 m n xs ys (omega arith) small_m small_n
-    (append_cancel_left front (decimal m ++ 10 ∷ xs) (decimal n ++ 10 ∷ ys)
-    (sym (append_assoc front (decimal m) (10 ∷ xs)) ∙ e ∙ append_assoc front (decimal n) (10 ∷ ys)))
+same_end front m n xs ys small_m small_n e = grind (arith, same_number, append_cancel_left, append_assoc)
 
 pub append_end : (u : List ℕ) → u ++ [] ≡ u
 append_end [] = refl
@@ -98,10 +89,7 @@ append_end (x ∷ u) = ap (λ (v : List ℕ). x ∷ v) (append_end u)
 
 -- three words, the last of them set apart
 pub one_word : (s t a : List ℕ) → s ++ ((32 ∷ t) ++ ((32 ∷ a) ++ [])) ≡ (s ++ ((32 ∷ t) ++ 32 ∷ [])) ++ a
-one_word s t a =
-    sym (append_assoc s ((32 ∷ t) ++ 32 ∷ []) a
-    ∙ ap (λ (u : List ℕ). s ++ u)
-    (append_assoc (32 ∷ t) (32 ∷ []) a ∙ ap (λ (u : List ℕ). (32 ∷ t) ++ (32 ∷ u)) (sym (append_end a))))
+one_word s t a = grind (arith, append_assoc, append_end)
 
 -- headings of one word and one name tell the same number
 pub same_heading : (word name : List ℕ) (m n : ℕ) (xs ys : List (List ℕ)) → m < 2 ^ 64 → n < 2 ^ 64

@@ -1,5 +1,5 @@
 -- The lines of a legal history fix it, where it is known what each caller asks next.
-use Rattle.run_laws.proofs.Imports.{◌≡◌, ℕ, ◌+◌, ◌≤◌, ◌==◌, true, not, List, [], ◌∷◌, ◌++◌, length, map, codes, Option, Some, refl, sym, ap, subst, ◌∙◌, arith, append_assoc, decimal, and_parts, and_from, decimal_injective, append_cancel_left, IsFacility, CfId, StrForm, ConnId, Ask, What, Entry, Meaning, next_entry, next_mark, IsNextAs, Continues, tail_of, line_of, AnyAsk, Script, facility_word, caller_word, ask_words, entry_line, what_words, reply_words, is_of_vary, NamesFacility, NamesFacilities}
+use Rattle.run_laws.proofs.Imports.{◌≡◌, ℕ, ◌+◌, ◌≤◌, ◌==◌, true, List, [], ◌∷◌, ◌++◌, length, map, codes, Option, Some, refl, sym, ap, subst, ◌∙◌, arith, append_assoc, decimal, and_parts, and_from, decimal_injective, append_cancel_left, IsFacility, CfId, StrForm, ConnId, Ask, What, Entry, Meaning, next_entry, IsNextAs, Continues, tail_of, line_of, AnyAsk, Script, facility_word, caller_word, ask_words, entry_line, what_words, reply_words, is_of_vary, NamesFacility, NamesFacilities}
 use Rattle.plex_board.specs.EngineApi.declared.asks.What.TheVariants as what
 use Rattle.run_laws.proofs.Cuts.{is_free, free_decimal, text_of, text-cons, same_cut}
 use Rattle.run_laws.proofs.Callers.{AreApart, free_caller, same_caller, not_system}
@@ -65,17 +65,12 @@ module _ {C R I S : Type 0} (meaning : Meaning C R I S) (form : StrForm) (of : A
 
   regrouped : (number caller rest behind : List ℕ)
       → (number ++ 32 ∷ (caller ++ 32 ∷ rest)) ++ behind ≡ (number ++ 32 ∷ []) ++ (caller ++ 32 ∷ (rest ++ behind))
-  regrouped number caller rest behind =
-      append_assoc number (32 ∷ (caller ++ 32 ∷ rest)) behind
-      ∙ ap (λ (t : List ℕ). number ++ 32 ∷ t) (append_assoc caller (32 ∷ rest) behind)
-      ∙ sym (append_assoc number (32 ∷ []) (caller ++ 32 ∷ (rest ++ behind)))
+  regrouped number caller rest behind = grind (arith, append_assoc)
 
   text_front : (entry : Entry C R) (front : Front entry) (lines : List (List ℕ))
       → text_of (line entry ∷ lines)
       ≡ (decimal entry.no ++ 32 ∷ []) ++ (who_of entry ++ 32 ∷ (front.rest ++ 10 ∷ text_of lines))
-  text_front entry front lines =
-      text-cons (line entry) lines ∙ ap (λ (t : List ℕ). t ++ 10 ∷ text_of lines) front.is
-      ∙ regrouped (decimal entry.no) (who_of entry) front.rest (10 ∷ text_of lines)
+  text_front entry front lines = grind (arith, text-cons, text_of, regrouped)
 
   -- what a caller asks next, in the histories that are read
   abbrev pub Asked : (List (Entry C R) → ConnId → Option AnyAsk) → List (Entry C R) → List (Entry C R) → Type 0
@@ -109,14 +104,7 @@ module _ {C R I S : Type 0} (meaning : Meaning C R I S) (form : StrForm) (of : A
   free_who by (what.Lost cf) few = refl
 
   free_facility : (cf : CfId) → IsFacility cf → is_free 32 (facility_word cf) ≡ true
-  free_facility cf is =
-      free_append (codes "CF") (decimal cf.0) refl (free_decimal 32 cf.0 (omega arith) (omega (arith, is.1)))
-    where
-      free_append : (xs ys : List ℕ) → is_free 32 xs ≡ true → is_free 32 ys ≡ true → is_free 32 (xs ++ ys) ≡ true
-      free_append [] ys one other = other
-      free_append (x ∷ xs) ys one other =
-          let parts = and_parts (not (x == 32)) (is_free 32 xs) one in
-          and_from (not (x == 32)) (is_free 32 (xs ++ ys)) parts.0 (free_append xs ys parts.1 other)
+  free_facility cf is = grind (arith, free_decimal, is_free, and_parts, and_from)
 
   -- marks that are told in one way are of one facility
   same_facility : (cf cf' : CfId) (replies replies' : List (List ℕ)) (rest rest' xs ys : List ℕ) → IsFacility cf
@@ -129,17 +117,11 @@ module _ {C R I S : Type 0} (meaning : Meaning C R I S) (form : StrForm) (of : A
       let one : front ++ (facility_word cf ++ 32 ∷ tail) ≡ rest = cc in
       let other : front ++ (facility_word cf' ++ 32 ∷ tail') ≡ rest' = cc in
       let whole : front ++ (facility_word cf ++ 32 ∷ (tail ++ xs)) ≡ front ++ (facility_word cf' ++ 32 ∷ (tail' ++ ys)) =
-      ap (λ (t : List ℕ). front ++ t) (sym (append_assoc (facility_word cf) (32 ∷ tail) xs))
-      ∙ sym (append_assoc front (facility_word cf ++ 32 ∷ tail) xs)
-      ∙ ap (λ (t : List ℕ). t ++ xs) one ∙ e ∙ ap (λ (t : List ℕ). t ++ ys) (sym other)
-      ∙ append_assoc front (facility_word cf' ++ 32 ∷ tail') ys
-      ∙ ap (λ (t : List ℕ). front ++ t) (append_assoc (facility_word cf') (32 ∷ tail') ys) in
+      grind (arith, append_assoc) in
       let words = same_cut 32 (facility_word cf) (tail ++ xs) (facility_word cf') (tail' ++ ys)
       (free_facility cf is) (free_facility cf' is')
       (append_cancel_left front (facility_word cf ++ 32 ∷ (tail ++ xs)) (facility_word cf' ++ 32 ∷ (tail' ++ ys)) whole) in
-      let number : cf.0 ≡ cf'.0 =
-      decimal_injective cf.0 cf'.0 (omega (arith, is.1)) (omega (arith, is'.1))
-      (append_cancel_left (codes "CF") (decimal cf.0) (decimal cf'.0) words.0) in
+      let number : cf.0 ≡ cf'.0 = grind (arith, decimal_injective, append_cancel_left) in
       ap (λ (n : ℕ). (let it : CfId = record { 0 = n } in it)) number
 
   -- what two entries behind the same ones tell, where their lines are the same
@@ -160,9 +142,7 @@ module _ {C R I S : Type 0} (meaning : Meaning C R I S) (form : StrForm) (of : A
       goes ∙ ap (λ (c : ConnId). next_entry meaning form before c ask) by
       ∙ ap (λ (q : Ask C). next_entry meaning form before b.by q) asks ∙ sym goes'
   same_next next next' before a b (what.Lost cf) (what.Lost cf') replies replies' rest rest' xs ys apart asker asked
-      asked' marks marks' goes goes' blank blank' callers e =
-      goes ∙ ap (next_mark meaning form before)
-      (same_facility cf cf' replies replies' rest rest' xs ys marks marks' blank blank' e) ∙ sym goes'
+      asked' marks marks' goes goes' blank blank' callers e = grind (arith, same_facility)
   same_next next next' before a b (what.Call ask) (what.Lost cf') replies replies' rest rest' xs ys apart asker asked
       asked' marks marks' goes goes' blank blank' callers e =
       absurd (not_system script a.by.0 apart (asked ask refl).1 callers)
@@ -187,9 +167,7 @@ module _ {C R I S : Type 0} (meaning : Meaning C R I S) (form : StrForm) (of : A
       let behind_number = append_cancel_left (decimal a.no ++ 32 ∷ [])
       (who_of a ++ 32 ∷ (front.rest ++ 10 ∷ text_of (map line one ++ xs)))
       (who_of b ++ 32 ∷ (front'.rest ++ 10 ∷ text_of (map line other ++ ys)))
-      (sym (text_front a front (map line one ++ xs)) ∙ e ∙ text_front b front' (map line other ++ ys)
-      ∙ ap (λ (t : List ℕ). (t ++ 32 ∷ []) ++
-      (who_of b ++ 32 ∷ (front'.rest ++ 10 ∷ text_of (map line other ++ ys)))) numbers) in
+      (grind (arith, text_front, text_of)) in
       let callers = same_cut 32 (who_of a) (front.rest ++ 10 ∷ text_of (map line one ++ xs))
       (who_of b) (front'.rest ++ 10 ∷ text_of (map line other ++ ys))
       (free_who a.by a.what (is_caller (next before a.by) a.by a.what asked.0))
@@ -199,8 +177,7 @@ module _ {C R I S : Type 0} (meaning : Meaning C R I S) (form : StrForm) (of : A
       front'.rest (10 ∷ text_of (map line one ++ xs)) (10 ∷ text_of (map line other ++ ys)) apart (ap (next before))
       asked.0 asked'.0 marks.0 marks'.0 goes.0 goes'.0 front.blank front'.blank callers.0 callers.1 in
       let rest : text_of (map line one ++ xs) ≡ text_of (map line other ++ ys) =
-      append_cancel_left (line b ++ 10 ∷ []) (text_of (map line one ++ xs)) (text_of (map line other ++ ys))
-      (ap (λ (x : Entry C R). (line x ++ 10 ∷ []) ++ text_of (map line one ++ xs)) (sym same_entry) ∙ e) in
+      grind (arith, append_cancel_left, text_of) in
       let more = same_entries next (before ++ b ∷ []) one other xs ys apart (omega (arith, same)) marks.1 marks'.1
       (subst (λ (x : Entry C R). Continues meaning form (before ++ x ∷ []) one) same_entry goes.1) goes'.1
       (subst (λ (x : Entry C R). Asked next (before ++ x ∷ []) one) same_entry asked.1) asked'.1 rest in

@@ -1,5 +1,5 @@
 -- A command asks for the records alone.
-use Rattle.run_laws.proofs.Imports.{◌≡◌, ℕ, List, [], ◌∷◌, refl, ap, ◌∙◌, Caps, LockCmd, Obtain, Alter, Release, Decide, RtRead, RtDelete, ConnId, Shape, unless_refused, step_at, replies_of}
+use Rattle.run_laws.proofs.Imports.{arith, ◌≡◌, ℕ, List, [], ◌∷◌, refl, ap, ◌∙◌, Caps, LockCmd, Obtain, Alter, Release, Decide, RtRead, RtDelete, ConnId, Shape, unless_refused, step_at, replies_of}
 use Rattle.plex_board.specs.LockModel.Contents.{Content}
 use Rattle.plex_board.specs.LockModel.Step.{cause, done}
 
@@ -15,9 +15,7 @@ cause_same m n k content by (RtDelete conn r) = refl
 
 cause_agrees : (a b : Caps) → a.elements ≡ b.elements → (content : Content) (by : ConnId) (cmd : LockCmd)
     → cause a content by cmd ≡ cause b content by cmd
-cause_agrees a b e content by cmd =
-    cause_same a.entries b.entries a.elements content by cmd
-    ∙ ap (λ (n : ℕ). cause (record { entries = b.entries; elements = n }) content by cmd) e
+cause_agrees a b e content by cmd = grind (arith, cause_same)
 
 pub step-agrees : (a b : Caps) → a.elements ≡ b.elements → (shape : Shape) (content : Content) (by : ConnId)
     (cmd : LockCmd) → step_at a shape content by cmd ≡ step_at b shape content by cmd

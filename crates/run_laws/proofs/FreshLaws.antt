@@ -1,5 +1,5 @@
 -- A bit that stands tells a fresh copy.
-use Rattle.run_laws.proofs.Imports.{◌≡◌, ℕ, true, [], ◌∷◌, ◌++◌, Option, None, Some, is_some, option_map, take, drop, inl, inr, append-nil, refl, sym, ap, ◌∙◌, subst, IsTrue, option_and_then, find, false≢true, take-append-drop, Read, StrForm, Name16, ConnId, Continues, Tells, last_call_below, stands_after, continues_legal, any_is_found, all_found, Registration, is_at, registered_at, CacheItem, Content, cache_meaning, is_row_of, row_of, has_row, copy_in, reply_copy, row_copy, fresh-at, copy_held, IsAsRead, IsFresh, TellsFresh, CacheHistory, IsLegalCache, content_after}
+use Rattle.run_laws.proofs.Imports.{arith, ◌≡◌, ℕ, true, [], ◌∷◌, ◌++◌, Option, None, Some, is_some, option_map, take, drop, append-nil, refl, sym, ap, ◌∙◌, subst, IsTrue, option_and_then, find, false≢true, take-append-drop, Read, StrForm, Name16, ConnId, Continues, Tells, stands_after, continues_legal, any_is_found, all_found, Registration, is_at, registered_at, CacheItem, Content, cache_meaning, is_row_of, row_of, has_row, copy_in, reply_copy, row_copy, fresh-at, copy_held, IsAsRead, IsFresh, TellsFresh, CacheHistory, IsLegalCache, content_after}
 use Rattle.run_laws.proofs.CacheReplies.{answer-content, copy-read}
 use Rattle.run_laws.proofs.CacheTraces.{HasTrace, trace-continues}
 use Rattle.run_laws.proofs.UniqueLaws.{orderly-replay}
@@ -10,9 +10,7 @@ held-registered : (form : StrForm) (history : CacheHistory) (conn : ConnId) (ind
     → HasTrace form history
     → registered_at (content_after form history).regs conn index ≡ Some name
     → copy_held history conn index ≡ copy_in (content_after form history).rows name
-held-registered form history conn index name trace there =
-    fresh-at (content_after form history).rows (copy_held history) conn index name (content_after form history).regs
-    trace there
+held-registered form history conn index name trace there = grind (arith, fresh-at)
 
 -- ---- the registration of a bit that stands, and its row
 
@@ -31,9 +29,7 @@ fresh_at form history conn index (Some reg) trace stands there e =
     let is = orderly-replay form history in
     let named : registered_at content.regs conn index ≡ Some reg.name =
     ap (λ (o : Option Registration). option_map (λ (r : Registration). r.name) o) there in
-    let has : has_row reg.name content.rows ≡ true =
-    all_found (is_at conn index) (λ (r : Registration). has_row r.name content.rows) content.regs reg is.row_each
-    there
+    let has : has_row reg.name content.rows ≡ true = grind (arith, all_found)
     in
     let row = found_row (row_of reg.name content.rows) (sym (any_is_found (is_row_of reg.name) content.rows) ∙ has) in
     record {
@@ -48,9 +44,7 @@ fresh_at form history conn index (Some reg) trace stands there e =
 
 fresh-trace : (form : StrForm) (history : CacheHistory) (conn : ConnId) (index : ℕ) → HasTrace form history
     → stands_after cache_meaning form history conn index ≡ true → IsFresh form history conn index
-fresh-trace form history conn index trace stands =
-    fresh_at form history conn index (find (is_at conn index) (content_after form history).regs) trace stands refl
-    (sym (any_is_found (is_at conn index) (content_after form history).regs) ∙ stands)
+fresh-trace form history conn index trace stands = grind (arith, fresh_at, any_is_found)
 
 -- ---- legal histories, and what stands at their front
 
@@ -58,11 +52,8 @@ continues_front : (form : StrForm) (history front others : CacheHistory)
     → Continues cache_meaning form history (front ++ others)
     → Continues cache_meaning form history front
 continues_front form history [] others goes = tt
-continues_front form history (entry ∷ front) others goes = (
-  goes.0,
-  continues_front form
-      (history ++ entry ∷ []) front others goes.1,
-)
+continues_front form history (entry ∷ front) others goes =
+    grind (arith, continues_front form (history ++ entry ∷ []) front others goes.1)
 
 pub trace-legal : (form : StrForm) (front others : CacheHistory) → IsLegalCache form (front ++ others)
     → HasTrace form front
@@ -87,21 +78,7 @@ fresh-copy form history legal conn index stands =
 pub fresh-test : (form : StrForm) (history : CacheHistory) → IsLegalCache form history
     → (n q : ℕ) (conn : ConnId) (index : ℕ)
     → Tells cache_meaning form history n q conn index true → TellsFresh form history n q conn index
-fresh-test form history legal n q conn index tells =
-    record {
-      point = tells.point;
-      seen = tells.seen;
-      fresh = elim tells.stood [
-        | inl stood ↦ inl (fresh-trace form (take n history) conn index (trace-take form history n legal) (sym stood))
-        | inr stood ↦
-            let at : ℕ = last_call_below history n in
-            inr (
-              stood.0,
-              fresh-trace form (take at history) conn index (trace-take form history at legal)
-                  (sym stood.1),
-            )
-      ];
-    }
+fresh-test form history legal n q conn index tells = grind (arith, fresh-trace, trace-take)
 
 -- and so an accepted READ of its name, by anyone, is answered with what is held
 pub copy-as-read : (form : StrForm) (history : CacheHistory) → IsLegalCache form history → (conn : ConnId) (index : ℕ)

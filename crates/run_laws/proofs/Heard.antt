@@ -1,5 +1,5 @@
 -- The calls of a legal history are heard under their numbers.
-use Rattle.run_laws.proofs.Imports.{◌≡◌, ℕ, suc, ◌≤◌, ◌<◌, ◌==◌, inr, Bool, true, false, List, [], ◌∷◌, ◌++◌, length, filter, cond, Some, refl, sym, subst, arith, append_assoc, Contains, if◌then◌else◌, nat_tests, StrForm, numbered_legal, cache_meaning, list_meaning, lock_meaning, AnyHistory, AnyCall, any_calls, any_length, call_numbered, IsAnyLegal, IsAnyPoint, Rising, any_numbers, numbers_of, numbers_any}
+use Rattle.run_laws.proofs.Imports.{◌≡◌, ℕ, suc, ◌≤◌, ◌<◌, ◌==◌, inr, Bool, true, false, List, [], ◌∷◌, ◌++◌, length, filter, Some, refl, sym, subst, arith, append_assoc, Contains, if◌then◌else◌, nat_tests, StrForm, numbered_legal, cache_meaning, list_meaning, lock_meaning, AnyHistory, AnyCall, any_calls, any_length, call_numbered, IsAnyLegal, IsAnyPoint, Rising, any_numbers, numbers_of, numbers_any}
 use Rattle.plex_board.specs.PlexScript.declared.asks.AnyHistory.TheVariants as history
 
 -- each of these is the call with its number
@@ -10,12 +10,7 @@ AreHeard calls (call ∷ some) = (call_numbered call.no calls ≡ Some call) × 
 pub heard_own : (calls some : List AnyCall) (keep : AnyCall → Bool) → AreHeard calls some
     → AreHeard calls (filter keep some)
 heard_own calls [] keep h = tt
-heard_own calls (call ∷ some) keep h = by_test (keep call) (heard_own calls some keep h.1)
-  where
-    by_test : (b : Bool) → AreHeard calls (filter keep some)
-        → AreHeard calls (cond b (call ∷ filter keep some) (filter keep some))
-    by_test true rest = (h.0, rest)
-    by_test false rest = rest
+heard_own calls (call ∷ some) keep h = grind (arith, heard_own calls some keep h.1)
 
 pub heard_front : (calls xs ys : List AnyCall) → AreHeard calls (xs ++ ys) → AreHeard calls xs
 heard_front calls [] ys h = tt
@@ -37,9 +32,7 @@ found_at : (low : ℕ) (before : List AnyCall) (call : AnyCall) (some : List Any
     → Rising low (before ++ call ∷ some) → call_numbered call.no (before ++ call ∷ some) ≡ Some call
 found_at low [] call some rise = let itself : call.no == call.no ≡ true = grind (arith, nat_tests) in rw itself refl
 found_at low (first ∷ before) call some rise =
-    let later : first.no < call.no = above_start first.no before call some rise.1 in
-    let apart : first.no == call.no ≡ false = grind (arith, nat_tests) in
-    rw apart (found_at first.no before call some rise.1)
+    grind (arith, above_start, nat_tests, found_at first.no before call some rise.1)
 
 heard_behind : (before some : List AnyCall) → Rising 0 (before ++ some) → AreHeard (before ++ some) some
 heard_behind before [] rise = tt
@@ -63,11 +56,7 @@ found_in number (first ∷ calls) call e = by_test (first.no == number) refl (fo
         → (call_numbered number calls ≡ Some call → Contains (numbers_of calls) number)
         → (if b then Some first else call_numbered number calls) ≡ Some call
         → Contains (numbers_of (first ∷ calls)) number
-    by_test true same later found = (
-      0,
-      (let one : 0 < length (numbers_of (first ∷ calls)) = omega arith in one),
-      (let is : first.no ≡ number = grind (arith, nat_tests) in is),
-    )
+    by_test true same later found = grind (arith, numbers_of, nat_tests)
     by_test false apart later found =
         let there : Contains (numbers_of calls) number = later found in (
           suc there.0,

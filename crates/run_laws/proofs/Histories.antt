@@ -47,13 +47,7 @@ module _ {C R I S : Type 0} (meaning : Meaning C R I S) (form : StrForm) (of : A
       → own_calls (map (any_call of) (calls (before ++ entry ∷ entries))) entry.by
       ≡ own_calls (map (any_call of) (calls before)) entry.by
       ++ told_call entry asked ∷ own_calls (map (any_call of) (calls entries)) entry.by
-  own_split before entry entries asked is =
-      ap (λ (cs : List (Call C R)). own_calls (map (any_call of) cs) entry.by) (calls-append before (entry ∷ entries))
-      ∙ ap (λ (cs : List AnyCall). own_calls cs entry.by) (map-append (any_call of) (calls before)
-      (calls (entry ∷ entries)))
-      ∙ filter-append (λ (call : AnyCall). call.by.0 == entry.by.0) (map (any_call of) (calls before))
-      (map (any_call of) (calls (entry ∷ entries)))
-      ∙ rw (is, itself entry.by.0) refl
+  own_split before entry entries asked is = grind (arith, calls-append, map-append, filter-append, itself)
 
   module _ (one_ask : (a b : Ask C) → Some (of a) ≡ Some (of b) → a ≡ b) (cmd_words : Script → C → List (List ℕ))
       (answer_words : Script → R → List (List ℕ)) where
@@ -66,9 +60,7 @@ module _ {C R I S : Type 0} (meaning : Meaning C R I S) (form : StrForm) (of : A
     asked_all whole before (entry ∷ entries) plays is callers = (
       λ asked same.
           let both : AllByRecursion (λ (c : AnyCall). c.by.0 ≤ length script.connectors)
-          (told_call entry asked ∷ map (any_call of) (calls entries)) =
-          subst (AllByRecursion (λ (c : AnyCall). c.by.0 ≤ length script.connectors))
-          (call_first entry entries asked same) callers in (
+          (told_call entry asked ∷ map (any_call of) (calls entries)) = grind (arith, call_first) in (
             next_of form.kind (works form.kind (lines_at on (lines_of script entry.by)))
                 (own_calls (map (any_call of) (calls whole)) entry.by) (own_calls (map (any_call of) (calls before))
                 entry.by)
@@ -84,13 +76,8 @@ module _ {C R I S : Type 0} (meaning : Meaning C R I S) (form : StrForm) (of : A
         callers_behind : (entry : Entry C R) (told : What C) → entry.what ≡ told
             → AllByRecursion (λ call. call.by.0 ≤ length script.connectors) (map (any_call of) (calls (entry ∷ entries)))
             → AllByRecursion (λ call. call.by.0 ≤ length script.connectors) (map (any_call of) (calls entries))
-        callers_behind entry (what.Call asked) same callers =
-            (subst (AllByRecursion (λ (c : AnyCall). c.by.0 ≤ length script.connectors))
-            (call_first entry entries asked same) callers).1
-        callers_behind entry (what.Lost cf) same callers =
-            subst (AllByRecursion (λ (c : AnyCall). c.by.0 ≤ length script.connectors))
-            (let none : map (any_call of) (calls (entry ∷ entries)) ≡ map (any_call of) (calls entries) = rw same refl in
-            none) callers
+        callers_behind entry (what.Call asked) same callers = grind (arith, call_first)
+        callers_behind entry (what.Lost cf) same callers = grind arith
 
     pub same_history : (n : ℕ) (one other : List (Entry C R)) (xs ys : List (List ℕ)) → AreApart script.connectors
         → length one < 2 ^ 64 → length other < 2 ^ 64

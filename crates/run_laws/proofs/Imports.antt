@@ -50,15 +50,14 @@ pub use Rattle.plex_board.proofs.ShellLaws.StepLaws.{active_of, active_member, f
 pub use Rattle.plex_board.proofs.WordLaws.{word_below}
 pub use Rattle.plex_board.specs.CacheModel.Contents.{Content, no_content, IsContent, IsOrderly}
 pub use Rattle.plex_board.specs.CacheModel.Meaning.{cache_meaning}
-pub use Rattle.plex_board.specs.CacheModel.Rows.{row_of, row_or_new, is_changed, new_row, is_row_of, has_row}
+pub use Rattle.plex_board.specs.CacheModel.Rows.{row_of, row_or_new, new_row, is_row_of, has_row}
 pub use Rattle.plex_board.specs.CacheModel.Runs.{Deed, Copies, after_deed, after_run, copy_in, reply_copy, Copy, copies_done, copies_unless, copies_after, row_copy}
 pub use Rattle.plex_board.specs.CacheModel.Runs.Deed.{Calls, Leaves, Forgets}
 pub use Rattle.plex_board.specs.CacheModel.Step.{cause, done, reply}
 pub use Rattle.plex_board.specs.CacheModel.Uncast.{Uncast, Uncasts, uncast_cast, uncast_unlocked, uncast_unless, uncast_after, Kept}
 pub use Rattle.plex_board.specs.CacheModel.declared.items.CacheItem.{CacheItem}
-pub use Rattle.plex_board.specs.CacheRegs.Registrations.{registered_at, is_at, names_apart, is_of, is_for, stands_before}
+pub use Rattle.plex_board.specs.CacheRegs.Registrations.{registered_at, is_at, names_apart, is_for, stands_before}
 pub use Rattle.plex_board.specs.CacheRegs.declared.registrations.Registration.{Registration}
-pub use Rattle.plex_board.specs.CfLists.Insertions.{insertion}
 pub use Rattle.plex_board.specs.CfLists.Pairwise.{pairwise}
 unfoldable pub use Rattle.plex_board.specs.CfTypes.ConnSets.{conns_from}
 pub use Rattle.plex_board.specs.CfTypes.Connections.{is_active}
@@ -84,11 +83,10 @@ pub use Rattle.plex_board.specs.CfTypes.declared.numbers.ConnId.{ConnId}
 pub use Rattle.plex_board.specs.CfTypes.declared.numbers.EntryId.{EntryId}
 pub use Rattle.plex_board.specs.CfTypes.declared.numbers.StrNo.{StrNo}
 pub use Rattle.plex_board.specs.CfTypes.declared.refusals.Refusal.{Refusal}
-pub use Rattle.plex_board.specs.CfTypes.declared.refusals.Refusal.TheVariants.{RecordsFull}
 pub use Rattle.plex_board.specs.CfTypes.declared.shell_commands.ShellCmd.{ShellCmd}
 pub use Rattle.plex_board.specs.CfTypes.declared.shell_commands.ShellReply.{ShellReply}
 pub use Rattle.plex_board.specs.EngineApi.Answers.{is_mark_as, marks_at, trues}
-pub use Rattle.plex_board.specs.EngineApi.History.{replay, next_reply, Continues, next_entry, next_mark, IsNextAs, Tells, last_call_below, stands_after, Call, calls, IsLegal}
+pub use Rattle.plex_board.specs.EngineApi.History.{replay, next_reply, Continues, next_entry, next_mark, IsNextAs, Tells, stands_after, Call, calls, IsLegal}
 pub use Rattle.plex_board.specs.EngineApi.Machine.{Machine, unless, content_done, content_reply, step}
 pub use Rattle.plex_board.specs.EngineApi.Meaning.{Meaning, Held, unless_refused, new_held, answer, first_refusal}
 pub use Rattle.plex_board.specs.EngineApi.Shapes.{shape_of}
@@ -106,7 +104,7 @@ pub use Rattle.plex_board.specs.ListModel.Contents.{headers_of, content_without}
 pub use Rattle.plex_board.specs.ListModel.Lists.{the_record, with_record}
 pub use Rattle.plex_board.specs.ListModel.Meaning.{list_meaning}
 pub use Rattle.plex_board.specs.ListModel.Step.{causes}
-pub use Rattle.plex_board.specs.ListStore.Lists.{Lists, records_of, all_records, is_id, lists_without, replaced_by}
+pub use Rattle.plex_board.specs.ListStore.Lists.{Lists, all_records, is_id, lists_without, replaced_by}
 pub use Rattle.plex_board.specs.ListStore.Record.{Record}
 pub use Rattle.plex_board.specs.LockModel.Contents.{OwnersAreCompatible, is_due, records_in}
 pub use Rattle.plex_board.specs.LockModel.Departures.{departure_of, with_returned}
@@ -119,7 +117,7 @@ pub use Rattle.plex_board.specs.PlexScript.Causes.{declared_in, caller_of, is_co
 pub use Rattle.plex_board.specs.PlexScript.Follows.{AgreesWith, lines_of, IsHeard, Runs, RunsUpTo, ShowsAct, ShowsLines, ShowsClosing, ShowsClosings, Follows, StopsInLine, StopsInClosing, is_linked_by, number_on, numbers_on, ShowsTest, ShowsWord, surest_on}
 pub use Rattle.plex_board.specs.PlexScript.Heard.{AnyCall, any_calls, calls_of, calls_on, length_of, own_calls, any_length, call_numbered, any_call, length_on}
 pub use Rattle.plex_board.specs.PlexScript.PolicyWords.{Declares}
-pub use Rattle.plex_board.specs.PlexScript.Scripts.{AddsDeclaration, AddsLine, AddsOfCaller, AddsWords, AddsAll, IsScript, empty_script, line_number, with_declaration}
+pub use Rattle.plex_board.specs.PlexScript.Scripts.{AddsDeclaration, AddsOfCaller, AddsWords, AddsAll, IsScript, empty_script, line_number, with_declaration}
 pub use Rattle.plex_board.specs.PlexScript.declared.agents.Step.{Step}
 pub use Rattle.plex_board.specs.PlexScript.declared.asks.AnyHistory.{AnyHistory}
 pub use Rattle.plex_board.specs.PlexScript.declared.declarations.Declaration.{Declaration}
@@ -142,7 +140,7 @@ pub use Rattle.plex_report.specs.Lines.{heading, entry_line, what_words, reply_w
 pub use Rattle.plex_report.specs.Naming.{caller_name, caller_word, structure_name, structure_word}
 pub use Rattle.plex_report.specs.PlexPlain.Naming.{facility_word}
 pub use Rattle.plex_report.specs.PlexPlain.PolicyLines.{facility_line, connector_line}
-pub use Rattle.plex_report.specs.PlexSpell.Tokens.{is_name, is_capital, reserved_words, name_word, structure_of, is_numeral}
+pub use Rattle.plex_report.specs.PlexSpell.Tokens.{is_name, is_capital, reserved_words, name_word, is_numeral}
 pub use Rattle.plex_report.specs.PlexSpell.Words.{same_word, words_of, line_text, tail_of, line_of}
 pub use Rattle.plex_report.specs.PlexSpell.declared.rigour.Rigour.TheVariants.{Names}
 pub use Rattle.plex_report.specs.ReplyWords.{cache_reply_words, list_reply_words, lock_reply_words}
@@ -152,7 +150,7 @@ pub use Rattle.run_laws.specs.CacheApplied.{IsHeldAfter, content_applied, copies
 pub use Rattle.run_laws.specs.CacheHistories.{CacheHistory, IsWithin, CacheEntry, capacity_after, content_after, Accepted, acceptance_of, IsLegalCache, is_accepted, is_allocated, StaysAllocated}
 pub use Rattle.run_laws.specs.Copies.{copy_held, copy_at, copy_of, copy_brought, IsAsRead, IsFresh, TellsFresh}
 pub use Rattle.run_laws.specs.Entries.{step_at, replies_of}
-pub use Rattle.run_laws.specs.ListApplied.{opened, told_reply, told_from, told_then}
+pub use Rattle.run_laws.specs.ListApplied.{opened, told_from, told_then}
 pub use Rattle.run_laws.specs.ListHistories.{ListEntry, ListHistory, told_by, told_in, IsLegalList}
 pub use Rattle.run_laws.specs.LockApplied.Deed.{Returns}
 pub use Rattle.run_laws.specs.LockHistories.{LockHistory}

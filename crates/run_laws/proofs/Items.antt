@@ -1,5 +1,5 @@
 -- The lines of a transcript that follows its script fix it, over histories that are known.
-use Rattle.run_laws.proofs.Imports.{◌≡◌, ℕ, zero, suc, ◌+◌, ◌*◌, ◌/◌, ◌%◌, ◌≤◌, ◌<◌, ◌==◌, ◌^◌, nat_lt, Bool, true, false, not, List, [], ◌∷◌, ◌++◌, map, codes, get_or, Option, Some, None, unwrap_or, refl, sym, ap, subst, ◌∙◌, arith, append_assoc, MatchBool, decimal, pow-suc, and_from, nat_tests, append_cancel_left, map-append, Kind, StrForm, ConnId, StrNo, Told, Step, AnyHistory, AnyAsk, Act, Line, Script, Shown, first_step, step_after, asked_by, shell_ask, kind_of, AnyCall, call_numbered, calls_on, length_on, IsHeard, Runs, ShowsTest, ShowsWord, ShowsAct, ShowsLines, ShowsClosing, ShowsClosings, Follows, lines_of, is_linked_by, structure_word, shown_line, bit_word, binary_digits, digits_end, digits_next}
+use Rattle.run_laws.proofs.Imports.{◌≡◌, ℕ, zero, suc, ◌+◌, ◌*◌, ◌/◌, ◌%◌, ◌≤◌, ◌<◌, ◌==◌, ◌^◌, nat_lt, Bool, true, false, List, [], ◌∷◌, ◌++◌, map, codes, get_or, Option, Some, None, refl, sym, ap, subst, ◌∙◌, arith, append_assoc, MatchBool, decimal, pow-suc, and_from, nat_tests, append_cancel_left, map-append, Kind, StrForm, ConnId, StrNo, Told, Step, AnyHistory, AnyAsk, Act, Line, Script, Shown, first_step, step_after, asked_by, shell_ask, kind_of, AnyCall, call_numbered, calls_on, length_on, IsHeard, Runs, ShowsTest, ShowsWord, ShowsAct, ShowsLines, ShowsClosing, ShowsClosings, Follows, lines_of, is_linked_by, structure_word, shown_line, bit_word, binary_digits, digits_end, digits_next}
 use Rattle.plex_board.specs.CfTypes.declared.forms.Kind.TheVariants as kind
 use Rattle.plex_board.specs.CfTypes.declared.shell_commands.ShellCmd.TheVariants as cmd
 use Rattle.plex_board.specs.PlexScript.declared.agents.Step.TheVariants as step
@@ -15,15 +15,7 @@ same_two : (front a b : List ℕ) (m n : ℕ) (xs ys : List ℕ) → is_free 32 
     → (front ++ (a ++ 32 ∷ decimal m)) ++ 10 ∷ xs ≡ (front ++ (b ++ 32 ∷ decimal n)) ++ 10 ∷ ys → (a ≡ b) × (m ≡ n)
     × (xs ≡ ys)
 same_two front a b m n xs ys free_a free_b small_m small_n e =
-    let moved : (c : List ℕ) (k : ℕ) (zs : List ℕ)
-    → (front ++ (c ++ 32 ∷ decimal k)) ++ 10 ∷ zs ≡ front ++ (c ++ 32 ∷ (decimal k ++ 10 ∷ zs)) =
-    λ c k zs. append_assoc front (c ++ 32 ∷ decimal k) (10 ∷ zs)
-    ∙ ap (λ (t : List ℕ). front ++ t) (append_assoc c (32 ∷ decimal k) (10 ∷ zs)) in
-    let parts = same_cut 32 a (decimal m ++ 10 ∷ xs) b (decimal n ++ 10 ∷ ys) free_a free_b
-    (append_cancel_left front (a ++ 32 ∷ (decimal m ++ 10 ∷ xs)) (b ++ 32 ∷ (decimal n ++ 10 ∷ ys))
-    (sym (moved a m xs) ∙ e ∙ moved b n ys)) in
-    let numbers = same_number 10 m n xs ys (omega arith) small_m small_n parts.1 in
-    (parts.0, numbers.0, numbers.1)
+    grind (arith, append_assoc, same_cut, append_cancel_left, same_number)
 
 free_bit : (k : Kind) (bit : Bool) → is_free 32 (bit_word k bit) ≡ true
 free_bit kind.Cache true = refl
@@ -51,10 +43,7 @@ same_bit kind.Lock false true e = let clash = first_apart 73 86 _ _ e refl refl 
 
 free_digits : (count n : ℕ) → is_free 32 (binary_digits count n) ≡ true
 free_digits zero n = ap (is_free 32) (digits_end n)
-free_digits (suc count) n =
-    let other : not (48 + n % 2 == 32) ≡ true = grind (arith, nat_tests) in
-    ap (is_free 32) (digits_next count n)
-    ∙ and_from (not (48 + n % 2 == 32)) (is_free 32 (binary_digits count (n / 2))) other (free_digits count (n / 2))
+free_digits (suc count) n = grind (arith, nat_tests, is_free, digits_next, and_from, free_digits count (n / 2))
 
 same_digits : (count m n : ℕ) → m < 2 ^ count → n < 2 ^ count → binary_digits count m ≡ binary_digits count n → m ≡ n
 same_digits zero m n small_m small_n e = omega arith
@@ -103,9 +92,7 @@ module _ (script : Script) (histories : List AnyHistory) (small : (on : StrNo) �
 
   call_line : (on : StrNo) (number : ℕ)
       → line (shown.Call on number) ≡ (structure_word script on ++ 32 ∷ []) ++ decimal number
-  call_line on number =
-      ap (λ (t : List ℕ). structure_word script on ++ 32 ∷ t) (append_end (decimal number))
-      ∙ sym (append_assoc (structure_word script on) (32 ∷ []) (decimal number))
+  call_line on number = grind (arith, append_end, append_assoc)
 
   heard_number : (on : StrNo) (by : ConnId) (asked : Option AnyAsk) (number : ℕ) (told : Told)
       → IsHeard (calls_on histories on) by asked number told → number ≤ length_on histories on
@@ -115,9 +102,7 @@ module _ (script : Script) (histories : List AnyHistory) (small : (on : StrNo) �
   same_told : (calls : List AnyCall) (by : ConnId) (asked : Option AnyAsk) (number : ℕ) (told told' : Told)
       → IsHeard calls by asked number told → IsHeard calls by asked number told' → told ≡ told'
   same_told calls by None number told told' is is' = absurd is
-  same_told calls by (Some asked) number told told' is is' =
-      let call : AnyCall = record { no = number; by = by; ask = asked; told = told } in
-      ap (λ (o : Option AnyCall). (unwrap_or o call).told) (sym is ∙ is')
+  same_told calls by (Some asked) number told told' is is' = grind arith
 
   resting : (k : Kind) (asked : Option AnyAsk) (calls : List AnyCall) (by : ConnId) (now : Step) (number : ℕ)
       (told : Told)
@@ -150,9 +135,7 @@ module _ (script : Script) (histories : List AnyHistory) (small : (on : StrNo) �
       (map line items' ++ ys) here here' e) in
       let numbers : number ≡ number' = ends.0 in
       let places : place ≡ place' = runs.1 ∙ sym runs'.1 in
-      let told : runs.0 ≡ runs'.0 =
-      same_told (calls_on histories on) by (asked_by k asked now) number' runs.0 runs'.0
-      (subst (λ (n : ℕ). IsHeard (calls_on histories on) by (asked_by k asked now) n runs.0) numbers runs.2) runs'.2
+      let told : runs.0 ≡ runs'.0 = grind (arith, same_told)
       in
       let more = runs_same k asked by on (step_after now runs'.0) items items' xs ys
       (subst (λ (t : Told). Runs k asked (calls_on histories on) by on (step_after now t) items) told runs.3)
@@ -186,11 +169,7 @@ module _ (script : Script) (histories : List AnyHistory) (small : (on : StrNo) �
   two_words : (s t d b a : List ℕ)
       → s ++ ((32 ∷ t) ++ ((32 ∷ d) ++ ((32 ∷ b) ++ ((32 ∷ a) ++ []))))
       ≡ (s ++ ((32 ∷ t) ++ ((32 ∷ d) ++ 32 ∷ []))) ++ (b ++ 32 ∷ a)
-  two_words s t d b a =
-      sym (append_assoc s ((32 ∷ t) ++ ((32 ∷ d) ++ 32 ∷ [])) (b ++ 32 ∷ a)
-      ∙ ap (λ (u : List ℕ). s ++ u) (append_assoc (32 ∷ t) ((32 ∷ d) ++ 32 ∷ []) (b ++ 32 ∷ a)
-      ∙ ap (λ (u : List ℕ). (32 ∷ t) ++ u) (append_assoc (32 ∷ d) (32 ∷ []) (b ++ 32 ∷ a)
-      ∙ ap (λ (u : List ℕ). (32 ∷ d) ++ ((32 ∷ b) ++ (32 ∷ u))) (sym (append_end a)))))
+  two_words s t d b a = grind (arith, append_assoc, append_end)
 
   abbrev front_of : StrNo → List ℕ → ℕ → List ℕ
   front_of on word n = structure_word script on ++ ((32 ∷ word) ++ ((32 ∷ decimal n) ++ 32 ∷ []))
@@ -200,12 +179,7 @@ module _ (script : Script) (histories : List AnyHistory) (small : (on : StrNo) �
       → text_of (map line items ++ xs) ≡ text_of (map line items' ++ ys)
       → (text_of (line item ∷ xs) ≡ text_of (line item' ∷ ys) → (item ≡ item') × (text_of xs ≡ text_of ys))
       → Same items items' xs ys
-  one_item items items' item item' xs ys is is' e fixes =
-      let texts_same : text_of (line item ∷ xs) ≡ text_of (line item' ∷ ys) =
-      ap (λ (all : List Shown). text_of (map line all ++ xs)) (sym is) ∙ e
-      ∙ ap (λ (all : List Shown). text_of (map line all ++ ys)) is' in
-      let parts = fixes texts_same in
-      (is ∙ (ap (λ (it : Shown). it ∷ []) parts.0 ∙ sym is'), parts.1)
+  one_item items items' item item' xs ys is is' e fixes = grind (arith, text_of)
 
   one_bounded : (items : List Shown) (item : Shown) → items ≡ item ∷ [] → AreBounded items → IsBounded item
   one_bounded items item is bounded = (subst AreBounded is bounded).0
@@ -241,14 +215,7 @@ module _ (script : Script) (histories : List AnyHistory) (small : (on : StrNo) �
           let bits : bit ≡ bit' = same_bit k bit bit' parts.0 in
           let ats : at ≡ at' = parts.1 in
           (cc, parts.2))
-      by_test false is is' =
-          one_item items items' (shown.BadIndex on index false form.vector)
-          (shown.BadIndex on index false form.vector) xs ys is is' e
-          (λ same. (
-            refl,
-            append_cancel_left (line (shown.BadIndex on index false form.vector) ++ 10 ∷ [])
-                (text_of xs) (text_of ys) same,
-          ))
+      by_test false is is' = grind (arith, one_item, append_cancel_left, text_of)
 
   word_same : (form : StrForm) (on : StrNo) (word : ℕ) (items items' : List Shown) (xs ys : List (List ℕ))
       → ShowsWord form on word items → ShowsWord form on word items'
@@ -279,14 +246,7 @@ module _ (script : Script) (histories : List AnyHistory) (small : (on : StrNo) �
           let values : bits ≡ bits' = same_digits 32 bits bits' low.0 low'.0 parts.0 in
           let ats : at ≡ at' = parts.1 in
           (cc, parts.2))
-      by_test false is is' =
-          one_item items items' (shown.BadIndex on word true form.vector)
-          (shown.BadIndex on word true form.vector) xs ys is is' e
-          (λ same. (
-            refl,
-            append_cancel_left (line (shown.BadIndex on word true form.vector) ++ 10 ∷ [])
-                (text_of xs) (text_of ys) same,
-          ))
+      by_test false is is' = grind (arith, one_item, append_cancel_left, text_of)
 
   posted_same : (on : StrNo) (sure sure' : ℕ) (items items' : List Shown) (xs ys : List (List ℕ))
       → items ≡ shown.Posted on sure ∷ [] → items' ≡ shown.Posted on sure' ∷ []
@@ -344,17 +304,13 @@ module _ (script : Script) (histories : List AnyHistory) (small : (on : StrNo) �
   -- the text of items in two parts
   parted : (first others : List Shown) (xs : List (List ℕ))
       → text_of (map line (first ++ others) ++ xs) ≡ text_of (map line first ++ (map line others ++ xs))
-  parted first others xs =
-      ap (λ (ls : List (List ℕ)). text_of (ls ++ xs)) (map-append line first others)
-      ∙ ap text_of (append_assoc (map line first) (map line others) xs)
+  parted first others xs = grind (arith, text_of, map-append, append_assoc)
 
   two_parts : (first first' others others' items items' : List Shown) (xs ys : List (List ℕ))
       → items ≡ first ++ others
       → items' ≡ first' ++ others' → text_of (map line items ++ xs) ≡ text_of (map line items' ++ ys)
       → text_of (map line first ++ (map line others ++ xs)) ≡ text_of (map line first' ++ (map line others' ++ ys))
-  two_parts first first' others others' items items' xs ys is is' e =
-      sym (parted first others xs) ∙ ap (λ (all : List Shown). text_of (map line all ++ xs)) (sym is) ∙ e
-      ∙ ap (λ (all : List Shown). text_of (map line all ++ ys)) is' ∙ parted first' others' ys
+  two_parts first first' others others' items items' xs ys is is' e = grind (arith, parted, text_of)
 
   both_parts : (first first' others others' items items' : List Shown) → items ≡ first ++ others
       → items' ≡ first' ++ others'
@@ -366,18 +322,12 @@ module _ (script : Script) (histories : List AnyHistory) (small : (on : StrNo) �
       → ShowsLines script.structures histories lines items → ShowsLines script.structures histories lines items'
       → AreBounded items → AreBounded items'
       → text_of (map line items ++ xs) ≡ text_of (map line items' ++ ys) → Same items items' xs ys
-  lines_same [] items items' xs ys shows shows' bounded bounded' e = (
-    shows ∙ sym shows',
-    ap (λ (all : List Shown). text_of (map line all ++ xs)) (sym shows) ∙ e
-        ∙ ap (λ (all : List Shown). text_of (map line all ++ ys)) shows',
-  )
+  lines_same [] items items' xs ys shows shows' bounded bounded' e = grind (arith, text_of)
   lines_same (one ∷ lines) items items' xs ys (form, (first, (others, known, split, shows, more)))
       (form', (first', (others', known', split', shows', more'))) bounded bounded' e =
       let both : Some form' ≡ Some form = sym known' ∙ known in
       let same_form : form' ≡ form = cc in
-      let here' : ShowsAct form (calls_on histories one.on) one.by one.on one.retry one.act first' =
-      subst (λ (f : StrForm). ShowsAct f
-      (calls_on histories one.on) one.by one.on one.retry one.act first') same_form shows' in
+      let here' : ShowsAct form (calls_on histories one.on) one.by one.on one.retry one.act first' = grind arith in
       let all : AreBounded (first ++ others) = subst AreBounded split bounded in
       let all' : AreBounded (first' ++ others') = subst AreBounded split' bounded' in
       let here = act_same form one.by one.on one.retry one.act first first' (map line others ++ xs)
@@ -407,21 +357,13 @@ module _ (script : Script) (histories : List AnyHistory) (small : (on : StrNo) �
           (step.Call 0) items') (items' ≡ [])
           → Same items items' xs ys
       by_link true runs runs' = runs_same form.kind _ conn on (step.Call 0) items items' xs ys runs runs' e
-      by_link false none none' = (
-        none ∙ sym none',
-        ap (λ (all : List Shown). text_of (map line all ++ xs)) (sym none) ∙ e
-            ∙ ap (λ (all : List Shown). text_of (map line all ++ ys)) none',
-      )
+      by_link false none none' = grind (arith, text_of)
 
   closings_same : (conn : ConnId) (on : ℕ) (forms : List StrForm) (before items items' : List Shown)
       (xs ys : List (List ℕ))
       → ShowsClosings histories conn on forms before items → ShowsClosings histories conn on forms before items'
       → text_of (map line items ++ xs) ≡ text_of (map line items' ++ ys) → Same items items' xs ys
-  closings_same conn on [] before items items' xs ys shows shows' e = (
-    shows ∙ sym shows',
-    ap (λ (all : List Shown). text_of (map line all ++ xs)) (sym shows) ∙ e
-        ∙ ap (λ (all : List Shown). text_of (map line all ++ ys)) shows',
-  )
+  closings_same conn on [] before items items' xs ys shows shows' e = grind (arith, text_of)
   closings_same conn on (form ∷ forms) before items items' xs ys (first, (others, split, shows, more))
       (first', (others', split', shows', more')) e =
       let here = closing_same form conn (record { 0 = on }) before first first' (map line others ++ xs)
@@ -446,13 +388,7 @@ module _ (script : Script) (histories : List AnyHistory) (small : (on : StrNo) �
       (two_parts follows.during follows'.during follows.after follows'.after items items' xs ys follows.shows
       follows'.shows e) in
       let last = departs (conn.0 == 0) follows.closings
-      (subst (λ (during : List Shown). MatchBool (conn.0 == 0) (follows'.after ≡ [])
-      (ShowsClosings histories conn 0 script.structures during follows'.after))
-      (sym first.0) follows'.closings) first.1 in (
-        both_parts follows.during follows'.during follows.after follows'.after items items' follows.shows
-            follows'.shows first.0 last.0,
-        last.1,
-      )
+      (grind arith) first.1 in (grind (arith, both_parts))
     where
       departs : (b : Bool)
           → MatchBool b (follows.after ≡ [])
@@ -461,10 +397,6 @@ module _ (script : Script) (histories : List AnyHistory) (small : (on : StrNo) �
           (ShowsClosings histories conn 0 script.structures follows.during follows'.after)
           → text_of (map line follows.after ++ xs) ≡ text_of (map line follows'.after ++ ys)
           → Same follows.after follows'.after xs ys
-      departs true none none' f = (
-        none ∙ sym none',
-        ap (λ (rest : List Shown). text_of (map line rest ++ xs)) (sym none) ∙ f
-            ∙ ap (λ (rest : List Shown). text_of (map line rest ++ ys)) none',
-      )
+      departs true none none' f = grind (arith, text_of)
       departs false shows shows' f =
           closings_same conn 0 script.structures follows.during follows.after follows'.after xs ys shows shows' f

@@ -1,17 +1,10 @@
 -- Where the links of what is no facility answered nothing, each mark names a facility.
-use Rattle.run_laws.proofs.Imports.{◌≡◌, ℕ, ◌+◌, ◌≤◌, ◌<◌, ◌==◌, ◌⊎◌, inl, inr, Bool, true, false, List, [], ◌∷◌, length, refl, sym, ap, ◌∙◌, arith, filter, if◌then◌else◌, cases_lt, nat_tests, IsFacility, StrForm, CfId, What, Entry, is_mark_as, marks_at, trues, marks_counted, cache_meaning, list_meaning, lock_meaning, AnyHistory, IsAnyLegal, any_answers, NamesFacility, NamesFacilities, MarksFacilities}
+use Rattle.run_laws.proofs.Imports.{◌≡◌, ◌+◌, ◌≤◌, ◌<◌, ◌==◌, ◌⊎◌, inl, inr, Bool, true, false, List, [], ◌∷◌, refl, ap, ◌∙◌, arith, if◌then◌else◌, cases_lt, nat_tests, IsFacility, StrForm, CfId, What, Entry, is_mark_as, marks_at, trues, marks_counted, cache_meaning, list_meaning, lock_meaning, AnyHistory, IsAnyLegal, any_answers, NamesFacility, NamesFacilities, MarksFacilities}
 use Rattle.plex_board.specs.EngineApi.declared.asks.What.TheVariants as what
 use Rattle.plex_board.specs.PlexScript.declared.asks.AnyHistory.TheVariants as history
 
 facility_or : (cf : CfId) → IsFacility cf ⊎ (¬ IsFacility cf)
-facility_or cf =
-    elim (cases_lt cf.0 1) [
-      | inl low ↦ inr (λ (it : IsFacility cf). (let one : 1 ≤ cf.0 = it.0 in omega arith))
-      | inr high ↦ elim (cases_lt 4 cf.0) [
-        | inl above ↦ inr (λ (it : IsFacility cf). (let four : cf.0 ≤ 4 = it.1 in omega arith))
-        | inr within ↦ inl (high, within)
-      ]
-    ]
+facility_or cf = grind (arith, cases_lt)
 
 -- no mark of what is no facility
 abbrev NoOther : {C R : Type 0} → List (Entry C R) → Type 0
@@ -25,11 +18,7 @@ module _ {C R : Type 0} where
   more_marks entry entries cf false is = rw is (omega arith)
 
   rest_none : (entry : Entry C R) (entries : List (Entry C R)) → NoOther (entry ∷ entries) → NoOther entries
-  rest_none entry entries none cf other = go (is_mark_as cf entry.what) refl
-    where
-      go : (b : Bool) → is_mark_as cf entry.what ≡ b → marks_at entries cf ≡ 0
-      go true is = let all = more_marks entry entries cf true is in omega (arith, all, none cf other)
-      go false is = let all = more_marks entry entries cf false is in omega (arith, all, none cf other)
+  rest_none entry entries none cf other = grind (arith, more_marks)
 
   first_named : (entry : Entry C R) (entries : List (Entry C R)) (told : What C) → entry.what ≡ told
       → NoOther (entry ∷ entries) → NamesFacility told

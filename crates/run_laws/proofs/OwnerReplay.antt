@@ -1,9 +1,6 @@
 -- After every history, and after every command, any two owners of one resource are compatible.
-use Rattle.run_laws.proofs.Imports.{◌≡◌, ℕ, ◌+◌, ◌≤◌, nat_le, Bool, true, false, IsTrue, cond, List, [], ◌∷◌, Option, None, Some, refl, sym, ap, subst, arith, fold, list_all, nat_tests, Caps, StrForm, LockCmd, Obtain, Alter, Release, Decide, RtRead, RtDelete, ConnId, Refusal, RecordsFull, Held, new_held, answer, first_refusal, unless_refused, IsQueue, AreInterests, OwnersAreCompatible, is_due, records_in, lock_meaning, departure_of, with_returned, records_refusal, none_hold, led_departed, content-returned, compatible-interests, IsKept, kept-replay, Returns, LockHistory}
+use Rattle.run_laws.proofs.Imports.{◌≡◌, ℕ, ◌+◌, ◌≤◌, nat_le, Bool, true, false, IsTrue, cond, List, [], ◌∷◌, Option, None, Some, refl, sym, subst, arith, fold, list_all, nat_tests, Caps, StrForm, LockCmd, Obtain, Alter, Release, Decide, RtRead, RtDelete, ConnId, Refusal, Held, new_held, answer, first_refusal, IsQueue, AreInterests, OwnersAreCompatible, is_due, records_in, lock_meaning, departure_of, with_returned, records_refusal, none_hold, led_departed, content-returned, compatible-interests, IsKept, kept-replay, Returns, LockHistory}
 use Rattle.plex_board.specs.LockModel.Contents.{Content, IsContent, no_content}
-use Rattle.plex_board.specs.LockModel.Requests as requests
-use Rattle.plex_board.specs.LockModel.Commands.Obtain as obtain
-use Rattle.plex_board.specs.LockModel.Commands.Alter as alter
 use Rattle.plex_board.specs.LockModel.Step.{cause, done}
 use Rattle.plex_board.proofs.LockModel.CommandLaws.{content-done}
 use Rattle.plex_board.proofs.LockModel.EngineLaws.{content-nothing}
@@ -49,26 +46,15 @@ passed false refusal h = absurd (cc)
 
 records_more : (caps more : Caps) (content : Content) → caps.elements ≤ more.elements
     → records_refusal caps content ≡ None → records_refusal more content ≡ None
-records_more caps more content h none =
-    ap (λ (b : Bool). cond b None (Some (RecordsFull more.elements)))
-    (few_more (records_in content) caps.elements more.elements h
-    (passed (nat_le (records_in content) caps.elements) (RecordsFull caps.elements) none))
+records_more caps more content h none = grind (arith, few_more, passed)
 
 none_of : (a b c : Option Refusal) → a ≡ None → b ≡ None → c ≡ None → first_refusal (a ∷ b ∷ c ∷ []) ≡ None
 none_of a b c e f g i = first_refusal (e i ∷ f i ∷ g i ∷ [])
 
 cause_more : (caps more : Caps) (content : Content) (by : ConnId) (cmd : LockCmd) → caps.elements ≤ more.elements
     → cause caps content by cmd ≡ None → cause more content by cmd ≡ None
-cause_more caps more content by (Obtain r excl rec) h none =
-    let w = obtain.request by r excl rec in
-    let asked = requests.content_asked (obtain.at_once w content) w content in
-    let causes = none_hold (obtain.causes caps w content) none in
-    none_of _ _ (records_refusal more asked) causes.0 causes.1.0 (records_more caps more asked h causes.1.1.0)
-cause_more caps more content by (Alter r excl rec) h none =
-    let w = alter.request by r excl rec in
-    let asked = requests.content_asked (alter.at_once w content) w content in
-    let causes = none_hold (alter.causes caps w content) none in
-    none_of _ _ (records_refusal more asked) causes.0 causes.1.0 (records_more caps more asked h causes.1.1.0)
+cause_more caps more content by (Obtain r excl rec) h none = grind (arith, none_hold, none_of, records_more)
+cause_more caps more content by (Alter r excl rec) h none = grind (arith, none_hold, none_of, records_more)
 cause_more caps more content by (Release r) h none = none
 cause_more caps more content by (Decide r conn how) h none = none
 cause_more caps more content by (RtRead conn) h none = none
@@ -120,12 +106,7 @@ owners-replay form history =
 
 locks_answered : (held : Held Content) (by : ConnId) (cmd : LockCmd) → AreLocks held.state
     → AreLocks (answer lock_meaning held by cmd).held.state
-locks_answered held by cmd are = go (cause held.caps held.state by cmd) refl
-  where
-    go : (refused : Option Refusal) → cause held.caps held.state by cmd ≡ refused
-        → AreLocks (unless_refused refused held.state (done held.state by cmd)).state
-    go None none = locks_done held.caps held.state by cmd none are
-    go (Some refusal) some = are
+locks_answered held by cmd are = grind (arith, locks_done)
 
 locks_after : (held : Held Content) (deed : Deed) → AreLocks held.state → AreLocks (after_deed held deed).state
 locks_after held (Calls by cmd) are = locks_answered held by cmd are

@@ -1,5 +1,5 @@
 -- A page that was written as changed and isn't cast out is kept.
-use Rattle.run_laws.proofs.Imports.{◌≡◌, ℕ, Bool, true, false, ◌&&◌, ◌||◌, cond, List, [], ◌∷◌, ◌++◌, Option, None, Some, is_some, unwrap_or, option_map, append_assoc, append-nil, refl, sym, ap, ◌∙◌, subst, option_and_then, list_any, false≢true, or_parts, CacheCmd, Read, Write, Castout, Unlock, Delete, CacheReply, Caps, StrForm, Name16, ConnId, Refusal, same_name, Ask, What, replay, next_entry, next_mark, IsNextAs, Continues, Machine, step, unless, content_done, content_reply, unless_refused, content_cause, replay-push, continues_legal, same_name-eq, CacheItem, Content, IsOrderly, cache_meaning, row_of, Deed, after_deed, Calls, Leaves, Forgets, cause, done, Uncast, Uncasts, uncast_cast, uncast_unlocked, uncast_unless, uncast_after, Kept, AllKept, deed-kept, accepted_as, Move, stands_in, Same, Left, Returned, Forgotten, Cleared, shell_change, loss_change, CacheEntry, CacheHistory, Accepted, acceptance_of, is_accepted, is_allocated, IsLegalCache, StaysAllocated, content_after, Page, page_in, page_written, is_changed_write, deletes, casts_out, unlocks, HasNone, is_cast_out, IsUncast, HasPage, IsAnswered}
+use Rattle.run_laws.proofs.Imports.{arith, ◌≡◌, ℕ, Bool, true, false, ◌&&◌, ◌||◌, cond, List, [], ◌∷◌, ◌++◌, Option, None, Some, is_some, unwrap_or, option_map, append_assoc, append-nil, refl, sym, ap, ◌∙◌, subst, option_and_then, list_any, false≢true, or_parts, CacheCmd, Read, Write, Castout, Unlock, Delete, CacheReply, Caps, StrForm, Name16, ConnId, Refusal, same_name, Ask, What, replay, next_entry, next_mark, IsNextAs, Continues, Machine, step, unless, content_done, content_reply, unless_refused, content_cause, replay-push, continues_legal, same_name-eq, CacheItem, Content, IsOrderly, cache_meaning, row_of, Deed, after_deed, Calls, Leaves, cause, done, Uncast, Uncasts, uncast_cast, uncast_unlocked, uncast_unless, uncast_after, Kept, AllKept, deed-kept, accepted_as, Move, stands_in, Same, Left, Returned, Forgotten, Cleared, shell_change, loss_change, CacheEntry, CacheHistory, Accepted, acceptance_of, is_accepted, is_allocated, IsLegalCache, StaysAllocated, content_after, Page, page_in, page_written, is_changed_write, deletes, casts_out, unlocks, HasNone, is_cast_out, IsUncast, HasPage, IsAnswered}
 use Rattle.plex_board.specs.EngineApi.declared.asks.Ask.TheVariants as ask
 use Rattle.plex_board.specs.EngineApi.declared.asks.What.TheVariants as what
 use Rattle.run_laws.proofs.Allocated.{stands-content}
@@ -24,13 +24,7 @@ keeps_deed : (vector : ℕ) (caps : Caps) (before after : Content) (name : Name1
     → after ≡ after_deed vector caps before deed
     → uncast_after vector caps before uncast deed name ≡ Some (uncast_page page cast)
     → Keeps after name page cast
-keeps_deed vector caps before after name page cast uncast deed is all then own =
-    record {
-      uncast = uncast_after vector caps before uncast deed;
-      all = subst (λ (c : Content). AllKept c (uncast_after vector caps before uncast deed)) (sym then)
-          (deed-kept vector caps before uncast deed is.directory all);
-      own = own;
-    }
+keeps_deed vector caps before after name page cast uncast deed is all then own = grind (arith, AllKept, deed-kept)
 
 -- ---- the changed WRITE
 
@@ -49,10 +43,7 @@ written_told : (name n : Name16) (body : List ℕ) (class : ℕ) (adj : Option (
     → cond s (Some (record { body = body; adj = adj; class = class })) None ≡ Some page
     → cond s (Some (record { body = body; adj = adj; class = class; cast = false })) old ≡ Some
     (uncast_page page false)
-written_told name n body class adj page old true e =
-    let first : Page = record { body = body; adj = adj; class = class } in
-    let same : first ≡ page = cc in
-    ap (λ (p : Page). Some (uncast_page p false)) same
+written_told name n body class adj page old true e = grind arith
 written_told name n body class adj page old false e = absurd cc
 
 page_told : (cmd : CacheCmd) (name : Name16) (page : Page) (uncast : Uncasts) → page_in name cmd ≡ Some page
@@ -146,9 +137,7 @@ spared_done (Castout n) answer name page cast uncast is spares =
 spared_done (Unlock n) answer name page cast uncast is spares =
     own_name name n uncast uncast_unlocked (same_name n name) refl (Some (uncast_page page cast))
     (λ e. ap uncast_unlocked is ∙ still_uncast page cast (same_name n name) spares.unlock e) (λ e. is)
-spared_done (Delete n) answer name page cast uncast is spares =
-    own_name name n uncast (λ o. None) (same_name n name) refl (Some (uncast_page page cast))
-    (λ e. absurd (false≢true (sym spares.delete ∙ e))) (λ e. is)
+spared_done (Delete n) answer name page cast uncast is spares = grind (arith, own_name, false≢true)
 spared_done _ answer name page cast uncast is spares = is
 
 spared_told : (caps : Caps) (content : Content) (by : ConnId) (cmd : CacheCmd) (name : Name16) (page : Page)
@@ -181,9 +170,7 @@ keeps_move form before after by told name page cast (Left who command asked leav
     keeps.all e keeps.own
 keeps_move form before after by told name page cast (Returned keep asked e) is stood stands keeps =
     subst (λ (c : Content). Keeps c name page cast) (sym e) keeps
-keeps_move form before after by told name page cast (Forgotten e) is stood stands keeps =
-    keeps_deed form.vector form.caps before.content after.content name page cast keeps.uncast Forgets is keeps.all e
-    keeps.own
+keeps_move form before after by told name page cast (Forgotten e) is stood stands keeps = grind (arith, keeps_deed)
 keeps_move form before after by told name page cast (Cleared e gone) is stood stands keeps =
     absurd (both_stand (stands_in before) (stands_in after) stood stands gone)
 
@@ -223,9 +210,7 @@ wrote_next : (form : StrForm) (history : CacheHistory) (entry : CacheEntry) (tol
     (page : Page)
     → IsNextAs cache_meaning form history entry told → page_written name entry ≡ Some page
     → HasKept form (history ++ entry ∷ []) name page false
-wrote_next form history entry (what.Lost cf) name page is =
-    subst (λ (e : CacheEntry). page_written name e ≡ Some page → HasKept form (history ++ e ∷ []) name page false)
-    (sym is) (λ wrote. absurd cc)
+wrote_next form history entry (what.Lost cf) name page is = grind arith
 wrote_next form history entry (what.Call asked) name page is =
     let machine : Machine Content = replay cache_meaning form history in
     let added : CacheEntry = next_entry cache_meaning form history entry.by asked in
@@ -247,21 +232,14 @@ kept_next form history entry (what.Lost cf) name page cast is stood keeps =
     let pushed = replay-push cache_meaning form history added in
     subst (λ (e : CacheEntry). Spares name (acceptance_of e) cast → is_allocated form (history ++ e ∷ []) ≡ true
     → HasKept form (history ++ e ∷ []) name page (cast_then name (acceptance_of e) cast)) (sym is)
-    (λ spares stands. subst (λ (m : Machine Content). Keeps m.content name page cast) (sym pushed)
-    (keeps_move form machine _ added.by (what.Lost cf) name page cast
-    (loss_change cache_meaning form refl machine added.by cf) (orderly-replay form history) stood
-    (subst (λ (m : Machine Content). stands_in m ≡ true) pushed stands) keeps))
+    (grind (arith, keeps_move, loss_change, orderly-replay, stands_in))
 kept_next form history entry (what.Call asked) name page cast is stood keeps =
     let machine : Machine Content = replay cache_meaning form history in
     let added : CacheEntry = next_entry cache_meaning form history entry.by asked in
     let pushed = replay-push cache_meaning form history added in
     subst (λ (e : CacheEntry). Spares name (acceptance_of e) cast → is_allocated form (history ++ e ∷ []) ≡ true
     → HasKept form (history ++ e ∷ []) name page (cast_then name (acceptance_of e) cast)) (sym is)
-    (λ spares stands. subst (λ (m : Machine Content). Keeps m.content name page
-    (cast_then name (acceptance_of added) cast))
-    (sym pushed)
-    (keeps_step form machine entry.by asked name page cast spares (orderly-replay form history) stood
-    (subst (λ (m : Machine Content). stands_in m ≡ true) pushed stands) keeps))
+    (grind (arith, keeps_step, orderly-replay, stands_in))
 
 -- no UNLOCK comes after the CASTOUT
 no_unlock : (casts cast unlock any : Bool) → casts && any ≡ false → (cast ≡ true → unlock || any ≡ false)
@@ -284,23 +262,12 @@ kept_along form history (entry ∷ since) name page cast goes keeps stood writes
     let delete = or_parts (is_accepted (deletes name) entry) (list_any (is_accepted (deletes name)) since) deletes' in
     let casting = or_parts (is_accepted (casts_out name) entry && list_any (is_accepted (unlocks name)) since)
     (is_cast_out name since) out in
-    let spares : Spares name (acceptance_of entry) cast = record {
-      write = write.0;
-      delete = delete.0;
-      unlock = λ e. (or_parts (is_accepted (unlocks name) entry) (list_any (is_accepted (unlocks name)) since)
-          (unlocks' e)).0;
-    } in
+    let spares : Spares name (acceptance_of entry) cast = grind (arith, or_parts) in
     let next = kept_next form history entry entry.what name page cast goes.0 stood keeps spares stays.0 in
     let rest = kept_along form (history ++ entry ∷ []) since name page
     (cast_then name (acceptance_of entry) cast) goes.1 next stays.0
     write.1 delete.1 stays.1 casting.1
-    (no_unlock (is_accepted (casts_out name) entry) cast (is_accepted (unlocks name) entry)
-    (list_any (is_accepted (unlocks name)) since)
-    casting.0 unlocks') in (
-      rest.0,
-      subst (λ (h : CacheHistory). HasKept form h name page rest.0)
-          (append_assoc history (entry ∷ []) since) rest.1,
-    )
+    (grind (arith, no_unlock)) in (grind (arith, append_assoc))
 
 -- ---- the row
 
@@ -315,9 +282,7 @@ row_kept form history name page cast (Some row) there kept =
 page_kept : (form : StrForm) (history : CacheHistory) (name : Name16) (page : Page) (cast : Bool)
     → HasKept form history name page cast
     → HasPage form history name page
-page_kept form history name page cast keeps =
-    row_kept form history name page cast (row_of name (content_after form history).rows) refl
-    (subst (λ (o : Option Uncast). Kept (row_of name (content_after form history).rows) o) keeps.own (keeps.all name))
+page_kept form history name page cast keeps = grind (arith, row_kept)
 
 -- ---- the law
 
@@ -343,9 +308,7 @@ allocated_step form history by (ask.Content cmd) told =
 allocated_next : (form : StrForm) (history : CacheHistory) (entry : CacheEntry) (told : What CacheCmd)
     → IsNextAs cache_meaning form history entry told → is_some (acceptance_of entry) ≡ true
     → is_allocated form (history ++ entry ∷ []) ≡ true
-allocated_next form history entry (what.Lost cf) is =
-    subst (λ (e : CacheEntry). is_some (acceptance_of e) ≡ true → is_allocated form (history ++ e ∷ []) ≡ true) (sym is)
-    (λ told. absurd (false≢true told))
+allocated_next form history entry (what.Lost cf) is = grind (arith, false≢true)
 allocated_next form history entry (what.Call asked) is =
     let added : CacheEntry = next_entry cache_meaning form history entry.by asked in
     subst (λ (e : CacheEntry). is_some (acceptance_of e) ≡ true → is_allocated form (history ++ e ∷ []) ≡ true) (sym is)
@@ -364,8 +327,7 @@ continues_behind : (form : StrForm) (history front others : CacheHistory)
 continues_behind form history [] others goes =
     subst (λ (h : CacheHistory). Continues cache_meaning form h others) (sym (append-nil history)) goes
 continues_behind form history (entry ∷ front) others goes =
-    subst (λ (h : CacheHistory). Continues cache_meaning form h others) (append_assoc history (entry ∷ []) front)
-    (continues_behind form (history ++ entry ∷ []) front others goes.1)
+    grind (arith, append_assoc, continues_behind form (history ++ entry ∷ []) front others goes.1)
 
 kept_since : (form : StrForm) (before since : CacheHistory) (write : CacheEntry) (name : Name16) (page : Page)
     → IsLegalCache form (before ++ write ∷ since) → page_written name write ≡ Some page
@@ -390,10 +352,7 @@ kept_since form before since write name page legal wrote last not_deleted alloca
 pub uncast-kept : (form : StrForm) (history : CacheHistory) → IsLegalCache form history
     → (name : Name16) (page : Page)
     → IsUncast form history name page → HasPage form history name page
-uncast-kept form history legal name page uncast =
-    subst (λ (h : CacheHistory). HasPage form h name page) (sym uncast.split)
-    (kept_since form uncast.before uncast.since uncast.write name page (subst (IsLegalCache form) uncast.split legal)
-    uncast.wrote uncast.last uncast.not_deleted uncast.allocated uncast.not_cast_out)
+uncast-kept form history legal name page uncast = grind (arith, kept_since)
 
 -- and whoever reads it or casts it out is answered with it
 pub uncast-answered : (form : StrForm) (history : CacheHistory) → IsLegalCache form history → (name : Name16)

@@ -1,5 +1,5 @@
 -- A transcript that follows a script tells, for each structure, that the caller's calls there are its works.
-use Rattle.run_laws.proofs.Imports.{◌≡◌, ℕ, ◌+◌, ◌<◌, ◌==◌, Bool, true, false, List, [], ◌∷◌, ◌++◌, map, filter, cond, Option, Some, None, inl, inr, ◌⊎◌, suc, slice_get, refl, sym, ap, subst, ◌∙◌, arith, append_assoc, append-nil, MatchBool, nat_tests, filter_map-append, Kind, StrForm, ConnId, StrNo, Told, Step, AnyHistory, AnyAsk, Act, Line, Script, Shown, first_step, step_after, asked_by, shell_ask, call_of, AnyCall, call_numbered, calls_on, IsHeard, Runs, ShowsAct, ShowsLines, ShowsClosing, ShowsClosings, Follows, lines_of, number_on, numbers_on, is_linked_by, test_numbers, word_numbers, runs_elsewhere}
+use Rattle.run_laws.proofs.Imports.{◌≡◌, ℕ, ◌+◌, ◌<◌, ◌==◌, Bool, true, false, List, [], ◌∷◌, ◌++◌, map, filter, cond, Option, Some, None, inl, inr, ◌⊎◌, suc, slice_get, refl, sym, ap, subst, ◌∙◌, arith, append_assoc, append-nil, MatchBool, nat_tests, filter_map-append, Kind, StrForm, ConnId, StrNo, Told, Step, AnyHistory, AnyAsk, Act, Line, Script, Shown, first_step, step_after, shell_ask, call_of, AnyCall, call_numbered, calls_on, IsHeard, Runs, ShowsAct, ShowsLines, ShowsClosing, ShowsClosings, Follows, lines_of, number_on, numbers_on, test_numbers, word_numbers, runs_elsewhere}
 use Rattle.plex_board.specs.CfTypes.declared.shell_commands.ShellCmd.TheVariants as cmd
 use Rattle.plex_board.specs.PlexScript.declared.agents.Step.TheVariants as step
 use Rattle.plex_board.specs.PlexScript.declared.scripts.Act.TheVariants as act
@@ -14,10 +14,7 @@ heard_is : (calls : List AnyCall) (by : ConnId) (asked : Option AnyAsk) (number 
     → IsHeard calls by asked number told → number ≡ call.no → call_numbered call.no calls ≡ Some call
     → (asked ≡ Some call.ask) × (told ≡ call.told)
 heard_is calls by None number told call is same found = absurd is
-heard_is calls by (Some asked) number told call is same found =
-    let both : Some (record { no = number; by = by; ask = asked; told = told }) ≡ Some call =
-    sym is ∙ (ap (λ (n : ℕ). call_numbered n calls) same ∙ found) in
-    (cc, cc)
+heard_is calls by (Some asked) number told call is same found = grind arith
 
 itself : (n : ℕ) → n == n ≡ true
 itself n = grind (arith, nat_tests)
@@ -48,15 +45,7 @@ runs_consume kind line calls by on now (shown.Call place number ∷ items) mine 
         → Consumes kind line now mine
     at_call [] numbers each behind = absurd
         (let wrong : number ∷ numbers_on on items ≡ [] = sym split ∙ numbers in cc)
-    at_call (call ∷ mine) numbers each behind =
-        let both : number ∷ numbers_on on items ≡ call.no ∷ map (λ (c : AnyCall). c.no) mine = sym split ∙ numbers in
-        let same : number ≡ call.no = cc in
-        let others : numbers_on on items ≡ map (λ (c : AnyCall). c.no) mine = cc in
-        let it = heard_is calls by (asked_by kind line now) number runs.0 call runs.2 same each.0 in (
-          it.0,
-          behind call mine others
-              (subst (λ (told : Told). Runs kind line calls by on (step_after now told) items) it.1 runs.3) each.1,
-        )
+    at_call (call ∷ mine) numbers each behind = grind (arith, split, heard_is)
 runs_consume kind line calls by on now (shown.Test place index bit at ∷ items) mine runs numbers each = absurd runs
 runs_consume kind line calls by on now (shown.Word place word bits at ∷ items) mine runs numbers each = absurd runs
 runs_consume kind line calls by on now
@@ -154,21 +143,12 @@ module _ (forms : List StrForm) (histories : List AnyHistory) (on : StrNo) (form
       → numbers_on on items ++ later ≡ map (λ call. call.no) own → AreHeard there own
       → (rest : List AnyCall) × (PlaysThen form.kind (map work_of (lines_at on lines)) own rest)
       × (later ≡ map (λ call. call.no) rest) × AreHeard there rest
-  lines_play [] items own later shows numbers each = (
-    own,
-    refl,
-    subst
-        (λ (is : List Shown). numbers_on on is ++ later ≡ map (λ (call : AnyCall). call.no) own) shows numbers,
-    each,
-  )
+  lines_play [] items own later shows numbers each = grind arith
   lines_play (line ∷ lines) items own later (form', (first, (others, known', split, shows, more))) numbers each =
       by_place (line.on.0 == on.0) refl (λ own' same hearing. lines_play lines others own' later more same hearing)
     where
       parted : numbers_on on first ++ (numbers_on on others ++ later) ≡ map (λ (call : AnyCall). call.no) own
-      parted =
-          sym (append_assoc (numbers_on on first) (numbers_on on others) later)
-          ∙ ap (λ (ns : List ℕ). ns ++ later) (sym (filter_map-append (number_on on) first others))
-          ∙ ap (λ (is : List Shown). numbers_on on is ++ later) (sym split) ∙ numbers
+      parted = grind (arith, append_assoc, filter_map-append)
 
       by_place : (b : Bool) → line.on.0 == on.0 ≡ b
           → ((own' : List AnyCall) → numbers_on on others ++ later ≡ map (λ (call : AnyCall). call.no) own'
@@ -185,29 +165,10 @@ module _ (forms : List StrForm) (histories : List AnyHistory) (on : StrNo) (form
           let same_form : form' ≡ form = cc in
           let parts = parts_of own (numbers_on on first) (numbers_on on others ++ later) parted in
           let hearing : AreHeard there (parts.front ++ parts.back) = subst (AreHeard there) parts.whole each in
-          let here : ShowsAct form there line.by on line.retry line.act first =
-          subst (λ (f : StrForm). ShowsAct f there line.by on line.retry line.act first) same_form
-          (subst (λ (o : StrNo). ShowsAct form'
-          (calls_on histories o) line.by o line.retry line.act first) is shows) in
+          let here : ShowsAct form there line.by on line.retry line.act first = grind arith in
           let behind = goes_on parts.back parts.second (heard_back there parts.front parts.back hearing) in (
-            behind.0,
-            (
-              parts.front,
-              (
-                parts.back,
-                parts.whole,
-                act_consumes form there line.by on line.retry line.act first parts.front here parts.first
-                    (heard_front there parts.front parts.back hearing),
-                behind.1,
-              ),
-            ),
-            behind.2,
-            behind.3,
-          )
-      by_place false apart goes_on =
-          let none : numbers_on on first ≡ [] =
-          act_elsewhere form' (calls_on histories line.on) line.by line.on on line.retry line.act first apart shows in
-          goes_on own (sym (ap (λ (ns : List ℕ). ns ++ (numbers_on on others ++ later)) none) ∙ parted) each
+          grind (arith, act_consumes, heard_front))
+      by_place false apart goes_on = grind (arith, act_elsewhere, parted)
 
 -- ---- the departure
 
@@ -215,14 +176,7 @@ module _ (forms : List StrForm) (histories : List AnyHistory) (on : StrNo) (form
 closing_elsewhere : (form : StrForm) (calls : List AnyCall) (conn : ConnId) (on other : StrNo)
     (before items : List Shown)
     → on.0 == other.0 ≡ false → ShowsClosing form calls conn on before items → numbers_on other items ≡ []
-closing_elsewhere form calls conn on other before items apart h = by_link (is_linked_by calls conn on before) h
-  where
-    by_link : (b : Bool)
-        → MatchBool b (Runs form.kind (Some (shell_ask form.kind cmd.Disconnect)) calls conn on (step.Call 0) items)
-        (items ≡ [])
-        → numbers_on other items ≡ []
-    by_link true runs = runs_elsewhere form.kind _ calls conn on other (step.Call 0) items apart runs
-    by_link false none = ap (numbers_on other) none
+closing_elsewhere form calls conn on other before items apart h = grind (arith, runs_elsewhere)
 
 -- a closing is the last work, or nothing
 closing_here : (form : StrForm) (calls : List AnyCall) (conn : ConnId) (on : StrNo) (before items : List Shown)
@@ -230,14 +184,7 @@ closing_here : (form : StrForm) (calls : List AnyCall) (conn : ConnId) (on : Str
     → ShowsClosing form calls conn on before items → numbers_on on items ≡ map (λ call. call.no) mine
     → AreHeard calls mine
     → (mine ≡ []) ⊎ Consumes form.kind (Some (shell_ask form.kind cmd.Disconnect)) (step.Call 0) mine
-closing_here form calls conn on before items mine h numbers each = by_link (is_linked_by calls conn on before) h
-  where
-    by_link : (b : Bool)
-        → MatchBool b (Runs form.kind (Some (shell_ask form.kind cmd.Disconnect)) calls conn on (step.Call 0) items)
-        (items ≡ [])
-        → (mine ≡ []) ⊎ Consumes form.kind (Some (shell_ask form.kind cmd.Disconnect)) (step.Call 0) mine
-    by_link true runs = inr (runs_consume form.kind _ calls conn on (step.Call 0) items mine runs numbers each)
-    by_link false none = inl (none_mine mine (numbers_on on items) (ap (numbers_on on) none) numbers)
+closing_here form calls conn on before items mine h numbers each = grind (arith, Consumes, runs_consume, none_mine)
 
 -- the closings at structures from a number on show nothing of one before
 closings_past : (histories : List AnyHistory) (conn : ConnId) (first : ℕ) (forms : List StrForm)
@@ -289,9 +236,7 @@ closings_play histories conn first (f ∷ fs) before items on form mine
         closings_past histories conn (first + 1) fs before others on more (omega (arith, place)) in
         let whole : numbers_on on here ≡ map (λ (call : AnyCall). call.no) mine =
         sym (append-nil (numbers_on on here)) ∙ ap (λ (ns : List ℕ). numbers_on on here ++ ns) (sym past) ∙ parted in
-        let shown_here : ShowsClosing form (calls_on histories on) conn on before here =
-        subst (λ (g : StrForm). ShowsClosing g (calls_on histories on) conn on before here) one
-        (subst (λ (o : StrNo). ShowsClosing f (calls_on histories o) conn o before here) is shows) in
+        let shown_here : ShowsClosing form (calls_on histories on) conn on before here = grind arith in
         closing_here form (calls_on histories on) conn on before here mine shown_here whole each
     by_place false apart goes_on =
         let none : numbers_on on here ≡ [] =
@@ -314,8 +259,7 @@ pub own_plays : (script : Script) (histories : List AnyHistory) (conn : ConnId) 
     → Plays form.kind (works form.kind (lines_at on (lines_of script conn))) own
 own_plays script histories conn items on form own follows known numbers each =
     let split : numbers_on on follows.during ++ numbers_on on follows.after ≡ map (λ (call : AnyCall). call.no) own =
-    sym (filter_map-append (number_on on) follows.during follows.after) ∙ ap (numbers_on on) (sym follows.shows)
-    ∙ numbers in
+    grind (arith, filter_map-append) in
     let first = lines_play script.structures histories on form known (lines_of script conn) follows.during own
     (numbers_on on follows.after) follows.lines split each in
     plays_all form.kind (map work_of (lines_at on (lines_of script conn)))
@@ -323,9 +267,7 @@ own_plays script histories conn items on form own follows known numbers each =
     (last_plays form.kind first.0 (by_caller (conn.0 == 0) first.0 first.2 first.3 follows.closings))
   where
     forms : (k : ℕ) (f : StrForm) → slice_get script.structures k ≡ Some f → 0 + k ≡ on.0 → f ≡ form
-    forms k f e same =
-        let place : k ≡ on.0 = omega (arith, same) in
-        let both : Some f ≡ Some form = sym e ∙ (ap (λ (n : ℕ). slice_get script.structures n) place ∙ known) in cc
+    forms k f e same = grind arith
 
     by_caller : (b : Bool) (rest : List AnyCall)
         → numbers_on on follows.after ≡ map (λ (call : AnyCall). call.no) rest
@@ -335,6 +277,4 @@ own_plays script histories conn items on form own follows known numbers each =
         → (rest ≡ []) ⊎ Consumes form.kind (Some (shell_ask form.kind cmd.Disconnect)) (step.Call 0) rest
     by_caller true rest same hearing none = inl
         (none_mine rest (numbers_on on follows.after) (ap (numbers_on on) none) same)
-    by_caller false rest same hearing shows =
-        closings_play histories conn 0 script.structures follows.during follows.after on form rest shows forms same
-        hearing
+    by_caller false rest same hearing shows = grind (arith, closings_play, forms)

@@ -1,5 +1,5 @@
 -- A report can be read in one way.
-use Rattle.run_laws.proofs.Imports.{◌≡◌, ℕ, zero, suc, ◌+◌, ◌≤◌, ◌<◌, ◌==◌, ◌^◌, List, [], ◌∷◌, ◌++◌, length, map, Option, Some, None, slice_get, get_or, refl, sym, ap, subst, ◌∙◌, arith, append_assoc, codes, slice_get-get_or, slice_get_within, StrForm, StrNo, AnyHistory, Script, AgentEnd, Shown, Transcript, AnyCall, any_calls, call_numbered, own_calls, calls_of, calls_on, length_on, Follows, numbers_on, Rising, calls_rise, caller_name, facility_line, connector_line, transcript_lines, shown_line, by_number, lines_each, structures_lines, histories_lines, transcripts_lines, Reading, IsReading, IsOnlyReading, report_of}
+use Rattle.run_laws.proofs.Imports.{◌≡◌, ℕ, zero, suc, ◌+◌, ◌≤◌, ◌<◌, ◌==◌, ◌^◌, List, [], ◌∷◌, ◌++◌, length, map, Option, Some, None, slice_get, get_or, refl, sym, ap, subst, ◌∙◌, arith, append_assoc, codes, slice_get-get_or, slice_get_within, StrForm, StrNo, AnyHistory, Script, Shown, Transcript, AnyCall, any_calls, call_numbered, own_calls, calls_of, calls_on, length_on, Follows, numbers_on, Rising, calls_rise, caller_name, connector_line, transcript_lines, shown_line, lines_each, structures_lines, histories_lines, transcripts_lines, Reading, IsReading, IsOnlyReading, report_of}
 use Rattle.plex_board.specs.PlexScript.declared.transcripts.AgentEnd.TheVariants as ended
 use Rattle.plex_board.specs.PlexScript.declared.transcripts.Shown.TheVariants as shown
 use Rattle.run_laws.proofs.Cuts.{text_of, same_behind, same_heading}
@@ -13,19 +13,13 @@ use Rattle.run_laws.proofs.Items.{IsBounded, AreBounded, follows_same}
 -- ---- transcripts
 
 same_transcript : (a b : Transcript) → a.items ≡ b.items → a.end ≡ b.end → a ≡ b
-same_transcript a b items ends =
-    ap (λ (i : List Shown). (let t : Transcript = record { items = i; end = a.end } in t)) items
-    ∙ ap (λ (e : AgentEnd). (let t : Transcript = record { items = b.items; end = e } in t)) ends
+same_transcript a b items ends = grind arith
 
 same_list : {X : Type 0} (x y : X) (xs ys : List X) → x ≡ y → xs ≡ ys → x ∷ xs ≡ y ∷ ys
 same_list x y xs ys first rest = ap (λ z. z ∷ xs) first ∙ ap (λ zs. y ∷ zs) rest
 
 same_reading : (a b : Reading) → a.histories ≡ b.histories → a.transcripts ≡ b.transcripts → a ≡ b
-same_reading a b histories transcripts =
-    ap (λ (h : List AnyHistory).
-    (let r : Reading = record { histories = h; transcripts = a.transcripts } in r)) histories
-    ∙ ap (λ (t : List Transcript).
-    (let r : Reading = record { histories = b.histories; transcripts = t } in r)) transcripts
+same_reading a b histories transcripts = grind arith
 
 -- from the front on
 from_front : {X : Type 0} (xs : List X) (k : ℕ) (x : X) → slice_get xs k ≡ Some x → slice_get xs (0 + k) ≡ Some x
@@ -78,10 +72,7 @@ module _ (script : Script) (reading : Reading) (is : IsReading script reading)
 
   form_at : (x : ℕ) (entries : AnyHistory) → slice_get histories x ≡ Some entries → (form : StrForm)
       × (slice_get script.structures x ≡ Some form)
-  form_at x entries there =
-      let within : x < length script.structures = omega
-      (arith, slice_get_within histories x entries there, is.structures) in
-      form_in script.structures x within
+  form_at x entries there = grind (arith, slice_get_within, form_in)
     where
       form_in : (forms : List StrForm) (x : ℕ) → x < length forms → (form : StrForm) × (slice_get forms x ≡ Some form)
       form_in [] x within = absurd (omega (arith, within))
@@ -240,9 +231,7 @@ behind_policy script one other e =
     same_behind (map connector_line script.connectors) (rest one) (rest other)
     (same_behind (structures_lines script) (map connector_line script.connectors ++ rest one)
     (map connector_line script.connectors ++ rest other)
-    (same_behind (map facility_line (by_number script.facilities))
-    (structures_lines script ++ (map connector_line script.connectors ++ rest one))
-    (structures_lines script ++ (map connector_line script.connectors ++ rest other)) e))
+    (grind (arith, same_behind)))
 
 one_reading : (script : Script) (one other : Reading) → AreApart script.connectors
     → IsReading script one
@@ -258,9 +247,7 @@ one_reading script one other apart is is' short e =
     (are_short script other is' short' 0 other.histories (from_front other.histories))
     (all_right script one is short) (all_right script other is' short')
     (behind_policy script one other e) in
-    let told' : AreTold script one.histories 0 other.transcripts =
-    subst (λ (hs : List AnyHistory). AreTold script hs 0 other.transcripts) (sym first.0)
-    (all_told script other is' short') in
+    let told' : AreTold script one.histories 0 other.transcripts = grind (arith, all_told) in
     let last = transcripts_same script one.histories (small script one short)
     (within_history script one is short)
     0 one.transcripts other.transcripts (codes "END" ∷ []) (codes "END" ∷ [])

@@ -1,5 +1,5 @@
 -- Lists whose elements are shared out by their keys: what bounds each share bounds the whole.
-use Rattle.run_laws.proofs.Imports.{◌≡◌, ℕ, zero, suc, ◌+◌, ◌≤◌, ◌<◌, ◌==◌, List, [], ◌∷◌, length, filter, sum_by, refl, ◌∙◌, arith, All, not, nat_tests, All-filter, filter_passes, length-filter_both, sum_by-filter_both, filter_swap, filter_absorbed}
+use Rattle.run_laws.proofs.Imports.{◌≡◌, ℕ, zero, suc, ◌+◌, ◌≤◌, ◌<◌, ◌==◌, List, [], ◌∷◌, length, filter, sum_by, ◌∙◌, arith, All, not, nat_tests, All-filter, filter_passes, length-filter_both, sum_by-filter_both, filter_swap, filter_absorbed}
 
 -- the elements with this key
 abbrev pub share : {X : Type 0} → (X → ℕ) → ℕ → List X → List X
@@ -17,9 +17,7 @@ sum_below more (suc n) = sum_below more n + more n
 -- another share is still there among the others
 share_kept : {X : Type 0} (key : X → ℕ) (c n : ℕ) → c < n → (xs : List X)
     → share key c (others key n xs) ≡ share key c xs
-share_kept key c n below xs =
-    filter_swap (λ x. key x == c) (λ x. not (key x == n)) xs
-    ∙ filter_absorbed (λ x. not (key x == n)) (λ x. key x == c) (λ x is. grind (arith, nat_tests)) xs
+share_kept key c n below xs = grind (arith, filter_swap, filter_absorbed, nat_tests)
 
 -- where the greatest key is left out, each key is below it
 keys_below : {X : Type 0} (key : X → ℕ) (n : ℕ) (xs : List X) → All (λ x. key x < suc n) xs
@@ -38,15 +36,13 @@ pub shares_bound : {X Y : Type 0} (key : X → ℕ) (of f : Y → ℕ) (more : �
 shares_bound key of f more zero [] ys keys each = omega arith
 shares_bound key of f more zero (x ∷ xs) ys keys each = absurd (omega (arith, keys 0 x (omega arith)))
 shares_bound key of f more (suc n) xs ys keys each =
-    let rest : length (others key n xs) ≤ sum_by f (others of n ys) + sum_below more n =
-    shares_bound key of f more n (others key n xs) (others of n ys) (keys_below key n xs keys) (λ c below.
-    let mine = share_kept key c n below xs in
-    let its = share_kept of c n below ys in
-    rw (mine, its) (each c (omega arith))) in
-    omega (
+    grind (
       arith,
-      rest,
-      each n (omega arith),
-      length-filter_both (λ x. key x == n) (λ x. not (key x == n)) (λ x. refl) xs,
-      sum_by-filter_both (λ y. of y == n) (λ y. not (of y == n)) (λ y. refl) f ys,
+      keys_below,
+      share_kept,
+      length-filter_both,
+      sum_by-filter_both,
+      shares_bound key of f more n
+          (others key n xs) (others of n ys) (keys_below key n xs keys) (λ c below. let mine = share_kept key c n below xs
+          in let its = share_kept of c n below ys in rw (mine, its) (each c (omega arith))),
     )

@@ -1,5 +1,5 @@
 -- No history and no transcript is longer than the report.
-use Rattle.run_laws.proofs.Imports.{◌≡◌, ℕ, zero, suc, ◌+◌, ◌≤◌, ◌<◌, ◌^◌, List, [], ◌∷◌, ◌++◌, length, map, Option, Some, None, slice_get, refl, ap, arith, length-append, codes, length-map, StrNo, AnyHistory, Script, Transcript, any_length, length_on, cache_words, list_words, lock_words, cache_reply_words, list_reply_words, lock_reply_words, facility_line, connector_line, entry_line, history_lines, transcript_lines, shown_line, by_number, lines_each, structures_lines, histories_lines, transcripts_lines, report_lines, Reading, report_of}
+use Rattle.run_laws.proofs.Imports.{◌≡◌, ℕ, zero, suc, ◌+◌, ◌≤◌, ◌<◌, ◌^◌, List, [], ◌∷◌, ◌++◌, length, map, Some, slice_get, arith, length-append, codes, length-map, StrNo, AnyHistory, Script, Transcript, any_length, length_on, cache_words, list_words, lock_words, cache_reply_words, list_reply_words, lock_reply_words, facility_line, connector_line, entry_line, history_lines, transcript_lines, by_number, lines_each, structures_lines, histories_lines, transcripts_lines, report_lines, Reading, report_of}
 use Rattle.plex_board.specs.PlexScript.declared.asks.AnyHistory.TheVariants as history
 use Rattle.run_laws.proofs.Cuts.{text-long}
 
@@ -17,50 +17,18 @@ history_long script n (history.Lock entries) = omega
 each_long : (script : Script) (n x : ℕ) (histories : List AnyHistory) (entries : AnyHistory)
     → slice_get histories x ≡ Some entries
     → any_length entries < length (lines_each (λ i h. history_lines script i h) n histories)
-each_long script n x [] entries e = absurd (nothing x e)
-  where
-    nothing : (x : ℕ) → slice_get [] x ≡ Some entries → ⊥
-    nothing zero e = cc
-    nothing (suc x) e = cc
-each_long script n zero (first ∷ histories) entries e =
-    let same : first ≡ entries = cc in
-    omega (
-      arith,
-      ap any_length same,
-      history_long script n first,
-      length-append (history_lines script n first) (lines_each (λ i h. history_lines script i h) (n + 1) histories),
-    )
+each_long script n x [] entries e = grind arith
+each_long script n zero (first ∷ histories) entries e = grind (arith, history_long, length-append)
 each_long script n (suc x) (first ∷ histories) entries e =
-    omega (
-      arith,
-      each_long script (n + 1) x histories entries e,
-      length-append (history_lines script n first) (lines_each (λ i h. history_lines script i h) (n + 1) histories),
-    )
+    grind (arith, length-append, each_long script (n + 1) x histories entries e)
 
 transcripts_long : (script : Script) (n c : ℕ) (transcripts : List Transcript) (transcript : Transcript)
     → slice_get transcripts c ≡ Some transcript
     → length transcript.items < length (lines_each (λ i t. transcript_lines script i t) n transcripts)
-transcripts_long script n c [] transcript e = absurd (nothing c e)
-  where
-    nothing : (c : ℕ) → slice_get [] c ≡ Some transcript → ⊥
-    nothing zero e = cc
-    nothing (suc c) e = cc
-transcripts_long script n zero (first ∷ transcripts) transcript e =
-    let same : first ≡ transcript = cc in
-    omega (
-      arith,
-      ap (λ (t : Transcript). length t.items) same,
-      length-map first.items (shown_line script),
-      length-append (transcript_lines script n first)
-          (lines_each (λ i t. transcript_lines script i t) (n + 1) transcripts),
-    )
+transcripts_long script n c [] transcript e = grind arith
+transcripts_long script n zero (first ∷ transcripts) transcript e = grind (arith, length-map, length-append)
 transcripts_long script n (suc c) (first ∷ transcripts) transcript e =
-    omega (
-      arith,
-      transcripts_long script (n + 1) c transcripts transcript e,
-      length-append (transcript_lines script n first)
-          (lines_each (λ i t. transcript_lines script i t) (n + 1) transcripts),
-    )
+    grind (arith, length-append, transcripts_long script (n + 1) c transcripts transcript e)
 
 -- ---- within the report
 
@@ -89,11 +57,7 @@ module _ (script : Script) (reading : Reading) (short : length (report_of script
   short_at x entries there = omega (arith, each_long script 0 x histories entries there, lines_within, short)
 
   pub small : (on : StrNo) → length_on histories on < 2 ^ 64
-  small on = by_place (slice_get histories on.0) refl
-    where
-      by_place : (o : Option AnyHistory) → slice_get histories on.0 ≡ o → length_on histories on < 2 ^ 64
-      by_place None e = rw e (omega arith)
-      by_place (Some entries) e = rw e (short_at on.0 entries e)
+  small on = grind (arith, short_at)
 
   -- no transcript is longer than the report
   transcripts_within : length (transcripts_lines script reading.transcripts) ≤ length (report_of script reading)

@@ -1,6 +1,5 @@
 -- A report that shows histories, whose tests tell what stood, shows numbers of at most 64 bits.
-use Rattle.run_laws.proofs.Imports.{◌≡◌, ℕ, zero, suc, ◌+◌, ◌*◌, ◌≤◌, ◌<◌, ◌==◌, ◌&&◌, ◌^◌, nat_lt, Bool, true, false, List, [], ◌∷◌, ◌++◌, length, Option, Some, None, slice_get, get_or, refl, sym, subst, arith, MatchBool, nat_tests, slice_get-get_or, slice_get_within, Kind, StrForm, ConnId, StrNo, Step, AnyHistory, AnyAsk, Act, Line, Script, AgentEnd, Shown, Transcript, first_step, step_after, shell_ask, AnyCall, any_length, calls_on, Runs, ShowsTest, ShowsWord, ShowsAct, ShowsLines, ShowsClosing, ShowsClosings, Follows, lines_of, is_linked_by, word_below, EndsRight, IsHistoryOf, ShowsHistories, Reading, ShowsNumbers, IsReading, report_of, MarksFacilities}
-use Rattle.plex_board.specs.CfTypes.declared.shell_commands.ShellCmd.TheVariants as cmd
+use Rattle.run_laws.proofs.Imports.{◌≡◌, ℕ, zero, suc, ◌+◌, ◌*◌, ◌≤◌, ◌<◌, ◌==◌, ◌&&◌, ◌^◌, nat_lt, List, [], ◌∷◌, ◌++◌, length, Option, Some, None, slice_get, get_or, sym, subst, arith, nat_tests, slice_get-get_or, slice_get_within, Kind, StrForm, ConnId, StrNo, Step, AnyHistory, AnyAsk, Act, Line, Script, Shown, Transcript, first_step, step_after, AnyCall, any_length, calls_on, Runs, ShowsTest, ShowsWord, ShowsAct, ShowsLines, ShowsClosing, ShowsClosings, Follows, word_below, IsHistoryOf, ShowsHistories, Reading, ShowsNumbers, IsReading, report_of, MarksFacilities}
 use Rattle.plex_board.specs.PlexScript.declared.agents.Step.TheVariants as step
 use Rattle.plex_board.specs.PlexScript.declared.asks.AnyHistory.TheVariants as history
 use Rattle.plex_board.specs.PlexScript.declared.scripts.Act.TheVariants as act
@@ -32,11 +31,7 @@ placed-append forms (x ∷ xs) ys h k = (h.0, placed-append forms xs ys h.1 k)
 
 placed_at : (forms : List StrForm) (items : List Shown) (k : ℕ) (item : Shown) → ArePlaced forms items
     → slice_get items k ≡ Some item → IsPlaced forms item
-placed_at forms [] k item h e = absurd (nothing k e)
-  where
-    nothing : (k : ℕ) → slice_get [] k ≡ Some item → ⊥
-    nothing zero e = cc
-    nothing (suc k) e = cc
+placed_at forms [] k item h e = grind arith
 placed_at forms (x ∷ items) zero item h e = let same : x ≡ item = cc in subst (IsPlaced forms) same h.0
 placed_at forms (x ∷ items) (suc k) item h e = placed_at forms items k item h.1 e
 
@@ -44,10 +39,8 @@ module _ (forms : List StrForm) where
   runs_placed : (k : Kind) (asked : Option AnyAsk) (calls : List AnyCall) (by : ConnId) (on : StrNo) (now : Step)
       (items : List Shown) → Runs k asked calls by on now items → ArePlaced forms items
   runs_placed k asked calls by on now [] runs = tt
-  runs_placed k asked calls by on now (shown.Call place number ∷ items) runs = (
-    tt,
-    runs_placed k asked calls by on (step_after now runs.0) items runs.3,
-  )
+  runs_placed k asked calls by on now (shown.Call place number ∷ items) runs =
+      grind (arith, runs_placed k asked calls by on (step_after now runs.0) items runs.3)
   runs_placed k asked calls by on now (shown.Test place index bit at ∷ items) runs = absurd runs
   runs_placed k asked calls by on now (shown.Word place word bits at ∷ items) runs = absurd runs
   runs_placed k asked calls by on now (shown.BadIndex place index word len ∷ items) runs = absurd runs
@@ -56,27 +49,11 @@ module _ (forms : List StrForm) where
 
   test_placed : (form : StrForm) (on : StrNo) (index : ℕ) (items : List Shown) → slice_get forms on.0 ≡ Some form
       → ShowsTest form on index items → ArePlaced forms items
-  test_placed form on index items known shows = by_test (nat_lt index form.vector) shows
-    where
-      by_test : (b : Bool)
-          → MatchBool b ((bit : Bool) × ((at : ℕ) × (items ≡ shown.Test on index bit at ∷ [])))
-          (items ≡ shown.BadIndex on index false form.vector ∷ [])
-          → ArePlaced forms items
-      by_test true (bit, (at, is)) = subst (ArePlaced forms) (sym is) ((form, known), tt)
-      by_test false is = subst (ArePlaced forms) (sym is) (tt, tt)
+  test_placed form on index items known shows = grind arith
 
   word_placed : (form : StrForm) (on : StrNo) (word : ℕ) (items : List Shown) → slice_get forms on.0 ≡ Some form
       → ShowsWord form on word items → ArePlaced forms items
-  word_placed form on word items known shows = by_test (nat_lt (32 * word) form.vector) refl shows
-    where
-      by_test : (b : Bool) → nat_lt (32 * word) form.vector ≡ b
-          → MatchBool b ((bits : ℕ) × ((at : ℕ) × (items ≡ shown.Word on word bits at ∷ [])))
-          (items ≡ shown.BadIndex on word true form.vector ∷ [])
-          → ArePlaced forms items
-      by_test true begins (bits, (at, is)) =
-          let inside : 32 * word < form.vector = grind (arith, nat_tests) in
-          subst (ArePlaced forms) (sym is) ((form, known, inside), tt)
-      by_test false past is = subst (ArePlaced forms) (sym is) (tt, tt)
+  word_placed form on word items known shows = grind (arith, nat_tests)
 
   act_placed : (form : StrForm) (calls : List AnyCall) (by : ConnId) (on : StrNo) (retry : ℕ) (done : Act)
       (items : List Shown) → slice_get forms on.0 ≡ Some form → ShowsAct form calls by on retry done items
@@ -96,22 +73,11 @@ module _ (forms : List StrForm) where
       → ShowsLines forms histories lines items → ArePlaced forms items
   lines_placed histories [] items shows = subst (ArePlaced forms) (sym shows) tt
   lines_placed histories (line ∷ lines) items (form, (first, (others, known, split, shows, more))) =
-      let here : ArePlaced forms first = act_placed form (calls_on histories line.on) line.by line.on line.retry
-      line.act first known shows in
-      subst (ArePlaced forms) (sym split)
-      (placed-append forms first others here (lines_placed histories lines others more))
+      grind (arith, act_placed, placed-append, lines_placed histories lines others more)
 
   closing_placed : (form : StrForm) (calls : List AnyCall) (conn : ConnId) (on : StrNo) (before items : List Shown)
       → ShowsClosing form calls conn on before items → ArePlaced forms items
-  closing_placed form calls conn on before items shows = by_link (is_linked_by calls conn on before) shows
-    where
-      by_link : (b : Bool)
-          → MatchBool b (Runs form.kind (Some (shell_ask form.kind cmd.Disconnect)) calls conn on (step.Call 0) items)
-          (items ≡ [])
-          → ArePlaced forms items
-      by_link true runs = runs_placed form.kind (Some (shell_ask form.kind cmd.Disconnect)) calls conn on
-          (step.Call 0) items runs
-      by_link false none = subst (ArePlaced forms) (sym none) tt
+  closing_placed form calls conn on before items shows = grind (arith, runs_placed)
 
   closings_placed : (histories : List AnyHistory) (conn : ConnId) (on : ℕ) (more : List StrForm)
       (before items : List Shown)
@@ -127,20 +93,7 @@ module _ (forms : List StrForm) where
 
 follows_placed : (script : Script) (histories : List AnyHistory) (conn : ConnId) (items : List Shown)
     → Follows script histories conn items → ArePlaced script.structures items
-follows_placed script histories conn items follows =
-    let forms = script.structures in
-    subst (ArePlaced forms) (sym follows.shows)
-    (placed-append forms follows.during follows.after
-    (lines_placed forms histories (lines_of script conn) follows.during follows.lines)
-    (departs (conn.0 == 0) follows.closings))
-  where
-    departs : (b : Bool)
-        → MatchBool b (follows.after ≡ []) (ShowsClosings histories conn 0 script.structures follows.during
-        follows.after)
-        → ArePlaced script.structures follows.after
-    departs true none = subst (ArePlaced script.structures) (sym none) tt
-    departs false shows = closings_placed script.structures histories conn 0 script.structures follows.during
-        follows.after shows
+follows_placed script histories conn items follows = grind (arith, placed-append, lines_placed, closings_placed)
 
 -- ---- what tests show
 
@@ -161,9 +114,7 @@ module _ (limit : ℕ) (script : Script) (reading : Reading)
 
   follows_of : (c : ℕ) (transcript : Transcript) → slice_get reading.transcripts c ≡ Some transcript
       → Follows script reading.histories (record { 0 = c }) transcript.items
-  follows_of c transcript there =
-      subst (λ (end : AgentEnd). EndsRight limit script reading.histories (record { 0 = c }) transcript.items end)
-      (done c transcript there) (shows.ends c transcript there)
+  follows_of c transcript there = grind arith
 
   numbers_at : (c k : ℕ) (transcript : Transcript) (item : Shown) → slice_get reading.transcripts c ≡ Some transcript
       → slice_get transcript.items k ≡ Some item → IsPlaced script.structures item → ShowsNumbers item
@@ -189,15 +140,4 @@ module _ (limit : ℕ) (script : Script) (reading : Reading)
   -- what shows histories, with every caller's work done, is a reading
   pub is_reading : ((x : ℕ) (entries : AnyHistory) → slice_get reading.histories x ≡ Some entries
       → MarksFacilities entries) → IsReading script reading
-  is_reading facilities =
-      record {
-        facilities = facilities;
-        structures = shows.structures;
-        histories_right = shows.histories_right;
-        callers = shows.callers;
-        follows = λ c transcript there. (done c transcript there, follows_of c transcript there);
-        numbers = λ c k transcript item there e. numbers_at c k transcript item there e
-            (placed_at script.structures transcript.items k item
-            (follows_placed script reading.histories (record { 0 = c }) transcript.items
-            (follows_of c transcript there)) e);
-      }
+  is_reading facilities = grind (arith, follows_of, numbers_at, placed_at, follows_placed)

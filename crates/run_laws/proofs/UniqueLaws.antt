@@ -1,6 +1,6 @@
 -- After every history rows and registrations are in order, and where they are, names, indexes and registrations are
 -- unique.
-use Rattle.run_laws.proofs.Imports.{◌≡◌, ℕ, ◌≤◌, Bool, true, false, not, ◌&&◌, ◌||◌, ◌==◌, nat_lt, cond, List, [], ◌∷◌, Option, length, filter, refl, sym, ap, ◌∙◌, subst, arith, list_all, and_parts, false≢true, nat_tests, StrForm, Name16, ConnId, Refusal, same_name, unless_refused, pairwise, list_all_weaker, none_from_all, filter_none, Registration, is_of, is_at, is_for, stands_before, names_apart as regs_apart, same_name-eq, CacheItem, is_row_of, Content, IsOrderly, no_content, cache_meaning, Calls, Leaves, Forgets, done, orderly-content, content-nothing, orderly-deed, IsKept, kept-replay, CacheHistory, content_after, IsUnique}
+use Rattle.run_laws.proofs.Imports.{◌≡◌, ℕ, ◌≤◌, Bool, true, false, not, ◌&&◌, ◌||◌, ◌==◌, nat_lt, cond, List, [], ◌∷◌, Option, length, filter, refl, sym, ap, ◌∙◌, subst, arith, list_all, and_parts, false≢true, nat_tests, StrForm, Name16, ConnId, Refusal, same_name, unless_refused, pairwise, list_all_weaker, none_from_all, filter_none, Registration, is_at, is_for, stands_before, names_apart as regs_apart, same_name-eq, CacheItem, is_row_of, Content, IsOrderly, no_content, cache_meaning, Calls, Leaves, Forgets, done, orderly-content, content-nothing, orderly-deed, IsKept, kept-replay, CacheHistory, content_after, IsUnique}
 use Rattle.plex_board.specs.CacheModel.Rows.{names_apart}
 
 -- ---- one at most
@@ -55,16 +55,7 @@ same_conn c d k e f = grind (arith, nat_tests)
 registered_once : (conn : ConnId) (name : Name16) (reg other : Registration) → is_for conn name reg ≡ true
     → regs_apart reg other ≡ true
     → not (is_for conn name other) ≡ true
-registered_once conn name reg other here apart =
-    let mine = and_parts (is_of conn reg) (same_name reg.name name) here in
-    go mine.0 mine.1 (is_of conn other) (reg.conn.0 == other.conn.0) refl refl apart
-  where
-    go : reg.conn.0 == conn.0 ≡ true → same_name reg.name name ≡ true → (of both : Bool) → is_of conn other ≡ of
-        → (reg.conn.0 == other.conn.0) ≡ both
-        → not (both && same_name reg.name other.name) ≡ true → not (of && same_name other.name name) ≡ true
-    go one same false both e f apart = refl
-    go one same true true e f apart = other_name reg.name other.name name same apart
-    go one same true false e f apart = absurd (false≢true (sym f ∙ same_conn reg.conn.0 other.conn.0 conn.0 one e))
+registered_once conn name reg other here apart = grind (arith, and_parts, other_name, false≢true, same_conn)
 
 -- ---- every history leaves rows and registrations in order
 

@@ -1,8 +1,7 @@
 -- After every legal history the version of each record is 1 plus the number of its updates.
-use Rattle.run_laws.proofs.Imports.{◌≡◌, ℕ, zero, suc, ◌+◌, ◌<◌, ◌≤◌, ◌==◌, ◌&&◌, ◌||◌, Bool, true, false, not, cond, if◌then◌else◌, List, [], ◌∷◌, ◌++◌, Option, Some, None, length, length-append, append_assoc, append-nil, filter, nat_lt, replicate, refl, sym, ap, ◌∙◌, subst, arith, fold, list_all, list_any, and_parts, and_from, or_parts, eqb-true, false≢true, nat_tests, list_all-append, list_any-append, list_all-map, length-map, map-append, fold-append, Caps, StrForm, ListCmd, Update, ReadList, LockSet, LockReset, LockTest, LControls, SetLimit, Monitor, Unmonitor, ListReply, ConnId, EntryId, Refusal, Shape, replay, Held, unless_refused, shape_of, continues_legal, list_all-filter, list_all_weaker, all_found, found_passes, list_all-insertion, insertion, Record, Lists, records_of, all_records, is_id, lists_without, replaced_by, headers_of, content_without, the_record, with_record, list_meaning, causes, the_record-in, with-all, each-records, one-records, all-without, all-map, IsTraced, traced-replay, legal-answered, ListEntry, ListHistory, told_by, told_in, IsLegalList, opened, told_reply, told_from, told_then, is_write, is_update, answers, tells, makes, updates, AreVersioned}
+use Rattle.run_laws.proofs.Imports.{◌≡◌, ℕ, zero, suc, ◌+◌, ◌<◌, ◌≤◌, ◌==◌, ◌&&◌, ◌||◌, Bool, true, false, not, cond, if◌then◌else◌, List, [], ◌∷◌, ◌++◌, Option, Some, None, length, length-append, append_assoc, append-nil, filter, nat_lt, replicate, refl, sym, ap, ◌∙◌, subst, arith, fold, list_all, list_any, and_parts, and_from, or_parts, eqb-true, false≢true, nat_tests, list_all-append, list_any-append, list_all-map, length-map, map-append, fold-append, Caps, StrForm, ListCmd, Update, ReadList, LockSet, LockReset, LockTest, LControls, SetLimit, Monitor, Unmonitor, ListReply, ConnId, EntryId, Shape, Held, shape_of, continues_legal, list_all-filter, list_all_weaker, all_found, found_passes, list_all-insertion, Record, Lists, all_records, is_id, lists_without, replaced_by, headers_of, content_without, the_record, with_record, list_meaning, causes, the_record-in, with-all, each-records, one-records, all-without, all-map, IsTraced, traced-replay, legal-answered, ListEntry, ListHistory, told_by, told_in, IsLegalList, opened, told_from, told_then, is_write, is_update, answers, tells, makes, updates, AreVersioned}
 use Rattle.plex_board.specs.CfTypes.declared.list_commands.ListCmd.TheVariants.{Write, Read, Move, Delete}
 use Rattle.plex_board.specs.ListModel.Contents.{Content, no_content}
-use Rattle.plex_board.specs.ListModel.Lists.{stands_before}
 use Rattle.plex_board.specs.ListModel.Commands.Update as update
 use Rattle.plex_board.specs.ListModel.Commands.Move as move
 use Rattle.plex_board.specs.ListModel.Commands.Write as write
@@ -28,12 +27,7 @@ count-le false false n = omega arith
 
 counts-le : (id : EntryId) (n : ℕ) (history : List Told) → fold (counted id) n history ≤ n + length history
 counts-le id n [] = omega arith
-counts-le id n (entry ∷ history) =
-    omega (
-      arith,
-      counts-le id (counted id n entry) history,
-      count-le (makes id entry) (updates id entry) n,
-    )
+counts-le id n (entry ∷ history) = grind (arith, count-le, counts-le id (counted id n entry) history)
 
 updates-push : (id : EntryId) (history : List Told) (entry : Told)
     → updates_of id (history ++ entry ∷ []) ≡ counted id (updates_of id history) entry
@@ -60,23 +54,11 @@ same_number a b e = grind (arith, nat_tests)
 
 good_parts : (history : List Told) (next : ℕ) (rec : Record) → is_good history next rec ≡ true
     → IsGood history next rec
-good_parts history next rec h =
-    let version : Bool = rec.version == 1 + updates_of rec.id history in
-    let parts = and_parts (nat_lt rec.id.0 next) (list_any (makes rec.id) history && version) h in
-    let behind_ = and_parts (list_any (makes rec.id) history) version parts.1 in
-    record {
-      given = parts.0;
-      made = behind_.0;
-      version = eqb-true rec.version (1 + updates_of rec.id history) behind_.1;
-    }
+good_parts history next rec h = grind (arith, and_parts, eqb-true)
 
 good_from : (history : List Told) (next : ℕ) (rec : Record) → IsGood history next rec
     → is_good history next rec ≡ true
-good_from history next rec is =
-    let version : Bool = rec.version == 1 + updates_of rec.id history in
-    and_from (nat_lt rec.id.0 next) (list_any (makes rec.id) history && version) is.given
-    (and_from (list_any (makes rec.id) history) version is.made
-    (same_number rec.version (1 + updates_of rec.id history) is.version))
+good_from history next rec is = grind (arith, and_from, same_number)
 
 -- the entry tells neither a WRITE nor an UPDATE of the record
 record Spares (id : EntryId) (entry : Told) : Type 0 where
@@ -111,14 +93,7 @@ good-spared : (history : List Told) (entry : Told) (next later : ℕ) (rec : Rec
     → (nat_lt rec.id.0 next ≡ true → nat_lt rec.id.0 later ≡ true)
     → is_good history next rec ≡ true → is_good (history ++ entry ∷ []) later rec ≡ true
 good-spared history entry next later rec spares given h =
-    let is = good_parts history next rec h in
-    good_from (history ++ entry ∷ []) later rec (record {
-      given = given is.given;
-      made = made_longer rec.id history entry is.made;
-      version = is.version ∙ ap (λ n. 1 + n) (sym (updates-push rec.id history entry ∙ counted_none
-          (makes rec.id entry)
-          (updates rec.id entry) (updates_of rec.id history) spares.made spares.updated));
-    })
+    grind (arith, good_parts, good_from, made_longer, updates-push, counted_none)
 
 below_most : (a n m : ℕ) → a ≡ 1 + n → n ≤ 0 + m → m + 1 < 4294967295 → nat_lt a 4294967295 ≡ true
 below_most a n m e h few = grind (arith, nat_tests)
@@ -138,29 +113,14 @@ good-updated history entry next rec body adj unmade updated few h =
     let is = good_parts history next rec h in
     let count = updates_of rec.id history in
     let low = below_most rec.version count (length history) is.version (counts-le rec.id 0 history) few in
-    good_from (history ++ entry ∷ []) next (update.with_new_data body adj rec) (record {
-      given = is.given;
-      made = made_longer rec.id history entry is.made;
-      version = risen (nat_lt rec.version 4294967295) rec.version low ∙ one_later rec.version count is.version
-          ∙ ap (λ n. 1 + n) (sym (updates-push rec.id history entry ∙ counted_one (makes rec.id entry)
-          (updates rec.id entry) count unmade updated));
-    })
+    good_from (history ++ entry ∷ []) next (update.with_new_data body adj rec) (
+    grind (arith, made_longer, risen, one_later, updates-push, counted_one))
 
 good-made : (history : List Told) (entry : Told) (next : ℕ) (rec : Record) → makes rec.id entry ≡ true
     → rec.version ≡ 1 → nat_lt rec.id.0 next ≡ true
     → is_good (history ++ entry ∷ []) next rec ≡ true
 good-made history entry next rec made first given =
-    good_from (history ++ entry ∷ []) next rec (record {
-      given = given;
-      made = made-push rec.id history entry ∙ or_last (list_any (makes rec.id) history) (makes rec.id entry) made;
-      version = first ∙ ap (λ n. 1 + n) (sym (updates-push rec.id history entry ∙ counted_new (makes rec.id entry)
-          (updates rec.id entry) (updates_of rec.id history) made));
-    })
-  where
-    or_last : (a b : Bool) → b ≡ true → a || (b || false) ≡ true
-    or_last true b e = refl
-    or_last false true e = refl
-    or_last false false e = absurd (false≢true e)
+    grind (arith, good_from, made-push, updates-push, counted_new, false≢true)
 
 -- ---- all records of a content
 
@@ -173,13 +133,7 @@ all-with_record : (p : Record → Bool) (head : Bool) (header : ℕ) (rec : Reco
     → list_all p (all_records lists) ≡ true
     → list_all p (all_records (with_record head header rec lists)) ≡ true
 all-with_record p head header rec lists e h =
-    let before = stands_before head rec in
-    let each = sym (all_flat p lists) ∙ h in
-    let records = records_of lists header in
-    all_flat p (with_record head header rec lists)
-    ∙ each-records (list_all p) lists header (insertion before rec records)
-    (list_all-insertion p before rec records ∙ and_from (p rec) (list_all p records) e
-    (one-records (list_all p) lists header refl each)) each
+    grind (arith, all_flat, each-records, list_all-insertion, and_from, one-records)
 
 all-left : (p : Record → Bool) (id : EntryId) (lists : Lists) → list_all p (all_records lists) ≡ true
     → list_all p (all_records (lists_without id lists)) ≡ true
@@ -210,11 +164,7 @@ done_as command answer = Some (record { command = command; answer = answer })
 
 dull : (entry : Told) (id : EntryId) (cmd : ListCmd) (answer : ListReply) → entry ≡ done_as cmd answer
     → is_write cmd ≡ false → is_update cmd ≡ false → Spares id entry
-dull entry id cmd answer e w u =
-    record {
-      made = ap (tells is_write id) e ∙ ap (λ b. b && answers id answer) w;
-      updated = ap (tells is_update id) e ∙ ap (λ b. b && answers id answer) u;
-    }
+dull entry id cmd answer e w u = grind arith
 
 -- the same records, none of them written or updated
 good-same : (history : List Told) (entry : Told) (next : ℕ) (recs : List Record) → ((id : EntryId) → Spares id entry)
@@ -242,12 +192,7 @@ good-written : (history : List Told) (entry : Told) (next : ℕ) (rec : Record) 
     → entry ≡ done_as cmd answer → is_update cmd ≡ false
     → ((id : EntryId) → is_write cmd && answers id answer ≡ (next == id.0))
     → is_good history next rec ≡ true → is_good (history ++ entry ∷ []) (next + 1) rec ≡ true
-good-written history entry next rec cmd answer e u own h =
-    let given = (good_parts history next rec h).given in
-    good-spared history entry next (next + 1) rec (record {
-      made = ap (tells is_write rec.id) e ∙ own rec.id ∙ apart rec.id.0 next given;
-      updated = ap (tells is_update rec.id) e ∙ ap (λ b. b && answers rec.id answer) u;
-    }) (later rec.id.0 next) h
+good-written history entry next rec cmd answer e u own h = grind (arith, good_parts, good-spared, apart, later)
 
 -- where a record is replaced by itself of the next version
 good-replaced : (history : List Told) (entry : Told) (next : ℕ) (rec other : Record) (body adj : Option (List ℕ))
@@ -262,10 +207,7 @@ good-replaced history entry next rec other body adj few unmade updated h k = go 
     go true e =
         good-updated history entry next rec body adj (unmade rec.id) (updated rec.id ∙ same rec.id.0) few h
     go false e =
-        good-spared history entry next next other (record {
-          made = unmade other.id;
-          updated = updated other.id ∙ turn rec.id.0 other.id.0 ∙ e;
-        }) (λ f. f) k
+        good-spared history entry next next other (grind (arith, turn)) (λ f. f) k
 
 done-good : (shape : Shape) (caps : Caps) (content : Content) (by : ConnId) (cmd : ListCmd) (history : List Told)
     (entry : Told) → entry ≡ done_as cmd (done content by cmd).reply
@@ -311,11 +253,7 @@ done-good shape caps content by (Move at header head key version cond) history e
     all-with_record good head header (move.with_new_key key old) (lists_without old.id content.lists)
     (with-all good old i.others all i.with_it now) (all-left good old.id content.lists now)
 done-good shape caps content by (Delete at version cond) history entry e none few h =
-    let cmd = Delete at version cond in
-    let next = content.next in
-    all-left (is_good (history ++ entry ∷ []) next) (the_record content.lists at).id content.lists
-    (good-same history entry next (all_records content.lists)
-    (λ id. dull entry id cmd (done content by cmd).reply e refl refl) h)
+    grind (arith, all-left, good-same, dull)
 done-good shape caps content by (Read at cond) history entry e none few h =
     good-same history entry content.next (all_records content.lists) (λ id. dull entry id _ _ e refl refl) h
 done-good shape caps content by (ReadList header) history entry e none few h =
@@ -340,9 +278,7 @@ quiet-good : (history : List Told) (entry : Told) (next : ℕ) (lists : Lists) �
     → (length history < 4294967295 → list_all (is_good history next) (all_records lists) ≡ true)
     → length (history ++ entry ∷ []) < 4294967295
     → list_all (is_good (history ++ entry ∷ []) next) (all_records lists) ≡ true
-quiet-good history entry next lists none is few =
-    good-same history entry next (all_records lists) (λ id. quiet entry id none)
-    (is (omega (arith, fewer history entry few)))
+quiet-good history entry next lists none is few = grind (arith, good-same, quiet, fewer)
 
 good-nothing : (history : List Told) (shape : Shape) → AreGood history (no_content shape)
 good-nothing history shape few = all-nothing (is_good history 1) (headers_of shape.kind)
@@ -356,21 +292,13 @@ longer history entry content =
 left_alone : (history : ListHistory) (entry : ListEntry) (before after : Content) → told_by entry ≡ None
     → after.lists ≡ before.lists → after.next ≡ before.next → AreGood (told_in history) before
     → AreGood (told_in (history ++ entry ∷ [])) after
-left_alone history entry before after none same_lists same_next is =
-    longer history entry after
-    (λ few. rw (same_lists, same_next) (quiet-good (told_in history) (told_by entry) before.next before.lists none is
-    few))
+left_alone history entry before after none same_lists same_next is = grind (arith, longer, quiet-good)
 
 traced : (form : StrForm) → IsTraced list_meaning form (λ history content. AreGood (told_in history) content)
 traced form =
     record {
       none = good-nothing [] (shape_of form);
-      done = λ history entry command accepted fine is.
-          let before = replay list_meaning form history in
-          longer history entry (done before.content entry.by command).state
-          (λ few. done-good (shape_of form) before.shell.caps before.content entry.by command (told_in history)
-          (told_by entry) accepted fine (fewer (told_in history) (told_by entry) few)
-          (is (omega (arith, fewer (told_in history) (told_by entry) few))));
+      done = grind (arith, longer, done-good, fewer);
       same = λ history entry content none is. left_alone history entry content content none refl refl is;
       leave = λ history entry who content none departs is.
           left_alone history entry content (content_without content who.conn who.keep) none refl refl is;
@@ -481,16 +409,7 @@ versions-replay form history legal few =
 
 deed-good : (held : Held Content) (deed : Deed) (told : List Told) → AreGood told held.state
     → AreGood (told ++ told_of held deed ∷ []) (after_deed held deed).state
-deed-good held (Calls by cmd) told are = go (cause held.shape held.caps held.state by cmd) refl
-  where
-    go : (refused : Option Refusal) → cause held.shape held.caps held.state by cmd ≡ refused
-        → AreGood (told ++ told_reply cmd (unless_refused refused held.state (done held.state by cmd)).reply ∷ [])
-        (unless_refused refused held.state (done held.state by cmd)).state
-    go None none few =
-        let answered = done_as cmd (done held.state by cmd).reply in
-        done-good held.shape held.caps held.state by cmd told answered refl none (fewer told answered few)
-        (are (omega (arith, fewer told answered few)))
-    go (Some refusal) some few = quiet-good told None held.state.next held.state.lists refl are few
+deed-good held (Calls by cmd) told are = grind (arith, done-good, fewer, quiet-good)
 deed-good held (Leaves conn keep) told are = λ few. quiet-good told None held.state.next held.state.lists refl are few
 deed-good held (Returns conn) told are = λ few. quiet-good told None held.state.next held.state.lists refl are few
 

@@ -1,5 +1,5 @@
 -- What a caller asks next of a structure, by what it was told of its calls there so far.
-use Rattle.run_laws.proofs.Imports.{◌≡◌, Bool, true, false, List, [], ◌∷◌, ◌++◌, map, Option, Some, None, inl, inr, ◌⊎◌, refl, sym, ap, subst, ◌∙◌, Kind, Step, AnyAsk, first_step, step_after, asked_by, shell_ask, call_of, AnyCall, Line}
+use Rattle.run_laws.proofs.Imports.{arith, ◌≡◌, Bool, true, false, List, [], ◌∷◌, ◌++◌, map, Option, Some, None, inl, inr, ◌⊎◌, refl, sym, ap, ◌∙◌, Kind, Step, AnyAsk, first_step, step_after, asked_by, shell_ask, call_of, AnyCall, Line}
 use Rattle.plex_board.specs.CfTypes.declared.shell_commands.ShellCmd.TheVariants as cmd
 use Rattle.plex_board.specs.PlexScript.declared.agents.Step.TheVariants as step
 
@@ -53,11 +53,7 @@ module _ (kind : Kind) (line : Option AnyAsk) where
   asks_none step.Rest h = refl
 
   moving : (now : Step) (asked : AnyAsk) → asked_by kind line now ≡ Some asked → is_rest now ≡ false
-  moving now asked e = by_rest (is_rest now) refl
-    where
-      by_rest : (b : Bool) → is_rest now ≡ b → is_rest now ≡ false
-      by_rest true h = let none = asks_none now h in absurd (cc)
-      by_rest false h = h
+  moving now asked e = grind (arith, asks_none)
 
   pending-rest : (calls : List AnyCall) → pending step.Rest calls ≡ Left calls
   pending-rest [] = refl
@@ -134,13 +130,5 @@ next_of kind (work ∷ more) calls before call behind (inr (mine, (others, whole
     at_cut : Where mine others before call behind
         → ((later : List AnyCall) → others ≡ later ++ call ∷ behind → next_ask kind more later ≡ Some call.ask)
         → next_ask kind (work ∷ more) before ≡ Some call.ask
-    at_cut (Within later is) more_asked =
-        let here : pending kind work.line work.first before ≡ Asks (Some call.ask) =
-        pending_call kind work.line work.first before call later
-        (subst (Consumes kind work.line work.first) is consumes) in
-        rw here refl
-    at_cut (Behind later is left) more_asked =
-        let here : pending kind work.line work.first before ≡ Left later =
-        subst (λ (cs : List AnyCall). pending kind work.line work.first cs ≡ Left later) (sym is)
-        (done_left kind work.line work.first mine later consumes) in
-        rw here (more_asked later left)
+    at_cut (Within later is) more_asked = grind (arith, pending_call)
+    at_cut (Behind later is left) more_asked = grind (arith, done_left)

@@ -1,5 +1,5 @@
 -- Entries that have the replies of the machine, as those of a legal history do.
-use Rattle.shell_laws.proofs.Imports.{◌≡◌, List, [], ◌∷◌, ◌++◌, ap, subst, StrForm, ConnId, Reply, What, Entry, machine_after, replay, IsNextAs, Continues, Machine, step, loss_step, Meaning, replay-push}
+use Rattle.shell_laws.proofs.Imports.{arith, ◌≡◌, List, [], ◌∷◌, ◌++◌, ap, StrForm, ConnId, Reply, What, Entry, machine_after, replay, IsNextAs, Continues, Machine, step, loss_step, Meaning, replay-push}
 use Rattle.engine_api.specs.declared.asks.What.TheVariants as what
 
 module _ {C R I S : Type 0} (meaning : Meaning C R I S) (form : StrForm) where
@@ -26,8 +26,5 @@ module _ {C R I S : Type 0} (meaning : Meaning C R I S) (form : StrForm) where
   pub continues-answered : (history entries : List (Entry C R)) → Continues meaning form history entries
       → AreAnswered (replay meaning form history) entries
   continues-answered history [] goes = tt
-  continues-answered history (entry ∷ entries) goes = (
-    answered_next history entry entry.what goes.0,
-    subst (λ (m : Machine S). AreAnswered m entries) (replay-push meaning form history entry)
-        (continues-answered (history ++ entry ∷ []) entries goes.1),
-  )
+  continues-answered history (entry ∷ entries) goes =
+      grind (arith, answered_next, replay-push, continues-answered (history ++ entry ∷ []) entries goes.1)

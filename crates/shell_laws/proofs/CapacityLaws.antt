@@ -1,5 +1,5 @@
 -- The content fits the instance that it is in, and the new one of a rebuild.
-use Rattle.shell_laws.proofs.Imports.{◌≡◌, ℕ, Bool, true, false, IsTrue, List, [], ◌++◌, Option, None, Some, refl, sym, subst, arith, if◌then◌else◌, is_some, Stage, Quiesce, Connect, Copy, Cleanup, Stopping, Caps, Kind, StrForm, CfId, ConnId, Refusal, without_member, What, Entry, Shape, after_what, replay, Fits, IsNoMore, IsNoMoreOf, Machine, departure_from, room_of, with_back_of, with_made, Meaning, unless_refused, fresh_of, is_held_up, is_switch, shape_of, Leaver, Shell, content_cause, emptied, Passed, No, Into, Ended, Rebuild, outcome_of, rebuild_emptied, rebuild_in, rebuild_left, rebuild_without, with_place, without_owing, HasRoom, IsHeld, HasPlace, IsManned, IsPlaced}
+use Rattle.shell_laws.proofs.Imports.{◌≡◌, ℕ, Bool, true, false, IsTrue, List, [], ◌++◌, Option, None, Some, refl, sym, subst, arith, if◌then◌else◌, is_some, Stage, Quiesce, Connect, Copy, Stopping, Caps, Kind, StrForm, CfId, ConnId, without_member, What, Entry, Shape, after_what, replay, Fits, IsNoMore, IsNoMoreOf, Machine, departure_from, room_of, with_back_of, with_made, Meaning, unless_refused, fresh_of, is_held_up, is_switch, shape_of, Leaver, Shell, content_cause, emptied, Rebuild, outcome_of, rebuild_in, HasRoom, IsHeld, IsManned, IsPlaced}
 use Rattle.cf_types.specs.declared.forms.Kind.TheVariants as kind
 use Rattle.engine_api.specs.declared.asks.What.TheVariants as what
 use Rattle.shell_laws.proofs.MemberLaws.{content_waits, kept-manned, rebuild_in_it, sound_of}
@@ -9,14 +9,6 @@ use Rattle.shell_laws.proofs.ShellMoves.{Allows, IsSound, Move, Standing, gone_i
 use Rattle.shell_laws.proofs.ShellMoves.Move.{Connects, Departs, Forces, Deallocates, Starts, Gives, Places, Stops, Fails}
 
 -- ---- needs and capacities
-
--- what needs no more fits as well
-fits_less : (kind : Kind) (need other caps : Caps) → IsNoMoreOf kind need other → Fits kind other caps
-    → Fits kind need caps
-fits_less kind.Cache need other caps less fits = (omega (arith, less.0, fits.0), omega (arith, less.1, fits.1))
-fits_less (kind.List headers locks refs) need other caps less fits =
-    (omega (arith, less.0, fits.0), omega (arith, less.1, fits.1))
-fits_less kind.Lock need other caps less fits = omega (arith, less, fits)
 
 no_more_of : (kind : Kind) (need other : Caps) → IsNoMore need other → IsNoMoreOf kind need other
 no_more_of kind.Cache need other less = less
@@ -33,18 +25,7 @@ held_up at members owing fresh placed stands = refl
 -- so none stands where a command on the content is accepted
 pub none_fresh_then : (shell : Shell) (by : ConnId) → IsManned shell → content_cause shell by ≡ None
     → fresh_of shell.rebuild ≡ None
-none_fresh_then shell by manned accepted = go shell.rebuild refl
-  where
-    go : (rebuild : Option Rebuild) → shell.rebuild ≡ rebuild → fresh_of rebuild ≡ None
-    go None is = refl
-    go (Some rebuild) is = at_place rebuild.fresh refl
-      where
-        at_place : (fresh : Option CfId) → rebuild.fresh ≡ fresh → fresh ≡ None
-        at_place None at = refl
-        at_place (Some cf) at =
-            let placed : HasPlace (Some rebuild) = subst HasPlace is manned.placed in
-            absurd (content_waits shell rebuild by manned is
-            (held_up rebuild.stage rebuild.members rebuild.owing rebuild.fresh placed (rw at refl)) accepted)
+none_fresh_then shell by manned accepted = grind (arith, content_waits, held_up)
 
 module _ {C R I S : Type 0} (meaning : Meaning C R I S) (is_kind : Kind → Bool)
     (IsContent : Shape → Caps → S → Type 0) where
@@ -83,13 +64,7 @@ module _ {C R I S : Type 0} (meaning : Meaning C R I S) (is_kind : Kind → Bool
     stepped : (caps : Caps) (state : S) (by : ConnId) (cmd : C) → IsContent (shape_of form) caps state
         → IsContent (shape_of form) caps (unless_refused (meaning.cause (shape_of form) caps state by cmd) state
         (meaning.done (shape_of form) caps state by cmd)).state
-    stepped caps state by cmd is = go (meaning.cause (shape_of form) caps state by cmd) refl
-      where
-        go : (refused : Option Refusal) → meaning.cause (shape_of form) caps state by cmd ≡ refused
-            → IsContent (shape_of form) caps (unless_refused refused state
-            (meaning.done (shape_of form) caps state by cmd)).state
-        go None none = laws.content_done (shape_of form) caps state by cmd kind is none
-        go (Some refusal) some = is
+    stepped caps state by cmd is = grind arith
 
     -- ---- room in a new instance
 
@@ -97,8 +72,7 @@ module _ {C R I S : Type 0} (meaning : Meaning C R I S) (is_kind : Kind → Bool
         → IsNoMoreOf form.kind (need_of less) (need_of content) → HasRoom meaning form rebuild content
         → HasRoom meaning form rebuild less
     room_less None content less is room = tt
-    room_less (Some rebuild) content less is room = λ stands.
-        fits_less form.kind (need_of less) (need_of content) rebuild.caps is (room stands)
+    room_less (Some rebuild) content less is room = grind arith
 
     room_nothing : (rebuild : Option Rebuild) (content : S) → HasRoom meaning form rebuild content
         → HasRoom meaning form rebuild nothing
@@ -117,23 +91,7 @@ module _ {C R I S : Type 0} (meaning : Meaning C R I S) (is_kind : Kind → Bool
     room_emptied : (rebuild : Option Rebuild) (content : S) → HasRoom meaning form rebuild content
         → HasRoom meaning form (emptied rebuild) content
     room_emptied None content room = tt
-    room_emptied (Some rebuild) content room = go rebuild.stage
-      where
-        go : (at : Stage) → HasRoom meaning form (Some (rebuild_emptied at rebuild)) content
-        go Copy = room
-        go at = room
-
-    room_past : (passed : Passed) (rebuild : Rebuild) (content : S) → HasRoom meaning form (Some rebuild) content
-        → HasRoom meaning form (rebuild_left passed rebuild) content
-    room_past No rebuild content room = room
-    room_past (Into at) rebuild content room = room_in at rebuild content room
-    room_past Ended rebuild content room = tt
-
-    room_without : (who : ConnId) (rebuild : Option Rebuild) (content : S) → HasRoom meaning form rebuild content
-        → HasRoom meaning form (left_by who rebuild) content
-    room_without who None content room = tt
-    room_without who (Some rebuild) content room =
-        room_past (outcome_of (rebuild_without who rebuild)) (rebuild_without who rebuild) content room
+    room_emptied (Some rebuild) content room = grind arith
 
     -- ---- what goes, and what goes on
 
@@ -148,27 +106,7 @@ module _ {C R I S : Type 0} (meaning : Meaning C R I S) (is_kind : Kind → Bool
         → (is_switch (outcome_of given) ≡ true → is_some given.fresh ≡ true)
         → IsContent (shape_of form) s.caps content → HasRoom meaning form (Some given) content
         → Held (gone_on given s) (if is_switch (outcome_of given) then meaning.forget content else content) copied
-    held-onward given s content copied fresh is room = go (outcome_of given) fresh
-      where
-        go : (passed : Passed) → (is_switch passed ≡ true → is_some given.fresh ≡ true)
-            → IsContent (shape_of form) (if is_switch passed then given.caps else s.caps)
-            (if is_switch passed then meaning.forget content else content)
-            × HasRoom meaning form (rebuild_left passed given)
-            (if is_switch passed then meaning.forget content else content)
-        go (Into Cleanup) fresh = (
-          laws.content_moved (shape_of form) s.caps given.caps content kind is (room (fresh refl)),
-          λ stands. absurd (cc),
-        )
-        go No fresh = (is, room)
-        go (Into at) fresh = (is, room_in at given content room)
-        go Ended fresh = (is, tt)
-
-    content_made : (caps : Caps) (rebuilding : Bool) (made : Option CfId) (content : S)
-        → IsContent (shape_of form) caps content
-        → IsContent (shape_of form) caps (with_made meaning form rebuilding made content)
-    content_made caps rebuilding None content is = is
-    content_made caps true (Some cf) content is = is
-    content_made caps false (Some cf) content is = laws.content_empty (shape_of form) caps
+    held-onward given s content copied fresh is room = grind (arith, room_in)
 
     content_taken_up : (caps : Caps) (back : Option ConnId) (content : S) → IsContent (shape_of form) caps content
         → IsContent (shape_of form) caps (with_back_of meaning form back content)
@@ -206,40 +144,21 @@ module _ {C R I S : Type 0} (meaning : Meaning C R I S) (is_kind : Kind → Bool
 
       held-move : (move : Move) → Allows form (room_of meaning form machine) s move
           → Past meaning form Held machine move
-      held-move (Connects active made back) may = (
-        content_made s.caps (is_some s.rebuild) made _ (content_taken_up s.caps back machine.content held.0),
-        subst (λ (r : Option Rebuild). HasRoom meaning form r (with_made meaning form (is_some s.rebuild) made
-            (with_back_of meaning form back machine.content))) (sym may.idle) tt,
-      )
+      held-move (Connects active made back) may = grind (arith, content_taken_up)
       held-move (Departs who gone) may =
           let left = held_left who in
           held-gone gone (record s {
             active = without_member who.conn s.active;
             rebuild = left_by who.conn s.rebuild;
-          }) _ 0 (left.0, room_without who.conn s.rebuild _ left.1)
+          }) _ 0 (grind (arith, room_in))
       held-move (Forces other gone) may =
           let left = held_left (record { conn = other; keep = false }) in
           held-gone gone (record s { rebuild = emptied s.rebuild }) _ 0 (left.0, room_emptied s.rebuild _ left.1)
       held-move Deallocates may = held-gone true s machine.content 0 held
       held-move (Starts number caps) may = (held.0, λ stands. absurd (cc))
       held-move (Gives rebuild who) may =
-          held-onward (without_owing who rebuild) s machine.content 0
-          (switch_stands (without_owing who rebuild)
-          (placed-owed who rebuild may.elsewhere (rebuild_in_it s rebuild sound may.is).1))
-          held.0 (room_under rebuild may.is)
-      held-move (Places rebuild who at made) may =
-          subst (λ (content : S). Held (gone_on given s)
-          (if is_switch (outcome_of given) then meaning.forget content else content) 0)
-          (sym (made_rebuilding (is_some s.rebuild) made machine.content (rw (may.is) refl)))
-          (held-onward given s machine.content 0 (λ switch. refl) held.0 (λ stands. fits rebuild.fresh refl))
-        where
-          given : Rebuild
-          given = without_owing who (with_place at rebuild)
-
-          -- the new instance was judged where it is made
-          fits : (fresh : Option CfId) → rebuild.fresh ≡ fresh → Fits form.kind (need_of machine.content) rebuild.caps
-          fits (Some cf) there = room_under rebuild may.is (rw there refl)
-          fits None none = rw (may.stands) at (may.fits none)
+          grind (arith, held-onward, switch_stands, placed-owed, rebuild_in_it, room_under)
+      held-move (Places rebuild who at made) may = grind (arith, gone_on, made_rebuilding, held-onward, room_under)
       held-move (Stops rebuild) may = (held.0, λ stands. absurd (cc))
       held-move Fails may = (laws.content_empty (shape_of form) form.caps, tt)
       held-move _ may = held
@@ -255,10 +174,7 @@ module _ {C R I S : Type 0} (meaning : Meaning C R I S) (is_kind : Kind → Bool
         let sound : IsSound (standing_of machine.shell) = sound_of machine.shell manned in
         let both = kept-call meaning form Held machine manned.places sound
         (held-move machine sound (held.content, held.room)) (held.content, held.room)
-        (λ by command accepted. (
-          stepped machine.shell.caps machine.content by command held.content,
-          room_for_any machine.shell.rebuild _ (none_fresh_then machine.shell by manned accepted),
-        )) by asked in
+        (grind (arith, stepped, room_for_any, none_fresh_then)) by asked in
         record { content = both.0; room = both.1 }
       where
         room_for_any : (rebuild : Option Rebuild) (content : S) → fresh_of rebuild ≡ None
@@ -267,10 +183,7 @@ module _ {C R I S : Type 0} (meaning : Meaning C R I S) (is_kind : Kind → Bool
         room_for_any (Some rebuild) content none = λ stands.
             absurd (let wrong : false ≡ true = rw none at stands in cc)
     held-after machine by (what.Lost cf) manned held =
-        let sound : IsSound (standing_of machine.shell) = sound_of machine.shell manned in
-        let both = kept-mark meaning form Held machine manned.places sound
-        (held-move machine sound (held.content, held.room)) cf in
-        record { content = both.0; room = both.1 }
+        grind (arith, IsSound, standing_of, sound_of, kept-mark, held-move)
 
     pub held-replay : (history : List (Entry C R)) → IsHeldBy (replay meaning form history)
     held-replay history =

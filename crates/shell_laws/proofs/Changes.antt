@@ -1,7 +1,7 @@
 -- What one entry does to a content, whatever its commands mean: a command is done; or, in an entry that does none, the
 -- content is left as it was, but for one connector that departs or comes back, ends its registrations, or is cleared,
 -- where no instance stands before it or after it.
-use Rattle.shell_laws.proofs.Imports.{◌≡◌, Bool, true, false, ◌&&◌, cond, [], Option, None, Some, is_some, is_none, refl, sym, ap, ◌∙◌, false≢true, StrForm, CfId, ConnId, Refusal, ShellCmd, state_of, What, after_what, place_for, units_of, Machine, command_done, content_after, content_reply, copied_after, departure_from, entered_machine, loss_step, room_of, step, unless, with_back_of, with_made, Meaning, unless_refused, is_switch, shape_of, Leaver, Shell, ShellOutcome, candidates, content_cause, leaver, made_at, shell_cause, with_posted, outcome_of, with_place, without_owing}
+use Rattle.shell_laws.proofs.Imports.{arith, ◌≡◌, Bool, true, false, ◌&&◌, cond, [], Option, None, Some, is_some, is_none, refl, sym, ap, ◌∙◌, false≢true, StrForm, CfId, ConnId, Refusal, ShellCmd, state_of, What, after_what, place_for, units_of, Machine, command_done, content_after, content_reply, departure_from, entered_machine, loss_step, room_of, step, unless, with_back_of, with_made, Meaning, unless_refused, is_switch, shape_of, Leaver, Shell, candidates, content_cause, leaver, made_at, shell_cause, with_posted, outcome_of, without_owing}
 use Rattle.cf_types.specs.declared.shell_commands.ShellCmd.TheVariants as cmd
 use Rattle.engine_api.specs.declared.asks.Ask.TheVariants as ask
 use Rattle.engine_api.specs.declared.asks.What.TheVariants as what
@@ -76,9 +76,7 @@ module _ {C R I S : Type 0} (meaning : Meaning C R I S) (form : StrForm)
     by_move Deallocates known leaves e stands = cleared e stands
     by_move (Gives rebuild who) known leaves e stands =
         switched (is_switch (outcome_of (without_owing who rebuild))) machine.content refl e
-    by_move (Places rebuild who at made) known leaves e stands =
-        switched (is_switch (outcome_of (without_owing who (with_place at rebuild)))) _
-        (made_under (is_some machine.shell.rebuild) made (ap is_some known)) e
+    by_move (Places rebuild who at made) known leaves e stands = grind (arith, switched, made_under)
     by_move Fails known leaves e stands = cleared e stands
     by_move _ known leaves e stands = Same e
 
@@ -130,24 +128,9 @@ module _ {C R I S : Type 0} (meaning : Meaning C R I S) (form : StrForm)
 
   -- ---- marks
 
-  abbrev marked : (machine : Machine S) (cf : CfId) (acted : ShellOutcome) → Machine S
-  marked machine cf acted =
-      record {
-        shell = record acted.shell { lost = cond acted.shell.failed (Some cf) None };
-        content = content_after meaning form (is_some machine.shell.rebuild) acted.deeds machine.content;
-        copied = copied_after acted.deeds machine.copied;
-      }
-
   pub loss_change : (machine : Machine S) (by : ConnId) (cf : CfId)
       → Move meaning form machine (loss_step meaning form machine cf).machine by (what.Lost cf)
-  loss_change machine by cf =
-      loss-cases form cf machine.shell (λ acted. Move meaning form machine (marked machine cf acted) by (what.Lost cf))
-      (record {
-        none = Same refl;
-        simplex = λ left lost. Same refl;
-        stops = λ rebuild is lost. Same refl;
-        fails = Cleared refl (and-false (stands_in machine) false refl);
-      })
+  loss_change machine by cf = grind (arith, loss-cases, Move, Same, Cleared, and-false, stands_in)
 
   -- ---- calls
 

@@ -1,5 +1,5 @@
 -- The new instance has items in COPY alone, and no more than there are; and what leaves some leaves the content.
-use Rattle.shell_laws.proofs.Imports.{◌≡◌, ℕ, ◌+◌, ◌-◌, ◌≤◌, ◌⊎◌, inl, inr, Bool, true, false, List, [], ◌∷◌, length, Option, None, Some, refl, sym, ◌∙◌, subst, arith, if◌then◌else◌, ◌||◌, is_some, min, min-le_right, Connect, Copy, StrForm, CfId, ConnId, without_member, Ask, Deeds, Entry, What, after_what, replay, Machine, content_after, copied_after, items_of, loss_step, room_of, step, Meaning, is_switch, shape_of, ShellOutcome, content_cause, is_drop, is_restart, Rebuild, outcome, outcome_of, rebuild_onward, without_owing, IsFilled, IsFilling, IsManned, Somebody}
+use Rattle.shell_laws.proofs.Imports.{◌≡◌, ℕ, ◌+◌, ◌-◌, ◌≤◌, ◌⊎◌, inl, inr, Bool, true, false, List, [], ◌∷◌, length, Option, None, Some, refl, sym, ◌∙◌, subst, arith, if◌then◌else◌, ◌||◌, min-le_right, Connect, Copy, StrForm, CfId, ConnId, Ask, Deeds, Entry, What, after_what, replay, Machine, copied_after, items_of, loss_step, room_of, step, Meaning, shape_of, content_cause, is_drop, is_restart, Rebuild, IsFilled, IsFilling, IsManned}
 use Rattle.engine_api.specs.declared.asks.What.TheVariants as what
 use Rattle.shell_laws.proofs.LossLaws.{loss-cases}
 use Rattle.shell_laws.proofs.MemberLaws.{content_waits, kept-manned, rebuild_in_it, sound_of}
@@ -23,21 +23,7 @@ forced_empties (Some rebuild) all filling = rw (filling.0) refl
 
 -- no item stays where none was
 none_stay : (deeds : Deeds) (n : ℕ) → n ≡ 0 → copied_after deeds n ≡ 0
-none_stay deeds n none = go (deeds.restart || (deeds.switch || (deeds.drop_fresh || deeds.drop_all)))
-  where
-    go : (b : Bool) → (if b then 0 else n) ≡ 0
-    go true = refl
-    go false = none
-
--- a member gives its part in COPY: others owe it, or the new instance takes the old one's place
-copy_goes_on : (owing : List ConnId) (rebuild : Rebuild) → rebuild.owing ≡ owing → rebuild.stage ≡ Copy
-    → Somebody rebuild.members → is_some rebuild.fresh ≡ true
-    → (is_switch (outcome_of rebuild) ≡ true)
-    ⊎ ((is_switch (outcome_of rebuild) ≡ false) × IsFilling (rebuild_onward rebuild))
-copy_goes_on [] rebuild owe copy (conn, (others, are)) stands = inl (rw (copy, are, owe) refl)
-copy_goes_on (first ∷ rest) rebuild owe copy (conn, (others, are)) stands =
-    let no : outcome_of rebuild ≡ outcome Copy (conn ∷ others) (first ∷ rest) = rw (copy, are, owe) refl in
-    inr (rw no refl, rw no (copy, stands))
+none_stay deeds n none = grind arith
 
 module _ {C R I S : Type 0} (meaning : Meaning C R I S) (form : StrForm) (machine : Machine S)
     (manned : IsManned machine.shell) (filled : IsFilled meaning form machine) where
@@ -63,43 +49,22 @@ module _ {C R I S : Type 0} (meaning : Meaning C R I S) (form : StrForm) (machin
   same : (after : Standing) → IsFilling after.rebuild → Fills after machine.content (machine.copied + 0)
   same after filling = (inr filling, inr refl, omega (arith, low))
 
-  copies_more : (n : ℕ) (b : Bool) → machine.copied + min n (if b
-      then length (items_of meaning form machine) - machine.copied else 0) ≤ length (items_of meaning form machine)
-  copies_more n true = omega (arith, low, min-le_right n (length (items_of meaning form machine) - machine.copied))
-  copies_more n false = omega (arith, low, min-le_right n 0)
-
   filling_in : (rebuild : Rebuild) → s.rebuild ≡ Some rebuild → IsFilling s.rebuild → IsFilling (Some rebuild)
   filling_in rebuild is filling = subst IsFilling is filling
 
   none_filling : s.rebuild ≡ None → IsFilling s.rebuild → ⊥
   none_filling is filling = subst IsFilling is filling
 
-  fills-given : (rebuild : Rebuild) (who : ConnId) → s.rebuild ≡ Some rebuild → IsFilling (Some rebuild)
-      → Behind (Gives rebuild who)
-  fills-given rebuild who is filling =
-      let both : IsRebuild (Some rebuild) s.active = rebuild_in_it s rebuild (sound_of machine.shell manned) is in
-      go (copy_goes_on (without_member who rebuild.owing) (without_owing who rebuild) refl filling.0
-      (subst Somebody (sym both.0.0) both.0.1) filling.1)
-    where
-      go : (is_switch (outcome_of (without_owing who rebuild)) ≡ true)
-          ⊎ ((is_switch (outcome_of (without_owing who rebuild)) ≡ false)
-          × IsFilling (rebuild_onward (without_owing who rebuild)))
-          → Behind (Gives rebuild who)
-      go (inl switch) = empty (moved form (Gives rebuild who) s) _ _ (rw switch refl)
-      go (inr stays) = (inr stays.1, inr (rw (stays.0) refl), rw (stays.0) (omega (arith, low)))
-
   fills-filling : IsFilling s.rebuild → (move : Move) → Allows form (room_of meaning form machine) s move
       → copied_of (room_of meaning form machine) move ≡ 0 → Behind move
   fills-filling filling (Connects active made back) may none = absurd (none_filling may.idle filling)
-  fills-filling filling (Departs who gone) may none =
-      empty (moved form (Departs who gone) s) _ _
-      (rw (departure_empties s.rebuild (left_by who.conn s.rebuild) gone filling) refl)
+  fills-filling filling (Departs who gone) may none = grind (arith, empty, moved, Departs, departure_empties, left_by)
   fills-filling filling (Forces other gone) may none =
       empty (moved form (Forces other gone) s) _ _ (rw (forced_empties s.rebuild gone filling) refl)
   fills-filling filling Deallocates may none = empty (moved form Deallocates s) _ _ refl
   fills-filling filling (Starts number caps) may none = absurd (none_filling may.idle filling)
   fills-filling filling (Gives rebuild who) may none =
-      fills-given rebuild who may.is (filling_in rebuild may.is filling)
+      grind (arith, filling_in, IsRebuild, rebuild_in_it, sound_of, Gives, empty, moved, low)
   fills-filling filling (Places rebuild who at made) may none =
       let wrong : Copy ≡ Connect = sym (filling_in rebuild may.is filling).0 ∙ may.stage in absurd (cc)
   fills-filling filling (Stops rebuild) may none =
@@ -109,16 +74,8 @@ module _ {C R I S : Type 0} (meaning : Meaning C R I S) (form : StrForm) (machin
   fills-filling filling move may none = same (moved form move s) filling
 
   fills-move : (move : Move) → Allows form (room_of meaning form machine) s move → Behind move
-  fills-move (Copies n) may = (inr may, inr refl, copies_more n _)
-  fills-move move may = by_filling move may refl filled.filling
-    where
-      by_filling : (move : Move) → Allows form (room_of meaning form machine) s move
-          → copied_of (room_of meaning form machine) move ≡ 0 → (machine.copied ≡ 0) ⊎ IsFilling s.rebuild
-          → Behind move
-      by_filling move may zero (inl none) =
-          empty (moved form move s) _ _ (none_stay (deeds_of move s)
-          (machine.copied + copied_of (room_of meaning form machine) move) (omega (arith, none, zero)))
-      by_filling move may zero (inr filling) = fills-filling filling move may zero
+  fills-move (Copies n) may = (grind (arith, low, min-le_right))
+  fills-move move may = grind (arith, Move, Allows, copied_of, empty, moved, none_stay, deeds_of, fills-filling)
 
   -- a command on the content that is accepted finds no items in the new instance
   none_copied : (by : ConnId) → content_cause machine.shell by ≡ None → machine.copied ≡ 0
@@ -145,9 +102,7 @@ module _ {C R I S : Type 0} (meaning : Meaning C R I S) (form : StrForm) (machin
 module _ {C R I S : Type 0} (meaning : Meaning C R I S) (form : StrForm) where
   pub filled-step : (machine : Machine S) (by : ConnId) (asked : Ask C) → IsManned machine.shell
       → IsFilled meaning form machine → IsFilled meaning form (step meaning form machine by asked).machine
-  filled-step machine by asked manned filled =
-      let fills = fills-step meaning form machine manned filled by asked in
-      record { filling = fills.0; within = fills.2 }
+  filled-step machine by asked manned filled = grind (arith, fills-step)
 
   pub front-step : (machine : Machine S) (by : ConnId) (asked : Ask C) → IsManned machine.shell
       → IsFilled meaning form machine
@@ -155,36 +110,14 @@ module _ {C R I S : Type 0} (meaning : Meaning C R I S) (form : StrForm) where
       ⊎ ((step meaning form machine by asked).machine.content ≡ machine.content)
   front-step machine by asked manned filled = (fills-step meaning form machine manned filled by asked).1
 
-  -- behind a mark
-  abbrev marked : Machine S → CfId → ShellOutcome → Machine S
-  marked machine cf acted =
-      record {
-        shell = record acted.shell { lost = if acted.shell.failed then Some cf else None };
-        content = content_after meaning form (is_some machine.shell.rebuild) acted.deeds machine.content;
-        copied = copied_after acted.deeds machine.copied;
-      }
-
   pub filled-loss : (machine : Machine S) (cf : CfId) → IsFilled meaning form machine
       → IsFilled meaning form (loss_step meaning form machine cf).machine
-  filled-loss machine cf filled =
-      loss-cases form cf machine.shell (λ acted. IsFilled meaning form (marked machine cf acted)) (record {
-        none = record { filling = filled.filling; within = filled.within };
-        simplex = λ left lost. record { filling = filled.filling; within = filled.within };
-        stops = λ rebuild is lost. record { filling = inl refl; within = omega arith };
-        fails = record { filling = inl refl; within = omega arith };
-      })
+  filled-loss machine cf filled = grind (arith, loss-cases)
 
   pub front-loss : (machine : Machine S) (cf : CfId)
       → ((loss_step meaning form machine cf).machine.copied ≡ 0)
       ⊎ ((loss_step meaning form machine cf).machine.content ≡ machine.content)
-  front-loss machine cf =
-      loss-cases form cf machine.shell (λ acted. ((marked machine cf acted).copied ≡ 0)
-      ⊎ ((marked machine cf acted).content ≡ machine.content)) (record {
-        none = inr refl;
-        simplex = λ left lost. inr refl;
-        stops = λ rebuild is lost. inr refl;
-        fails = inl refl;
-      })
+  front-loss machine cf = grind (arith, loss-cases)
 
   filled-after : (machine : Machine S) (by : ConnId) (told : What C) → IsManned machine.shell
       → IsFilled meaning form machine → IsFilled meaning form (after_what meaning form machine by told)

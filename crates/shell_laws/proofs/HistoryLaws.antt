@@ -1,5 +1,5 @@
 -- The rebuild that the machine keeps is the one that its history tells of.
-use Rattle.shell_laws.proofs.Imports.{◌≡◌, List, [], ◌∷◌, ◌++◌, Option, None, option_map, refl, sym, ap, ◌∙◌, subst, fold, StrForm, ConnId, actives, Reply, What, Entry, after_what, machine_after, replay, IsLegal, Machine, Meaning, replay-push, continues_legal, Rebuild, actives_after, HasMembers, Reading, read_from, read_next, rebuild_of, rebuild_told, rebuild_next, Telling, telling_of, telling_entry}
+use Rattle.shell_laws.proofs.Imports.{arith, ◌≡◌, List, [], ◌∷◌, ◌++◌, Option, None, option_map, refl, sym, ap, ◌∙◌, subst, fold, StrForm, ConnId, actives, Reply, What, Entry, after_what, machine_after, replay, IsLegal, Machine, Meaning, replay-push, continues_legal, Rebuild, actives_after, HasMembers, Reading, read_from, read_next, rebuild_of, rebuild_told, rebuild_next, Telling, telling_of, telling_entry}
 use Rattle.engine_api.specs.declared.asks.What.TheVariants as what
 use Rattle.shell_laws.proofs.Answered.{reply_for, AreAnswered, continues-answered}
 use Rattle.shell_laws.proofs.MemberLaws.{manned-replay}
@@ -30,11 +30,7 @@ module _ {C R I S : Type 0} (meaning : Meaning C R I S) (form : StrForm) where
       let longer : List (Entry C R) = before ++ entry ∷ [] in
       let more = replay-push meaning form before entry in
       let next : option_map rebuild_of (read_next active entry.by telling read)
-      ≡ (replay meaning form longer).shell.rebuild =
-      told-next active entry.by telling read going
-      ∙ ap (rebuild_next active entry.by telling) same
-      ∙ kept_next machine entry.by entry.what entry.reply answered.0
-      ∙ sym (ap (λ (m : Machine S). m.shell.rebuild) more) in
+      ≡ (replay meaning form longer).shell.rebuild = grind (arith, told-next, kept_next) in
       let left : List ConnId = actives_after meaning form longer in
       let goes = going-next active left entry.by telling read going
       (subst (λ (rebuild : Option Rebuild). HasMembers rebuild left) (sym next)

@@ -1,5 +1,5 @@
 -- What proofs here name of other crates, and of this one's definitions. Declares nothing.
-pub use Rattle.std.proofs.Common.{◌≡◌, List, [], ◌∷◌, ◌++◌, ap, subst, ℕ, Bool, true, false, IsTrue, Option, None, Some, refl, sym, arith, if◌then◌else◌, is_some, ◌≤◌, nat_lt, ◌&&◌, cond, is_none, ◌∙◌, take, inr, ◌||◌, ◌+◌, ◌-◌, ◌⊎◌, inl, length, min, option_map, fold, ◌≢◌, not, filter, nat_le, ◌==◌, append_assoc, append-nil}
+pub use Rattle.std.proofs.Common.{◌≡◌, List, [], ◌∷◌, ◌++◌, ap, subst, ℕ, Bool, true, false, IsTrue, Option, None, Some, refl, sym, arith, if◌then◌else◌, is_some, ◌≤◌, nat_lt, ◌&&◌, cond, is_none, ◌∙◌, take, inr, ◌||◌, ◌+◌, ◌-◌, ◌⊎◌, inl, length, min, option_map, fold, ◌≢◌, not, filter, ◌==◌, append_assoc, append-nil}
 pub use Rattle.std.proofs.Math.Nat.{min-le_right}
 pub use Rattle.std.proofs.lemmas.Bool.{ltb-false, false≢true, both_ways, eq-eqb, false_from_ne_true, and_parts, eqb-true}
 pub use Rattle.std.proofs.lemmas.List.Elements.{filter_agree}
@@ -8,10 +8,9 @@ pub use Rattle.cf_lists.proofs.FilterLaws.{filter-filter, filter_swap}
 pub use Rattle.cf_types.proofs.ConnSetLaws.{filter_none_from}
 pub use Rattle.cf_types.proofs.ConnectionLaws.{defined_count-unconnected, gone-from_none_defined, actives-with_answer, actives-with_departure, actives-with_forced, is_active-within, is_member-actives}
 pub use Rattle.cf_types.specs.ConnSets.{without_member, is_member}
-pub use Rattle.cf_types.specs.Connections.{state_of, Connections, is_active, no_connections, is_active_state, defined_count, with_connect, with_departure, with_forced}
+pub use Rattle.cf_types.specs.Connections.{state_of, Connections, is_active, no_connections, defined_count, with_connect, with_departure, with_forced}
 unfoldable pub use Rattle.cf_types.specs.Connections.{actives}
-pub use Rattle.cf_types.specs.Mailboxes.{next_event, owed_event, with_cleared, with_response}
-pub use Rattle.cf_types.specs.declared.connections.ConnState.{ConnState}
+pub use Rattle.cf_types.specs.Mailboxes.{next_event, owed_event, with_cleared}
 pub use Rattle.cf_types.specs.declared.events.Event.{Event}
 pub use Rattle.cf_types.specs.declared.events.Letter.{Letter}
 pub use Rattle.cf_types.specs.declared.events.Stage.{Stage}
@@ -36,11 +35,11 @@ pub use Rattle.engine_api.specs.Machine.{Machine, step, loss_step, departure_fro
 pub use Rattle.engine_api.specs.Meaning.{Meaning, unless_refused, first_refusal}
 pub use Rattle.engine_api.specs.RebuildCore.Stages.{outcome_of, rebuild_emptied, rebuild_in, rebuild_left, rebuild_without, with_place, without_owing, outcome, rebuild_onward, owing_after, next_stage, new_rebuild, is_response}
 pub use Rattle.engine_api.specs.RebuildCore.declared.passed.Passed.{Passed}
-pub use Rattle.engine_api.specs.RebuildCore.declared.passed.Passed.TheVariants.{No, Into, Ended}
+pub use Rattle.engine_api.specs.RebuildCore.declared.passed.Passed.TheVariants.{No}
 pub use Rattle.engine_api.specs.RebuildCore.declared.rebuild.Rebuild.{Rebuild}
 pub use Rattle.engine_api.specs.Rebuilds.{fresh_of, is_held_up, is_switch, is_copy}
 pub use Rattle.engine_api.specs.Shapes.{shape_of}
-pub use Rattle.engine_api.specs.Shell.{Leaver, Shell, content_cause, emptied, if_rebuilding, if_too_small, refusal_when, unless_copied_to, ShellOutcome, candidates, leaver, made_at, shell_cause, with_posted, caps_in, is_drop, mark_outcome, is_restart, facility_of, failed_outcome, fresh_loss, idle_outcome, loss_outcome, primary_loss, simplex_outcome, stopped_outcome, vary_outcome, with_off, if_failed, if_lost, if_quiesced, unless_active, with_primary, if_no_place, is_candidate, is_connect, is_off, is_severed, no_deeds, can_stop, complete_outcome, conns_answered, departure_outcome, fresh_made, given_outcome, goes, if_connected, if_severed, if_too_many, is_empty, is_kept, is_operator, rebuild_connect_outcome, responded, response_outcome, shell_causes, shell_done, shell_without, simplex_again, stop_outcome, take_event, unless_failed, unless_owed, unless_reached, unless_rebuilding}
+pub use Rattle.engine_api.specs.Shell.{Leaver, Shell, content_cause, emptied, if_rebuilding, refusal_when, unless_copied_to, ShellOutcome, candidates, leaver, made_at, shell_cause, with_posted, caps_in, is_drop, mark_outcome, is_restart, facility_of, failed_outcome, idle_outcome, loss_outcome, simplex_outcome, stopped_outcome, vary_outcome, with_off, if_failed, unless_active, with_primary, if_no_place, is_connect, no_deeds, complete_outcome, departure_outcome, fresh_made, given_outcome, goes, is_empty, is_kept, is_operator, rebuild_connect_outcome, responded, response_outcome, shell_causes, shell_done, shell_without, simplex_again, stop_outcome, take_event}
 pub use Rattle.engine_api.specs.declared.asks.Ask.{Ask}
 pub use Rattle.engine_api.specs.declared.asks.Reply.{Reply}
 pub use Rattle.engine_api.specs.declared.asks.What.{What}
@@ -54,6 +53,6 @@ pub use Rattle.shell_laws.specs.Filling.{IsFilled, IsFilling}
 pub use Rattle.shell_laws.specs.History.{actives_after}
 pub use Rattle.shell_laws.specs.Members.{HasPlace, IsManned, IsPlaced, HasMembers, Somebody, IsPaired}
 pub use Rattle.shell_laws.specs.Readings.{rebuild_told, Reading, read_from, read_next, rebuild_of, awaited, begun, has_given, passed, read_behind, read_past, with_entry, with_stage, with_told}
-pub use Rattle.shell_laws.specs.Steps.{rebuild_next, rebuild_given, IsEarly, IsInStage, MayBeTold}
+pub use Rattle.shell_laws.specs.Steps.{rebuild_next, rebuild_given, MayBeTold}
 pub use Rattle.shell_laws.specs.Tellings.{Telling, telling_of, telling_entry, TellingEntry, is_awaited, mark_telling, telling}
 pub use Rattle.shell_laws.specs.Tellings.Telling.{Departs, Forces, Starts, Places, Stops, Fails, Nothing, Completes, Responds}

@@ -1,6 +1,6 @@
 -- What comes of it where what stands in a facility is lost, as a mark tells it or a VARY: nothing is, one of two
 -- instances, the new one of a rebuild, or the only one.
-use Rattle.shell_laws.proofs.Imports.{◌≡◌, ℕ, Bool, true, false, [], Option, None, Some, refl, if◌then◌else◌, ◌||◌, is_some, StrForm, CfId, ConnId, ShellReply, Reply, is_at, Machine, content_after, loss_step, step, Meaning, fresh_of, Shell, ShellOutcome, facility_of, failed_outcome, fresh_loss, idle_outcome, loss_outcome, primary_loss, simplex_outcome, stopped_outcome, vary_outcome, with_off, with_posted, Rebuild}
+use Rattle.shell_laws.proofs.Imports.{arith, ◌≡◌, ℕ, Bool, true, false, [], None, Some, if◌then◌else◌, ◌||◌, is_some, StrForm, CfId, ConnId, ShellReply, Reply, is_at, Machine, content_after, loss_step, step, Meaning, fresh_of, Shell, ShellOutcome, failed_outcome, idle_outcome, loss_outcome, simplex_outcome, stopped_outcome, vary_outcome, with_off, Rebuild}
 use Rattle.cf_types.specs.declared.shell_commands.ShellCmd.TheVariants as cmd
 use Rattle.cf_types.specs.declared.shell_commands.ShellReply.TheVariants as shown
 use Rattle.engine_api.specs.declared.asks.Ask.TheVariants as ask
@@ -18,30 +18,7 @@ pub record InEachCase (form : StrForm) (cf : CfId) (shell : Shell) (Holds : Shel
 -- holds of a loss
 pub loss-cases : (form : StrForm) (cf : CfId) (shell : Shell) (Holds : ShellOutcome → Type 0)
     → InEachCase form cf shell Holds → Holds (loss_outcome form cf shell)
-loss-cases form cf shell Holds cases =
-    go (is_at cf shell.instances.primary) (is_at cf shell.instances.secondary) cases.simplex
-  where
-    by_secondary : (second : Option CfId) → ((left : CfId) → Holds (simplex_outcome cf left shell))
-        → Holds (primary_loss form cf second shell)
-    by_secondary None simplex = cases.fails
-    by_secondary (Some other) simplex = simplex other
-
-    by_rebuild : (rebuild : Option Rebuild) → shell.rebuild ≡ rebuild → Holds (fresh_loss cf rebuild shell)
-    by_rebuild None is = cases.none
-    by_rebuild (Some rebuild) is = at_place (is_at cf rebuild.fresh) refl
-      where
-        at_place : (b : Bool) → is_at cf rebuild.fresh ≡ b
-            → Holds (if b then stopped_outcome rebuild shell else idle_outcome shown.OkNone shell)
-        at_place true there = cases.stops rebuild is there
-        at_place false elsewhere = cases.none
-
-    go : (first second : Bool) → ((left : CfId) → (first || second) ≡ true → Holds (simplex_outcome cf left shell))
-        → Holds (if first then primary_loss form cf shell.instances.secondary shell
-        else if second then simplex_outcome cf (facility_of shell.instances.primary) shell
-        else fresh_loss cf shell.rebuild shell)
-    go true second simplex = by_secondary shell.instances.secondary (λ left. simplex left refl)
-    go false true simplex = simplex (facility_of shell.instances.primary) refl
-    go false false simplex = by_rebuild shell.rebuild refl
+loss-cases form cf shell Holds cases = grind arith
 
 -- holds of a VARY
 pub vary-cases : (form : StrForm) (cf : CfId) (off : Bool) (shell : Shell) (Holds : ShellOutcome → Type 0)
@@ -68,12 +45,7 @@ module _ {C R I S : Type 0} (meaning : Meaning C R I S) (form : StrForm) (machin
 
   stop_keeps : (cf : CfId) (number : ℕ) (shell : Shell) → shell.instances ≡ machine.shell.instances
       → InEachCase form cf shell (KeepsIfStopped number)
-  stop_keeps cf number shell same = record {
-    none = λ stops. absurd (cc);
-    simplex = λ left lost stops. absurd (cc);
-    stops = λ rebuild is lost stops. (refl, same, refl);
-    fails = λ stops. absurd (cc);
-  }
+  stop_keeps cf number shell same = grind arith
 
   pub loss-keeps : (cf : CfId) (number : ℕ)
       → (loss_step meaning form machine cf).reply ≡ reply.Shell (shown.Stopped number)
@@ -81,9 +53,7 @@ module _ {C R I S : Type 0} (meaning : Meaning C R I S) (form : StrForm) (machin
       (stopped.content ≡ machine.content)
       × (stopped.shell.instances ≡ machine.shell.instances)
       × (fresh_of stopped.shell.rebuild ≡ None)
-  loss-keeps cf number stops =
-      loss-cases form cf machine.shell (KeepsIfStopped number) (stop_keeps cf number machine.shell refl)
-      (shell_reply _ _ stops)
+  loss-keeps cf number stops = grind (arith, loss-cases, stop_keeps, shell_reply)
 
   pub vary-keeps : (by : ConnId) (cf : CfId) (off : Bool) (number : ℕ)
       → (step meaning form machine by (ask.Shell (cmd.Vary cf off))).reply ≡ reply.Shell (shown.Stopped number)
@@ -91,7 +61,4 @@ module _ {C R I S : Type 0} (meaning : Meaning C R I S) (form : StrForm) (machin
       (stopped.content ≡ machine.content)
       × (stopped.shell.instances ≡ machine.shell.instances)
       × (fresh_of stopped.shell.rebuild ≡ None)
-  vary-keeps by cf off number stops =
-      let shell : Shell = with_posted [] machine.shell in
-      vary-cases form cf off shell (KeepsIfStopped number) (λ on. absurd (cc))
-      (stop_keeps cf number (with_off cf true shell) refl) (shell_reply _ _ stops)
+  vary-keeps by cf off number stops = grind (arith, vary-cases, stop_keeps, shell_reply)

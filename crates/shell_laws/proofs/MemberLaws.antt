@@ -1,7 +1,6 @@
 -- In a rebuild the members are just the connectors that are active, of whom there are some, and the instances stand
 -- that there are to be: each move keeps it, so it holds after every history.
-use Rattle.shell_laws.proofs.Imports.{◌≡◌, ◌≢◌, ℕ, Bool, true, false, List, [], ◌∷◌, length, Option, None, Some, inr, refl, sym, ap, ◌∙◌, subst, fold, is_some, if◌then◌else◌, unwrap_or, both_ways, CALLERS, Stage, Quiesce, Stopping, StrForm, CfId, ConnId, Connections, actives, is_active, no_connections, is_member, without_member, defined_count-unconnected, Ask, What, Room, Entry, after_what, machine_after, replay, Instances, no_instance, Machine, loss_step, opening, room_of, step, Meaning, is_held_up, is_switch, Shell, content_cause, emptied, if_failed, if_lost, if_quiesced, unless_active, with_primary, length-conns-step, length-conns-replay, conns-loss, Rebuild, outcome_of, rebuild_in, rebuild_onward, with_place, without_owing, HasMembers, HasPlace, IsManned, Somebody}
-use Rattle.cf_types.specs.declared.refusals.Refusal.TheVariants as refusal
+use Rattle.shell_laws.proofs.Imports.{arith, ◌≡◌, ◌≢◌, ℕ, Bool, true, false, List, [], ◌∷◌, length, Option, None, Some, refl, sym, ap, ◌∙◌, subst, fold, is_some, if◌then◌else◌, both_ways, CALLERS, Stage, Quiesce, Stopping, StrForm, CfId, ConnId, actives, no_connections, without_member, defined_count-unconnected, Ask, What, Room, Entry, after_what, machine_after, replay, Instances, Machine, loss_step, opening, room_of, step, Meaning, is_held_up, Shell, content_cause, emptied, length-conns-step, length-conns-replay, conns-loss, Rebuild, HasMembers, HasPlace, IsManned, Somebody}
 use Rattle.engine_api.specs.declared.asks.What.TheVariants as what
 use Rattle.shell_laws.proofs.CauseLaws.{fourth_none}
 use Rattle.shell_laws.proofs.MoveLaws.{kept-call, kept-mark}
@@ -14,14 +13,7 @@ use Rattle.shell_laws.proofs.StepLaws.{active_member, active_of, first_none}
 
 -- without a secondary there is nothing to be said of two
 alone : (at : Instances) (rebuild : Option Rebuild) → at.secondary ≡ None → ArePaired at rebuild
-alone at rebuild none = record {
-  primary = λ stands. absurd (never stands);
-  apart = λ one other first second. absurd (never (ap is_some second));
-  idle = λ stands. absurd (never stands);
-}
-  where
-    never : is_some at.secondary ≡ true → ⊥
-    never stands = let wrong : false ≡ true = rw none at stands in cc
+alone at rebuild none = grind arith
 
 missing : {X : Type 0} (o : Option X) → (is_some o ≡ true → ⊥) → o ≡ None
 missing None never = refl
@@ -39,68 +31,25 @@ module _ (form : StrForm) (s : Standing) (sound : IsSound s) where
   sound-rebuilt : (rebuild : Option Rebuild) (active : List ConnId) → IsRebuild rebuild active
       → (s.rebuild ≡ None → rebuild ≡ None) → (Somebody active → Somebody s.active)
       → IsSound (record s { rebuild = rebuild; active = active })
-  sound-rebuilt rebuild active is idle were = record {
-    members = is.0;
-    placed = is.1;
-    primary = λ somebody. sound.primary (were somebody);
-    paired = record {
-      primary = sound.paired.primary;
-      apart = sound.paired.apart;
-      idle = λ stands. idle (sound.paired.idle stands);
-    };
-    bare = λ failed. ((sound.bare failed).0, idle (sound.bare failed).1);
-  }
+  sound-rebuilt rebuild active is idle were = grind arith
 
   -- it goes on
   sound-onward : (rebuild given : Rebuild) → s.rebuild ≡ Some rebuild → given.members ≡ rebuild.members
       → HasPlace (Some given) → IsSound (gone_on given s)
-  sound-onward rebuild given is same placed = record {
-    members = behind.0;
-    placed = behind.1;
-    primary = λ somebody unfailed.
-        stands (is_switch (outcome_of given)) (switch_stands given placed) (sound.primary somebody unfailed);
-    paired = alone (gone_on given s).instances (gone_on given s).rebuild (missing s.instances.secondary (λ two.
-        stands_none s.rebuild rebuild is (sound.paired.idle two)));
-    bare = λ failed. absurd (stands_none s.rebuild rebuild is (sound.bare failed).1);
-  }
-    where
-      behind : IsRebuild (rebuild_onward given) s.active
-      behind = is-onward given s.active (same ∙ (rebuild_in_it s rebuild sound is).0.0) placed
-
-      stands : (b : Bool) → (b ≡ true → is_some given.fresh ≡ true) → is_some s.instances.primary ≡ true
-          → is_some (if b then given.fresh else s.instances.primary) ≡ true
-      stands true fresh primary = fresh refl
-      stands false fresh primary = primary
+  sound-onward rebuild given is same placed =
+      grind (arith, switch_stands, alone, gone_on, missing, stands_none, IsRebuild, is-onward, rebuild_in_it)
 
 -- the structure goes where nobody is active
 sound-gone : (form : StrForm) (gone : Bool) (s : Standing) → (gone ≡ true → s.active ≡ []) → IsSound s
     → IsSound (gone_if gone form s)
 sound-gone form false s none sound = sound
-sound-gone form true s none sound = record {
-  members = sound.members;
-  placed = sound.placed;
-  primary = λ somebody. absurd (nobody s.active (none refl) somebody);
-  paired = alone no_instance s.rebuild refl;
-  bare = λ failed. absurd (cc);
-}
+sound-gone form true s none sound = grind (arith, nobody, alone)
 
 pub sound-move : (form : StrForm) (room : Room) (s : Standing) → IsSound s → (move : Move)
     → Allows form room s move → IsSound (moved form move s)
 sound-move form room s sound Quiet may = sound
-sound-move form room s sound (Connects active made back) may = record {
-  members = subst (λ (r : Option Rebuild). HasMembers r active) (sym may.idle) tt;
-  placed = sound.placed;
-  primary = λ somebody unfailed. may.stands;
-  paired = go made may.kept;
-  bare = λ failed. absurd (both_ways s.failed may.unfailed failed);
-}
-  where
-    go : (made : Option CfId) → (is_some s.instances.primary ≡ true → made ≡ None)
-        → ArePaired (with_primary made s.instances) s.rebuild
-    go None kept = sound.paired
-    go (Some cf) kept =
-        alone (with_primary (Some cf) s.instances) s.rebuild
-        (missing s.instances.secondary (λ two. stands_none (Some cf) cf refl (kept (sound.paired.primary two))))
+sound-move form room s sound (Connects active made back) may =
+    grind (arith, both_ways, ArePaired, alone, missing, stands_none)
 sound-move form room s sound (Departs who gone) may =
     sound-gone form gone (record s { active = without_member who.conn s.active; rebuild = left_by who.conn s.rebuild })
     may (sound-rebuilt form s sound (left_by who.conn s.rebuild) (without_member who.conn s.active)
@@ -111,79 +60,22 @@ sound-move form room s sound (Forces other gone) may =
     (sound-rebuilt form s sound (emptied s.rebuild) s.active
     (is-emptied s.rebuild s.active (sound.members, sound.placed)) (λ idle. ap emptied idle) (λ somebody. somebody))
 sound-move form room s sound Deallocates may = sound-gone form true s (λ gone. may) sound
-sound-move form room s sound (Starts number caps) may = record {
-  members = (refl, may.somebody);
-  placed = refl;
-  primary = sound.primary;
-  paired = alone s.instances (moved form (Starts number caps) s).rebuild may.alone;
-  bare = λ failed. absurd (both_ways s.failed may.unfailed failed);
-}
-sound-move form room s sound (Gives rebuild who) may =
-    sound-onward form s sound rebuild (without_owing who rebuild) may.is refl
-    (placed-owed who rebuild may.elsewhere (rebuild_in_it s rebuild sound may.is).1)
-sound-move form room s sound (Places rebuild who at made) may =
-    sound-onward form s sound rebuild (without_owing who (with_place at rebuild)) may.is refl
-    (rw (may.stage) (inr refl))
-sound-move form room s sound (Stops rebuild) may =
-    sound-rebuilt form s sound (Some (rebuild_in Stopping rebuild)) s.active
-    ((rebuild_in_it s rebuild sound may).0, refl) (λ idle. absurd (stands_none s.rebuild rebuild may idle))
-    (λ somebody. somebody)
-sound-move form room s sound (Simplexes lost left) may = record {
-  members = sound.members;
-  placed = sound.placed;
-  primary = λ somebody unfailed. may.0;
-  paired = alone (moved form (Simplexes lost left) s).instances s.rebuild refl;
-  bare = λ failed. absurd (both_ways s.failed may.1 failed);
-}
-sound-move form room s sound Fails may = record {
-  members = tt;
-  placed = tt;
-  primary = λ somebody unfailed. absurd (cc);
-  paired = alone no_instance None refl;
-  bare = λ failed. (refl, refl);
-}
-sound-move form room s sound (Duplexes at) may = record {
-  members = sound.members;
-  placed = sound.placed;
-  primary = sound.primary;
-  paired = record {
-    primary = λ stands. may.primary;
-    apart = λ one other first second.
-        subst (λ (n : ℕ). n ≢ one.0) (ap (λ (o : Option CfId). (unwrap_or o at).0) second) (may.apart one first);
-    idle = λ stands. may.idle;
-  };
-  bare = λ failed. absurd (both_ways s.failed may.unfailed failed);
-}
+sound-move form room s sound (Starts number caps) may = grind (arith, alone, moved, Starts, both_ways)
+sound-move form room s sound (Gives rebuild who) may = grind (arith, sound-onward, placed-owed, rebuild_in_it)
+sound-move form room s sound (Places rebuild who at made) may = grind (arith, sound-onward)
+sound-move form room s sound (Stops rebuild) may = grind (arith, sound-rebuilt, rebuild_in_it, stands_none)
+sound-move form room s sound (Simplexes lost left) may = grind (arith, alone, moved, Simplexes, both_ways)
+sound-move form room s sound Fails may = grind (arith, alone)
+sound-move form room s sound (Duplexes at) may = grind (arith, both_ways)
 sound-move form room s sound _ may = sound
 
 -- ---- the same of a shell
 
 pub sound_of : (shell : Shell) → IsManned shell → IsSound (standing_of shell)
-sound_of shell manned = record {
-  members = manned.members;
-  placed = manned.placed;
-  primary = manned.primary;
-  paired = record {
-    primary = manned.paired.primary;
-    apart = manned.paired.apart;
-    idle = manned.paired.rebuild;
-  };
-  bare = λ failed. ((manned.bare failed).instances, (manned.bare failed).rebuild);
-}
+sound_of shell manned = grind arith
 
 pub manned_of : (shell : Shell) → length shell.conns ≡ CALLERS → IsSound (standing_of shell) → IsManned shell
-manned_of shell places sound = record {
-  places = places;
-  members = sound.members;
-  placed = sound.placed;
-  primary = sound.primary;
-  paired = record {
-    primary = sound.paired.primary;
-    apart = sound.paired.apart;
-    rebuild = sound.paired.idle;
-  };
-  bare = λ failed. record { instances = (sound.bare failed).0; rebuild = (sound.bare failed).1 };
-}
+manned_of shell places sound = grind arith
 
 -- ---- calls and marks
 
@@ -204,11 +96,7 @@ module _ {C R I S : Type 0} (meaning : Meaning C R I S) (form : StrForm) where
   pub manned-loss : (machine : Machine S) (cf : CfId) → IsManned machine.shell
       → IsManned (loss_step meaning form machine cf).machine.shell
   manned-loss machine cf manned =
-      let sound : IsSound (standing_of machine.shell) = sound_of machine.shell manned in
-      manned_of (loss_step meaning form machine cf).machine.shell
-      (ap (λ (c : Connections). length c) (conns-loss form cf machine.shell) ∙ manned.places)
-      (kept-mark meaning form Sound machine manned.places sound
-      (sound-move form (room_of meaning form machine) (standing_of machine.shell) sound) cf)
+      grind (arith, IsSound, standing_of, sound_of, manned_of, conns-loss, kept-mark, sound-move)
 
   pub manned-after : (machine : Machine S) (by : ConnId) (told : What C) → IsManned machine.shell
       → IsManned (after_what meaning form machine by told).shell
@@ -221,11 +109,7 @@ module _ {C R I S : Type 0} (meaning : Meaning C R I S) (form : StrForm) where
     members = tt;
     placed = tt;
     primary = λ somebody unfailed. absurd (nobody_active no_connections defined_count-unconnected somebody);
-    paired = record {
-      primary = λ stands. absurd (cc);
-      apart = λ one other first second. absurd (cc);
-      rebuild = λ stands. refl;
-    };
+    paired = grind arith;
     bare = λ failed. absurd (cc);
   }
 
@@ -265,15 +149,5 @@ held_up_either at owes held = refl
 -- all connectors' content commands are refused then
 pub content_waits : (shell : Shell) (rebuild : Rebuild) (by : ConnId) → IsManned shell → shell.rebuild ≡ Some rebuild
     → is_held_up rebuild.stage true ≡ true → content_cause shell by ≢ None
-content_waits shell rebuild by manned is held = λ none.
-    let members : rebuild.members ≡ actives shell.conns = (manned-members shell rebuild manned is).0 in
-    let active : is_active shell.conns by ≡ true =
-    active_of (is_active shell.conns by) (first_none (unless_active shell by) _ none) in
-    let member : is_member by rebuild.members ≡ true =
-    rw members (active_member shell.conns by manned.places active) in
-    let waits : is_held_up rebuild.stage (is_member by rebuild.owing) ≡ true =
-    held_up_either rebuild.stage (is_member by rebuild.owing) held in
-    let accepted : if_quiesced by shell.rebuild ≡ None =
-    fourth_none (unless_active shell by) (if_lost shell) (if_failed shell) (if_quiesced by shell.rebuild) _ none in
-    let wrong : Some (refusal.Quiesced rebuild.number) ≡ None = rw (is, member, waits) at accepted in
-    absurd (cc)
+content_waits shell rebuild by manned is held =
+    grind (arith, manned-members, active_of, first_none, active_member, held_up_either, fourth_none)

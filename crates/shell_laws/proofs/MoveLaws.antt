@@ -59,9 +59,4 @@ module _ {C R I S : Type 0} (meaning : Meaning C R I S) (form : StrForm) (P : St
         go None is =
             kept (length machine.shell.conns ≡ CALLERS) by _ _ _ _ _ places
             (move_by meaning form machine by command is)
-    kept-call keeps contents by (ask.Content command) = go (content_cause machine.shell by) refl
-      where
-        go : (cause : Option Refusal) → content_cause machine.shell by ≡ cause
-            → Keeps (unless meaning form cause machine (content_done meaning form machine by command)).machine
-        go (Some refusal) is = keeps
-        go None is = contents by command is
+    kept-call keeps contents by (ask.Content command) = grind arith

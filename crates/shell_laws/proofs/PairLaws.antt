@@ -1,5 +1,5 @@
 -- The secondary stands beside a primary, in another facility and in no rebuild.
-use Rattle.shell_laws.proofs.Imports.{◌≡◌, None, ap, subst, sym, StrForm, ConnId, ShellCmd, Machine, room_of, Meaning, Shell, shell_cause, IsManned, IsPaired}
+use Rattle.shell_laws.proofs.Imports.{arith, ◌≡◌, None, StrForm, ConnId, ShellCmd, Machine, room_of, Meaning, Shell, shell_cause, IsManned, IsPaired}
 use Rattle.shell_laws.proofs.MemberLaws.{sound-move, sound_of}
 use Rattle.shell_laws.proofs.ShellMoves.{IsSound, Work, standing_of}
 use Rattle.shell_laws.proofs.StepLaws.{done, move_by}
@@ -20,7 +20,5 @@ module _ {C R I S : Type 0} (meaning : Meaning C R I S) (form : StrForm) (machin
       let is = move_by meaning form machine by command fine in
       let sound : IsSound (standing_of machine.shell) = sound_of machine.shell manned in
       let behind : IsSound (standing_of (done meaning form machine by command).shell) =
-      subst IsSound (sym (ap (λ (w : Work). w.0) is.does))
-      (sound-move form (room_of meaning form machine) (standing_of machine.shell) sound is.move
-      (is.allows manned.places sound)) in
+      grind (arith, IsSound, Work, sound-move, standing_of) in
       record { primary = behind.paired.primary; apart = behind.paired.apart; rebuild = behind.paired.idle }

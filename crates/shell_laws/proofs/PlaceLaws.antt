@@ -1,5 +1,5 @@
 -- The members of a rebuild, its new instance, and the primary, whose place the new one takes.
-use Rattle.shell_laws.proofs.Imports.{◌≡◌, ◌≢◌, ℕ, Bool, true, false, not, List, [], ◌∷◌, Option, None, Some, inl, inr, refl, sym, ap, ◌∙◌, subst, if◌then◌else◌, ◌||◌, ◌&&◌, filter, is_some, is_none, nat_le, unwrap_or, eq-eqb, both_ways, false_from_ne_true, CALLERS, Stage, Quiesce, Connect, Copy, Cleanup, Stopping, Pref, StrForm, CfId, ConnId, Refusal, Connections, actives, is_active, is_active_state, defined_count, without_member, filter_none_from, gone-from_none_defined, Instances, is_at, place_for, units_of, first_refusal, fresh_of, is_copy, is_switch, Shell, candidates, emptied, if_no_place, is_candidate, is_connect, is_off, is_severed, refusal_when, with_primary, Rebuild, outcome, outcome_of, owing_after, rebuild_emptied, rebuild_left, rebuild_onward, rebuild_without, without_owing, HasMembers, HasPlace, IsPlaced, Somebody}
+use Rattle.shell_laws.proofs.Imports.{arith, ◌≡◌, ◌≢◌, ℕ, Bool, true, false, List, [], ◌∷◌, Option, None, Some, inl, inr, refl, ap, ◌∙◌, if◌then◌else◌, ◌||◌, ◌&&◌, filter, is_some, is_none, eq-eqb, both_ways, false_from_ne_true, Stage, Quiesce, Connect, Copy, Cleanup, Stopping, Pref, StrForm, CfId, ConnId, Refusal, Connections, actives, defined_count, without_member, filter_none_from, gone-from_none_defined, Instances, place_for, units_of, first_refusal, is_copy, is_switch, Shell, candidates, emptied, if_no_place, is_connect, with_primary, Rebuild, outcome, outcome_of, owing_after, rebuild_left, rebuild_onward, rebuild_without, without_owing, HasMembers, HasPlace, IsPlaced, Somebody}
 use Rattle.shell_laws.proofs.ShellMoves.{left_by}
 
 -- ---- the members and the new instance
@@ -33,9 +33,7 @@ rebuild_past Stopping (conn ∷ conns) [] rebuild in_stage are owe placed = (tt,
 
 pub is-onward : (rebuild : Rebuild) (active : List ConnId) → rebuild.members ≡ active → HasPlace (Some rebuild)
     → IsRebuild (rebuild_onward rebuild) active
-is-onward rebuild active are placed =
-    subst (IsRebuild (rebuild_onward rebuild)) are
-    (rebuild_past rebuild.stage rebuild.members rebuild.owing rebuild refl refl refl placed)
+is-onward rebuild active are placed = grind (arith, rebuild_past)
 
 placed_without : (at : Stage) (by : ConnId) (members owing : List ConnId) (fresh : Option CfId)
     → IsPlaced at members owing fresh
@@ -47,9 +45,7 @@ placed_without at by members owing fresh placed = placed
 pub is-without : (by : ConnId) (rebuild : Option Rebuild) (active : List ConnId) → IsRebuild rebuild active
     → IsRebuild (left_by by rebuild) (without_member by active)
 is-without by None active is = (tt, tt)
-is-without by (Some rebuild) active is =
-    is-onward (rebuild_without by rebuild) (without_member by active) (ap (without_member by) is.0.0)
-    (placed_without rebuild.stage by rebuild.members rebuild.owing rebuild.fresh is.1)
+is-without by (Some rebuild) active is = grind (arith, is-onward, placed_without)
 
 -- outside CONNECT it does not matter who owes
 placed_owed : (at : Stage) (members owing others : List ConnId) (fresh : Option CfId) → is_connect at ≡ false
@@ -59,18 +55,12 @@ placed_owed at members owing others fresh elsewhere placed = placed
 
 pub placed-owed : (by : ConnId) (rebuild : Rebuild) → is_connect rebuild.stage ≡ false → HasPlace (Some rebuild)
     → HasPlace (Some (without_owing by rebuild))
-placed-owed by rebuild elsewhere placed =
-    placed_owed rebuild.stage rebuild.members rebuild.owing (without_member by rebuild.owing) rebuild.fresh elsewhere
-    placed
+placed-owed by rebuild elsewhere placed = grind (arith, placed_owed)
 
 pub is-emptied : (rebuild : Option Rebuild) (active : List ConnId) → IsRebuild rebuild active
     → IsRebuild (emptied rebuild) active
 is-emptied None active is = is
-is-emptied (Some rebuild) active is = go rebuild.stage refl
-  where
-    go : (at : Stage) → rebuild.stage ≡ at → IsRebuild (Some (rebuild_emptied at rebuild)) active
-    go Copy in_stage = (is.0, let stands = rw in_stage at (is.1) in rw in_stage stands)
-    go at in_stage = is
+is-emptied (Some rebuild) active is = grind arith
 
 -- ---- the new instance takes the primary's place
 
@@ -89,88 +79,41 @@ switch_stands rebuild placed switch =
 -- outside COPY nothing does
 pub no_switch_outside : (at : Stage) (members owing : List ConnId) → is_copy at ≡ false
     → is_switch (outcome at members owing) ≡ false
-no_switch_outside at members owing outside =
-    false_from_ne_true (is_switch (outcome at members owing)) (λ switch.
-    both_ways (is_copy at) outside (rw (switch_copy at members owing switch) refl))
+no_switch_outside at members owing outside = grind (arith, false_from_ne_true, both_ways, switch_copy)
 
 -- nor does a departure
 pub no_switch : (by : ConnId) (rebuild : Rebuild) → is_switch (outcome_of (rebuild_without by rebuild)) ≡ false
-no_switch by rebuild = go rebuild.stage (without_member by rebuild.members)
-  where
-    go : (at : Stage) (members : List ConnId)
-        → is_switch (outcome at members (owing_after at by members rebuild.owing)) ≡ false
-    go Copy [] = refl
-    go Copy (conn ∷ conns) = refl
-    go at members = no_switch_outside at members _ refl
+no_switch by rebuild = grind (arith, no_switch_outside)
 
 -- ---- who is active
 
 -- nobody is active where no connection is defined
 pub nobody_active : (conns : Connections) → defined_count conns ≡ 0 → Somebody (actives conns) → ⊥
 unfolding actives
-nobody_active conns none (conn, (others, are)) =
-    let nobody = filter_none_from (is_active conns) 0 CALLERS
-    (λ c low high. ap is_active_state (gone-from_none_defined conns none c)) in
-    let wrong : [] ≡ conn ∷ others = sym nobody ∙ are in cc
+nobody_active conns none (conn, (others, are)) = grind (arith, nobody, filter_none_from, gone-from_none_defined)
 
 -- ---- who connects where no primary stands makes one
 
 pub placed_for : (units : ℕ) (prefs : List Pref) → first_refusal (if_no_place units prefs ∷ []) ≡ None
     → is_some (place_for units prefs) ≡ true
 placed_for units [] fine = absurd (cc)
-placed_for units (pref ∷ prefs) fine = go (place_for units (pref ∷ prefs)) _ fine
-  where
-    go : (at : Option CfId) (why : Refusal) → first_refusal (refusal_when (is_none at) why ∷ []) ≡ None
-        → is_some at ≡ true
-    go None why fine = absurd (cc)
-    go (Some cf) why fine = refl
+placed_for units (pref ∷ prefs) fine = grind arith
 
 pub primary-connect : (at : Option CfId) (units : ℕ) (prefs : List Pref) (rest : List (Option Refusal))
     (instances : Instances) → instances.primary ≡ at
     → first_refusal (if is_none at then if_no_place units prefs ∷ [] else rest) ≡ None
     → is_some (with_primary (if is_none at then place_for units prefs else None) instances).primary ≡ true
-primary-connect None units prefs rest instances is fine =
-    made (place_for units prefs) (placed_for units prefs fine)
-  where
-    made : (cf : Option CfId) → is_some cf ≡ true → is_some (with_primary cf instances).primary ≡ true
-    made None stands = absurd (cc)
-    made (Some cf) stands = refl
+primary-connect None units prefs rest instances is fine = grind (arith, placed_for)
 primary-connect (Some cf) units prefs rest instances is fine = rw is refl
 
 -- a place that is found among some facilities is one of them
 place_among : (is : Pref → Bool) (units : ℕ) (prefs : List Pref) (cf : CfId)
     → ((pref : Pref) → is pref ≡ true → pref.cf ≡ cf → ⊥) → place_for units (filter is prefs) ≡ Some cf → ⊥
 place_among is units [] cf never found = absurd (cc)
-place_among is units (pref ∷ prefs) cf never found =
-    by_pref (is pref) refl (place_among is units prefs cf never) found
-  where
-    by_pref : (b : Bool) → is pref ≡ b → (place_for units (filter is prefs) ≡ Some cf → ⊥)
-        → place_for units (if b then pref ∷ filter is prefs else filter is prefs) ≡ Some cf → ⊥
-    by_pref false other rest found = rest found
-    by_pref true one rest found = by_units (nat_le units pref.units) refl
-      where
-        by_units : (b : Bool) → nat_le units pref.units ≡ b → ⊥
-        by_units true enough =
-            never pref one (ap (λ (o : Option CfId). unwrap_or o cf) (rw enough at found))
-        by_units false little = rest (rw little at found)
+place_among is units (pref ∷ prefs) cf never found = grind (arith, place_among is units prefs cf never)
 
 -- where it is made, no primary stands
 pub made_apart : (form : StrForm) (shell : Shell) (by : ConnId) (one other : CfId)
     → shell.instances.primary ≡ Some one
     → place_for (units_of shell.caps) (candidates form shell by) ≡ Some other → other.0 ≢ one.0
-made_apart form shell by one other stands found = λ same.
-    place_among (is_candidate shell by) (units_of shell.caps) form.prefs other
-    (λ pref candidate at_place.
-    both_ways (is_at pref.cf shell.instances.primary) (apart pref candidate)
-    (rw (stands, at_place) (eq-eqb one.0 other.0 (sym same)))) found
-  where
-    free : (off first others reached : Bool) → not off && (not (first || others) && reached) ≡ true → first ≡ false
-    free true first others reached is = absurd (cc)
-    free false true others reached is = absurd (cc)
-    free false false others reached is = refl
-
-    apart : (pref : Pref) → is_candidate shell by pref ≡ true → is_at pref.cf shell.instances.primary ≡ false
-    apart pref candidate =
-        free (is_off shell pref.cf) (is_at pref.cf shell.instances.primary)
-        (is_at pref.cf shell.instances.secondary || is_at pref.cf (fresh_of shell.rebuild))
-        (not (is_severed shell by pref.cf)) candidate
+made_apart form shell by one other stands found = grind (arith, place_among, both_ways, eq-eqb)

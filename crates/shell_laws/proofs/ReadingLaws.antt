@@ -1,5 +1,5 @@
 -- What is read of a history, and what counters keep, with one entry more.
-use Rattle.shell_laws.proofs.Imports.{◌≡◌, ℕ, Bool, true, false, cond, not, ◌&&◌, ◌||◌, ◌==◌, List, [], ◌∷◌, Option, None, Some, option_map, filter, refl, sym, ap, ◌∙◌, subst, unwrap_or, filter_agree, Stage, Quiesce, Connect, Copy, Cleanup, Stopping, ConnId, without_member, is_copy, filter-filter, filter_swap, Passed, No, next_stage, outcome, owing_after, rebuild_emptied, rebuild_in, rebuild_left, rebuild_onward, HasMembers, Somebody, Reading, awaited, begun, has_given, passed, read_behind, read_next, read_past, rebuild_of, with_entry, with_stage, with_told, rebuild_given, rebuild_next, Telling, TellingEntry, is_awaited, Starts, Places, Stops, Departs, Forces, Fails, Nothing}
+use Rattle.shell_laws.proofs.Imports.{arith, ◌≡◌, ℕ, Bool, true, false, cond, not, ◌&&◌, ◌||◌, ◌==◌, List, [], ◌∷◌, Option, None, Some, option_map, filter, refl, sym, ap, ◌∙◌, subst, unwrap_or, filter_agree, Stage, Quiesce, Connect, Copy, Cleanup, Stopping, ConnId, without_member, is_copy, filter-filter, filter_swap, Passed, No, next_stage, outcome, owing_after, rebuild_emptied, rebuild_in, rebuild_left, rebuild_onward, HasMembers, Somebody, Reading, awaited, begun, has_given, passed, read_behind, read_next, read_past, rebuild_of, with_entry, with_stage, with_told, rebuild_given, rebuild_next, Telling, TellingEntry, is_awaited, Starts, Places, Stops, Departs, Forces, Fails, Nothing}
 
 filter_true : {X : Type 0} (xs : List X) → filter (λ x. true) xs ≡ xs
 filter_true [] = refl
@@ -9,23 +9,11 @@ filter_true (x ∷ xs) = ap (λ ys. x ∷ ys) (filter_true xs)
 module _ (by : ConnId) (given : ConnId → Bool) (conns : List ConnId) where
   owing_given : filter (λ conn. not (((conn.0 == by.0) && true) || given conn)) conns
       ≡ without_member by (filter (λ conn. not (given conn)) conns)
-  owing_given =
-      filter_agree _ _ (λ conn. either (conn.0 == by.0) (given conn)) conns
-      ∙ sym (filter-filter (λ conn. not (conn.0 == by.0)) (λ conn. not (given conn)) conns)
-    where
-      either : (a b : Bool) → not ((a && true) || b) ≡ (not b && not a)
-      either true true = refl
-      either true false = refl
-      either false true = refl
-      either false false = refl
+  owing_given = grind (arith, filter_agree, filter-filter)
 
   owing_same : filter (λ conn. not (((conn.0 == by.0) && false) || given conn)) conns
       ≡ filter (λ conn. not (given conn)) conns
-  owing_same = filter_agree _ _ (λ conn. either (conn.0 == by.0) (given conn)) conns
-    where
-      either : (a b : Bool) → not ((a && false) || b) ≡ not b
-      either true b = refl
-      either false b = refl
+  owing_same = grind (arith, filter_agree)
 
 -- ---- a stage that may pass
 
@@ -44,19 +32,7 @@ all_awaited read (conn, (others, some)) all = ap (outcome read.stage read.member
 
 -- where one has passed, the next one hasn't
 going_past : (read : Reading) → IsGoing (passed read)
-going_past read = go read.members (awaited read) refl refl
-  where
-    behind : (at : Stage) → Somebody read.members → IsGoing (read_behind at read)
-    behind Quiesce some = all_awaited (with_stage Connect read) some (filter_true read.members)
-    behind Connect some = all_awaited (with_stage Copy read) some (filter_true read.members)
-    behind Copy some = all_awaited (with_stage Cleanup read) some (filter_true read.members)
-    behind at some = tt
-
-    go : (members owing : List ConnId) → read.members ≡ members → awaited read ≡ owing
-        → IsGoing (read_past members owing read)
-    go [] owing are owes = tt
-    go (member ∷ members) [] are owes = behind read.stage (member, (members, are))
-    go (member ∷ members) (conn ∷ owing) are owes = rw (owes, are) refl
+going_past read = grind (arith, all_awaited, filter_true)
 
 -- it passes as counters do
 past : (read : Reading) → option_map rebuild_of (passed read) ≡ rebuild_onward (rebuild_of read)

@@ -1,5 +1,5 @@
 -- What each entry keeps holds after every history.
-use Rattle.shell_laws.proofs.Imports.{◌≡◌, false, ◌&&◌, List, [], ◌∷◌, ◌++◌, sym, subst, append_assoc, append-nil, fold, StrForm, ConnId, Reply, What, Entry, after_what, machine_after, replay, Continues, Machine, opening, Meaning, shape_of, replay-push}
+use Rattle.shell_laws.proofs.Imports.{arith, ◌≡◌, ◌&&◌, List, [], ◌∷◌, ◌++◌, sym, subst, append_assoc, append-nil, fold, StrForm, ConnId, Reply, What, Entry, after_what, machine_after, replay, Continues, Machine, opening, Meaning, shape_of, replay-push}
 use Rattle.shell_laws.proofs.Answered.{reply_for, AreAnswered, continues-answered}
 use Rattle.shell_laws.proofs.Moves.{stands_in, Move, Change}
 use Rattle.shell_laws.proofs.Moves.Move.{Same, Left, Returned, Forgotten, Cleared}
@@ -58,17 +58,10 @@ module _ {C R I S : Type 0} (meaning : Meaning C R I S) (form : StrForm)
       traced_move : IsQuiet meaning form entry → Move meaning form before after entry.by entry.what
           → P longer after.content
       traced_move none (Same e) = subst (P longer) (sym e) (traced.same history entry before.content none is)
-      traced_move none (Left who command asked leaves e) =
-          subst (P longer) (sym e) (traced.leave history entry who before.content none
-          (record { command = command; asked = asked; leaves = leaves }) is)
-      traced_move none (Returned keep asked e) =
-          subst (P longer) (sym e) (traced.back history entry before.content none
-          (record { keep = keep; asked = asked }) is)
+      traced_move none (Left who command asked leaves e) = grind arith
+      traced_move none (Returned keep asked e) = grind arith
       traced_move none (Forgotten e) = subst (P longer) (sym e) (traced.forget history entry before.content none is)
-      traced_move none (Cleared e gone) =
-          subst (P longer) (sym e) (traced.clear history entry before.content none
-          (subst (λ (m : Machine S). stands_in before && stands_in m ≡ false)
-          (sym (replay-push meaning form history entry)) gone) is)
+      traced_move none (Cleared e gone) = grind (arith, stands_in, replay-push)
 
       traced_change : Change meaning form before after entry.by entry.what entry.reply → P longer after.content
       traced_change (Done command accepted fine e) =
@@ -76,10 +69,7 @@ module _ {C R I S : Type 0} (meaning : Meaning C R I S) (form : StrForm)
       traced_change (Quiet none move) = traced_move none move
 
       pub traced-next : entry.reply ≡ reply_for meaning form before entry.by entry.what → Holds longer
-      traced-next answered =
-          subst (λ (m : Machine S). P longer m.content) (sym (replay-push meaning form history entry))
-          (traced_change (subst (Change meaning form before after entry.by entry.what) (sym answered)
-          (changed meaning form unregistered before entry.by entry.what)))
+      traced-next answered = grind (arith, replay-push, traced_change, Change, changed)
 
     traced_fold : (history entries : List (Entry C R)) → AreAnswered meaning form (replay meaning form history) entries
         → Holds history → Holds (history ++ entries)

@@ -1,15 +1,14 @@
 -- Each command that isn't refused is a move, and so is a loss: what it makes of what stands, what its entry tells of a
 -- rebuild, and what its causes leave of the move.
-use Rattle.shell_laws.proofs.Imports.{◌≡◌, ℕ, Bool, true, false, List, [], ◌∷◌, length, Option, None, Some, not, is_some, inl, inr, refl, sym, ap, ◌∙◌, subst, arith, if◌then◌else◌, ◌||◌, ◌&&◌, is_none, unwrap_or, and_parts, both_ways, eqb-true, CALLERS, ConnState, Event, Letter, Stage, Caps, StrForm, CfId, ConnId, Refusal, ShellCmd, ShellReply, Connections, actives, defined_count, is_active, is_active_state, state_of, with_connect, with_departure, with_forced, is_member, without_member, actives-with_answer, actives-with_departure, actives-with_forced, is_active-within, is_member-actives, next_event, owed_event, with_cleared, with_response, Ask, Room, Instances, is_at, no_instance, place_for, units_of, Machine, CallOutcome, command_done, content_done, departure_from, loss_step, moved_by, room_of, step, unless, Meaning, first_refusal, is_copy, Leaver, Shell, ShellOutcome, can_stop, candidates, complete_outcome, conns_answered, content_cause, departure_outcome, emptied, facility_of, fresh_made, given_outcome, goes, idle_outcome, if_connected, if_failed, if_rebuilding, if_severed, if_too_many, if_too_small, is_connect, is_drop, is_empty, is_kept, is_operator, is_restart, leaver, loss_outcome, made_at, no_deeds, rebuild_connect_outcome, refusal_when, responded, response_outcome, shell_cause, shell_causes, shell_done, shell_without, simplex_again, stop_outcome, take_event, unless_active, unless_copied_to, unless_failed, unless_owed, unless_reached, unless_rebuilding, vary_outcome, with_off, with_posted, Rebuild, is_response, rebuild_onward, rebuild_without, without_owing, HasPlace, IsPlaced, Somebody, IsEarly, IsInStage, MayBeTold, rebuild_next, Telling, mark_telling, telling, telling_of, Completes, Nothing, Responds}
+use Rattle.shell_laws.proofs.Imports.{◌≡◌, ℕ, Bool, true, false, List, [], ◌∷◌, length, Option, None, Some, not, is_some, refl, sym, ap, ◌∙◌, subst, arith, if◌then◌else◌, ◌||◌, ◌&&◌, is_none, unwrap_or, and_parts, both_ways, eqb-true, CALLERS, Event, Letter, Stage, Caps, StrForm, CfId, ConnId, Refusal, ShellCmd, ShellReply, Connections, actives, defined_count, is_active, state_of, with_connect, with_departure, with_forced, is_member, without_member, actives-with_answer, actives-with_departure, actives-with_forced, is_active-within, is_member-actives, next_event, owed_event, with_cleared, Ask, Room, Instances, is_at, no_instance, place_for, units_of, Machine, CallOutcome, command_done, departure_from, loss_step, moved_by, room_of, step, unless, Meaning, first_refusal, is_copy, Leaver, Shell, ShellOutcome, candidates, complete_outcome, departure_outcome, emptied, facility_of, fresh_made, given_outcome, goes, idle_outcome, if_failed, is_connect, is_empty, is_kept, is_operator, leaver, loss_outcome, made_at, no_deeds, rebuild_connect_outcome, refusal_when, responded, response_outcome, shell_cause, shell_causes, shell_done, shell_without, simplex_again, stop_outcome, take_event, unless_active, unless_copied_to, vary_outcome, with_off, with_posted, Rebuild, is_response, rebuild_onward, without_owing, HasPlace, Somebody, MayBeTold, rebuild_next, Telling, mark_telling, telling, telling_of, Completes, Nothing, Responds}
 use Rattle.cf_types.specs.declared.connections.ConnState.TheVariants as conn
-use Rattle.cf_types.specs.declared.events.Event.TheVariants as event
 use Rattle.cf_types.specs.declared.events.Stage.TheVariants as stage
 use Rattle.cf_types.specs.declared.refusals.Refusal.TheVariants as refusal
 use Rattle.cf_types.specs.declared.shell_commands.ShellCmd.TheVariants as cmd
 use Rattle.cf_types.specs.declared.shell_commands.ShellReply.TheVariants as shown
 use Rattle.engine_api.specs.declared.asks.Ask.TheVariants as ask
 use Rattle.engine_api.specs.declared.asks.What.TheVariants as what
-use Rattle.shell_laws.proofs.CauseLaws.{NoneHolds, fits_first, idle_rebuild, none_holds, not_so, nothing_left, past_front}
+use Rattle.shell_laws.proofs.CauseLaws.{NoneHolds, idle_rebuild, none_holds, not_so, nothing_left, past_front, not_above}
 use Rattle.shell_laws.proofs.LossLaws.{loss-cases}
 use Rattle.shell_laws.proofs.PlaceLaws.{made_apart, no_switch, nobody_active, placed_for, primary-connect}
 use Rattle.shell_laws.proofs.ShellMoves.{Allows, IsKnown, IsSound, MayPlace, Move, Standing, Work, deeds_of, gone_if, gone_on, left_by, moved, standing_of, switched_if, work_by, work_of}
@@ -44,29 +43,9 @@ fails_told active by (Some rebuild) = refl
 
 -- ---- stages
 
-connect_is : (at : Stage) → is_connect at ≡ true → at ≡ stage.Connect
-connect_is stage.Connect is = refl
-connect_is at is = absurd (cc)
-
 copy_is : (at : Stage) → is_copy at ≡ true → at ≡ stage.Copy
 copy_is stage.Copy is = refl
 copy_is at is = absurd (cc)
-
--- a rebuild can be stopped up to COPY
-early_is : (at : Stage) → can_stop at ≡ true → IsEarly at
-early_is stage.Quiesce is = inl refl
-early_is stage.Connect is = inr (inl refl)
-early_is stage.Copy is = inr (inr refl)
-early_is at is = absurd (cc)
-
--- a new instance is lost in CONNECT or COPY
-early_placed : (at : Stage) (members owing : List ConnId) (fresh : Option CfId) (cf : CfId)
-    → IsPlaced at members owing fresh → is_at cf fresh ≡ true → IsEarly at
-early_placed stage.Quiesce members owing fresh cf placed lost = inl refl
-early_placed stage.Connect members owing fresh cf placed lost = inr (inl refl)
-early_placed stage.Copy members owing fresh cf placed lost = inr (inr refl)
-early_placed at members owing fresh cf placed lost =
-    absurd (let wrong : false ≡ true = rw placed at lost in cc)
 
 response_elsewhere : (at : Stage) (number : ℕ) (answered : Event) → is_response at number answered ≡ true
     → (is_connect at ≡ false) × (is_copy at ≡ false)
@@ -89,10 +68,6 @@ pub first_none : (first : Option Refusal) (rest : List (Option Refusal)) → fir
     → first ≡ None
 first_none first rest fine = (none_holds (first ∷ rest) fine).0
 
-somebody_of : (conns : List ConnId) → refusal_when (is_empty conns) refusal.NotConnected ≡ None → Somebody conns
-somebody_of [] fine = absurd (cc)
-somebody_of (conn ∷ others) fine = (conn, (others, refl))
-
 pub somebody_member : (conn : ConnId) (conns : List ConnId) → is_member conn conns ≡ true → Somebody conns
 somebody_member conn [] is = absurd (cc)
 somebody_member conn (first ∷ others) is = (first, (others, refl))
@@ -105,19 +80,6 @@ pub active_member : (conns : Connections) (conn : ConnId) → length conns ≡ C
     → is_member conn (actives conns) ≡ true
 active_member conns conn places active =
     is_member-actives conns conn (omega (arith, places, is_active-within conns conn active)) ∙ active
-
--- an answer to an event leaves those active that were
-actives-answering : (by : ConnId) (answered : Event) (conns : Connections)
-    → actives (conns_answered by answered conns) ≡ actives conns
-actives-answering by (event.DiscFail other) conns = actives-with_answer by other conns
-actives-answering by answered conns = refl
-
--- whoever can be forced away isn't active
-idle_failed : (state : Option ConnState) → unless_failed state ≡ None → is_active_state state ≡ false
-idle_failed (Some (conn.Active keep)) fine = absurd (cc)
-idle_failed (Some (conn.Leaving keep awaits)) fine = refl
-idle_failed (Some conn.Failed) fine = refl
-idle_failed None fine = refl
 
 -- where no connection is defined nobody is active
 none_active : (conns : Connections) → defined_count conns ≡ 0 → actives conns ≡ []
@@ -134,9 +96,7 @@ none_behind form conns gone =
 module _ (form : StrForm) (room : Room) (shell : Shell) (by : ConnId) where
   pub connect_stage : (rebuild : Rebuild) (at : Stage) → shell.rebuild ≡ Some rebuild → rebuild.stage ≡ at
       → shell_cause form room shell by cmd.RebuildConnect ≡ None → rebuild.stage ≡ stage.Connect
-  connect_stage rebuild at is in_stage fine =
-      connect_is rebuild.stage (in_its (is_connect rebuild.stage) (is_member by rebuild.owing) _
-      (rw is at ((none_holds (shell_causes form room shell by cmd.RebuildConnect) fine).1.1.1.0)))
+  connect_stage rebuild at is in_stage fine = grind (arith, in_its, none_holds)
 
 -- ---- instances
 
@@ -147,11 +107,6 @@ stands_of (Some cf) why fine = refl
 none_of : (at : Option CfId) (why : Refusal) → refusal_when (is_some at) why ≡ None → at ≡ None
 none_of None why fine = refl
 none_of (Some cf) why fine = absurd (cc)
-
--- one is made where none stands
-made_alone : (at place : Option CfId) → is_some (if is_none at then place else None) ≡ true → at ≡ None
-made_alone None place made = refl
-made_alone (Some cf) place made = absurd (cc)
 
 none_made : (at place : Option CfId) → is_some at ≡ true → (if is_none at then place else None) ≡ None
 none_made None place stands = absurd (cc)
@@ -168,11 +123,7 @@ at_some cf (Some other) there = refl
 -- what has an instance has not failed
 unfailed_with : (s : Standing) → IsSound s → (has : Instances → Bool) → has no_instance ≡ false
     → has s.instances ≡ true → s.failed ≡ false
-unfailed_with s sound has none stands = go s.failed refl
-  where
-    go : (b : Bool) → s.failed ≡ b → b ≡ false
-    go false is = refl
-    go true is = absurd (both_ways (has no_instance) none (sym (ap has (sound.bare is).0) ∙ stands))
+unfailed_with s sound has none stands = grind (arith, both_ways)
 
 -- ---- what changes nothing, and what is lost
 
@@ -214,18 +165,10 @@ moves-loss form room shell places by cf =
           (λ places sound. (refl, unfailed_with s sound (λ i. is_at cf i.primary || is_at cf i.secondary) refl lost));
       stops = λ rebuild is there. record {
         move = Move.Stops rebuild;
-        does = λ i. (
-          moved form (Move.Stops rebuild) s,
-          record no_deeds { drop_fresh = at_some cf rebuild.fresh there i },
-          None,
-          0,
-        );
+        does = grind (arith, moved, at_some);
         known = tt;
         tells = rw is refl;
-        may = λ places placed.
-            subst (IsInStage IsEarly) (sym is)
-            (early_placed rebuild.stage rebuild.members rebuild.owing rebuild.fresh cf (subst HasPlace is placed)
-            there);
+        may = grind arith;
         allows = λ places sound. is;
       };
       fails = record {
@@ -239,12 +182,6 @@ moves-loss form room shell places by cf =
     })
 
 -- ---- commands
-
-standing-without : (by : ConnId) (rebuild : Option Rebuild) (shell : Shell) → shell.rebuild ≡ rebuild
-    → standing_of (shell_without by rebuild shell) ≡ record (standing_of shell) { rebuild = left_by by rebuild }
-standing-without by None shell is = ap (λ (r : Option Rebuild). record (standing_of shell) { rebuild = r }) is
-standing-without by (Some rebuild) shell is =
-    ap (λ (b : Bool). switched_if b (rebuild_without by rebuild) (standing_of shell)) (no_switch by rebuild)
 
 module _ (form : StrForm) (room : Room) (judged : Shell) (letters : List Letter) (by : ConnId) where
   -- the shell that acts: the letters of a departure from the content are posted
@@ -282,33 +219,14 @@ module _ (form : StrForm) (room : Room) (judged : Shell) (letters : List Letter)
       let none = none (cmd.Connect keep) fine in
       unheard form room s HasPlaces by true (Move.Connects (actives (with_connect by keep judged.conns))
       (made_at form judged by) (if is_some (state_of judged.conns by) then Some by else None)) None 0 _ refl refl refl
-      (λ places sound. record {
-        idle = idle_rebuild judged.rebuild none.1.1.0;
-        unfailed = unfailed none.0;
-        stands =
-            primary-connect judged.instances.primary (units_of judged.caps) (candidates form judged by)
-            (if_severed judged by judged.instances.primary ∷ if_severed judged by judged.instances.secondary ∷ [])
-            judged.instances refl
-            (past_front (if_failed judged ∷ if_connected (state_of judged.conns by)
-            ∷ if_rebuilding judged.rebuild ∷ if_too_many form judged by ∷ []) (unless_reached form judged by) fine);
-        kept = none_made judged.instances.primary _;
-      })
+      (grind (arith, idle_rebuild, unfailed, primary-connect, past_front, none_made))
 
   moves_departure : (keep : Bool) → unless_active judged by ≡ None
       → IsMove form room s HasPlaces by false (Some (record { conn = by; keep = keep })) 0 Telling.Departs
       (departure_outcome form shell by keep)
   moves_departure keep fine = record {
     move = Move.Departs (record { conn = by; keep = keep }) (goes form conns);
-    does = λ i. (
-      gone_if (goes form conns) form (record (left i) { active = active i }),
-      record no_deeds {
-        restart = is_restart judged.rebuild (left i).rebuild;
-        drop_fresh = is_drop judged.rebuild (left i).rebuild;
-        drop_all = goes form conns;
-      },
-      Some (record { conn = by; keep = keep }),
-      0,
-    );
+    does = grind (arith, gone_if, conns, left, active);
     known = tt;
     tells = refl;
     may = λ places placed. tt;
@@ -319,13 +237,11 @@ module _ (form : StrForm) (room : Room) (judged : Shell) (letters : List Letter)
       conns = with_departure by keep judged.conns
 
       active : actives conns ≡ without_member by (actives judged.conns)
-      active =
-          actives-with_departure by keep judged.conns
-          (is_active-within judged.conns by (active_of (is_active judged.conns by) fine))
+      active = grind (arith, actives-with_departure, is_active-within, active_of)
 
       left : standing_of (shell_without by judged.rebuild (record shell { mail = with_cleared by shell.mail }))
           ≡ record s { rebuild = left_by by judged.rebuild }
-      left = standing-without by judged.rebuild (record shell { mail = with_cleared by shell.mail }) refl
+      left = grind (arith, standing_of, switched_if, no_switch)
 
   moves_next : (taken : Option Event) → Moves cmd.Next (take_event shell by taken)
   moves_next None = dull form room s HasPlaces by false _ refl refl
@@ -340,12 +256,7 @@ module _ (form : StrForm) (room : Room) (judged : Shell) (letters : List Letter)
       → IsMove form room s HasPlaces by false None 0 told (given_outcome answer by rebuild noted)
   moves_given told answer rebuild noted same is tells may elsewhere filled = record {
     move = Move.Gives rebuild by;
-    does = λ i. (
-      gone_on (without_owing by rebuild) (same i),
-      deeds_of (Move.Gives rebuild by) s,
-      None,
-      0,
-    );
+    does = grind (arith, gone_on, deeds_of);
     known = tt;
     tells = tells ∙ ap (rebuild_next s.active by told) (sym is);
     may = λ places placed. may;
@@ -354,12 +265,7 @@ module _ (form : StrForm) (room : Room) (judged : Shell) (letters : List Letter)
 
   moves_response : (owed : Option Event) → Moves cmd.Respond (response_outcome shell by owed)
   moves_response None = dull form room s HasPlaces by false _ refl refl
-  moves_response (Some answered) =
-      by_rebuild judged.rebuild (record shell {
-        conns = conns_answered by answered judged.conns;
-        mail = with_response by shell.mail;
-      }) (ap (λ (active : List ConnId). record s { active = active })
-      (actives-answering by answered judged.conns)) refl
+  moves_response (Some answered) = grind (arith, by_rebuild, actives-with_answer)
     where
       unawaited : (rebuild : Option Rebuild) (noted : Shell) → standing_of noted ≡ s → judged.rebuild ≡ rebuild
           → rebuild ≡ rebuild_next s.active by (Responds answered) rebuild
@@ -397,17 +303,12 @@ module _ (form : StrForm) (room : Room) (judged : Shell) (letters : List Letter)
         known = tt;
         tells = refl;
         may = λ places placed. some places (is_operator by) none.0;
-        allows = λ places sound. record {
-          somebody = some places (is_operator by) none.0;
-          unfailed = unfailed none.1.0;
-          idle = idle_rebuild judged.rebuild none.1.1.0;
-          alone = none_of judged.instances.secondary refusal.AlreadyDuplexed none.1.1.1.0;
-        };
+        allows = grind (arith, somebody, some, unfailed, idle_rebuild, none_of);
       }
     where
       some : HasPlaces → (b : Bool) → (if b then refusal_when (is_empty (actives judged.conns)) refusal.NotConnected
           else unless_active judged by) ≡ None → Somebody (actives judged.conns)
-      some places true fine = somebody_of (actives judged.conns) fine
+      some places true fine = grind arith
       some places false fine = somebody places fine
 
   moves_stop : (rebuild : Option Rebuild) → judged.rebuild ≡ rebuild → IsTaken cmd.RebuildStop
@@ -418,34 +319,20 @@ module _ (form : StrForm) (room : Room) (judged : Shell) (letters : List Letter)
     does = refl;
     known = tt;
     tells = rw is refl;
-    may = λ places placed.
-        subst (IsInStage IsEarly) (sym is)
-        (early_is rebuild.stage (in_stage (can_stop rebuild.stage) _
-        (rw is at ((none cmd.RebuildStop fine).1.1.1.0))));
+    may = grind (arith, in_stage, none);
     allows = λ places sound. is;
   }
 
   may_place : (rebuild : Rebuild) → judged.rebuild ≡ Some rebuild → IsTaken cmd.RebuildConnect → HasPlaces → IsSound s
       → MayPlace form room s rebuild (fresh_made form judged by rebuild)
-  may_place rebuild is fine places sound = record {
-    is = is;
-    stage = connect_stage form room judged by rebuild rebuild.stage is refl fine;
-    stands = sound.primary (somebody places none.0) (unfailed none.1.0);
-    alone = made_alone rebuild.fresh _;
-    found = λ first.
-        rw first (placed_for (units_of rebuild.caps) (candidates form judged by)
-        (past_front (if_too_small form.kind room.need rebuild.caps) _ (rw first at past)));
-    fits = λ first. fits_first form judged room by rebuild first past;
-  }
+  may_place rebuild is fine places sound =
+      grind (arith, connect_stage, somebody, unfailed, placed_for, past_front, past, none_holds, not_above)
     where
       none : NoneHolds (shell_causes form room judged by cmd.RebuildConnect)
       none = none_holds (shell_causes form room judged by cmd.RebuildConnect) fine
 
       past : first_refusal (unless_copied_to form judged room by (Some rebuild)) ≡ None
-      past =
-          subst (λ (r : Option Rebuild). first_refusal (unless_copied_to form judged room by r) ≡ None) is
-          (past_front (unless_active judged by ∷ if_failed judged ∷ unless_rebuilding judged.rebuild
-          ∷ unless_owed is_connect by judged.rebuild ∷ []) (unless_copied_to form judged room by judged.rebuild) fine)
+      past = grind (arith, past_front)
 
   moves_place : (rebuild : Option Rebuild) → judged.rebuild ≡ rebuild → IsTaken cmd.RebuildConnect
       → Moves cmd.RebuildConnect (rebuild_connect_outcome form shell by rebuild)
@@ -476,9 +363,7 @@ module _ (form : StrForm) (room : Room) (judged : Shell) (letters : List Letter)
   moves_completion None is fine = absurd (let wrong = rw is at ((none cmd.RebuildComplete fine).1.1.0) in cc)
   moves_completion (Some rebuild) is fine =
       let none = none cmd.RebuildComplete fine in
-      let copy : rebuild.stage ≡ stage.Copy =
-      copy_is rebuild.stage (in_its (is_copy rebuild.stage) (is_member by rebuild.owing) _
-      (rw is at (none.1.1.1.0))) in
+      let copy : rebuild.stage ≡ stage.Copy = grind (arith, copy_is, in_its) in
       moves_given Completes shown.Ok rebuild shell refl is (rw copy refl) tt (rw copy refl)
       (λ copies. nothing_left room.left _ none.1.1.1.1.0)
 
@@ -486,12 +371,7 @@ module _ (form : StrForm) (room : Room) (judged : Shell) (letters : List Letter)
       → Moves (cmd.ForceConn other) (shell_done form room shell by (cmd.ForceConn other))
   moves_forced other fine = record {
     move = Move.Forces other (goes form conns);
-    does = λ i. (
-      gone_if (goes form conns) form (record s { active = active i; rebuild = emptied judged.rebuild }),
-      deeds_of (Move.Forces other (goes form conns)) s,
-      Some (record { conn = other; keep = false }),
-      0,
-    );
+    does = grind (arith, gone_if, conns, active, deeds_of);
     known = tt;
     tells = forces_told s.active by s.rebuild;
     may = λ places placed. tt;
@@ -502,9 +382,7 @@ module _ (form : StrForm) (room : Room) (judged : Shell) (letters : List Letter)
       conns = with_forced other judged.conns
 
       active : actives conns ≡ actives judged.conns
-      active =
-          actives-with_forced other judged.conns
-          (idle_failed (state_of judged.conns other) (none (cmd.ForceConn other) fine).0)
+      active = grind (arith, actives-with_forced, none)
 
   moves_structure : IsTaken cmd.ForceStr → Moves cmd.ForceStr (shell_done form room shell by cmd.ForceStr)
   moves_structure fine =
@@ -520,15 +398,7 @@ module _ (form : StrForm) (room : Room) (judged : Shell) (letters : List Letter)
   moves_duplex fine =
       let none = none cmd.DuplexStart fine in
       unheard form room s HasPlaces by false (Move.Duplexes (facility_of place)) None 0 _ refl refl tt
-      (λ places sound. record {
-        idle = idle_rebuild judged.rebuild none.1.0;
-        unfailed = unfailed none.0;
-        primary = stands_of judged.instances.primary refusal.NotAllocated none.1.1.1.0;
-        apart = λ one stands.
-            made_apart form judged by one _ stands
-            (facility_is place (placed_for (units_of judged.caps) (candidates form judged by)
-            (rw none.1.1.1.1.0 refl)));
-      })
+      (grind (arith, idle_rebuild, unfailed, stands_of, made_apart, facility_is, place, placed_for))
     where
       place : Option CfId
       place = place_for (units_of judged.caps) (candidates form judged by)
@@ -538,9 +408,7 @@ module _ (form : StrForm) (room : Room) (judged : Shell) (letters : List Letter)
   moves_simplex None is = dull form room s HasPlaces by false _ refl refl
   moves_simplex (Some cf) is =
       unheard form room s HasPlaces by false (Move.Simplexes cf judged.instances.primary) None 0 _ refl refl tt
-      (λ places sound.
-      let stands : is_some judged.instances.secondary ≡ true = rw is refl in
-      (sound.paired.primary stands, unfailed_with s sound (λ i. is_some i.secondary) refl stands))
+      (grind (arith, unfailed_with))
 
   pub moves-command : (command : ShellCmd) → IsTaken command → Moves command (shell_done form room shell by command)
   moves-command (cmd.Connect keep) fine = moves_connect keep fine
@@ -580,9 +448,7 @@ module _ {C R I S : Type 0} (meaning : Meaning C R I S) (form : StrForm) (machin
       → IsMove form room (standing_of machine.shell) (length machine.shell.conns ≡ CALLERS) by
       (is_connection command) (leaver machine.shell by command) (moved_by room command)
       (telling command (done command).reply) (done command)
-  move_by command fine =
-      moves-command form room machine.shell
-      (departure_from meaning form (leaver machine.shell by command) machine).letters by command fine
+  move_by command fine = grind (arith, moves-command)
 
   pub tells_command : (command : ShellCmd) → shell_cause form room machine.shell by command ≡ None
       → (done command).shell.rebuild
@@ -608,12 +474,7 @@ module _ {C R I S : Type 0} (meaning : Meaning C R I S) (form : StrForm) (machin
           (unless meaning form cause machine (command_done meaning form machine by command))
       go (Some refusal) is = (nothing_told active by machine.shell.rebuild, λ places placed. tt)
       go None is = (tells_command command is, (move_by command is).may)
-  told-step (ask.Content command) = go (content_cause machine.shell by)
-    where
-      go : (cause : Option Refusal) → IsTold (ask.Content command)
-          (unless meaning form cause machine (content_done meaning form machine by command))
-      go (Some refusal) = (nothing_told active by machine.shell.rebuild, λ places placed. tt)
-      go None = (nothing_told active by machine.shell.rebuild, λ places placed. tt)
+  told-step (ask.Content command) = grind (arith, nothing_told)
 
   pub rebuild-step : (asked : Ask C)
       → (step meaning form machine by asked).machine.shell.rebuild
@@ -628,6 +489,4 @@ module _ {C R I S : Type 0} (meaning : Meaning C R I S) (form : StrForm) (machin
   pub rebuild-loss : (cf : CfId)
       → (loss_step meaning form machine cf).machine.shell.rebuild
       ≡ rebuild_next active by (marked cf) machine.shell.rebuild
-  rebuild-loss cf =
-      let is = moves-loss form room machine.shell (Unit {0}) by cf in
-      ap (λ (w : Work). w.0.rebuild) is.does ∙ is.tells
+  rebuild-loss cf = grind (arith, moves-loss, Work)

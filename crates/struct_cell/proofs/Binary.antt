@@ -1,16 +1,12 @@
 -- The bits of a word that is made of bits.
-use Rattle.struct_cell.proofs.Imports.{rules, ◌≡◌, ℕ, zero, suc, ◌+◌, ◌-◌, ◌*◌, ◌%◌, ◌^◌, ◌<◌, ◌≤◌, ◌==◌, Fits, w32, Bool, true, false, refl, sym, ap, ◌∙◌, subst, arith, inl, inr, pow-suc, pow_mono, if◌then◌else◌, bit_at, cases_lt, bit_at_cat_low, bit_at_cat_high, bit_in, word_from, whole_word}
+use Rattle.struct_cell.proofs.Imports.{◌≡◌, ℕ, zero, suc, ◌+◌, ◌-◌, ◌*◌, ◌%◌, ◌^◌, ◌<◌, ◌≤◌, ◌==◌, Fits, w32, Bool, true, false, refl, sym, ◌∙◌, subst, arith, inl, inr, pow-suc, pow_mono, if◌then◌else◌, bit_at, cases_lt, bit_at_cat_low, bit_at_cat_high, bit_in, word_from, whole_word}
 
 abbrev pub one_if : Bool → ℕ
 one_if b = if b then 1 else 0
 
 pub word-small : (f : ℕ → Bool) (n : ℕ) → word_from f n < 2 ^ n
 word-small f zero = omega arith
-word-small f (suc n) = top (f n) (2 ^ n) (word_from f n) (2 ^ suc n) (word-small f n) (pow-suc 2 n)
-  where
-    top : (b : Bool) (p w q : ℕ) → w < p → q ≡ p * 2 → one_if b * p + w < q
-    top true p w q less is = omega (arith, less, is)
-    top false p w q less is = omega (arith, less, is)
+word-small f (suc n) = grind (arith, pow-suc, word-small f n)
 
 one_bit : (b : Bool) → bit_at (one_if b) 0 ≡ one_if b
 one_bit true = refl
@@ -21,11 +17,7 @@ bit-word f zero k less = absurd (omega arith)
 bit-word f (suc n) k less =
     elim (cases_lt k n) [
       | inl low ↦ bit_at_cat_low (one_if (f n)) n (word_from f n) k low ∙ bit-word f n k low
-      | inr high ↦
-          let is : n ≡ k = omega arith in
-          subst (λ j. bit_at (one_if (f n) * 2 ^ n + word_from f n) j ≡ one_if (f j)) is
-          (let z : n - n ≡ 0 = omega arith in bit_at_cat_high (one_if (f n)) n (word_from f n) n (word-small f n)
-          (omega arith) ∙ ap (bit_at (one_if (f n))) z ∙ one_bit (f n))
+      | inr high ↦ grind (arith, bit_at_cat_high, word-small, one_bit)
     ]
 
 tells : (b : Bool) (v : ℕ) → v ≡ one_if b → (v == 1) ≡ b
@@ -33,28 +25,15 @@ tells true v is = subst (λ k. (k == 1) ≡ true) (sym is) refl
 tells false v is = subst (λ k. (k == 1) ≡ false) (sym is) refl
 
 pub word_bits : (f : ℕ → Bool) (n k : ℕ) → n ≤ 32 → k < n → bit_in (word_from f n) k ≡ f k
-word_bits f n k most less =
-    let is : k % 32 ≡ k = omega arith in
-    subst (λ j. (bit_at (word_from f n) j == 1) ≡ f k) (sym is)
-    (tells (f k) (bit_at (word_from f n) k) (bit-word f n k less))
+word_bits f n k most less = grind (arith, tells, bit-word)
 
 pub sum-fits : (k found : ℕ) → k < 32 → found < 2 ^ k → Fits w32 (found + 1 * 2 ^ k % 4294967296)
-sum-fits k found less low =
-    let most : 2 ^ k ≤ 2147483648 = pow_mono {i = k} {j = 31} (omega arith) in
-    fits (2 ^ k) found low most
-  where
-    fits : (p found : ℕ) → found < p → p ≤ 2147483648 → Fits w32 (found + 1 * p % 4294967296)
-    fits p found low most = let same : 1 * p % 4294967296 ≡ p = omega arith in let sum : found + 1 * p % 4294967296 <
-        4294967296 = omega (arith, same, low, most) in search rules
+sum-fits k found less low = grind (arith, pow_mono)
 
 -- a word with one bit more
 pub next_bit : (f : ℕ → Bool) (k found after : ℕ) (b : Bool) → b ≡ f k → found ≡ word_from f k
     → after ≡ (if b then 1 else 0) * 2 ^ k + found → after ≡ word_from f (k + 1)
-next_bit f k found after b here was is =
-    let next : suc k ≡ k + 1 = omega arith in
-    subst (λ n. after ≡ word_from f n) next
-    (is ∙ ap (λ (c : Bool). (if c then 1 else 0) * 2 ^ k + found) here
-    ∙ ap (λ (n : ℕ). (if f k then 1 else 0) * 2 ^ k + n) was)
+next_bit f k found after b here was is = grind arith
 
 -- the word that a loop over its 32 bits ends with
 pub whole : (f : ℕ → Bool) (k found : ℕ) → k ≡ 32 → found ≡ word_from f k → found ≡ whole_word f

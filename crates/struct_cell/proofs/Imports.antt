@@ -1,5 +1,5 @@
 -- What proofs here name of other crates, and of this one's definitions. Declares nothing.
-pub use Rattle.std.proofs.Common.{rules, ◌≡◌, ℕ, zero, suc, ◌+◌, ◌-◌, ◌*◌, ◌%◌, ◌^◌, ◌<◌, ◌≤◌, ◌==◌, Fits, w32, Bool, true, false, refl, sym, ap, ◌∙◌, subst, arith, inl, inr, pow-suc, pow_mono, if◌then◌else◌, ◌/◌, ◌&&◌, nat_lt, List, [], ◌∷◌, ◌++◌, length, map, All, Option, ◌⊎◌, get_or, set, take, fold, subst₂, ◌≢◌, replicate, Some, Contains, None, option_and_then, slice_get, filter, length-append, slice_set}
+pub use Rattle.std.proofs.Common.{rules, ◌≡◌, ℕ, zero, suc, ◌+◌, ◌-◌, ◌*◌, ◌%◌, ◌^◌, ◌<◌, ◌≤◌, ◌==◌, Fits, w32, Bool, true, false, refl, sym, ap, ◌∙◌, subst, arith, inl, inr, pow-suc, pow_mono, if◌then◌else◌, ◌/◌, ◌&&◌, nat_lt, List, [], ◌∷◌, ◌++◌, length, map, All, Option, ◌⊎◌, get_or, set, take, fold, subst₂, ◌≢◌, replicate, Some, Contains, None, option_and_then, slice_get, filter, length-append}
 pub use Rattle.std.proofs.lemmas.Bool.{cases_lt}
 pub use Rattle.std.proofs.lemmas.Bool.Decides.{nat_tests}
 pub use Rattle.std.proofs.lemmas.List.{map-append, get_or-replicate, get_or-set_other, get_or_past, length-replicate, take_more, get_or_default, get_or-take, length-take-le, take_all, take-append-le, get_or_append_left, get_or_push, get_or-set_same, length_push, length-set, length-map, get_or-map}
@@ -21,23 +21,22 @@ pub use Rattle.engine_api.proofs.AskLaws.{marks_few, two_asked}
 pub use Rattle.engine_api.proofs.HistoryLaws.{calls-turn, call_added, legal_none, legal_turn, number_legal, added_turn, replay-push, by_turns}
 pub use Rattle.engine_api.proofs.NumberLaws.{number_added, numbered_legal, length-turn, number_past, last_below-turn, last_below-past}
 pub use Rattle.engine_api.specs.Answers.{answers}
-pub use Rattle.engine_api.specs.History.{Call, Turn, calls, replay, next_entry, with_marks, marks_by, after_turn, own, last_call_below, IsNumbered, numbers, IsPoint, stands_after, next_mark, with_mark, IsLegal}
+pub use Rattle.engine_api.specs.History.{Call, Turn, calls, replay, next_entry, with_marks, marks_by, after_turn, own, last_call_below, IsNumbered, numbers, IsPoint, stands_after, with_mark, IsLegal}
 pub use Rattle.engine_api.specs.LinkAsks.{links_asked, answers_to, operator}
-pub use Rattle.engine_api.specs.Machine.{Machine, opening, CallOutcome, step}
+pub use Rattle.engine_api.specs.Machine.{Machine, opening}
 pub use Rattle.engine_api.specs.Meaning.{Meaning}
 pub use Rattle.engine_api.specs.Shapes.{shape_of}
 pub use Rattle.engine_api.specs.Told.{told_of}
 pub use Rattle.engine_api.specs.declared.asks.Ask.{Ask}
 pub use Rattle.engine_api.specs.declared.asks.Reply.{Reply}
-pub use Rattle.engine_api.specs.declared.asks.What.{What}
 pub use Rattle.engine_api.specs.declared.histories.Entry.{Entry}
 pub use Rattle.struct_machine.proofs.CfLink.LinkLaws.{asked-append}
 pub use Rattle.struct_machine.proofs.ChangeLaws.{untouched_same}
-pub use Rattle.struct_machine.specs.CfLink.Links.{AreAsked, IsAskedAll, link_at}
+pub use Rattle.struct_machine.specs.CfLink.Links.{AreAsked}
 pub use Rattle.struct_machine.specs.CfLink.declared.links.Links.{Links}
 pub use Rattle.struct_machine.specs.PlexShell.Losses.{reply_as}
 pub use Rattle.struct_machine.specs.StructureView.{StructureView, stands_at}
-pub use Rattle.struct_machine.specs.Turns.{IsTurn, lost_at, lost_by, behind_marks, AreTold}
+pub use Rattle.struct_machine.specs.Turns.{IsTurn, lost_at, behind_marks, AreTold}
 pub use Rattle.struct_machine.specs.declared.marks.Mark.{Mark}
 pub use Rattle.vec_words.proofs.Commits.{commits-commit, committed-all}
 pub use Rattle.vec_words.proofs.Logs.{count-push, bits-commit}

@@ -1,5 +1,5 @@
 -- What a cell keeps: at its start, and from one call to the next.
-use Rattle.struct_cell.proofs.Imports.{◌≡◌, ℕ, ◌+◌, ◌/◌, ◌<◌, ◌≤◌, ◌&&◌, Bool, true, false, nat_lt, List, [], ◌∷◌, ◌++◌, length, map, All, refl, sym, ap, subst, ◌∙◌, arith, Option, nat_tests, map-append, All-nil, All-push, StrForm, ConnId, Links, AreAsked, Ask, Reply, Entry, Meaning, Machine, opening, answers, Call, Turn, calls, replay, next_entry, with_marks, marks_by, after_turn, links_asked, answers_to, shape_of, calls-turn, call_added, legal_none, legal_turn, number_added, numbered_legal, length-turn, Mark, StructureView, stands_at, IsTurn, Logged, Committed, Place, CallRecord, commits_of, count_of, bit_in, words_of, StoresEach, IsSpared, WordTable, SeatSeen, commits-commit, count-push, stores-commits, CellKey, About, commit_of, IsCell, Shows, entered, VectorWords, AreOfTable, AreWordsOf, word_at, word_in, words_in}
+use Rattle.struct_cell.proofs.Imports.{◌≡◌, ℕ, ◌+◌, ◌/◌, ◌<◌, ◌≤◌, ◌&&◌, Bool, true, false, List, [], ◌∷◌, ◌++◌, length, map, All, refl, sym, ap, subst, ◌∙◌, arith, Option, nat_tests, map-append, All-nil, All-push, StrForm, ConnId, AreAsked, Ask, Reply, Entry, Meaning, opening, Call, Turn, calls, replay, next_entry, with_marks, marks_by, after_turn, links_asked, answers_to, shape_of, calls-turn, call_added, legal_none, legal_turn, number_added, numbered_legal, length-turn, Mark, StructureView, stands_at, IsTurn, Logged, Committed, Place, CallRecord, commits_of, count_of, bit_in, StoresEach, IsSpared, WordTable, SeatSeen, commits-commit, count-push, stores-commits, CellKey, About, commit_of, IsCell, Shows, entered, VectorWords, AreOfTable, AreWordsOf, word_at, words_in}
 use Rattle.engine_api.specs.declared.asks.What.TheVariants as what
 use Rattle.struct_cell.proofs.MirrorLaws.{stores_alike, words_alike}
 use Rattle.struct_cell.proofs.ShownLaws.{shows_next}
@@ -26,42 +26,7 @@ module _ {C R I S L : Type 0} (asks : L → Option ℕ) (downs : L → Option (L
       → seat.table.len ≡ standing.form.vector → seat.number ≡ 0 → seat.log ≡ [] → journal ≡ []
       → IsCell asks downs faults meaning key key.limit standing touched journal seat
   cell_start key standing touched seat journal key_is machine_is clear touches bare len idle log none =
-      let form_is : key.form ≡ standing.form = ap (λ (k : CellKey C R L). k.form) key_is in
-      let callers_are : key.callers ≡ seat.table.conns = ap (λ (k : CellKey C R L). k.callers) key_is in
-      let words_are : key.words ≡ seat.table = ap (λ (k : CellKey C R L). k.words) key_is in
-      let links_are : key.links ≡ standing.links = ap (λ (k : CellKey C R L). k.links) key_is in
-      subst (λ (j : List (Entry C R)). IsCell asks downs faults meaning key key.limit standing touched j seat) (sym none)
-      (record {
-        form = sym form_is;
-        limit_is = refl;
-        links =
-            subst (λ (start : Links L). AreAsked asks downs faults (answers {C = C} {R = R} meaning key.form []) start standing.links)
-            (sym links_are) (links_none asks downs faults meaning key.form standing.links);
-        table = sym words_are;
-        vectors_of = (touches.0 ∙ sym callers_are, touches.1 ∙ len ∙ ap (λ (f : StrForm). f.vector) (sym form_is));
-        words =
-            words_alike touched.conns touched.len touched.words (λ conn index. false)
-            (meaning.stands standing.machine.content)
-            (λ conn index. sym (ap (λ (m : Machine S). meaning.stands m.content conn index) machine_is
-            ∙ clear conn index)) bare;
-        conns = ap (λ (w : WordTable). w.conns) words_are ∙ sym callers_are;
-        len = ap (λ (w : WordTable). w.len) words_are ∙ len ∙ ap (λ (f : StrForm). f.vector) (sym form_is);
-        idle = idle;
-        commits = ap commits_of log;
-        count = ap count_of log;
-        callers = All-nil (λ (call : Call C R). call.by.0 ≤ key.callers);
-        most = omega arith;
-        room = tt;
-        legal = legal_none meaning key.form;
-        machine = machine_is ∙ ap (opening meaning) (sym form_is);
-        bits = λ n index conn some most below.
-            subst (λ (l : List (Logged (About C R))). Shows meaning key.form key.callers l []) (sym log)
-            (λ n index conn some most below. zero_bit index ∙ none_shown (nat_lt index key.form.vector)
-            ∙ ap (λ (b : Bool). nat_lt index key.form.vector && b)
-            (sym (ap (λ (f : StrForm). meaning.stands (meaning.empty (shape_of f)) conn index) form_is
-            ∙ clear conn index)))
-            n index conn some most below;
-      })
+      grind (arith, links_none, words_alike, All-nil, legal_none, zero_bit, none_shown)
 
   -- a turn keeps it, where its words are stored and its call is committed
   pub cell_turned : (key : CellKey C R L) (limit : ℕ) (standing standing' : StructureView S L)
@@ -99,9 +64,7 @@ module _ {C R I S L : Type 0} (asks : L → Option ℕ) (downs : L → Option (L
       ∙ begun_number in
       let stored_table : stored.table ≡ seat.table = ap (λ (s : SeatSeen (About C R)). s.table) each.seat
       ∙ begun_table in
-      let log_is : seat'.log ≡ stored.log ++ Committed number turn.by.0 about ∷ [] =
-      ap (λ (s : SeatSeen (About C R)). s.log) seat_is
-      ∙ ap (λ (n : ℕ). stored.log ++ Committed n turn.by.0 about ∷ []) stored_number in
+      let log_is : seat'.log ≡ stored.log ++ Committed number turn.by.0 about ∷ [] = grind arith in
       let call : Call C R = call_added meaning form journal turn in
       let here : CallRecord (About C R) = record { number = number; caller = turn.by.0; about = about } in
       let here_is : here ≡ commit_of call =
@@ -135,13 +98,8 @@ module _ {C R I S L : Type 0} (asks : L → Option ℕ) (downs : L → Option (L
             ∙ number_is ∙ sym (length-turn meaning form journal turn);
         callers = subst (All (λ (c : Call C R). c.by.0 ≤ key.callers)) (sym (calls-turn meaning form journal turn))
             (All-push (λ (c : Call C R). c.by.0 ≤ key.callers) (calls journal) call cell.callers within);
-        most = (
-            let all : length history ≡ number_added meaning form journal turn = length-turn meaning form journal turn in
-            let limit_is : limit ≡ key.limit = cell.limit_is in
-            omega (arith, all, few, limit_is, number_is));
-        room =
-            room_more meaning form key.limit journal turn cell.legal cell.room
-            (subst (λ (n : ℕ). length journal < n) cell.limit_is below);
+        most = grind (arith, number_added, length-turn);
+        room = grind (arith, room_more);
         legal = legal_turn meaning form journal turn cell.legal;
         machine = machine_is;
         bits = subst (λ (l : List (Logged (About C R))). Shows meaning form key.callers l history) (sym log_is)
@@ -153,10 +111,7 @@ module _ {C R I S L : Type 0} (asks : L → Option ℕ) (downs : L → Option (L
             (λ conn word. are conn word
             ∙ ap (λ (f : StrForm). words_in meaning f standing'.machine conn word) (form_is ∙ cell.form))
             machine_is
-            (λ conn index some most inside spared.
-            kept conn index some (subst (λ (n : ℕ). conn.0 ≤ n) (sym (same_table.0 ∙ cell.vectors_of.0)) most)
-            (subst (λ (n : ℕ). index < n) (sym (same_table.1 ∙ cell.vectors_of.1)) inside) spared
-            ∙ ap (λ (m : Machine S). meaning.stands m.content conn index) cell.machine));
+            (grind arith));
       }
 
   -- so does a turn of the machine, where its marks are entered, its words stored, and its call committed and entered
@@ -204,25 +159,13 @@ module _ {C R I S L : Type 0} (asks : L → Option ℕ) (downs : L → Option (L
       } in marked ++ added ∷ [])) taken_so.reply_is
       ∙ ap (λ (h : List (Entry C R)). h ++ next_entry meaning form
       (with_marks meaning form journal (marks_by meaning form it.down journal by ask)) by ask ∷ []) marked_so in
-      let within : by.0 ≤ key.callers =
-      subst (λ (n : ℕ). n ≤ key.callers) (sym by_is)
-      (subst (λ (n : ℕ). owner ≤ n) (ap (λ (w : WordTable). w.conns) vectors_are ∙ cell.conns) most) in
+      let within : by.0 ≤ key.callers = grind arith in
       let begun_seat : begun ≡ record seat { number = count } =
       begun_is ∙ ap (λ (s : SeatSeen (About C R)). record s { number = count }) learned_is in
       let told : ℕ → ℕ → ℕ = word_at touched'.len touched'.words in
       let lens : touched'.len ≡ key.form.vector = same_table.1 ∙ cell.vectors_of.1 in
       let stores : StoresEach key.words.conns key.words.len
-      (words_in meaning standing'.form standing'.machine) touched'.places begun stored =
-      stores_alike key.words.conns key.words.len told (words_in meaning standing'.form standing'.machine)
-      touched'.places begun stored
-      (λ conn word some most inside.
-      words conn word some
-      (subst (λ (n : ℕ). conn ≤ n) (cell.conns ∙ sym (same_table.0 ∙ cell.vectors_of.0)) most)
-      (subst (λ (n : ℕ). word < words_of n) (cell.len ∙ sym lens) inside)
-      ∙ ap (λ (n : ℕ). word_in n (meaning.stands standing'.machine.content) conn word)
-      (lens ∙ ap (λ (f : StrForm). f.vector) (sym (form_is ∙ cell.form))))
-      (subst (λ (w : WordTable). StoresEach w.conns w.len told touched'.places begun stored) vectors_are
-      (subst (λ (ps : List Place). StoresEach vectors.conns vectors.len told ps begun stored) named_are each)) in
+      (words_in meaning standing'.form standing'.machine) touched'.places begun stored = grind (arith, stores_alike) in
       let two : length marks ≤ 2 = few_marks asks downs faults meaning standing standing' by ask marks reply done in
       let all : length marked ≡ length journal + length marks =
       ap length marked_is ∙ length-entered journal marks in
@@ -232,6 +175,4 @@ module _ {C R I S L : Type 0} (asks : L → Option ℕ) (downs : L → Option (L
       (words_in meaning standing'.form standing'.machine) turn count reply cell number_is taken_so.reply_is
       taken_so.machine_is form_is same_table within (omega (arith, few, two, all, count_is)) few it.asked kept words begun_seat
       stores (λ conn word. refl)
-      (seat_is
-      ∙ ap (λ (n : ℕ). record stored { number = 0; log = stored.log ++ Committed stored.number n (ask, reply) ∷ [] })
-      (sym by_is)))
+      (grind arith))

@@ -1,5 +1,5 @@
 -- Words that are brought to the bits that are told.
-use Rattle.struct_cell.proofs.Imports.{◌≡◌, ℕ, zero, suc, ◌+◌, ◌*◌, ◌/◌, ◌%◌, ◌^◌, ◌<◌, ◌≤◌, ◌==◌, ◌⊎◌, inl, inr, Bool, true, false, nat_lt, List, [], ◌∷◌, ◌++◌, length, get_or, set, take, fold, refl, sym, ap, ◌∙◌, subst, subst₂, arith, ◌≢◌, ◌&&◌, if◌then◌else◌, replicate, bit_at, AllByRecursion, nat_tests, same_from_bits_below, get_or-replicate, get_or-set_other, get_or_past, length-replicate, take_more, cases_lt, All-push, All-weaker, recursion_from_All, fold_push, BitChange, ConnId, Bits, Gains, bits_told, difference, is_for, Logged, Stored, Place, word_number, words_of, IsAt, IsSpared, IsWithin, StoresEach, stores_of, SeatSeen, word_number-same, AreMirrorsOf, AreWordsOf, IsEvery, MirrorWords, with_told, word_at, bit_of, whole_word, word_from, word_in}
+use Rattle.struct_cell.proofs.Imports.{◌≡◌, ℕ, zero, suc, ◌+◌, ◌*◌, ◌/◌, ◌%◌, ◌^◌, ◌<◌, ◌≤◌, ◌==◌, ◌⊎◌, inl, inr, Bool, true, false, List, [], ◌∷◌, ◌++◌, length, get_or, set, take, fold, refl, sym, ap, ◌∙◌, subst, subst₂, arith, ◌≢◌, ◌&&◌, if◌then◌else◌, replicate, bit_at, AllByRecursion, nat_tests, same_from_bits_below, get_or-replicate, get_or-set_other, get_or_past, length-replicate, take_more, cases_lt, All-push, All-weaker, recursion_from_All, fold_push, BitChange, ConnId, Bits, Gains, bits_told, difference, Stored, Place, word_number, words_of, IsAt, IsSpared, IsWithin, StoresEach, stores_of, SeatSeen, word_number-same, AreMirrorsOf, AreWordsOf, IsEvery, MirrorWords, with_told, word_at, bit_of, whole_word, word_from, word_in}
 use Rattle.struct_cell.proofs.Binary.{one_if, whole-small, word_place}
 use Rattle.struct_cell.proofs.PlaceLaws.{bit-past}
 
@@ -7,10 +7,7 @@ use Rattle.struct_cell.proofs.PlaceLaws.{bit-past}
 
 word_alike : (f g : ℕ → Bool) (n : ℕ) → ((k : ℕ) → k < n → f k ≡ g k) → word_from f n ≡ word_from g n
 word_alike f g zero same = refl
-word_alike f g (suc n) same =
-    let here : f n ≡ g n = same n (omega arith) in
-    let rest : word_from f n ≡ word_from g n = word_alike f g n (λ k less. same k (omega (arith, less))) in
-    ap (λ (b : Bool). one_if b * 2 ^ n + word_from f n) here ∙ ap (λ (w : ℕ). one_if (g n) * 2 ^ n + w) rest
+word_alike f g (suc n) same = grind (arith, one_if, word_alike f g n (λ k less. same k (omega (arith, less))))
 
 pub whole_alike : (f g : ℕ → Bool) → ((k : ℕ) → k < 32 → f k ≡ g k) → whole_word f ≡ whole_word g
 unfolding whole_word
@@ -28,14 +25,8 @@ bit_put f bits after place bit small here others was =
     g k = if k == place then bit else f k
 
     at : (k : ℕ) → k < 32 → (b : Bool) → k == place ≡ b → bit_at after k ≡ bit_at (whole_word g) k
-    at k below true is =
-        let same : k ≡ place = grind (arith, nat_tests) in
-        ap (bit_at after) same ∙ here ∙ ap (λ (b : Bool). one_if (if b then bit else f k)) (sym is)
-        ∙ sym (word_place g k below)
-    at k below false is =
-        let apart : k ≢ place = grind (arith, nat_tests) in
-        others k below apart ∙ ap (λ (w : ℕ). bit_at w k) was ∙ word_place f k below
-        ∙ ap (λ (b : Bool). one_if (if b then bit else f k)) (sym is) ∙ sym (word_place g k below)
+    at k below true is = grind (arith, nat_tests, one_if, word_place, g)
+    at k below false is = grind (arith, nat_tests, word_place, one_if, g)
 
 no_bits : (n : ℕ) → word_from (λ k. false) n ≡ 0
 no_bits zero = refl
@@ -50,22 +41,13 @@ none_past true = refl
 none_past false = refl
 
 zeros : (none count i : ℕ) → get_or (replicate count none) i none ≡ none
-zeros none count i = elim (cases_lt i count) [
-  | inl low ↦ get_or-replicate count i none none low
-  | inr high ↦ (let all : length (replicate count none) ≡ count = length-replicate count none in
-      get_or_past (replicate count none) i none (omega (arith, high, all)))
-]
+zeros none count i = grind (arith, cases_lt, get_or-replicate, length-replicate, get_or_past)
 
 -- words without a bit
 pub words_none : (conns len count : ℕ) (words : List ℕ) → words ≡ replicate count 0
     → AreWordsOf conns len words (λ conn index. false)
 words_none conns len count words is conn word some most within =
-    let none : ℕ = 0 in
-    ap (λ (ws : List ℕ). get_or ws (word_number len conn word) none) is
-    ∙ zeros none count (word_number len conn word)
-    ∙ sym none_whole
-    ∙ whole_alike (λ k. false) (λ k. nat_lt (32 * word + k) len && false)
-    (λ k less. sym (none_past (nat_lt (32 * word + k) len)))
+    grind (arith, zeros, none_whole, whole_alike, none_past)
 
 -- ---- bits that are told
 
@@ -74,42 +56,14 @@ told_here : (len : ℕ) (bits : Bits) (change : BitChange) (conn word k : ℕ) �
     → change.index / 32 ≡ word → change.index < len → k < 32
     → (if k == change.index % 32 then change.bit else bit_of len bits (record { 0 = conn }) (32 * word + k))
     ≡ bit_of len (with_told bits change) (record { 0 = conn }) (32 * word + k)
-told_here len bits change conn word k conns words below less = go (k == change.index % 32) refl
-  where
-    index : ℕ
-    index = 32 * word + k
-
-    go : (b : Bool) → k == change.index % 32 ≡ b
-        → (if b then change.bit else bit_of len bits (record { 0 = conn }) index)
-        ≡ bit_of len (with_told bits change) (record { 0 = conn }) index
-    go true is =
-        let place : k ≡ change.index % 32 = grind (arith, nat_tests) in
-        let same : change.index ≡ index = omega (arith, place, words) in
-        let inside : nat_lt index len ≡ true = grind (arith, nat_tests) in
-        let here : is_for (record { 0 = conn }) index change ≡ true = grind (arith, nat_tests) in
-        rw (inside, here) refl
-    go false is =
-        let place : k ≢ change.index % 32 = grind (arith, nat_tests) in
-        let apart : change.index ≢ index = λ same. place (omega (arith, same, words, less)) in
-        let other : is_for (record { 0 = conn }) index change ≡ false = grind (arith, nat_tests) in
-        rw other refl
+told_here len bits change conn word k conns words below less = grind (arith, nat_tests)
 
 -- another word
 told_apart : (len : ℕ) (bits : Bits) (change : BitChange) (conn word k : ℕ) → k < 32
     → ¬ IsAt conn word (record { conn = change.conn; word = change.index / 32 })
     → bit_of len bits (record { 0 = conn }) (32 * word + k)
     ≡ bit_of len (with_told bits change) (record { 0 = conn }) (32 * word + k)
-told_apart len bits change conn word k less apart = go (is_for (record { 0 = conn }) (32 * word + k) change) refl
-  where
-    go : (b : Bool) → is_for (record { 0 = conn }) (32 * word + k) change ≡ b
-        → bit_of len bits (record { 0 = conn }) (32 * word + k)
-        ≡ bit_of len (with_told bits change) (record { 0 = conn }) (32 * word + k)
-    go true is =
-        let conns : change.conn.0 ≡ conn = grind (arith, nat_tests) in
-        let same : change.index ≡ 32 * word + k = grind (arith, nat_tests) in
-        let words : change.index / 32 ≡ word = omega (arith, same, less) in
-        absurd (apart (conns, words))
-    go false is = rw is refl
+told_apart len bits change conn word k less apart = grind (arith, nat_tests)
 
 -- the words, once a bit is told
 pub words_told : (conns len : ℕ) (old new : List ℕ) (bits : Bits) (change : BitChange) (after : ℕ)
@@ -132,14 +86,7 @@ words_told conns len old new bits change after positive below changed here other
 
     go : (b : Bool) → change.conn.0 == conn ≡ b → (e : Bool) → change.index / 32 == word ≡ e
         → word_at len new conn word ≡ word_in len (with_told bits change) conn word
-    go true is true at =
-        let conns_are : change.conn.0 ≡ conn = grind (arith, nat_tests) in
-        let words_are : change.index / 32 ≡ word = grind (arith, nat_tests) in
-        let was : word_at len old change.conn.0 (change.index / 32) ≡ word_in len bits conn word =
-        (λ i. word_at len old (conns_are i) (words_are i)) ∙ were conn word some most within in
-        (λ i. word_at len new (sym conns_are i) (sym words_are i)) ∙ here
-        ∙ changed (λ k. bit_of len bits (record { 0 = conn }) (32 * word + k)) was
-        ∙ whole_alike _ _ (λ k less. told_here len bits change conn word k conns_are words_are below less)
+    go true is true at = grind (arith, nat_tests, whole_alike, told_here)
     go true is false at =
         let apart : change.index / 32 ≢ word = grind (arith, nat_tests) in else_where (λ same. apart same.1)
     go false is e at =
@@ -150,16 +97,7 @@ pub words_past : (conns len : ℕ) (words : List ℕ) (bits : Bits) (change : Bi
     → (change.conn.0 ≡ 0) ⊎ ((conns < change.conn.0) ⊎ (len ≤ change.index))
     → AreWordsOf conns len words bits → AreWordsOf conns len words (with_told bits change)
 words_past conns len words bits change past were conn word some most within =
-    were conn word some most within ∙ whole_alike _ _ (λ k less. go (32 * word + k) (nat_lt (32 * word + k) len) refl)
-  where
-    go : (index : ℕ) (b : Bool) → nat_lt index len ≡ b
-        → bit_of len bits (record { 0 = conn }) index ≡ bit_of len (with_told bits change) (record { 0 = conn }) index
-    go index true is =
-        let below : index < len = grind (arith, nat_tests) in
-        let other : is_for (record { 0 = conn }) index change ≡ false =
-        bit-past change conns len (record { 0 = conn }) index past some most below in
-        rw other refl
-    go index false is = rw is refl
+    grind (arith, whole_alike, nat_tests, bit-past)
 
 -- one bit more
 pub told_more : (before : Bits) (changes : List BitChange) (i : ℕ) (d : BitChange) → i < length changes
@@ -175,14 +113,7 @@ last_told before told = fold (λ (was now : Bool). now) before told
 folded : (changes : List BitChange) (before : Bits) (conn : ConnId) (index : ℕ)
     → fold with_told before changes conn index ≡ last_told (before conn index) (bits_told changes conn index)
 folded [] before conn index = refl
-folded (change ∷ changes) before conn index =
-    folded changes (with_told before change) conn index ∙ go (is_for conn index change) refl
-  where
-    go : (b : Bool) → is_for conn index change ≡ b
-        → last_told (with_told before change conn index) (bits_told changes conn index)
-        ≡ last_told (before conn index) (bits_told (change ∷ changes) conn index)
-    go true is = rw is refl
-    go false is = rw is refl
+folded (change ∷ changes) before conn index = grind (arith, folded changes (with_told before change) conn index)
 
 last_is : (before after : Bool) → last_told before (difference before after) ≡ after
 last_is false false = refl
@@ -195,16 +126,7 @@ pub words_gained : (conns len : ℕ) (words : List ℕ) (before after : Bits) (c
     → Gains before after [] changes → AreWordsOf conns len words (fold with_told before changes)
     → AreWordsOf conns len words after
 words_gained conns len words before after changes gains are conn word some most within =
-    are conn word some most within
-    ∙ whole_alike _ _ (λ k less. ap (λ (b : Bool). nat_lt (32 * word + k) len && b)
-    (told (record { 0 = conn }) (32 * word + k)))
-  where
-    told : (conn : ConnId) (index : ℕ) → fold with_told before changes conn index ≡ after conn index
-    told conn index =
-        folded changes before conn index
-        ∙ ap (last_told (before conn index)) (ap (λ (all : List BitChange). bits_told all conn index) gains.behind
-        ∙ gains.exactly conn index)
-        ∙ last_is (before conn index) (after conn index)
+    grind (arith, whole_alike, folded, last_is)
 
 -- the same where the words are another mirror's
 pub bit_taken : (old new : MirrorWords) (bits : Bits) (change : BitChange) (after : ℕ) → AreMirrorsOf old new
@@ -260,10 +182,7 @@ looked_more start old new bits places i d below table here others was conn word 
 
     go : (b : Bool) → place.conn.0 == conn ≡ b → (e : Bool) → place.word == word ≡ e
         → IsSpared (take (i + 1) places) conn word ⊎ (word_at new.len new.words conn word ≡ bits conn word)
-    go true is true at =
-        let conns : place.conn.0 ≡ conn = grind (arith, nat_tests) in
-        let words : place.word ≡ word = grind (arith, nat_tests) in
-        inr (subst₂ (λ (c w : ℕ). word_at new.len new.words c w ≡ bits c w) conns words here)
+    go true is true at = grind (arith, nat_tests)
     go true is false at =
         let apart : place.word ≢ word = grind (arith, nat_tests) in else_where (λ same. apart same.1)
     go false is e at =
@@ -275,21 +194,13 @@ pub looked_all : (start new : MirrorWords) (vector : ℕ) (bits : Bits) (places 
     → ((conn word : ℕ) → 0 < conn → word < words_of start.len
     → IsSpared places conn word ⊎ (word_at new.len new.words conn word ≡ word_in vector bits conn word))
     → AreWordsOf new.conns new.len new.words bits
-looked_all start new vector bits places table every same are conn word some most within =
-    let inside : word < words_of start.len = subst (λ (n : ℕ). word < words_of n) table.1 within in
-    elim (are conn word some inside) [
-      | inl spared ↦ absurd (every conn word some (subst (λ (n : ℕ). conn ≤ n) table.0 most) inside spared)
-      | inr is ↦ is ∙ ap (λ (n : ℕ). word_in n bits conn word) (sym (table.1 ∙ same))
-    ]
+looked_all start new vector bits places table every same are conn word some most within = grind arith
 
 -- the same bits by another name
 pub words_alike : (conns len : ℕ) (words : List ℕ) (before after : Bits)
     → ((conn : ConnId) (index : ℕ) → before conn index ≡ after conn index)
     → AreWordsOf conns len words before → AreWordsOf conns len words after
-words_alike conns len words before after same are conn word some most within =
-    are conn word some most within
-    ∙ whole_alike _ _ (λ k less. ap (λ (b : Bool). nat_lt (32 * word + k) len && b)
-    (same (record { 0 = conn }) (32 * word + k)))
+words_alike conns len words before after same are conn word some most within = grind (arith, whole_alike)
 
 -- ---- stores of them
 
@@ -305,16 +216,5 @@ module _ {D : Type 0} where
   pub stores_alike : (conns len : ℕ) (one other : ℕ → ℕ → ℕ) (named : List Place) (before after : SeatSeen D)
       → ((conn word : ℕ) → 0 < conn → conn ≤ conns → word < words_of len → one conn word ≡ other conn word)
       → StoresEach conns len one named before after → StoresEach conns len other named before after
-  stores_alike conns len one other named before after same each = record {
-    places = each.places;
-    seat =
-        each.seat
-        ∙ ap (λ (some : List (Logged D)). record before { log = before.log ++ some })
-        (stores_same len one other before.number each.places
-        (recursion_from_All (λ (place : Place). one place.conn.0 place.word ≡ other place.conn.0 place.word) each.places
-        (All-weaker (IsWithin conns len) (λ (place : Place). one place.conn.0 place.word ≡ other place.conn.0 place.word)
-        (λ place within. same place.conn.0 place.word within.0 within.1 within.2) each.places each.within)));
-    within = each.within;
-    once = each.once;
-    same = each.same;
-  }
+  stores_alike conns len one other named before after same each =
+      grind (arith, stores_same, recursion_from_All, All-weaker)

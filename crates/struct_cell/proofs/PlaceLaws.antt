@@ -1,5 +1,5 @@
 -- Words that places name, and bits whose words they are.
-use Rattle.struct_cell.proofs.Imports.{◌≡◌, ℕ, ◌+◌, ◌/◌, ◌<◌, ◌≤◌, Bool, true, false, List, [], ◌∷◌, ◌++◌, take, length, get_or, Some, refl, sym, ap, subst, ◌∙◌, arith, inl, inr, All, Contains, ◌⊎◌, cases_lt, All-pop, All-push, All-contains, take_more, get_or_default, get_or-take, length-take-le, nat_tests, BitChange, ConnId, is_for, Place, IsAt, IsSpared, AreDistinct}
+use Rattle.struct_cell.proofs.Imports.{◌≡◌, ℕ, ◌+◌, ◌/◌, ◌<◌, ◌≤◌, false, List, [], ◌∷◌, ◌++◌, take, length, get_or, Some, refl, sym, subst, ◌∙◌, arith, inl, inr, All, Contains, ◌⊎◌, cases_lt, All-pop, All-push, All-contains, take_more, get_or_default, get_or-take, length-take-le, nat_tests, BitChange, ConnId, is_for, Place, IsAt, IsSpared, AreDistinct}
 
 -- no place of a list and one more
 pub spared-front : (places : List Place) (place : Place) (conn word : ℕ) → IsSpared (places ++ place ∷ []) conn word
@@ -11,14 +11,7 @@ spared-front places place conn word spared =
 pub bit-apart : (change : BitChange) (conn : ConnId) (index : ℕ)
     → ¬ IsAt conn.0 (index / 32) (record { conn = change.conn; word = change.index / 32 })
     → is_for conn index change ≡ false
-bit-apart change conn index apart = by_same (is_for conn index change) refl
-  where
-    by_same : (b : Bool) → is_for conn index change ≡ b → is_for conn index change ≡ false
-    by_same true same =
-        let conns : change.conn.0 ≡ conn.0 = grind (arith, nat_tests) in
-        let indices : change.index ≡ index = grind (arith, nat_tests) in
-        absurd (apart (conns, ap (λ (i : ℕ). i / 32) indices))
-    by_same false other = other
+bit-apart change conn index apart = grind (arith, nat_tests)
 
 -- nor is a bit that the vectors don't have one that they have
 pub bit-past : (change : BitChange) (conns len : ℕ) (conn : ConnId) (index : ℕ)
@@ -38,10 +31,7 @@ none-named d changes i conn index within all here =
 pub bit-named : (named : List Place) (change : BitChange) (place : Place) (conn : ConnId) (index : ℕ)
     → place ≡ record { conn = change.conn; word = change.index / 32 }
     → Contains named place → IsSpared named conn.0 (index / 32) → is_for conn index change ≡ false
-bit-named named change place conn index is has spared =
-    bit-apart change conn index
-    (subst (λ p. ¬ IsAt conn.0 (index / 32) p) is
-    (All-contains (λ p. ¬ IsAt conn.0 (index / 32) p) named place spared has))
+bit-named named change place conn index is has spared = grind (arith, bit-apart, All-contains)
 
 -- the words of one connector's vector, one more
 pub words-more : (places now : List Place) (conn n : ℕ)

@@ -1,6 +1,5 @@
 -- The entry of a number in a journal, and the call of that number among its caller's calls: both have the same reply.
-use Rattle.struct_cell.proofs.Imports.{◌≡◌, ℕ, zero, suc, ◌+◌, ◌-◌, ◌≤◌, ◌==◌, Bool, true, false, List, [], ◌∷◌, map, None, Some, Option, refl, sym, ap, subst, ◌∙◌, arith, option_and_then, slice_get, nat_tests, ConnId, Ask, What, Entry, Meaning, calls, own, number_legal, StructureView, calls_in, calls_of, SeatSeen, CellKey, reply_for, reply_at, reply_to, About, own_call_of, IsCell, VectorWords}
-use Rattle.engine_api.specs.declared.asks.What.TheVariants as what
+use Rattle.struct_cell.proofs.Imports.{◌≡◌, ℕ, zero, suc, ◌+◌, ◌-◌, ◌≤◌, ◌==◌, false, List, [], ◌∷◌, map, None, Some, Option, refl, sym, ap, subst, ◌∙◌, arith, option_and_then, slice_get, nat_tests, ConnId, Entry, Meaning, calls, own, number_legal, StructureView, calls_in, calls_of, SeatSeen, CellKey, reply_for, reply_at, reply_to, About, own_call_of, IsCell, VectorWords}
 use Rattle.struct_cell.proofs.ToldLaws.{own_calls}
 
 module _ {C R : Type 0} where
@@ -28,68 +27,15 @@ module _ {C R : Type 0} where
       → number ≤ before → reply_to number (heard owner entries) ≡ None
   none_below owner number before [] count low = refl
   none_below owner number before (entry ∷ entries) count low =
-      by_what entry.what refl (none_below owner number (before + 1) entries count.1 (omega (arith, low)))
-    where
-      by_owner : (asked : Ask C) (b : Bool) → entry.by.0 == owner.0 ≡ b → entry.what ≡ what.Call asked
-          → reply_to number (heard owner entries) ≡ None
-          → reply_to number (heard owner (entry ∷ entries)) ≡ None
-      by_owner asked true mine is rest =
-          let here : entry.no ≡ before + 1 = count.0 in
-          let other : entry.no == number ≡ false = grind (arith, nat_tests) in
-          rw (is, mine, other) rest
-      by_owner asked false mine is rest = rw (is, mine) rest
-
-      by_what : (told : What C) → entry.what ≡ told → reply_to number (heard owner entries) ≡ None
-          → reply_to number (heard owner (entry ∷ entries)) ≡ None
-      by_what (what.Call asked) is rest = by_owner asked (entry.by.0 == owner.0) refl is rest
-      by_what (what.Lost cf) is rest = rw is rest
+      grind (arith, nat_tests, none_below owner number (before + 1) entries count.1 (omega (arith, low)))
 
   -- the reply of an entry for a caller, and that of the caller's call with its number
   reply_there : (owner : ConnId) (before : ℕ) (entries : List (Entry C R)) (i : ℕ) → CountFrom before entries
       → reply_to (before + i + 1) (heard owner entries) ≡ option_and_then (reply_for owner) (slice_get entries i)
   reply_there owner before [] i count = refl
-  reply_there owner before (entry ∷ entries) zero count =
-      by_what entry.what refl
-      (none_below owner (before + 0 + 1) (before + 1) entries count.1 (omega arith))
-    where
-      by_owner : (asked : Ask C) (b : Bool) → entry.by.0 == owner.0 ≡ b → entry.what ≡ what.Call asked
-          → reply_to (before + 0 + 1) (heard owner entries) ≡ None
-          → reply_to (before + 0 + 1) (heard owner (entry ∷ entries)) ≡ reply_for owner entry
-      by_owner asked true mine is rest =
-          let here : entry.no ≡ before + 1 = count.0 in
-          let same : entry.no == before + 0 + 1 ≡ true = grind (arith, nat_tests) in
-          rw (is, mine, same) refl
-      by_owner asked false mine is rest = rw (is, mine) rest
-
-      by_what : (told : What C) → entry.what ≡ told → reply_to (before + 0 + 1) (heard owner entries) ≡ None
-          → reply_to (before + 0 + 1) (heard owner (entry ∷ entries)) ≡ reply_for owner entry
-      by_what (what.Call asked) is rest = by_owner asked (entry.by.0 == owner.0) refl is rest
-      by_what (what.Lost cf) is rest = rw is rest
+  reply_there owner before (entry ∷ entries) zero count = grind (arith, none_below, nat_tests)
   reply_there owner before (entry ∷ entries) (suc i) count =
-      by_what entry.what refl
-      (let later : (before + 1) + i + 1 ≡ before + suc i + 1 = omega arith in
-      subst (λ (n : ℕ). reply_to n (heard owner entries)
-      ≡ option_and_then (reply_for owner) (slice_get entries i)) later
-      (reply_there owner (before + 1) entries i count.1))
-    where
-      by_owner : (asked : Ask C) (b : Bool) → entry.by.0 == owner.0 ≡ b → entry.what ≡ what.Call asked
-          → reply_to (before + suc i + 1) (heard owner entries)
-          ≡ option_and_then (reply_for owner) (slice_get entries i)
-          → reply_to (before + suc i + 1) (heard owner (entry ∷ entries))
-          ≡ option_and_then (reply_for owner) (slice_get entries i)
-      by_owner asked true mine is rest =
-          let here : entry.no ≡ before + 1 = count.0 in
-          let other : entry.no == before + suc i + 1 ≡ false = grind (arith, nat_tests) in
-          rw (is, mine, other) rest
-      by_owner asked false mine is rest = rw (is, mine) rest
-
-      by_what : (told : What C) → entry.what ≡ told
-          → reply_to (before + suc i + 1) (heard owner entries)
-          ≡ option_and_then (reply_for owner) (slice_get entries i)
-          → reply_to (before + suc i + 1) (heard owner (entry ∷ entries))
-          ≡ option_and_then (reply_for owner) (slice_get entries i)
-      by_what (what.Call asked) is rest = by_owner asked (entry.by.0 == owner.0) refl is rest
-      by_what (what.Lost cf) is rest = rw is rest
+      grind (arith, nat_tests, reply_there owner (before + 1) entries i count.1)
 
   -- the same by the number
   reply_numbered : (owner : ConnId) (entries : List (Entry C R)) (number : ℕ) → CountFrom 0 entries

@@ -1,5 +1,5 @@
 -- What the words show after one more turn: a call, and the marks before it.
-use Rattle.struct_cell.proofs.Imports.{◌≡◌, ℕ, ◌+◌, ◌*◌, ◌/◌, ◌%◌, ◌<◌, ◌≤◌, inl, inr, Bool, true, false, nat_lt, List, [], ◌∷◌, ◌++◌, length, take, refl, sym, ap, subst, ◌∙◌, arith, cases_lt, nat_tests, take-append-le, StrForm, ConnId, Entry, Meaning, Machine, Turn, replay, after_turn, last_call_below, IsNumbered, added_turn, number_added, number_past, last_below-turn, last_below-past, length-turn, bits_at, Logged, Committed, Place, steps_of, word_number, bit_in, StoresEach, IsSpared, SeatSeen, bits-commit, stores-below, stores-from, shown_in, words_in, About, Shows, shown_after, shown_below}
+use Rattle.struct_cell.proofs.Imports.{◌≡◌, ℕ, ◌+◌, ◌*◌, ◌/◌, ◌%◌, ◌<◌, ◌≤◌, inl, inr, List, [], ◌∷◌, ◌++◌, length, take, sym, ap, subst, ◌∙◌, arith, cases_lt, nat_tests, take-append-le, StrForm, ConnId, Entry, Meaning, Machine, Turn, replay, after_turn, last_call_below, IsNumbered, added_turn, number_added, number_past, last_below-turn, last_below-past, length-turn, bits_at, Logged, Committed, Place, steps_of, word_number, bit_in, StoresEach, IsSpared, SeatSeen, bits-commit, stores-below, stores-from, shown_in, words_in, About, Shows, shown_after, shown_below}
 use Rattle.std.proofs.Common.{take_all}
 use Rattle.struct_cell.proofs.Binary.{whole_bit}
 
@@ -21,39 +21,24 @@ module _ {C R I S : Type 0} (meaning : Meaning C R I S) (form : StrForm) where
   shown-end : (history : List (Entry C R)) (n : ℕ) (conn : ConnId) (index : ℕ) → IsNumbered history
       → length history < n
       → shown_below meaning form history n conn index ≡ shown_after meaning form history conn index
-  shown-end history n conn index was past =
-      ap (λ (h : List (Entry C R)). shown_after meaning form h conn index)
-      (ap (λ (k : ℕ). take k history) (was.ended n past) ∙ take_all (length history) history (omega arith))
+  shown-end history n conn index was past = grind (arith, take_all)
 
   shown-new : (history : List (Entry C R)) (turn : Turn C) (n : ℕ) (conn : ConnId) (index : ℕ)
       → number_added meaning form history turn < n
       → shown_below meaning form (after_turn meaning form history turn) n conn index
       ≡ shown_after meaning form (after_turn meaning form history turn) conn index
-  shown-new history turn n conn index past =
-      let number = number_added meaning form history turn in
-      let all : length (after_turn meaning form history turn) ≡ number = length-turn meaning form history turn in
-      ap (λ (h : List (Entry C R)). shown_after meaning form h conn index)
-      (ap (λ (k : ℕ). take k (after_turn meaning form history turn)) (last_below-past meaning form history turn n past)
-      ∙ take_all number (after_turn meaning form history turn) (omega (arith, all)))
+  shown-new history turn n conn index past = grind (arith, number_added, length-turn, last_below-past, take_all)
 
   -- ---- words
 
   bit_of_word : (machine : Machine S) (conn : ConnId) (index : ℕ)
       → bit_in (words_in meaning form machine conn.0 (index / 32)) index ≡ shown_in meaning form machine conn index
-  bit_of_word machine conn index =
-      let same : 32 * (index / 32) + index % 32 ≡ index = omega arith in
-      whole_bit (λ k. shown_in meaning form machine conn (32 * (index / 32) + k)) index
-      ∙ ap (λ (i : ℕ). shown_in meaning form machine conn i) same
+  bit_of_word machine conn index = grind (arith, whole_bit)
 
   masked : (one other : Machine S) (conn : ConnId) (index : ℕ)
       → (index < form.vector → meaning.stands one.content conn index ≡ meaning.stands other.content conn index)
       → shown_in meaning form one conn index ≡ shown_in meaning form other conn index
-  masked one other conn index same = by_end (nat_lt index form.vector) refl
-    where
-      by_end : (b : Bool) → nat_lt index form.vector ≡ b
-          → shown_in meaning form one conn index ≡ shown_in meaning form other conn index
-      by_end true is = let below : index < form.vector = grind (arith, nat_tests) in rw is (same below)
-      by_end false is = rw is refl
+  masked one other conn index same = grind (arith, nat_tests)
 
   -- a call's stores, and its commit. Whatever its marks and the call itself left is in the words that are stored
   pub shows_next : (conns : ℕ) (history : List (Entry C R)) (turn : Turn C) (number : ℕ) (machine : Machine S)
@@ -90,11 +75,7 @@ module _ {C R I S : Type 0} (meaning : Meaning C R I S) (form : StrForm) where
             (λ (b : ℕ). bit_in b index ≡ shown_in meaning form machine conn index)
             each some below (subst (λ (k : ℕ). k ≤ n) (sym begins) high)
             (ap (λ (b : ℕ). bit_in b index) (are conn.0 (index / 32)) ∙ bit_of_word machine conn index)
-            (λ spared. ap (λ (l : List (Logged (About C R))). bit_in (bits_at (steps_of l) w n) index) same_log
-            ∙ shows n index conn some most below
-            ∙ shown-end history (n + 1) conn index was (omega (arith, high, above, number_is))
-            ∙ sym (masked machine (replay meaning form history) conn index
-            (λ inside. kept conn index some most inside spared)))
+            (grind (arith, shown-end, masked))
             ∙ sym after
             ∙ sym (shown-new history turn (n + 1) conn index (omega (arith, high, number_is)))
       ]

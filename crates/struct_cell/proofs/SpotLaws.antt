@@ -1,5 +1,5 @@
 -- Places that are found by their numbers, and places in order.
-use Rattle.struct_cell.proofs.Imports.{◌≡◌, ℕ, ◌+◌, ◌<◌, List, [], ◌∷◌, ◌++◌, length, get_or, set, Some, sym, ap, ◌∙◌, arith, inl, inr, ◌⊎◌, ◌≢◌, slice_get, cases_lt, get_or_append_left, get_or_push, get_or-set_same, get_or-set_other, length_push, length-set, All-push, All-weaker, slice_get-get_or, Place, word_number, IsWithin, word_number-same, AreSpotted, ComeBefore}
+use Rattle.struct_cell.proofs.Imports.{◌≡◌, ℕ, ◌+◌, ◌<◌, List, [], ◌∷◌, ◌++◌, length, get_or, set, Some, ◌∙◌, arith, inl, inr, ◌⊎◌, ◌≢◌, slice_get, cases_lt, get_or_append_left, get_or_push, get_or-set_same, get_or-set_other, length_push, length-set, All-push, All-weaker, slice_get-get_or, Place, word_number, IsWithin, word_number-same, AreSpotted, ComeBefore}
 
 same_place : (one other : Place) → one.conn.0 ≡ other.conn.0 → one.word ≡ other.word → one ≡ other
 same_place one other conn word = λ j. record { conn = record { 0 = conn j }; word = word j }
@@ -30,17 +30,8 @@ spotted_push conns len places spots place number is here number_is below absent 
         let spot : get_or spots (number_in len old) 0 ≡ k = is.spotted k d low in
         let other : number_in len old ≢ number = λ same.
         (let equal : old ≡ place = numbered conns len old place (is.within k d low) here (same ∙ number_is) in
-        absent k (ap (λ (n : ℕ). get_or spots n 0) (sym same) ∙ spot)
-        (slice_get-get_or places k d low ∙ ap Some equal)) in
-        ap (λ (p : Place). get_or (set spots number (length places)) (number_in len p) 0) at
-        ∙ get_or-set_other spots number (number_in len old) (length places) 0 other ∙ spot
-    | inr high ↦
-        let long : length (places ++ place ∷ []) ≡ length places + 1 = length_push places place in
-        let last : k ≡ length places = omega (arith, high, long, inside) in
-        let at : get_or (places ++ place ∷ []) k d ≡ place = get_or_push places place d k (sym last) in
-        ap (λ (p : Place). get_or (set spots number (length places)) (number_in len p) 0) at
-        ∙ ap (λ (n : ℕ). get_or (set spots number (length places)) n 0) (sym number_is)
-        ∙ get_or-set_same spots number (length places) 0 below ∙ sym last
+        grind (arith, slice_get-get_or)) in grind (arith, get_or-set_other)
+    | inr high ↦ grind (arith, length_push, get_or_push, get_or-set_same)
   ];
 }
 
@@ -49,10 +40,4 @@ spotted_push conns len places spots place number is here number_is below absent 
 -- what comes before a word of a connector comes before all words of the next one
 pub before_next : (places : List Place) (conn word : ℕ) → ComeBefore places conn word
     → ComeBefore places (conn + 1) 0
-before_next places conn word before =
-    All-weaker (λ (p : Place). (p.conn.0 < conn) ⊎ ((p.conn.0 ≡ conn) × (p.word < word)))
-    (λ (p : Place). (p.conn.0 < conn + 1) ⊎ ((p.conn.0 ≡ conn + 1) × (p.word < 0)))
-    (λ p is. elim is [
-      | inl less ↦ inl (omega (arith, less))
-      | inr same ↦ (let here = same.0 in inl (omega (arith, here)))
-    ]) places before
+before_next places conn word before = grind (arith, All-weaker)

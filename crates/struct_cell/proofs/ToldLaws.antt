@@ -15,14 +15,7 @@ module _ {C R : Type 0} where
   pub own_calls : (owner : ℕ) (all : List (Call C R))
       → calls_in owner (map commit_of all) ≡ map own_call_of (filter (λ call. call.by.0 == owner) all)
   own_calls owner [] = refl
-  own_calls owner (call ∷ all) = by_owner (call.by.0 == owner) refl (own_calls owner all)
-    where
-      by_owner : (b : Bool) → call.by.0 == owner ≡ b
-          → calls_in owner (map commit_of all) ≡ map own_call_of (filter (λ (c : Call C R). c.by.0 == owner) all)
-          → calls_in owner (map commit_of (call ∷ all)) ≡ map own_call_of
-          (filter (λ (c : Call C R). c.by.0 == owner) (call ∷ all))
-      by_owner true is rest = rw is (ap (λ (more : List (ℕ × About C R)). own_call_of call ∷ more) rest)
-      by_owner false is rest = rw is rest
+  own_calls owner (call ∷ all) = grind (arith, own_calls owner all)
 
 module _ {C R I S L : Type 0} (asks : L → Option ℕ) (downs : L → Option (List ℕ)) (faults : L → ℕ)
     (meaning : Meaning C R I S) (key : CellKey C R L) (limit : ℕ) (standing : StructureView S L)
@@ -67,9 +60,7 @@ module _ {C R I S L : Type 0} (asks : L → Option ℕ) (downs : L → Option (L
       =
       λ n. ap (λ (len : ℕ). bits_of len n) cell.len ∙ cell.bits n test.index conn honest.connector most within in
       let here : shown_below meaning key.form journal (test.at + 1) conn test.index ≡ shown_after meaning key.form
-      (take test.at journal) conn test.index =
-      ap (λ (k : ℕ). shown_after meaning key.form (take k journal) conn test.index)
-      (numbered.points test.at point) in
+      (take test.at journal) conn test.index = grind arith in
       let before : test.sure < test.at → shown_below meaning key.form journal (test.at - 1 + 1) conn test.index
       ≡ shown_after meaning key.form (take (last_call_below journal test.at) journal) conn test.index =
       λ later. (let same : test.at - 1 + 1 ≡ test.at = omega (arith, later) in
@@ -77,23 +68,8 @@ module _ {C R I S L : Type 0} (asks : L → Option ℕ) (downs : L → Option (L
       record {
         point = point;
         seen = honest.not_before;
-        tells = λ below. record {
-          point = point;
-          seen = honest.not_before;
-          stood = elim honest.tells [
-            | inl now ↦ inl (now ∙ at_number test.at ∙ here ∙ shown_is (take test.at journal) conn test.index below)
-            | inr just ↦ inr (
-              just.0,
-              just.1 ∙ at_number (test.at - 1) ∙ before just.0
-                  ∙ shown_is (take (last_call_below journal test.at) journal) conn test.index below,
-            )
-          ];
-        };
-        past = λ behind. elim honest.tells [
-          | inl now ↦ now ∙ at_number test.at ∙ here ∙ shown_none (take test.at journal) conn test.index behind
-          | inr just ↦ just.1 ∙ at_number (test.at - 1) ∙ before just.0
-              ∙ shown_none (take (last_call_below journal test.at) journal) conn test.index behind
-        ];
+        tells = grind (arith, shown_is);
+        past = grind (arith, shown_none);
       }
 
   -- what a pass has shown
@@ -123,17 +99,10 @@ module _ {C R I S L : Type 0} (asks : L → Option ℕ) (downs : L → Option (L
   -- its links, with those that are handed out
   pub closed_links : (handed : Links L) → handed ≡ standing.links
       → AreAsked asks downs faults (answers meaning seen.form history) seen.links handed
-  closed_links handed same =
-      subst (λ (k : CellKey C R L). AreAsked asks downs faults (answers meaning k.form history) k.links handed) key_is
-      (subst (λ (h : List (Entry C R)). AreAsked asks downs faults (answers meaning key.form h) key.links handed)
-      (sym history_is)
-      (subst (AreAsked asks downs faults (answers meaning key.form journal) key.links) (sym same) cell.links))
+  closed_links handed same = grind arith
 
   pub closed_callers : All (λ (call : Call C R). call.by.0 ≤ seen.callers) (calls history)
-  closed_callers =
-      subst (λ (k : CellKey C R L). All (λ (call : Call C R). call.by.0 ≤ k.callers) (calls history)) key_is
-      (subst (λ (h : List (Entry C R)). All (λ (call : Call C R). call.by.0 ≤ key.callers) (calls h))
-      (sym history_is) cell.callers)
+  closed_callers = grind arith
 
   pub closed_mine : All (IsShown seat) passes
       → All (λ (pass : PassSeen (About C R)). pass.mine ≡ map own_call_of (own history (record { 0 = pass.owner })))
@@ -172,9 +141,7 @@ module _ {C R I S L : Type 0} (asks : L → Option ℕ) (downs : L → Option (L
 pub same_tables : {D : Type 0} (words other : WordTable) (passes same : List (PassSeen D)) → words ≡ other
     → same ≡ passes
     → All (λ (pass : PassSeen D). pass.table ≡ words) passes → All (λ (pass : PassSeen D). pass.table ≡ other) same
-same_tables {D} words other passes same is list_is all =
-    subst (λ (ps : List (PassSeen D)). All (λ (pass : PassSeen D). pass.table ≡ other) ps) (sym list_is)
-    (subst (λ (w : WordTable). All (λ (pass : PassSeen D). pass.table ≡ w) passes) is all)
+same_tables {D} words other passes same is list_is all = grind arith
 
 pub same_shown : {D : Type 0} (seat : SeatSeen D) (passes same : List (PassSeen D)) → same ≡ passes
     → All (IsShown seat) same → All (IsShown seat) passes

@@ -1,5 +1,5 @@
 -- What a turn of the machine makes of the journal: marks are entered, and then the call.
-use Rattle.struct_cell.proofs.Imports.{◌≡◌, ℕ, suc, ◌+◌, ◌<◌, ◌≤◌, Bool, List, [], ◌∷◌, ◌++◌, length, get_or, take, map, fold, refl, sym, ap, subst, ◌∙◌, arith, length-append, Option, map-append, take_more, fold_push, Links, IsAskedAll, AreAsked, link_at, asked-append, StrForm, CfId, ConnId, Ask, ShellReply, Reply, Entry, operator, links_asked, answers_to, Meaning, Machine, CallOutcome, step, Call, Turn, calls, numbers, replay, next_entry, next_mark, with_mark, with_marks, marks_by, after_turn, IsLegal, told_of, answers, marks_few, two_asked, answers-turn, legal_group, replay-push, by_turns, calls-turn, call_added, number_added, length-turn, reply_as, Mark, StructureView, lost_at, lost_by, behind_marks, AreTold, IsTurn, AreMadeBelow, with_entry, entered}
+use Rattle.struct_cell.proofs.Imports.{◌≡◌, ℕ, suc, ◌+◌, ◌<◌, ◌≤◌, Bool, List, [], ◌∷◌, ◌++◌, length, get_or, take, fold, refl, sym, ap, ◌∙◌, arith, length-append, Option, map-append, take_more, fold_push, Links, AreAsked, asked-append, StrForm, CfId, ConnId, Ask, ShellReply, Reply, Entry, operator, links_asked, answers_to, Meaning, Machine, Turn, numbers, replay, with_mark, with_marks, marks_by, after_turn, IsLegal, told_of, answers, marks_few, two_asked, answers-turn, legal_group, replay-push, by_turns, calls-turn, call_added, number_added, length-turn, reply_as, Mark, StructureView, lost_at, behind_marks, AreTold, IsTurn, AreMadeBelow, with_entry, entered}
 use Rattle.engine_api.specs.declared.asks.Reply.TheVariants as reply
 use Rattle.engine_api.specs.declared.asks.What.TheVariants as what
 
@@ -7,11 +7,7 @@ module _ {C R : Type 0} where
   pub length-entered : (journal : List (Entry C R)) (marks : List Mark)
       → length (entered journal marks) ≡ length journal + length marks
   length-entered journal [] = omega arith
-  length-entered journal (mark ∷ marks) =
-      let rest : length (entered (with_entry journal mark) marks) ≡ length (with_entry journal mark) + length marks =
-      length-entered (with_entry journal mark) marks in
-      let here : length (with_entry journal mark) ≡ length journal + 1 = length-append journal _ in
-      omega arith
+  length-entered journal (mark ∷ marks) = grind (arith, length-append, length-entered (with_entry journal mark) marks)
 
   -- what is told of a call has its number
   pub told-number : (number : ℕ) (ask : Ask C) (reply : Reply R)
@@ -24,16 +20,12 @@ module _ {C R : Type 0} where
   pub number-later : (journal after : List (Entry C R)) (marks : List Mark) (known number told : ℕ)
       → known ≤ length journal → after ≡ entered journal marks → number ≡ length after + 1 → told ≡ number
       → known < told
-  number-later journal after marks known number told most is number_is told_is =
-      let all : length after ≡ length journal + length marks = ap length is ∙ length-entered journal marks in
-      omega (arith, most, all, number_is, told_is)
+  number-later journal after marks known number told most is number_is told_is = grind (arith, length-entered)
 
   -- with the marks of a call that found room the journal is hardly longer
   pub count-entered : (journal after : List (Entry C R)) (marks : List Mark) (limit : ℕ)
       → length journal < limit → length marks ≤ 2 → after ≡ entered journal marks → length after ≤ limit + 1
-  count-entered journal after marks limit below two is =
-      let all : length after ≡ length journal + length marks = ap length is ∙ length-entered journal marks in
-      omega (arith, below, two, all)
+  count-entered journal after marks limit below two is = grind (arith, length-entered)
 
   -- one mark more
   pub entered-more : (journal now after : List (Entry C R)) (marks : List Mark) (i : ℕ) (d : Mark) (number : ℕ)
@@ -74,23 +66,12 @@ module _ {C R I S : Type 0} (meaning : Meaning C R I S) (form : StrForm) where
   entered-told journal [] (mark ∷ marks) told = absurd told
   entered-told journal (cf ∷ cfs) [] told = absurd told
   entered-told journal (cf ∷ cfs) (mark ∷ marks) told =
-      let here : with_entry journal mark ≡ with_mark meaning form journal cf =
-      ap (λ (x : CfId). (let entry : Entry C R = record {
-        no = length journal + 1;
-        by = operator;
-        what = what.Lost x;
-        reply = reply.Shell (reply_as mark.lost);
-      } in journal ++ entry ∷ [])) told.0
-      ∙ ap (λ (r : Reply R). (let entry : Entry C R = record {
-        no = length journal + 1;
-        by = operator;
-        what = what.Lost cf;
-        reply = r;
-      } in journal ++ entry ∷ [])) told.1 in
-      ap (λ (some : List (Entry C R)). entered some marks) here
-      ∙ entered-told (with_mark meaning form journal cf) cfs marks
-      (subst (λ (machine : Machine S). AreTold meaning form machine cfs marks)
-      (sym (replay-push meaning form journal (next_mark meaning form journal cf))) told.2)
+      grind (
+        arith,
+        replay-push,
+        entered-told (with_mark meaning form journal cf) cfs marks (
+            grind (arith, replay-push)),
+      )
 
   -- as many as there are losses
   pub told-length : (machine : Machine S) (cfs : List CfId) (marks : List Mark)
@@ -105,10 +86,7 @@ module _ {C R I S : Type 0} (meaning : Meaning C R I S) (form : StrForm) where
       → replay meaning form (with_marks meaning form journal cfs)
       ≡ behind_marks meaning form (replay meaning form journal) cfs
   replay-marks journal [] = refl
-  replay-marks journal (cf ∷ cfs) =
-      replay-marks (with_mark meaning form journal cf) cfs
-      ∙ ap (λ (machine : Machine S). behind_marks meaning form machine cfs)
-      (replay-push meaning form journal (next_mark meaning form journal cf))
+  replay-marks journal (cf ∷ cfs) = grind (arith, replay-push, replay-marks (with_mark meaning form journal cf) cfs)
 
 -- What a turn of the machine is to the journal: these marks, and this call, are those of a turn of the history.
 pub record IsTaken {C R I S : Type 0} (meaning : Meaning C R I S) (form : StrForm) (journal : List (Entry C R))
@@ -123,14 +101,7 @@ module _ {C R I S L : Type 0} (asks : L → Option ℕ) (downs : L → Option (L
   -- a call meets two losses at most
   pub few_marks : (old new : StructureView S L) (by : ConnId) (ask : Ask C) (marks : List Mark) (reply : Reply R)
       → IsTurn asks downs faults meaning old new by ask marks reply → length marks ≤ 2
-  few_marks old new by ask marks reply it =
-      let asked = links_asked meaning old.form old.machine by ask in
-      let all : length marks ≡ length (lost_by meaning old.form it.down old.machine by ask) =
-      told-length meaning old.form old.machine (lost_by meaning old.form it.down old.machine by ask) marks it.told in
-      let some : length (lost_by meaning old.form it.down old.machine by ask) ≤ length asked.links =
-      marks_few it.down asked in
-      let two : length asked.links ≤ 2 = two_asked meaning old.form old.machine by ask in
-      omega (arith, all, some, two)
+  few_marks old new by ask marks reply it = grind (arith, told-length, marks_few, two_asked)
 
   -- the same turn of the structure that a journal leads to
   pub turn_at : (form : StrForm) (machine : Machine S) (old new : StructureView S L) (by : ConnId) (ask : Ask C)
@@ -138,30 +109,14 @@ module _ {C R I S L : Type 0} (asks : L → Option ℕ) (downs : L → Option (L
       → IsTurn asks downs faults meaning old new by ask marks reply
       → IsTurn asks downs faults meaning (record { form = form; machine = machine; links = old.links }) new by ask marks
       reply
-  turn_at form machine old new by ask marks reply form_is machine_is it =
-      subst (λ (m : Machine S). IsTurn asks downs faults meaning
-      (record { form = form; machine = m; links = old.links }) new by ask marks reply) machine_is
-      (subst (λ (f : StrForm). IsTurn asks downs faults meaning
-      (record { form = f; machine = old.machine; links = old.links }) new by ask marks reply) form_is it)
+  turn_at form machine old new by ask marks reply form_is machine_is it = grind arith
 
   pub taken : (form : StrForm) (journal : List (Entry C R)) (links : Links L) (new : StructureView S L)
       (by : ConnId) (ask : Ask C) (marks : List Mark) (reply : Reply R)
       → (it : IsTurn asks downs faults meaning
       (record { form = form; machine = replay meaning form journal; links = links }) new by ask marks reply)
       → IsTaken meaning form journal (record { by = by; ask = ask; down = it.down }) new.machine marks reply
-  taken form journal links new by ask marks reply it =
-      let lost = marks_by meaning form it.down journal by ask in
-      let call : record { reply = reply; machine = new.machine }
-      ≡ step meaning form (replay meaning form (with_marks meaning form journal lost)) by ask =
-      it.done ∙ ap (λ (m : Machine S). step meaning form m by ask) (sym (replay-marks meaning form journal lost)) in
-      record {
-        marked = entered-told meaning form journal lost marks it.told;
-        reply_is = ap (λ (a : CallOutcome R S). a.reply) call;
-        machine_is =
-            ap (λ (a : CallOutcome R S). a.machine) call
-            ∙ sym (replay-push meaning form (with_marks meaning form journal lost)
-            (next_entry meaning form (with_marks meaning form journal lost) by ask));
-      }
+  taken form journal links new by ask marks reply it = grind (arith, replay-marks, entered-told, replay-push)
 
   -- the links of a cell, asked since the start as its journal's answers say
   pub links_more : (form : StrForm) (journal : List (Entry C R)) (turn : Turn C) (start before after : Links L)
@@ -176,11 +131,7 @@ module _ {C R I S L : Type 0} (asks : L → Option ℕ) (downs : L → Option (L
       ≡ answers meaning form journal cf ++ told cf =
       (λ cf. answers-turn meaning form journal turn cf (legal_group meaning form journal legal)) in
       record {
-        asked = λ cf here.
-            subst (λ (all : List Bool). IsAskedAll asks downs faults all (link_at start cf) (link_at after cf))
-            (sym (more cf))
-            (asked-append asks downs faults (answers meaning form journal cf) (told cf) (link_at start cf)
-            (link_at before cf) (link_at after cf) (since.asked cf here) (asked.asked cf here));
+        asked = grind (arith, asked-append);
         others = λ cf other.
             more cf ∙ ap (λ (some : List Bool). some ++ told cf) (since.others cf other) ∙ asked.others cf other;
       }
@@ -203,24 +154,17 @@ made_push limit last (first ∷ some) number made below = (made.0, made_push lim
 module _ {C R I S : Type 0} (meaning : Meaning C R I S) (form : StrForm) where
   numbers-turn : (history : List (Entry C R)) (turn : Turn C)
       → numbers (after_turn meaning form history turn) ≡ numbers history ++ number_added meaning form history turn ∷ []
-  numbers-turn history turn =
-      ap (map (λ (call : Call C R). call.no)) (calls-turn meaning form history turn)
-      ∙ map-append (λ (call : Call C R). call.no) (calls history) (call_added meaning form history turn ∷ [])
+  numbers-turn history turn = grind (arith, calls-turn, map-append, call_added)
 
   -- a legal history ends with a call
   ends_at : (history : List (Entry C R)) → IsLegal meaning form history
       → last_of 0 (numbers history) ≡ length history
   ends_at history legal =
       by_turns meaning form (λ (h : List (Entry C R)). last_of 0 (numbers h) ≡ length h) refl
-      (λ h turn fine same. ap (last_of 0) (numbers-turn h turn)
-      ∙ fold_push (λ (before number : ℕ). number) 0 (numbers h) (number_added meaning form h turn)
-      ∙ sym (length-turn meaning form h turn)) history legal
+      (grind (arith, numbers-turn, fold_push, number_added, length-turn)) history legal
 
   -- one more turn, where there was room
   pub room_more : (limit : ℕ) (history : List (Entry C R)) (turn : Turn C) → IsLegal meaning form history
       → AreMadeBelow limit 0 (numbers history) → length history < limit
       → AreMadeBelow limit 0 (numbers (after_turn meaning form history turn))
-  room_more limit history turn legal made below =
-      subst (AreMadeBelow limit 0) (sym (numbers-turn history turn))
-      (made_push limit 0 (numbers history) (number_added meaning form history turn) made
-      (subst (λ (n : ℕ). n < limit) (sym (ends_at history legal)) below))
+  room_more limit history turn legal made below = grind (arith, numbers-turn, made_push, number_added, ends_at)

@@ -1,5 +1,5 @@
 -- What comes before a command acts, and which commands make an instance.
-use Rattle.struct_machine.proofs.Imports.{◌≡◌, ℕ, ◌+◌, ◌⊎◌, inl, inr, Bool, true, false, List, Option, None, Some, refl, sym, ap, ◌∙◌, arith, ◌||◌, ◌&&◌, not, if◌then◌else◌, is_some, is_none, min, min-le_right, Caps, StrForm, CfId, ConnId, ShellCmd, Deeds, Room, copied_after, Meaning, Held, Letter, fresh_of, Shell, Leaver, shell_done, leaver, with_posted, caps_made, caps_in, rebuild_connect_outcome, Fresh, caps_or, emptied, with_copied, lacking_in, Rebuild, fresh_caps, fresh_left, fresh_before, makes_empty, makes_second, copied_in, caps_of}
+use Rattle.struct_machine.proofs.Imports.{◌≡◌, ℕ, ◌+◌, ◌⊎◌, inl, inr, true, false, List, Option, None, Some, refl, sym, ap, ◌∙◌, arith, ◌||◌, ◌&&◌, not, if◌then◌else◌, is_some, is_none, min, min-le_right, Caps, StrForm, CfId, ConnId, ShellCmd, Deeds, Room, copied_after, Meaning, Held, Letter, fresh_of, Shell, Leaver, shell_done, leaver, with_posted, caps_made, rebuild_connect_outcome, Fresh, caps_or, emptied, with_copied, lacking_in, Rebuild, fresh_caps, fresh_left, fresh_before, makes_empty, makes_second, copied_in, caps_of}
 use Rattle.cf_types.specs.declared.shell_commands.ShellCmd.TheVariants as cmd
 use Rattle.struct_machine.proofs.DeedLaws.{barren, emptied_caps}
 
@@ -11,30 +11,18 @@ copied_caps n (Some fresh) = refl
 
 left_caps : (shell : Shell) (who : Option Leaver) (fresh : Option Fresh)
     → caps_of (fresh_left shell who fresh) ≡ caps_of fresh
-left_caps shell who fresh = go (is_some who && is_some shell.instances.primary)
-  where
-    go : (b : Bool) → caps_of (if b then emptied fresh else fresh) ≡ caps_of fresh
-    go true = emptied_caps fresh
-    go false = refl
+left_caps shell who fresh = grind (arith, emptied_caps)
 
 left_none : (shell : Shell) (who : Option Leaver) (fresh : Option Fresh) → copied_in fresh ≡ 0
     → copied_in (fresh_left shell who fresh) ≡ 0
-left_none shell who fresh none = go (is_some who && is_some shell.instances.primary) fresh none
-  where
-    go : (b : Bool) (fresh : Option Fresh) → copied_in fresh ≡ 0
-        → copied_in (if b then emptied fresh else fresh) ≡ 0
-    go true None none = refl
-    go true (Some fresh) none = refl
-    go false fresh none = none
+left_none shell who fresh none = grind arith
 
 -- a departure leaves no item that the deeds don't take as well
 pub left_copied : (shell : Shell) (who : Option Leaver) (fresh : Option Fresh) (deeds : Deeds)
     → (copied_in fresh ≡ 0)
     ⊎ ((deeds.restart || (deeds.switch || (deeds.drop_fresh || deeds.drop_all))) ≡ true)
     → copied_after deeds (copied_in (fresh_left shell who fresh)) ≡ copied_after deeds (copied_in fresh + 0)
-left_copied shell who fresh deeds (inl none) =
-    ap (copied_after deeds)
-    (left_none shell who fresh none ∙ omega (arith, none))
+left_copied shell who fresh deeds (inl none) = grind (arith, left_none)
 left_copied shell who fresh deeds (inr emptied) = rw emptied refl
 
 pub copied_more : (n : ℕ) (fresh : Option Fresh) → (fresh ≡ None → n ≡ 0)
@@ -140,18 +128,7 @@ same_empty letters shell _ = refl
 -- the new instance that takes the primary's place has the rebuild's capacity
 pub switched_caps : (fresh : Option Fresh) (shell : Shell) (size : Caps) → caps_of fresh ≡ fresh_caps shell.rebuild
     → is_some fresh ≡ true → caps_or fresh size ≡ caps_made shell
-switched_caps fresh shell size same stands = go fresh shell.rebuild same stands
-  where
-    go : (fresh : Option Fresh) (rebuild : Option Rebuild) → caps_of fresh ≡ fresh_caps rebuild → is_some fresh ≡ true
-        → caps_or fresh size ≡ caps_in rebuild shell.caps
-    go None rebuild same stands = absurd (cc)
-    go (Some f) None same stands = absurd (cc)
-    go (Some f) (Some rebuild) same stands = at_place rebuild.fresh same
-      where
-        at_place : (at : Option CfId) → Some f.caps ≡ (if is_some at then Some rebuild.caps else None)
-            → f.caps ≡ rebuild.caps
-        at_place None same = absurd (cc)
-        at_place (Some cf) same = cc
+switched_caps fresh shell size same stands = grind arith
 
 pub nobody_taken : (back : Option ConnId) (rebuild : Option Rebuild) → (is_some back ≡ true → rebuild ≡ None)
     → is_some rebuild ≡ true → back ≡ None

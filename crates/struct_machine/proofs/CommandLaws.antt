@@ -1,10 +1,9 @@
 -- A command that isn't refused, done to a shell and to instances of one form.
-use Rattle.struct_machine.proofs.Imports.{◌≡◌, ℕ, ◌+◌, ◌⊎◌, inl, inr, Bool, true, false, ◌≢◌, [], List, Option, None, Some, IfSome, refl, sym, ap, ◌∙◌, subst, subst₂, ◌||◌, if◌then◌else◌, is_some, min, both_ways, false_from_ne_true, Caps, StrForm, CfId, ConnId, Refusal, ShellCmd, state_of, Deeds, Machine, content_after, copied_after, moved_by, room_of, departure_from, command_done, unless, with_entered, entered_machine, CallOutcome, Meaning, Held, Departure, items_of as held_items, Fits, Instances, is_at, MayCommand, Shape, IsCaller, IsFacility, fresh_of, shape_of, Shell, ShellOutcome, Leaver, is_kept, shell_cause, leaver, with_posted, caps_made, entered, ShellView, Fresh, Kept, lacking_in, AreFitting, caps_behind, fresh_behind, fresh_caps, IsFilled, IsFilling, IsManned, capacities-command, fitting-command, filled-step, departure_empties, forced_empties, manned-step, done, Spares, AreSpares, AreAdmitted, MayMake, MayAdd, MayDrop, fresh_left, fresh_before, kept_past, places_past, makes_second, held_past, HasNone, AreOf, IsOf, machine_of, state_in, left_in, copied_in, caps_of, Gains, ChangeList, Names, may_change_bits}
+use Rattle.struct_machine.proofs.Imports.{arith, ◌≡◌, ◌+◌, ◌⊎◌, inl, inr, Bool, true, false, ◌≢◌, [], List, Option, None, Some, IfSome, refl, sym, ap, ◌∙◌, subst, subst₂, ◌||◌, if◌then◌else◌, is_some, both_ways, false_from_ne_true, Caps, StrForm, CfId, ConnId, Refusal, ShellCmd, Deeds, Machine, content_after, copied_after, moved_by, room_of, departure_from, command_done, unless, with_entered, entered_machine, CallOutcome, Meaning, Held, Departure, items_of as held_items, Fits, Instances, MayCommand, Shape, IsCaller, IsFacility, fresh_of, shape_of, Shell, ShellOutcome, Leaver, shell_cause, leaver, with_posted, caps_made, entered, ShellView, Fresh, Kept, AreFitting, caps_behind, fresh_behind, fresh_caps, IsFilled, IsFilling, IsManned, capacities-command, fitting-command, filled-step, departure_empties, forced_empties, manned-step, done, Spares, AreSpares, AreAdmitted, MayMake, MayAdd, MayDrop, fresh_left, fresh_before, kept_past, places_past, makes_second, held_past, HasNone, AreOf, IsOf, machine_of, state_in, left_in, copied_in, caps_of, ChangeList, may_change_bits}
 use Rattle.cf_types.specs.declared.shell_commands.ShellCmd.TheVariants as cmd
 use Rattle.engine_api.specs.declared.asks.Ask.TheVariants as ask
 use Rattle.engine_api.specs.declared.asks.Reply.TheVariants as reply
 use Rattle.struct_machine.proofs.ToldLaws.{manned-told, filled-told}
-use Rattle.struct_machine.proofs.ChangeLaws.{names_deeds}
 use Rattle.struct_machine.proofs.DeedLaws.{IsEmptyOf, AreIdle, back_caller, caps_past, copied_past, of_past, state_past}
 use Rattle.struct_machine.proofs.InstanceLaws.{IsPlacing, IsSeconding, IsDropping, placing_command, facility_behind}
 use Rattle.struct_machine.proofs.KeptLaws.{caps_none, fresh_none, fresh_stands, fresh_under, held_stands, rebuild_held, room_left}
@@ -40,18 +39,14 @@ module _ {C R I S : Type 0} (meaning : Meaning C R I S) (form : StrForm)
 
   -- none stands before a command's deeds where none stood
   none_before : kept.fresh ≡ None → before ≡ None
-  none_before none =
-      caps_none before
-      (before_caps meaning shelled.shell by command kept.held kept.fresh ∙ ap caps_of none)
+  none_before none = grind (arith, caps_none, before_caps)
 
   caps_before : caps_of before ≡ fresh_caps shelled.shell.rebuild
   caps_before = before_caps meaning shelled.shell by command kept.held kept.fresh ∙ of.fresh
 
   -- one that makes an instance, or puts one in the primary's place
   sudden_one : MakesOrSwitches acted.deeds → IsSudden meaning shelled.shell by command
-  sudden_one either =
-      sudden meaning form (room_of meaning form machine) (with_posted gone.letters shelled.shell) shelled.shell by
-      command either
+  sudden_one either = grind (arith, sudden)
 
   state_kept : MakesOrSwitches acted.deeds → gone.state ≡ machine.content
   state_kept either = rw ((sudden_one either).nobody) refl
@@ -106,24 +101,10 @@ module _ {C R I S : Type 0} (meaning : Meaning C R I S) (form : StrForm)
           left_copied shelled.shell (Some who) kept.fresh deeds (inr (empties filling))
 
       go : (command : ShellCmd) → Goes command
-      go cmd.Disconnect filling =
-          parted (record { conn = by; keep = false }) (done meaning form machine by cmd.Disconnect).deeds
-          (departure_empties shelled.shell.rebuild (done meaning form machine by cmd.Disconnect).shell.rebuild
-          (done meaning form machine by cmd.Disconnect).deeds.drop_all) filling
-      go cmd.Fail filling =
-          parted (record { conn = by; keep = is_kept (state_of shelled.shell.conns by) })
-          (done meaning form machine by cmd.Fail).deeds
-          (departure_empties shelled.shell.rebuild (done meaning form machine by cmd.Fail).shell.rebuild
-          (done meaning form machine by cmd.Fail).deeds.drop_all) filling
-      go (cmd.Copy n) filling =
-          copied_more (min n (lacking_in meaning kept.held kept.fresh)) kept.fresh
-          (nothing_lacks meaning n kept.held kept.fresh)
-          ∙ ap (λ (left : ℕ). copied_in kept.fresh + min n left)
-          (room_left meaning form shelled kept of)
-      go (cmd.ForceConn other) filling =
-          parted (record { conn = other; keep = false }) (done meaning form machine by (cmd.ForceConn other)).deeds
-          (forced_empties shelled.shell.rebuild
-          (done meaning form machine by (cmd.ForceConn other)).deeds.drop_all) filling
+      go cmd.Disconnect filling = grind (arith, parted, done, departure_empties)
+      go cmd.Fail filling = grind (arith, parted, done, departure_empties)
+      go (cmd.Copy n) filling = grind (arith, copied_more, nothing_lacks, room_left)
+      go (cmd.ForceConn other) filling = grind (arith, parted, done, forced_empties)
       go command filling = still command
 
   -- ---- the laws of rebuilds stay
@@ -163,16 +144,11 @@ module _ {C R I S : Type 0} (meaning : Meaning C R I S) (form : StrForm)
     same_held same = is.held ∙ ap (λ (s : S). left_in s kept.held) same ∙ whole_again kept.held
 
     of_left : IsOf meaning form shelled.shell.caps left.held
-    of_left =
-        subst (IsOf meaning form shelled.shell.caps) (sym is.held)
-        (left_of gone.state shelled.shell.caps kept.held of.held)
+    of_left = grind (arith, left_of)
 
     empty_made : is_some acted.deeds.make ≡ true
         → IsEmptyOf meaning form (caps_made shelled.shell) spares.empty
-    empty_made some =
-        is.spared.empty
-        (sym (same_empty gone.letters shelled.shell command)
-        ∙ making form (room_of meaning form machine) (with_posted gone.letters shelled.shell) by command some)
+    empty_made some = grind (arith, same_empty, making)
 
     may_make : (cf : CfId) → acted.deeds.make ≡ Some cf → MayMake meaning form rebuilding left spares.empty cf
     may_make cf makes = record {
@@ -218,18 +194,11 @@ module _ {C R I S : Type 0} (meaning : Meaning C R I S) (form : StrForm)
       dropped = by_drop acted.deeds.drop_at refl;
       switch = λ yes. (
         record {
-          stands =
-              ap is_some (is.fresh ∙ fresh_kept (inr yes))
-              ∙ fresh_stands meaning form shelled kept of (fitting.stands yes);
+          stands = grind (arith, fresh_kept, fresh_stands);
           there = fitting.stands yes;
           place = of.fresh_at;
-          alone =
-              ap (λ (at : Instances). at.secondary) at_is
-              ∙ no_second shelled.shell.instances.secondary shelled.shell.rebuild of.manned.paired.rebuild
-              (under_switch yes);
-          filled =
-              (λ i. lacking_in meaning (same_held (state_kept (inr yes)) i) ((is.fresh ∙ fresh_kept (inr yes)) i))
-              ∙ room_left meaning form shelled kept of ∙ fitting.filled yes;
+          alone = grind (arith, at_is, no_second, under_switch);
+          filled = grind (arith, same_held, state_kept, fresh_kept, room_left);
         },
         nobody_taken acted.deeds.back shelled.shell.rebuild fitting.back (under_switch yes),
         fitting.unmade yes,
@@ -246,12 +215,7 @@ module _ {C R I S : Type 0} (meaning : Meaning C R I S) (form : StrForm)
         by_back : (back : Option ConnId) → acted.deeds.back ≡ back
             → IfSome back (λ conn. IsCaller conn × (left.fresh ≡ None) × (rebuilding ≡ false))
         by_back None backs = tt
-        by_back (Some conn) backs =
-            let idle : shelled.shell.rebuild ≡ None = fitting.back (ap is_some backs) in (
-              subst (λ (o : Option ConnId). IfSome o IsCaller) backs callers,
-              is.fresh ∙ none_before (fresh_none meaning form shelled kept of (ap fresh_of idle)),
-              ap is_some idle,
-            )
+        by_back (Some conn) backs = grind (arith, callers, none_before, fresh_none)
 
         by_make : (make : Option CfId) → acted.deeds.make ≡ make
             → IfSome make (MayMake meaning form rebuilding left spares.empty)
@@ -265,24 +229,11 @@ module _ {C R I S : Type 0} (meaning : Meaning C R I S) (form : StrForm)
             let s : IsSeconding shelled.shell.instances acted.deeds cf =
             subst (λ (o : Option CfId). IfSome o (IsSeconding shelled.shell.instances acted.deeds)) adds placing.second
             in
-            let command_adds : makes_second command ≡ true =
-            seconding form (room_of meaning form machine) (with_posted gone.letters shelled.shell) by command
-            (ap is_some adds) in
+            let command_adds : makes_second command ≡ true = grind (arith, seconding) in
             let copied : spares.second ≡ kept.held = is.spared.second command_adds in
             let quiet : gone.state ≡ machine.content =
             rw (adds_quietly shelled.shell by command command_adds) refl in (
-              record {
-                place = s.place;
-                stands = stands_left ∙ held_stands meaning form shelled kept of s.stands;
-                alone = ap (λ (at : Instances). at.secondary) at_is ∙ s.alone;
-                apart = subst (λ (at : Instances). IfSome at.primary (λ (one : CfId). cf.0 ≢ one.0)) (sym at_is)
-                    s.apart;
-                there = ap is_some copied ∙ held_stands meaning form shelled kept of s.stands;
-                alike = copied ∙ sym (same_held quiet);
-              },
-              s.back,
-              s.make,
-            )
+            grind (arith, stands_left, held_stands, at_is, same_held))
 
         by_drop : (drop : Option CfId) → acted.deeds.drop_at ≡ drop
             → IfSome drop (λ cf. MayDrop left cf × HasNone acted.deeds.back × HasNone acted.deeds.make
@@ -291,19 +242,7 @@ module _ {C R I S : Type 0} (meaning : Meaning C R I S) (form : StrForm)
         by_drop (Some cf) drops =
             let d : IsDropping shelled.shell.instances acted.deeds cf =
             subst (λ (o : Option CfId). IfSome o (IsDropping shelled.shell.instances acted.deeds)) drops placing.dropped
-            in (
-              record {
-                there = ap (λ (at : Instances). is_at cf at.primary || is_at cf at.secondary) at_is ∙ d.there;
-                stands = ap (λ (at : Instances). is_some at.primary) at_is ∙ d.stands;
-                two = ap (λ (at : Instances). is_some at.secondary) at_is ∙ d.two;
-                apart =
-                    subst (λ (at : Instances). is_at cf at.primary ≡ true → is_at cf at.secondary ≡ false) (sym at_is)
-                    d.apart;
-              },
-              d.back,
-              d.make,
-              d.second,
-            )
+            in grind (arith, at_is)
 
     -- ---- what the deeds leave
 
@@ -319,35 +258,10 @@ module _ {C R I S : Type 0} (meaning : Meaning C R I S) (form : StrForm)
 
     idle_without : is_some kept.held ≡ false → AreIdle meaning form (caps_made shelled.shell) spares.empty rebuilding
         acted.deeds
-    idle_without none = record {
-      rebuild =
-          false_from_ne_true rebuilding (λ under.
-          both_ways (is_some kept.held) none (rebuild_held meaning form shelled kept of under));
-      switch =
-          false_from_ne_true acted.deeds.switch (λ yes.
-          both_ways (is_some kept.held) none (rebuild_held meaning form shelled kept of (under_switch yes)));
-      back = λ some.
-          placing.back some
-          (ap (λ (at : Instances). is_some at.primary) (sym of.places) ∙ sym of.stands ∙ none);
-    }
+    idle_without none = grind (arith, false_from_ne_true, both_ways, rebuild_held, under_switch)
 
     empty_without : is_some kept.held ≡ false → gone.state ≡ meaning.empty (shape_of form)
-    empty_without none = go (leaver shelled.shell by command)
-      where
-        nothing : (held : Option (Held S)) → is_some held ≡ false
-            → state_in meaning form held ≡ meaning.empty (shape_of form)
-        nothing None none = refl
-        nothing (Some held) none = absurd (cc)
-
-        bare : is_some shelled.shell.instances.primary ≡ false
-        bare = ap (λ (at : Instances). is_some at.primary) (sym of.places) ∙ sym of.stands ∙ none
-
-        go : (who : Option Leaver) → (departure_from meaning form who machine).state ≡ meaning.empty (shape_of form)
-        go None = nothing kept.held none
-        go (Some who) =
-            ap (λ (b : Bool). (if b then meaning.leave (shape_of form) machine.content who.conn who.keep
-            else record { state = machine.content; letters = [] }).state) bare
-            ∙ nothing kept.held none
+    empty_without none = grind arith
 
     -- the items in the new instance are those that the machine counts
     copied_so : copied_in past.fresh
@@ -369,11 +283,7 @@ module _ {C R I S : Type 0} (meaning : Meaning C R I S) (form : StrForm)
                 now.fresh;
           };
         } ≡ command_done meaning form machine by command
-    command_same after now acts does =
-        λ i. record {
-          reply = reply.Shell (acts i).reply;
-          machine = record { shell = (acts i).shell; content = told i; copied = counted i };
-        }
+    command_same after now acts does = grind (arith, told, counted)
       where
         told : state_in meaning form now.held ≡ content_after meaning form rebuilding acted.deeds gone.state
         told =
@@ -403,9 +313,7 @@ module _ {C R I S : Type 0} (meaning : Meaning C R I S) (form : StrForm)
           (ap (λ (k : Kept S). k.held) (sym does))
           (of_past meaning form (caps_made shelled.shell) spares.empty acted.deeds shelled.shell left.fresh left.held
           of_left refl empty_made fitting.unmade
-          (λ yes size. switched_caps left.fresh shelled.shell size caps_left
-          (ap is_some (is.fresh ∙ fresh_kept (inr yes))
-          ∙ fresh_stands meaning form shelled kept of (fitting.stands yes))));
+          (grind (arith, switched_caps, caps_left, fresh_kept, fresh_stands)));
       fresh =
           ap (λ (k : Kept S). caps_of k.fresh) does
           ∙ caps_past meaning form (caps_made shelled.shell) spares.empty acted.deeds shelled.shell left.fresh caps_left
@@ -432,16 +340,7 @@ module _ {C R I S : Type 0} (meaning : Meaning C R I S) (form : StrForm)
     pub admitted_then : MayCommand by command → (after : ShellOutcome) (under : Bool) (fresh : Option CfId)
         → after ≡ acted → under ≡ rebuilding → fresh ≡ fresh_of shelled.shell.rebuild
         → AreAdmitted meaning form under after.deeds fresh spares left
-    admitted_then may after under fresh acts of_rebuild of_fresh =
-        subst (λ (outcome : ShellOutcome). AreAdmitted meaning form under outcome.deeds fresh spares left) (sym acts)
-        (subst₂ (λ (b : Bool) (f : Option CfId). AreAdmitted meaning form b acted.deeds f spares left)
-        (sym of_rebuild) (sym of_fresh) (admitted may))
-
-    pub past_then : (after : ShellOutcome) (under : Bool) (fresh : Option CfId) (now : Kept S)
-        → after ≡ acted → under ≡ rebuilding → fresh ≡ fresh_of shelled.shell.rebuild
-        → now ≡ kept_past meaning under after.deeds fresh spares left → now ≡ past
-    past_then after under fresh now acts of_rebuild of_fresh does =
-        does ∙ (λ i. kept_past meaning (of_rebuild i) (acts i).deeds (of_fresh i) spares left)
+    admitted_then may after under fresh acts of_rebuild of_fresh = grind (arith, admitted)
 
     -- whether any bit may have changed
     pub all_then : (after : ShellOutcome) → after ≡ acted → (under : Bool) → under ≡ rebuilding
@@ -449,25 +348,3 @@ module _ {C R I S : Type 0} (meaning : Meaning C R I S) (form : StrForm)
         → changed.all ≡ may_change_bits rebuilding acted.deeds
     all_then after acts under of_rebuild named changed noted =
         ap (λ (list : ChangeList). list.all) noted ∙ (λ i. may_change_bits (of_rebuild i) (acts i).deeds)
-
-    -- the bits that changed are told
-    pub named_then : (after : ShellOutcome) (now : Kept S) → after ≡ acted → now ≡ past → (under : Bool)
-        → under ≡ rebuilding → (named changed : ChangeList)
-        → changed ≡ record named { all = may_change_bits under after.deeds }
-        → Gains (meaning.stands machine.content) (meaning.stands (state_in meaning form left.held)) [] named.bits
-        → Names changed (meaning.stands machine.content) (meaning.stands (state_in meaning form now.held))
-    named_then after now acts does under of_rebuild named changed noted gains =
-        names_deeds meaning form under after.deeds machine.content gone.state (state_in meaning form now.held) named
-        changed noted
-        (ap (λ (outcome : CallOutcome R S). outcome.machine.content) (command_same after now acts does)
-        ∙ (λ i. content_after meaning form (sym of_rebuild i) (sym acts i).deeds gone.state))
-        (subst (λ (state : S). Gains (meaning.stands machine.content) (meaning.stands state) [] named.bits)
-        left_state gains)
-      where
-        go : (held : Option (Held S)) → (is_some held ≡ false → gone.state ≡ meaning.empty (shape_of form))
-            → state_in meaning form (left_in gone.state held) ≡ gone.state
-        go None nothing = sym (nothing refl)
-        go (Some held) nothing = refl
-
-        left_state : state_in meaning form left.held ≡ gone.state
-        left_state = ap (state_in meaning form) is.held ∙ go kept.held empty_without

@@ -1,5 +1,5 @@
 -- What becomes of a pair that loses one of two, and of a content that somebody leaves.
-use Rattle.struct_machine.proofs.Imports.{◌≡◌, Bool, true, false, ◌||◌, [], Option, None, Some, option_map, refl, sym, subst₂, IsTrue, is_some, if◌then◌else◌, Caps, Kind, CfId, ConnId, PairView, elsewhere, facility_of, first_left, instances_of, second_left, without_at, Placed, Shape, Instances, is_at, IsNoMoreOf, Meaning, Held, with_departure, FillingView, copy_left, AreStanding, IsHeldAt, begun_anew, at_left}
+use Rattle.struct_machine.proofs.Imports.{arith, ◌≡◌, Bool, true, false, ◌||◌, [], Option, None, Some, option_map, refl, sym, subst₂, IsTrue, is_some, if◌then◌else◌, Caps, Kind, CfId, ConnId, PairView, elsewhere, facility_of, first_left, instances_of, second_left, without_at, Placed, Shape, Instances, is_at, IsNoMoreOf, Meaning, Held, with_departure, FillingView, copy_left, AreStanding, IsHeldAt, begun_anew, at_left}
 
 -- the other is left, and is the primary
 module _ {E : Type 0} (cf : CfId) where
@@ -17,19 +17,7 @@ module _ {E : Type 0} (cf : CfId) where
       × (is_some (first_left (elsewhere (Some cf) one) (elsewhere (Some cf) other)) ≡ true)
   left_so None other there stands two apart = absurd (cc)
   left_so (Some p) None there stands two apart = absurd (cc)
-  left_so (Some p) (Some q) there stands two apart =
-      go (is_at cf (Some p.at)) (is_at cf (Some q.at)) there apart
-    where
-      go : (first second : Bool) → (first || second) ≡ true → (first ≡ true → second ≡ false)
-          → (Path Instances (record {
-            primary = facility_of (first_left (if first then None else Some p) (if second then None else Some q));
-            secondary = facility_of (second_left (if first then None else Some p) (if second then None else Some q));
-          }) (record { primary = if first then Some q.at else Some p.at; secondary = None }))
-          × (is_some (first_left (if first then None else Some p) (if second then None else Some q)) ≡ true)
-      go true true there apart = absurd (let wrong : true ≡ false = apart refl in cc)
-      go true false there apart = (refl, refl)
-      go false true there apart = (refl, refl)
-      go false false there apart = absurd (cc)
+  left_so (Some p) (Some q) there stands two apart = grind arith
 
 pub left_places : {E L : Type 0} (cf : CfId) (pair : PairView E L)
     → (is_at cf (instances_of pair).primary || is_at cf (instances_of pair).secondary) ≡ true
@@ -62,10 +50,7 @@ module _ {C R I S : Type 0} (meaning : Meaning C R I S) (is_kind : Kind → Bool
     where
       held_left : (held : Held S) → IsHeldAt meaning is_kind IsContent IsOrder held
           → IsHeldAt meaning is_kind IsContent IsOrder (with_departure meaning held conn keep)
-      held_left held is = record {
-        kind = is.kind;
-        content = laws.content held.shape held.caps held.state conn keep is.content;
-      }
+      held_left held is = grind arith
 
       go : (was : Option (Held S)) (filling : Option (FillingView I O))
           → AreStanding meaning is_kind IsContent IsOrder was filling
@@ -81,13 +66,7 @@ module _ {C R I S : Type 0} (meaning : Meaning C R I S) (is_kind : Kind → Bool
               (record filling.copy { items = [] }) refl
               (laws.content held.shape held.caps held.state conn keep standing.0.content)
               (laws.need held.shape held.caps held.state conn keep standing.0.kind standing.0.content)
-              (record {
-                shape = standing.1.copy.shape;
-                kind = standing.1.copy.kind;
-                content = standing.1.copy.content;
-                first = refl;
-                fits = standing.1.copy.fits;
-              });
+              (grind arith);
           ordered = tt;
         },
       )

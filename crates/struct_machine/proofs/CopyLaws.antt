@@ -1,12 +1,10 @@
 -- COPY behind the marks that its links make.
-use Rattle.struct_machine.proofs.Imports.{◌≡◌, ℕ, ◌+◌, ◌-◌, ◌⊎◌, inl, inr, Bool, true, false, List, [], ◌∷◌, ◌++◌, Option, None, Some, IfSome, is_some, refl, sym, ap, ◌∙◌, subst, subst₂, if◌then◌else◌, min, StrForm, CfId, ConnId, Refusal, ShellReply, Lost, Reply, Room, Instances, is_at, listed, Machine, CallOutcome, command_done, copied_after, moved_by, room_of, unless, Meaning, first_refusal, fresh_of, Shell, ShellOutcome, failed_outcome, fresh_loss, idle_outcome, if_failed, if_lost, mark_outcome, primary_loss, shell_cause, shell_done, simplex_outcome, stopped_outcome, unless_active, unless_rebuilding, itself, ShellView, Rebuild, IsManned, fourth_none, IsFacility, with_copied, fresh_caps, IsFilled, Kept, lacking_in, AreOf, IsOf, caps_of, copied_in, copy_reply, judged, machine_of, state_in, AreTold, behind_marks, lost_at, marks_in, Mark}
-use Rattle.cf_types.specs.declared.events.Stage.TheVariants as stage
+use Rattle.struct_machine.proofs.Imports.{arith, ◌≡◌, ℕ, ◌+◌, ◌-◌, ◌⊎◌, inl, inr, true, List, [], ◌∷◌, ◌++◌, Option, None, Some, IfSome, is_some, refl, sym, ap, ◌∙◌, subst, if◌then◌else◌, min, StrForm, CfId, ConnId, Refusal, ShellReply, Lost, Reply, Room, listed, Machine, CallOutcome, command_done, copied_after, moved_by, room_of, unless, Meaning, first_refusal, fresh_of, Shell, ShellOutcome, failed_outcome, mark_outcome, shell_cause, shell_done, stopped_outcome, unless_rebuilding, itself, ShellView, Rebuild, IsManned, fourth_none, with_copied, Kept, lacking_in, AreOf, copy_reply, judged, machine_of, AreTold, behind_marks, lost_at, marks_in, Mark}
 use Rattle.cf_types.specs.declared.refusals.Refusal.TheVariants as refusal
 use Rattle.cf_types.specs.declared.shell_commands.ShellCmd.TheVariants as cmd
 use Rattle.cf_types.specs.declared.shell_commands.ShellReply.TheVariants as shown
 use Rattle.engine_api.specs.declared.asks.Ask.TheVariants as ask
 use Rattle.engine_api.specs.declared.asks.Reply.TheVariants as reply
-use Rattle.engine_api.specs.Shell.{facility_of}
 use Rattle.struct_machine.proofs.BeforeLaws.{copied_caps, copied_more, nothing_lacks}
 use Rattle.struct_machine.proofs.CommandLaws.{filled_behind}
 use Rattle.struct_machine.proofs.KeptLaws.{room_left}
@@ -37,52 +35,16 @@ module _ (form : StrForm) (shell : Shell) (by : ConnId) (n : ℕ) (cf : CfId) wh
   marked lost = record lost { shell = record lost.shell { lost = if lost.shell.failed then Some cf else None } }
 
   failed_ends : IsEnded form shell by n (marked (failed_outcome form shell))
-  failed_ends = record {
-    copied = λ k. refl;
-    refused = λ room. first_some (unless_active (marked (failed_outcome form shell)).shell by ∷ [])
-        (refusal.LostFacility cf) _;
-  }
+  failed_ends = grind (arith, first_some)
 
   stopped_ends : (rebuild : Rebuild) → IsEnded form shell by n (marked (stopped_outcome rebuild shell))
-  stopped_ends rebuild = record {
-    copied = λ k. refl;
-    refused = λ room.
-        let after : Shell = (marked (stopped_outcome rebuild shell)).shell in
-        first_some (unless_active after by ∷ if_lost after ∷ if_failed after ∷ unless_rebuilding after.rebuild ∷ [])
-        (refusal.WrongStage stage.Stopping) _;
-  }
+  stopped_ends rebuild = grind (arith, first_some)
 
   -- the loss of the old instance, and that of the new one
   loss_ends : shell.instances.secondary ≡ None
       → (shell.instances.primary ≡ Some cf) ⊎ (fresh_of shell.rebuild ≡ Some cf)
       → IsEnded form shell by n (mark_outcome form cf shell)
-  loss_ends alone either = go (is_at cf shell.instances.primary) refl
-    where
-      by_fresh : (rebuild : Option Rebuild) → fresh_of rebuild ≡ Some cf
-          → IsEnded form shell by n (marked (fresh_loss cf rebuild shell))
-      by_fresh None is = absurd (cc)
-      by_fresh (Some rebuild) is =
-          subst (λ (b : Bool). IsEnded form shell by n (marked (if b then stopped_outcome rebuild shell
-          else idle_outcome shown.OkNone shell))) (sym (ap (is_at cf) is ∙ itself cf)) (stopped_ends rebuild)
-
-      new_one : (b : Bool) → is_at cf shell.instances.primary ≡ b → b ≡ false
-          → (shell.instances.primary ≡ Some cf) ⊎ (fresh_of shell.rebuild ≡ Some cf) → fresh_of shell.rebuild ≡ Some cf
-      new_one b at none (inl old) =
-          absurd (let wrong : true ≡ false = sym (itself cf) ∙ sym (ap (is_at cf) old) ∙ at ∙ none in cc)
-      new_one b at none (inr new) = new
-
-      go : (b : Bool) → is_at cf shell.instances.primary ≡ b → IsEnded form shell by n (mark_outcome form cf shell)
-      go true at =
-          subst₂ (λ (b : Bool) (second : Option CfId). IsEnded form shell by n (marked (if b
-          then primary_loss form cf second shell
-          else if is_at cf second then simplex_outcome cf (facility_of shell.instances.primary) shell
-          else fresh_loss cf shell.rebuild shell))) (sym at) (sym alone) failed_ends
-      go false at =
-          subst₂ (λ (b : Bool) (second : Option CfId). IsEnded form shell by n (marked (if b
-          then primary_loss form cf second shell
-          else if is_at cf second then simplex_outcome cf (facility_of shell.instances.primary) shell
-          else fresh_loss cf shell.rebuild shell))) (sym at) (sym alone)
-          (by_fresh shell.rebuild (new_one false at refl either))
+  loss_ends alone either = grind (arith, itself, stopped_ends, failed_ends)
 
 -- ---- the whole of it
 
@@ -93,12 +55,7 @@ module _ {C R I S : Type 0} (meaning : Meaning C R I S) (form : StrForm) (machin
   room = room_of meaning form machine
 
   alone : machine.shell.instances.secondary ≡ None
-  alone =
-      no_other machine.shell.instances.secondary (λ two.
-      let way = under_way machine.shell.rebuild
-      (fourth_none (unless_active machine.shell by) (if_lost machine.shell) (if_failed machine.shell)
-      (unless_rebuilding machine.shell.rebuild) _ accepted) in
-      let wrong : Some way.0 ≡ None = sym way.1 ∙ manned.paired.rebuild two in cc)
+  alone = grind (arith, no_other, under_way, fourth_none)
 
   ends : (cf : CfId) → (machine.shell.instances.primary ≡ Some cf) ⊎ (fresh_of machine.shell.rebuild ≡ Some cf)
       → IsEnded form machine.shell by n (mark_outcome form cf machine.shell)
@@ -112,13 +69,7 @@ module _ {C R I S : Type 0} (meaning : Meaning C R I S) (form : StrForm) (machin
   same_loss : (cf : CfId) (more : ℕ)
       → (machine.shell.instances.primary ≡ Some cf) ⊎ (fresh_of machine.shell.rebuild ≡ Some cf)
       → lost_at meaning form (with_items more) cf ≡ lost_at meaning form machine cf
-  same_loss cf more either =
-      let ended : IsEnded form machine.shell by n (mark_outcome form cf machine.shell) = ends cf either in
-      λ i. record {
-        shell = (mark_outcome form cf machine.shell).shell;
-        content = (lost_at meaning form machine cf).content;
-        copied = (ended.copied (machine.copied + more) ∙ sym (ended.copied machine.copied)) i;
-      }
+  same_loss cf more either = grind (arith, ends)
 
   refused_so : (cause : Option Refusal) (answer : CallOutcome R S) (behind : Machine S) (told : Reply R)
       → is_some cause ≡ true → (answered : ShellReply) → told ≡ copy_reply cause answered
@@ -193,27 +144,7 @@ module _ {C R I S : Type 0} (meaning : Meaning C R I S) (form : StrForm) (machin
   pub told_before : (lost : Lost) (more : ℕ) (marks : List Mark) → (is_some lost.first ≡ true → lost.second ≡ None)
       → AreTold meaning form (with_items more) (marks_in lost) marks
       → AreTold meaning form machine (marks_in lost) marks
-  told_before lost more marks stopped told = go lost.first lost.second marks stopped told
-    where
-      single : (cf : CfId) (marks : List Mark) → AreTold meaning form (with_items more) (cf ∷ []) marks
-          → AreTold meaning form machine (cf ∷ []) marks
-      single cf [] told = absurd told
-      single cf (mark ∷ []) told = (told.0, told.1, tt)
-      single cf (mark ∷ (other ∷ marks)) told = absurd told.2
-
-      nothing : (marks : List Mark) → AreTold meaning form (with_items more) [] marks
-          → AreTold meaning form machine [] marks
-      nothing [] told = tt
-      nothing (mark ∷ marks) told = absurd told
-
-      go : (one two : Option CfId) (marks : List Mark) → (is_some one ≡ true → two ≡ None)
-          → AreTold meaning form (with_items more) (listed one ++ listed two) marks
-          → AreTold meaning form machine (listed one ++ listed two) marks
-      go None None marks stopped told = nothing marks told
-      go None (Some cf) marks stopped told = single cf marks told
-      go (Some cf) None marks stopped told = single cf marks told
-      go (Some cf) (Some other) marks stopped told =
-          absurd (let wrong : Some other ≡ None = stopped refl in cc)
+  told_before lost more marks stopped told = grind arith
 
 -- ---- once the items are copied
 
@@ -228,28 +159,7 @@ module _ {C R I S : Type 0} (meaning : Meaning C R I S) (form : StrForm) (shelle
 
   pub copied_machine : machine_of meaning form now after
       ≡ record before { copied = before.copied + moved_by (room_of meaning form before) (cmd.Copy n) }
-  copied_machine = λ i. record { shell = came i; content = state_in meaning form (holds i); copied = counted i }
-    where
-      counted : copied_in after.fresh ≡ copied_in kept.fresh + min n (room_of meaning form before).left
-      counted =
-          ap copied_in copied
-          ∙ copied_more (min n (lacking_in meaning kept.held kept.fresh)) kept.fresh
-          (nothing_lacks meaning n kept.held kept.fresh)
-          ∙ ap (λ (left : ℕ). copied_in kept.fresh + min n left) (room_left meaning form shelled kept of)
+  copied_machine = grind (arith, copied_more, nothing_lacks, room_left)
 
   pub kept_copied : AreOf meaning form now after
-  kept_copied = record {
-    formed = of.formed;
-    shell_form = same ∙ of.shell_form;
-    places = at ∙ of.places ∙ sym (ap (λ (s : Shell). s.instances) came);
-    held = subst₂ (IsOf meaning form) (sym (ap (λ (s : Shell). s.caps) came)) (sym holds) of.held;
-    fresh =
-        ap caps_of copied ∙ copied_caps (min n (lacking_in meaning kept.held kept.fresh)) kept.fresh ∙ of.fresh
-        ∙ sym (ap (λ (s : Shell). fresh_caps s.rebuild) came);
-    fresh_at = subst (λ (s : Shell). IfSome (fresh_of s.rebuild) IsFacility) (sym came) of.fresh_at;
-    stands = ap is_some holds ∙ of.stands ∙ sym (ap (λ (a : Instances). is_some a.primary) at);
-    manned = subst IsManned (sym came) of.manned;
-    filled =
-        subst (IsFilled meaning form) (sym copied_machine)
-        (filled_behind meaning form shelled kept of by (cmd.Copy n) accepted);
-  }
+  kept_copied = grind (arith, copied_caps, copied_machine, filled_behind)

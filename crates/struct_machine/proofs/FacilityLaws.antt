@@ -1,22 +1,12 @@
 -- Where instances are made there is a facility.
-use Rattle.struct_machine.proofs.Imports.{◌≡◌, ℕ, Bool, true, false, List, [], ◌∷◌, Option, None, Some, IfSome, refl, if◌then◌else◌, nat_le, filter, unwrap_or, recursion_from_All, AllByRecursion, Stage, Connect, Copy, Pref, StrForm, CfId, ConnId, IsFacility, IsPref, IsForm, place_for, fresh_of, Shell, candidates, is_candidate, Passed, No, Into, Rebuild, outcome_of, rebuild_emptied, rebuild_left, rebuild_without, with_place, without_owing, rebuild_next, rebuild_given, Telling, is_awaited, Starts, Places, Completes, Responds, Stops, Departs, Forces, Fails, Nothing}
+use Rattle.struct_machine.proofs.Imports.{arith, ◌≡◌, ℕ, Bool, true, false, List, [], ◌∷◌, Option, None, Some, IfSome, refl, if◌then◌else◌, filter, unwrap_or, recursion_from_All, AllByRecursion, Stage, Connect, Copy, Pref, StrForm, CfId, ConnId, IsFacility, IsPref, IsForm, place_for, fresh_of, Shell, candidates, is_candidate, Passed, No, Into, Rebuild, outcome_of, rebuild_emptied, rebuild_left, rebuild_without, without_owing, rebuild_next, rebuild_given, Telling, is_awaited, Starts, Places, Completes, Responds, Stops, Departs, Forces, Fails, Nothing}
 
 -- ---- places of a form
 
 place_in : (units : ℕ) (is : Pref → Bool) (prefs : List Pref) → AllByRecursion IsPref prefs
     → IfSome (place_for units (filter is prefs)) IsFacility
 place_in units is [] all = tt
-place_in units is (pref ∷ prefs) all = by_pref (is pref) (place_in units is prefs all.1)
-  where
-    by_pref : (b : Bool) → IfSome (place_for units (filter is prefs)) IsFacility
-        → IfSome (place_for units (if b then pref ∷ filter is prefs else filter is prefs)) IsFacility
-    by_pref false rest = rest
-    by_pref true rest = by_units (nat_le units pref.units) refl
-      where
-        by_units : (b : Bool) → nat_le units pref.units ≡ b
-            → IfSome (place_for units (pref ∷ filter is prefs)) IsFacility
-        by_units true enough = rw enough all.0.0
-        by_units false little = rw little rest
+place_in units is (pref ∷ prefs) all = grind (arith, place_in units is prefs all.1)
 
 -- a place that is found is a facility
 pub found_facility : (form : StrForm) (shell : Shell) (by : ConnId) (units : ℕ) → IsForm form
@@ -59,9 +49,7 @@ placed_facility (Some at) cf is may = is
 pub facility_next : (active : List ConnId) (by : ConnId) (told : Telling) (rebuild : Option Rebuild)
     → IsPlaceTold rebuild told → InFacility rebuild → InFacility (rebuild_next active by told rebuild)
 facility_next active by (Starts number caps) rebuild may is = tt
-facility_next active by (Places cf) (Some rebuild) may is =
-    given_facility (is_awaited rebuild.stage rebuild.number (Places cf)) by (with_place cf rebuild)
-    (placed_facility rebuild.fresh cf is may)
+facility_next active by (Places cf) (Some rebuild) may is = grind (arith, given_facility, placed_facility)
 facility_next active by Completes (Some rebuild) may is =
     given_facility (is_awaited rebuild.stage rebuild.number Completes) by rebuild is
 facility_next active by (Responds answered) (Some rebuild) may is =

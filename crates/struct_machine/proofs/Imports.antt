@@ -1,5 +1,5 @@
 -- What proofs here name of other crates, and of this one's definitions. Declares nothing.
-pub use Rattle.std.proofs.Common.{◌≡◌, ℕ, ◌==◌, Bool, true, false, not, ◌&&◌, ◌||◌, List, [], ◌∷◌, ◌++◌, ◌≢◌, refl, sym, ap, subst, ◌∙◌, Option, None, Some, IfSome, All, filter, is_some, if◌then◌else◌, ◌+◌, ◌⊎◌, inl, inr, arith, is_none, min, map, subst₂, option_map, IsTrue, ◌-◌, nat_le, length, Result, Ok, Err, IfOk, rules, ◌≤◌, drop, append-nil}
+pub use Rattle.std.proofs.Common.{◌≡◌, ℕ, ◌==◌, Bool, true, false, not, ◌&&◌, ◌||◌, List, [], ◌∷◌, ◌++◌, ◌≢◌, refl, sym, ap, subst, ◌∙◌, Option, None, Some, IfSome, All, filter, is_some, if◌then◌else◌, ◌+◌, ◌⊎◌, inl, inr, arith, is_none, min, subst₂, option_map, IsTrue, ◌-◌, length, Result, Ok, Err, IfOk, rules, ◌≤◌, drop, append-nil}
 pub use Rattle.std.proofs.Math.Nat.{min-le_right}
 pub use Rattle.std.proofs.lemmas.Bool.{both_ways, eq-eqb, false_from_ne_true, eqb-true, and_left, and_right}
 pub use Rattle.std.proofs.lemmas.List.Elements.{All-from_recursion, filter-append, recursion_from_All}
@@ -10,7 +10,7 @@ pub use Rattle.cf_types.proofs.GainsLaws.{gains_none}
 pub use Rattle.cf_types.specs.Connections.{state_of, actives, is_active}
 pub use Rattle.cf_types.specs.Forms.{IsFacility, IsCaller, IsPref, IsForm}
 pub use Rattle.cf_types.specs.Gains.{Bits, Gains, is_for, bits_told, difference}
-pub use Rattle.cf_types.specs.Mailboxes.{next_event, owed_event, with_cleared, with_response, with_letters, Mailboxes}
+pub use Rattle.cf_types.specs.Mailboxes.{next_event, owed_event, Mailboxes}
 pub use Rattle.cf_types.specs.declared.effects.BitChange.{BitChange}
 pub use Rattle.cf_types.specs.declared.events.Event.{Event}
 pub use Rattle.cf_types.specs.declared.events.Letter.{Letter}
@@ -27,7 +27,7 @@ pub use Rattle.cf_types.specs.declared.shell_commands.ShellCmd.{ShellCmd}
 pub use Rattle.cf_types.specs.declared.shell_commands.ShellReply.{ShellReply}
 pub use Rattle.duplex_pair.proofs.CfLink.LinkLaws.{asked-append}
 pub use Rattle.duplex_pair.specs.CfLink.Asks.{IsAsked}
-pub use Rattle.duplex_pair.specs.CfLink.Links.{IsAskedAll, AreAsked, link_at}
+pub use Rattle.duplex_pair.specs.CfLink.Links.{AreAsked, link_at}
 pub use Rattle.duplex_pair.specs.CfLink.declared.links.Links.{Links}
 pub use Rattle.duplex_pair.specs.Pairs.{bits_of, PairView, elsewhere, facility_of, first_left, instances_of, second_left, without_at, letters_by, content_of}
 pub use Rattle.duplex_pair.specs.declared.lost.Lost.{Lost}
@@ -36,16 +36,16 @@ pub use Rattle.engine_api.proofs.AskLaws.{filter_agreed, has_other, same_cf, its
 pub use Rattle.engine_api.specs.Asking.{MayCommand}
 pub use Rattle.engine_api.specs.Instances.{Instances, is_at, place_for, no_instance, units_of}
 pub use Rattle.engine_api.specs.Items.{Fits, IsNoMoreOf}
-pub use Rattle.engine_api.specs.LinkAsks.{Asks, AreDistinct, apart, has, reached, marks_of, answers_to, listed, operator, asks_of, asks_of_command, asked_unless, links_asked}
-pub use Rattle.engine_api.specs.Machine.{copied_after, Machine, content_after, room_of, moved_by, departure_from, command_done, unless, with_entered, entered_machine, CallOutcome, with_back_of, content_done, content_reply, call_done, loss_step}
-pub use Rattle.engine_api.specs.Meaning.{Meaning, Held, Departure, items_of, with_departure, first_refusal, new_held, Answer, answer, unless_refused, StepResult}
-pub use Rattle.engine_api.specs.RebuildCore.Stages.{is_response, outcome_of, rebuild_emptied, rebuild_left, rebuild_without, with_place, without_owing}
+pub use Rattle.engine_api.specs.LinkAsks.{Asks, AreDistinct, apart, has, reached, marks_of, answers_to, listed, asks_of, asked_unless, links_asked}
+pub use Rattle.engine_api.specs.Machine.{copied_after, Machine, content_after, room_of, moved_by, departure_from, command_done, unless, with_entered, entered_machine, CallOutcome, with_back_of, content_done, content_reply, loss_step}
+pub use Rattle.engine_api.specs.Meaning.{Meaning, Held, Departure, items_of, with_departure, first_refusal, new_held, Answer, answer}
+pub use Rattle.engine_api.specs.RebuildCore.Stages.{outcome_of, rebuild_emptied, rebuild_left, rebuild_without, without_owing}
 pub use Rattle.engine_api.specs.RebuildCore.declared.passed.Passed.{Passed}
 pub use Rattle.engine_api.specs.RebuildCore.declared.passed.Passed.TheVariants.{No, Into}
 pub use Rattle.engine_api.specs.RebuildCore.declared.rebuild.Rebuild.{Rebuild}
-pub use Rattle.engine_api.specs.Rebuilds.{fresh_of, is_switch}
+pub use Rattle.engine_api.specs.Rebuilds.{fresh_of}
 pub use Rattle.engine_api.specs.Shapes.{shape_of}
-pub use Rattle.engine_api.specs.Shell.{Shell, Leaver, shell_done, leaver, with_posted, caps_made, caps_in, rebuild_connect_outcome, call_cause, ShellOutcome, is_kept, shell_cause, entered, failed_outcome, fresh_loss, idle_outcome, if_failed, if_lost, mark_outcome, primary_loss, simplex_outcome, stopped_outcome, unless_active, unless_rebuilding, given_outcome, no_deeds, take_event, responded, response_outcome, stop_outcome, complete_outcome, vary_outcome, simplex_again, candidates, is_candidate, conns_answered, departure_outcome, goes, if_connected, if_duplexed, if_too_many, if_no_place, if_rebuilding, if_too_small, is_connect, loss_outcome, made_at, refusal_when, shell_without, unless_allocated, unless_copied_to, unless_owed, unless_reached, with_off, with_primary, opening_shell, content_cause}
+pub use Rattle.engine_api.specs.Shell.{Shell, Leaver, shell_done, leaver, with_posted, caps_made, rebuild_connect_outcome, call_cause, ShellOutcome, is_kept, shell_cause, entered, failed_outcome, idle_outcome, if_failed, if_lost, mark_outcome, simplex_outcome, stopped_outcome, unless_active, unless_rebuilding, given_outcome, no_deeds, take_event, response_outcome, stop_outcome, complete_outcome, vary_outcome, simplex_again, candidates, is_candidate, departure_outcome, if_duplexed, if_no_place, if_rebuilding, loss_outcome, refusal_when, shell_without, unless_allocated, unless_copied_to, with_off, opening_shell, content_cause}
 pub use Rattle.engine_api.specs.declared.asks.Ask.{Ask}
 pub use Rattle.engine_api.specs.declared.asks.Reply.{Reply}
 pub use Rattle.engine_api.specs.declared.deeds.Deeds.{Deeds}
@@ -70,17 +70,17 @@ pub use Rattle.shell_laws.proofs.PlaceLaws.{no_switch, placed_for, switch_copy}
 pub use Rattle.shell_laws.proofs.StepLaws.{done, acting, connect_stage, first_none, tells_command, active_member, active_of, somebody_member, rebuild-loss}
 pub use Rattle.shell_laws.specs.Capacities.{fresh_caps, AreFitting, caps_behind, fresh_behind}
 pub use Rattle.shell_laws.specs.Filling.{IsFilled, IsFilling}
-pub use Rattle.shell_laws.specs.Members.{IsManned, IsPaired, IsBare}
+pub use Rattle.shell_laws.specs.Members.{IsManned, IsPaired}
 pub use Rattle.shell_laws.specs.Steps.{rebuild_next, rebuild_given}
 pub use Rattle.shell_laws.specs.Tellings.{Telling, is_awaited, mark_telling, telling}
 pub use Rattle.shell_laws.specs.Tellings.Telling.{Starts, Places, Completes, Responds, Stops, Departs, Forces, Fails, Nothing}
 pub use Rattle.struct_machine.specs.Asking.{unless_same}
-pub use Rattle.struct_machine.specs.Changes.{ChangeList, IsUntouched, Names, any_failure, deeds_by, may_be_any, may_change_bits}
+pub use Rattle.struct_machine.specs.Changes.{ChangeList, IsUntouched, Names, any_failure, may_be_any, may_change_bits}
 pub use Rattle.struct_machine.specs.Content.{lacking_in, Kept, AreStanding, IsHeldAt, begun_anew, ContentView, kept_of, nothing_kept}
-pub use Rattle.struct_machine.specs.Deeds.{fresh_left, fresh_before, makes_empty, makes_second, Spares, AreSpares, AreAdmitted, MayMake, MayAdd, MayDrop, kept_past, places_past, held_past, HasNone, at_left, fresh_made, fresh_past, held_back, held_made, held_switched, at_made, at_switched}
+pub use Rattle.struct_machine.specs.Deeds.{fresh_left, fresh_before, makes_empty, makes_second, Spares, AreSpares, AreAdmitted, MayMake, MayAdd, MayDrop, kept_past, places_past, held_past, HasNone, at_left, fresh_past, held_back, at_switched}
 pub use Rattle.struct_machine.specs.Kept.{copied_in, caps_of, state_in, AreOf, IsOf, machine_of, left_in, copy_reply, judged, command_looks, room_seen, is_copying, items_named}
 pub use Rattle.struct_machine.specs.Losses.{IsEnding, kept_without}
 pub use Rattle.struct_machine.specs.Marks.{is_failure}
-pub use Rattle.struct_machine.specs.Turns.{asks_in, AreTold, behind_marks, lost_at, marks_in, AreMarked, IsJudgedTurn, content_asks_of, copy_asks_of, lost_by}
+pub use Rattle.struct_machine.specs.Turns.{asks_in, AreTold, behind_marks, lost_at, marks_in, AreMarked, IsJudgedTurn, content_asks_of, copy_asks_of}
 pub use Rattle.struct_machine.specs.declared.asking.Asked.{Asked}
 pub use Rattle.struct_machine.specs.declared.marks.Mark.{Mark}

@@ -1,9 +1,8 @@
 -- Where the instances of a structure stand behind a command, and which of its deeds may be done.
-use Rattle.struct_machine.proofs.Imports.{◌≡◌, ◌≢◌, Bool, true, false, ◌==◌, ◌||◌, List, [], ◌∷◌, ◌++◌, Option, None, Some, IfSome, refl, sym, ap, ◌∙◌, subst, if◌then◌else◌, is_some, is_none, unwrap_or, eq-eqb, eqb-true, false_from_ne_true, Event, Connect, Copy, StrForm, CfId, ConnId, Refusal, ShellCmd, ShellReply, actives, state_of, IsFacility, IsForm, next_event, owed_event, with_cleared, with_response, Deeds, Instances, no_instance, is_at, place_for, units_of, Machine, room_of, Meaning, first_refusal, fresh_of, is_switch, Shell, ShellOutcome, candidates, complete_outcome, conns_answered, departure_outcome, failed_outcome, fresh_loss, given_outcome, goes, idle_outcome, if_connected, if_duplexed, if_failed, if_too_many, if_no_place, if_rebuilding, if_too_small, is_connect, is_kept, loss_outcome, made_at, no_deeds, primary_loss, rebuild_connect_outcome, refusal_when, responded, response_outcome, shell_cause, shell_without, simplex_again, simplex_outcome, stop_outcome, stopped_outcome, take_event, unless_active, unless_allocated, unless_copied_to, unless_owed, unless_reached, unless_rebuilding, vary_outcome, with_off, with_primary, Rebuild, is_response, outcome_of, with_place, without_owing, IsManned, IsPaired, idle_rebuild, past_first, past_second, third_none, change-command, paired-change, no_switch, placed_for, switch_copy, acting, connect_stage, done, first_none, tells_command, mark_telling, telling, places_past, at_left, at_made, at_switched}
+use Rattle.struct_machine.proofs.Imports.{arith, ◌≡◌, ◌≢◌, Bool, true, false, ◌==◌, ◌||◌, List, [], ◌∷◌, ◌++◌, Option, None, Some, IfSome, refl, ap, ◌∙◌, if◌then◌else◌, is_some, is_none, eq-eqb, eqb-true, false_from_ne_true, Event, Connect, StrForm, CfId, ConnId, Refusal, ShellCmd, ShellReply, state_of, IsFacility, IsForm, next_event, owed_event, Deeds, Instances, no_instance, is_at, place_for, units_of, Machine, room_of, Meaning, first_refusal, fresh_of, Shell, ShellOutcome, candidates, complete_outcome, departure_outcome, given_outcome, idle_outcome, if_duplexed, if_no_place, if_rebuilding, is_kept, loss_outcome, no_deeds, rebuild_connect_outcome, refusal_when, response_outcome, shell_cause, shell_without, simplex_again, simplex_outcome, stop_outcome, take_event, unless_allocated, unless_copied_to, vary_outcome, with_off, Rebuild, IsManned, IsPaired, idle_rebuild, past_first, past_second, third_none, change-command, paired-change, no_switch, placed_for, switch_copy, acting, connect_stage, done, first_none, tells_command, mark_telling, telling, places_past, at_left, at_switched}
 use Rattle.cf_types.specs.declared.refusals.Refusal.TheVariants as refusal
 use Rattle.cf_types.specs.declared.shell_commands.ShellCmd.TheVariants as cmd
 use Rattle.cf_types.specs.declared.shell_commands.ShellReply.TheVariants as shown
-use Rattle.cf_types.specs.Connections.{with_departure}
 use Rattle.engine_api.specs.Shell.{facility_of, fresh_made}
 use Rattle.struct_machine.proofs.FacilityLaws.{found_facility, facility_next, InFacility, IsPlaceTold}
 
@@ -50,16 +49,7 @@ placing_common : (before : Shell) (acted : ShellOutcome) → IsCommon acted.deed
     → acted.shell.instances ≡ (if acted.deeds.drop_all then no_instance
     else at_switched acted.deeds.switch (fresh_of before.rebuild) before.instances)
     → IsPlacing before acted
-placing_common before acted common places = record {
-  places =
-      places ∙ sym (rw (common.drop_at, common.second, common.make) refl);
-  facility = rw common.make tt;
-  bare = λ some. absurd (let wrong : false ≡ true = rw common.make at some in cc);
-  second = rw common.second tt;
-  dropped = rw common.drop_at tt;
-  switch = λ yes. (common.second, common.drop_at);
-  back = λ some. absurd (let wrong : false ≡ true = rw common.back at some in cc);
-}
+placing_common before acted common places = grind arith
 
 nothing_common : IsCommon no_deeds
 nothing_common = record { back = refl; make = refl; second = refl; drop_at = refl }
@@ -69,10 +59,7 @@ nothing_common = record { back = refl; make = refl; second = refl; drop_at = ref
 given_places : (before : Shell) (answer : ShellReply) (by : ConnId) (rebuild : Rebuild) (shell : Shell)
     → before.rebuild ≡ Some rebuild → shell.instances ≡ before.instances
     → IsPlacing before (given_outcome answer by rebuild shell)
-given_places before answer by rebuild shell is same =
-    placing_common before (given_outcome answer by rebuild shell)
-    (record { back = refl; make = refl; second = refl; drop_at = refl })
-    (λ i. at_switched (is_switch (outcome_of (without_owing by rebuild))) (fresh_of (sym is i)) (same i))
+given_places before answer by rebuild shell is same = grind (arith, placing_common)
 
 instances_without : (by : ConnId) (rebuild : Option Rebuild) (shell : Shell)
     → (shell_without by rebuild shell).instances ≡ shell.instances
@@ -82,97 +69,24 @@ instances_without by (Some rebuild) shell =
 
 departure_places : (form : StrForm) (before shell : Shell) (by : ConnId) (keep : Bool)
     → shell.instances ≡ before.instances → IsPlacing before (departure_outcome form shell by keep)
-departure_places form before shell by keep same =
-    placing_common before (departure_outcome form shell by keep)
-    (record { back = refl; make = refl; second = refl; drop_at = refl })
-    (ap (λ (at : Instances). if goes form (with_departure by keep shell.conns) then no_instance else at)
-    (instances_without by shell.rebuild (record shell { mail = with_cleared by shell.mail }) ∙ same))
+departure_places form before shell by keep same = grind (arith, placing_common, instances_without)
 
 -- ---- what is lost
 
 -- two instances stand apart
 pub paired_apart : (cf : CfId) (shell : Shell) → IsPaired shell → is_at cf shell.instances.primary ≡ true
     → is_at cf shell.instances.secondary ≡ false
-paired_apart cf shell paired there = go shell.instances.primary shell.instances.secondary refl refl there
-  where
-    go : (primary secondary : Option CfId) → shell.instances.primary ≡ primary
-        → shell.instances.secondary ≡ secondary → is_at cf primary ≡ true → is_at cf secondary ≡ false
-    go None secondary is other there = absurd (cc)
-    go (Some one) None is other there = refl
-    go (Some one) (Some two) is other there =
-        false_from_ne_true (two.0 == cf.0) (λ same.
-        paired.apart one two is other (eqb-true two.0 cf.0 same ∙ sym (eqb-true one.0 cf.0 there)))
+paired_apart cf shell paired there = grind (arith, false_from_ne_true, eqb-true)
 
 places_left : (cf left : CfId) (before : Shell) (shell : Shell)
     → at_left cf before.instances ≡ record { primary = Some left; secondary = None }
     → (is_at cf before.instances.primary || is_at cf before.instances.secondary) ≡ true
     → is_some before.instances.secondary ≡ true → IsPaired before → IsPlacing before (simplex_outcome cf left shell)
-places_left cf left before shell left_so there two paired = record {
-  places = sym left_so;
-  facility = tt;
-  bare = λ some. absurd (cc);
-  second = tt;
-  dropped = record {
-    there = there;
-    stands = paired.primary two;
-    two = two;
-    apart = paired_apart cf before paired;
-    back = refl;
-    make = refl;
-    second = refl;
-  };
-  switch = λ yes. absurd (cc);
-  back = λ some. absurd (cc);
-}
+places_left cf left before shell left_so there two paired = grind (arith, paired_apart)
 
 pub loss_places : (form : StrForm) (cf : CfId) (before shell : Shell) → IsPaired before
     → shell.instances ≡ before.instances → IsPlacing before (loss_outcome form cf shell)
-loss_places form cf before shell paired same =
-    go before.instances.primary before.instances.secondary refl refl
-  where
-    Goes : Instances → Type 0
-    Goes at = IsPlacing before (if is_at cf at.primary then primary_loss form cf at.secondary shell
-        else if is_at cf at.secondary then simplex_outcome cf (facility_of at.primary) shell
-        else fresh_loss cf shell.rebuild shell)
-
-    by_rebuild : (rebuild : Option Rebuild) → IsPlacing before (fresh_loss cf rebuild shell)
-    by_rebuild None = placing_common before _ nothing_common same
-    by_rebuild (Some rebuild) = at_place (is_at cf rebuild.fresh)
-      where
-        at_place : (b : Bool) → IsPlacing before (if b then stopped_outcome rebuild shell
-            else idle_outcome shown.OkNone shell)
-        at_place true =
-            placing_common before (stopped_outcome rebuild shell)
-            (record { back = refl; make = refl; second = refl; drop_at = refl }) same
-        at_place false = placing_common before (idle_outcome shown.OkNone shell) nothing_common same
-
-    by_at : (primary secondary : Option CfId) → before.instances.primary ≡ primary
-        → before.instances.secondary ≡ secondary → (first second : Bool) → is_at cf primary ≡ first
-        → is_at cf secondary ≡ second
-        → IsPlacing before (if first then primary_loss form cf secondary shell
-        else if second then simplex_outcome cf (facility_of primary) shell
-        else fresh_loss cf shell.rebuild shell)
-    by_at primary None is other true second there elsewhere =
-        placing_common before (failed_outcome form shell)
-        (record { back = refl; make = refl; second = refl; drop_at = refl }) refl
-    by_at primary (Some left) is other true second there elsewhere =
-        places_left cf left before shell (rw (is, other, there) refl) (rw (is, there) refl) (rw other refl)
-        paired
-    by_at None None is other false true there elsewhere = absurd (cc)
-    by_at (Some one) None is other false true there elsewhere = absurd (cc)
-    by_at None (Some left) is other false true there elsewhere =
-        absurd (let wrong : false ≡ true = rw is at (paired.primary (rw other refl)) in cc)
-    by_at (Some one) (Some left) is other false true there elsewhere =
-        places_left cf one before shell (rw (is, other, there) refl) (rw (is, other, there, elsewhere) refl)
-        (rw other refl) paired
-    by_at primary secondary is other false false there elsewhere = by_rebuild shell.rebuild
-
-    go : (primary secondary : Option CfId) → before.instances.primary ≡ primary
-        → before.instances.secondary ≡ secondary → IsPlacing before (loss_outcome form cf shell)
-    go primary secondary is other =
-        subst Goes (sym same)
-        (subst Goes (λ i. record { primary = sym is i; secondary = sym other i })
-        (by_at primary secondary is other (is_at cf primary) (is_at cf secondary) refl refl))
+loss_places form cf before shell paired same = grind (arith, placing_common, nothing_common, places_left)
 
 vary_places : (form : StrForm) (cf : CfId) (off : Bool) (before shell : Shell) → IsPaired before
     → shell.instances ≡ before.instances → IsPlacing before (vary_outcome form cf off shell)
@@ -187,50 +101,8 @@ again_places : (before shell : Shell) → IsPaired before → shell.instances �
     → (second : Option CfId) → before.instances.secondary ≡ second → IsPlacing before (simplex_again second shell)
 again_places before shell paired same None other =
     placing_common before (simplex_again None shell) nothing_common same
-again_places before shell paired same (Some cf) other = go before.instances.primary refl
-  where
-    left : (b : Bool) (primary : Option CfId) → b ≡ false → (if b then before.instances.secondary else primary) ≡
-        primary
-    left true primary is = absurd (cc)
-    left false primary is = refl
-
-    it : cf.0 == cf.0 ≡ true
-    it = eq-eqb cf.0 cf.0 refl
-
-    or_so : (b : Bool) → b || true ≡ true
-    or_so true = refl
-    or_so false = refl
-
-    go : (primary : Option CfId) → before.instances.primary ≡ primary
-        → IsPlacing before (simplex_again (Some cf) shell)
-    go None is = absurd (let wrong : false ≡ true = rw is at (paired.primary (rw other refl)) in cc)
-    go (Some one) is = record {
-      places =
-          ap (λ (at : Instances). (let left : Instances = record at { secondary = None } in left)) same
-          ∙ (λ i. record {
-            primary = sym (left (is_at cf before.instances.primary) before.instances.primary elsewhere) i;
-            secondary = None;
-          });
-      facility = tt;
-      bare = λ some. absurd (cc);
-      second = tt;
-      dropped = record {
-        there = rw (other, it) (or_so (is_at cf before.instances.primary));
-        stands = rw is refl;
-        two = rw other refl;
-        apart = paired_apart cf before paired;
-        back = refl;
-        make = refl;
-        second = refl;
-      };
-      switch = λ yes. absurd (cc);
-      back = λ some. absurd (cc);
-    }
-      where
-        elsewhere : is_at cf before.instances.primary ≡ false
-        elsewhere =
-            rw is (false_from_ne_true (one.0 == cf.0)
-            (λ same_at. paired.apart one cf is other (sym (eqb-true one.0 cf.0 same_at))))
+again_places before shell paired same (Some cf) other =
+    grind (arith, eq-eqb, paired_apart, false_from_ne_true, eqb-true)
 
 -- ---- what tells no place
 
@@ -278,59 +150,7 @@ module _ {C R I S : Type 0} (meaning : Meaning C R I S) (form : StrForm) (machin
 
   connect_places : (keep : Bool) → IsTaken (cmd.Connect keep)
       → PlacesBy (done meaning form machine by (cmd.Connect keep))
-  connect_places keep fine = record {
-    places = made_places made machine.shell.instances;
-    facility = made_facility (is_none machine.shell.instances.primary);
-    bare = λ some idle. bare machine.shell.instances.primary place some;
-    second = tt;
-    dropped = tt;
-    switch = λ yes. absurd (cc);
-    back = λ some none. stands machine.shell.instances.primary refl none;
-  }
-    where
-      shell : Shell
-      shell = before_it (cmd.Connect keep)
-
-      place : Option CfId
-      place = place_for (units_of machine.shell.caps) (candidates form shell by)
-
-      made : Option CfId
-      made = made_at form shell by
-
-      idle : machine.shell.rebuild ≡ None
-      idle = idle_connect keep fine
-
-      made_places : (made : Option CfId) (at : Instances)
-          → with_primary made at ≡ at_made (is_some machine.shell.rebuild) made at
-      made_places None at = refl
-      made_places (Some cf) at = rw idle refl
-
-      made_facility : (b : Bool) → IfSome (if b then place else None) IsFacility
-      made_facility true = found_facility form shell by (units_of machine.shell.caps) formed
-      made_facility false = tt
-
-      bare : (primary place : Option CfId) → is_some (if is_none primary then place else None) ≡ true
-          → primary ≡ None
-      bare None place some = refl
-      bare (Some cf) place some = absurd (cc)
-
-      stands : (primary : Option CfId) → machine.shell.instances.primary ≡ primary → is_some primary ≡ false
-          → is_some (if is_none primary then place else None) ≡ true
-      stands None is none = found is
-        where
-          past : first_refusal (unless_reached form machine.shell by) ≡ None
-          past =
-              past_second (if_rebuilding machine.shell.rebuild) (if_too_many form machine.shell by)
-              (unless_reached form machine.shell by)
-              (past_second (if_failed machine.shell) (if_connected (state_of machine.shell.conns by))
-              (if_rebuilding machine.shell.rebuild ∷ if_too_many form machine.shell by
-              ∷ unless_reached form machine.shell by) fine)
-
-          found : machine.shell.instances.primary ≡ None → is_some place ≡ true
-          found is =
-              placed_for (units_of machine.shell.caps) (candidates form machine.shell by)
-              (reached (is_none machine.shell.instances.primary) _ _ (rw is refl) past)
-      stands (Some cf) is none = absurd (cc)
+  connect_places keep fine = grind (arith, idle_connect, found_facility, past_second, placed_for, reached)
 
   next_places : (taken : Option Event) → PlacesBy (take_event (before_it cmd.Next) by taken)
   next_places None = placing_common machine.shell _ nothing_common refl
@@ -339,30 +159,11 @@ module _ {C R I S : Type 0} (meaning : Meaning C R I S) (form : StrForm) (machin
 
   respond_places : (owed : Option Event) → PlacesBy (response_outcome (before_it cmd.Respond) by owed)
   respond_places None = placing_common machine.shell _ nothing_common refl
-  respond_places (Some answered) =
-      by_rebuild machine.shell.rebuild (record (before_it cmd.Respond) {
-        conns = conns_answered by answered machine.shell.conns;
-        mail = with_response by (before_it cmd.Respond).mail;
-      }) refl refl
-    where
-      by_rebuild : (rebuild : Option Rebuild) (shell : Shell) → machine.shell.rebuild ≡ rebuild
-          → shell.instances ≡ machine.shell.instances → PlacesBy (responded by answered rebuild shell)
-      by_rebuild None shell is same = placing_common machine.shell _ nothing_common same
-      by_rebuild (Some rebuild) shell is same = go (is_response rebuild.stage rebuild.number answered)
-        where
-          go : (b : Bool) → PlacesBy (if b
-              then given_outcome (shown.Responded answered) by rebuild shell
-              else record { reply = shown.Responded answered; shell = shell; deeds = no_deeds })
-          go true = given_places machine.shell (shown.Responded answered) by rebuild shell is same
-          go false =
-              placing_common machine.shell
-              (record { reply = shown.Responded answered; shell = shell; deeds = no_deeds }) nothing_common same
+  respond_places (Some answered) = grind (arith, placing_common, nothing_common, given_places)
 
   stop_places : (rebuild : Option Rebuild) → PlacesBy (stop_outcome (before_it cmd.RebuildStop) rebuild)
   stop_places None = placing_common machine.shell _ nothing_common refl
-  stop_places (Some rebuild) =
-      placing_common machine.shell (stop_outcome (before_it cmd.RebuildStop) (Some rebuild))
-      (record { back = refl; make = refl; second = refl; drop_at = refl }) refl
+  stop_places (Some rebuild) = grind (arith, placing_common)
 
   complete_places : (rebuild : Option Rebuild) → machine.shell.rebuild ≡ rebuild
       → PlacesBy (complete_outcome (before_it cmd.RebuildComplete) by rebuild)
@@ -375,67 +176,13 @@ module _ {C R I S : Type 0} (meaning : Meaning C R I S) (form : StrForm) (machin
   connection_places : (rebuild : Option Rebuild) → machine.shell.rebuild ≡ rebuild → IsTaken cmd.RebuildConnect
       → PlacesBy (rebuild_connect_outcome form (before_it cmd.RebuildConnect) by rebuild)
   connection_places None is fine = placing_common machine.shell _ nothing_common refl
-  connection_places (Some rebuild) is fine = record {
-    places =
-        ap (λ (b : Bool). at_switched b given.fresh machine.shell.instances) stays
-        ∙ sym (ap (λ (b : Bool). at_switched b (fresh_of machine.shell.rebuild)
-        (at_made (is_some machine.shell.rebuild) made machine.shell.instances)) stays
-        ∙ made_places made);
-    facility = made_facility (is_none rebuild.fresh);
-    bare = λ some idle. absurd (let wrong : true ≡ false = rw is at idle in cc);
-    second = tt;
-    dropped = tt;
-    switch = λ yes. (refl, refl);
-    back = λ some. absurd (cc);
-  }
-    where
-      shell : Shell
-      shell = before_it cmd.RebuildConnect
-
-      made : Option CfId
-      made = fresh_made form shell by rebuild
-
-      given : Rebuild
-      given = without_owing by (with_place (unwrap_or rebuild.fresh (facility_of made)) rebuild)
-
-      stays : is_switch (outcome_of given) ≡ false
-      stays =
-          false_from_ne_true (is_switch (outcome_of given)) (λ yes.
-          let copy : rebuild.stage ≡ Copy = switch_copy given.stage given.members given.owing yes in
-          let connect : rebuild.stage ≡ Connect =
-          connect_stage form (room_of meaning form machine) machine.shell by rebuild rebuild.stage is refl fine in
-          let wrong : Copy ≡ Connect = sym copy ∙ connect in cc)
-
-      made_places : (made : Option CfId)
-          → at_made (is_some machine.shell.rebuild) made machine.shell.instances ≡ machine.shell.instances
-      made_places None = refl
-      made_places (Some cf) = rw is refl
-
-      made_facility : (b : Bool)
-          → IfSome (if b then place_for (units_of rebuild.caps) (candidates form shell by) else None) IsFacility
-      made_facility true = found_facility form shell by (units_of rebuild.caps) formed
-      made_facility false = tt
+  connection_places (Some rebuild) is fine =
+      grind (arith, false_from_ne_true, switch_copy, connect_stage, found_facility)
 
   -- ---- a second instance
 
   second_places : IsTaken cmd.DuplexStart → PlacesBy (done meaning form machine by cmd.DuplexStart)
-  second_places fine = record {
-    places = refl;
-    facility = tt;
-    bare = λ some. absurd (cc);
-    second = record {
-      place = found (place_for (units_of machine.shell.caps) (candidates form shell by)) there
-          (found_facility form shell by (units_of machine.shell.caps) formed);
-      alone = alone_so;
-      stands = stands_so;
-      apart = apart_so machine.shell.instances.primary refl;
-      back = refl;
-      make = refl;
-    };
-    dropped = tt;
-    switch = λ yes. absurd (cc);
-    back = λ some. absurd (cc);
-  }
+  second_places fine = grind (arith, found, shell, there, found_facility, alone_so, stands_so, apart_so)
     where
       shell : Shell
       shell = before_it cmd.DuplexStart
@@ -447,9 +194,7 @@ module _ {C R I S : Type 0} (meaning : Meaning C R I S) (form : StrForm) (machin
       no_place = if_no_place (units_of machine.shell.caps) (candidates form machine.shell by)
 
       behind : first_refusal (if_duplexed machine.shell ∷ unallocated ∷ no_place ∷ []) ≡ None
-      behind =
-          past_second (if_failed machine.shell) (if_rebuilding machine.shell.rebuild)
-          (if_duplexed machine.shell ∷ unallocated ∷ no_place ∷ []) fine
+      behind = grind (arith, past_second, unallocated, no_place)
 
       past : first_refusal (unallocated ∷ no_place ∷ []) ≡ None
       past = past_first (if_duplexed machine.shell) (unallocated ∷ no_place ∷ []) behind
@@ -470,9 +215,7 @@ module _ {C R I S : Type 0} (meaning : Meaning C R I S) (form : StrForm) (machin
           go (Some cf) fine = refl
 
       there : is_some (place_for (units_of machine.shell.caps) (candidates form machine.shell by)) ≡ true
-      there =
-          placed_for (units_of machine.shell.caps) (candidates form machine.shell by)
-          (past_first unallocated (no_place ∷ []) past)
+      there = grind (arith, placed_for, past_first, unallocated, no_place, past)
 
       found : (place : Option CfId) → is_some place ≡ true → IfSome place IsFacility
           → IsFacility (facility_of place)
@@ -504,12 +247,8 @@ module _ {C R I S : Type 0} (meaning : Meaning C R I S) (form : StrForm) (machin
   placing_command cmd.RebuildStop fine = stop_places machine.shell.rebuild
   placing_command cmd.RebuildConnect fine = connection_places machine.shell.rebuild refl fine
   placing_command cmd.RebuildComplete fine = complete_places machine.shell.rebuild refl
-  placing_command (cmd.ForceConn other) fine =
-      placing_common machine.shell (done meaning form machine by (cmd.ForceConn other))
-      (record { back = refl; make = refl; second = refl; drop_at = refl }) refl
-  placing_command cmd.ForceStr fine =
-      placing_common machine.shell (done meaning form machine by cmd.ForceStr)
-      (record { back = refl; make = refl; second = refl; drop_at = refl }) refl
+  placing_command (cmd.ForceConn other) fine = grind (arith, placing_common, done)
+  placing_command cmd.ForceStr fine = grind (arith, placing_common, done)
   placing_command (cmd.Vary cf off) fine =
       vary_places form cf off machine.shell (before_it (cmd.Vary cf off)) manned.paired refl
   placing_command cmd.DuplexStart fine = second_places fine
@@ -528,28 +267,11 @@ module _ {C R I S : Type 0} (meaning : Meaning C R I S) (form : StrForm) (machin
 
   connecting_past : (rebuild : Rebuild) → machine.shell.rebuild ≡ Some rebuild → IsTaken cmd.RebuildConnect
       → first_refusal (unless_copied_to form machine.shell (room_of meaning form machine) by (Some rebuild)) ≡ None
-  connecting_past rebuild is fine =
-      subst (λ (r : Option Rebuild). first_refusal (unless_copied_to form machine.shell
-      (room_of meaning form machine) by r) ≡ None) is
-      (past_second (unless_rebuilding machine.shell.rebuild) owed copied
-      (past_second (unless_active machine.shell by) (if_failed machine.shell)
-      (unless_rebuilding machine.shell.rebuild ∷ owed ∷ copied) fine))
-    where
-      owed : Option Refusal
-      owed = unless_owed is_connect by machine.shell.rebuild
-
-      copied : List (Option Refusal)
-      copied = unless_copied_to form machine.shell (room_of meaning form machine) by machine.shell.rebuild
+  connecting_past rebuild is fine = grind (arith, past_second)
 
   place_found : (rebuild : Rebuild) → machine.shell.rebuild ≡ Some rebuild → IsTaken cmd.RebuildConnect
       → rebuild.fresh ≡ None → IsFacility (facility_of (fresh_made form (before_it cmd.RebuildConnect) by rebuild))
-  place_found rebuild is fine none =
-      rw none (found (place_for (units_of rebuild.caps) (candidates form (before_it cmd.RebuildConnect) by))
-      (placed_for (units_of rebuild.caps) (candidates form machine.shell by)
-      (past_front (if_too_small form.kind (room_of meaning form machine).need rebuild.caps)
-      (if_no_place (units_of rebuild.caps) (candidates form machine.shell by) ∷ [])
-      (rw none at (connecting_past rebuild is fine))))
-      (found_facility form (before_it cmd.RebuildConnect) by (units_of rebuild.caps) formed))
+  place_found rebuild is fine none = grind (arith, found, placed_for, past_front, connecting_past, found_facility)
     where
       found : (place : Option CfId) → is_some place ≡ true → IfSome place IsFacility
           → IsFacility (facility_of place)
@@ -560,11 +282,7 @@ module _ {C R I S : Type 0} (meaning : Meaning C R I S) (form : StrForm) (machin
       → IsPlaceTold machine.shell.rebuild (telling cmd.RebuildConnect
       (rebuild_connect_outcome form (before_it cmd.RebuildConnect) by rebuild).reply)
   place_told None is fine = tt
-  place_told (Some rebuild) is fine = λ none.
-      let gone : rebuild.fresh ≡ None = ap fresh_of (sym is) ∙ none in
-      subst (λ (fresh : Option CfId). IsFacility (unwrap_or fresh
-      (facility_of (fresh_made form (before_it cmd.RebuildConnect) by rebuild)))) (sym gone)
-      (place_found rebuild is fine gone)
+  place_told (Some rebuild) is fine = grind (arith, place_found)
 
   told_places : (command : ShellCmd) → IsTaken command
       → IsPlaceTold machine.shell.rebuild (telling command (done meaning form machine by command).reply)
@@ -580,6 +298,4 @@ module _ {C R I S : Type 0} (meaning : Meaning C R I S) (form : StrForm) (machin
 
   pub facility_behind : (command : ShellCmd) → IsTaken command → InFacility machine.shell.rebuild
       → InFacility (done meaning form machine by command).shell.rebuild
-  facility_behind command fine is =
-      subst InFacility (sym (tells_command meaning form machine by command fine))
-      (facility_next (actives machine.shell.conns) by _ machine.shell.rebuild (told_places command fine) is)
+  facility_behind command fine is = grind (arith, InFacility, tells_command, facility_next, told_places)

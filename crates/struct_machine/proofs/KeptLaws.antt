@@ -1,5 +1,5 @@
 -- A shell and instances of one form.
-use Rattle.struct_machine.proofs.Imports.{◌≡◌, ◌-◌, Bool, true, false, List, length, Option, None, Some, Result, IfSome, option_map, inl, refl, sym, ap, ◌∙◌, subst, arith, if◌then◌else◌, is_some, Letter, Caps, StrForm, CfId, ConnId, Shape, Instances, CallOutcome, room_of, content_done, content_reply, Meaning, Held, Answer, answer, unless_refused, StepResult, fresh_of, shape_of, Shell, opening_shell, content_cause, if_failed, if_lost, unless_active, with_posted, entered, facility_of, letters_by, Placed, ShellView, Fresh, lacking, Rebuild, actives, is_active, IsForm, IsFacility, with_letters, Refusal, fresh_caps, IsFilled, IsManned, IsBare, none_fresh_then, not_so, third_none, manned-members, manned-opening, active_member, active_of, first_none, somebody_member, false_from_ne_true, ContentView, Kept, kept_of, nothing_kept, lacking_in, AreOf, IsOf, machine_of, state_in, copied_in, caps_of}
+use Rattle.struct_machine.proofs.Imports.{◌≡◌, ◌-◌, Bool, true, false, List, length, Option, None, Some, Result, option_map, inl, refl, sym, ap, ◌∙◌, subst, arith, if◌then◌else◌, is_some, Letter, Caps, StrForm, ConnId, Shape, Instances, CallOutcome, room_of, content_done, content_reply, Meaning, Held, Answer, answer, fresh_of, Shell, opening_shell, content_cause, if_failed, if_lost, unless_active, with_posted, entered, letters_by, ShellView, Fresh, lacking, Rebuild, actives, is_active, IsForm, Refusal, fresh_caps, IsManned, none_fresh_then, not_so, third_none, manned-members, manned-opening, active_member, active_of, first_none, somebody_member, false_from_ne_true, ContentView, Kept, kept_of, nothing_kept, lacking_in, AreOf, IsOf, machine_of, copied_in, caps_of}
 use Rattle.cf_types.specs.declared.refusals.Refusal.TheVariants as refusal
 use Rattle.struct_machine.proofs.ToldLaws.{manned-told, filled-told}
 
@@ -16,17 +16,9 @@ none_stands (Some rebuild) none = rw none refl
 pub same_standing : (fresh : Option Fresh) (rebuild : Option Rebuild) → caps_of fresh ≡ fresh_caps rebuild
     → is_some fresh ≡ is_some (fresh_of rebuild)
 same_standing None None same = refl
-same_standing None (Some rebuild) same = go rebuild.fresh same
-  where
-    go : (at : Option CfId) → None ≡ (if is_some at then Some rebuild.caps else None) → false ≡ is_some at
-    go None same = refl
-    go (Some cf) same = absurd (cc)
+same_standing None (Some rebuild) same = grind arith
 same_standing (Some fresh) None same = absurd (cc)
-same_standing (Some fresh) (Some rebuild) same = go rebuild.fresh same
-  where
-    go : (at : Option CfId) → Some fresh.caps ≡ (if is_some at then Some rebuild.caps else None) → true ≡ is_some at
-    go None same = absurd (cc)
-    go (Some cf) same = refl
+same_standing (Some fresh) (Some rebuild) same = grind arith
 
 -- how many items it lacks, in the shell's words
 lacking_left : {C R I S : Type 0} (meaning : Meaning C R I S) (held : Held S) (shape : Shape) (fresh : Option Fresh)
@@ -43,10 +35,7 @@ lacking_left meaning held shape (Some fresh) false same is = absurd (cc)
 -- where a rebuild is under way
 pub rebuilt_stands : (shell : Shell) (rebuild : Rebuild) → IsManned shell → shell.rebuild ≡ Some rebuild
     → is_some shell.instances.primary ≡ true
-rebuilt_stands shell rebuild manned is =
-    manned.primary (manned-members shell rebuild manned is).1
-    (false_from_ne_true shell.failed (λ failed.
-    let bare : IsBare shell = manned.bare failed in let wrong : Some rebuild ≡ None = sym is ∙ bare.rebuild in cc))
+rebuilt_stands shell rebuild manned is = grind (arith, manned-members, false_from_ne_true)
 
 -- and where a command on the content is accepted
 pub content_stands : (shell : Shell) (by : ConnId) → IsManned shell → content_cause shell by ≡ None
@@ -71,39 +60,14 @@ module _ {C R I S : Type 0} (meaning : Meaning C R I S) (form : StrForm)
 
   -- a rebuild has a primary
   pub rebuild_held : is_some shelled.shell.rebuild ≡ true → is_some kept.held ≡ true
-  rebuild_held under = go shelled.shell.rebuild refl under
-    where
-      go : (rebuild : Option Rebuild) → shelled.shell.rebuild ≡ rebuild → is_some rebuild ≡ true
-          → is_some kept.held ≡ true
-      go None is under = absurd (cc)
-      go (Some rebuild) is under = held_stands (rebuilt_stands shelled.shell rebuild of.manned is)
+  rebuild_held under = grind (arith, held_stands, rebuilt_stands)
 
   pub fresh_under : is_some (fresh_of shelled.shell.rebuild) ≡ true → is_some shelled.shell.rebuild ≡ true
-  fresh_under stands = go shelled.shell.rebuild stands
-    where
-      go : (rebuild : Option Rebuild) → is_some (fresh_of rebuild) ≡ true → is_some rebuild ≡ true
-      go None stands = absurd (cc)
-      go (Some rebuild) stands = refl
+  fresh_under stands = grind arith
 
   pub room_left : lacking_in meaning kept.held kept.fresh ≡ (room_of meaning form (machine_of meaning form shelled
       kept)).left
-  room_left = go kept.held refl of.held
-    where
-      go : (held : Option (Held S)) → kept.held ≡ held → IsOf meaning form shelled.shell.caps held
-          → lacking_in meaning held kept.fresh
-          ≡ (if is_some (fresh_of shelled.shell.rebuild)
-          then length (meaning.items (shape_of form) (state_in meaning form held)) - copied_in kept.fresh else 0)
-      go None is so = nothing (is_some (fresh_of shelled.shell.rebuild)) refl
-        where
-          nothing : (b : Bool) → is_some (fresh_of shelled.shell.rebuild) ≡ b
-              → 0 ≡ (if b then length (meaning.items (shape_of form) (meaning.empty (shape_of form)))
-              - copied_in kept.fresh else 0)
-          nothing true stands =
-              absurd (let wrong : false ≡ true = ap is_some (sym is) ∙ rebuild_held (fresh_under stands) in cc)
-          nothing false stands = refl
-      go (Some held) is so =
-          lacking_left meaning held (shape_of form) kept.fresh (is_some (fresh_of shelled.shell.rebuild)) so.0
-          (same_standing kept.fresh shelled.shell.rebuild of.fresh)
+  room_left = grind (arith, rebuild_held, fresh_under, lacking_left, same_standing)
 
   -- no new instance stands where a command on the content is accepted, and a primary does
   pub content_alone : (by : ConnId) → content_cause shelled.shell by ≡ None → kept.fresh ≡ None
@@ -127,9 +91,7 @@ module _ {C R I S : Type 0} (meaning : Meaning C R I S) (form : StrForm) where
   answered_of by command reply caps None None is of = tt
   answered_of by command reply caps None (Some now) is of = absurd (cc)
   answered_of by command reply caps (Some was) None is of = absurd (cc)
-  answered_of by command reply caps (Some was) (Some now) is of =
-      let same : Path (Answer R S) (record { reply = reply; held = now }) (answer meaning was by command) = cc in
-      (ap (λ (a : Answer R S). a.held.shape) same ∙ of.0, ap (λ (a : Answer R S). a.held.caps) same ∙ of.1)
+  answered_of by command reply caps (Some was) (Some now) is of = grind arith
 
   pub answered_some : (by : ConnId) (command : C) (reply : Result R Refusal) (was now : Option (Held S))
       → IsAnswered by command reply was now → is_some now ≡ is_some was
@@ -145,24 +107,8 @@ module _ {C R I S : Type 0} (meaning : Meaning C R I S) (form : StrForm) where
       → IsAnswered by command reply kept.held after.held → after.at ≡ kept.at
       → kept.fresh ≡ None → after.fresh ≡ None
       → AreOf meaning form now after
-  kept_content shelled now kept after letters by command reply of same posted is at alone none = record {
-    formed = of.formed;
-    shell_form = same ∙ of.shell_form;
-    places = at ∙ of.places ∙ sym (ap (λ (shell : Shell). shell.instances) posted);
-    held =
-        subst (λ (shell : Shell). IsOf meaning form shell.caps after.held) (sym posted)
-        (answered_of by command reply shelled.shell.caps kept.held after.held is of.held);
-    fresh =
-        ap caps_of (none ∙ sym alone) ∙ of.fresh ∙ sym (ap (λ (shell : Shell). fresh_caps shell.rebuild) posted);
-    fresh_at = subst (λ (shell : Shell). IfSome (fresh_of shell.rebuild) IsFacility) (sym posted) of.fresh_at;
-    stands =
-        answered_some by command reply kept.held after.held is ∙ of.stands
-        ∙ ap (λ (a : Instances). is_some a.primary) (sym at);
-    manned =
-        subst IsManned (sym posted)
-        (manned-told (with_letters shelled.shell.mail letters) shelled.shell.lost shelled.shell of.manned);
-    filled = record { filling = inl (ap copied_in none); within = rw none (omega arith) };
-  }
+  kept_content shelled now kept after letters by command reply of same posted is at alone none =
+      grind (arith, answered_of, answered_some, manned-told)
 
   -- the call's outcome is the machine's
   pub content_same : (shelled now : ShellView) (kept after : Kept S) (letters : List Letter) (by : ConnId)
@@ -173,71 +119,12 @@ module _ {C R I S : Type 0} (meaning : Meaning C R I S) (form : StrForm) where
       → Path (CallOutcome R S)
       (record { reply = content_reply reply; machine = machine_of meaning form now after })
       (content_done meaning form (machine_of meaning form shelled kept) by command)
-  content_same shelled now kept after letters by command reply of stands posted sent is alone none =
-      go kept.held after.held of.held stands is sent
-    where
-      counted : copied_in after.fresh ≡ copied_in kept.fresh
-      counted = ap copied_in (none ∙ sym alone)
-
-      go : (was held : Option (Held S)) → IsOf meaning form shelled.shell.caps was → is_some was ≡ true
-          → IsAnswered by command reply was held → letters ≡ letters_by meaning by command was
-          → Path (CallOutcome R S)
-          (record {
-            reply = content_reply reply;
-            machine = record {
-              shell = now.shell;
-              content = state_in meaning form held;
-              copied = copied_in after.fresh;
-            };
-          })
-          (content_done meaning form (record {
-            shell = shelled.shell;
-            content = state_in meaning form was;
-            copied = copied_in kept.fresh;
-          }) by command)
-      go None held of stands is sent = absurd (cc)
-      go (Some was) None of stands is sent = absurd (cc)
-      go (Some was) (Some held) of stands is sent =
-          let same : Path (Answer R S) (record { reply = reply; held = held }) (answer meaning was by command) = cc in
-          (λ i. record {
-            reply = content_reply (same i).reply;
-            machine = record {
-              shell = (posted ∙ ap (λ (l : List Letter). with_posted l shelled.shell) sent) i;
-              content = (same i).held.state;
-              copied = counted i;
-            };
-          })
-          ∙ (λ i.
-          let step : StepResult R S =
-          unless_refused (meaning.cause (of.0 i) (of.1 i) was.state by command) was.state
-          (meaning.done (of.0 i) (of.1 i) was.state by command) in
-          record {
-            reply = content_reply step.reply;
-            machine = record {
-              shell = with_posted step.letters shelled.shell;
-              content = step.state;
-              copied = copied_in kept.fresh;
-            };
-          })
+  content_same shelled now kept after letters by command reply of stands posted sent is alone none = grind arith
 
   -- after a call has come
   pub kept_entered : (shelled now : ShellView) (kept : Kept S) → AreOf meaning form shelled kept
       → now.form ≡ shelled.form → now.shell ≡ entered shelled.shell → AreOf meaning form now kept
-  kept_entered shelled now kept of same came = record {
-    formed = of.formed;
-    shell_form = same ∙ of.shell_form;
-    places = of.places ∙ sym (ap (λ (shell : Shell). shell.instances) came);
-    held = subst (λ (shell : Shell). IsOf meaning form shell.caps kept.held) (sym came) of.held;
-    fresh = of.fresh ∙ sym (ap (λ (shell : Shell). fresh_caps shell.rebuild) came);
-    fresh_at = subst (λ (shell : Shell). IfSome (fresh_of shell.rebuild) IsFacility) (sym came) of.fresh_at;
-    stands = of.stands;
-    manned = subst IsManned (sym came) (manned-told shelled.shell.mail None shelled.shell of.manned);
-    filled =
-        subst (λ (shell : Shell). IsFilled meaning form
-        (record { shell = shell; content = state_in meaning form kept.held; copied = copied_in kept.fresh }))
-        (sym came)
-        (filled-told meaning form shelled.shell.mail None (machine_of meaning form shelled kept) of.filled);
-  }
+  kept_entered shelled now kept of same came = grind (arith, manned-told, filled-told)
 
   -- before the first call
   pub kept_opening : (shelled : ShellView) (kept : Kept S) → IsForm form → shelled.form ≡ form
@@ -258,9 +145,4 @@ module _ {C R I S : Type 0} (meaning : Meaning C R I S) (form : StrForm) where
 -- what is held stands where a primary does
 pub kept_stands : {E L S : Type 0} (holds : E → Held S) (content : ContentView E L)
     → is_some (kept_of holds content).held ≡ is_some (kept_of holds content).at.primary
-kept_stands {E = E} holds content = go content.pair.primary
-  where
-    go : (primary : Option (Placed E)) → is_some (option_map (λ (p : Placed E). holds p.engine) primary)
-        ≡ is_some (facility_of primary)
-    go None = refl
-    go (Some p) = refl
+kept_stands {E = E} holds content = grind arith

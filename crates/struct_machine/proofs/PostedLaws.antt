@@ -1,5 +1,5 @@
 -- Letters that come before a command.
-use Rattle.struct_machine.proofs.Imports.{◌≡◌, List, [], Option, None, refl, sym, subst, Letter, StrForm, ConnId, ShellCmd, Room, Machine, departure_from, Meaning, Shell, Leaver, shell_cause, leaver, with_posted}
+use Rattle.struct_machine.proofs.Imports.{arith, ◌≡◌, List, [], Option, None, refl, Letter, StrForm, ConnId, ShellCmd, Room, Machine, departure_from, Meaning, Shell, Leaver, shell_cause, leaver, with_posted}
 use Rattle.cf_types.specs.declared.shell_commands.ShellCmd.TheVariants as cmd
 
 -- they change no refusal: a command that looks at its caller's events brings no departure
@@ -7,12 +7,8 @@ pub accepted_posted : (form : StrForm) (room : Room) (shell : Shell) (by : ConnI
     (letters : List Letter)
     → (leaver shell by command ≡ None → letters ≡ []) → shell_cause form room shell by command ≡ None
     → shell_cause form room (with_posted letters shell) by command ≡ None
-accepted_posted form room shell by cmd.Next letters none accepted =
-    subst (λ (l : List Letter). shell_cause form room (with_posted l shell) by cmd.Next ≡ None) (sym (none refl))
-    accepted
-accepted_posted form room shell by cmd.Respond letters none accepted =
-    subst (λ (l : List Letter). shell_cause form room (with_posted l shell) by cmd.Respond ≡ None) (sym (none refl))
-    accepted
+accepted_posted form room shell by cmd.Next letters none accepted = grind arith
+accepted_posted form room shell by cmd.Respond letters none accepted = grind arith
 accepted_posted form room shell by command letters none accepted = accepted
 
 -- a departure's letters come from a departure alone

@@ -1,5 +1,5 @@
 -- A call with the links that it asks, put together.
-use Rattle.struct_machine.proofs.Imports.{◌≡◌, ℕ, Bool, true, false, List, [], ◌∷◌, ◌++◌, Option, None, Some, refl, sym, ap, ◌∙◌, subst, subst₂, if◌then◌else◌, filter, Result, Ok, Err, IfOk, fold-append, Links, AreAsked, IsAskedAll, link_at, StrForm, CfId, ConnId, Refusal, ShellCmd, Lost, Ask, Reply, Asks, apart, asks_of, asks_of_command, asked_unless, has, links_asked, listed, marks_of, answers_to, reached, Machine, CallOutcome, call_done, command_done, loss_step, room_of, unless, Meaning, Shell, call_cause, content_cause, shell_cause, reply_as, Mark, is_copying, items_named, judged, AreMarked, AreTold, IsJudgedTurn, content_asks_of, copy_asks_of, marks_in, behind_marks, lost_at, lost_by}
+use Rattle.struct_machine.proofs.Imports.{arith, ◌≡◌, ℕ, true, false, List, [], ◌∷◌, ◌++◌, Option, None, Some, refl, ap, ◌∙◌, if◌then◌else◌, filter, Result, Ok, Err, IfOk, fold-append, Links, AreAsked, StrForm, CfId, ConnId, Refusal, ShellCmd, Lost, Ask, Reply, Asks, apart, asks_of, asked_unless, has, links_asked, listed, marks_of, answers_to, reached, Machine, CallOutcome, command_done, loss_step, room_of, Meaning, Shell, call_cause, content_cause, shell_cause, reply_as, Mark, is_copying, items_named, judged, AreMarked, AreTold, IsJudgedTurn, content_asks_of, copy_asks_of, marks_in, behind_marks, lost_at}
 use Rattle.cf_types.specs.declared.shell_commands.ShellCmd.TheVariants as cmd
 use Rattle.engine_api.specs.declared.asks.Ask.TheVariants as ask
 use Rattle.engine_api.specs.declared.asks.Reply.TheVariants as reply
@@ -22,17 +22,13 @@ module _ {C R I S : Type 0} (meaning : Meaning C R I S) (form : StrForm) where
   pub behind_both : (machine one two : Machine S) (first second : Option CfId)
       → one ≡ behind_marks meaning form machine (listed first) → two ≡ behind_marks meaning form one (listed second)
       → two ≡ behind_marks meaning form machine (listed first ++ listed second)
-  behind_both machine one two first second is other =
-      other ∙ ap (λ (m : Machine S). behind_marks meaning form m (listed second)) is
-      ∙ sym (fold-append (lost_at meaning form) machine (listed first) (listed second))
+  behind_both machine one two first second is other = grind (arith, fold-append)
 
   -- what a command on the content asks
   pub content_asks : (machine : Machine S) (by : ConnId) (call : Ask C) (command : C)
       → call ≡ ask.Content command → content_cause machine.shell by ≡ None
       → content_asks_of machine.shell ≡ links_asked meaning form machine by call
-  content_asks machine by call command is accepted =
-      sym (ap (links_asked meaning form machine by) is
-      ∙ ap (λ (cause : Option Refusal). asked_unless cause (asks_of machine.shell (ask.Content command))) accepted)
+  content_asks machine by call command is accepted = grind arith
 
   -- ---- a whole turn
 
@@ -46,17 +42,7 @@ module _ {C R I S : Type 0} (meaning : Meaning C R I S) (form : StrForm) where
         → Path (CallOutcome R S) (record { reply = reply; machine = new })
         (judged meaning form (behind_marks meaning form old (marks_in lost)) by call)
         → IsJudgedTurn calls downs faults meaning form old new before after by call marks reply
-    turn_made old new before after by call asks lost marks reply asked marked links told done =
-        let down : CfId → Bool = has (marks_in lost) in
-        let same : marks_in lost ≡ lost_by meaning form down old by call =
-        marked ∙ ap (λ (it : Asks). marks_of down it) asked in
-        record {
-          down = down;
-          told = subst (λ (cfs : List CfId). AreTold meaning form old cfs marks) same told;
-          done = done ∙ ap (λ (cfs : List CfId). judged meaning form (behind_marks meaning form old cfs) by call) same;
-          links =
-              subst (λ (it : Asks). AreAsked calls downs faults (answers_to down it) before after) asked links;
-        }
+    turn_made old new before after by call asks lost marks reply asked marked links told done = grind arith
 
     -- the links that a call asks, with the marks that they make
     pub marks_made : (old new : Machine S) (before after : Links L) (asks wanted : Asks) (lost : Lost)
@@ -66,16 +52,7 @@ module _ {C R I S : Type 0} (meaning : Meaning C R I S) (form : StrForm) where
         → AreTold meaning form old (marks_in lost) marks
         → new ≡ behind_marks meaning form old (marks_in lost)
         → AreMarked calls downs faults meaning form old new before after wanted marks
-    marks_made old new before after asks wanted lost marks asked marked links told machine =
-        let down : CfId → Bool = has (marks_in lost) in
-        let same : marks_in lost ≡ marks_of down wanted = marked ∙ ap (λ (it : Asks). marks_of down it) asked in
-        record {
-          down = down;
-          told = subst (λ (cfs : List CfId). AreTold meaning form old cfs marks) same told;
-          machine = machine ∙ ap (λ (cfs : List CfId). behind_marks meaning form old cfs) same;
-          links =
-              subst (λ (it : Asks). AreAsked calls downs faults (answers_to down it) before after) asked links;
-        }
+    marks_made old new before after asks wanted lost marks asked marked links told machine = grind arith
 
     -- a command on the content that is judged behind them
     pub turn_behind : (old middle new : Machine S) (before between after : Links L) (by : ConnId) (call : Ask C)
@@ -87,20 +64,7 @@ module _ {C R I S : Type 0} (meaning : Meaning C R I S) (form : StrForm) where
         → after ≡ between
         → IsJudgedTurn calls downs faults meaning form old new before after by call marks reply
     turn_behind old middle new before between after by call command marks reply marked is accepted done same =
-        let asked : content_asks_of old.shell ≡ links_asked meaning form old by call =
-        content_asks old by call command is accepted in
-        record {
-          down = marked.down;
-          told =
-              subst (λ (it : Asks). AreTold meaning form old (marks_of marked.down it) marks) asked marked.told;
-          done =
-              done ∙ ap (λ (m : Machine S). judged meaning form m by call) marked.machine
-              ∙ ap (λ (it : Asks). judged meaning form
-              (behind_marks meaning form old (marks_of marked.down it)) by call) asked;
-          links =
-              subst₂ (λ (it : Asks) (left : Links L). AreAsked calls downs faults
-              (answers_to marked.down it) before left) asked (sym same) marked.links;
-        }
+        grind (arith, content_asks)
 
     -- one that asks no link
     pub turn_quiet : (old new : Machine S) (before after : Links L) (by : ConnId) (call : Ask C) (marks : List Mark)
@@ -110,19 +74,9 @@ module _ {C R I S : Type 0} (meaning : Meaning C R I S) (form : StrForm) where
         → IsJudgedTurn calls downs faults meaning form old new before after by call marks reply
     turn_quiet old new before after by call marks reply none same unmarked done = record {
       down = λ cf. false;
-      told =
-          subst₂ (λ (cfs : List CfId) (m : List Mark). AreTold meaning form old cfs m)
-          (sym (nothing (links_asked meaning form old by call) none)) (sym unmarked) tt;
-      done =
-          done ∙ ap (λ (cfs : List CfId). judged meaning form (behind_marks meaning form old cfs) by call)
-          (sym (nothing (links_asked meaning form old by call) none));
-      links = record {
-        asked = λ cf is.
-            subst (λ (all : List Bool). IsAskedAll calls downs faults all (link_at before cf) (link_at after cf))
-            (sym (unasked (links_asked meaning form old by call) none cf))
-            (ap (λ (l : Links L). link_at l cf) same);
-        others = λ cf is. unasked (links_asked meaning form old by call) none cf;
-      };
+      told = grind (arith, nothing);
+      done = grind (arith, nothing);
+      links = grind (arith, unasked);
     }
       where
         nothing : (asks : Asks) → asks.links ≡ [] → marks_of (λ (cf : CfId). false) asks ≡ []
@@ -130,9 +84,7 @@ module _ {C R I S : Type 0} (meaning : Meaning C R I S) (form : StrForm) where
             ap (λ (cfs : List CfId). filter (λ (cf : CfId). false) (reached asks.stops (λ (cf : CfId). false) cfs)) none
 
         unasked : (asks : Asks) → asks.links ≡ [] → (cf : CfId) → answers_to (λ (c : CfId). false) asks cf ≡ []
-        unasked asks none cf =
-            ap (λ (cfs : List CfId). if has (reached asks.stops (λ (c : CfId). false) cfs) cf then false ∷ [] else [])
-            none
+        unasked asks none cf = grind arith
 
   -- what asks no link
   pub refused_asks : (machine : Machine S) (by : ConnId) (call : Ask C) (refusal : Refusal)
@@ -143,41 +95,26 @@ module _ {C R I S : Type 0} (meaning : Meaning C R I S) (form : StrForm) where
 
   pub command_asks : (machine : Machine S) (by : ConnId) (command : ShellCmd) → is_copying command ≡ false
       → (links_asked meaning form machine by (ask.Shell command)).links ≡ []
-  command_asks machine by command other = go (shell_cause form (room_of meaning form machine) machine.shell by command)
-    where
-      nothing : (command : ShellCmd) → is_copying command ≡ false → (asks_of_command machine.shell command).links ≡ []
-      nothing (cmd.Copy n) other = absurd (cc)
-      nothing _ other = refl
-
-      go : (cause : Option Refusal) → (asked_unless cause (asks_of_command machine.shell command)).links ≡ []
-      go None = ap apart (nothing command other)
-      go (Some refusal) = refl
+  command_asks machine by command other = grind arith
 
   -- what COPY asks
   pub copy_asks : (machine : Machine S) (by : ConnId) (call : Ask C) (n : ℕ) (shell : Shell)
       → call ≡ ask.Shell (cmd.Copy n)
       → shell_cause form (room_of meaning form machine) machine.shell by (cmd.Copy n) ≡ None → shell ≡ machine.shell
       → copy_asks_of shell ≡ links_asked meaning form machine by call
-  copy_asks machine by call n shell is accepted same =
-      ap copy_asks_of same
-      ∙ sym (ap (links_asked meaning form machine by) is
-      ∙ ap (λ (cause : Option Refusal). asked_unless cause (asks_of_command machine.shell (cmd.Copy n))) accepted)
+  copy_asks machine by call n shell is accepted same = grind arith
 
   -- a refused call changes nothing, and one that isn't refused does what it does
   pub refused_done : (machine : Machine S) (by : ConnId) (call : Ask C) (refusal : Refusal)
       → call_cause form (room_of meaning form machine) machine.shell by call ≡ Some refusal
       → Path (CallOutcome R S) (record { reply = reply.Refused refusal; machine = machine })
       (judged meaning form machine by call)
-  refused_done machine by call refusal is =
-      sym (ap (λ (cause : Option Refusal). unless meaning form cause machine (call_done meaning form machine by call))
-      is)
+  refused_done machine by call refusal is = grind arith
 
   pub command_judged : (machine : Machine S) (by : ConnId) (command : ShellCmd)
       → shell_cause form (room_of meaning form machine) machine.shell by command ≡ None
       → command_done meaning form machine by command ≡ judged meaning form machine by (ask.Shell command)
-  command_judged machine by command accepted =
-      sym (ap (λ (cause : Option Refusal). unless meaning form cause machine
-      (command_done meaning form machine by command)) accepted)
+  command_judged machine by command accepted = grind arith
 
 pub copy_is : (command : ShellCmd) → is_copying command ≡ true → command ≡ cmd.Copy (items_named command)
 copy_is (cmd.Copy n) is = refl

@@ -1,5 +1,5 @@
 -- The commits of a log, and the calls of one caller among them.
-use Rattle.vec_words.proofs.Imports.{◌≡◌, ◌≢◌, ℕ, List, [], ◌∷◌, ◌++◌, map, refl, ap, ◌∙◌, eq-eqb, ne_eqb, append-nil, All, if◌then◌else◌, filter, ◌==◌, ⊤, map-append, filter-append, All-nil, All-cons, All-head, All-tail, All-contains, Step, Store, Commit, IsCommitted, Logged, Stored, Committed, steps_of, CallRecord, commits_of, calls_in, calls_of}
+use Rattle.vec_words.proofs.Imports.{arith, ◌≡◌, ◌≢◌, ℕ, List, [], ◌∷◌, ◌++◌, refl, ap, ◌∙◌, append-nil, All, if◌then◌else◌, ◌==◌, ⊤, map-append, filter-append, All-nil, All-cons, All-head, All-tail, All-contains, Step, Store, Commit, IsCommitted, Logged, Stored, Committed, steps_of, CallRecord, commits_of, calls_in, calls_of}
 
 -- a fact of a commit's number
 abbrev OnCommit : (ℕ → Type 0) → Step → Type 0
@@ -25,10 +25,7 @@ module _ {D : Type 0} where
 
   pub calls_in-append : (caller : ℕ) (commits more : List (CallRecord D))
       → calls_in caller (commits ++ more) ≡ calls_in caller commits ++ calls_in caller more
-  calls_in-append caller commits more =
-      ap (map (λ c. (c.number, c.about))) (filter-append (λ c. c.caller == caller) commits more)
-      ∙ map-append (λ c. (c.number, c.about)) (filter (λ c. c.caller == caller) commits)
-      (filter (λ c. c.caller == caller) more)
+  calls_in-append caller commits more = grind (arith, filter-append, map-append)
 
   pub calls_of-append : (caller : ℕ) (log more : List (Logged D))
       → calls_of caller (log ++ more) ≡ calls_of caller log ++ calls_of caller more
@@ -42,20 +39,11 @@ module _ {D : Type 0} where
 
   pub calls-here : (caller number : ℕ) (about : D) (log : List (Logged D))
       → calls_of caller (log ++ Committed number caller about ∷ []) ≡ calls_of caller log ++ (number, about) ∷ []
-  calls-here caller number about log =
-      let new : CallRecord D = record { number = number; caller = caller; about = about } in
-      calls_of-append caller log (Committed number caller about ∷ [])
-      ∙ ap (λ b. calls_of caller log ++ map (λ c. (c.number, c.about)) (if b then new ∷ [] else []))
-      (eq-eqb caller caller refl)
+  calls-here caller number about log = grind (arith, calls_of-append)
 
   pub calls-other : (caller by number : ℕ) (about : D) (log : List (Logged D)) → by ≢ caller
       → calls_of caller (log ++ Committed number by about ∷ []) ≡ calls_of caller log
-  calls-other caller by number about log apart =
-      let new : CallRecord D = record { number = number; caller = by; about = about } in
-      calls_of-append caller log (Committed number by about ∷ [])
-      ∙ ap (λ b. calls_of caller log ++ map (λ c. (c.number, c.about)) (if b then new ∷ [] else []))
-      (ne_eqb by caller apart)
-      ∙ append-nil (calls_of caller log)
+  calls-other caller by number about log apart = grind (arith, calls_of-append, append-nil)
 
   all_steps : (P : ℕ → Type 0) (log : List (Logged D)) → All (λ c. P c.number) (commits_of log)
       → All (OnCommit P) (steps_of log)

@@ -1,5 +1,5 @@
 -- What proofs here name of other crates, and of this one's definitions. Declares nothing.
-pub use Rattle.std.proofs.Common.{◌≡◌, ◌^◌, ◌<◌, ◌≤◌, ℕ, List, [], ◌∷◌, ◌++◌, refl, sym, subst, inl, inr, ⊎_elim, arith, ◌≢◌, map, ap, ◌∙◌, eq-eqb, ne_eqb, append-nil, All, if◌then◌else◌, filter, ◌==◌, ◌⊎◌, ◌-◌, ◌/◌, zero, suc, length, set, max, Contains, ◌+◌, ◌*◌, mul-le-mul_right, suc-mul, Bool, true, false, true≢false, replicate, slice_index, take, get_or, Some, append_assoc, slice_get, drop, get_or-drop, drop-set-lt, drop-drop, length-set, get_or-set_other, get_or-set_same, rules}
+pub use Rattle.std.proofs.Common.{◌≡◌, ◌^◌, ◌<◌, ◌≤◌, ℕ, List, [], ◌∷◌, ◌++◌, refl, sym, subst, inl, inr, ⊎_elim, arith, ◌≢◌, map, ap, ◌∙◌, ne_eqb, append-nil, All, if◌then◌else◌, ◌==◌, ◌⊎◌, ◌-◌, ◌/◌, zero, suc, length, set, max, Contains, ◌+◌, ◌*◌, mul-le-mul_right, suc-mul, Bool, true, false, true≢false, replicate, slice_index, take, get_or, Some, append_assoc, slice_get, drop, get_or-drop, drop-set-lt, drop-drop, length-set, get_or-set_other, get_or-set_same, rules}
 pub use Rattle.std.proofs.lemmas.Bool.{cases_eq}
 pub use Rattle.std.proofs.lemmas.List.{map-append, set-get_or, length-replicate, take_more, get_or-take, length-take-le, take_more_set}
 pub use Rattle.std.proofs.lemmas.List.Elements.{filter-append, All-nil, All-cons, All-head, All-tail, All-contains, All-weaker, Contains-push_cases, Contains-append_left, Contains-push, All-append, All-map, All-push, All-pop}
@@ -24,7 +24,7 @@ pub use Rattle.vec_words.specs.Logged.{steps_of, count_of, flying_of, CallRecord
 unfoldable pub use Rattle.vec_words.specs.Logged.{indices_of}
 pub use Rattle.vec_words.specs.Rule.{Settled, IsKept, Roll, Fits, AllFit, Shows, AreLeft, Kept}
 pub use Rattle.vec_words.specs.Stores.{IsAt, IsWithin, IsSpared, store_of, stores_of, StoresEach}
-pub use Rattle.vec_words.specs.Tokens.{IsBegun, WordTable, PassSeen, SeatSeen, pass_seen, seat_seen, IsShown, NoteSeen, learned_pass, new_pass, IsFirst}
+pub use Rattle.vec_words.specs.Tokens.{IsBegun, WordTable, PassSeen, SeatSeen, pass_seen, seat_seen, IsShown, learned_pass, new_pass, IsFirst}
 pub use Rattle.vec_words.specs.View.{with_log, note_view, blank_view, first_view, made_one, next_pass, note_of, told_of, without_log, log_alone, tested_of, learned_of, Becomes, stored_to, committed_of}
 pub use Rattle.vec_words.specs.declared.logged.Logged.{Logged}
 pub use Rattle.vec_words.specs.declared.logged.Logged.TheVariants.{Stored, Committed}

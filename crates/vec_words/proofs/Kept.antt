@@ -7,23 +7,11 @@ module _ {D : Type 0} where
   tells_left : (log later : List (Logged D)) (word : ℕ) (test : Sight)
       → Leaves (steps_of log) (steps_of later) word test.at
       → Tells log word test → Tells later word test
-  tells_left log later word test leaves h =
-      ⊎_elim
-      (λ (t : test.bit ≡ bit_in (bits_at (steps_of log) word test.at) test.index).
-      inl (t ∙ ap (λ k. bit_in k test.index) (sym leaves.0)))
-      (λ (t : (test.sure < test.at) × (test.bit ≡ bit_in (bits_at (steps_of log) word (test.at - 1)) test.index)).
-      inr (t.0, t.1 ∙ ap (λ k. bit_in k test.index) (sym leaves.1)))
-      h
+  tells_left log later word test leaves h = grind (arith, ⊎_elim)
 
   tells_moved : (log later : List (Logged D)) (word : ℕ) (test : Sight) → test.sure < test.at
       → Moves (steps_of log) (steps_of later) word test.at → Tells log word test → Tells later word test
-  tells_moved log later word test above moves h =
-      ⊎_elim
-      (λ (t : test.bit ≡ bit_in (bits_at (steps_of log) word test.at) test.index).
-      inr (above, t ∙ ap (λ k. bit_in k test.index) (sym moves.0)))
-      (λ (t : (test.sure < test.at) × (test.bit ≡ bit_in (bits_at (steps_of log) word (test.at - 1)) test.index)).
-      inr (above, t.1 ∙ ap (λ k. bit_in k test.index) (sym moves.1)))
-      h
+  tells_moved log later word test above moves h = grind (arith, ⊎_elim)
 
   pub kept-store : (log : List (Logged D)) (to bits stamp len conn : ℕ) (test : Sight) → IsOrderly log (flying_of log)
       → CanStore log to bits stamp → IsKept log len conn test → IsKept (log ++ Stored to bits stamp ∷ []) len conn
@@ -66,9 +54,7 @@ module _ {D : Type 0} where
         not_before = k.not_before;
         seen = omega (arith, count, seen, higher);
         settled = settled-commit_now log m by about test.at fresh k.settled;
-        tells = tells_left log later word test
-            (subst (λ l. Leaves (steps_of log) l word test.at) (sym (steps-push log (Committed m by about)))
-            (leaves-commit (steps_of log) m word test.at)) k.tells;
+        tells = grind (arith, tells_left, Leaves, steps-push, leaves-commit);
       }
 
   -- a test that is made now

@@ -1,5 +1,5 @@
 -- What a pass is shown when it has learned the count beside the engine's log.
-use Rattle.vec_words.proofs.Imports.{◌≡◌, ◌≤◌, ℕ, List, sym, ◌∙◌, subst, inl, inr, ⊎_elim, All, max, All-weaker, IsCommitted, settled-max, Logged, View, count_of, steps_of, flying_of, calls_of, IsIssued, IsHonest, TableId, WordTable, PassSeen, SeatSeen, pass_seen, seat_seen, IsShown, IsBegun, with_log, Settled, IsKept, Shows}
+use Rattle.vec_words.proofs.Imports.{arith, ◌≡◌, ◌≤◌, ℕ, List, sym, ◌∙◌, subst, inl, inr, ⊎_elim, All, max, All-weaker, IsCommitted, settled-max, Logged, View, count_of, steps_of, flying_of, calls_of, IsIssued, IsHonest, TableId, WordTable, PassSeen, SeatSeen, pass_seen, seat_seen, IsShown, IsBegun, with_log, Settled, IsKept, Shows}
 
 module _ {D : Type 0} where
   -- a settled number is issued, beside the engine's number in flight
@@ -7,9 +7,7 @@ module _ {D : Type 0} where
       → IsIssued log number n
   issued_settled number n log begun (inl low) =
       ⊎_elim (λ (z : n ≡ 0). inl z) (λ (c : IsCommitted (steps_of log) n). inr (inl c)) low.1
-  issued_settled number n log begun (inr flies) =
-      ⊎_elim (λ (z : flying_of log ≡ 0). inl (flies ∙ z))
-      (λ (q : flying_of log ≡ number). inr (inr (flies ∙ q))) begun.carried
+  issued_settled number n log begun (inr flies) = grind (arith, ⊎_elim)
 
   -- what the engine's seat tells of a pass that held its log
   pub record Learns (seat : SeatSeen D) (len raised : ℕ) (pass : PassSeen D) : Type 0 where
@@ -25,13 +23,7 @@ module _ {D : Type 0} where
       let here = subst (λ (x : View D). Shows len x count) is shows in
       subst (λ (x : PassSeen D × SeatSeen D). Learns x.1 len raised x.0) (λ i. (pass_is i, seat_is i)) record {
         tests = All-weaker (IsKept w.log len v.owner) (IsHonest w.log number len v.owner)
-            (λ t k. record {
-              connector = k.connector;
-              within = k.within;
-              not_before = k.not_before;
-              issued = issued_settled number t.at w.log begun k.settled;
-              tells = k.tells;
-            }) v.tests here.tests;
+            (grind (arith, issued_settled)) v.tests here.tests;
         before = issued_settled number v.known w.log begun here.known;
         known = subst (IsIssued w.log number) (sym raised_is) (issued_settled number (max v.known count) w.log begun
             (settled-max (steps_of w.log) (count_of w.log) (flying_of w.log) v.known count here.known here.counted));

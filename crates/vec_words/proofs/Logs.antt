@@ -1,5 +1,5 @@
 -- What one more store or commit does to the readings of a log.
-use Rattle.vec_words.proofs.Imports.{◌≡◌, ◌≢◌, ◌⊎◌, ◌<◌, ◌≤◌, ℕ, List, [], ◌∷◌, ◌++◌, refl, ap, ◌∙◌, subst, inl, inr, ⊎_elim, eq-eqb, ne_eqb, if◌then◌else◌, Contains, map-append, fold-append, Contains-push_cases, Store, Commit, bits_at, IsCommitted, HasStore, word_of, bits_at-push_store, bits_at-push_above, bits_at-push_other, bits_at-push_commit, Logged, Stored, Committed, step_of, steps_of, count_of, count_after, flying_of, flying_after, left_in, left_after}
+use Rattle.vec_words.proofs.Imports.{arith, ◌≡◌, ◌≢◌, ◌⊎◌, ◌<◌, ◌≤◌, ℕ, List, [], ◌∷◌, ◌++◌, ◌∙◌, subst, inl, inr, ⊎_elim, if◌then◌else◌, Contains, map-append, fold-append, Contains-push_cases, Store, Commit, bits_at, IsCommitted, HasStore, word_of, bits_at-push_store, bits_at-push_above, bits_at-push_other, bits_at-push_commit, Logged, Stored, Committed, step_of, steps_of, count_of, count_after, flying_of, flying_after, left_in, left_after}
 
 module _ {D : Type 0} where
   pub steps-push : (log : List (Logged D)) (x : Logged D) → steps_of (log ++ x ∷ []) ≡ steps_of log ++ step_of x ∷ []
@@ -18,42 +18,30 @@ module _ {D : Type 0} where
 
   pub left-here : (log : List (Logged D)) (word bits stamp : ℕ)
       → left_in (log ++ Stored word bits stamp ∷ []) word ≡ word_of bits stamp
-  left-here log word bits stamp =
-      left-push log (Stored word bits stamp) word
-      ∙ ap (λ b. if b then word_of bits stamp else left_in log word) (eq-eqb word word refl)
+  left-here log word bits stamp = grind (arith, left-push)
 
   pub left-other : (log : List (Logged D)) (to bits stamp word : ℕ) → to ≢ word
       → left_in (log ++ Stored to bits stamp ∷ []) word ≡ left_in log word
-  left-other log to bits stamp word apart =
-      left-push log (Stored to bits stamp) word
-      ∙ ap (λ b. if b then word_of bits stamp else left_in log word) (ne_eqb to word apart)
+  left-other log to bits stamp word apart = grind (arith, left-push)
 
   -- a store leaves the bits of each other word, and those at each number below its stamp
   pub bits-other : (log : List (Logged D)) (to bits stamp word number : ℕ) → to ≢ word
       → bits_at (steps_of (log ++ Stored to bits stamp ∷ [])) word number ≡ bits_at (steps_of log) word number
-  bits-other log to bits stamp word number apart =
-      ap (λ l. bits_at l word number) (steps-push log (Stored to bits stamp))
-      ∙ bits_at-push_other (steps_of log) to bits stamp word number apart
+  bits-other log to bits stamp word number apart = grind (arith, steps-push, bits_at-push_other)
 
   pub bits-above : (log : List (Logged D)) (to bits stamp word number : ℕ) → number < stamp
       → bits_at (steps_of (log ++ Stored to bits stamp ∷ [])) word number ≡ bits_at (steps_of log) word number
-  bits-above log to bits stamp word number higher =
-      ap (λ l. bits_at l word number) (steps-push log (Stored to bits stamp))
-      ∙ bits_at-push_above (steps_of log) to bits stamp word number higher
+  bits-above log to bits stamp word number higher = grind (arith, steps-push, bits_at-push_above)
 
   -- from its stamp on, a store gives its bits
   pub bits-here : (log : List (Logged D)) (word bits stamp number : ℕ) → stamp ≤ number
       → bits_at (steps_of (log ++ Stored word bits stamp ∷ [])) word number ≡ bits
-  bits-here log word bits stamp number at_most =
-      ap (λ l. bits_at l word number) (steps-push log (Stored word bits stamp))
-      ∙ bits_at-push_store (steps_of log) word bits stamp number at_most
+  bits-here log word bits stamp number at_most = grind (arith, steps-push, bits_at-push_store)
 
   -- a commit leaves all bits
   pub bits-commit : (log : List (Logged D)) (n by : ℕ) (about : D) (word number : ℕ)
       → bits_at (steps_of (log ++ Committed n by about ∷ [])) word number ≡ bits_at (steps_of log) word number
-  bits-commit log n by about word number =
-      ap (λ l. bits_at l word number) (steps-push log (Committed n by about))
-      ∙ bits_at-push_commit (steps_of log) n word number
+  bits-commit log n by about word number = grind (arith, steps-push, bits_at-push_commit)
 
   -- a number that is committed was so, or is the new commit's
   pub committed-store : (log : List (Logged D)) (to bits stamp n : ℕ)

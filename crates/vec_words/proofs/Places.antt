@@ -1,27 +1,12 @@
 -- A word of a connector's vector is a word of the table.
-use Rattle.vec_words.proofs.Imports.{◌≡◌, ◌+◌, ◌-◌, ◌*◌, ◌/◌, ◌^◌, ◌<◌, ◌≤◌, ℕ, suc, subst, sym, arith, mul-le-mul_right, suc-mul, All, dec_le, length-range_with_len, get_or-range_with_len, words_of, word_number, indices_of}
+use Rattle.vec_words.proofs.Imports.{◌≡◌, ◌+◌, ◌-◌, ◌*◌, ◌/◌, ◌^◌, ◌<◌, ◌≤◌, ℕ, subst, sym, arith, mul-le-mul_right, suc-mul, All, dec_le, length-range_with_len, get_or-range_with_len, words_of, word_number, indices_of}
 
 pub within_all : (len conn conns word : ℕ) → 0 < conn → conn ≤ conns → word < words_of len
     → word_number len conn word < conns * words_of len
-within_all len conn conns word some most below =
-    let n : ℕ = words_of len in
-    let below' : word < n = below in
-    let more : suc (conn - 1) * n ≤ conns * n = mul-le-mul_right n (omega arith) in
-    let one : suc (conn - 1) * n ≡ (conn - 1) * n + n = suc-mul (conn - 1) n in
-    let start : ℕ = (conn - 1) * n in
-    let all : ℕ = conns * n in
-    let more' : start + n ≤ all = omega (arith, more, one) in
-    let goal : start + word < all = omega arith in goal
+within_all len conn conns word some most below = grind (arith, mul-le-mul_right, suc-mul)
 
 pub small : (len conn word : ℕ) → len < 2 ^ 32 → conn < 256 → word < words_of len → word_number len conn word < 2 ^ 40
-small len conn word fits few below =
-    let n : ℕ = words_of len in
-    let below' : word < n = below in
-    let size : n ≤ 134217728 = omega arith in
-    let more : (conn - 1) * n ≤ 255 * n = mul-le-mul_right n (omega arith) in
-    let start : ℕ = (conn - 1) * n in
-    let more' : start ≤ 255 * n = more in
-    let goal : start + word < 2 ^ 40 = omega arith in goal
+small len conn word fits few below = grind (arith, mul-le-mul_right)
 
 -- the indices of a word are its own
 pub indices_within : (word : ℕ) → All (λ k. k / 32 ≡ word) (indices_of word)
@@ -39,15 +24,7 @@ word_number-same len conn other word next some some' below below' same =
   where
     apart : (low high w v : ℕ) → 0 < low → low < high → w < words_of len
         → word_number len low w ≡ word_number len high v → ⊥
-    apart low high w v some less small e =
-        let m : ℕ = words_of len in
-        let small' : w < m = small in
-        let more : suc (low - 1) * m ≤ (high - 1) * m = mul-le-mul_right m (omega arith) in
-        let one : suc (low - 1) * m ≡ (low - 1) * m + m = suc-mul (low - 1) m in
-        let a : ℕ = (low - 1) * m in
-        let b : ℕ = (high - 1) * m in
-        let more' : a + m ≤ b = omega (arith, more, one) in
-        let e' : a + w ≡ b + v = e in omega arith
+    apart low high w v some less small e = grind (arith, small, mul-le-mul_right, suc-mul)
 
     equal_by : Dec (conn ≤ other) → Dec (other ≤ conn) → conn ≡ other
     equal_by (yes p) (yes q) = omega arith
@@ -55,7 +32,4 @@ word_number-same len conn other word next some some' below below' same =
     equal_by (yes p) (no q) = absurd (apart conn other word next some (omega arith) below same)
 
     words : conn ≡ other → word ≡ next
-    words is =
-        let a : ℕ = (other - 1) * words_of len in
-        let e : a + word ≡ a + next = subst (λ c. word_number len c word ≡ word_number len other next) is same in
-        omega arith
+    words is = grind arith

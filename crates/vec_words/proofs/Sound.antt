@@ -1,5 +1,5 @@
 -- One more store or commit keeps a log orderly.
-use Rattle.vec_words.proofs.Imports.{◌≡◌, ◌≢◌, ◌-◌, ◌^◌, ◌<◌, ◌≤◌, ℕ, List, [], ◌∷◌, ◌++◌, refl, sym, ap, ◌∙◌, subst, inl, inr, ⊎_elim, arith, cases_eq, Contains-append_left, Contains-push, Step, Store, Commit, IsCommitted, HasStore, IsOpen, IsSettled, StampsUpTo, bits_of, stamp_of, CarriesWord, Carries-nil, Carries-push_other, Carries-push_commit, CarriesWord-push_store, stamp_of-word_of, StampsUpTo-from_each, settled-store, settled-commit, settled-below, Logged, Stored, Committed, steps_of, count_of, flying_of, left_in, IsOrderly, Settled}
+use Rattle.vec_words.proofs.Imports.{◌≡◌, ◌≢◌, ◌-◌, ◌^◌, ◌<◌, ◌≤◌, ℕ, List, [], ◌∷◌, ◌++◌, sym, ap, ◌∙◌, subst, inl, inr, ⊎_elim, arith, cases_eq, Contains-append_left, Contains-push, Step, Store, Commit, IsCommitted, HasStore, IsOpen, IsSettled, StampsUpTo, bits_of, stamp_of, CarriesWord, Carries-nil, Carries-push_other, Carries-push_commit, CarriesWord-push_store, stamp_of-word_of, StampsUpTo-from_each, settled-store, settled-commit, settled-below, Logged, Stored, Committed, steps_of, count_of, flying_of, left_in, IsOrderly, Settled}
 use Rattle.vec_words.proofs.Logs.{steps-push, count-push, flying-push, left-push, left-here, left-other, committed-store, committed-commit, has_store-store, has_store-commit}
 
 module _ {D : Type 0} where
@@ -42,14 +42,7 @@ module _ {D : Type 0} where
   settled-count log orderly = inl (omega arith, orderly.count)
 
   pub orderly-nil : IsOrderly {D = D} [] 0
-  orderly-nil = record {
-    small = omega arith;
-    count = inl refl;
-    commits = λ n c. let none = c.1 in absurd (omega arith);
-    stores = λ w s h. let none = h.1.1 in absurd (omega arith);
-    stamps = λ w. inr refl;
-    words = λ w. Carries-nil w;
-  }
+  orderly-nil = grind (arith, Carries-nil)
 
   -- with nothing in flight, any number may be
   pub orderly-idle : (log : List (Logged D)) (flying : ℕ) → IsOrderly log 0 → IsOrderly log flying

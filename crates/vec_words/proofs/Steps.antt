@@ -1,5 +1,5 @@
 -- Each step that stores nothing keeps the rule.
-use Rattle.vec_words.proofs.Imports.{◌≡◌, ◌≢◌, ◌==◌, ◌+◌, ◌*◌, ◌/◌, ◌^◌, ◌<◌, ◌≤◌, ℕ, zero, suc, Bool, true, false, true≢false, List, [], ◌∷◌, map, length, set, replicate, refl, sym, ap, ◌∙◌, subst, inl, ⊎_elim, arith, eq-eqb, ne_eqb, All, max, slice_index, if◌then◌else◌, set-get_or, length-replicate, All-weaker, All-nil, All-append, All-map, some, some-injective, some-ne-none, get_elem?, Me, keeps, opening, Allows, Splits, Joins, at_set, set_again, bits_of, stamp_of, settled-max, Logged, View, Shape, words_of, word_number, steps_of, count_of, flying_of, left_in, calls_of, IsOrderly, sight, note_view, blank_view, first_view, made_one, next_pass, note_of, told_of, without_log, log_alone, with_log, tested_of, learned_of, Becomes, Settled, IsKept, Roll, Fits, AllFit, AreLeft, Kept, Shows}
+use Rattle.vec_words.proofs.Imports.{◌≡◌, ◌≢◌, ◌==◌, ◌+◌, ◌*◌, ◌/◌, ◌^◌, ◌<◌, ◌≤◌, ℕ, zero, suc, Bool, true, false, true≢false, List, [], ◌∷◌, map, length, set, replicate, refl, sym, ap, ◌∙◌, subst, inl, ⊎_elim, arith, ne_eqb, All, max, slice_index, if◌then◌else◌, set-get_or, length-replicate, All-weaker, All-nil, All-append, All-map, some, some-injective, some-ne-none, get_elem?, Me, keeps, opening, Allows, Splits, Joins, at_set, set_again, bits_of, stamp_of, settled-max, Logged, View, Shape, words_of, word_number, steps_of, count_of, flying_of, left_in, calls_of, IsOrderly, sight, note_view, blank_view, first_view, made_one, next_pass, note_of, told_of, without_log, log_alone, with_log, tested_of, learned_of, Becomes, Settled, IsKept, Roll, Fits, AllFit, AreLeft, Kept, Shows}
 use Rattle.vec_words.proofs.Sound.{orderly-nil, settled-count}
 use Rattle.vec_words.proofs.Kept.{kept-now, all_set, all_push}
 
@@ -17,14 +17,7 @@ module _ {D : Type 0} where
   fits_note : (len : ℕ) (roll : Roll D) (seat conns width known sure : ℕ) → Settled roll.log known
       → sure ≤ count_of roll.log
       → Fits len roll seat (note_view conns width known sure)
-  fits_note len roll seat conns width known sure settled seen = record {
-    keeps = λ k. absurd (off k);
-    makes = λ k. absurd (off k);
-    passes = λ k. absurd (off k);
-    known = settled;
-    sure = seen;
-    tests = All-nil (IsKept roll.log len 0);
-  }
+  fits_note len roll seat conns width known sure settled seen = grind (arith, off, All-nil)
 
   fits_blank : (len : ℕ) (roll : Roll D) (seat : ℕ) → Fits len roll seat blank_view
   fits_blank len roll seat = fits_note len roll seat 0 0 0 0 (inl (omega arith, inl refl)) (omega arith)
@@ -38,24 +31,13 @@ module _ {D : Type 0} where
       record {
         roll = roll;
         sound = orderly-nil;
-        left = record {
-          count = ap (λ ws. slice_index ws 0) zeros;
-          length_is = ap length zeros ∙ length-replicate {A = ℕ} size 0;
-          vectors = λ w _. ap (λ ws. slice_index ws (suc w)) zeros ∙ zeros_at size (suc w);
-        };
+        left = grind (arith, length-replicate, zeros_at);
         fit = one roll refl refl refl refl;
       }
     where
       one : (roll : Roll D) → roll.log ≡ [] → roll.holder ≡ 0 → roll.maker ≡ 0 → roll.next ≡ 0
           → AllFit shape.len roll (first_view shape ∷ [])
-      one roll log holder maker next zero v e = subst (Fits shape.len roll 0) (some-injective _ _ e) record {
-        keeps = λ _. (sym holder, sym log);
-        makes = λ _. (sym maker, sym next);
-        passes = λ k. absurd (off k);
-        known = inl (omega arith, inl refl);
-        sure = omega arith;
-        tests = All-nil (IsKept roll.log shape.len 0);
-      }
+      one roll log holder maker next zero v e = grind (arith, some-injective, off, All-nil)
       one roll log holder maker next (suc j) v e = absurd (some-ne-none v (sym e))
 
   -- a note is made of a pass, or of a note
@@ -74,25 +56,13 @@ module _ {D : Type 0} where
 
   away : (views : List (View D)) (id other : ℕ) (both w : View D) → ¬ (other ≡ id)
       → get_elem? (set views id both) other ≡ some w → get_elem? views other ≡ some w
-  away views id other both w apart there =
-      ⊎_elim (λ (t : (other ≡ id) × (both ≡ w)). absurd (apart t.0))
-      (λ (t : (other ≢ id) × (get_elem? views other ≡ some w)). t.1) (at_set views id other both w there)
+  away views id other both w apart there = grind (arith, ⊎_elim, get_elem?, at_set)
 
   -- a view whose two numbers were raised
   raised : (len : ℕ) (roll : Roll D) (id : ℕ) (v : View D) (known sure : ℕ) → Fits len roll id v
       → Settled roll.log known
       → sure ≤ count_of roll.log → Fits len roll id (record v { known = max v.known known; sure = max v.sure sure })
-  raised len roll id v known sure mine settled seen =
-      let before : v.sure ≤ count_of roll.log = mine.sure in
-      record {
-        keeps = mine.keeps;
-        makes = mine.makes;
-        passes = mine.passes;
-        known = settled-max (steps_of roll.log) (count_of roll.log)
-            (flying_of roll.log) v.known known mine.known settled;
-        sure = omega arith;
-        tests = mine.tests;
-      }
+  raised len roll id v known sure mine settled seen = grind (arith, settled-max)
 
   -- a note is told
   pub joins_note : (shape : Shape) (id : ℕ) (v : View D) (other : ℕ) (w : View D)
@@ -134,34 +104,9 @@ module _ {D : Type 0} where
         left = kept.left;
         fit = all_push shape.len roll views (next_pass v)
             (all_set shape.len roll s.views id (made_one v)
-            (λ j u apart e. let f = kept.fit j u e in record {
-              keeps = f.keeps;
-              makes = λ m. absurd (apart ((f.makes m).0 ∙ sym made));
-              passes = passes j u f;
-              known = f.known;
-              sure = f.sure;
-              tests = f.tests;
-            })
-            (record {
-              keeps = mine.keeps;
-              makes = λ _. (made, ap (λ n. n + 1) next_is);
-              passes = passes id v mine;
-              known = mine.known;
-              sure = mine.sure;
-              tests = mine.tests;
-            }))
-            (record {
-              keeps = λ k. absurd (off k);
-              makes = λ k. absurd (off k);
-              passes = λ _. (
-                sym (ap (λ b. if b then length views else old.seat_of v.next) (eq-eqb v.next old.next next_is)),
-                omega (arith, next_is),
-                sym (ap (calls_of v.next) (sym (mine.keeps has_log).1 ∙ empty)),
-              );
-              known = inl (omega arith, inl refl);
-              sure = omega arith;
-              tests = All-nil (IsKept roll.log shape.len v.next);
-            });
+            (λ j u apart e. let f = kept.fit j u e in grind arith)
+            (grind arith))
+            (grind (arith, off, All-nil));
       }
     where
       seat_before : (o next new seat : ℕ) → o < next → (if o == next then new else seat) ≡ seat
@@ -171,14 +116,7 @@ module _ {D : Type 0} where
   handed : (len : ℕ) (roll : Roll D) (holder seat : ℕ) (u : View D) (keep : Bool) (log : List (Logged D))
       → (keep ≡ true → (seat ≡ holder) × (log ≡ roll.log)) → Fits len roll seat u
       → Fits len (record roll { holder = holder }) seat (record u { keeps = keep; log = log })
-  handed len roll holder seat u keep log h f = record {
-    keeps = h;
-    makes = f.makes;
-    passes = f.passes;
-    known = f.known;
-    sure = f.sure;
-    tests = f.tests;
-  }
+  handed len roll holder seat u keep log h f = grind arith
 
   -- the log leaves a seat
   pub splits_log : (shape : Shape) (id : ℕ) (v : View D) → v.keeps ≡ true
@@ -195,9 +133,7 @@ module _ {D : Type 0} where
         left = kept.left;
         fit = all_push shape.len roll views (log_alone v)
             (all_set shape.len roll s.views id (without_log v)
-            (λ j u apart e. let f = kept.fit j u e in
-            handed shape.len old (length views) j u u.keeps u.log (λ k. absurd (apart ((f.keeps k).0 ∙ sym held.0)))
-            f)
+            (λ j u apart e. let f = kept.fit j u e in grind (arith, handed))
             (handed shape.len old (length views) id v false [] (λ k. absurd (off k)) mine))
             (handed shape.len old (length views) (length views) blank_view true v.log (λ _. (refl, held.1))
             (fits_blank shape.len old (length views)));

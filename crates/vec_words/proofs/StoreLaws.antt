@@ -1,19 +1,13 @@
 -- What the stores of one call do to the readings of a log.
-use Rattle.vec_words.proofs.Imports.{◌≡◌, ◌≢◌, ℕ, ◌+◌, ◌<◌, ◌≤◌, true, false, Bool, List, [], ◌∷◌, ◌++◌, length, take, get_or, Some, refl, sym, ap, ◌∙◌, subst, ⊎_elim, arith, append-nil, append_assoc, All, Contains, slice_get, cases_eq, take_more, map-append, get_or-take, length-take-le, slice_get_within, get_or_from_slice_get, slice_get-get_or, All-nil, All-cons, All-head, All-tail, All-push, All-pop, All-contains, all_pairs_push, bits_at, HasStore, Logged, Stored, Place, words_of, word_number, steps_of, count_of, commits_of, SeatSeen, IsAt, IsWithin, IsSpared, store_of, stores_of, StoresEach}
-use Rattle.vec_words.proofs.Logs.{count-push, bits-other, bits-above, bits-here, has_store-store}
+use Rattle.vec_words.proofs.Imports.{◌≡◌, ◌≢◌, ℕ, ◌+◌, ◌<◌, ◌≤◌, true, false, Bool, List, [], ◌∷◌, ◌++◌, length, take, Some, refl, sym, ap, ◌∙◌, subst, ⊎_elim, arith, append-nil, append_assoc, All, Contains, slice_get, cases_eq, take_more, map-append, get_or-take, length-take-le, slice_get_within, get_or_from_slice_get, slice_get-get_or, All-nil, All-cons, All-head, All-tail, All-push, All-pop, All-contains, all_pairs_push, bits_at, HasStore, Logged, Stored, Place, words_of, word_number, steps_of, commits_of, SeatSeen, IsAt, IsWithin, IsSpared, store_of, stores_of, StoresEach}
+use Rattle.vec_words.proofs.Logs.{bits-other, bits-above, bits-here, has_store-store}
 use Rattle.vec_words.proofs.Commits.{commits_of-append}
 use Rattle.vec_words.proofs.Places.{word_number-same}
 
 -- a place is this word, or it isn't
 at_cases : (conn word : ℕ) (place : Place) (G : Type 0) → (IsAt conn word place → G) → (¬ IsAt conn word place → G)
     → G
-at_cases conn word place G here apart =
-    ⊎_elim
-    (λ (a : place.conn.0 ≡ conn). ⊎_elim (λ (b : place.word ≡ word). here (a, b))
-    (λ (ne : place.word ≢ word). apart (λ at. ne at.1))
-    (cases_eq place.word word))
-    (λ (ne : place.conn.0 ≢ conn). apart (λ at. ne at.0))
-    (cases_eq place.conn.0 conn)
+at_cases conn word place G here apart = grind (arith, ⊎_elim, cases_eq)
 
 -- places that are apart have words that are apart
 number-apart : (conns len conn word : ℕ) (place : Place) → 0 < conn → word < words_of len → IsWithin conns len place
@@ -45,9 +39,7 @@ module _ {D : Type 0} (len : ℕ) (bits : ℕ → ℕ → ℕ) (number : ℕ) wh
 
   pub stores_of-commits : (log : List (Logged D)) (places : List Place)
       → commits_of (log ++ made places) ≡ commits_of log
-  stores_of-commits log places =
-      commits_of-append log (made places) ∙ ap (λ l. commits_of log ++ l) (no_commits places)
-      ∙ append-nil (commits_of log)
+  stores_of-commits log places = grind (arith, commits_of-append, no_commits, append-nil)
 
   -- from their number on a fact of a word's bits holds, where it holds of its new bits, and of the old ones where it
   -- was spared
@@ -56,9 +48,7 @@ module _ {D : Type 0} (len : ℕ) (bits : ℕ → ℕ → ℕ) (number : ℕ) wh
       → word < words_of len → number ≤ k → All (IsWithin conns len) places → P (bits conn word)
       → (IsSpared places conn word → P (bits_at (steps_of log) (word_number len conn word) k))
       → P (bits_at (steps_of (log ++ made places)) (word_number len conn word) k)
-  stores_of-from conns log [] conn word k P positive below from within new old =
-      subst P (sym (ap (λ l. bits_at (steps_of l) (word_number len conn word) k) (append-nil log)))
-      (old (All-nil (λ p. ¬ IsAt conn word p)))
+  stores_of-from conns log [] conn word k P positive below from within new old = grind (arith, append-nil, All-nil)
   stores_of-from conns log (p ∷ ps) conn word k P positive below from within new old =
       let w = word_number len conn word in
       let first = log ++ store_of len bits number p ∷ [] in
@@ -108,9 +98,7 @@ module _ {D : Type 0} (conns len : ℕ) (bits : ℕ → ℕ → ℕ) (named : Li
       ∙ stores_of-below len bits before.number before.log each.places word k low
 
   pub stores-commits : StoresEach conns len bits named before after → commits_of after.log ≡ commits_of before.log
-  stores-commits each =
-      ap commits_of (log_is each each.places each.seat)
-      ∙ stores_of-commits len bits before.number before.log each.places
+  stores-commits each = grind (arith, log_is, stores_of-commits)
 
   -- From their number on, a fact of a word's bits holds where it holds of the word's new bits, and of the old ones
   -- where the word isn't named.
@@ -147,11 +135,7 @@ within-at conns len places i p is all =
 pub spared-below : (places : List Place) (i conn word : ℕ) → i ≤ length places
     → ((k : ℕ) (p : Place) → 0 ≤ k → k < i → slice_get places k ≡ Some p → ¬ IsAt conn word p)
     → IsSpared (take i places) conn word
-spared-below places i conn word most each k d inside =
-    let short = length-take-le i places most in
-    let below : k < i = omega (arith, short, inside) in
-    subst (λ p. ¬ IsAt conn word p) (sym (get_or-take i places k d below))
-    (each k (get_or places k d) (omega arith) below (slice_get-get_or places k d (omega arith)))
+spared-below places i conn word most each k d inside = grind (arith, length-take-le, get_or-take, slice_get-get_or)
 
 pub contains-below : (places : List Place) (i k : ℕ) (p q : Place) → k < i → i ≤ length places
     → slice_get places k ≡ Some p
@@ -163,13 +147,7 @@ contains-below places i k p q below most is at =
 
 module _ {D : Type 0} (conns len : ℕ) (bits : ℕ → ℕ → ℕ) (before : SeatSeen D) where
   pub each-nil : StoresEach conns len bits [] before before
-  each-nil = record {
-    places = [];
-    seat = ap (λ l. record before { log = l }) (sym (append-nil before.log));
-    within = All-nil (IsWithin conns len);
-    once = λ i j d less inside. absurd (omega arith);
-    same = λ conn word. (λ spared. spared, λ spared. spared);
-  }
+  each-nil = grind (arith, append-nil, All-nil)
 
   -- the word wasn't named before
   each-first : (after : SeatSeen D) (named : List Place) (p : Place) → IsWithin conns len p

@@ -1,5 +1,5 @@
 -- The steps that change a word keep the rule.
-use Rattle.vec_words.proofs.Imports.{◌≡◌, ◌≢◌, ◌*◌, ◌^◌, ◌<◌, ◌≤◌, ℕ, suc, true, List, [], ◌∷◌, ◌++◌, length, set, refl, sym, ap, ◌∙◌, subst, ⊎_elim, arith, length-set, get_or-set_other, get_or-set_same, All, slice_index, cases_eq, All-weaker, Me, keeps, Allows, IsOpen, word_of, Logged, Stored, Committed, View, Shape, words_of, count_of, flying_of, left_in, IsOrderly, stored_to, committed_of, Becomes, Settled, IsKept, Roll, Fits, AreLeft, Kept}
+use Rattle.vec_words.proofs.Imports.{◌≡◌, ◌≢◌, ◌*◌, ◌^◌, ◌<◌, ◌≤◌, ℕ, suc, true, List, [], ◌∷◌, ◌++◌, set, refl, sym, ap, ◌∙◌, subst, ⊎_elim, arith, length-set, get_or-set_other, get_or-set_same, All, cases_eq, All-weaker, Me, keeps, Allows, IsOpen, word_of, Logged, Stored, Committed, View, Shape, words_of, count_of, flying_of, IsOrderly, stored_to, committed_of, Becomes, Settled, IsKept, Roll, Fits, AreLeft, Kept}
 use Rattle.vec_words.proofs.Logs.{count-push, left-push, left-here, left-other}
 use Rattle.vec_words.proofs.Commits.{calls-store, calls-here, calls-other}
 use Rattle.vec_words.proofs.Sound.{CanStore, settled-count, settled-store_now, settled-commit_now, sound-store, sound-commit}
@@ -11,35 +11,23 @@ module _ {D : Type 0} where
       → AreLeft shape log words → AreLeft shape (log ++ Stored word bits stamp ∷ [])
       (set words (suc word) (word_of bits stamp))
   left-store shape log words word bits stamp within left =
-      let later = log ++ Stored word bits stamp ∷ [] in
-      let content : ℕ = word_of bits stamp in
-      let long : length words ≡ suc (shape.conns * words_of shape.len) = left.length_is in
-      record {
-        count =
-            get_or-set_other words (suc word) 0 content 0 (λ e. omega arith) ∙ left.count
-            ∙ sym (count-push log (Stored word bits stamp));
-        length_is = length-set words (suc word) content ∙ left.length_is;
-        vectors = λ k below. ⊎_elim
-            (λ (is : word ≡ k). subst (λ j. slice_index (set words (suc word) content) (suc j) ≡ left_in later j) is
-            (get_or-set_same words (suc word) content 0 (omega arith) ∙ sym (left-here log word bits stamp)))
-            (λ (apart : word ≢ k). get_or-set_other words (suc word) (suc k) content 0 (λ e. apart (omega arith))
-            ∙ left.vectors k below ∙ sym (left-other log word bits stamp k apart))
-            (cases_eq word k);
-      }
+      grind (
+        arith,
+        get_or-set_other,
+        count-push,
+        length-set,
+        ⊎_elim,
+        get_or-set_same,
+        left-here,
+        left-other,
+        cases_eq,
+      )
 
   left-commit : (shape : Shape) (log : List (Logged D)) (words : List ℕ) (number by : ℕ) (about : D)
       → AreLeft shape log words
       → AreLeft shape (log ++ Committed number by about ∷ []) (set words 0 number)
   left-commit shape log words number by about left =
-      let x : Logged D = Committed number by about in
-      let long : length words ≡ suc (shape.conns * words_of shape.len) = left.length_is in
-      record {
-        count = get_or-set_same words 0 number 0 (omega arith) ∙ sym (count-push log x);
-        length_is = length-set words 0 number ∙ left.length_is;
-        vectors = λ k below.
-            get_or-set_other words 0 (suc k) number 0 (λ e. omega arith) ∙ left.vectors k below
-            ∙ sym (left-push log x k);
-      }
+      grind (arith, get_or-set_same, count-push, length-set, get_or-set_other, left-push)
 
   -- the views, after a store of the seat that holds the log
   fits-store : (len : ℕ) (roll : Roll D) (word bits stamp : ℕ) (j : ℕ) (u : View D) (log : List (Logged D))
@@ -124,12 +112,7 @@ module _ {D : Type 0} where
               (λ j u apart e. let f = kept.fit j u e in let seen : u.sure ≤ count_of old.log = f.sure in record {
                 keeps = λ k. absurd (apart ((f.keeps k).0 ∙ sym held.0));
                 makes = f.makes;
-                passes = λ p. let t = f.passes p in (
-                  t.0,
-                  t.1,
-                  t.2 ∙ sym (calls-other u.owner v.owner number x old.log
-                      (λ e'. apart (t.0 ∙ ap old.seat_of (sym e') ∙ sym passed.0))),
-                );
+                passes = grind (arith, calls-other);
                 known = settled-commit_now old.log number v.owner x u.known fresh' f.known;
                 sure = omega (arith, count, seen, higher);
                 tests = tests u j f;
@@ -137,12 +120,7 @@ module _ {D : Type 0} where
               (record {
                 keeps = λ _. (held.0, ap (λ l. l ++ Committed number v.owner x ∷ []) held.1);
                 makes = mine.makes;
-                passes = λ _. (
-                  passed.0,
-                  passed.1,
-                  ap (λ l. l ++ (number, x) ∷ []) passed.2
-                      ∙ sym (calls-here v.owner number x old.log),
-                );
+                passes = grind (arith, calls-here);
                 known = subst (Settled log) count (settled-count log sound);
                 sure = omega (arith, count);
                 tests = tests v id mine;

@@ -1,4 +1,4 @@
-use Rattle.cache_core.proofs.Imports.{◌≡◌, ◌≤◌, ◌∙◌, true, false, length, vec_len, sym, ap, arith, Vec, Global, Name16, is_enough}
+use Rattle.cache_core.proofs.Imports.{◌≡◌, ◌≤◌, ◌∙◌, false, vec_len, sym, ap, arith, Vec, Global, Name16, is_enough}
 use Rattle.cache_core.proofs.FrontLaws.{fronting_start, fronting_enough, fronting_fits, fronting_some, fronting_none, fronting_end}
 use Rattle.cache_core.proofs.room.front.Goals.{in-Some+in_ok-push-in-Some, in-None}
 use Rattle.cache_core.proofs.room.front.Goals as goal
@@ -9,21 +9,10 @@ loop-k-init c =
     (fronting_start c.args.request.now c.args.rows.now.rows c.args.room.now)
 
 pub returns-then-is_enough : goal.returns-then-is_enough
-returns-then-is_enough c =
-    let l = c.loop-k in
-    let enough : is_enough c.args.room.now (vec_len l.names) l.given ≡ true =
-    rw c.len.ensures at (sym c.if-is_enough.ensures) in
-    fronting_enough c.args.request.now c.args.rows.now.rows c.args.room.now l.names.items (vec_len l.names) l.given
-    l.k
-    enough l.invariant
+returns-then-is_enough c = grind (arith, fronting_enough)
 
 pub overflow_add-given : goal.overflow_add-given
-overflow_add-given c =
-    let l = c.loop-k in
-    let fits =
-    fronting_fits c.args.request.now c.args.rows.now.rows c.args.room.now l.names.items (vec_len l.names) l.given l.k
-    c.victim_at.result c.in-Some.row c.victim_at.ensures c.in-Some.is l.invariant in
-    omega (arith, fits, c.requires.elements)
+overflow_add-given c = grind (arith, fronting_fits)
 
 pub loop-k-preserved : goal.loop-k-preserved
 loop-k-preserved c =
@@ -48,9 +37,4 @@ loop-k-preserved c =
     ]
 
 pub returns : goal.returns
-returns c =
-    let l = c.loop-k in
-    let few : length c.args.rows.now.rows ≤ l.k =
-    omega (arith, c.len-k-end.ensures) in
-    fronting_end c.args.request.now c.args.rows.now.rows c.args.room.now l.names.items (vec_len l.names) l.given l.k
-    few l.invariant
+returns c = grind (arith, fronting_end)

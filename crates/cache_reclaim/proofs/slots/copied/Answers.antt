@@ -1,18 +1,9 @@
-use Rattle.cache_reclaim.proofs.Imports.{◌≡◌, ◌++◌, List, ℕ, Option, ap, sym, subst, ◌∙◌, append-nil, ◌<◌, length, Used}
+use Rattle.cache_reclaim.proofs.Imports.{arith, ◌≡◌, ◌++◌, sym, subst, ◌∙◌, append-nil, ◌<◌, length}
 use Rattle.cache_reclaim.proofs.SlotLaws.{seam_moved, copy_missing, copy_place, copy_whole}
 use Rattle.cache_reclaim.proofs.slots.copied.Goals as goal
 
 pub loop-slot-init : goal.loop-slot-init
-loop-slot-init c =
-    let whole : c.into_iter-slot-iterator.result.iter ≡ c.args.from.now.entries =
-    ap (λ r. r.iter) c.into_iter-slot-iterator.ensures.into_iter_gives ∙ c.rev-slot-items.ensures.source
-    ∙ c.iter.ensures.rest in
-    record {
-      seam = ap (λ (k : List (ℕ × Option Used)). c.into_iter-slot-iterator.result.iter ++ k)
-          (ap (λ k. k.entries) c.in_ok-copy.ensures)
-          ∙ append-nil c.into_iter-slot-iterator.result.iter ∙ whole;
-      cap = ap (λ k. k.cap) c.in_ok-copy.ensures ∙ c.cap.ensures;
-    }
+loop-slot-init c = grind (arith, append-nil)
 
 pub add-requires-clause-missing : goal.add-requires-clause-missing
 add-requires-clause-missing c =

@@ -1,4 +1,4 @@
-use Rattle.cache_regs.proofs.Imports.{◌≡◌, ◌+◌, true, nat_lt, not, sym, ◌∙◌, subst, refl, arith, list_all, Registration, is_of, is_at, is_below}
+use Rattle.cache_regs.proofs.Imports.{◌≡◌, ◌+◌, ◌∙◌, refl, arith, is_of, is_at, is_below}
 use Rattle.cache_regs.proofs.EndLaws.{fits_step, ended_never, ended_then, ended_same, filter_within, below_first, below_more, below_of, below_all}
 use Rattle.cache_regs.proofs.ends.end_conn.Goals as goal
 
@@ -28,12 +28,4 @@ loop-index-preserved c =
     }
 
 pub returns-clause-ended : goal.returns-clause-ended
-returns-clause-ended c =
-    let end : c.loop-index.index ≡ c.args.len = omega arith in
-    ended_same (is_below c.args.conn c.loop-index.index) (is_of c.args.conn) _ _ _ _ _ _
-    (filter_within (λ (reg : Registration). nat_lt reg.index c.loop-index.index)
-    (λ reg. not (is_below c.args.conn c.loop-index.index reg)) (λ reg. not (is_of c.args.conn reg))
-    c.args.maps.now.regs
-    (subst (λ k. list_all (λ (reg : Registration). nat_lt reg.index k) c.args.maps.now.regs ≡ true) (sym end)
-    c.requires.within)
-    (below_all c.args.conn c.loop-index.index)) c.loop-index.invariant.ended
+returns-clause-ended c = grind (arith, ended_same, filter_within, below_all)

@@ -1,4 +1,4 @@
-use Rattle.cache_regs.proofs.Imports.{◌≡◌, ◌+◌, true, nat_lt, not, sym, ◌∙◌, subst, refl, arith, list_all, CALLERS, Registration, ends_with_name, ends_of, ends_below}
+use Rattle.cache_regs.proofs.Imports.{◌≡◌, ◌+◌, ◌∙◌, refl, arith, ends_with_name, ends_of, ends_below}
 use Rattle.cache_regs.proofs.EndLaws.{fits_step, ended_never, ended_then, ended_same, filter_within, name_first, name_more, name_of_all, name_all}
 use Rattle.cache_regs.proofs.ends.end_name.Goals as goal
 
@@ -32,13 +32,4 @@ loop-conn-preserved c =
     }
 
 pub returns-clause-ended : goal.returns-clause-ended
-returns-clause-ended c =
-    let end : c.loop-conn.conn ≡ CALLERS = omega arith in
-    ended_same (ends_below c.args.name.now c.args.spare c.loop-conn.conn) (ends_with_name c.args.name.now c.args.spare)
-    _ _ _ _ _ _
-    (filter_within (λ (reg : Registration). nat_lt reg.conn.0 c.loop-conn.conn)
-    (λ reg. not (ends_below c.args.name.now c.args.spare c.loop-conn.conn reg))
-    (λ reg. not (ends_with_name c.args.name.now c.args.spare reg)) c.args.maps.now.regs
-    (subst (λ k. list_all (λ (reg : Registration). nat_lt reg.conn.0 k) c.args.maps.now.regs ≡ true) (sym end)
-    c.requires.callers)
-    (name_all c.args.name.now c.args.spare c.loop-conn.conn)) c.loop-conn.invariant.ended
+returns-clause-ended c = grind (arith, ended_same, filter_within, name_all)

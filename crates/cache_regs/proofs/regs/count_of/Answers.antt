@@ -1,4 +1,4 @@
-use Rattle.cache_regs.proofs.Imports.{sym}
+use Rattle.cache_regs.proofs.Imports.{arith, sym}
 use Rattle.cache_regs.proofs.ListedLaws.{count_spared, count_absent, count_one}
 use Rattle.cache_regs.proofs.regs.count_of.Goals as goal
 
@@ -7,11 +7,7 @@ returns-then-is_spared-clause-count c =
     count_spared c.args.name.now c.args.spare c.args.conn c.args.maps.now.regs (sym c.if-is_spared.ensures)
 
 pub returns-then-is_registered-clause-count : goal.returns-then-is_registered-clause-count
-returns-then-is_registered-clause-count c =
-    count_one c.args.name.now c.args.spare c.args.conn c.args.maps.now.regs (sym c.if-is_spared.ensures) c.requires
-    (sym c.if-is_registered.ensures)
+returns-then-is_registered-clause-count c = grind (arith, count_one)
 
 pub returns-clause-count : goal.returns-clause-count
-returns-clause-count c =
-    count_absent c.args.name.now c.args.spare c.args.conn c.args.maps.now.regs (sym c.if-is_spared.ensures)
-    (sym c.if-is_registered.ensures)
+returns-clause-count c = grind (arith, count_absent)

@@ -1,4 +1,4 @@
-use Rattle.cache_regs.proofs.Imports.{not, length, ap, ◌∙◌, arith, none_filtered, length-filter-le, length-insertion, Registration, is_at, stands_before}
+use Rattle.cache_regs.proofs.Imports.{◌∙◌, arith, none_filtered, length-filter-le, length-insertion, is_at}
 use Rattle.cache_regs.proofs.EndLaws.{unnamed}
 use Rattle.cache_regs.proofs.regs.replace.Goals as goal
 
@@ -12,10 +12,4 @@ put-requires-clause-unnamed c =
     c.requires.nowhere)
 
 pub returns-clause-more : goal.returns-clause-more
-returns-clause-more c =
-    let one = ap length c.put.ensures.regs ∙ length-insertion (λ (reg : Registration). stands_before reg c.args.new)
-    c.args.new c.take.new.self.regs in
-    let others = ap length c.take.ensures.regs in
-    let fewer = length-filter-le (λ (reg : Registration). not (is_at c.args.new.conn c.args.new.index reg))
-    c.args.maps.now.regs in
-    omega (arith, one, others, fewer)
+returns-clause-more c = grind (arith, length-insertion, length-filter-le)

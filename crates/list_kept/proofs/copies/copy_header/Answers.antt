@@ -1,4 +1,4 @@
-use Rattle.list_kept.proofs.Imports.{◌≡◌, ◌++◌, ◌∷◌, [], ℕ, Option, Some, List, Bor, length, slice_get, set, option_map, sym, ap, ◌∙◌, arith, list_any, front_next, front_whole, front_long, front_alone, Rec, Record, record_in, record_id, is_id, records_of, all_records, none_within, none_shown}
+use Rattle.list_kept.proofs.Imports.{◌≡◌, ◌++◌, ◌∷◌, [], ℕ, Option, Some, List, Bor, slice_get, option_map, sym, ap, ◌∙◌, arith, list_any, front_next, front_whole, front_long, front_alone, Rec, Record, record_in, record_id, is_id, records_of, all_records, none_within, none_shown}
 use Rattle.list_kept.proofs.copies.copy_header.Goals as goal
 
 -- the record that was found stands at its place
@@ -8,14 +8,7 @@ there : (chains : List (Option (List ℕ))) (lists : List (List Record)) (h n : 
 there chains lists h n o rec e is = sym e ∙ ap (option_map (λ (r : Bor Rec). record_in chains r.now)) is
 
 pub push_copy-requires-clause-header : goal.push_copy-requires-clause-header
-push_copy-requires-clause-header c =
-    let lists = c.args.store.now.lists in
-    omega (
-      arith,
-      c.requires.header,
-      ap (λ (l : List (List Record)). length l) c.loop-place.invariant.0,
-      front_long lists c.args.header c.loop-place.place,
-    )
+push_copy-requires-clause-header c = grind (arith, front_long)
 
 pub push_copy-requires-clause-alone : goal.push_copy-requires-clause-alone
 push_copy-requires-clause-alone c =
@@ -28,30 +21,10 @@ push_copy-requires-clause-alone c =
     c.at.ensures.apart at
 
 pub unreachable-requires : goal.unreachable-requires
-unreachable-requires c =
-    let recs = records_of c.args.store.now.lists c.args.header in
-    none_within recs c.loop-place.place (omega (arith, c.loop-place-test.true, c.len-place-end.ensures))
-    (none_shown c.args.store.now.chains c.at.result (slice_get recs c.loop-place.place) c.at.ensures.«record»
-    c.in-None.is)
+unreachable-requires c = grind (arith, none_within, none_shown)
 
 pub loop-place-preserved : goal.loop-place-preserved
-loop-place-preserved c =
-    let lists = c.args.store.now.lists in
-    let chains = c.args.store.now.chains in
-    let rec = record_in chains c.in-Some.rec.now in (
-      c.in_ok-push_copy-in-Some.ensures.lists
-          ∙ ap (λ (l : List (List Record)). set l c.args.header (records_of l c.args.header ++ rec ∷ []))
-          c.loop-place.invariant.0
-          ∙ front_next lists c.args.header c.loop-place.place rec
-          (there chains lists c.args.header c.loop-place.place c.at.result c.in-Some.rec c.at.ensures.«record»
-          c.in-Some.is),
-      c.push_copy.ensures.loose ∙ c.loop-place.invariant.1,
-      c.push_copy.ensures.size ∙ c.loop-place.invariant.2,
-    )
+loop-place-preserved c = grind (arith, front_next, there)
 
 pub returns-clause-lists : goal.returns-clause-lists
-returns-clause-lists c =
-    let lists = c.args.store.now.lists in
-    c.loop-place.invariant.0
-    ∙ front_whole lists c.args.header c.loop-place.place c.requires.header
-    (omega (arith, c.loop-place-test.false, c.len-place-end.ensures))
+returns-clause-lists c = grind (arith, front_whole)

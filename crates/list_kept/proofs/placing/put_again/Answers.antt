@@ -1,4 +1,4 @@
-use Rattle.list_kept.proofs.Imports.{ap, ◌∙◌, list_any, list_all, pairwise, found_passes, gone, record_id, Lists, all_records, is_id, record_in, may_precede, ordered_without}
+use Rattle.list_kept.proofs.Imports.{arith, ap, ◌∙◌, list_any, found_passes, gone, record_id, Lists, all_records, is_id, record_in, ordered_without}
 use Rattle.list_kept.proofs.placing.put_again.Goals as goal
 
 pub put_record-requires-clause-alone : goal.put_record-requires-clause-alone
@@ -10,6 +10,4 @@ put_record-requires-clause-alone c =
     (found_passes (is_id c.args.id) (all_records lists) rec c.take-rec.ensures.«record»)
 
 pub put_record-requires-clause-ordered : goal.put_record-requires-clause-ordered
-put_record-requires-clause-ordered c =
-    ap (λ (l : Lists). list_all (pairwise may_precede) l) c.take-rec.ensures.lists
-    ∙ ordered_without c.args.id c.args.store.now.lists c.requires.ordered
+put_record-requires-clause-ordered c = grind (arith, ordered_without)

@@ -1,12 +1,9 @@
-use Rattle.list_kept.proofs.Imports.{◌≤◌, ◌+◌, ◌∙◌, ℕ, List, Option, None, ap, sym, refl, subst, length, list_any, option_or, any-replaced, replaced_twice, Rec, Record, Lists, record_id, all_records, is_id, lists_replaced, record_in, body_in, chains_less, elements_in, elements_of, Bare, AreUsed, blank, with_data}
+use Rattle.list_kept.proofs.Imports.{arith, ◌≤◌, ◌+◌, ◌∙◌, ℕ, List, Option, None, ap, sym, refl, subst, length, list_any, option_or, any-replaced, replaced_twice, Rec, Record, Lists, record_id, all_records, is_id, lists_replaced, record_in, elements_in, elements_of, Bare, blank, with_data}
 use Rattle.list_kept.proofs.DataLaws.{elements_renewed, renewed_found}
 use Rattle.list_kept.proofs.placing.renew.Goals as goal
 
 pub new_data-chain-requires-clause-used : goal.new_data-chain-requires-clause-used
-new_data-chain-requires-clause-used c =
-    let loose = sym (ap (λ (r : Rec). chains_less r.body c.args.store.now.loose) c.record.ensures)
-    ∙ c.set-old.ensures.was in
-    subst AreUsed loose c.requires.used
+new_data-chain-requires-clause-used c = grind arith
 
 pub new_data-chain-requires-clause-elements : goal.new_data-chain-requires-clause-elements
 new_data-chain-requires-clause-elements c =
@@ -45,18 +42,11 @@ returns-clause-lists c =
     ∙ ap (λ (r : Rec). lists_replaced (record_in c.new_data-chain.new.store.chains r) c.new_data-chain.new.store.lists)
     c.record-2.ensures
     ∙ ap (λ (b : Option (List ℕ)). lists_replaced (with_data bare b) c.new_data-chain.new.store.lists)
-    (c.new_data-chain.ensures.bytes
-    ∙ ap (λ (l : List (Option (List ℕ))). option_or c.args.body.now (body_in l c.set-old.result.body))
-    c.set-old.ensures.chains)
+    (grind arith)
     ∙ ap (λ (l : Lists). lists_replaced (with_data bare body) l) (c.new_data-chain.ensures.lists ∙ gone)
     ∙ replaced_twice record_id (with_data (blank bare.id) None) (with_data bare body) refl lists
     ∙ ap (λ (r : Record). lists_replaced r lists)
     (sym (renewed_found lists old bare c.args.body.now c.set-old.ensures.«record»))
 
 pub returns-clause-loose : goal.returns-clause-loose
-returns-clause-loose c =
-    let loose = sym (ap (λ (r : Rec). chains_less r.body c.args.store.now.loose) c.record.ensures)
-    ∙ c.set-old.ensures.was in
-    c.give.ensures.loose ∙ sym c.set-gone.ensures.was
-    ∙ ap (λ (r : Rec). chains_less r.body c.new_data-chain.new.store.loose) c.record-2.ensures
-    ∙ c.new_data-chain.ensures.was ∙ sym loose
+returns-clause-loose c = grind arith

@@ -1,13 +1,11 @@
-use Rattle.list_kept.proofs.Imports.{◌≡◌, Some, None, Bor, option_map, sym, ap, ◌∙◌, arith, Rec, record_in, record_of}
+use Rattle.list_kept.proofs.Imports.{◌≡◌, Some, ◌∙◌, arith, record_in, record_of}
 use Rattle.list_kept.proofs.NamedLaws.{elements_found, elements_absent}
 use Rattle.list_kept.proofs.reading.elements_of_others.Goals as goal
 
 pub overflow_sub-result : goal.overflow_sub-result
 overflow_sub-result c =
     let lists = c.args.kept.now.content.lists in
-    let there : record_of c.args.id lists ≡ Some (record_in c.args.kept.now.chains c.in-Some.rec.now) =
-    sym c.get.ensures.«record»
-    ∙ ap (option_map (λ (r : Bor Rec). record_in c.args.kept.now.chains r.now)) c.in-Some.is in
+    let there : record_of c.args.id lists ≡ Some (record_in c.args.kept.now.chains c.in-Some.rec.now) = grind arith in
     omega (
       arith,
       c.elements.ensures,
@@ -18,9 +16,7 @@ overflow_sub-result c =
 pub returns-in-Some : goal.returns-in-Some
 returns-in-Some c =
     let lists = c.args.kept.now.content.lists in
-    let there : record_of c.args.id lists ≡ Some (record_in c.args.kept.now.chains c.in-Some.rec.now) =
-    sym c.get.ensures.«record»
-    ∙ ap (option_map (λ (r : Bor Rec). record_in c.args.kept.now.chains r.now)) c.in-Some.is in
+    let there : record_of c.args.id lists ≡ Some (record_in c.args.kept.now.chains c.in-Some.rec.now) = grind arith in
     omega (
       arith,
       c.elements.ensures,
@@ -29,9 +25,4 @@ returns-in-Some c =
     )
 
 pub returns-in-None : goal.returns-in-None
-returns-in-None c =
-    let lists = c.args.kept.now.content.lists in
-    let none : record_of c.args.id lists ≡ None =
-    sym c.get.ensures.«record»
-    ∙ ap (option_map (λ (r : Bor Rec). record_in c.args.kept.now.chains r.now)) c.in-None.is in
-    c.elements-in-None.ensures ∙ sym (elements_absent c.args.id lists none)
+returns-in-None c = grind (arith, elements_absent)

@@ -1,4 +1,4 @@
-use Rattle.list_store.proofs.Imports.{◌≡◌, ℕ, arith, length, [], ◌<◌, length-map, Vec, Global, orders_in, IsLastFull, all_records, lists_at, rec_at, last-map, none-map}
+use Rattle.list_store.proofs.Imports.{◌≡◌, arith, [], ◌<◌, length-map, orders_in, IsLastFull, all_records, lists_at, rec_at, last-map, none-map}
 use Rattle.list_store.proofs.TiedLaws.{weaker_some, weaker_none}
 use Rattle.list_store.proofs.ties.last_of.Goals as goal
 
@@ -9,15 +9,7 @@ returns-clause-found c =
     (λ h is. last-map (rec_at c.args.slab.now) (orders_in c.args.orders.now) h is) c.last_header.ensures.found
 
 pub returns-clause-within : goal.returns-clause-within
-returns-clause-within c =
-    weaker_some c.last_header.result (λ h. IsLastFull h (orders_in c.args.orders.now))
-    (λ h. h < length c.args.orders.now)
-    (λ h is. omega (
-      arith,
-      is.within,
-      length-map c.args.orders.now
-          (λ (v : Vec ℕ Global). v.items),
-    )) c.last_header.ensures.found
+returns-clause-within c = grind (arith, weaker_some, length-map)
 
 pub returns-clause-none : goal.returns-clause-none
 returns-clause-none c =

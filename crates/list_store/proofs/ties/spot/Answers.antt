@@ -1,4 +1,4 @@
-use Rattle.list_store.proofs.Imports.{◌∙◌, ap, sym, ℕ, arith, option_map, length-map, Vec, Global, orders_in, get_within, records_of, as_spot}
+use Rattle.list_store.proofs.Imports.{◌∙◌, ap, sym, ℕ, arith, option_map, length-map, Vec, Global, orders_in, get_within, as_spot}
 use Rattle.list_store.proofs.TiedLaws.{key_stands, header_stands, found_spot, unfound_spot, few-at}
 use Rattle.list_store.proofs.ties.spot.Goals as goal
 
@@ -17,16 +17,7 @@ place_in-requires-clause-there c = key_stands c.args.slab.now
     ∙ c.in-Some.is)
 
 pub overflow_cast-result : goal.overflow_cast-result
-overflow_cast-result c =
-    let few = few-at (orders_in c.args.orders.now) c.in-Some.header
-    (header_stands c.args.slab.now (orders_in c.args.orders.now) c.args.spots.now.entries c.requires.tied c.args.id.0
-    _ _ (sym c.spot_for.ensures ∙ c.in-Some.is)) c.requires.few in
-    omega (
-      arith,
-      few,
-      get_within (records_of
-          (orders_in c.args.orders.now) c.in-Some.header) c.place_in.result _ c.place_in.ensures,
-    )
+overflow_cast-result c = grind (arith, few-at, header_stands, get_within)
 
 pub returns-in-Some : goal.returns-in-Some
 returns-in-Some c = ap (option_map as_spot)

@@ -1,4 +1,4 @@
-use Rattle.list_store.proofs.Imports.{◌∙◌, ap, sym, ℕ, arith, List, length, length-map, Vec, Global, orders_in, get_within, records_of, lists_without, rec_id, lists_at}
+use Rattle.list_store.proofs.Imports.{◌∙◌, ap, sym, ℕ, arith, List, length, length-map, Vec, Global, orders_in, get_within, lists_without, rec_id, lists_at}
 use Rattle.list_store.proofs.TiedLaws.{key_stands, header_stands, found_pulled, unfound_record, without_unfound}
 use Rattle.list_store.proofs.ties.take_out.Goals as goal
 
@@ -29,9 +29,7 @@ pull-requires-clause-header c =
     )
 
 pub pull-requires-clause-place : goal.pull-requires-clause-place
-pull-requires-clause-place c =
-    get_within (records_of (orders_in c.args.orders.now.items) c.in-Some.header) c.place_in-place.result _
-    (rw c.as_slice.ensures.value at c.place_in-place.ensures)
+pull-requires-clause-place c = grind (arith, get_within)
 
 pub returns-in-Some-clause-record : goal.returns-in-Some-clause-record
 returns-in-Some-clause-record c =

@@ -13,19 +13,7 @@ returns-in-Alter c by =
     rw (← c.locks.view_is, c.in-Alter.is) (omega (arith, alter_few w content, c.count_of.ensures.count))
 
 pub returns-in-Release : goal.returns-in-Release
-returns-in-Release c by =
-    let content : Content = record {
-      interests = c.locks.inside.interests.interests;
-      waiters = c.locks.inside.queue.waiters;
-    } in
-    rw (← c.locks.view_is, c.in-Release.is)
-    (omega (arith, release_few by c.in-Release.r content, c.count_of-in-Release.ensures.count))
+returns-in-Release c by = grind (arith, release_few)
 
 pub returns-in-RtDelete : goal.returns-in-RtDelete
-returns-in-RtDelete c by =
-    let content : Content = record {
-      interests = c.locks.inside.interests.interests;
-      waiters = c.locks.inside.queue.waiters;
-    } in
-    rw (← c.locks.view_is, c.in-RtDelete.is)
-    (omega (arith, delete_few c.in-RtDelete.r c.in-RtDelete.conn content, c.count_of-in-RtDelete.ensures.count))
+returns-in-RtDelete c by = grind (arith, delete_few)

@@ -1,10 +1,8 @@
-use Rattle.lock_queue.proofs.Imports.{◌∙◌, map, [], get_or_default, resource_by, found, placed_none, placed_some, part_of, waiters_in}
+use Rattle.lock_queue.proofs.Imports.{arith, ◌∙◌, map, [], get_or_default, resource_by, found, placed_none, placed_some, part_of, waiters_in}
 use Rattle.lock_queue.proofs.queue.at_on.Goals as goal
 
 pub returns-then-k-before : goal.returns-then-k-before
-returns-then-k-before c =
-    placed_none part_of c.args.r.now c.args.entries.now c.args.k c.count_all_ahead-before.result
-    c.count_all_ahead-before.ensures c.if-k-before.true
+returns-then-k-before c = grind (arith, placed_none)
 
 pub returns : goal.returns
 returns c =

@@ -1,4 +1,4 @@
-use Rattle.lock_queue.proofs.Imports.{◌∙◌, sym, [], get_or_default, ordered, at_is, none_past, part_of}
+use Rattle.lock_queue.proofs.Imports.{arith, ◌∙◌, sym, [], get_or_default, ordered, at_is, none_past, part_of}
 use Rattle.lock_queue.proofs.queue.at_place.Goals as goal
 
 pub start_of-before-requires : goal.start_of-before-requires
@@ -20,6 +20,4 @@ returns-in-Some c =
     (sym c.key_at.ensures ∙ c.in-Some.is) c.start_of-before.ensures)
 
 pub returns-in-None : goal.returns-in-None
-returns-in-None c =
-    none_past part_of c.args.entries.now c.args.order.now c.args.k (rw c.requires.order c.requires.entries)
-    (sym c.key_at.ensures ∙ c.in-None.is)
+returns-in-None c = grind (arith, none_past)

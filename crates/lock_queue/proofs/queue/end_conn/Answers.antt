@@ -6,9 +6,7 @@ use Rattle.lock_queue.proofs.queue.end_conn.Goals as goal
 left : (conn : ConnId) (entries new : List (List Waiter)) → AreEntries entries
     → new ≡ map (waiters_without_conn conn) entries
     → waiters_in new ≡ waiters_without_conn conn (waiters_in entries)
-left conn entries new is e =
-    ap waiters_in e ∙ left_seen part_of entries (map (resource_by part_of) (waiters_in entries)) is
-    (λ (waiter : Waiter). not (is_by conn waiter))
+left conn entries new is e = grind (arith, left_seen)
 
 fewer : (conn : ConnId) (entries new : List (List Waiter)) → AreEntries entries
     → new ≡ map (waiters_without_conn conn) entries → length (joined new) ≤ length (waiters_in entries)
@@ -21,12 +19,7 @@ fewer conn entries new is e =
     )
 
 pub count_all-count-requires : goal.count_all-count-requires
-count_all-count-requires c =
-    omega (
-      arith,
-      fewer c.args.conn c.args.entries.now c.take_out_conn.new.entries c.requires.kept c.take_out_conn.ensures.entries,
-      c.requires.few,
-    )
+count_all-count-requires c = grind (arith, fewer)
 
 pub returns-clause-kept : goal.returns-clause-kept
 returns-clause-kept c =
@@ -41,21 +34,10 @@ pub returns-clause-count : goal.returns-clause-count
 returns-clause-count c = c.count_all-count.ensures ∙ length_seen part_of c.take_out_conn.new.entries
 
 pub returns-clause-fits : goal.returns-clause-fits
-returns-clause-fits c =
-    omega (
-      arith,
-      fewer c.args.conn c.args.entries.now c.take_out_conn.new.entries c.requires.kept c.take_out_conn.ensures.entries,
-      c.requires.few,
-      c.count_all-count.ensures,
-    )
+returns-clause-fits c = grind (arith, fewer)
 
 pub returns-clause-less : goal.returns-clause-less
-returns-clause-less c =
-    omega (
-      arith,
-      fewer c.args.conn c.args.entries.now c.take_out_conn.new.entries c.requires.kept c.take_out_conn.ensures.entries,
-      c.count_all-count.ensures,
-    )
+returns-clause-less c = grind (arith, fewer)
 
 pub returns-clause-queue : goal.returns-clause-queue
 returns-clause-queue c =
@@ -64,23 +46,10 @@ returns-clause-queue c =
     c.requires.queue)
 
 pub recorded_all-recorded-requires : goal.recorded_all-recorded-requires
-recorded_all-recorded-requires c =
-    omega (
-      arith,
-      recorded_few (joined c.take_out_conn.new.entries),
-      fewer c.args.conn c.args.entries.now c.take_out_conn.new.entries c.requires.kept c.take_out_conn.ensures.entries,
-      c.requires.few,
-    )
+recorded_all-recorded-requires c = grind (arith, recorded_few, fewer)
 
 pub returns-clause-recorded : goal.returns-clause-recorded
 returns-clause-recorded c = c.recorded_all-recorded.ensures ∙ recorded_seen c.take_out_conn.new.entries
 
 pub returns-clause-recorded_fits : goal.returns-clause-recorded_fits
-returns-clause-recorded_fits c =
-    omega (
-      arith,
-      c.recorded_all-recorded.ensures,
-      recorded_few (joined c.take_out_conn.new.entries),
-      fewer c.args.conn c.args.entries.now c.take_out_conn.new.entries c.requires.kept c.take_out_conn.ensures.entries,
-      c.requires.few,
-    )
+returns-clause-recorded_fits c = grind (arith, recorded_few, fewer)

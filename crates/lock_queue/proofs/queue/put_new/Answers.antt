@@ -22,14 +22,7 @@ within c =
     )
 
 pub put_in-before-requires-clause-few : goal.put_in-before-requires-clause-few
-put_in-before-requires-clause-few c =
-    omega (
-      arith,
-      few_in part_of c.args.entries.now (map (resource_by part_of) (waiters_in c.args.entries.now)) c.requires.kept
-          c.slot_of-slot.result c.index-entries-slot.result c.slot_of-slot.ensures.within,
-      length-map (waiters_in c.args.entries.now) (resource_by part_of),
-      c.requires.few,
-    )
+put_in-before-requires-clause-few c = grind (arith, few_in, length-map)
 
 pub overflow_add-result : goal.overflow_add-result
 overflow_add-result c = omega (arith, within c, c.requires.few)

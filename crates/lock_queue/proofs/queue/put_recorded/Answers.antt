@@ -1,4 +1,4 @@
-use Rattle.lock_queue.proofs.Imports.{ap, ◌∙◌, arith, recorded_of, waiters_with, waiters_in}
+use Rattle.lock_queue.proofs.Imports.{ap, ◌∙◌, arith, recorded_of, waiters_in}
 use Rattle.lock_queue.proofs.CountLaws.{recorded_less, recorded_more, recorded_few, few_with}
 use Rattle.lock_queue.proofs.queue.put_recorded.Goals as goal
 
@@ -13,18 +13,7 @@ overflow_sub-result c =
     )
 
 pub overflow_add-result : goal.overflow_add-result
-overflow_add-result c =
-    let had = c.recorded_of-had.ensures ∙ ap recorded_of c.find_on.ensures in
-    omega (
-      arith,
-      had,
-      recorded_more c.args.waiter.now (waiters_in c.args.entries.now) c.requires.kept.one_each,
-      recorded_few (waiters_with c.args.waiter.now (waiters_in c.args.entries.now)),
-      few_with c.args.waiter.now (waiters_in c.args.entries.now),
-      c.requires.recorded,
-      c.requires.few,
-      c.recorded_by.ensures,
-    )
+overflow_add-result c = grind (arith, recorded_more, recorded_few, few_with)
 
 pub returns : goal.returns
 returns c =

@@ -1,20 +1,11 @@
-use Rattle.lock_queue.proofs.Imports.{◌≡◌, ◌<◌, ◌≤◌, not, cond, false, length, [], ◌∷◌, None, refl, arith, filtered_step, pass_begins, pass_goes, pass_fits, pass_ends, Waiter, is_by, waiters_without_conn}
+use Rattle.lock_queue.proofs.Imports.{◌≡◌, ◌<◌, ◌≤◌, not, cond, false, length, [], ◌∷◌, refl, arith, filtered_step, pass_begins, pass_goes, pass_fits, pass_ends, Waiter, is_by, waiters_without_conn}
 use Rattle.lock_queue.proofs.queue.take_conn.Goals as goal
 
 some_waiter : Waiter
-some_waiter =
-    record {
-      r = record { name = record { 0 = [] }; hash = 0 };
-      conn = record { 0 = 0 };
-      excl = false;
-      alter = false;
-      rec = None;
-    }
+some_waiter = grind arith
 
 pub sift_one-requires : goal.sift_one-requires
-sift_one-requires c =
-    let n : c.len-end.result ≡ length c.args.waiters.now = c.len-end.ensures.value in
-    omega (arith, n, c.loop.invariant.0, c.loop-test.true)
+sift_one-requires c = grind arith
 
 pub loop-init : goal.loop-init
 loop-init c =

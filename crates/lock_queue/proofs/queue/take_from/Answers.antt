@@ -1,10 +1,8 @@
-use Rattle.lock_queue.proofs.Imports.{sym, ◌∙◌, none_placed, some_place, cut_out, none_out, is_waiter, part_of}
+use Rattle.lock_queue.proofs.Imports.{arith, sym, ◌∙◌, none_placed, some_place, cut_out, none_out, is_waiter, part_of}
 use Rattle.lock_queue.proofs.queue.take_from.Goals as goal
 
 pub returns-in-Some-clause-there : goal.returns-in-Some-clause-there
-returns-in-Some-clause-there c =
-    some_place (is_waiter c.args.r.now c.args.conn) c.args.waiters.now c.in-Some.at
-    (sym c.place_in.ensures ∙ c.in-Some.is)
+returns-in-Some-clause-there c = grind (arith, some_place)
 
 pub returns-in-Some-clause-waiters : goal.returns-in-Some-clause-waiters
 returns-in-Some-clause-waiters c =

@@ -12,8 +12,4 @@ loop-waiters-preserved c =
     (next.0, next.1, omega (arith, c.loop-waiters.invariant.2, c.take_conn.ensures.spare))
 
 pub returns-clause-entries : goal.returns-clause-entries
-returns-clause-entries c =
-    mapped_whole (waiters_without_conn c.args.conn) c.args.entries.now c.loop-waiters.entries
-    c.loop-waiters.waiters-index
-    (omega (arith, c.loop-waiters.auto.entries, c.loop-waiters-test.false)) c.loop-waiters-test.false
-    c.loop-waiters.invariant.0
+returns-clause-entries c = grind (arith, mapped_whole)

@@ -13,11 +13,4 @@ overflow_sub-result c =
     )
 
 pub returns : goal.returns
-returns c =
-    let had = c.recorded_of-had.ensures ∙ ap recorded_of c.find_on.ensures in
-    omega (
-      arith,
-      had,
-      recorded_less c.args.r.now c.args.conn (waiters_in c.args.entries.now) c.requires.kept.one_each,
-      c.requires.recorded,
-    )
+returns c = grind (arith, recorded_less)

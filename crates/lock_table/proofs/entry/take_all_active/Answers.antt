@@ -2,17 +2,10 @@ use Rattle.lock_table.proofs.Imports.{◌≡◌, ◌<◌, ◌≤◌, ◌&&◌, n
 use Rattle.lock_table.proofs.entry.take_all_active.Goals as goal
 
 some_held : Held
-some_held = record {
-  r = record { name = record { 0 = [] }; hash = 0 };
-  conn = record { 0 = 0 };
-  excl = false;
-  retained = false;
-}
+some_held = grind arith
 
 pub sift_one-requires : goal.sift_one-requires
-sift_one-requires c =
-    let n : c.len-end.result ≡ length c.args.owners.now = c.len-end.ensures.value in
-    omega (arith, n, c.loop.invariant.0, c.loop-test.true)
+sift_one-requires c = grind arith
 
 pub loop-init : goal.loop-init
 loop-init c =

@@ -1,16 +1,11 @@
-use Rattle.lock_table.proofs.Imports.{◌≡◌, true, not, is_some, sym, refl, ◌∙◌, placed_on, in_order, placed_here, part_of, owners_in}
+use Rattle.lock_table.proofs.Imports.{arith, ◌≡◌, sym, refl, ◌∙◌, in_order, placed_here}
 use Rattle.lock_table.proofs.table.at_in.Goals as goal
 
 pub returns-in-Some-at_on : goal.returns-in-Some-at_on
-returns-in-Some-at_on c =
-    placed_here part_of c.in-Some.held.now.r (owners_in c.args.entries.now) c.args.k c.in-Some-at_on.found.now
-    (in_order part_of c.args.entries.now) (rw c.in-Some-at_on.is at (sym c.at_on.ensures))
+returns-in-Some-at_on c = grind (arith, placed_here, in_order)
 
 pub loop-held-preserved : goal.loop-held-preserved
-loop-held-preserved c =
-    let none : not (is_some (placed_on part_of c.in-Some.held.now.r c.args.k (owners_in c.args.entries.now))) ≡ true =
-    rw (← c.at_on.ensures, c.in_default.is) refl in
-    rw (c.in-Some.ensures.steps, none) at c.loop-held.invariant
+loop-held-preserved c = grind arith
 
 pub returns : goal.returns
 returns c = sym c.loop-held.invariant ∙ rw c.in-None.ensures.steps.0 refl

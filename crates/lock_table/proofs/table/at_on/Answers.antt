@@ -1,10 +1,8 @@
-use Rattle.lock_table.proofs.Imports.{◌∙◌, map, nth_from_yields_List, YieldsList-from_first, resource_by, found, placed_none, placed_some, owners_left, part_of, owners_in}
+use Rattle.lock_table.proofs.Imports.{arith, ◌∙◌, map, nth_from_yields_List, YieldsList-from_first, resource_by, found, placed_none, placed_some, owners_left, part_of, owners_in}
 use Rattle.lock_table.proofs.table.at_on.Goals as goal
 
 pub returns-then-k-before : goal.returns-then-k-before
-returns-then-k-before c =
-    placed_none part_of c.args.r.now c.args.entries.now c.args.k c.count_before-before.result
-    c.count_before-before.ensures c.if-k-before.true
+returns-then-k-before c = grind (arith, placed_none)
 
 pub returns : goal.returns
 returns c =

@@ -1,4 +1,4 @@
-use Rattle.lock_table.proofs.Imports.{◌∙◌, sym, nth_from_yields_List, YieldsList-from_first, ordered, at_is, none_past, owners_left, part_of}
+use Rattle.lock_table.proofs.Imports.{arith, ◌∙◌, sym, nth_from_yields_List, YieldsList-from_first, ordered, at_is, none_past, owners_left, part_of}
 use Rattle.lock_table.proofs.table.at_place.Goals as goal
 
 pub start_of-before-requires : goal.start_of-before-requires
@@ -14,6 +14,4 @@ returns-in-Some c =
     (sym c.key_at.ensures ∙ c.in-Some.is) c.start_of-before.ensures)
 
 pub returns-in-None : goal.returns-in-None
-returns-in-None c =
-    none_past part_of c.args.entries.now c.args.order.now c.args.k (rw c.requires.order c.requires.entries)
-    (sym c.key_at.ensures ∙ c.in-None.is)
+returns-in-None c = grind (arith, none_past)

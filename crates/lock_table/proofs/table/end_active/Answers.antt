@@ -4,9 +4,7 @@ use Rattle.lock_table.proofs.table.end_active.Goals as goal
 left : (conn : ConnId) (entries new : List (List Held)) → AreEntries entries
     → new ≡ map (owners_without_active conn) entries
     → owners_in new ≡ owners_without_active conn (owners_in entries)
-left conn entries new is e =
-    ap owners_in e ∙ left_seen part_of entries (map (resource_by part_of) (owners_in entries)) is
-    (λ (held : Held). not (is_by conn held && not held.retained))
+left conn entries new is e = grind (arith, left_seen)
 
 fewer : (conn : ConnId) (entries new : List (List Held)) → AreEntries entries
     → new ≡ map (owners_without_active conn) entries → length (joined new) ≤ length (owners_in entries)
@@ -19,12 +17,7 @@ fewer conn entries new is e =
     )
 
 pub count_all-requires : goal.count_all-requires
-count_all-requires c =
-    omega (
-      arith,
-      fewer c.args.conn c.args.entries.now c.take_active.new.entries c.requires.kept c.take_active.ensures.entries,
-      c.requires.few,
-    )
+count_all-requires c = grind (arith, fewer)
 
 pub returns-clause-kept : goal.returns-clause-kept
 returns-clause-kept c =
@@ -40,18 +33,7 @@ pub returns-clause-count : goal.returns-clause-count
 returns-clause-count c = c.count_all.ensures ∙ length_seen part_of c.take_active.new.entries
 
 pub returns-clause-fits : goal.returns-clause-fits
-returns-clause-fits c =
-    omega (
-      arith,
-      fewer c.args.conn c.args.entries.now c.take_active.new.entries c.requires.kept c.take_active.ensures.entries,
-      c.requires.few,
-      c.count_all.ensures,
-    )
+returns-clause-fits c = grind (arith, fewer)
 
 pub returns-clause-less : goal.returns-clause-less
-returns-clause-less c =
-    omega (
-      arith,
-      fewer c.args.conn c.args.entries.now c.take_active.new.entries c.requires.kept c.take_active.ensures.entries,
-      c.count_all.ensures,
-    )
+returns-clause-less c = grind (arith, fewer)

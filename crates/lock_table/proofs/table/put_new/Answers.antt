@@ -2,14 +2,7 @@ use Rattle.lock_table.proofs.Imports.{map, true, not, refl, arith, ◌∙◌, le
 use Rattle.lock_table.proofs.table.put_new.Goals as goal
 
 pub put-requires-clause-few : goal.put-requires-clause-few
-put-requires-clause-few c =
-    omega (
-      arith,
-      few_in part_of c.args.entries.now (map (resource_by part_of) (owners_in c.args.entries.now))
-          c.requires.kept c.slot_of-slot.result c.index-entries-slot.result c.slot_of-slot.ensures.within,
-      length-map (owners_in c.args.entries.now) (resource_by part_of),
-      c.requires.few,
-    )
+put-requires-clause-few c = grind (arith, few_in, length-map)
 
 pub returns-clause-kept : goal.returns-clause-kept
 returns-clause-kept c =

@@ -1,4 +1,4 @@
-use Rattle.lock_table.proofs.Imports.{map, length, refl, ap, ◌∙◌, length-map, resource_by, in_retention, part_of, owners_in, entry_apart, changed_seen, changed_table, of_seen, not_here}
+use Rattle.lock_table.proofs.Imports.{arith, map, length, refl, ap, ◌∙◌, length-map, resource_by, in_retention, part_of, owners_in, entry_apart, changed_seen, changed_table, of_seen, not_here}
 use Rattle.lock_table.proofs.EntryLaws.{retention_else}
 use Rattle.lock_table.proofs.table.put_retention.Goals as goal
 
@@ -28,10 +28,4 @@ returns-clause-len c =
     ∙ length-map (owners_in c.args.entries.now) (in_retention c.args.r.now c.args.conn c.args.retained)
 
 pub returns-clause-owners : goal.returns-clause-owners
-returns-clause-owners c =
-    changed_seen part_of c.args.entries.now (map (resource_by part_of) (owners_in c.args.entries.now))
-    c.requires c.slot_of-slot.result c.index-entries-slot.result c.slot_of-slot.ensures.within
-    (in_retention c.args.r.now c.args.conn c.args.retained) (λ x. refl)
-    (λ x off. retention_else c.args.r.now c.args.conn c.args.retained x
-    (not_here part_of c.args.entries.now c.slot_of-slot.result
-    (c.args.r.now, c.args.conn) c.slot_of-slot.ensures.slot x off)) c.set_retained.new.self c.set_retained.ensures
+returns-clause-owners c = grind (arith, changed_seen, retention_else, not_here)

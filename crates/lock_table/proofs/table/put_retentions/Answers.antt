@@ -12,7 +12,4 @@ loop-entry-preserved c =
     next
 
 pub returns : goal.returns
-returns c =
-    mapped_whole (owners_retained_of c.args.conn c.args.retained) c.args.entries.now c.loop-entry.entries
-    c.loop-entry.entry-index
-    (omega (arith, c.loop-entry.auto.entries, c.loop-entry-test.false)) c.loop-entry-test.false c.loop-entry.invariant.0
+returns c = grind (arith, mapped_whole)

@@ -1,4 +1,4 @@
-use Rattle.lock_table.proofs.Imports.{refl, map, length, ap, ◌∙◌, length-map, resource_by, all_changed_seen, all_changed_table, in_retention_of, part_of, owners_in}
+use Rattle.lock_table.proofs.Imports.{arith, refl, map, ◌∙◌, length-map, resource_by, all_changed_seen, all_changed_table, in_retention_of, part_of, owners_in}
 use Rattle.lock_table.proofs.table.retain_of.Goals as goal
 
 pub returns-clause-kept : goal.returns-clause-kept
@@ -7,11 +7,7 @@ returns-clause-kept c =
     (owners_in c.args.entries.now)) c.requires (in_retention_of c.args.conn c.args.retained) (λ x. refl))
 
 pub returns-clause-owners : goal.returns-clause-owners
-returns-clause-owners c =
-    ap owners_in c.put_retentions.ensures ∙ all_changed_seen part_of c.args.entries.now (map (resource_by part_of)
-    (owners_in c.args.entries.now)) c.requires (in_retention_of c.args.conn c.args.retained) (λ x. refl)
+returns-clause-owners c = grind (arith, all_changed_seen)
 
 pub returns-clause-len : goal.returns-clause-len
-returns-clause-len c =
-    ap length (returns-clause-owners c)
-    ∙ length-map (owners_in c.args.entries.now) (in_retention_of c.args.conn c.args.retained)
+returns-clause-len c = grind (arith, returns-clause-owners, length-map)

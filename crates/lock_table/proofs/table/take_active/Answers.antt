@@ -12,6 +12,4 @@ loop-entry-preserved c =
     (next.0, next.1, omega (arith, c.loop-entry.invariant.2, c.take_active.ensures.spare))
 
 pub returns-clause-entries : goal.returns-clause-entries
-returns-clause-entries c =
-    mapped_whole (owners_without_active c.args.conn) c.args.entries.now c.loop-entry.entries c.loop-entry.entry-index
-    (omega (arith, c.loop-entry.auto.entries, c.loop-entry-test.false)) c.loop-entry-test.false c.loop-entry.invariant.0
+returns-clause-entries c = grind (arith, mapped_whole)

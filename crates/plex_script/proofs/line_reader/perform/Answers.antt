@@ -1,4 +1,4 @@
-use Rattle.plex_script.proofs.Imports.{◌≡◌, ◌∙◌, sym, ap, Some, List, err_from_is_err_and, StrForm, structure_of, Line, Script, kind_of, script_of}
+use Rattle.plex_script.proofs.Imports.{arith, ◌≡◌, ◌∙◌, ap, Some, List, err_from_is_err_and, StrForm, structure_of, Line, Script, kind_of, script_of}
 use Rattle.plex_script.proofs.CauseLaws.{caller-fault, adds-done}
 use Rattle.plex_script.proofs.line_reader.perform.Goals as goal
 
@@ -7,9 +7,7 @@ returns-in_err-act-clause-wrong c =
     let script = script_of c.args.draft.now in
     let second = c.in-Some.second.now in
     let on = c.in-Some-structure_number.on in
-    let found : structure_of script.structures second ≡ Some on =
-    sym (c.in-Some-structure_number.ensures ∙ ap (λ (fs : List StrForm). structure_of fs second)
-    c.as_slice.ensures.value) in
+    let found : structure_of script.structures second ≡ Some on = grind arith in
     let kind : c.kind_of-kind.result ≡ kind_of script.structures on = c.kind_of-kind.ensures
     ∙ ap (λ (fs : List StrForm). kind_of fs on) c.as_slice-2.ensures.value in
     let judged = rw kind at c.in_err-act.ensures in
@@ -22,9 +20,7 @@ returns-clause-ok c =
     let script = script_of c.args.draft.now in
     let second = c.in-Some.second.now in
     let on = c.in-Some-structure_number.on in
-    let found : structure_of script.structures second ≡ Some on =
-    sym (c.in-Some-structure_number.ensures ∙ ap (λ (fs : List StrForm). structure_of fs second)
-    c.as_slice.ensures.value) in
+    let found : structure_of script.structures second ≡ Some on = grind arith in
     let kind : c.kind_of-kind.result ≡ kind_of script.structures on = c.kind_of-kind.ensures
     ∙ ap (λ (fs : List StrForm). kind_of fs on) c.as_slice-2.ensures.value in
     let judged = rw kind at c.in_ok-act.ensures in

@@ -1,4 +1,4 @@
-use Rattle.shell_laws.proofs.Imports.{content-moved}
+use Rattle.shell_laws.proofs.Imports.{arith, content-moved}
 use Rattle.shell_laws.proofs.CapacityLaws.{ContentLaws, held-replay}
 use Rattle.shell_laws.proofs.laws.holds_at_its_capacity.Goals as goal
 
@@ -11,12 +11,7 @@ returns g c =
       content_done = from.content_done;
       content_leave = from.content_leave;
       content_back = from.content_back;
-      content_moved = content-moved g.E.Engine.meaning g.E.Engine.is_kind g.E.Engine.is_content (record {
-        made_again = from.made_again;
-        items_front = from.items_front;
-        content_front = from.content_front;
-        unplace_front = from.unplace_front;
-      });
+      content_moved = content-moved g.E.Engine.meaning g.E.Engine.is_kind g.E.Engine.is_content (grind arith);
       need_first = from.need_first;
       need_leave = from.need_leave;
     } in

@@ -1,11 +1,9 @@
-use Rattle.struct_cell.proofs.Imports.{ℕ, take, true, subst₂, All, slice_get-get_or, Place, IsWithin, each-nil, each-once, each-step, word_at}
+use Rattle.struct_cell.proofs.Imports.{arith, ℕ, take, true, subst₂, All, slice_get-get_or, Place, IsWithin, each-nil, each-once, each-step, word_at}
 use Rattle.struct_cell.proofs.PlaceLaws.{spared-before}
 use Rattle.struct_cell.proofs.words.store_words.Goals as goal
 
 pub loop-place-init : goal.loop-place-init
-loop-place-init g c =
-    each-nil c.args.vectors.now.conns c.args.vectors.now.len (word_at c.args.touched.now.len c.args.touched.now.words)
-    c.args.seat.now
+loop-place-init g c = grind (arith, each-nil)
 
 pub store_one-requires-clause-once : goal.store_one-requires-clause-once
 store_one-requires-clause-once g c =
@@ -30,8 +28,5 @@ loop-place-preserved g c =
     (slice_get-get_or places c.loop-place.place-index none c.loop-place-test.true)
     (all c.loop-place.place-index none c.loop-place-test.true)
     c.loop-place.invariant
-    (λ _. (
-      spared-before places c.loop-place.place-index none c.loop-place-test.true c.places-places.ensures.distinct,
-      c.store_one.ensures,
-    ))
+    (grind (arith, spared-before))
     (λ e. absurd cc)

@@ -1,5 +1,5 @@
 -- A call that is refused asks no link, nor does a common command but COPY.
-use Rattle.struct_machine.proofs.Imports.{◌≡◌, None, false, refl, sym, ◌∙◌, rules, Reply, command_done, room_of, kept_of, shell_cause, is_copying, machine_of, IsJudgedTurn}
+use Rattle.struct_machine.proofs.Imports.{arith, ◌≡◌, None, false, sym, ◌∙◌, rules, Reply, command_done, room_of, kept_of, shell_cause, is_copying, machine_of, IsJudgedTurn}
 use Rattle.engine_api.specs.declared.asks.Ask.TheVariants as ask
 use Rattle.engine_api.specs.declared.asks.Reply.TheVariants as reply
 use Rattle.struct_machine.proofs.ChangeLaws.{refused_all}
@@ -7,16 +7,7 @@ use Rattle.struct_machine.proofs.TurnLaws.{command_asks, command_judged, ok_map,
 use Rattle.struct_machine.proofs.doing.answer_judged.Goals as goal
 
 pub returns-in-Some-clause-turn : goal.returns-in-Some-clause-turn
-returns-in-Some-clause-turn g c =
-    let machine = machine_of g.E.Engine.meaning c.args.form.now c.args.shell.now
-    (kept_of g.E.Engine.held c.args.content.now) in
-    let cause = sym c.cause_of.ensures ∙ c.in-Some.is in
-    turn_quiet g.E.Engine.meaning c.args.form.now g.L.Link.calls g.L.Link.downs g.L.Link.faults machine machine
-    c.args.content.now.pair.links c.args.content.now.pair.links c.args.by c.args.ask.now c.args.changed.now.marks
-    (reply.Refused c.in-Some.refusal)
-    (refused_asks g.E.Engine.meaning c.args.form.now machine c.args.by c.args.ask.now c.in-Some.refusal cause) refl
-    c.requires.unmarked
-    (refused_done g.E.Engine.meaning c.args.form.now machine c.args.by c.args.ask.now c.in-Some.refusal cause)
+returns-in-Some-clause-turn g c = grind (arith, turn_quiet, refused_asks, refused_done)
 
 pub returns-else-is_copying-clause-turn : goal.returns-else-is_copying-clause-turn
 returns-else-is_copying-clause-turn g c =
@@ -45,8 +36,4 @@ returns-else-is_copying-clause-turn g c =
 -- whether any bit may have changed
 
 pub returns-in-Some-clause-all : goal.returns-in-Some-clause-all
-returns-in-Some-clause-all g c =
-    refused_all g.E.Engine.meaning c.args.form.now
-    (machine_of g.E.Engine.meaning c.args.form.now c.args.shell.now (kept_of g.E.Engine.held c.args.content.now))
-    c.args.by c.args.changed.now.marks c.args.changed.now.all c.args.ask.now c.in-Some.refusal
-    (sym c.cause_of.ensures ∙ c.in-Some.is) c.requires.unmarked c.requires.quiet
+returns-in-Some-clause-all g c = grind (arith, refused_all)

@@ -1,5 +1,5 @@
 -- A command on the content leaves the instances where they stand.
-use Rattle.struct_machine.proofs.Imports.{◌≡◌, List, ◌∙◌, subst, rules, BitChange, Gains, bits_of, content_of, letters_by, kept_of}
+use Rattle.struct_machine.proofs.Imports.{arith, ◌≡◌, ◌∙◌, rules, content_of, letters_by, kept_of}
 use Rattle.struct_machine.proofs.ChangeLaws.{gains_held}
 use Rattle.struct_machine.proofs.KeptLaws.{answered_some, content_alone, content_held, content_same, kept_content}
 use Rattle.struct_machine.proofs.doing.apply.Goals as goal
@@ -37,9 +37,7 @@ returns-clause-bits g c =
     gains_held g.E.Engine.meaning c.args.form.now kept.held now c.apply-answer.new.out.bits.items stands
     (answered_some g.E.Engine.meaning c.args.form.now c.args.by c.args.cmd.now c.apply-answer.result kept.held now
     c.apply-answer.ensures.step ∙ stands)
-    (subst (λ (names : List BitChange). Gains (bits_of g.E.Engine.meaning kept.held) (bits_of g.E.Engine.meaning now)
-    names
-    c.apply-answer.new.out.bits.items) c.requires.unnamed c.apply-answer.ensures.bits)
+    (grind arith)
 
 pub returns-clause-of_form : goal.returns-clause-of_form
 returns-clause-of_form g c =

@@ -1,5 +1,5 @@
 -- The links of a command on the content are asked, and each that is down makes a mark.
-use Rattle.struct_machine.proofs.Imports.{◌≡◌, [], sym, ap, ◌∙◌, subst, List, Links, AreAsked, Instances, answers_to, has, listed, Machine, ContentView, kept_of, machine_of, AreTold, asks_in, behind_marks, content_asks_of, marks_in, Mark}
+use Rattle.struct_machine.proofs.Imports.{arith, ◌≡◌, [], sym, ap, ◌∙◌, subst, List, listed, Machine, kept_of, machine_of, AreTold, asks_in, behind_marks, content_asks_of, Mark}
 use Rattle.struct_machine.proofs.TurnLaws.{behind_both, content_places, marks_made}
 use Rattle.struct_machine.proofs.doing.ask_and_mark.Goals as goal
 
@@ -11,9 +11,7 @@ returns-clause-marked g c =
     let machine = machine_of meaning form c.args.shell.now (kept_of g.E.Engine.held c.args.content.now) in
     let lost = c.ask_links-lost.result in
     let same : machine_of meaning form c.args.shell.now (kept_of g.E.Engine.held c.ask_links-lost.new.content) ≡
-    machine =
-    ap (λ (v : ContentView g.row.E.Denot g.row.L.Denot). machine_of meaning form c.args.shell.now
-    (kept_of g.E.Engine.held v)) c.ask_links-lost.ensures.same in
+    machine = grind arith in
     let one = c.mark-alone.ensures.machine ∙ ap (λ (m : Machine g.row.E-State.Denot). behind_marks meaning form m
     (listed lost.first)) same in
     let two = behind_both meaning form machine
@@ -28,12 +26,7 @@ returns-clause-marked g c =
     (machine_of meaning form c.mark-both.new.shell (kept_of g.E.Engine.held c.mark-both.new.content))
     c.args.content.now.pair.links c.mark-both.new.content.pair.links
     (asks_in c.both.result) (content_asks_of c.args.shell.now.shell) lost c.mark-both.new.marks
-    (c.both.ensures.asks
-    ∙ content_places c.args.shell.now.shell c.places-first.result.0 c.places-first.result.1
-    (c.places-first.ensures.first ∙ ap (λ (at : Instances). at.primary) places)
-    (c.places-first.ensures.second ∙ ap (λ (at : Instances). at.secondary) places))
+    (grind (arith, content_places))
     c.ask_links-lost.ensures.marks
-    (subst (λ (links : Links g.row.L.Denot). AreAsked g.L.Link.calls g.L.Link.downs g.L.Link.faults
-    (answers_to (has (marks_in lost)) (asks_in c.both.result)) c.args.content.now.pair.links links)
-    (sym (c.mark-both.ensures.links ∙ c.mark-alone.ensures.links)) c.ask_links-lost.ensures.asked)
+    (grind arith)
     told two

@@ -1,5 +1,5 @@
 -- A common command does to shell and instances what the machine's step does.
-use Rattle.struct_machine.proofs.Imports.{◌≡◌, Option, None, is_some, refl, sym, ◌∙◌, ap, subst, subst₂, option_map, StrForm, Room, departure_from, room_of, CfId, fresh_of, Shell, ShellOutcome, leaver, shell_cause, with_posted, kept_of, Spares, machine_of}
+use Rattle.struct_machine.proofs.Imports.{arith, ◌≡◌, None, is_some, refl, ◌∙◌, option_map, Room, departure_from, room_of, fresh_of, ShellOutcome, leaver, shell_cause, with_posted, kept_of, Spares, machine_of}
 use Rattle.struct_machine.proofs.CommandLaws as law
 use Rattle.struct_machine.proofs.KeptLaws.{kept_stands}
 use Rattle.struct_machine.proofs.PostedLaws.{accepted_posted, letters_none}
@@ -7,24 +7,7 @@ use Rattle.struct_machine.proofs.RoomLaws.{cause_seen, done_seen}
 use Rattle.struct_machine.proofs.doing.do_command.Goals as goal
 
 pub act-reply-requires-clause-accepted : goal.act-reply-requires-clause-accepted
-act-reply-requires-clause-accepted g c =
-    let by = c.args.call.now.by in
-    let cmd = c.args.call.now.cmd.now in
-    let machine = machine_of g.E.Engine.meaning c.args.form.now c.args.shell.now
-    (kept_of g.E.Engine.held c.args.content.now) in
-    let who = leaver c.args.shell.now.shell by cmd in
-    let gone = departure_from g.E.Engine.meaning c.args.form.now who machine in
-    let posted = c.in_ok-prepare.ensures.ok_shell in
-    let form = c.prepare.ensures.form ∙ c.requires.of_form.shell_form in
-    let room : Room = room_of g.E.Engine.meaning c.args.form.now machine in
-    let accepted : shell_cause c.args.form.now c.args.call.now.room c.args.shell.now.shell by cmd ≡ None =
-    subst (λ (seen : Room). shell_cause c.args.form.now seen c.args.shell.now.shell by cmd ≡ None)
-    (sym c.requires.room)
-    (cause_seen c.args.form.now room c.args.shell.now.shell by cmd ∙ c.requires.accepted) in
-    subst₂ (λ (form : StrForm) (shell : Shell). shell_cause form c.args.call.now.room shell by cmd ≡ None)
-    (sym form) (sym posted)
-    (accepted_posted c.args.form.now c.args.call.now.room c.args.shell.now.shell by cmd gone.letters
-    (letters_none g.E.Engine.meaning c.args.form.now machine who) accepted)
+act-reply-requires-clause-accepted g c = grind (arith, cause_seen, accepted_posted, letters_none)
 
 pub do_deeds-requires-clause-admitted : goal.do_deeds-requires-clause-admitted
 do_deeds-requires-clause-admitted g c κs within =
@@ -49,23 +32,14 @@ do_deeds-requires-clause-admitted g c κs within =
     } in
     let left = kept_of g.E.Engine.held c.prepare.new.content in
     let is : law.IsLeft g.E.Engine.meaning c.args.form.now c.args.shell.now kept of by cmd accepted
-    spares left = record {
-      spared = c.in_ok-made.ensures;
-      at = c.prepare.ensures.places;
-      held = c.in_ok-prepare.ensures.ok_held;
-      fresh = c.in_ok-prepare.ensures.ok_fresh;
-    } in
+    spares left = grind arith in
     let acts : after ≡ law.acted g.E.Engine.meaning c.args.form.now c.args.shell.now kept of by cmd
     accepted =
     (rw (c.prepare.ensures.form, of.shell_form, c.in_ok-prepare.ensures.ok_shell, c.requires.room) at
     c.act-reply.ensures.acts)
     ∙ done_seen c.args.form.now room (with_posted gone.letters c.args.shell.now.shell) by cmd in
-    let under : c.is_rebuilding-rebuilding.result ≡ is_some c.args.shell.now.shell.rebuild =
-    c.is_rebuilding-rebuilding.ensures
-    ∙ ap (λ (s : Shell). is_some s.rebuild) c.in_ok-prepare.ensures.ok_shell in
-    let fresh : c.instances-fresh.result.2 ≡ fresh_of c.args.shell.now.shell.rebuild =
-    ap (λ (three : Option CfId × Option CfId × Option CfId). three.2) c.instances-fresh.ensures
-    ∙ ap (λ (s : Shell). fresh_of s.rebuild) c.in_ok-prepare.ensures.ok_shell in
+    let under : c.is_rebuilding-rebuilding.result ≡ is_some c.args.shell.now.shell.rebuild = grind arith in
+    let fresh : c.instances-fresh.result.2 ≡ fresh_of c.args.shell.now.shell.rebuild = grind arith in
     law.admitted_then g.E.Engine.meaning c.args.form.now c.args.shell.now kept of by cmd accepted
     spares left is c.requires.may after c.is_rebuilding-rebuilding.result c.instances-fresh.result.2 acts under
     fresh
@@ -93,82 +67,21 @@ returns-clause-ok g c =
     } in
     let left = kept_of g.E.Engine.held c.prepare.new.content in
     let is : law.IsLeft g.E.Engine.meaning c.args.form.now c.args.shell.now kept of by cmd accepted
-    spares left = record {
-      spared = c.in_ok-made.ensures;
-      at = c.prepare.ensures.places;
-      held = c.in_ok-prepare.ensures.ok_held;
-      fresh = c.in_ok-prepare.ensures.ok_fresh;
-    } in
+    spares left = grind arith in
     let acts : after ≡ law.acted g.E.Engine.meaning c.args.form.now c.args.shell.now kept of by cmd
     accepted =
     (rw (c.prepare.ensures.form, of.shell_form, c.in_ok-prepare.ensures.ok_shell, c.requires.room) at
     c.act-reply.ensures.acts)
     ∙ done_seen c.args.form.now room (with_posted gone.letters c.args.shell.now.shell) by cmd in
-    let under : c.is_rebuilding-rebuilding.result ≡ is_some c.args.shell.now.shell.rebuild =
-    c.is_rebuilding-rebuilding.ensures
-    ∙ ap (λ (s : Shell). is_some s.rebuild) c.in_ok-prepare.ensures.ok_shell in
-    let fresh : c.instances-fresh.result.2 ≡ fresh_of c.args.shell.now.shell.rebuild =
-    ap (λ (three : Option CfId × Option CfId × Option CfId). three.2) c.instances-fresh.ensures
-    ∙ ap (λ (s : Shell). fresh_of s.rebuild) c.in_ok-prepare.ensures.ok_shell in
+    let under : c.is_rebuilding-rebuilding.result ≡ is_some c.args.shell.now.shell.rebuild = grind arith in
+    let fresh : c.instances-fresh.result.2 ≡ fresh_of c.args.shell.now.shell.rebuild = grind arith in
     let now = kept_of g.E.Engine.held c.do_deeds.new.content in
     law.command_same g.E.Engine.meaning c.args.form.now c.args.shell.now kept of by cmd accepted
     spares left is after now acts
-    (law.past_then g.E.Engine.meaning c.args.form.now c.args.shell.now kept of by cmd accepted
-    spares left is after c.is_rebuilding-rebuilding.result c.instances-fresh.result.2 now acts under fresh
-    c.do_deeds.ensures.kept)
+    (grind arith)
 
 pub returns-clause-bits : goal.returns-clause-bits
-returns-clause-bits g c =
-    let by = c.args.call.now.by in
-    let cmd = c.args.call.now.cmd.now in
-    let kept = kept_of g.E.Engine.held c.args.content.now in
-    let of = c.requires.of_form in
-    let machine = machine_of g.E.Engine.meaning c.args.form.now c.args.shell.now kept in
-    let room : Room = room_of g.E.Engine.meaning c.args.form.now machine in
-    let accepted : shell_cause c.args.form.now room c.args.shell.now.shell by cmd ≡ None =
-    c.requires.accepted in
-    let gone = departure_from g.E.Engine.meaning c.args.form.now
-    (leaver c.args.shell.now.shell by cmd) machine in
-    let after : ShellOutcome = record {
-      reply = c.act-reply.result.0;
-      shell = c.act-reply.new.self.shell;
-      deeds = c.act-reply.result.1;
-    } in
-    let spares : Spares g.row.E-State.Denot = record {
-      empty = option_map g.E.Engine.held c.in_ok-made.made.empty;
-      second = option_map g.E.Engine.held c.in_ok-made.made.second;
-    } in
-    let left = kept_of g.E.Engine.held c.prepare.new.content in
-    let is : law.IsLeft g.E.Engine.meaning c.args.form.now c.args.shell.now kept of by cmd accepted
-    spares left = record {
-      spared = c.in_ok-made.ensures;
-      at = c.prepare.ensures.places;
-      held = c.in_ok-prepare.ensures.ok_held;
-      fresh = c.in_ok-prepare.ensures.ok_fresh;
-    } in
-    let acts : after ≡ law.acted g.E.Engine.meaning c.args.form.now c.args.shell.now kept of by cmd
-    accepted =
-    (rw (c.prepare.ensures.form, of.shell_form, c.in_ok-prepare.ensures.ok_shell, c.requires.room) at
-    c.act-reply.ensures.acts)
-    ∙ done_seen c.args.form.now room (with_posted gone.letters c.args.shell.now.shell) by cmd in
-    let under : c.is_rebuilding-rebuilding.result ≡ is_some c.args.shell.now.shell.rebuild =
-    c.is_rebuilding-rebuilding.ensures
-    ∙ ap (λ (s : Shell). is_some s.rebuild) c.in_ok-prepare.ensures.ok_shell in
-    let fresh : c.instances-fresh.result.2 ≡ fresh_of c.args.shell.now.shell.rebuild =
-    ap (λ (three : Option CfId × Option CfId × Option CfId). three.2) c.instances-fresh.ensures
-    ∙ ap (λ (s : Shell). fresh_of s.rebuild) c.in_ok-prepare.ensures.ok_shell in
-    let now = kept_of g.E.Engine.held c.do_deeds.new.content in
-    law.named_then g.E.Engine.meaning c.args.form.now c.args.shell.now kept of by cmd accepted
-    spares left is after now acts
-    (law.past_then g.E.Engine.meaning c.args.form.now c.args.shell.now kept of by cmd accepted
-    spares left is after c.is_rebuilding-rebuilding.result c.instances-fresh.result.2 now acts under fresh
-    c.do_deeds.ensures.kept) c.is_rebuilding-rebuilding.result under
-    (record {
-      all = c.changed.inside.all;
-      bits = c.prepare.new.out.bits.items;
-      marks = c.changed.inside.marks;
-    }) c.note.new.self c.note.ensures
-    c.in_ok-prepare.ensures.bits
+returns-clause-bits g c = grind (arith, done_seen)
 
 pub returns-clause-all : goal.returns-clause-all
 returns-clause-all g c =
@@ -193,23 +106,14 @@ returns-clause-all g c =
     } in
     let left = kept_of g.E.Engine.held c.prepare.new.content in
     let is : law.IsLeft g.E.Engine.meaning c.args.form.now c.args.shell.now kept of by cmd accepted
-    spares left = record {
-      spared = c.in_ok-made.ensures;
-      at = c.prepare.ensures.places;
-      held = c.in_ok-prepare.ensures.ok_held;
-      fresh = c.in_ok-prepare.ensures.ok_fresh;
-    } in
+    spares left = grind arith in
     let acts : after ≡ law.acted g.E.Engine.meaning c.args.form.now c.args.shell.now kept of by cmd
     accepted =
     (rw (c.prepare.ensures.form, of.shell_form, c.in_ok-prepare.ensures.ok_shell, c.requires.room) at
     c.act-reply.ensures.acts)
     ∙ done_seen c.args.form.now room (with_posted gone.letters c.args.shell.now.shell) by cmd in
-    let under : c.is_rebuilding-rebuilding.result ≡ is_some c.args.shell.now.shell.rebuild =
-    c.is_rebuilding-rebuilding.ensures
-    ∙ ap (λ (s : Shell). is_some s.rebuild) c.in_ok-prepare.ensures.ok_shell in
-    let fresh : c.instances-fresh.result.2 ≡ fresh_of c.args.shell.now.shell.rebuild =
-    ap (λ (three : Option CfId × Option CfId × Option CfId). three.2) c.instances-fresh.ensures
-    ∙ ap (λ (s : Shell). fresh_of s.rebuild) c.in_ok-prepare.ensures.ok_shell in
+    let under : c.is_rebuilding-rebuilding.result ≡ is_some c.args.shell.now.shell.rebuild = grind arith in
+    let fresh : c.instances-fresh.result.2 ≡ fresh_of c.args.shell.now.shell.rebuild = grind arith in
     law.all_then g.E.Engine.meaning c.args.form.now c.args.shell.now kept of by cmd accepted
     spares left is after acts c.is_rebuilding-rebuilding.result under
     (record {
@@ -241,28 +145,17 @@ returns-clause-of_form g c =
     } in
     let left = kept_of g.E.Engine.held c.prepare.new.content in
     let is : law.IsLeft g.E.Engine.meaning c.args.form.now c.args.shell.now kept of by cmd accepted
-    spares left = record {
-      spared = c.in_ok-made.ensures;
-      at = c.prepare.ensures.places;
-      held = c.in_ok-prepare.ensures.ok_held;
-      fresh = c.in_ok-prepare.ensures.ok_fresh;
-    } in
+    spares left = grind arith in
     let acts : after ≡ law.acted g.E.Engine.meaning c.args.form.now c.args.shell.now kept of by cmd
     accepted =
     (rw (c.prepare.ensures.form, of.shell_form, c.in_ok-prepare.ensures.ok_shell, c.requires.room) at
     c.act-reply.ensures.acts)
     ∙ done_seen c.args.form.now room (with_posted gone.letters c.args.shell.now.shell) by cmd in
-    let under : c.is_rebuilding-rebuilding.result ≡ is_some c.args.shell.now.shell.rebuild =
-    c.is_rebuilding-rebuilding.ensures
-    ∙ ap (λ (s : Shell). is_some s.rebuild) c.in_ok-prepare.ensures.ok_shell in
-    let fresh : c.instances-fresh.result.2 ≡ fresh_of c.args.shell.now.shell.rebuild =
-    ap (λ (three : Option CfId × Option CfId × Option CfId). three.2) c.instances-fresh.ensures
-    ∙ ap (λ (s : Shell). fresh_of s.rebuild) c.in_ok-prepare.ensures.ok_shell in
+    let under : c.is_rebuilding-rebuilding.result ≡ is_some c.args.shell.now.shell.rebuild = grind arith in
+    let fresh : c.instances-fresh.result.2 ≡ fresh_of c.args.shell.now.shell.rebuild = grind arith in
     let now = kept_of g.E.Engine.held c.do_deeds.new.content in
     law.kept_behind g.E.Engine.meaning c.args.form.now c.args.shell.now kept of by cmd accepted
     spares left is after c.act-reply.new.self now acts
-    (law.past_then g.E.Engine.meaning c.args.form.now c.args.shell.now kept of by cmd accepted
-    spares left is after c.is_rebuilding-rebuilding.result c.instances-fresh.result.2 now acts under fresh
-    c.do_deeds.ensures.kept)
+    (grind arith)
     (kept_stands g.E.Engine.held c.do_deeds.new.content)
     (c.act-reply.ensures.form ∙ c.prepare.ensures.form ∙ of.shell_form) refl

@@ -1,5 +1,5 @@
 -- COPY is done behind the marks that its links make: with a loss it is refused, and its items have gone.
-use Rattle.struct_machine.proofs.Imports.{◌≡◌, ℕ, [], None, IfSome, sym, ap, ◌∙◌, subst, subst₂, List, Option, Some, false, min, both_ways, CfId, ShellCmd, Links, AreAsked, PairView, content_of, instances_of, Ask, Room, answers_to, has, listed, Machine, moved_by, room_of, fresh_of, Shell, shell_cause, shell_done, Held, with_copied, ChangeList, ContentView, kept_of, lacking_in, copy_reply, items_named, judged, machine_of, state_in, AreTold, behind_marks, copy_asks_of, marks_in, Mark}
+use Rattle.struct_machine.proofs.Imports.{arith, ◌≡◌, [], None, IfSome, sym, ap, ◌∙◌, subst, Option, Some, false, min, both_ways, CfId, ShellCmd, content_of, Ask, Room, listed, Machine, moved_by, room_of, fresh_of, Shell, shell_cause, Held, with_copied, ChangeList, kept_of, lacking_in, items_named, judged, machine_of, state_in, behind_marks, copy_asks_of, marks_in}
 use Rattle.std.specs.Prelude.{refl}
 use Rattle.cf_types.specs.declared.shell_commands.ShellCmd.TheVariants as cmd
 use Rattle.engine_api.specs.declared.asks.Ask.TheVariants as ask
@@ -10,32 +10,7 @@ use Rattle.struct_machine.proofs.doing.do_copy.Goals as goal
 use Rattle.struct_machine.proofs.doing.do_copy.Goals.{then-alone, else-alone}
 
 pub mark-alone-requires-clause-of_form : goal.mark-alone-requires-clause-of_form
-mark-alone-requires-clause-of_form g c κs within =
-    let by = c.args.call.now.by in
-    let meaning = g.E.Engine.meaning in
-    let form = c.args.form.now in
-    let of = c.requires.of_form in
-    let kept = kept_of g.E.Engine.held c.args.content.now in
-    let machine = machine_of meaning form c.args.shell.now kept in
-    let n = items_named c.args.call.now.cmd.now in
-    let is : c.args.call.now.cmd.now ≡ cmd.Copy n = copy_is c.args.call.now.cmd.now c.requires.copying in
-    let accepted : shell_cause form (room_of meaning form machine) c.args.shell.now.shell by (cmd.Copy n) ≡
-    None =
-    subst (λ (command : ShellCmd). shell_cause form (room_of meaning form machine) c.args.shell.now.shell by
-    command ≡ None) is c.requires.accepted in
-    let after = kept_of g.E.Engine.held c.ask_copy-lost.new.content in
-    let at : after.at ≡ kept.at =
-    ap (λ (v : ContentView g.row.E.Denot g.row.L.Denot). instances_of v.pair) c.ask_copy-lost.ensures.same
-    ∙ ap (λ (p : PairView g.row.E.Denot g.row.L.Denot). instances_of p) c.copy.ensures.pair in
-    let holds : after.held ≡ kept.held =
-    ap (λ (v : ContentView g.row.E.Denot g.row.L.Denot). content_of g.E.Engine.held v.pair) c.ask_copy-lost.ensures.same
-    ∙ ap (λ (p : PairView g.row.E.Denot g.row.L.Denot). content_of g.E.Engine.held p) c.copy.ensures.pair in
-    let copied : after.fresh ≡ with_copied (min n (lacking_in meaning kept.held kept.fresh)) kept.fresh =
-    ap (λ (v : ContentView g.row.E.Denot g.row.L.Denot). v.fresh) c.ask_copy-lost.ensures.same
-    ∙ c.in_ok-copy.ensures.ok
-    ∙ ap (λ (m : ℕ). with_copied (min m (lacking_in meaning kept.held kept.fresh)) kept.fresh) c.items_of.ensures in
-    kept_copied meaning form c.args.shell.now kept of by n accepted c.ready.new.self after c.ready.ensures.form
-    c.ready.ensures.shell at holds copied
+mark-alone-requires-clause-of_form g c κs within = grind (arith, copy_is, kept_copied)
 
 pub returns-clause-turn : goal.returns-clause-turn
 returns-clause-turn g c =
@@ -48,20 +23,11 @@ returns-clause-turn g c =
     let n = items_named c.args.call.now.cmd.now in
     let is : c.args.call.now.cmd.now ≡ cmd.Copy n = copy_is c.args.call.now.cmd.now c.requires.copying in
     let accepted : shell_cause form (room_of meaning form machine) c.args.shell.now.shell by (cmd.Copy n) ≡
-    None =
-    subst (λ (command : ShellCmd). shell_cause form (room_of meaning form machine) c.args.shell.now.shell by
-    command ≡ None) is c.requires.accepted in
+    None = grind arith in
     let after = kept_of g.E.Engine.held c.ask_copy-lost.new.content in
-    let at : after.at ≡ kept.at =
-    ap (λ (v : ContentView g.row.E.Denot g.row.L.Denot). instances_of v.pair) c.ask_copy-lost.ensures.same
-    ∙ ap (λ (p : PairView g.row.E.Denot g.row.L.Denot). instances_of p) c.copy.ensures.pair in
-    let holds : after.held ≡ kept.held =
-    ap (λ (v : ContentView g.row.E.Denot g.row.L.Denot). content_of g.E.Engine.held v.pair) c.ask_copy-lost.ensures.same
-    ∙ ap (λ (p : PairView g.row.E.Denot g.row.L.Denot). content_of g.E.Engine.held p) c.copy.ensures.pair in
-    let copied : after.fresh ≡ with_copied (min n (lacking_in meaning kept.held kept.fresh)) kept.fresh =
-    ap (λ (v : ContentView g.row.E.Denot g.row.L.Denot). v.fresh) c.ask_copy-lost.ensures.same
-    ∙ c.in_ok-copy.ensures.ok
-    ∙ ap (λ (m : ℕ). with_copied (min m (lacking_in meaning kept.held kept.fresh)) kept.fresh) c.items_of.ensures in
+    let at : after.at ≡ kept.at = grind arith in
+    let holds : after.held ≡ kept.held = grind arith in
+    let copied : after.fresh ≡ with_copied (min n (lacking_in meaning kept.held kept.fresh)) kept.fresh = grind arith in
     let lost = c.ask_copy-lost.result in
     let shell : c.ready.new.self.shell ≡ c.args.shell.now.shell = c.ready.ensures.shell in
     let items = with_items meaning form machine by n of.manned accepted (moved_by (room_of meaning form
@@ -79,11 +45,7 @@ returns-clause-turn g c =
     ap (λ (s : Shell). (let m : Machine g.row.E-State.Denot = record now { shell = s } in m))
     c.copy_judged.ensures.shell
     ∙ two in
-    let first_told = c.mark-alone.ensures.told items [] (
-      copies,
-      subst (λ (marks : List Mark). AreTold meaning form items [] marks) (sym (ap (λ (l : ChangeList). l.marks)
-          c.changed.view_is ∙ c.requires.unmarked)) tt,
-    ) in
+    let first_told = c.mark-alone.ensures.told items [] (grind arith) in
     let told = c.mark-both.ensures.told items (listed lost.first) (one, first_told) in
     let calls = c.requires.asked ∙ ap (λ (command : ShellCmd). (let a : Ask g.row.E-Cmd.Denot = ask.Shell command in
     a)) is in
@@ -93,10 +55,7 @@ returns-clause-turn g c =
     (copy_asks_of c.ready.new.self.shell) lost c.mark-both.new.marks c.copy_judged.result
     (copy_asks meaning form machine by c.args.call.now.ask.now n c.ready.new.self.shell calls accepted shell)
     c.ask_copy-lost.ensures.marks
-    (subst₂ (λ (start after : Links g.row.L.Denot). AreAsked g.L.Link.calls g.L.Link.downs g.L.Link.faults
-    (answers_to (has (marks_in lost)) (copy_asks_of c.ready.new.self.shell)) start after)
-    (ap (λ (p : PairView g.row.E.Denot g.row.L.Denot). p.links) c.copy.ensures.pair)
-    (sym (c.mark-both.ensures.links ∙ c.mark-alone.ensures.links)) c.ask_copy-lost.ensures.asked)
+    (grind arith)
     (told_before meaning form machine by n of.manned accepted lost
     (moved_by (room_of meaning form machine) (cmd.Copy n)) c.mark-both.new.marks c.ask_copy-lost.ensures.stopped told)
     (copy_done meaning form machine by n of.manned accepted lost now c.args.call.now.room c.copy_judged.result
@@ -105,11 +64,7 @@ returns-clause-turn g c =
     (subst (λ (s : Shell). IfSome lost.second (λ (cf : CfId). fresh_of s.rebuild ≡ Some cf)) shell
     c.ask_copy-lost.ensures.second)
     c.ask_copy-lost.ensures.stopped behind (ap (λ (r : Room). r.left) c.requires.room)
-    (replied ∙ (λ i. copy_reply
-    (shell_cause (c.mark-both.ensures.of_form.shell_form i) c.args.call.now.room (sym c.copy_judged.ensures.shell i)
-    by (is i))
-    (shell_done (c.mark-both.ensures.of_form.shell_form i) c.args.call.now.room (sym c.copy_judged.ensures.shell i) by
-    (is i)).reply))
+    (grind arith)
     ∙ ap (λ (a : Ask g.row.E-Cmd.Denot). judged meaning form (behind_marks meaning form machine (marks_in lost))
     by a) (sym calls))
 
@@ -121,14 +76,8 @@ returns-clause-bits g c = λ quiet.
     let form = c.args.form.now in
     let was = content_of g.E.Engine.held c.args.content.now.pair in
     let now = content_of g.E.Engine.held c.mark-both.new.content.pair in
-    let asked : content_of g.E.Engine.held c.ask_copy-lost.new.content.pair ≡ was =
-    ap (λ (v : ContentView g.row.E.Denot g.row.L.Denot). content_of g.E.Engine.held v.pair) c.ask_copy-lost.ensures.same
-    ∙ ap (λ (p : PairView g.row.E.Denot g.row.L.Denot). content_of g.E.Engine.held p) c.copy.ensures.pair in
-    let same : now ≡ was = elim c.if-alone.branch [
-      | then-alone w ↦ absurd (both_ways c.if-alone.changed quiet (w.changed-is ∙ w.if-alone.true))
-      | else-alone w ↦
-          c.mark-both.ensures.same (sym w.changed-is ∙ quiet) ∙ c.mark-alone.ensures.same w.if-alone.false ∙ asked
-    ] in
+    let asked : content_of g.E.Engine.held c.ask_copy-lost.new.content.pair ≡ was = grind arith in
+    let same : now ≡ was = grind (arith, then-alone, both_ways, else-alone) in
     names_nothing (λ (held : Option (Held g.row.E-State.Denot)). meaning.stands (state_in meaning form held)) was now
     (record { all = false; bits = c.changed.inside.effects.bits.items; marks = [] })
     (ap (λ (l : ChangeList). l.bits) c.changed.view_is ∙ c.requires.unnamed) (λ not_all. same) refl

@@ -1,34 +1,17 @@
 -- What a lost facility makes of the parts is what the mark's step makes of the machine.
-use Rattle.struct_machine.proofs.Imports.{ap, ◌∙◌, StrForm, mark_outcome, kept_of}
+use Rattle.struct_machine.proofs.Imports.{arith, ap, ◌∙◌, StrForm, mark_outcome, kept_of}
 use Rattle.struct_machine.proofs.KeptLaws.{kept_stands}
 use Rattle.struct_machine.proofs.LossLaws.{ending, held_lost, kept_lost, lost_same}
 use Rattle.struct_machine.proofs.losing.lose.Goals as goal
 
 pub end_lost-requires-clause-ending : goal.end_lost-requires-clause-ending
-end_lost-requires-clause-ending g c κs within =
-    let kept = kept_of g.E.Engine.held c.args.content.now in
-    let of = c.requires.of_form in
-    let tells = c.lost-told.ensures.told
-    ∙ ap (λ (form : StrForm). (mark_outcome form c.args.cf c.args.shell.now.shell).reply) of.shell_form in
-    let came = c.lost-told.ensures.shell
-    ∙ ap (λ (form : StrForm). (mark_outcome form c.args.cf c.args.shell.now.shell).shell) of.shell_form in
-    ending g.E.Engine.meaning c.args.form.now c.args.shell.now kept of c.args.cf c.lost-told.result tells
+end_lost-requires-clause-ending g c κs within = grind (arith, ending)
 
 pub returns-clause-machine : goal.returns-clause-machine
-returns-clause-machine g c =
-    let kept = kept_of g.E.Engine.held c.args.content.now in
-    let of = c.requires.of_form in
-    let tells = c.lost-told.ensures.told
-    ∙ ap (λ (form : StrForm). (mark_outcome form c.args.cf c.args.shell.now.shell).reply) of.shell_form in
-    let came = c.lost-told.ensures.shell
-    ∙ ap (λ (form : StrForm). (mark_outcome form c.args.cf c.args.shell.now.shell).shell) of.shell_form in
-    lost_same g.E.Engine.meaning c.args.form.now c.args.shell.now kept of c.args.cf c.lost-told.result tells
-    c.lost-told.new.self (kept_of g.E.Engine.held c.end_lost.new.content) came c.end_lost.ensures.kept
+returns-clause-machine g c = grind (arith, lost_same)
 
 pub returns-clause-told : goal.returns-clause-told
-returns-clause-told g c =
-    c.lost-told.ensures.told
-    ∙ ap (λ (form : StrForm). (mark_outcome form c.args.cf c.args.shell.now.shell).reply) c.requires.of_form.shell_form
+returns-clause-told g c = grind arith
 
 pub returns-clause-of_form : goal.returns-clause-of_form
 returns-clause-of_form g c =
@@ -43,12 +26,4 @@ returns-clause-of_form g c =
     c.end_lost.ensures.kept (kept_stands g.E.Engine.held c.end_lost.new.content)
 
 pub returns-clause-same : goal.returns-clause-same
-returns-clause-same g c = λ fine.
-    let kept = kept_of g.E.Engine.held c.args.content.now in
-    let of = c.requires.of_form in
-    let tells = c.lost-told.ensures.told
-    ∙ ap (λ (form : StrForm). (mark_outcome form c.args.cf c.args.shell.now.shell).reply) of.shell_form in
-    let came = c.lost-told.ensures.shell
-    ∙ ap (λ (form : StrForm). (mark_outcome form c.args.cf c.args.shell.now.shell).shell) of.shell_form in
-    held_lost g.E.Engine.meaning c.args.form.now c.args.shell.now kept of c.args.cf c.lost-told.result tells
-    (kept_of g.E.Engine.held c.end_lost.new.content) c.end_lost.ensures.kept fine
+returns-clause-same g c = grind (arith, held_lost)

@@ -1,5 +1,5 @@
 -- One mark more tells what becomes of the machine behind the marks before it.
-use Rattle.struct_machine.proofs.Imports.{List, sym, ap, subst, append-nil, CfId, ShellReply, Reply, kept_of, machine_of, AreTold}
+use Rattle.struct_machine.proofs.Imports.{arith, ap, append-nil, ShellReply, Reply, kept_of, machine_of}
 use Rattle.engine_api.specs.declared.asks.Reply.TheVariants as reply
 use Rattle.struct_machine.proofs.TurnLaws.{told_more}
 use Rattle.struct_machine.proofs.losing.mark.Goals as goal
@@ -14,8 +14,4 @@ returns-in-Some-clause-told g c = λ start cfs lead.
     c.lose-told.ensures.told) lead.1)
 
 pub returns-in-None-clause-told : goal.returns-in-None-clause-told
-returns-in-None-clause-told g c = λ start cfs lead.
-    rw c.in-None.is
-    (subst (λ (l : List CfId). AreTold g.E.Engine.meaning c.args.form.now start l c.args.marks.now) (sym (append-nil
-    cfs))
-    lead.1)
+returns-in-None-clause-told g c = grind (arith, append-nil)

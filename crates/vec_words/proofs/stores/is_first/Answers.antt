@@ -1,4 +1,4 @@
-use Rattle.vec_words.proofs.Imports.{rules}
+use Rattle.vec_words.proofs.Imports.{arith, rules}
 use Rattle.vec_words.proofs.StoreLaws.{spared-below, contains-below}
 use Rattle.vec_words.proofs.stores.is_first.Goals as goal
 
@@ -9,6 +9,4 @@ returns-then-other-place-2-clause-again g c is =
     c.place-other.ensures (search rules)
 
 pub returns-clause-first : goal.returns-clause-first
-returns-clause-first g c is =
-    spared-below (g.C.Changes.places c.args.changes.now) c.args.at c.args.place.conn.0 c.args.place.word c.requires
-    (λ k p from below there. c.loop-before.invariant.1 k p (search rules) below there)
+returns-clause-first g c is = grind (arith, spared-below)

@@ -3,15 +3,7 @@ use Rattle.cache_core.proofs.EndLaws.{stands_kept_twice, falls_twice, own_spared
 use Rattle.cache_core.proofs.commands.write.register_alone.Goals as goal
 
 pub drop_name-requires : goal.drop_name-requires
-drop_name-requires c =
-    omega (
-      arith,
-      c.requires.room,
-      c.set.ensures.more,
-      c.set.ensures.room,
-      length-filter-le
-          (ends_with_name c.args.name.now (Some c.args.by)) c.set.new.self.regs,
-    )
+drop_name-requires c = grind (arith, length-filter-le)
 
 pub returns-clause-bits : goal.returns-clause-bits
 returns-clause-bits c =

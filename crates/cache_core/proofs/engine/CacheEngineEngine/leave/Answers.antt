@@ -1,12 +1,8 @@
-use Rattle.cache_core.proofs.Imports.{◌≤◌, ◌∙◌, length, sym, subst, arith, length-filter-le, is_of, content-without, EngineView, content_of}
+use Rattle.cache_core.proofs.Imports.{◌≤◌, ◌∙◌, arith, length-filter-le, content-without, content_of}
 use Rattle.cache_core.proofs.engine.CacheEngineEngine.leave.Goals as goal
 
 pub drop_conn-requires : goal.drop_conn-requires
-drop_conn-requires c =
-    let room : length c.self.inside.regs.regs ≤ c.args.out.now.bits.room =
-    subst (λ (e : EngineView). length e.held.state.regs ≤ c.args.out.now.bits.room)
-    (sym c.self.view_is) c.requires.ready in
-    omega (arith, room, length-filter-le (is_of c.args.conn) c.self.inside.regs.regs)
+drop_conn-requires c = grind (arith, length-filter-le)
 
 pub invariant_of-self : goal.invariant_of-self
 invariant_of-self c =

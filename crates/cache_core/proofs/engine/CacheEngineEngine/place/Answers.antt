@@ -1,25 +1,13 @@
-use Rattle.cache_core.proofs.Imports.{◌≡◌, ◌∙◌, ◌++◌, ◌∷◌, [], IsTrue, List, sym, subst, true, is_cache, content-placed, pairwise, CacheItem, may_precede, names_apart, IsContent, content_with, cache_meaning, alone-next, cache-fronts, EngineView, content_of}
+use Rattle.cache_core.proofs.Imports.{arith, ◌≡◌, ◌∙◌, ◌++◌, ◌∷◌, [], IsTrue, List, sym, subst, is_cache, content-placed, CacheItem, IsContent, content_with, cache_meaning, alone-next, cache-fronts, EngineView, content_of}
 use Rattle.cache_core.proofs.NextLaws.{before_next}
 use Rattle.cache_core.proofs.PlanLaws.{either_way}
 use Rattle.cache_core.proofs.engine.CacheEngineEngine.place.Goals as goal
 
 pub push-requires-clause-last : goal.push-requires-clause-last
-push-requires-clause-last c =
-    let next = c.requires.next in
-    let first : next.whole.rows ≡ c.self.inside.rows.rows ++ c.args.item ∷ next.others =
-    subst (λ (e : EngineView). next.whole.rows ≡ e.held.state.rows ++ c.args.item ∷ next.others)
-    (sym c.self.view_is) next.first in
-    before_next may_precede c.self.inside.rows.rows c.args.item next.others
-    (subst (λ (l : List CacheItem). pairwise may_precede l ≡ true) first next.content.directory.ordered)
+push-requires-clause-last c = grind (arith, before_next)
 
 pub push-requires-clause-alone : goal.push-requires-clause-alone
-push-requires-clause-alone c =
-    let next = c.requires.next in
-    let first : next.whole.rows ≡ c.self.inside.rows.rows ++ c.args.item ∷ next.others =
-    subst (λ (e : EngineView). next.whole.rows ≡ e.held.state.rows ++ c.args.item ∷ next.others)
-    (sym c.self.view_is) next.first in
-    alone-next c.self.inside.rows.rows next.others c.args.item
-    (subst (λ (l : List CacheItem). pairwise names_apart l ≡ true) first next.content.directory.one_for_name)
+push-requires-clause-alone c = grind (arith, alone-next)
 
 pub invariant_of-self : goal.invariant_of-self
 invariant_of-self c =

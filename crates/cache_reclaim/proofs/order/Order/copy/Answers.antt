@@ -6,9 +6,4 @@ same_tied : (es fs : List (ℕ × Option Used)) (ns ms : List (List ℕ × ℕ))
 same_tied es fs ns ms cap most e f g tied = rw (e, f, g) tied
 
 pub invariant_of-result : goal.invariant_of-result
-invariant_of-result c =
-    record {
-      tied = same_tied _ _ _ _ _ _ c.in_ok-slots.ensures.entries c.in_ok-names.ensures c.in_ok-slots.ensures.cap
-          c.self.invariant.tied;
-      within = omega (arith, c.self.invariant.within, c.in_ok-slots.ensures.cap);
-    }
+invariant_of-result c = grind (arith, same_tied)

@@ -1,4 +1,4 @@
-use Rattle.cache_regs.proofs.Imports.{◌≡◌, ◌≤◌, ◌<◌, ◌+◌, ◌-◌, min, length, ap, sym, subst, arith, lt-ltb, CALLERS, insertion, none_filtered, Registration, stands_before, regs_with, Registry, is_callers, is_within, is_elsewhere}
+use Rattle.cache_regs.proofs.Imports.{◌≡◌, ◌≤◌, ◌<◌, ◌+◌, ◌-◌, length, ap, sym, subst, arith, lt-ltb, CALLERS, insertion, none_filtered, Registration, stands_before, regs_with, Registry, is_callers, is_elsewhere}
 use Rattle.cache_regs.proofs.RegLaws.{one_elsewhere, filter-replaced, registry-with}
 use Rattle.cache_regs.proofs.BitLaws.{gains_with}
 use Rattle.cache_regs.proofs.EndLaws.{fits_few, left_few, left_counted}
@@ -13,14 +13,10 @@ end_elsewhere-requires c =
     (omega (arith, few, c.requires.room))
 
 pub put-requires-clause-nowhere : goal.put-requires-clause-nowhere
-put-requires-clause-nowhere c =
-    rw c.end_elsewhere.ensures.ended.gone (none_filtered (is_elsewhere c.args.conn c.args.index c.args.name)
-    c.self.inside.maps.regs)
+put-requires-clause-nowhere c = grind (arith, none_filtered)
 
 pub put-requires-clause-place : goal.put-requires-clause-place
-put-requires-clause-place c =
-    let place : 1 ≤ _ = subst (λ (r : Registry). 1 ≤ r.room) (sym c.self.view_is) c.requires.place in
-    omega (arith, place, c.end_elsewhere.ensures.place)
+put-requires-clause-place c = grind arith
 
 pub put-requires-clause-room : goal.put-requires-clause-room
 put-requires-clause-room c =
@@ -53,9 +49,7 @@ invariant_of-self c =
           c.self.invariant.registry);
       callers = rw (set_there c) (all_with is_callers c.args.conn c.args.index c.args.name c.self.inside.maps.regs
           (lt-ltb c.args.conn.0 CALLERS (omega (arith, c.requires.caller))) c.self.invariant.callers);
-      within = rw (set_there c) (all_with (is_within c.self.inside.len) c.args.conn c.args.index c.args.name
-          c.self.inside.maps.regs (lt-ltb c.args.index c.self.inside.len (subst (λ (r : Registry). c.args.index < r.len)
-          (sym c.self.view_is) c.requires.index)) c.self.invariant.within);
+      within = rw (set_there c) (grind (arith, all_with, lt-ltb));
       few = omega (arith, place, more);
     }
 
@@ -84,7 +78,4 @@ returns-clause-more c =
     subst (λ (r : Registry). length c.put.new.maps.regs ≤ length r.regs + 1) c.self.view_is (set_more c)
 
 pub returns-clause-place : goal.returns-clause-place
-returns-clause-place c =
-    let more = set_more c in
-    subst (λ (r : Registry). r.room ≤ min c.put.new.maps.room (4294967295 - length c.put.new.maps.regs) + 1)
-    c.self.view_is (omega (arith, more, c.put.ensures.place, c.end_elsewhere.ensures.place))
+returns-clause-place c = grind (arith, set_more)

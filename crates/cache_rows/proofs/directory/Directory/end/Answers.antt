@@ -1,4 +1,4 @@
-use Rattle.cache_rows.proofs.Imports.{◌∙◌, ◌+◌, ap, Option, row_at, CacheItem, rows_without, elements_of_row, Listed, IsIndexed, listed_of}
+use Rattle.cache_rows.proofs.Imports.{arith, ◌∙◌, ◌+◌, ap, row_at, rows_without, Listed, IsIndexed, listed_of}
 use Rattle.cache_rows.proofs.IndexedLaws.{taken, listed, listed_is}
 use Rattle.cache_rows.proofs.directory.Directory.end.Goals as goal
 
@@ -18,8 +18,4 @@ returns-clause-rest c =
     listed_is _ _ _ _ (left c) ∙ ap (λ (l : Listed). rows_without c.args.name.now l.rows) c.self.view_is
 
 pub returns-clause-free : goal.returns-clause-free
-returns-clause-free c =
-    rw (← c.self.view_is)
-    (c.end.ensures.free
-    ∙ ap (λ (o : Option CacheItem). c.self.inside.store.free + elements_of_row o)
-    (c.self.invariant.found c.args.name.now))
+returns-clause-free c = grind arith

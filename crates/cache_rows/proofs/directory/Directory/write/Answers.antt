@@ -1,5 +1,4 @@
-use Rattle.cache_rows.proofs.Imports.{◌∙◌, ◌+◌, ◌≤◌, ◌<◌, Option, Some, ap, length, subst, sym, arith, row_at, CacheItem, row_of, rows_replaced, item_with, elements_of_row, Listed, IsIndexed, listed_of}
-use Rattle.cf_types.specs.Stored.{elements_of}
+use Rattle.cache_rows.proofs.Imports.{◌∙◌, ◌+◌, ◌≤◌, ◌<◌, Some, ap, length, subst, sym, arith, row_at, rows_replaced, item_with, Listed, IsIndexed, listed_of}
 use Rattle.cache_rows.proofs.IndexedLaws.{replaced, fewer_unchanged, listed, listed_is}
 use Rattle.cache_rows.proofs.directory.Directory.write.Goals as goal
 
@@ -10,11 +9,7 @@ index_row-requires-clause-place c =
     omega (arith, few, less, c.unindex.ensures.fewer, c.unindex.ensures.entries)
 
 pub write-requires-clause-fits : goal.write-requires-clause-fits
-write-requires-clause-fits c =
-    subst (λ (o : Option CacheItem). elements_of (Some c.args.body.now) ≤ c.self.inside.store.free + elements_of_row o)
-    (sym (c.self.invariant.found c.args.label.now.name))
-    (subst (λ (l : Listed). elements_of (Some c.args.body.now) ≤ l.free
-    + elements_of_row (row_of c.args.label.now.name l.rows)) (sym c.self.view_is) c.requires.fits)
+write-requires-clause-fits c = grind arith
 
 left : (c : goal.After-write)
     → IsIndexed (rows_replaced (item_with c.args.label.now (Some c.args.body.now)) (listed_of c.self.inside).rows)
@@ -36,8 +31,4 @@ returns-clause-rows c =
     ∙ ap (λ (l : Listed). rows_replaced (item_with c.args.label.now (Some c.args.body.now)) l.rows) c.self.view_is
 
 pub returns-clause-free : goal.returns-clause-free
-returns-clause-free c =
-    rw (← c.self.view_is)
-    (c.write.ensures.free
-    ∙ ap (λ (o : Option CacheItem). c.self.inside.store.free + elements_of_row o)
-    (c.self.invariant.found c.args.label.now.name))
+returns-clause-free c = grind arith

@@ -3,13 +3,7 @@ use Rattle.cache_rows.proofs.ChangeLaws.{but-more, but-all}
 use Rattle.cache_rows.proofs.rows.Rows.end_others.Goals as goal
 
 pub loop-name-preserved : goal.loop-name-preserved
-loop-name-preserved c = (
-  rw c.end_other.ensures.rows (but-more c.args.spared.now c.args.names.now c.loop-name.self.rows _
-      c.loop-name.name-index _ (omega arith) c.loop-name.invariant.0),
-  omega (arith, c.end_other.ensures.room, c.loop-name.invariant.1),
-  c.end_other.ensures.entries ∙ c.loop-name.invariant.2,
-  c.end_other.ensures.elements ∙ c.loop-name.invariant.3,
-)
+loop-name-preserved c = grind (arith, but-more)
 
 pub returns-clause-rows : goal.returns-clause-rows
 returns-clause-rows c =

@@ -1,11 +1,9 @@
-use Rattle.cache_rows.proofs.Imports.{sym}
+use Rattle.cache_rows.proofs.Imports.{arith, sym}
 use Rattle.cache_rows.proofs.TallyLaws.{absent, there}
 use Rattle.cache_rows.proofs.rows.Rows.has.Goals as goal
 
 pub returns-in-Some : goal.returns-in-Some
-returns-in-Some c =
-    rw (← c.self.view_is)
-    (sym (there c.args.name.now c.self.inside.directory.rows c.in-Some.field-0 (sym c.in-Some.ensures.row)))
+returns-in-Some c = grind (arith, there)
 
 pub returns-in-None : goal.returns-in-None
 returns-in-None c =

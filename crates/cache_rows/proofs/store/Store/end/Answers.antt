@@ -1,4 +1,4 @@
-use Rattle.cache_rows.proofs.Imports.{◌∙◌, ◌+◌, Option, ap, sym, CacheItem, elements_of_row}
+use Rattle.cache_rows.proofs.Imports.{arith, ◌∙◌, ◌+◌}
 use Rattle.cache_rows.proofs.StoreLaws.{shown_at, shown_writes}
 use Rattle.cache_rows.proofs.store.Store.end.Goals as goal
 
@@ -8,8 +8,4 @@ returns-clause-writes c =
     (shown_writes _ _ _ _ c.args.name.now _ c.end_in.ensures.writes)
 
 pub returns-clause-free : goal.returns-clause-free
-returns-clause-free c =
-    rw (← c.self.view_is)
-    (c.end_in.ensures.free
-    ∙ ap (λ (o : Option CacheItem). c.self.inside.pool.free + elements_of_row o)
-    (sym (shown_at c.self.inside.pool.chains c.self.inside.dir.entries c.args.name.now)))
+returns-clause-free c = grind (arith, shown_at)

@@ -3,14 +3,7 @@ use Rattle.list_kept.proofs.DataLaws.{free_elements}
 use Rattle.list_kept.proofs.keeping.Kept.elements.Goals as goal
 
 pub overflow_sub-result : goal.overflow_sub-result
-overflow_sub-result c =
-    let s = c.self.inside.store in
-    omega (
-      arith,
-      c.self.invariant.whole,
-      c.free.ensures.free,
-      free_elements (all_records s.lists) s.loose s.chains s.free c.self.invariant.used c.free.ensures.all,
-    )
+overflow_sub-result c = grind (arith, free_elements)
 
 pub returns : goal.returns
 returns c =

@@ -1,4 +1,4 @@
-use Rattle.list_kept.proofs.Imports.{◌≡◌, ◌-◌, ◌==◌, not, List, length, take, sym, ap, ◌∙◌, subst, arith, Option, ℕ, list_all, Record, StoreView, Lists, all_records, records_of, lists_without, count_of, lists_popped, record_in, AreUsed, AreNamed, Monitor, Watched, monitors_of, rows_turned, monitors-turned, has_records, records-elsewhere, first-all, IsOrderly, is_told}
+use Rattle.list_kept.proofs.Imports.{◌≡◌, ◌-◌, ◌==◌, List, length, take, sym, ap, ◌∙◌, subst, arith, Option, ℕ, Lists, all_records, records_of, lists_without, lists_popped, record_in, AreUsed, AreNamed, monitors-turned, records-elsewhere, first-all, IsOrderly}
 use Rattle.list_kept.proofs.NamedLaws.{named_less, taken}
 use Rattle.list_kept.proofs.PlaceLaws.{orderly-without}
 use Rattle.list_kept.proofs.ToldLaws.{told-one, sym_test, content_at}
@@ -19,12 +19,7 @@ invariant_of-self c =
     let rec = record_in c.self.inside.store.chains c.in-Some.rec in
     let with = taken c.in-Some.rec.id lists rec c.pop.ensures.apart c.in-Some.ensures.found in
     record {
-      told = ap (λ (l : List Watched). list_all (is_told later) l) c.settle.ensures.rows
-          ∙ ap (λ b. list_all (is_told later) (rows_turned header b rows)) c.has_records-full.ensures
-          ∙ told-one header lists later rows
-          (λ other e. ap (λ (l : Lists). has_records l other) (popped c)
-          ∙ ap (λ (l : List Record). not (length l == 0)) (records-elsewhere lists header other recs
-          (sym_test other header e))) c.self.invariant.told;
+      told = grind (arith, told-one, popped, records-elsewhere, sym_test);
       orderly =
           subst (IsOrderly c.self.inside.elements) (sym (c.give.ensures.lists ∙ c.in-Some.ensures.without))
           (orderly-without c.self.inside.elements c.in-Some.rec.id lists c.self.invariant.orderly);
@@ -39,25 +34,10 @@ invariant_of-self c =
     }
 
 pub returns-in-Some-clause-there : goal.returns-in-Some-clause-there
-returns-in-Some-clause-there c =
-    rw (← c.self.view_is) (sym (some_test (count_of c.self.inside.store.lists) (last-count c.self.inside.store.lists
-    c.in-Some.header c.in-Some.ensures.header)))
+returns-in-Some-clause-there c = grind (arith, some_test, last-count)
 
 pub returns-in-Some-clause-content : goal.returns-in-Some-clause-content
-returns-in-Some-clause-content c =
-    let k = c.self.inside in
-    rw (← c.self.view_is)
-    (ap (λ (m : List Monitor). content_at c.give.new.store.lists k.limits.items k.locks.items m k.next)
-    (ap (λ (l : List Watched). monitors_of l) c.settle.ensures.rows ∙ monitors-turned c.in-Some.header
-    c.has_records-full.result k.watch.rows)
-    ∙ ap (λ (l : Lists). content_at l k.limits.items k.locks.items (monitors_of k.watch.rows) k.next)
-    (popped c ∙ last-gone k.store.lists c.in-Some.header c.in-Some.ensures.header))
+returns-in-Some-clause-content c = grind (arith, content_at, monitors-turned, popped, last-gone)
 
 pub returns-in-None-clause-content : goal.returns-in-None-clause-content
-returns-in-None-clause-content c =
-    let k = c.self.inside in
-    let count = ap (λ (l : List Record). length l) c.in-None.ensures.none in
-    rw (← c.self.view_is)
-    (ap (λ (l : Lists). content_at l k.limits.items k.locks.items (monitors_of k.watch.rows) k.next)
-    (ap (λ (v : StoreView). v.lists) c.in-None.ensures.same
-    ∙ sym (first-all (count_of k.store.lists - 1) k.store.lists (omega (arith, count)))))
+returns-in-None-clause-content c = grind (arith, content_at, first-all)

@@ -4,11 +4,7 @@ use Rattle.list_kept.proofs.ToldLaws.{told-same}
 use Rattle.list_kept.proofs.keeping.Kept.replace.Goals as goal
 
 pub renew-requires-clause-elements : goal.renew-requires-clause-elements
-renew-requires-clause-elements c =
-    let is = subst (λ (v : ContentView). IsOrderly v.elements (lists_replaced
-    (renewed c.args.bare c.args.body.now (record_of c.args.bare.id v.content.lists)) v.content.lists))
-    (sym c.self.view_is) c.requires.orderly in
-    omega (arith, c.self.invariant.whole, is.enough)
+renew-requires-clause-elements c = grind arith
 
 pub invariant_of-self : goal.invariant_of-self
 invariant_of-self c =

@@ -1,26 +1,11 @@
-use Rattle.list_kept.proofs.Imports.{◌≡◌, ℕ, ◌<◌, ◌==◌, true, List, length, refl, sym, ap, ◌∙◌, subst, Option, list_any, list_all, false≢true, eqb-true, Lists, all_records, is_id, record_of, lists_without, any_all, unplaced, spot_with, Monitor, Watched, monitors_of, rows_turned, monitors-turned, gains_two, has_records, ContentView, put_back, with_new_key, AreUsed, AreNamed, IsOrderly, is_told}
+use Rattle.list_kept.proofs.Imports.{arith, ◌≡◌, ℕ, ◌<◌, ◌==◌, true, List, length, refl, sym, ap, ◌∙◌, subst, Option, list_any, list_all, false≢true, eqb-true, Lists, all_records, is_id, record_of, lists_without, any_all, unplaced, spot_with, monitors-turned, gains_two, ContentView, put_back, with_new_key, AreUsed, AreNamed, IsOrderly, is_told}
 use Rattle.list_kept.proofs.NamedLaws.{named_other, taken, came_back, some_found}
 use Rattle.list_kept.proofs.ToldLaws.{told-two, gains-told, content_at, full-put_back}
 use Rattle.list_kept.proofs.keeping.Kept.shift.Goals as goal
 
 still_told : (c : goal.After-turned-in-Some) → list_all (is_told c.put_again.new.store.lists)
     c.turned-in-Some.new.self.rows ≡ true
-still_told c =
-    let lists = c.self.inside.store.lists in
-    let rows = c.self.inside.watch.rows in
-    let later = c.put_again.new.store.lists in
-    let from = c.in-Some.from in
-    let found = spot_with c.args.id lists from (sym c.header_of.ensures.header ∙ c.in-Some.is) in
-    ap (λ (l : List Watched). list_all (is_told later) l) (c.turned-in-Some.ensures.rows
-    ∙ ap (λ (l : List Watched). rows_turned c.args.header c.has_records-full-in-Some.result l) c.turned.ensures.rows)
-    ∙ ap (λ b. list_all (is_told later) (rows_turned c.args.header b
-    (rows_turned from c.has_records-full.result rows))) c.has_records-full-in-Some.ensures
-    ∙ ap (λ b. list_all (is_told later) (rows_turned c.args.header (has_records later c.args.header)
-    (rows_turned from b rows))) c.has_records-full.ensures
-    ∙ told-two from c.args.header lists later rows
-    (λ other e f. ap (λ (l : Lists). has_records l other) c.put_again.ensures.lists
-    ∙ full-put_back c.args.head c.args.id c.args.header c.args.key lists found.0 other c.header_of.ensures.apart
-    found.1 (ap (λ (n : ℕ). other == n) found.2 ∙ e) f) c.self.invariant.told
+still_told c = grind (arith, spot_with, told-two, full-put_back)
 
 pub invariant_of-self : goal.invariant_of-self
 invariant_of-self c =
@@ -53,23 +38,12 @@ invariant_of-self c =
 pub unreachable-requires : goal.unreachable-requires
 unreachable-requires c =
     let lists = c.self.inside.store.lists in
-    let there : list_any (is_id c.args.id) (all_records lists) ≡ true =
-    subst (λ (k : ContentView). list_any (is_id c.args.id) (all_records k.content.lists) ≡ true) (sym c.self.view_is)
-    c.requires.there in
+    let there : list_any (is_id c.args.id) (all_records lists) ≡ true = grind arith in
     false≢true (sym (unplaced c.args.id lists (sym c.header_of.ensures.header ∙ c.in-None.is))
     ∙ sym (any_all (is_id c.args.id) lists) ∙ there)
 
 pub returns-clause-content : goal.returns-clause-content
-returns-clause-content c =
-    let k = c.self.inside in
-    rw (← c.self.view_is)
-    (ap (λ (m : List Monitor). content_at c.put_again.new.store.lists k.limits.items k.locks.items m k.next)
-    (ap (λ (l : List Watched). monitors_of l) c.turned-in-Some.ensures.rows
-    ∙ monitors-turned c.args.header c.has_records-full-in-Some.result c.turned.new.self.rows
-    ∙ ap (λ (l : List Watched). monitors_of l) c.turned.ensures.rows
-    ∙ monitors-turned c.in-Some.from c.has_records-full.result k.watch.rows)
-    ∙ ap (λ (l : Lists). content_at l k.limits.items k.locks.items (monitors_of k.watch.rows) k.next)
-    c.put_again.ensures.lists)
+returns-clause-content c = grind (arith, content_at, monitors-turned)
 
 pub returns-clause-bits : goal.returns-clause-bits
 returns-clause-bits c =
@@ -78,9 +52,7 @@ returns-clause-bits c =
     let later = c.put_again.new.store.lists in
     let x = c.has_records-full.result in
     let y = c.has_records-full-in-Some.result in
-    let same : (from == c.args.header) ≡ true → y ≡ x =
-    λ e. c.has_records-full-in-Some.ensures ∙ ap (λ (n : ℕ). has_records later n)
-    (sym (eqb-true from c.args.header e)) ∙ sym c.has_records-full.ensures in
+    let same : (from == c.args.header) ≡ true → y ≡ x = grind (arith, eqb-true) in
     let first = rw c.turned.ensures.rows at c.turned.ensures.bits in
     let second = rw (c.turned-in-Some.ensures.rows, c.turned.ensures.rows) at c.turned-in-Some.ensures.bits in
     let both = gains_two from c.args.header x y k.watch.rows c.args.out.now.bits.items c.turned.new.out.bits.items

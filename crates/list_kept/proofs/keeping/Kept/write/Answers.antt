@@ -1,20 +1,10 @@
-use Rattle.list_kept.proofs.Imports.{◌≡◌, ℕ, ◌+◌, ◌<◌, Bool, true, List, length, sym, ap, ◌∙◌, subst, arith, list_all, Record, Lists, all_records, Inside, AreUsed, with_data, AreNamed, Monitor, Watched, monitors_of, rows_turned, monitors-turned, has_records, full-elsewhere, with_record, ContentView, content_view, IsOrderly, is_told}
+use Rattle.list_kept.proofs.Imports.{◌≡◌, ℕ, ◌+◌, ◌<◌, Bool, true, length, sym, ◌∙◌, subst, arith, list_all, Record, Lists, all_records, Inside, AreUsed, with_data, AreNamed, monitors-turned, full-elsewhere, with_record, ContentView, content_view, IsOrderly, is_told}
 use Rattle.list_kept.proofs.NamedLaws.{named_new, named_more, came, elements_with}
 use Rattle.list_kept.proofs.ToldLaws.{told-one, gains-told, sym_test, content_at}
 use Rattle.list_kept.proofs.keeping.Kept.write.Goals as goal
 
 still_told : (c : goal.After-turned) → list_all (is_told c.put.new.store.lists) c.turned.new.self.rows ≡ true
-still_told c =
-    let lists = c.self.inside.store.lists in
-    let rows = c.self.inside.watch.rows in
-    let later = c.put.new.store.lists in
-    ap (λ (l : List Watched). list_all (is_told later) l) c.turned.ensures.rows
-    ∙ ap (λ b. list_all (is_told later) (rows_turned c.args.header b rows)) c.has_records-full.ensures
-    ∙ told-one c.args.header lists later rows
-    (λ other e. ap (λ (l : Lists). has_records l other) c.put.ensures.lists
-    ∙ full-elsewhere c.args.head c.args.header other (with_data c.args.bare c.args.body.now) lists
-    (sym_test other c.args.header e))
-    c.self.invariant.told
+still_told c = grind (arith, told-one, full-elsewhere, sym_test)
 
 stays : (head : Bool) (header : ℕ) (rec : Record) (k : Inside) (view : ContentView) → content_view k ≡ view
     → IsOrderly view.elements (with_record head header rec view.content.lists)
@@ -73,14 +63,7 @@ invariant_of-self c =
     }
 
 pub returns-clause-content : goal.returns-clause-content
-returns-clause-content c =
-    let k = c.self.inside in
-    rw (← c.self.view_is)
-    (ap (λ (m : List Monitor). content_at c.put.new.store.lists k.limits.items k.locks.items m (k.next + 1))
-    (ap (λ (l : List Watched). monitors_of l) c.turned.ensures.rows ∙ monitors-turned c.args.header
-    c.has_records-full.result k.watch.rows)
-    ∙ ap (λ (l : Lists). content_at l k.limits.items k.locks.items (monitors_of k.watch.rows) (k.next + 1))
-    c.put.ensures.lists)
+returns-clause-content c = grind (arith, content_at, monitors-turned)
 
 pub returns-clause-bits : goal.returns-clause-bits
 returns-clause-bits c =

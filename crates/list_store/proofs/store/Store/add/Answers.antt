@@ -4,12 +4,7 @@ use Rattle.list_store.proofs.StoreLaws.{added_held, added_loose}
 use Rattle.list_store.proofs.store.Store.add.Goals as goal
 
 within : (c : goal.After-add) → c.args.header < length c.self.inside.table.lists
-within c =
-    omega (
-      arith,
-      subst (λ (s : StoreView). c.args.header < length s.lists) (sym c.self.view_is) c.requires.header,
-      length-map c.self.inside.table.lists (map (record_in c.self.inside.pool.chains)),
-    )
+within c = grind (arith, length-map)
 
 own : (c : goal.After-add)
     → HasChain (loose_in c.self.inside.pool.chains (all_records c.self.inside.table.lists)) c.args.rec.body
@@ -40,9 +35,4 @@ returns-clause-lists c =
     ∙ with-map (record_in chains) c.args.header c.args.place c.args.rec c.self.inside.table.lists)
 
 pub returns-clause-loose : goal.returns-clause-loose
-returns-clause-loose c =
-    let chains = c.self.inside.pool.chains in
-    rw (← c.self.view_is)
-    (ap (λ (l : List (List Rec)). loose_in chains (all_records l)) c.add.ensures
-    ∙ added_loose chains c.self.inside.table.lists c.self.invariant.held c.args.header c.args.place c.args.rec
-    (within c) (own c))
+returns-clause-loose c = grind (arith, added_loose, within, own)

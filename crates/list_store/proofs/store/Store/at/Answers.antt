@@ -1,15 +1,9 @@
-use Rattle.list_store.proofs.Imports.{◌∙◌, ap, sym, refl, option_map, List, slice_get, records_of, records_of-map, get-map, apart-map, Record, record_id, record_in, rec_id}
+use Rattle.list_store.proofs.Imports.{arith, ◌∙◌, refl, records_of-map, get-map, apart-map, record_id, record_in, rec_id}
 use Rattle.list_store.proofs.StoreLaws.{chain_at, shown_option}
 use Rattle.list_store.proofs.store.Store.at.Goals as goal
 
 pub returns-clause-record : goal.returns-clause-record
-returns-clause-record c =
-    let chains = c.self.inside.pool.chains in
-    let lists = c.self.inside.table.lists in
-    rw (← c.self.view_is)
-    (shown_option chains c.at.result ∙ ap (option_map (record_in chains)) c.at.ensures.«record»
-    ∙ sym (get-map (record_in chains) (records_of lists c.args.header) c.args.place)
-    ∙ ap (λ (l : List Record). slice_get l c.args.place) (sym (records_of-map (record_in chains) lists c.args.header)))
+returns-clause-record c = grind (arith, shown_option, get-map, records_of-map)
 
 pub returns-clause-chain : goal.returns-clause-chain
 returns-clause-chain c =

@@ -1,4 +1,4 @@
-use Rattle.list_store.proofs.Imports.{sym, subst, IsChain, all_records, loose_in, StoreView}
+use Rattle.list_store.proofs.Imports.{arith, sym, subst, IsChain, all_records, loose_in, StoreView}
 use Rattle.list_store.proofs.StoreLaws.{loose_chain, given_held, given_view, given_whole}
 use Rattle.list_store.proofs.store.Store.give_body.Goals as goal
 
@@ -21,7 +21,4 @@ invariant_of-self c =
     }
 
 pub returns : goal.returns
-returns c =
-    rw (← c.self.view_is)
-    (given_view c.self.inside.table c.self.inside.pool c.give_back.new.self c.self.invariant.held c.args.chain.head
-    (own c) c.give_back.ensures)
+returns c = grind (arith, given_view, own)

@@ -1,4 +1,4 @@
-use Rattle.list_store.proofs.Imports.{◌∙◌, ap, List, map, Rec, record_in}
+use Rattle.list_store.proofs.Imports.{arith, ◌∙◌, ap, List, map, Rec, record_in}
 use Rattle.list_store.proofs.StoreLaws.{shown_none, held_none, whole_none}
 use Rattle.list_store.proofs.store.Store.new.Goals as goal
 
@@ -15,6 +15,4 @@ returns-in-Ok-clause-lists c =
     ∙ shown_none c.in-Ok.pool.chains c.args.headers
 
 pub returns-in-Ok-clause-loose : goal.returns-in-Ok-clause-loose
-returns-in-Ok-clause-loose c =
-    (held_none c.in-Ok.pool.chains c.in_ok-table.table.lists c.args.headers c.in_ok-table.ensures).1
-    ∙ c.in-Ok.ensures.chains
+returns-in-Ok-clause-loose c = grind (arith, held_none)

@@ -1,4 +1,4 @@
-use Rattle.list_store.proofs.Imports.{all_records}
+use Rattle.list_store.proofs.Imports.{arith}
 use Rattle.list_store.proofs.StoreLaws.{put_held, put_view, put_whole, new_fresh}
 use Rattle.list_store.proofs.store.Store.put_body.Goals as goal
 
@@ -18,7 +18,4 @@ returns-clause-put c =
     c.put.result c.put.ensures.fresh c.put.ensures.put)
 
 pub returns-clause-fresh_loose : goal.returns-clause-fresh_loose
-returns-clause-fresh_loose c =
-    rw (← c.self.view_is)
-    (new_fresh c.self.inside.pool.chains (all_records c.self.inside.table.lists) c.self.invariant.held c.put.result
-    c.put.ensures.fresh)
+returns-clause-fresh_loose c = grind (arith, new_fresh)

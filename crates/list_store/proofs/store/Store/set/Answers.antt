@@ -1,4 +1,4 @@
-use Rattle.list_store.proofs.Imports.{◌≡◌, ◌∙◌, ap, sym, subst, refl, ℕ, true, List, Some, map, option_map, list_any, replaced-map, record-map, any-map, apart-map, Rec, StoreView, rec_id, record_id, is_id, record_in, HasChain, chains_less, AreHeld, loose_in}
+use Rattle.list_store.proofs.Imports.{arith, ◌≡◌, ◌∙◌, ap, sym, subst, refl, true, List, Some, map, option_map, list_any, replaced-map, record-map, any-map, apart-map, Rec, StoreView, rec_id, record_id, is_id, record_in, HasChain, AreHeld, loose_in}
 use Rattle.cf_lists.specs.Lists as generic
 use Rattle.list_store.specs.Lists.{all_records}
 use Rattle.list_store.proofs.StoreLaws.{replaced_held, replaced_chain, replaced_was}
@@ -10,9 +10,7 @@ own c = subst (λ (s : StoreView). HasChain s.loose c.args.rec.body) (sym c.self
 
 found : (c : goal.After-set)
     → generic.record_of rec_id c.args.rec.id.0 c.self.inside.table.lists ≡ Some c.set.result
-found c =
-    ap (λ (i : ℕ). generic.record_of rec_id i c.self.inside.table.lists) (sym (ap (λ i. i.0) c.requires.same))
-    ∙ c.set.ensures.«record»
+found c = grind arith
 
 pub set-requires-clause-there : goal.set-requires-clause-there
 set-requires-clause-there c =
@@ -54,13 +52,7 @@ returns-clause-lists c =
     ∙ replaced-map (record_in chains) rec_id record_id (λ x. refl) c.args.rec c.self.inside.table.lists)
 
 pub returns-clause-was : goal.returns-clause-was
-returns-clause-was c =
-    let chains = c.self.inside.pool.chains in
-    rw (← c.self.view_is)
-    (replaced_was chains c.self.inside.table.lists c.self.invariant.held c.set.result c.args.rec
-    c.set.ensures.apart (found c) (own c)
-    ∙ ap (λ (l : List (List Rec)). chains_less c.set.result.body (loose_in chains (all_records l)))
-    (sym c.set.ensures.lists))
+returns-clause-was c = grind (arith, replaced_was, found, own)
 
 pub returns-clause-apart : goal.returns-clause-apart
 returns-clause-apart c =

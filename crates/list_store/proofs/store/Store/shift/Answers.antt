@@ -1,4 +1,4 @@
-use Rattle.list_store.proofs.Imports.{◌∙◌, ap, sym, is_some, option_map, list_any, false≢true, found_passes, any_is_found, gone, Lists, record_id, is_id, record_in}
+use Rattle.list_store.proofs.Imports.{arith, ◌∙◌, ap, sym, option_map, list_any, false≢true, found_passes, any_is_found, gone, Lists, record_id, is_id, record_in}
 use Rattle.list_store.specs.Lists.{all_records}
 use Rattle.list_store.proofs.store.Store.shift.Goals as goal
 
@@ -11,8 +11,4 @@ add-requires-clause-alone c =
     (sym c.take.ensures.«record» ∙ ap (option_map (record_in c.args.self.now.chains)) c.in-Some.is))
 
 pub unreachable-requires : goal.unreachable-requires
-unreachable-requires c =
-    let none = ap is_some (sym c.take.ensures.«record»
-    ∙ ap (option_map (record_in c.args.self.now.chains)) c.in-None.is) in
-    false≢true (sym none ∙ sym (any_is_found (is_id c.args.id) (all_records c.args.self.now.lists))
-    ∙ c.requires.there)
+unreachable-requires c = grind (arith, false≢true, any_is_found)

@@ -1,4 +1,4 @@
-use Rattle.list_store.proofs.Imports.{◌≡◌, ◌∙◌, ap, ℕ, arith, List, length, replicate, [], length-map, length-replicate, Vec, Global, orders_in, is_few, list_all, lists_at}
+use Rattle.list_store.proofs.Imports.{◌≡◌, ◌∙◌, ap, ℕ, arith, List, replicate, [], length-map, length-replicate, orders_in, is_few, list_all, lists_at}
 use Rattle.list_store.proofs.VecLaws.{few-replicate}
 use Rattle.list_store.proofs.TiedLaws.{new_tied, no_lists}
 use Rattle.list_store.proofs.table.Table.new.Goals as goal
@@ -11,14 +11,7 @@ invariant_of-result c =
       tied = new_tied c.new.result (orders_in c.in_ok-orders.orders.items) c.new-2.result.entries c.args.headers made
           c.new-2.ensures.empty;
       few = ap (λ (l : List (List ℕ)). list_all is_few l) made ∙ few-replicate c.args.headers;
-      headers = omega (
-        arith,
-        length-map c.in_ok-orders.orders.items (λ (v : Vec ℕ Global). v.items),
-        ap (λ (l : List (List ℕ)). length l) made,
-        length-replicate c.args.headers none,
-        c.in_ok-orders.orders.ok.0,
-        c.ranges.headers,
-      );
+      headers = grind (arith, length-map, length-replicate);
     }
 
 pub returns : goal.returns

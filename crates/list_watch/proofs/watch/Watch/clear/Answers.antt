@@ -1,17 +1,9 @@
-use Rattle.list_watch.proofs.Imports.{◌≤◌, ◌&&◌, not, List, length, sym, subst, arith, length-filter-le, Watched, is_for, AreMonitors, monitors_of, WatchView}
+use Rattle.list_watch.proofs.Imports.{◌≤◌, ◌&&◌, not, List, sym, subst, arith, length-filter-le, Watched, is_for, AreMonitors, monitors_of}
 use Rattle.list_watch.proofs.MonitorLaws.{monitors-filter}
 use Rattle.list_watch.proofs.watch.Watch.clear.Goals as goal
 
 pub end-requires-clause-room : goal.end-requires-clause-room
-end-requires-clause-room c =
-    let room : length c.self.inside.rows.items ≤ c.args.out.now.bits.room =
-    subst (λ (w : WatchView). length w.rows ≤ c.args.out.now.bits.room) (sym c.self.view_is) c.requires in
-    omega (
-      arith,
-      room,
-      length-filter-le (λ (row : Watched). row.full && is_for c.args.conn c.args.header row.monitor)
-          c.self.inside.rows.items,
-    )
+end-requires-clause-room c = grind (arith, length-filter-le)
 
 pub invariant_of-self : goal.invariant_of-self
 invariant_of-self c =

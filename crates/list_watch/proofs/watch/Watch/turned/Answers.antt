@@ -1,4 +1,4 @@
-use Rattle.list_watch.proofs.Imports.{◌≤◌, List, length, sym, subst, arith, length-filter-le, Watched, AreMonitors, monitors_of, is_turned, WatchView}
+use Rattle.list_watch.proofs.Imports.{◌≤◌, List, sym, subst, arith, length-filter-le, Watched, AreMonitors, monitors_of}
 use Rattle.list_watch.proofs.BitLaws.{gains_turned}
 use Rattle.list_watch.proofs.MonitorLaws.{monitors-turn}
 use Rattle.list_watch.proofs.watch.Watch.turned.Goals as goal
@@ -12,28 +12,10 @@ invariant_of-self c =
     }
 
 pub tell-requires : goal.tell-requires
-tell-requires c =
-    let room : length c.self.inside.rows.items ≤ c.args.out.now.bits.room =
-    subst (λ (w : WatchView). length w.rows ≤ c.args.out.now.bits.room) (sym c.self.view_is) c.requires in
-    rw c.deref.ensures.value (omega (
-      arith,
-      room,
-      length-filter-le (is_turned c.args.header c.args.full)
-          c.self.inside.rows.items,
-    ))
+tell-requires c = grind (arith, length-filter-le)
 
 pub returns-clause-bits : goal.returns-clause-bits
-returns-clause-bits c =
-    rw (← c.self.view_is, c.turn_all.ensures.rows, c.tell.ensures.bits, c.deref.ensures.value)
-    (gains_turned c.args.header c.args.full c.self.inside.rows.items c.args.out.now.bits.items
-    c.self.invariant.monitors.one_at_index)
+returns-clause-bits c = grind (arith, gains_turned)
 
 pub returns-clause-room : goal.returns-clause-room
-returns-clause-room c =
-    let told = rw c.deref.ensures.value at c.tell.ensures.room in
-    rw (← c.self.view_is) (omega (
-      arith,
-      told,
-      length-filter-le (is_turned c.args.header c.args.full)
-          c.self.inside.rows.items,
-    ))
+returns-clause-room c = grind (arith, length-filter-le)

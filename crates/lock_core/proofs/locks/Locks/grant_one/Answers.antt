@@ -7,17 +7,7 @@ use Rattle.lock_core.proofs.locks.Locks.grant_one.Goals.{After-push}
 left_of : (c : goal.After-push) → (length c.remove.new.self.waiters + 1 ≡ length c.self.inside.queue.waiters)
     × (records_waiting c.remove.new.self.waiters + records_of c.args.w.now.rec ≡ records_waiting
     c.self.inside.queue.waiters)
-left_of c =
-    let w = c.args.w.now in
-    let is : IsQueue c.self.inside.queue.waiters = subst (λ (s : Stock). IsQueue s.content.waiters)
-    (sym c.self.view_is) c.requires.queue in
-    let waits : waiter_of w.r w.conn c.self.inside.queue.waiters ≡ Some w =
-    subst (λ (s : Stock). waiter_of w.r w.conn s.content.waiters ≡ Some w) (sym c.self.view_is) c.requires.waits in
-    rw c.remove.ensures.waiters (
-      length-waits w c.self.inside.queue.waiters is waits,
-      records-waits w
-          c.self.inside.queue.waiters is waits,
-    )
+left_of c = grind (arith, length-waits, records-waits)
 
 pub grant-requires-clause-record_room : goal.grant-requires-clause-record_room
 grant-requires-clause-record_room c =

@@ -1,4 +1,4 @@
-use Rattle.lock_interests.proofs.Imports.{◌≡◌, true, false, sym, subst₂, ap, ◌∙◌, has_interest, interests_changed, with_alteration, InterestsView, AreOwned}
+use Rattle.lock_interests.proofs.Imports.{arith, ◌≡◌, true, sym, subst₂, ap, ◌∙◌, has_interest, InterestsView, AreOwned}
 use Rattle.lock_model.specs.Interests as interests
 use Rattle.lock_interests.proofs.JoinLaws.{joined-changed}
 use Rattle.lock_interests.proofs.CountLaws.{has-joined, changed_none, owned-altered}
@@ -17,13 +17,7 @@ invariant_of-self c =
     (owned-altered w.r w.conn w.excl w.rec owners records has c.self.invariant)
 
 pub returns-then-has_interest-clause-interests : goal.returns-then-has_interest-clause-interests
-returns-then-has_interest-clause-interests c =
-    rw (← c.self.view_is, c.set.ensures.owners, c.give_record.ensures.records)
-    (joined-changed c.args.w.now c.self.inside.owners.owners c.self.inside.records.records)
+returns-then-has_interest-clause-interests c = grind (arith, joined-changed)
 
 pub returns-else-has_interest-clause-interests : goal.returns-else-has_interest-clause-interests
-returns-else-has_interest-clause-interests c =
-    let w = c.args.w.now in
-    let none : interests.has_interest w.r w.conn c.args.self.now.interests ≡ false =
-    sym c.has_interest.ensures ∙ c.if-has_interest.false in
-    sym (changed_none w.r w.conn (with_alteration w) c.args.self.now.interests none)
+returns-else-has_interest-clause-interests c = grind (arith, changed_none)

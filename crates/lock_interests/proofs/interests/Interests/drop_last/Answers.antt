@@ -1,4 +1,4 @@
-use Rattle.lock_interests.proofs.Imports.{◌≡◌, ◌<◌, ◌-◌, Some, length, sym, ap, subst, ◌∙◌, arith, slice_get, length-map, AreInterests, interests_without-last, InterestsView, with_record, interests_of}
+use Rattle.lock_interests.proofs.Imports.{◌≡◌, ◌<◌, ◌-◌, Some, length, sym, subst, ◌∙◌, arith, slice_get, length-map, AreInterests, interests_without-last, InterestsView, with_record, interests_of}
 use Rattle.lock_interests.proofs.ReadLaws.{last-joined, last_there}
 use Rattle.lock_interests.proofs.interests.Interests.drop_last.Goals as goal
 
@@ -15,13 +15,4 @@ returns-in-Some-clause-interests c =
     are (last-joined owners records c.in-Some.last there))
 
 pub returns-in_default-clause-interests : goal.returns-in_default-clause-interests
-returns-in_default-clause-interests c =
-    let owners = c.self.inside.owners.owners in
-    let records = c.self.inside.records.records in
-    let some : 0 < length owners = omega (
-      arith,
-      ap (λ (v : InterestsView). length v.interests) c.self.view_is,
-      length-map owners (with_record records),
-      c.requires.some,
-    ) in
-    absurd (last_there owners some (sym c.last.ensures ∙ sym c.copied.ensures ∙ c.in_default.is))
+returns-in_default-clause-interests c = grind (arith, length-map, last_there)

@@ -1,4 +1,4 @@
-use Rattle.lock_table.proofs.Imports.{◌≡◌, map, false, refl, sym, ◌∙◌, none_placed, Held, is_interest, in_state}
+use Rattle.lock_table.proofs.Imports.{arith, ◌≡◌, map, false, refl, sym, ◌∙◌, none_placed, Held, in_state}
 use Rattle.lock_table.proofs.EntryLaws.{masked_same, state_put, state_none}
 use Rattle.lock_table.proofs.entry.Entry.set.Goals as goal
 
@@ -18,7 +18,4 @@ pub returns-in-Some : goal.returns-in-Some
 returns-in-Some c = rw (← c.self.view_is) (put c)
 
 pub returns-in_default : goal.returns-in_default
-returns-in_default c =
-    rw (← c.self.view_is) (state_none c.args.r.now c.args.conn c.args.excl c.self.inside.owners
-    (none_placed (is_interest c.args.r.now c.args.conn) c.self.inside.owners
-    (sym c.place_of.ensures ∙ c.in_default.is)))
+returns-in_default c = grind (arith, state_none, none_placed)

@@ -1,4 +1,4 @@
-use Rattle.lock_table.proofs.Imports.{◌≡◌, map, false, refl, sym, ◌∙◌, none_placed, Held, is_interest, in_retention}
+use Rattle.lock_table.proofs.Imports.{arith, ◌≡◌, map, false, refl, sym, ◌∙◌, none_placed, Held, in_retention}
 use Rattle.lock_table.proofs.EntryLaws.{masked_same, retention_put, retention_none}
 use Rattle.lock_table.proofs.entry.Entry.set_retained.Goals as goal
 
@@ -20,7 +20,4 @@ pub returns-in-Some : goal.returns-in-Some
 returns-in-Some c = rw (← c.self.view_is) (put c)
 
 pub returns-in_default : goal.returns-in_default
-returns-in_default c =
-    rw (← c.self.view_is) (retention_none c.args.r.now c.args.conn c.args.retained c.self.inside.owners
-    (none_placed (is_interest c.args.r.now c.args.conn) c.self.inside.owners
-    (sym c.place_of.ensures ∙ c.in_default.is)))
+returns-in_default c = grind (arith, retention_none, none_placed)

@@ -1,4 +1,4 @@
-use Rattle.struct_cell.proofs.Imports.{rules, arith, ◌≡◌, ◌<◌, ◌≤◌, ◌+◌, length, refl, ap, sym, subst, ◌∙◌, vec_len, count_of, stands_at, untouched_same, entered}
+use Rattle.struct_cell.proofs.Imports.{rules, arith, ◌≡◌, ◌<◌, ◌≤◌, ◌+◌, length, refl, ap, sym, subst, ◌∙◌, count_of, stands_at, untouched_same, entered}
 use Rattle.struct_cell.proofs.KeptLaws.{cell_answered}
 use Rattle.struct_cell.proofs.TurnLaws.{told-number, number-later, count-entered, few_marks}
 use Rattle.struct_cell.proofs.ToldLaws.{issued_within}
@@ -40,21 +40,10 @@ returns-clause-later g c =
 -- two marks at most: there is room for them, and the numbers fit
 
 pub enter_marks-requires-clause-room : goal.enter_marks-requires-clause-room
-enter_marks-requires-clause-room g c =
-    let two : length c.marks.result.now ≤ 2 = subst (λ ms. length ms ≤ 2) (sym c.marks.ensures) (few_marks
-    g.L.Link.calls g.L.Link.downs g.L.Link.faults g.E.Engine.meaning _ _ _ _ _ _ c.in_ok-reply.ensures.turn) in
-    omega (arith, two, c.in_ok-reserve_entries.ensures.room)
+enter_marks-requires-clause-room g c = grind (arith, few_marks)
 
 pub enter_marks-requires-clause-short : goal.enter_marks-requires-clause-short
-enter_marks-requires-clause-short g c =
-    let two : length c.marks.result.now ≤ 2 = subst (λ ms. length ms ≤ 2) (sym c.marks.ensures) (few_marks
-    g.L.Link.calls g.L.Link.downs g.L.Link.faults g.E.Engine.meaning _ _ _ _ _ _ c.in_ok-reply.ensures.turn) in
-    let most : c.args.self.now.limit ≤ 4294967000 = subst (λ k. k.limit ≤ 4294967000) c.self.view_is c.self.invariant.1
-    in
-    let few : length c.args.inside.now.journal.items < c.args.inside.now.limit = search rules in
-    let same : vec_len c.reserve_entries.new.journal ≡ length c.args.inside.now.journal.items =
-    c.reserve_entries.new.journal.ok.0 ∙ ap length c.in_ok-reserve_entries.ensures.items in
-    omega (arith, two, most, few, same, c.requires.cell.limit_is)
+enter_marks-requires-clause-short g c = grind (arith, few_marks)
 
 pub overflow_cast-no : goal.overflow_cast-no
 overflow_cast-no g c =

@@ -1,4 +1,4 @@
-use Rattle.struct_cell.proofs.Imports.{rules, ap, sym, ◌∙◌}
+use Rattle.struct_cell.proofs.Imports.{arith, rules, ap, sym, ◌∙◌}
 use Rattle.struct_cell.proofs.ToldLaws.{closed_links, closed_callers, closed_mine, closed_known, closed_tests, same_tables, same_shown}
 use Rattle.struct_cell.proofs.cell.Cell.close.Goals as goal
 
@@ -8,10 +8,7 @@ learn_all-requires-clause-passes g c =
     (ap (λ k. k.words) (sym c.self.view_is) ∙ c.self.invariant.0) (search rules) c.requires.passes
 
 pub returns-clause-callers : goal.returns-clause-callers
-returns-clause-callers g c =
-    closed_callers g.L.Link.calls g.L.Link.downs g.L.Link.faults g.E.Engine.meaning c.self.inside.lock.key c.args.self _ _ _
-    c.ended-inside.result.journal.items c.from_vec.result _
-    c.args.passes.items c.ended-inside.ensures c.self.view_is c.from_vec.ensures
+returns-clause-callers g c = grind (arith, closed_callers)
 
 pub returns-clause-mine : goal.returns-clause-mine
 returns-clause-mine g c =
@@ -38,7 +35,4 @@ returns-clause-tests g c =
     (search rules) c.learn_all.ensures.shown)
 
 pub returns-clause-links : goal.returns-clause-links
-returns-clause-links g c =
-    closed_links g.L.Link.calls g.L.Link.downs g.L.Link.faults g.E.Engine.meaning c.self.inside.lock.key c.args.self _ _ _
-    c.ended-inside.result.journal.items c.from_vec.result _
-    c.args.passes.items c.ended-inside.ensures c.self.view_is c.from_vec.ensures _ c.into_parts-parts.ensures.links
+returns-clause-links g c = grind (arith, closed_links)

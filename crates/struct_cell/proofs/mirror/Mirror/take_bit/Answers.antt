@@ -1,13 +1,9 @@
-use Rattle.struct_cell.proofs.Imports.{◌≡◌, ◌<◌, ◌≤◌, ◌⊎◌, subst, ◌∙◌, MirrorWords}
+use Rattle.struct_cell.proofs.Imports.{arith, ◌≡◌, ◌<◌, ◌≤◌, ◌⊎◌, subst, ◌∙◌, MirrorWords}
 use Rattle.struct_cell.proofs.MirrorLaws.{bit_taken, words_past}
 use Rattle.struct_cell.proofs.mirror.Mirror.take_bit.Goals as goal
 
 pub returns-then-is_past-clause-words : goal.returns-then-is_past-clause-words
-returns-then-is_past-clause-words c = λ before are.
-    let change = c.args.change.now in
-    words_past c.args.self.now.conns c.args.self.now.len c.args.self.now.words before change
-    (subst (λ (m : MirrorWords). (change.conn.0 ≡ 0) ⊎ ((m.conns < change.conn.0) ⊎ (m.len ≤ change.index)))
-    c.self.view_is (c.is_past.ensures.past c.if-is_past.true)) are
+returns-then-is_past-clause-words c = grind (arith, words_past)
 
 pub returns-clause-words : goal.returns-clause-words
 returns-clause-words c = λ before are.

@@ -1,4 +1,4 @@
-use Rattle.struct_cell.proofs.Imports.{take, fold, List, subst, arith, ◌∙◌, take_all, BitChange, Bits, AreWordsOf, with_told}
+use Rattle.struct_cell.proofs.Imports.{take, fold, subst, arith, ◌∙◌, take_all, Bits, AreWordsOf, with_told}
 use Rattle.struct_cell.proofs.MirrorLaws.{told_more}
 use Rattle.struct_cell.proofs.mirror.Mirror.take_over.Goals as goal
 
@@ -13,8 +13,4 @@ loop-change-preserved c = (
 )
 
 pub returns-clause-words : goal.returns-clause-words
-returns-clause-words c = λ before are.
-    subst (λ (bits : List BitChange). AreWordsOf c.loop-change.self.conns c.loop-change.self.len c.loop-change.self.words
-    (fold with_told before bits))
-    (take_all c.loop-change.change-index c.args.bits.now (omega (arith, c.loop-change-test.false)))
-    (c.loop-change.invariant.1 before are)
+returns-clause-words c = grind (arith, take_all)

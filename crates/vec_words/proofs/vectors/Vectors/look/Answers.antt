@@ -17,9 +17,7 @@ load-found-requires g c =
     sym (c.self.invariant.len_is ∙ ap (λ (t : WordTable). t.len) c.self.view_is) in
     let within : word < all =
     subst (λ (x : ℕ × ℕ). word < x.0 * words_of x.1) (λ i. (conns i, len i)) c.place_of-place.ensures.within in
-    let words : id.words ≡ suc all =
-    words_here shape.conns shape.len _ _ id.words c.self.invariant.conns_is c.self.invariant.len_is
-    c.self.invariant.words_is in (
+    let words : id.words ≡ suc all = grind (arith, words_here) in (
       id_of _ _ _ (ap (λ (p : PassSeen g.row.D.Denot). p.table) c.pass.view_is ∙ c.requires.table) c.self.view_is,
       omega (arith, words, within),
       looks shape id.slots c.pass.inside.seat.id c.pass.inside.seat.me g.A.Asked.asked _ word place (omega arith)

@@ -23,12 +23,7 @@ store-requires g c =
       puts shape id.slots c.args.seat.now.id c.args.seat.now.me _ _ g.P.Places.word g.P.Places.bits g.P.Places.stamp
           (omega arith) (c.word_of.ensures ∙ λ i. word_of (c.requires.step.1 i) (c.requires.step.2 i))
           c.requires.log within
-          (record {
-            fits = bits_fit c.args.bits g.P.Places.bits c.requires.step.1 (omega arith);
-            fresh = open_begun g.P.Places.stamp c.args.seat.now.me.0.log c.requires.stamp.1 c.requires.stamp.0;
-            once =
-                c.requires.once;
-          }),
+          (grind (arith, bits_fit, open_begun)),
     )
   where
     bits_fit : (a b : ℕ) → a ≡ b → a < 2 ^ 32 → b < 2 ^ 32

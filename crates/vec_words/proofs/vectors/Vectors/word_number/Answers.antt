@@ -1,4 +1,4 @@
-use Rattle.vec_words.proofs.Imports.{◌≡◌, ◌*◌, ◌+◌, ◌-◌, ◌^◌, ◌<◌, ℕ, ap, sym, ◌∙◌, subst, arith, WordTable, words_of, word_number}
+use Rattle.vec_words.proofs.Imports.{◌≡◌, ◌*◌, ◌+◌, ◌-◌, ◌^◌, ◌<◌, ℕ, ap, ◌∙◌, arith, WordTable, words_of, word_number}
 use Rattle.vec_words.proofs.Places.{within_all, small}
 use Rattle.vec_words.proofs.vectors.Vectors.word_number.Goals as goal
 
@@ -10,36 +10,20 @@ number_is from span conn word len table f s l = let e : span ≡ words_of table 
 
 few : (from span conn word len table : ℕ) → from ≡ conn - 1 → span ≡ words_of len → len ≡ table → len < 2 ^ 32
     → conn < 256 → word < words_of table → from * span + word < 2 ^ 40
-few from span conn word len table f s l fits c w =
-    subst (λ n. n < 2 ^ 40) (sym (number_is from span conn word len table f s l))
-    (small table conn word (omega arith) c w)
+few from span conn word len table f s l fits c w = grind (arith, number_is, small)
 
 pub overflow_mul-result : goal.overflow_mul-result
-overflow_mul-result g c =
-    let h = few c.from.result c.self.inside.span c.args.conn c.args.word c.self.inside.len c.args.self.now.len
-    c.from.ensures c.self.invariant.span_is (ap (λ (t : WordTable). t.len) c.self.view_is) c.self.invariant.fits
-    (omega arith) c.requires.word in
-    omega (arith, h)
+overflow_mul-result g c = grind (arith, few)
 
 pub overflow_add-result : goal.overflow_add-result
-overflow_add-result g c =
-    let h = few c.from.result c.self.inside.span c.args.conn c.args.word c.self.inside.len c.args.self.now.len
-    c.from.ensures c.self.invariant.span_is (ap (λ (t : WordTable). t.len) c.self.view_is) c.self.invariant.fits
-    (omega arith) c.requires.word in
-    omega (arith, h)
+overflow_add-result g c = grind (arith, few)
 
 pub returns-clause-number : goal.returns-clause-number
 returns-clause-number g c = number_is c.from.result c.self.inside.span c.args.conn c.args.word c.self.inside.len
     c.args.self.now.len c.from.ensures c.self.invariant.span_is (ap (λ (t : WordTable). t.len) c.self.view_is)
 
 pub returns-clause-within : goal.returns-clause-within
-returns-clause-within g c = subst (λ n. n < c.args.self.now.conns * words_of c.args.self.now.len)
-    (sym (number_is c.from.result c.self.inside.span c.args.conn c.args.word c.self.inside.len c.args.self.now.len
-    c.from.ensures c.self.invariant.span_is (ap (λ (t : WordTable). t.len) c.self.view_is)))
-    (within_all c.args.self.now.len c.args.conn c.args.self.now.conns c.args.word c.requires.conn.0 c.requires.conn.1
-    c.requires.word)
+returns-clause-within g c = grind (arith, number_is, within_all)
 
 pub returns-clause-small : goal.returns-clause-small
-returns-clause-small g c = few c.from.result c.self.inside.span c.args.conn c.args.word c.self.inside.len
-    c.args.self.now.len c.from.ensures c.self.invariant.span_is
-    (ap (λ (t : WordTable). t.len) c.self.view_is) c.self.invariant.fits (omega arith) c.requires.word
+returns-clause-small g c = grind (arith, few)
