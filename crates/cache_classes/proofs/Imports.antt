@@ -1,5 +1,5 @@
 -- What proofs here name of other crates, and of this one's definitions. Declares nothing.
-pub use Rattle.std.proofs.Common.{◌≡◌, ℕ, zero, suc, ◌+◌, ◌-◌, ◌≤◌, ◌<◌, Bool, true, false, not, cond, List, [], ◌∷◌, Option, None, Some, option_map, slice_get, length, drop, refl, sym, ap, ◌∙◌, arith, ◌&&◌, filter, subst, nat_eq, option_to_list, Ordering, ◌==◌, map, rules, ◌++◌}
+pub use Rattle.std.proofs.Common.{◌≡◌, ℕ, zero, suc, ◌+◌, ◌-◌, ◌≤◌, ◌<◌, Bool, true, false, not, cond, List, [], ◌∷◌, Option, None, Some, option_map, slice_get, length, drop, refl, sym, ap, ◌∙◌, arith, ◌&&◌, filter, subst, nat_eq, option_to_list, Ordering, ◌==◌, map, ◌++◌}
 pub use Rattle.std.proofs.lemmas.Bool.{and_parts, not-true, false≢true}
 pub use Rattle.std.proofs.lemmas.Cmp.{nat_list_cmp_total}
 pub use Rattle.std.proofs.lemmas.List.{drop_all, length-map}
@@ -28,5 +28,5 @@ pub use Rattle.cf_types.proofs.ResourceLaws.{same_name-eq, same_name-refl}
 pub use Rattle.cf_types.specs.Name.{name_before, same_name}
 pub use Rattle.cf_types.specs.declared.names.Name16.{Name16}
 pub use Rattle.cache_classes.specs.Castout.{name_of, last_name, later, is_named, names_without, names_with, is_of_class, names_in, names_of, count_of}
-pub use Rattle.cache_classes.specs.ClassBatch.{Entry, changed_at, entries_in, classes_in, Writes, ClassBatch}
+pub use Rattle.cache_classes.specs.ClassBatch.{Entry, changed_at, entries_in, classes_in, Writes}
 pub use Rattle.cache_classes.specs.declared.changed.Changed.{Changed}

@@ -57,27 +57,12 @@ last_with new name (x ∷ xs) e turn =
         → Some (last_after x.name (placed new xs)) ≡ later (Some (last_after x.name xs)) (Some new.name))
         → Some (last_after name (placed new (x ∷ xs))) ≡ later (Some (last_after x.name xs)) (Some new.name)
     go true f h ih = ap (λ (b : Bool). Some (last_after name (cond b (x ∷ placed new xs) (new ∷ x ∷ xs)))) f ∙ ih f
-    go false f h ih =
-        ap (λ (b : Bool). Some (last_after name (cond b (x ∷ placed new xs) (new ∷ x ∷ xs)))) f
-        ∙ stays new.name x.name xs f h
+    go false f h ih = grind (arith, stays)
 
 last_more : (new : Changed) (xs : List Changed) → InTurn xs
     → last_name (placed new xs) ≡ later (last_name xs) (Some new.name)
 last_more new [] turn = refl
-last_more new (x ∷ xs) turn =
-    let parts = and_parts (list_all (in_turn name_of name_before x) xs) (pairwise (in_turn name_of name_before) xs)
-    turn in
-    go (name_before x.name new.name) refl parts.0 parts.1
-    ∙ ap (λ (o : Option Name16). later o (Some new.name)) (sym (last_is x xs))
-  where
-    go : (b : Bool) → name_before x.name new.name ≡ b → list_all (in_turn name_of name_before x) xs ≡ true → InTurn xs
-        → last_name (placed new (x ∷ xs)) ≡ later (Some (last_after x.name xs)) (Some new.name)
-    go true f h rest =
-        ap (λ (b : Bool). last_name (cond b (x ∷ placed new xs) (new ∷ x ∷ xs))) f
-        ∙ last_is x (placed new xs) ∙ last_with new x.name xs f rest
-    go false f h rest =
-        ap (λ (b : Bool). last_name (cond b (x ∷ placed new xs) (new ∷ x ∷ xs))) f
-        ∙ last_is new (x ∷ xs) ∙ stays new.name x.name xs f h
+last_more new (x ∷ xs) turn = grind (arith, and_parts, last_is, last_with, stays)
 
 -- one entry more in front of those behind it
 pub last_next : (es : List Entry) (k : ℕ) → k < length es
@@ -97,7 +82,4 @@ pub last_step : (es : List Entry) (k now : ℕ) (last next : Option Name16) → 
     → last ≡ last_name (classes_in (drop k es))
     → next ≡ later last (option_map name_of (slice_get (entries_in es) now))
     → next ≡ last_name (classes_in (drop now es))
-last_step es k now last next is within so_far e =
-    e ∙ ap (λ (o : Option Name16). later o (option_map name_of (slice_get (entries_in es) now)))
-    (so_far ∙ ap (λ n. last_name (classes_in (drop n es))) is)
-    ∙ last_next es now (omega (arith, is, within))
+last_step es k now last next is within so_far e = grind (arith, last_next)

@@ -1,5 +1,5 @@
 -- The entries of a map by name, in the order of names.
-use Rattle.cache_classes.proofs.Imports.{◌≡◌, ℕ, Bool, true, false, not, ◌&&◌, cond, List, [], ◌∷◌, Option, Some, None, option_map, length, filter, refl, sym, ap, ◌∙◌, subst, nat_eq, option_to_list, IsDistinct, keys_of, lookup, nat_list_eq_equiv, pointwise, false≢true, not-true, length-map, lookup-none, none_past_head, Name16, same_name, name_before, insertion, pairwise, filter_absorbed, filter-filter, filter_nothing, filter_swap, list_all_always, filter-insertion_out, FindsPlace, pairwise-filter, pairwise-insertion, arranged, in_turn, arranged_in_turn, keyed-arranged, ordered_filters, length_arranged, Changed, is_named, name_of, names_without, names_with, Entry, changed_at, entries_in, classes_in, Writes}
+use Rattle.cache_classes.proofs.Imports.{arith, ◌≡◌, ℕ, Bool, true, false, not, ◌&&◌, cond, List, [], ◌∷◌, Option, Some, None, option_map, length, filter, refl, sym, ap, ◌∙◌, subst, nat_eq, option_to_list, IsDistinct, keys_of, lookup, nat_list_eq_equiv, pointwise, false≢true, not-true, length-map, lookup-none, none_past_head, Name16, same_name, name_before, insertion, pairwise, filter_absorbed, filter-filter, filter_nothing, filter_swap, list_all_always, filter-insertion_out, FindsPlace, pairwise-filter, pairwise-insertion, arranged, in_turn, arranged_in_turn, keyed-arranged, ordered_filters, length_arranged, Changed, is_named, name_of, names_without, names_with, Entry, changed_at, entries_in, classes_in, Writes}
 use Rattle.cache_classes.proofs.NameOrder.{name_order}
 
 -- ---- the entries of a name
@@ -62,13 +62,7 @@ same_names xs ys h g f =
 alone : (q b : Changed → Bool) (x : Changed) (xs : List Changed) → q x ≡ true → filter q xs ≡ []
     → filter q (insertion b x xs) ≡ x ∷ []
 alone q b x [] e none = rw e refl
-alone q b x (y ∷ ys) e none = go (q y) refl (b y) refl (alone q b x ys e)
-  where
-    go : (s : Bool) → q y ≡ s → (t : Bool) → b y ≡ t → (filter q ys ≡ [] → filter q (insertion b x ys) ≡ x ∷ [])
-        → filter q (insertion b x (y ∷ ys)) ≡ x ∷ []
-    go true f t g ih = absurd (let bad : y ∷ filter q ys ≡ [] = rw f at none in cc)
-    go false f true g ih = let rest : filter q ys ≡ [] = rw f at none in rw (g, f) (ih rest)
-    go false f false g ih = let rest : filter q ys ≡ [] = rw f at none in rw (g, e, f, rest) refl
+alone q b x (y ∷ ys) e none = grind (arith, alone q b x ys e)
 
 -- what is left without a name
 without_here : (name : Name16) (xs : List Changed) → filter (is_named name) (names_without name xs) ≡ []
@@ -83,9 +77,7 @@ without_here name xs =
 
 without_there : (name k : Name16) (xs : List Changed) → same_name name k ≡ false
     → filter (is_named k) (names_without name xs) ≡ filter (is_named k) xs
-without_there name k xs apart =
-    filter_swap (is_named k) (λ x. not (is_named name x)) xs
-    ∙ filter_absorbed (λ x. not (is_named name x)) (is_named k) (λ x e. ap not (other x e (is_named name x) refl)) xs
+without_there name k xs apart = grind (arith, filter_swap, filter_absorbed, other)
   where
     other : (x : Changed) → is_named k x ≡ true → (b : Bool) → is_named name x ≡ b → b ≡ false
     other x e false f = refl
@@ -111,19 +103,12 @@ module _ (es fs : List Entry) (name : Name16) (u : IsDistinct same (keys_of es))
   -- what a name that was written has
   here : (w : Option ℕ) → Writes es name w fs → (k : Name16) → same_name name k ≡ true
       → filter (is_named k) (classes_in fs) ≡ option_to_list (option_map (made k) w)
-  here w writes k e =
-      names_at fs v k
-      ∙ ap (λ (o : Option ℕ). option_to_list (option_map (made k) o))
-      (writes k ∙ written true (same_name name k) w (lookup (same k.0) es) e)
+  here w writes k e = grind (arith, names_at, written)
 
   -- and one that wasn't
   there : (w : Option ℕ) → Writes es name w fs → (k : Name16) → same_name name k ≡ false
       → filter (is_named k) (classes_in fs) ≡ filter (is_named k) (classes_in es)
-  there w writes k e =
-      names_at fs v k
-      ∙ ap (λ (o : Option ℕ). option_to_list (option_map (made k) o))
-      (writes k ∙ written false (same_name name k) w (lookup (same k.0) es) e)
-      ∙ sym (names_at es u k)
+  there w writes k e = grind (arith, names_at, written)
 
   pub put_names : (class : ℕ) → Writes es name (Some class) fs
       → classes_in fs ≡ names_with (made name class) (names_without name (classes_in es))
@@ -154,10 +139,7 @@ module _ (es fs : List Entry) (name : Name16) (u : IsDistinct same (keys_of es))
           ∙ without_there name k (classes_in es) e)
 
   pub removed_names : Writes es name None fs → classes_in fs ≡ names_without name (classes_in es)
-  removed_names writes =
-      same_names (classes_in fs) (names_without name (classes_in es)) (in_order_in fs)
-      (pairwise-filter (in_turn name_of name_before) (λ x. not (is_named name x)) (classes_in es) (in_order_in es))
-      (λ k. by_name k (same_name name k) refl)
+  removed_names writes = grind (arith, same_names, in_order_in, pairwise-filter, by_name)
     where
       by_name : (k : Name16) (b : Bool) → same_name name k ≡ b
           → filter (is_named k) (classes_in fs) ≡ filter (is_named k) (names_without name (classes_in es))

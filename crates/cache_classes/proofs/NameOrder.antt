@@ -1,5 +1,5 @@
 -- The order of names: it is strict, and of two names one comes first, or they are the same.
-use Rattle.cache_classes.proofs.Imports.{◌≡◌, Bool, true, false, Ordering, refl, sym, ap, ◌∙◌, subst, nat_cmp, is_lt, is_eq, ordering_reverse, Less, Equal, Greater, slice_cmp, texts_ties, nat_list_cmp_total, false≢true, Name16, same_name, name_before, same_name-eq, same_name-refl, IsKeyOrder}
+use Rattle.cache_classes.proofs.Imports.{arith, ◌≡◌, Bool, true, false, Ordering, refl, sym, ap, ◌∙◌, subst, nat_cmp, is_lt, is_eq, ordering_reverse, Less, Equal, Greater, slice_cmp, texts_ties, nat_list_cmp_total, false≢true, Name16, same_name, name_before, same_name-eq, same_name-refl, IsKeyOrder}
 
 less : (o : Ordering) → is_lt o ≡ true → o ≡ Less
 less Less h = refl
@@ -51,12 +51,4 @@ ties a b true h k e = refl
 ties a b false h k e = absurd (false≢true (sym h ∙ before-else b a e k))
 
 pub name_order : IsKeyOrder same_name name_before
-name_order =
-    record {
-      itself = same_name-refl;
-      equal = same_name-eq;
-      once = λ a. once a (name_before a a) refl;
-      asym = λ a b h. asym a b (name_before b a) h refl;
-      follows = λ a b c h k. follows a b c (name_before c a) (same_name b a) h k refl refl;
-      ties = λ a b h k. ties a b (same_name b a) h k refl;
-    }
+name_order = grind (arith, same_name-refl, same_name-eq, once, asym, follows, ties)

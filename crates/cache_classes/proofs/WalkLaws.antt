@@ -1,5 +1,5 @@
 -- Entries one after another.
-use Rattle.cache_classes.proofs.Imports.{◌≡◌, ℕ, ◌+◌, ◌≤◌, ◌==◌, Bool, true, false, cond, List, ◌∷◌, filter, map, length, sym, ap, ◌∙◌, arith, IsPermutation, length-map, Name16, same_name, name_before, pairwise, length-filter-le, in_turn, arranged-filter, sorted_is, length_arranged, Changed, is_of_class, name_of, names_in, names_of, count_of, Entry, changed_at, entries_in, classes_in}
+use Rattle.cache_classes.proofs.Imports.{◌≡◌, ℕ, ◌+◌, ◌≤◌, ◌==◌, Bool, true, false, cond, List, ◌∷◌, filter, map, length, sym, ap, ◌∙◌, arith, IsPermutation, length-map, Name16, same_name, name_before, pairwise, length-filter-le, in_turn, arranged-filter, sorted_is, length_arranged, Changed, is_of_class, name_of, names_in, names_of, count_of, Entry, entries_in, classes_in}
 use Rattle.cache_classes.proofs.NameOrder.{name_order}
 
 -- as many pass a test as they lie in the map as in their order
@@ -33,13 +33,7 @@ pub counted_next : (class : ℕ) (left rest all : List Entry) (e : Entry) (now o
     → one ≡ cond (e.1 == class) 1 0
     → now + count_of class (entries_in left) ≡ count_of class (entries_in all)
     → now + one + count_of class (entries_in rest) ≡ count_of class (entries_in all)
-counted_next class left rest all e now one taken is so_far =
-    let split : count_of class (entries_in left) ≡ cond (e.1 == class) 1 0 + count_of class (entries_in rest) =
-    ap (λ (l : List Entry). count_of class (entries_in l)) taken
-    ∙ count_step (e.1 == class) (changed_at e) (filter (is_of_class class) (entries_in rest)) in
-    omega (arith, split, is, so_far)
+counted_next class left rest all e now one taken is so_far = grind (arith, count_step)
 
 pub count_fits : (class : ℕ) (all : List Entry) → count_of class (entries_in all) ≤ length all
-count_fits class all =
-    let long = length-map all changed_at in
-    omega (arith, long, length-filter-le (is_of_class class) (entries_in all))
+count_fits class all = grind (arith, length-map, length-filter-le)

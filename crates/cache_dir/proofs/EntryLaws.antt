@@ -1,5 +1,5 @@
 -- The entries of a map: copied in their order, and changed.
-use Rattle.cache_dir.proofs.Imports.{◌≡◌, ℕ, suc, Bool, true, false, nat_eq, cond, List, [], ◌∷◌, ◌++◌, Option, None, Some, option_map, map, length, refl, sym, ap, ◌∙◌, subst, append_assoc, append-nil, IsDistinct, keys_of, lookup, RetainsPairs, pointwise, nat_list_eq_equiv, false≢true, NonePasses, none_past_head}
+use Rattle.cache_dir.proofs.Imports.{arith, ◌≡◌, ℕ, suc, Bool, true, false, nat_eq, cond, List, [], ◌∷◌, ◌++◌, Option, None, Some, option_map, map, length, refl, sym, ap, ◌∙◌, subst, append_assoc, append-nil, IsDistinct, keys_of, lookup, RetainsPairs, pointwise, nat_list_eq_equiv, false≢true, NonePasses, none_past_head}
 
 abbrev pub Entries : Type 0 → Type 0
 Entries X = List (List ℕ × X)
@@ -40,9 +40,7 @@ module _ {X : Type 0} where
 
   pub copy_absent : (done left rest whole : Entries X) (e : List ℕ × X) → left ≡ e ∷ rest → done ++ left ≡ whole
       → IsDistinct same (keys_of whole) → lookup (same e.0) done ≡ None
-  copy_absent done left rest whole e taken seam u =
-      apart_in_front done e rest
-      (subst (λ l. IsDistinct same (keys_of l)) (sym (ap (λ l. done ++ l) (sym taken) ∙ seam)) u)
+  copy_absent done left rest whole e taken seam u = grind (arith, apart_in_front)
 
   pub copy_all : (done left whole : Entries X) → left ≡ [] → done ++ left ≡ whole → done ≡ whole
   copy_all done left whole none seam = sym (append-nil done) ∙ ap (λ l. done ++ l) (sym none) ∙ seam

@@ -1,5 +1,5 @@
 -- What proofs here name of other crates, and of this one's definitions. Declares nothing.
-pub use Rattle.std.proofs.Common.{◌≡◌, ℕ, suc, Bool, true, false, nat_eq, cond, List, [], ◌∷◌, ◌++◌, Option, None, Some, option_map, map, length, refl, sym, ap, ◌∙◌, subst, append_assoc, append-nil, not, ◌==◌, rules, ◌≤◌}
+pub use Rattle.std.proofs.Common.{arith, ◌≡◌, ℕ, suc, Bool, true, false, nat_eq, cond, List, [], ◌∷◌, ◌++◌, Option, None, Some, option_map, map, length, refl, sym, ap, ◌∙◌, subst, append_assoc, append-nil, not, ◌==◌, rules, ◌≤◌}
 pub use Rattle.std.proofs.lemmas.Bool.{false≢true}
 pub use Rattle.std.proofs.lemmas.Map.{NonePasses}
 pub use Rattle.std.proofs.lemmas.Map.Entries.{none_past_head, option_filter, lookup-filter-values}

@@ -1,5 +1,5 @@
 -- Castout locks that are noted by the names of their rows, and released.
-use Rattle.cache_dir.proofs.Imports.{◌≡◌, ℕ, Bool, true, false, not, ◌==◌, cond, List, Option, None, Some, option_map, refl, option_filter, Name16, ConnId, DirRow, row_at, let_go, lock_without}
+use Rattle.cache_dir.proofs.Imports.{arith, ◌≡◌, ℕ, Bool, false, not, ◌==◌, List, Option, None, Some, option_map, refl, option_filter, Name16, ConnId, DirRow, row_at, let_go, lock_without}
 
 -- a lock is this connector's
 abbrev is_of : ConnId → Option ConnId → Bool
@@ -16,8 +16,4 @@ pub record IsReleased (conn : ConnId) (start now : List (List ℕ × DirRow)) (l
 pub filtered : (conn : ConnId) (lock : Option ConnId)
     → option_filter (λ (other : ConnId). not (other.0 == conn.0)) lock ≡ lock_without conn lock
 filtered conn None = refl
-filtered conn (Some other) = go (other.0 == conn.0)
-  where
-    go : (b : Bool) → cond (not b) (Some other) None ≡ cond b None (Some other)
-    go true = refl
-    go false = refl
+filtered conn (Some other) = grind arith

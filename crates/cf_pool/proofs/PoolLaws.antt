@@ -22,30 +22,14 @@ set_chain : (cells cells' : List (List ℕ)) (next next' lens : List ℕ) (at l 
     → chain_at cells' next' k (get_or lens k 0) ≡ chain_at cells next k (get_or lens k 0))
     → chains_in cells' next' (set lens at l) ≡ set (chains_in cells next lens) at (chain_at cells' next' at l)
 set_chain cells cells' next next' lens at l lt others =
-    let one = length-set lens at l in
-    let more = length-chains cells' next' (set lens at l) in
-    let same = length-chains cells next lens in
-    let all = length-set (chains_in cells next lens) at (chain_at cells' next' at l) in
-    same_lists _ _ (more ∙ one ∙ sym (all ∙ same))
-    (λ k d h. (let within : k < length lens = omega (arith, more, one) in
-    chain_is cells' next' (set lens at l) k d (omega (arith, one)) ∙ elim (eqb_tells k at) [
-      | inl e ↦ subst (λ j. chain_at cells' next' j (get_or (set lens at l) j 0)
-          ≡ get_or (set (chains_in cells next lens) at (chain_at cells' next' at l)) j d) (sym e.1)
-          (rw (get_or-set_same lens at l 0 lt)
-          (sym (get_or-set_same (chains_in cells next lens) at _ d (omega (arith, same)))))
-      | inr e ↦ rw (get_or-set_other lens at k l 0 e.1)
-          (others k within e.1 ∙ sym
-          (get_or-set_other (chains_in cells next lens) at k _ d e.1 ∙ chain_is cells next lens k d within))
-    ]))
+    grind (arith, length-set, length-chains, same_lists, chain_is, eqb_tells, get_or-set_same, get_or-set_other)
 
 other_chain : (owner rank : ℕ → ℕ) (cells cells' : List (List ℕ)) (next next' : List ℕ) (label at l : ℕ)
     → ((x : ℕ) → owner x ≡ label → (get_or cells' x [] ≡ get_or cells x []) × (get_or next' x 0 ≡ get_or next x 0))
     → (0 < l → IsRun owner rank next label (need_of l) at)
     → chain_at cells' next' at l ≡ chain_at cells next at l
 other_chain owner rank cells cells' next next' label at zero same run = refl
-other_chain owner rank cells cells' next next' label at (suc l) same run =
-    ap (λ w. Some (take (suc l) w))
-    (same_walk owner rank cells cells' next next' label (need_of (suc l)) at same (run (omega arith)))
+other_chain owner rank cells cells' next next' label at (suc l) same run = grind (arith, same_walk)
 
 pub chain_some : (cells : List (List ℕ)) (next : List ℕ) (at l : ℕ) → 0 < l
     → chain_at cells next at l ≡ Some (take l (walked cells next (need_of l) at))
@@ -100,9 +84,7 @@ module _ (owner rank : ℕ → ℕ) (label f new : ℕ) where
   taken_rank x = cond (is_taken x) (rank x - f) (rank x)
 
   taken : (x : ℕ) → owner x ≡ label → f ≤ rank x → (taken_owner x ≡ new) × (taken_rank x + f ≡ rank x)
-  taken x o r =
-      let test : is_taken x
-      ≡ true = and_from _ _ (eq-eqb _ _ o) (le-leb _ _ r) in (rw test refl, rw test (omega (arith, r)))
+  taken x o r = grind (arith, and_from, eq-eqb, le-leb)
 
   untaken : (x : ℕ) → is_taken x ≡ false → (taken_owner x ≡ owner x) × (taken_rank x ≡ rank x)
   untaken x test = (rw test refl, rw test refl)
@@ -122,9 +104,7 @@ first_of owner rank next label (suc n) at h run = (run.0, run.1)
 module _ (cells : List (List ℕ)) (next lens : List ℕ) (head free : ℕ) (s : IsShared cells next lens head free) where
   -- no chain begins at a free element
   pub head_empty : 0 < free → (head < length next) × (get_or lens head 0 ≡ 0)
-  head_empty some =
-      let first = first_of s.owner s.rank next (length next) free head some s.free_run in
-      (first.0, go (get_or lens head 0) refl first.0 first.1)
+  head_empty some = grind (arith, go)
     where
       go : (l : ℕ) → get_or lens head 0 ≡ l → head < length next → s.owner head ≡ length next → l ≡ 0
       go zero e lt o = refl
@@ -184,13 +164,7 @@ module _ (cells : List (List ℕ)) (next lens : List ℕ) (head free : ℕ) (s :
             (front_run s.owner s.rank _ _ next (length next) head (free - n) free (need_of l) head
             (omega (arith, is, le))
             (taken s.owner s.rank (length next) (free - n) head) s.free_run))
-        set_runs at (inr e) lt len =
-            let same = get_or-set_other lens head at l 0 e.1 in
-            rw same
-            (kept_run s.owner s.rank _ _ next next at (need_of (get_or lens at 0)) (need_of (get_or lens at 0)) at refl
-            (λ x o r. (let k = of_others s.owner s.rank (length next) (free - n) head x at o (omega (arith, lt)) in
-            (k.0, k.1, refl)))
-            (omega arith) (s.chain_runs at lt (subst (λ k. 0 < k) same len)))
+        set_runs at (inr e) lt len = grind (arith, get_or-set_other, kept_run, of_others)
 
     pub put_chains : (bytes : List ℕ) → length bytes ≡ l
         → chains_in (stored next n head bytes cells) next (set lens head l)
@@ -281,20 +255,8 @@ module _ (cells : List (List ℕ)) (next lens : List ℕ) (head free : ℕ) (s :
         set_runs : (x : ℕ) → ((eqb x at ≡ true) × (x ≡ at)) ⊎ ((eqb x at ≡ false) × (x ≢ at))
             → x < length next → 0 < get_or (set lens at 0) x 0
             → IsRun owner' rank' (set next (behind next (n - 1) at) head) x (need_of (get_or (set lens at 0) x 0)) x
-        set_runs x (inl e) h len =
-            absurd (omega (
-              arith,
-              subst
-                  (λ k. 0 < get_or (set lens at 0) k 0) e.1 len,
-              get_or-set_same lens at 0 0 lt_lens,
-            ))
-        set_runs x (inr e) h len =
-            let same = get_or-set_other lens at x 0 0 e.1 in
-            rw same
-            (kept_run s.owner s.rank owner' rank' next _ x (need_of (get_or lens x 0)) (need_of (get_or lens x 0)) x
-            (length-set next _ head)
-            (λ y o r. (let k = not_its_own y x o e.1 in (k.0, k.1, link y x o e.1)))
-            (omega arith) (s.chain_runs x h (subst (λ k. 0 < k) same len)))
+        set_runs x (inl e) h len = grind (arith, get_or-set_same, lt_lens)
+        set_runs x (inr e) h len = grind (arith, get_or-set_other, kept_run, length-set, not_its_own, link)
 
     pub give_chains : chains_in cells (set next (behind next (n - 1) at) head) (set lens at 0)
         ≡ set (chains_in cells next lens) at None
@@ -377,21 +339,11 @@ module _ (cells : List (List ℕ)) (next lens : List ℕ) (head free : ℕ) (s :
     fill_first = omega (arith, s.all_lens, (head_empty (omega (arith, some, room))).0)
 
     pub fill_shared : IsShared cells' next (set lens head (length bytes)) rest (free - need_of (length bytes))
-    fill_shared =
-        subst (λ x. IsShared x next (set lens head (length bytes)) rest (free - need_of (length bytes))) (sym stores)
-        (subst (λ x. IsShared (stored next n head bytes cells) next (set lens head (length bytes)) x
-        (free - need_of (length bytes))) (sym follows)
-        (subst (λ k. IsShared (stored next n head bytes cells) next (set lens head (length bytes))
-        (behind next n head) (free - k)) is
-        (put_shared (length bytes) some few n is (omega (arith, is, room)) (stored next n head bytes cells)
-        (length-stored next n head bytes cells ∙ s.all_cells)
-        (stored_whole next n head bytes cells s.all_cells (free_within n (omega (arith, is, room))) s.whole))))
+    fill_shared = grind (arith, put_shared, length-stored, stored_whole, free_within)
 
     pub fill_chains : chains_in cells' next (set lens head (length bytes))
         ≡ set (chains_in cells next lens) head (Some bytes)
-    fill_chains =
-        ap (λ x. chains_in x next (set lens head (length bytes))) stores
-        ∙ put_chains (length bytes) some few n is (omega (arith, is, room)) bytes refl
+    fill_chains = grind (arith, put_chains)
 
     pub fill_fresh : slice_get (chains_in cells next lens) head ≡ Some None
     fill_fresh =
@@ -401,10 +353,7 @@ module _ (cells : List (List ℕ)) (next lens : List ℕ) (head free : ℕ) (s :
         ∙ ap Some (chain_is cells next lens head None fill_first ∙ ap (chain_at cells next head) empty)
 
     pub fill_stored : slice_get (chains_in cells' next (set lens head (length bytes))) head ≡ Some (Some bytes)
-    fill_stored =
-        subst (λ xs. slice_get xs head ≡ Some (Some bytes)) (sym fill_chains)
-        (stored_at (chains_in cells next lens) head (Some bytes)
-        (omega (arith, fill_first, length-chains cells next lens)))
+    fill_stored = grind (arith, fill_chains, stored_at, fill_first, length-chains)
 
   module _ (at : ℕ) (h : IsChain (chains_in cells next lens) at) where
     abbrev there : (at < length next) × (0 < get_or lens at 0)
@@ -460,10 +409,7 @@ new_shared cells next lens n all none len few whole links =
     }
   where
     no_length : (x : ℕ) → get_or lens x 0 ≡ 0
-    no_length x = elim (cases_lt x n) [
-      | inl lt ↦ rw none (get_or-replicate n x 0 0 lt)
-      | inr ge ↦ rw none (get_or_past (replicate n 0) x 0 (omega (arith, length-replicate {A = ℕ} n 0, ge)))
-    ]
+    no_length x = grind (arith, cases_lt, get_or-replicate, get_or_past, length-replicate)
 
     run : (m at : ℕ) → at + m ≡ n → IsRun (λ x. length next) (λ x. n - 1 - x) next (length next) m at
     run zero at e = tt
@@ -478,9 +424,4 @@ new_shared cells next lens n all none len few whole links =
 pub new_chains : (cells : List (List ℕ)) (next lens : List ℕ) (n : ℕ) → lens ≡ replicate n 0
     → chains_in cells next lens ≡ replicate n None
 new_chains cells next lens n none =
-    let count : length lens ≡ n = ap length none ∙ length-replicate n 0 in
-    same_lists _ _ (length-chains cells next lens ∙ count ∙ sym (length-replicate n None))
-    (λ k d h. (let within : k < length lens = omega (arith, h, length-chains cells next lens) in
-    let empty : get_or lens k 0 ≡ 0 = rw none (get_or-replicate n k 0 0 (omega (arith, within, count))) in
-    chain_is cells next lens k d within ∙ ap (chain_at cells next k) empty
-    ∙ sym (get_or-replicate n k None d (omega (arith, within, count)))))
+    grind (arith, length-replicate, same_lists, length-chains, get_or-replicate, chain_is)

@@ -15,12 +15,10 @@ pub kept_run : (owner rank owner' rank' : ℕ → ℕ) (next next' : List ℕ) (
     → n ≤ bound → IsRun owner rank next label n at → IsRun owner' rank' next' label n at
 kept_run owner rank owner' rank' next next' label bound zero at len same le run = tt
 kept_run owner rank owner' rank' next next' label bound (suc n) at len same le run =
-    let here = same at run.1 (omega (arith, run.2)) in (
-      omega (arith, run.0),
-      here.0,
-      here.1 ∙ run.2,
-      subst (λ x. IsRun owner' rank' next' label n x) (sym here.2)
-          (kept_run owner rank owner' rank' next next' label bound n (get_or next at 0) len same (omega arith) run.3),
+    grind (
+      arith,
+      kept_run owner rank owner' rank' next next' label bound n (get_or next at 0) len same (omega
+          arith) run.3,
     )
 
 -- the front of a run goes to a new owner
@@ -30,11 +28,10 @@ pub front_run : (owner rank owner' rank' : ℕ → ℕ) (next : List ℕ) (label
 front_run owner rank owner' rank' next label label' f t zero at e moves run = tt
 front_run owner rank owner' rank' next label label' f zero (suc n) at e moves run = absurd (omega arith)
 front_run owner rank owner' rank' next label label' f (suc t) (suc n) at e moves run =
-    let here = moves at run.1 (omega (arith, run.2)) in (
-      run.0,
-      here.0,
-      omega (arith, here.1, run.2),
-      front_run owner rank owner' rank' next label label' f t n (get_or next at 0) (omega arith) moves run.3,
+    grind (
+      arith,
+      front_run owner rank owner' rank' next label label' f t n (get_or next at 0) (omega arith) moves
+          run.3,
     )
 
 -- what is behind the front is a run
@@ -59,15 +56,7 @@ pub joined_run : (owner rank owner' rank' : ℕ → ℕ) (next next' : List ℕ)
     → IsRun owner' rank' next' label' f first → rank last ≡ 0
     → IsRun owner rank next label (suc n) at → behind next n at ≡ last → IsRun owner' rank' next' label' (suc n + f) at
 joined_run owner rank owner' rank' next next' label label' f zero at last first len moves same to rest low run e =
-    let here = moves at run.1 in
-    let one : suc zero + f ≡ suc f = omega arith in
-    let on : get_or next' at 0 ≡ first = subst (λ x. get_or next' x 0 ≡ first) (sym e) to in
-    subst (λ k. IsRun owner' rank' next' label' k at) (sym one) (
-      omega (arith, run.0),
-      here.0,
-      omega (arith, here.1, run.2),
-      subst (λ x. IsRun owner' rank' next' label' f x) (sym on) rest,
-    )
+    grind arith
 joined_run owner rank owner' rank' next next' label label' f (suc n) at last first len moves same to rest low run e =
     let here = moves at run.1 in
     let one : suc (suc n) + f ≡ suc (suc n + f) = omega arith in
@@ -91,9 +80,7 @@ pub same_walk : (owner rank : ℕ → ℕ) (cells cells' : List (List ℕ)) (nex
     → IsRun owner rank next label n at → walked cells' next' n at ≡ walked cells next n at
 same_walk owner rank cells cells' next next' label zero at same run = refl
 same_walk owner rank cells cells' next next' label (suc n) at same run =
-    let here = same at run.1 in
-    rw (here.0, here.1) (ap (λ w. take SIZE (get_or cells at []) ++ w)
-    (same_walk owner rank cells cells' next next' label n (get_or next at 0) same run.3))
+    grind (arith, same_walk owner rank cells cells' next next' label n (get_or next at 0) same run.3)
 
 -- what is stored in a run changes nothing outside
 pub stored_outside : (owner rank : ℕ → ℕ) (next : List ℕ) (label n at x : ℕ) (bytes : List ℕ) (cells : List (List ℕ))
@@ -120,13 +107,7 @@ front_and_rest size bytes cell rest e = elim
     (cases_lt (length bytes) size) [ inl short ↦ few (omega arith) | inr long ↦ many long ]
   where
     few : length bytes ≤ size → take (length bytes) (take size (written (take size bytes) cell) ++ rest) ≡ bytes
-    few h =
-        rw (take_all size bytes h)
-        (let more = drop (length bytes) cell in
-        let long : length bytes ≤ length (take size (bytes ++ more))
-        = rw (length-take size (bytes ++ more)) (omega (arith, length-append bytes more)) in
-        take-append-le (length bytes) (take size (bytes ++ more)) rest long
-        ∙ take-take (length bytes) size (bytes ++ more) h ∙ take_at bytes more (length bytes) refl)
+    few h = grind (arith, take_all, length-take, length-append, take-append-le, take-take, take_at)
 
     many : size ≤ length bytes → take (length bytes) (take size (written (take size bytes) cell) ++ rest) ≡ bytes
     many h =

@@ -19,15 +19,11 @@ stored-step next n m at bytes cells e = rw e refl
 
 -- the first elements of two lists, one behind the other
 pub take_both : (n : ℕ) (xs ys : List ℕ) → take n (xs ++ ys) ≡ take n xs ++ take (n - length xs) ys
-take_both zero xs ys =
-    let none : zero - length xs ≡ zero = omega arith in
-    sym (ap (λ k. take k ys) none)
+take_both zero xs ys = grind arith
 take_both (suc n) [] ys =
     let all : suc n - zero ≡ suc n = omega arith in
     sym (ap (λ k. take k ys) all)
-take_both (suc n) (x ∷ xs) ys =
-    let one : suc n - suc (length xs) ≡ n - length xs = omega arith in
-    ap (λ w. x ∷ w) (take_both n xs ys ∙ ap (λ k. take n xs ++ take k ys) (sym one))
+take_both (suc n) (x ∷ xs) ys = grind (arith, take_both n xs ys)
 
 -- a walk goes on behind the first part of so many bytes
 pub walked_more : (cells : List (List ℕ)) (next : List ℕ) (done now whole : List ℕ) (n m at len wanted : ℕ)
@@ -74,11 +70,7 @@ pub stored_more : (next : List ℕ) (n m at : ℕ) (bytes part later cell : List
     → stored next n at bytes cells ≡ whole → part ≡ take SIZE bytes → later ≡ drop SIZE bytes
     → cell ≡ written part (get_or cells at [])
     → stored next m (get_or next at 0) later (set cells at cell) ≡ whole
-stored_more next n m at bytes part later cell cells whole one h p l c =
-    ap (λ x. stored next m (get_or next at 0) x (set cells at cell)) l
-    ∙ ap (λ x. stored next m (get_or next at 0) (drop SIZE bytes) (set cells at x))
-    (c ∙ ap (λ x. written x (get_or cells at [])) p)
-    ∙ sym (stored-step next n m at bytes cells one) ∙ h
+stored_more next n m at bytes part later cell cells whole one h p l c = grind (arith, stored-step)
 
 pub appended : {E : Type 0} (r : Result (Unit {0}) E) (new old part : List ℕ)
     → new ≡ (if is_ok r then old ++ part else old)

@@ -1,5 +1,5 @@
 -- Sets of connectors: what a member more or less changes, and how the bits that a set is kept as follow.
-use Rattle.cf_types.proofs.Imports.{◌≡◌, ◌≢◌, ℕ, zero, suc, ◌+◌, ◌*◌, ◌/◌, ◌%◌, ◌^◌, ◌<◌, ◌≤◌, Bool, true, false, cond, not, ◌&&◌, ◌⊎◌, ◌==◌, eqb, ltb, filter, List, [], ◌∷◌, ◌++◌, length, bit_and, bit_or, count_ones, refl, sym, ap, subst, ◌∙◌, ⊎_elim, arith, add-one, add-zero, zero-add, eq-eqb, ne_eqb, lt-ltb, le-ltb, and_right, cases_eq, cases_order, append-nil, filter-append, shr-shr, mod-pow-add, ones-le, one_shl, pow_pos, or_lt, and_pow, bit_at-lt, bit_at-zero, bit_at_set_same, bit_at_set_other, bit_at_clear_same, bit_at_clear_other, mod-one, zero-mul, bit_at, bit_not, w128, ones_step, SET_NUMBERS, conns_from, is_member, with_member, without_member, members, ConnId}
+use Rattle.cf_types.proofs.Imports.{◌≡◌, ◌≢◌, ℕ, zero, suc, ◌+◌, ◌*◌, ◌/◌, ◌%◌, ◌^◌, ◌<◌, ◌≤◌, Bool, true, false, cond, not, ◌&&◌, ◌⊎◌, ◌==◌, filter, List, [], ◌∷◌, ◌++◌, length, bit_and, bit_or, count_ones, refl, sym, ap, ◌∙◌, ⊎_elim, arith, add-one, add-zero, zero-add, eq-eqb, ne_eqb, lt-ltb, le-ltb, and_right, cases_eq, cases_order, append-nil, filter-append, shr-shr, mod-pow-add, ones-le, one_shl, pow_pos, or_lt, and_pow, bit_at-lt, bit_at-zero, bit_at_set_same, bit_at_set_other, bit_at_clear_same, bit_at_clear_other, mod-one, zero-mul, bit_at, bit_not, w128, ones_step, SET_NUMBERS, conns_from, is_member, with_member, without_member, members, ConnId}
 
 -- ---- the connectors of a range that pass a test
 
@@ -10,9 +10,7 @@ pub filter_agree_from : (p q : ConnId → Bool) (first n : ℕ) → ((c : ConnId
 unfolding conns_from
 filter_agree_from p q first zero agree = refl
 filter_agree_from p q first (suc n) agree =
-    let c : ConnId = record { 0 = first } in
-    let others = filter_agree_from p q (first + 1) n (λ c low high. agree c (omega arith) (omega arith)) in
-    rw (agree c (omega arith) (omega arith)) (ap (λ (t : List ConnId). cond (q c) (c ∷ t) t) others)
+    grind (arith, filter_agree_from p q (first + 1) n (λ c low high. agree c (omega arith) (omega arith)))
 
 -- nobody passes
 pub filter_none_from : (p : ConnId → Bool) (first n : ℕ) → ((c : ConnId) → first ≤ c.0 → c.0 < first + n
@@ -21,23 +19,14 @@ pub filter_none_from : (p : ConnId → Bool) (first n : ℕ) → ((c : ConnId) �
 unfolding conns_from
 filter_none_from p first zero none = refl
 filter_none_from p first (suc n) none =
-    let c : ConnId = record { 0 = first } in
-    rw (none c (omega arith) (omega arith)) (filter_none_from p (first + 1) n
-    (λ c low high. none c (omega arith) (omega arith)))
+    grind (arith, filter_none_from p (first + 1) n (λ c low high. none c (omega arith) (omega arith)))
 
 -- a connector below the range isn't among them
 pub is_member-below : (p : ConnId → Bool) (conn : ConnId) (first n : ℕ) → conn.0 < first
     → is_member conn (filter p (conns_from first n)) ≡ false
 unfolding conns_from
 is_member-below p conn first zero below = refl
-is_member-below p conn first (suc n) below = go (p (record { 0 = first })) (ne_eqb first conn.0 (λ e. omega arith))
-    (is_member-below p conn (first + 1) n (omega arith))
-  where
-    go : (b : Bool) → eqb first conn.0 ≡ false → is_member conn (filter p (conns_from (first + 1) n)) ≡ false
-        → is_member conn (cond b (record { 0 = first } ∷ filter p (conns_from (first + 1) n))
-        (filter p (conns_from (first + 1) n))) ≡ false
-    go true apart others = rw (apart, others) refl
-    go false apart others = others
+is_member-below p conn first (suc n) below = grind (arith, ne_eqb, is_member-below p conn (first + 1) n (omega arith))
 
 -- one in the range is among them where it passes
 is_member-first : (p : ConnId → Bool) (conn : ConnId) (first n : ℕ) → first ≡ conn.0 → (b : Bool)
@@ -69,16 +58,7 @@ with_member-below : (p : ConnId → Bool) (conn : ConnId) (first n : ℕ) → co
 unfolding conns_from
 with_member-below p conn first zero below = refl
 with_member-below p conn first (suc n) below =
-    go (p (record { 0 = first })) (ne_eqb first conn.0 (λ e. omega arith)) (le-ltb first conn.0 (omega arith))
-    (with_member-below p conn (first + 1) n (omega arith))
-  where
-    go : (b : Bool) → eqb first conn.0 ≡ false → ltb first conn.0 ≡ false
-        → with_member conn (filter p (conns_from (first + 1) n)) ≡ conn ∷ filter p (conns_from (first + 1) n)
-        → with_member conn (cond b (record { 0 = first } ∷ filter p (conns_from (first + 1) n))
-        (filter p (conns_from (first + 1) n))) ≡ conn ∷ cond b
-        (record { 0 = first } ∷ filter p (conns_from (first + 1) n)) (filter p (conns_from (first + 1) n))
-    go true apart above others = rw (above, apart) refl
-    go false apart above others = others
+    grind (arith, ne_eqb, le-ltb, with_member-below p conn (first + 1) n (omega arith))
 
 with_member-here : (p : ConnId → Bool) (conn : ConnId) (n : ℕ) (b : Bool)
     → conn ∷ filter p (conns_from (conn.0 + 1) n)
@@ -97,13 +77,7 @@ with_member-first : (p q : ConnId → Bool) (conn : ConnId) (first n : ℕ) → 
     (filter q (conns_from (first + 1) n)) ≡ with_member conn
     (cond (p (record { 0 = first })) (record { 0 = first } ∷ filter p (conns_from (first + 1) n))
     (filter p (conns_from (first + 1) n)))
-with_member-first p q conn first n here one rest =
-    let F : ℕ → Type 0 = λ f. filter q (conns_from (f + 1) n) ≡ filter p (conns_from (f + 1) n)
-    → cond (q (record { 0 = f })) (record { 0 = f } ∷ filter q (conns_from (f + 1) n))
-    (filter q (conns_from (f + 1) n)) ≡ with_member conn
-    (cond (p (record { 0 = f })) (record { 0 = f } ∷ filter p (conns_from (f + 1) n))
-    (filter p (conns_from (f + 1) n))) in
-    subst F (sym here) (λ rest. rw (one, rest) (with_member-here p conn n (p conn))) rest
+with_member-first p q conn first n here one rest = grind (arith, with_member-here)
 
 -- where one of the range passes besides
 pub with_member-from : (p q : ConnId → Bool) (conn : ConnId) (first n : ℕ) → first ≤ conn.0 → conn.0 < first + n
@@ -132,13 +106,7 @@ with_member-from p q conn first (suc n) low high one same =
 
 filter-filter : {X : Type 0} (p q : X → Bool) (xs : List X) → filter q (filter p xs) ≡ filter (λ x. p x && q x) xs
 filter-filter p q [] = refl
-filter-filter {X = X} p q (x ∷ xs) = go (p x) (filter-filter p q xs)
-  where
-    go : (b : Bool) → filter q (filter p xs) ≡ filter (λ x. p x && q x) xs
-        → filter q (cond b (x ∷ filter p xs) (filter p xs))
-        ≡ cond (b && q x) (x ∷ filter (λ x. p x && q x) xs) (filter (λ x. p x && q x) xs)
-    go true others = ap (λ (t : List X). cond (q x) (x ∷ t) t) others
-    go false others = others
+filter-filter {X = X} p q (x ∷ xs) = grind (arith, filter-filter p q xs)
 
 and-true : (b : Bool) → b ≡ (b && true)
 and-true true = refl
@@ -146,46 +114,27 @@ and-true false = refl
 
 without_member-at : (p q : ConnId → Bool) (conn c : ConnId) → q conn ≡ false → (c.0 ≢ conn.0 → q c ≡ p c)
     → q c ≡ (p c && not (c.0 == conn.0))
-without_member-at p q conn c none same =
-    let at : ℕ → ConnId = λ n. record { 0 = n } in
-    ⊎_elim (λ (here : c.0 ≡ conn.0). ap (λ (k : ℕ). q (at k)) here ∙ none
-    ∙ sym (and_right (p c) (not (c.0 == conn.0)) (rw (eq-eqb c.0 conn.0 here) refl)))
-    (λ (apart : c.0 ≢ conn.0). rw (ne_eqb c.0 conn.0 apart) (same apart ∙ and-true (p c))) (cases_eq c.0 conn.0)
+without_member-at p q conn c none same = grind (arith, ⊎_elim, and_right, eq-eqb, ne_eqb, and-true, cases_eq)
 
 -- where one of the range passes no more
 pub without_member-from : (p q : ConnId → Bool) (conn : ConnId) (first n : ℕ) → q conn ≡ false
     → ((c : ConnId) → c.0 ≢ conn.0 → c.0 < first + n → q c ≡ p c)
     → filter q (conns_from first n) ≡ without_member conn (filter p (conns_from first n))
-without_member-from p q conn first n none same =
-    filter_agree_from q (λ c. p c && not (c.0 == conn.0)) first n
-    (λ c low high. without_member-at p q conn c none (λ apart. same c apart high))
-    ∙ sym (filter-filter p (λ c. not (c.0 == conn.0)) (conns_from first n))
+without_member-from p q conn first n none same = grind (arith, filter_agree_from, without_member-at, filter-filter)
 
 -- ---- one connector more in the range
 
 conns_from-suc : (first n : ℕ) → conns_from first (suc n) ≡ conns_from first n ++ record { 0 = first + n } ∷ []
 unfolding conns_from
 conns_from-suc first zero = let at : ℕ → List ConnId = λ m. record { 0 = m } ∷ [] in ap at (sym (add-zero first))
-conns_from-suc first (suc n) =
-    let at : ℕ → List ConnId = λ m. record { 0 = first } ∷ (conns_from (first + 1) n ++ record { 0 = m } ∷ []) in
-    let same : first + 1 + n ≡ first + suc n = omega arith in
-    ap (λ (t : List ConnId). record { 0 = first } ∷ t) (conns_from-suc (first + 1) n) ∙ ap at same
+conns_from-suc first (suc n) = grind (arith, conns_from-suc (first + 1) n)
 
 with_member-last : (p : ConnId → Bool) (conn : ConnId) (first n : ℕ) → first + n ≤ conn.0
     → with_member conn (filter p (conns_from first n)) ≡ filter p (conns_from first n) ++ conn ∷ []
 unfolding conns_from
 with_member-last p conn first zero above = refl
 with_member-last p conn first (suc n) above =
-    go (p (record { 0 = first })) (lt-ltb first conn.0 (omega arith))
-    (with_member-last p conn (first + 1) n (omega arith))
-  where
-    go : (b : Bool) → ltb first conn.0 ≡ true → with_member conn (filter p (conns_from (first + 1) n))
-        ≡ filter p (conns_from (first + 1) n) ++ conn ∷ []
-        → with_member conn (cond b (record { 0 = first } ∷ filter p (conns_from (first + 1) n))
-        (filter p (conns_from (first + 1) n))) ≡ cond b (record { 0 = first } ∷ filter p (conns_from (first + 1) n))
-        (filter p (conns_from (first + 1) n)) ++ conn ∷ []
-    go true below others = rw below (ap (λ (t : List ConnId). record { 0 = first } ∷ t) others)
-    go false below others = others
+    grind (arith, lt-ltb, with_member-last p conn (first + 1) n (omega arith))
 
 filter-one : (p : ConnId → Bool) (conn : ConnId) (n : ℕ) → n ≤ conn.0 → (b : Bool)
     → filter p (conns_from 0 n) ++ cond b (conn ∷ []) []

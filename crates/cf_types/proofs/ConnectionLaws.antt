@@ -17,11 +17,8 @@ state_of-set_same conns conn state within = state_of-get_or (set conns conn.0 st
 state_of-set : (conns : Connections) (conn : ConnId) (state : Option ConnState)
     → (length conns ≤ conn.0 → state ≡ None)
     → state_of (slice_set conns conn.0 state) conn ≡ state
-state_of-set conns conn state past = ⊎_elim (λ
-    (within : conn.0 < length conns). state_of-set_same conns conn state within)
-    (λ (h : length conns ≤ conn.0). state_of-get_or (set conns conn.0 state) conn
-    ∙ get_or_past (set conns conn.0 state) conn.0 None (omega (arith, length-set conns conn.0 state)) ∙ sym (past h))
-    (cases_lt conn.0 (length conns))
+state_of-set conns conn state past =
+    grind (arith, ⊎_elim, state_of-set_same, state_of-get_or, get_or_past, length-set, cases_lt)
 
 state_of_past : (conns : Connections) (conn : ConnId) → length conns ≤ conn.0 → state_of conns conn ≡ None
 state_of_past conns conn past = state_of-get_or conns conn ∙ get_or_past conns conn.0 None past
@@ -59,9 +56,7 @@ state_of-with_departure_same conn keep conns within =
 
 pub state_of-with_departure_other : (conn : ConnId) (keep : Bool) (conns : Connections) (other : ConnId)
     → other.0 ≢ conn.0 → state_of (with_departure conn keep conns) other ≡ excused_state conn (state_of conns other)
-state_of-with_departure_other conn keep conns other apart =
-    state_of-set_other (map (excused_state conn) conns) conn other _ apart
-    ∙ state_of-map (excused_state conn) refl conns other
+state_of-with_departure_other conn keep conns other apart = grind (arith, state_of-set_other, state_of-map)
 
 pub state_of-with_answer_same : (by about : ConnId) (conns : Connections)
     → state_of (with_answer by about conns) about ≡ excused_state by (state_of conns about)
@@ -102,8 +97,7 @@ is_member-actives conns conn within = is_member-from (is_active conns) conn 0 CA
 pub is_active-with_departure_same : (conn : ConnId) (keep : Bool) (conns : Connections) → conn.0 < length conns
     → is_active (with_departure conn keep conns) conn ≡ false
 is_active-with_departure_same conn keep conns within =
-    ap is_active_state (state_of-with_departure_same conn keep conns within)
-    ∙ is_active-departed_state keep (without_member conn (actives conns))
+    grind (arith, state_of-with_departure_same, is_active-departed_state)
 
 pub is_active-with_departure_other : (conn : ConnId) (keep : Bool) (conns : Connections) (other : ConnId)
     → other.0 ≢ conn.0 → is_active (with_departure conn keep conns) other ≡ is_active conns other
@@ -114,12 +108,7 @@ is_active-with_departure_other conn keep conns other apart =
 pub is_active-with_answer : (by about : ConnId) (conns : Connections) (conn : ConnId)
     → is_active (with_answer by about conns) conn ≡ is_active conns conn
 is_active-with_answer by about conns conn =
-    let at : ℕ → ConnId = λ n. record { 0 = n } in
-    ⊎_elim (λ (here : conn.0 ≡ about.0). ap (λ (n : ℕ). is_active (with_answer by about conns) (at n)) here
-    ∙ ap is_active_state (state_of-with_answer_same by about conns)
-    ∙ is_active-excused_state by (state_of conns about) ∙ ap (λ (n : ℕ). is_active conns (at n)) (sym here))
-    (λ (apart : conn.0 ≢ about.0). ap is_active_state (state_of-with_answer_other by about conns conn apart))
-    (cases_eq conn.0 about.0)
+    grind (arith, ⊎_elim, state_of-with_answer_same, is_active-excused_state, state_of-with_answer_other, cases_eq)
 
 pub actives-with_departure : (conn : ConnId) (keep : Bool) (conns : Connections) → conn.0 < length conns
     → actives (with_departure conn keep conns) ≡ without_member conn (actives conns)
@@ -140,13 +129,7 @@ pub actives-with_forced : (conn : ConnId) (conns : Connections) → is_active co
     → actives (with_forced conn conns) ≡ actives conns
 unfolding actives
 actives-with_forced conn conns idle =
-    let at : ℕ → ConnId = λ n. record { 0 = n } in
-    filter_agree_from (is_active (with_forced conn conns)) (is_active conns) 0 CALLERS
-    (λ c low high. ⊎_elim (λ (here : c.0 ≡ conn.0). ap (λ (n : ℕ). is_active (with_forced conn conns) (at n)) here
-    ∙ ap is_active_state (state_of-with_forced_same conn conns) ∙ sym idle
-    ∙ ap (λ (n : ℕ). is_active conns (at n)) (sym here))
-    (λ (apart : c.0 ≢ conn.0). ap is_active_state (state_of-with_forced_other conn conns c apart))
-    (cases_eq c.0 conn.0))
+    grind (arith, filter_agree_from, ⊎_elim, state_of-with_forced_same, state_of-with_forced_other, cases_eq)
 
 -- ---- who is awaited
 
@@ -160,10 +143,7 @@ excused_state-same conn None idle = refl
 -- an answer about a connector that isn't leaving changes nothing
 pub with_answer-same : (by about : ConnId) (conns : Connections) → is_leaving conns about ≡ false
     → with_answer by about conns ≡ conns
-with_answer-same by about conns idle =
-    let kept : excused_state by (state_of conns about) ≡ get_or conns about.0 None =
-    excused_state-same by (state_of conns about) idle ∙ state_of-get_or conns about in
-    ap (λ (state : Option ConnState). set conns about.0 state) kept ∙ set-get_or conns about.0 None
+with_answer-same by about conns idle = grind (arith, excused_state-same, state_of-get_or, set-get_or)
 
 -- ---- how many are defined
 
@@ -179,9 +159,6 @@ none_counted None few = refl
 pub gone-from_none_defined : (conns : Connections) → defined_count conns ≡ 0 → (conn : ConnId)
     → state_of conns conn ≡ None
 gone-from_none_defined conns none conn =
-    let counted : Option ConnState → ℕ = λ s. cond (is_some s) 1 0 in
-    ⊎_elim (λ (within : conn.0 < length conns). state_of-get_or conns conn
-    ∙ none_counted (get_or conns conn.0 None) (omega (arith, get_or-le-sum_by counted conns conn.0 None within)))
-    (λ (past : length conns ≤ conn.0). state_of_past conns conn past) (cases_lt conn.0 (length conns))
+    grind (arith, ⊎_elim, state_of-get_or, none_counted, get_or-le-sum_by, state_of_past, cases_lt)
 
 -- ---- what stays true

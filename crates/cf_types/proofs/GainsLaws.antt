@@ -1,5 +1,5 @@
 -- What is told of changed bits, one change after another.
-use Rattle.cf_types.proofs.Imports.{◌≡◌, ℕ, ◌==◌, ◌&&◌, Bool, true, false, List, [], ◌∷◌, ◌++◌, refl, sym, ap, ◌∙◌, append_assoc, map, filter, ◌⊎◌, inl, inr, arith, subst₂, map-append, filter-append, nat_tests, ConnId, BitChange, Bits, Gains, is_for, bits_told, difference}
+use Rattle.cf_types.proofs.Imports.{◌≡◌, ℕ, ◌==◌, ◌&&◌, Bool, true, false, List, [], ◌∷◌, ◌++◌, refl, sym, ap, ◌∙◌, append_assoc, ◌⊎◌, inl, inr, arith, map-append, filter-append, nat_tests, ConnId, BitChange, Bits, Gains, bits_told, difference}
 use Rattle.std.proofs.Common.{append-nil}
 
 difference_none : (b : Bool) → [] ≡ difference b b
@@ -9,18 +9,11 @@ difference_none true = refl
 -- where no bit changed nothing is told
 pub gains_none : (before after : Bits) (bits : List BitChange)
     → ((conn : ConnId) (index : ℕ) → after conn index ≡ before conn index) → Gains before after bits bits
-gains_none before after bits same =
-    record {
-      added = [];
-      behind = sym (append-nil bits);
-      exactly = λ conn index. rw (same conn index) (difference_none (before conn index));
-    }
+gains_none before after bits same = grind (arith, append-nil, difference_none)
 
 pub told-append : (xs ys : List BitChange) (conn : ConnId) (index : ℕ)
     → bits_told (xs ++ ys) conn index ≡ bits_told xs conn index ++ bits_told ys conn index
-told-append xs ys conn index =
-    ap (map (λ (change : BitChange). change.bit)) (filter-append (is_for conn index) xs ys)
-    ∙ map-append (λ (change : BitChange). change.bit) (filter (is_for conn index) xs) (filter (is_for conn index) ys)
+told-append xs ys conn index = grind (arith, filter-append, map-append)
 
 -- one change after another, where at most one of them changes the bit
 difference_then : (a b c : Bool) → (b ≡ a) ⊎ (c ≡ b) → difference a b ++ difference b c ≡ difference a c
@@ -32,15 +25,7 @@ difference_then a b c (inr same) = rw same (ap (λ (t : List Bool). difference a
 pub gains_then : (before middle after : Bits) (xs ys zs : List BitChange)
     → ((conn : ConnId) (index : ℕ) → (middle conn index ≡ before conn index) ⊎ (after conn index ≡ middle conn index))
     → Gains before middle xs ys → Gains middle after ys zs → Gains before after xs zs
-gains_then before middle after xs ys zs once first second =
-    record {
-      added = first.added ++ second.added;
-      behind = second.behind ∙ ap (λ (t : List BitChange). t ++ second.added) first.behind
-          ∙ append_assoc xs first.added second.added;
-      exactly = λ conn index. told-append first.added second.added conn index
-          ∙ rw (first.exactly conn index, second.exactly conn index)
-          (difference_then (before conn index) (middle conn index) (after conn index) (once conn index));
-    }
+gains_then before middle after xs ys zs once first second = grind (arith, append_assoc, told-append, difference_then)
 
 -- bits that only fall, twice
 only_falls : (a b c : Bool) → (b ≡ true → a ≡ true) → (c ≡ true → b ≡ true) → (b ≡ a) ⊎ (c ≡ b)
@@ -55,10 +40,7 @@ Falls before after = (conn : ConnId) (index : ℕ) → after conn index ≡ true
 
 pub gains_falls : (before middle after : Bits) (xs ys zs : List BitChange) → Falls before middle → Falls middle after
     → Gains before middle xs ys → Gains middle after ys zs → Gains before after xs zs
-gains_falls before middle after xs ys zs fall falls =
-    gains_then before middle after xs ys zs
-    (λ conn index. only_falls (before conn index) (middle conn index) (after conn index) (fall conn index)
-    (falls conn index))
+gains_falls before middle after xs ys zs fall falls = grind (arith, gains_then, only_falls)
 
 both_left : (a b c d : ℕ) → (a == b) && (c == d) ≡ true → a ≡ b
 both_left a b c d e = grind (arith, nat_tests)
@@ -77,28 +59,12 @@ told_one : (by conn : ConnId) (index i : ℕ) (before after : Bits)
     → ((by.0 == conn.0) && (index == i) ≡ false → after conn i ≡ before conn i)
     → bits_told (record { conn = by; index = index; bit = after by index } ∷ []) conn i ≡ difference (before conn i)
     (after conn i)
-told_one by conn index i before after changed others = go ((by.0 == conn.0) && (index == i)) refl
-  where
-    go : (b : Bool) → (by.0 == conn.0) && (index == i) ≡ b
-        → bits_told (record { conn = by; index = index; bit = after by index } ∷ []) conn i ≡ difference (before conn i)
-        (after conn i)
-    go true same =
-        let conns : by.0 ≡ conn.0 = both_left by.0 conn.0 index i same in
-        let indexes : index ≡ i = both_right by.0 conn.0 index i same in
-        let here : after by index ∷ [] ≡ difference (before by index) (after by index) = difference_changed
-        (before by index) (after by index) changed in
-        rw same (here ∙ subst₂ (λ (c n : ℕ). difference (before by index) (after by index) ≡ difference
-        (before (record { 0 = c }) n) (after (record { 0 = c }) n)) conns indexes refl)
-    go false apart = rw (apart, others apart) (difference_none (before conn i))
+told_one by conn index i before after changed others =
+    grind (arith, both_left, both_right, difference_changed, difference_none)
 
 -- one bit changed, and is told
 pub gains_one : (by : ConnId) (index : ℕ) (before after : Bits) (bits : List BitChange)
     → (before by index ≡ after by index → ⊥)
     → ((conn : ConnId) (i : ℕ) → (by.0 == conn.0) && (index == i) ≡ false → after conn i ≡ before conn i)
     → Gains before after bits (bits ++ record { conn = by; index = index; bit = after by index } ∷ [])
-gains_one by index before after bits changed others =
-    record {
-      added = record { conn = by; index = index; bit = after by index } ∷ [];
-      behind = refl;
-      exactly = λ conn i. told_one by conn index i before after changed (others conn i);
-    }
+gains_one by index before after bits changed others = grind (arith, told_one)

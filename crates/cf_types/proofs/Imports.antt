@@ -1,5 +1,5 @@
 -- What proofs here name of other crates, and of this one's definitions. Declares nothing.
-pub use Rattle.std.proofs.Common.{◌≡◌, ◌≢◌, ℕ, zero, suc, ◌+◌, ◌*◌, ◌/◌, ◌%◌, ◌^◌, ◌<◌, ◌≤◌, Bool, true, false, cond, not, ◌&&◌, ◌⊎◌, ◌==◌, eqb, ltb, filter, List, [], ◌∷◌, ◌++◌, length, bit_and, bit_or, count_ones, refl, sym, ap, subst, ◌∙◌, ⊎_elim, arith, add-one, add-zero, zero-add, IsTrue, map, get_or, set, Option, Some, None, is_some, slice_get, slice_set, append_assoc, inl, inr, subst₂, nat_eq, position, rules, ◌-◌, drop, replicate}
+pub use Rattle.std.proofs.Common.{◌≡◌, ◌≢◌, ℕ, zero, suc, ◌+◌, ◌*◌, ◌/◌, ◌%◌, ◌^◌, ◌<◌, ◌≤◌, Bool, true, false, cond, not, ◌&&◌, ◌⊎◌, ◌==◌, filter, List, [], ◌∷◌, ◌++◌, length, bit_and, bit_or, count_ones, refl, sym, ap, subst, ◌∙◌, ⊎_elim, arith, add-one, add-zero, zero-add, IsTrue, map, get_or, set, Option, Some, None, is_some, slice_get, slice_set, append_assoc, inl, inr, nat_eq, position, rules, ◌-◌, drop, replicate}
 pub use Rattle.std.proofs.Math.Nat.{mod-one, zero-mul}
 pub use Rattle.std.proofs.Math.Seq.{drop-append_seam}
 pub use Rattle.std.proofs.lemmas.Bool.{eq-eqb, ne_eqb, lt-ltb, le-ltb, and_right, cases_eq, cases_order, false≢true, cases_lt, and_parts, and_from, eqb-true, not-true}
@@ -25,7 +25,7 @@ pub use Rattle.cf_types.specs.ConnSets.{is_member, with_member, without_member}
 unfoldable pub use Rattle.cf_types.specs.ConnSets.{conns_from, members}
 pub use Rattle.cf_types.specs.Connections.{Connections, state_of, is_active_state, is_leaving_state, is_active, is_leaving, defined_count, departed_state, excused_state, with_departure, with_answer, with_forced}
 unfoldable pub use Rattle.cf_types.specs.Connections.{no_connections, actives}
-pub use Rattle.cf_types.specs.Gains.{Bits, Gains, is_for, bits_told, difference}
+pub use Rattle.cf_types.specs.Gains.{Bits, Gains, bits_told, difference}
 pub use Rattle.cf_types.specs.Name.{same_name}
 pub use Rattle.cf_types.specs.Resources.{same_resource, resource_cmp, resource_before, resource_up_to, Part, same_part}
 pub use Rattle.cf_types.specs.Term.{term_byte}

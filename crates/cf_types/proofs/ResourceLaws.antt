@@ -1,5 +1,5 @@
 -- Resources as keys, and their order.
-use Rattle.cf_types.proofs.Imports.{◌≡◌, ℕ, ◌==◌, ◌&&◌, Bool, true, false, not, List, refl, sym, ap, ◌∙◌, subst, arith, nat_eq, nat_tests, Ordering, Less, Equal, Greater, nat_cmp, is_lt, is_gt, is_eq, ordering_reverse, ordering_then, IsTotalOrder, bytes_decides, pointwise, slice_cmp, nat_list_cmp_total, upto, on_total, then_total, nat_cmp_total, same_from_slice_cmp, and_parts, and_from, eqb-true, eq-eqb, not-true, false≢true, Name16, ConnId, Resource, same_name, same_resource, resource_cmp, resource_before, resource_up_to, Part, same_part}
+use Rattle.cf_types.proofs.Imports.{◌≡◌, ℕ, ◌==◌, ◌&&◌, Bool, true, false, List, refl, sym, ap, ◌∙◌, subst, arith, nat_eq, nat_tests, Ordering, Less, Equal, Greater, nat_cmp, is_lt, is_gt, is_eq, ordering_reverse, ordering_then, IsTotalOrder, bytes_decides, pointwise, slice_cmp, nat_list_cmp_total, upto, on_total, then_total, nat_cmp_total, same_from_slice_cmp, and_parts, and_from, eqb-true, eq-eqb, not-true, false≢true, Name16, ConnId, Resource, same_name, same_resource, resource_cmp, resource_before, resource_up_to, Part, same_part}
 
 -- names with the same bytes are the same
 pub same_name-eq : (a b : Name16) → same_name a b ≡ true → a ≡ b
@@ -47,10 +47,7 @@ before_back a b = ap is_lt (resource_cmp_total.antisymm b a) ∙ turned (resourc
 
 pub resource_up_to-trans : (a b c : Resource) → resource_up_to a b ≡ true → resource_up_to b c ≡ true
     → resource_up_to a c ≡ true
-resource_up_to-trans a b c ab bc =
-    let first : is_gt (resource_cmp a b) ≡ false = sym (before_back a b) ∙ not-true (resource_before b a) ab in
-    let second : is_gt (resource_cmp b c) ≡ false = sym (before_back b c) ∙ not-true (resource_before c b) bc in
-    ap not (before_back a c ∙ upto resource_cmp_total a b c first second)
+resource_up_to-trans a b c ab bc = grind (arith, before_back, not-true, upto, resource_cmp_total)
 
 not_both : (o : Ordering) → is_lt o ≡ true → is_gt o ≡ false
 not_both Less h = refl
@@ -59,11 +56,7 @@ not_both Greater h = absurd (false≢true h)
 
 -- of two resources one isn't behind the other
 pub resource_up_to-either : (a b : Resource) → resource_up_to a b ≡ false → resource_up_to b a ≡ true
-resource_up_to-either a b h = go (resource_before b a) refl h
-  where
-    go : (t : Bool) → resource_before b a ≡ t → not t ≡ false → resource_up_to b a ≡ true
-    go true e h = ap not (before_back b a ∙ not_both (resource_cmp b a) e)
-    go false e h = absurd (false≢true (sym h))
+resource_up_to-either a b h = grind (arith, before_back, not_both, false≢true)
 
 -- ---- the order and sameness
 
@@ -82,10 +75,7 @@ equal_bytes xs ys =
 
 -- two resources are the same where neither comes before the other
 pub same_resource-is : (a b : Resource) → same_resource a b ≡ is_eq (resource_cmp a b)
-same_resource-is a b =
-    sym (both_equal (slice_cmp nat_cmp a.name.0 b.name.0) (nat_cmp a.hash b.hash)
-    ∙ ap (λ t. t && is_eq (nat_cmp a.hash b.hash)) (equal_bytes a.name.0 b.name.0)
-    ∙ ap (λ t. pointwise nat_eq a.name.0 b.name.0 && t) (equal_number a.hash b.hash))
+same_resource-is a b = grind (arith, both_equal, equal_bytes, equal_number)
 
 -- ---- sameness has no direction
 
@@ -103,9 +93,4 @@ same_resource_comm a b = go (same_resource a b) (same_resource b a) refl refl
         (same_resource-refl a)))
 
 pub same_part_comm : (a b : Part) → same_part a b ≡ same_part b a
-same_part_comm a b =
-    ap (λ t. t && (a.1.0 == b.1.0)) (same_resource_comm a.0 b.0)
-    ∙ ap (λ t. same_resource b.0 a.0 && t) (same_number_comm a.1.0 b.1.0)
-  where
-    same_number_comm : (m n : ℕ) → (m == n) ≡ (n == m)
-    same_number_comm m n = grind (arith, nat_tests)
+same_part_comm a b = grind (arith, same_resource_comm, nat_tests)

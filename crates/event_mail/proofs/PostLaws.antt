@@ -1,5 +1,5 @@
 -- The mailboxes of a structure, one of which changes or is added.
-use Rattle.event_mail.proofs.Imports.{◌≡◌, ℕ, ◌+◌, ◌<◌, ◌≤◌, List, [], ◌∷◌, ◌++◌, length, get_or, set, map, replicate, slice_set, sym, ap, ◌∙◌, ⊎_elim, ◌≢◌, arith, map-set, set-get_or, get_or-set_other, get_or-map, cases_eq, get_or-set_at, unwrap_or-slice_get, ConnId, Mailbox, Mailboxes, no_events, mailbox_of, Box, mailboxes_of}
+use Rattle.event_mail.proofs.Imports.{◌≡◌, ℕ, ◌+◌, ◌<◌, ◌≤◌, List, [], ◌∷◌, ◌++◌, length, get_or, set, map, slice_set, sym, ap, ◌∙◌, ⊎_elim, ◌≢◌, arith, map-set, set-get_or, get_or-set_other, get_or-map, cases_eq, get_or-set_at, unwrap_or-slice_get, ConnId, Mailbox, Mailboxes, no_events, mailbox_of, Box, mailboxes_of}
 
 -- one mailbox changes
 pub mailboxes_of-set : (boxes : List Box) (mail : Mailboxes) (conn : ConnId) (at : ℕ) (old new : Box)
@@ -8,11 +8,7 @@ pub mailboxes_of-set : (boxes : List Box) (mail : Mailboxes) (conn : ConnId) (at
     → new.mailbox ≡ change old.mailbox → mailboxes_of (slice_set boxes at new)
     ≡ slice_set mail conn.0 (change (mailbox_of mail conn))
 mailboxes_of-set boxes mail conn at old new change is here within was now =
-    let of : Box → Mailbox = λ box. box.mailbox in
-    let before : mailbox_of mail conn ≡ old.mailbox =
-    rw (← is, ← here) (unwrap_or-slice_get (map of boxes) at no_events ∙ get_or-map of boxes at old no_events within
-    ∙ ap of (sym was)) in
-    rw (before, ← now, ← is, ← here) (map-set of boxes at new)
+    grind (arith, unwrap_or-slice_get, get_or-map, map-set)
 
 -- the room of one mailbox changes, and not what is in it
 pub mailboxes_of-same : (boxes : List Box) (at : ℕ) (new d : Box) → at < length boxes
@@ -28,5 +24,4 @@ mailboxes_of-same boxes at new d within same =
 pub room_at-set : (boxes : List Box) (at k room : ℕ) (new d : Box) → k < length boxes → (k ≡ at → room ≤ new.room)
     → (k ≢ at → room ≤ (get_or boxes k d).room) → room ≤ (get_or (slice_set boxes at new) k d).room
 room_at-set boxes at k room new d within here elsewhere =
-    ⊎_elim (λ (same : k ≡ at). rw (get_or-set_at boxes at k new d same (omega arith)) (here same))
-    (λ (apart : k ≢ at). rw (get_or-set_other boxes at k new d apart) (elsewhere apart)) (cases_eq k at)
+    grind (arith, ⊎_elim, get_or-set_at, get_or-set_other, cases_eq)

@@ -1,5 +1,5 @@
 -- What proofs here name of other crates, and of this one's definitions. Declares nothing.
-pub use Rattle.std.proofs.Common.{◌≡◌, ℕ, Bool, true, List, Option, Some, None, is_some, unwrap_or, refl, sym, ap, ◌∙◌, subst, IfSome, ◌<◌, Result, Ok, Err, false, if◌then◌else◌, nat_le, length, OnOk, OnErr, ◌+◌, not, cond, [], ◌∷◌, map, arith, ◌&&◌, ◌||◌, ◌++◌, Bor, take, option_map, slice_get, IsTrue, ◌-◌, drop}
+pub use Rattle.std.proofs.Common.{◌≡◌, ℕ, Bool, true, List, Option, Some, None, refl, sym, ap, ◌∙◌, subst, IfSome, ◌<◌, Result, Ok, Err, false, if◌then◌else◌, length, OnOk, OnErr, ◌+◌, not, cond, [], ◌∷◌, map, arith, ◌&&◌, ◌||◌, ◌++◌, Bor, take, option_map, slice_get, IsTrue, ◌-◌, drop}
 pub use Rattle.std.proofs.lemmas.Bool.{false≢true, and_from}
 pub use Rattle.std.proofs.lemmas.List.{map-append, take_all}
 pub use Rattle.std.proofs.lemmas.Result.{IfOk-weaker}
@@ -18,7 +18,6 @@ pub use Rattle.cf_types.specs.declared.names.Key16.{Key16}
 pub use Rattle.cf_types.specs.declared.numbers.ConnId.{ConnId}
 pub use Rattle.cf_types.specs.declared.numbers.EntryId.{EntryId}
 pub use Rattle.cf_types.specs.declared.refusals.Refusal.{Refusal}
-pub use Rattle.cf_types.specs.declared.refusals.Refusal.TheVariants.{BadLock, BadHeader, BadIndex}
 pub use Rattle.engine_api.proofs.FrontLaws.{content-placed}
 pub use Rattle.engine_api.specs.Items.{IsNextItem}
 pub use Rattle.engine_api.specs.declared.shapes.Shape.{Shape}
@@ -38,18 +37,17 @@ pub use Rattle.list_model.proofs.StoreLaws.{record_of-at, new-alone, full-replac
 pub use Rattle.list_model.specs.Commands.Move.{with_new_key}
 pub use Rattle.list_model.specs.Commands.Update.{with_new_data}
 pub use Rattle.list_model.specs.Commands.Write.{new_id}
-pub use Rattle.list_model.specs.Contents.{Content, IsContent, headers_of, locks_of, has_records, stands}
-pub use Rattle.list_model.specs.Items.{Triple, triple_of, monitor_of, content_with, has_controls, row_of, rows_from}
+pub use Rattle.list_model.specs.Contents.{Content, IsContent, headers_of, has_records, stands}
+pub use Rattle.list_model.specs.Items.{Triple, triple_of, monitor_of, content_with, rows_from}
 pub use Rattle.list_model.specs.ListStore.Lists.{Lists, all_records, is_id, record_of, lists_without, ids_apart, records_of, lists_replaced, records_without, count_of}
 pub use Rattle.list_model.specs.ListStore.Record.{Record}
 pub use Rattle.list_model.specs.ListStore.Records.{record_in}
 pub use Rattle.list_model.specs.ListStore.declared.records.Rec.{Rec}
 pub use Rattle.list_model.specs.ListWatch.Ends.{differs}
-pub use Rattle.list_model.specs.ListWatch.Monitors.{is_at, AreMonitors}
 pub use Rattle.list_model.specs.ListWatch.Rows.{monitors_of}
 pub use Rattle.list_model.specs.ListWatch.declared.monitors.Monitor.{Monitor}
 pub use Rattle.list_model.specs.ListWatch.declared.monitors.Watched.{Watched}
-pub use Rattle.list_model.specs.Lists.{record_at, the_record, no_record, with_record}
+pub use Rattle.list_model.specs.Lists.{record_at, the_record, with_record}
 pub use Rattle.list_model.specs.Meaning.{list_meaning}
 pub use Rattle.list_model.specs.Records.{elements_in}
 pub use Rattle.list_model.specs.Refusals.{record_refusal, lock_refusal, index_refusal, elements_refusal}

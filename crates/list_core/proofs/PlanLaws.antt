@@ -1,5 +1,5 @@
 -- What a plan that isn't refused says.
-use Rattle.list_core.proofs.Imports.{◌≡◌, ℕ, ◌<◌, Option, None, Some, Result, Ok, Err, Bool, true, false, if◌then◌else◌, nat_le, is_some, unwrap_or, length, refl, sym, ap, ◌∙◌, subst, OnOk, OnErr, Caps, ConnId, Refusal, BadLock, BadHeader, BadIndex, At, ListCmd, Write, Update, Read, Move, Delete, ReadList, LockSet, LockReset, LockTest, LControls, SetLimit, Unmonitor, ListReply, Shape, pairwise, Record, Lists, all_records, ids_apart, record_of, record_at, no_record, Content, IsContent, headers_of, locks_of, record_refusal, lock_refusal, index_refusal, causes, cause, none_hold, header_there, record_of-at, new-alone, Plan, IsFound, plan_unless, plan_for, IsPossible}
+use Rattle.list_core.proofs.Imports.{arith, ◌≡◌, ℕ, ◌<◌, Option, None, Some, Result, Ok, Err, true, if◌then◌else◌, length, refl, sym, ap, ◌∙◌, subst, OnOk, OnErr, Caps, ConnId, Refusal, At, ListCmd, Write, Update, Read, Move, Delete, ReadList, LockSet, LockReset, LockTest, LControls, SetLimit, Unmonitor, ListReply, Shape, pairwise, Lists, all_records, ids_apart, record_at, Content, IsContent, headers_of, record_refusal, lock_refusal, index_refusal, causes, cause, none_hold, header_there, record_of-at, new-alone, Plan, IsFound, plan_unless, plan_for, IsPossible}
 use Rattle.cf_types.specs.declared.list_commands.ListCmd.TheVariants.{Monitor}
 
 -- the plan that is taken is the one that was wanted
@@ -30,32 +30,13 @@ plan_accepted shape caps content by cmd plan told is h =
 
 found : (lists : Lists) (at : At) → pairwise ids_apart (all_records lists) ≡ true
     → record_refusal (record_at lists at) ≡ None → IsFound lists at
-found lists at apart h = go (record_at lists at) refl h
-  where
-    go : (o : Option Record) → record_at lists at ≡ o → record_refusal o ≡ None → IsFound lists at
-    go None e f = absurd (cc)
-    go (Some rec) e f =
-        record {
-          there = ap (λ (o : Option Record). is_some o) e;
-          by_id = ap (λ (o : Option Record). record_of (unwrap_or o no_record).id lists) e
-              ∙ record_of-at lists at rec apart e ∙ sym e;
-        }
+found lists at apart h = grind (arith, record_of-at)
 
 lock_there : (locks lock : ℕ) → lock_refusal locks lock ≡ None → lock < locks
-lock_there locks lock h = header_there locks lock (same (nat_le locks lock) h)
-  where
-    same : (b : Bool) → (if b then Some (BadLock lock locks) else None) ≡ None
-        → (if b then Some (BadHeader lock locks) else None) ≡ None
-    same true e = absurd (cc)
-    same false e = refl
+lock_there locks lock h = grind (arith, header_there)
 
 index_there : (vector index : ℕ) → index_refusal vector index ≡ None → index < vector
-index_there vector index h = header_there vector index (same (nat_le vector index) h)
-  where
-    same : (b : Bool) → (if b then Some (BadIndex index vector) else None) ≡ None
-        → (if b then Some (BadHeader index vector) else None) ≡ None
-    same true e = absurd (cc)
-    same false e = refl
+index_there vector index h = grind (arith, header_there)
 
 at_most : (a n m : ℕ) → m ≡ n → a < n → a < m
 at_most a n m e h = subst (λ (k : ℕ). a < k) (sym e) h
@@ -84,21 +65,12 @@ possible shape caps content by (Delete at version cond) is h =
     (Delete at version cond)) h in found content.lists at is.one_for_id
     none.1.1.1.1.0
 possible shape caps content by (ReadList header) is h = tt
-possible shape caps content by (LockSet lock) is h =
-    let none = none_hold (causes shape caps content by (LockSet lock)) h in
-    at_most lock (locks_of shape.kind) (length content.locks) is.locks (lock_there (locks_of shape.kind) lock none.0)
-possible shape caps content by (LockReset lock) is h =
-    let none = none_hold (causes shape caps content by (LockReset lock)) h in
-    at_most lock (locks_of shape.kind) (length content.locks) is.locks (lock_there (locks_of shape.kind) lock none.0)
+possible shape caps content by (LockSet lock) is h = grind (arith, none_hold, at_most, lock_there)
+possible shape caps content by (LockReset lock) is h = grind (arith, none_hold, at_most, lock_there)
 possible shape caps content by (LockTest lock) is h = tt
 possible shape caps content by (LControls header) is h = tt
-possible shape caps content by (SetLimit header n) is h =
-    let none = none_hold (causes shape caps content by (SetLimit header n)) h in
-    at_most header (headers_of shape.kind) (length content.limits) is.limits (header_there (headers_of shape.kind)
-    header none.0)
-possible shape caps content by (Monitor header index) is h =
-    let none = none_hold (causes shape caps content by (Monitor header index)) h in
-    index_there shape.vector index none.1.0
+possible shape caps content by (SetLimit header n) is h = grind (arith, none_hold, at_most, header_there)
+possible shape caps content by (Monitor header index) is h = grind (arith, none_hold, index_there)
 possible shape caps content by (Unmonitor header) is h = tt
 
 -- what holds either way

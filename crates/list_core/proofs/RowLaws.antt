@@ -1,5 +1,5 @@
 -- Monitors as triples, and back.
-use Rattle.list_core.proofs.Imports.{◌≡◌, ℕ, ◌+◌, Bool, true, false, not, cond, List, [], ◌∷◌, map, refl, sym, ap, arith, list_all, and_from, false≢true, Lists, Monitor, Watched, monitors_of, differs, has_records, Triple, triple_of, monitor_of, is_told, told_row}
+use Rattle.list_core.proofs.Imports.{◌≡◌, ℕ, ◌+◌, Bool, true, false, not, cond, List, [], ◌∷◌, map, refl, sym, ap, arith, list_all, and_from, false≢true, Lists, Monitor, Watched, monitors_of, differs, Triple, triple_of, monitor_of, is_told, told_row}
 
 pub map-triples : (rows : List Watched) → map (λ (row : Watched). triple_of row.monitor) rows ≡ map triple_of
     (monitors_of rows)
@@ -19,9 +19,7 @@ same false = refl
 pub told-told_rows : (lists : Lists) (watches : List Triple) → list_all (is_told lists) (map (told_row lists) watches)
     ≡ true
 told-told_rows lists [] = refl
-told-told_rows lists (watch ∷ watches) =
-    and_from (is_told lists (told_row lists watch)) (list_all (is_told lists) (map (told_row lists) watches))
-    (same (has_records lists (monitor_of watch).header)) (told-told_rows lists watches)
+told-told_rows lists (watch ∷ watches) = grind (arith, and_from, same, told-told_rows lists watches)
 
 -- ---- one item more where there are controls
 

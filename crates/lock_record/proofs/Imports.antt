@@ -1,5 +1,5 @@
 -- What proofs here name of other crates, and of this one's definitions. Declares nothing.
-pub use Rattle.std.proofs.Common.{◌≡◌, ℕ, ◌+◌, Bool, true, false, not, ◌&&◌, cond, List, [], ◌∷◌, Option, Some, None, is_some, option_map, length, filter, find, map, refl, sym, ap, ◌∙◌, subst, nat_eq, option_to_list, ◌||◌, ◌==◌, nat_lt, arith, zero, suc, ◌<◌, ◌++◌, slice_get, drop, if◌then◌else◌, rules}
+pub use Rattle.std.proofs.Common.{◌≡◌, ℕ, ◌+◌, Bool, true, false, not, ◌&&◌, cond, List, [], ◌∷◌, Option, Some, None, is_some, option_map, length, filter, find, map, refl, sym, ap, ◌∙◌, subst, nat_eq, option_to_list, ◌||◌, ◌==◌, nat_lt, arith, zero, suc, ◌<◌, ◌++◌, slice_get, drop, if◌then◌else◌}
 pub use Rattle.std.proofs.lemmas.Bool.{false≢true, and_from, not-true, and_parts}
 pub use Rattle.std.proofs.lemmas.Bool.Decides.{nat_tests}
 pub use Rattle.std.proofs.lemmas.List.{length-map, append_assoc}

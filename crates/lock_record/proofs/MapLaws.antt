@@ -1,5 +1,5 @@
 -- The entries of a map by connector and resource, in order.
-use Rattle.lock_record.proofs.Imports.{◌≡◌, ℕ, ◌+◌, Bool, true, false, not, ◌&&◌, cond, List, [], ◌∷◌, Option, Some, None, is_some, option_map, length, filter, find, map, refl, sym, ap, ◌∙◌, subst, nat_eq, option_to_list, IsDistinct, keys_of, lookup, IsEquivalence, nat_eq_equiv, and_equiv, on_equiv, nat_list_eq_equiv, pointwise, false≢true, length-map, lookup-none, none_past_head, ConnId, Part, same_part, same_part-eq, same_part-refl, insertion, pairwise, filter_all, filter_absorbed, filter-filter, filter_nothing, filter_swap, any_is_found, all_from_none, list_all_always, list_all_weaker, map-filtered, filter-insertion_out, length_without, pairwise-filter, pairwise-insertion, pairwise-insertion_any, arranged, in_turn, arranged_in_turn, keyed-arranged, arranged-filter, ordered_filters, length_arranged, Record, Key, key_eq, key_of, part_at, recorded, records_in, Writes, is_of, record_of, has_record, part_of, part_before, records_with, records_without, records_without_conn, are_apart, AreRecords}
+use Rattle.lock_record.proofs.Imports.{arith, ◌≡◌, ℕ, ◌+◌, Bool, true, false, not, ◌&&◌, cond, List, [], ◌∷◌, Option, Some, None, is_some, option_map, length, filter, find, map, refl, sym, ap, ◌∙◌, subst, nat_eq, option_to_list, IsDistinct, keys_of, lookup, IsEquivalence, nat_eq_equiv, and_equiv, on_equiv, nat_list_eq_equiv, pointwise, false≢true, length-map, lookup-none, none_past_head, ConnId, Part, same_part, same_part-eq, same_part-refl, insertion, pairwise, filter_all, filter_absorbed, filter-filter, filter_nothing, filter_swap, any_is_found, all_from_none, list_all_always, list_all_weaker, map-filtered, filter-insertion_out, length_without, pairwise-filter, pairwise-insertion, pairwise-insertion_any, arranged, in_turn, arranged_in_turn, keyed-arranged, arranged-filter, ordered_filters, length_arranged, Record, Key, key_eq, key_of, part_at, recorded, records_in, Writes, is_of, record_of, has_record, part_of, part_before, records_with, records_without, records_without_conn, are_apart, AreRecords}
 use Rattle.lock_record.proofs.PartLaws.{part_order}
 use Rattle.lock_record.proofs.RecordLaws.{apart_both, finds_place}
 
@@ -88,13 +88,7 @@ same_records xs ys h g f =
 alone : (q b : Record → Bool) (x : Record) (xs : List Record) → q x ≡ true → filter q xs ≡ []
     → filter q (insertion b x xs) ≡ x ∷ []
 alone q b x [] e none = rw e refl
-alone q b x (y ∷ ys) e none = go (q y) refl (b y) refl (alone q b x ys e)
-  where
-    go : (s : Bool) → q y ≡ s → (t : Bool) → b y ≡ t → (filter q ys ≡ [] → filter q (insertion b x ys) ≡ x ∷ [])
-        → filter q (insertion b x (y ∷ ys)) ≡ x ∷ []
-    go true f t g ih = absurd (let bad : y ∷ filter q ys ≡ [] = rw f at none in cc)
-    go false f true g ih = let rest : filter q ys ≡ [] = rw f at none in rw (g, f) (ih rest)
-    go false f false g ih = let rest : filter q ys ≡ [] = rw f at none in rw (g, e, f, rest) refl
+alone q b x (y ∷ ys) e none = grind (arith, alone q b x ys e)
 
 -- what is left without a part
 without_here : (p : Part) (xs : List Record) → filter (is_at p) (filter (λ x. not (is_at p x)) xs) ≡ []
@@ -147,21 +141,12 @@ put_records es fs p rec u v writes =
         left ∙ ap (λ (j : Part). made j rec ∷ []) (sym same)
         ∙ sym (alone (is_at k) (λ y. part_before (part_of y) p) (made p rec) rest (parts_same p k ∙ e)
         (subst (λ (j : Part). filter (is_at j) rest ≡ []) same (without_here p (records_in es))))
-    by_part k false e =
-        let left = records_at fs v k
-        ∙ ap (λ (o : Option (List ℕ)). option_to_list (option_map (made k) o)) (writes (key_of k)
-        ∙ written p k false (Some rec) (lookup (key_eq (key_of k)) es) e) in
-        left ∙ sym (records_at es u k)
-        ∙ sym (filter-insertion_out (is_at k) (λ y. part_before (part_of y) p) (made p rec) rest (parts_same p k ∙ e)
-        ∙ without_there p k (records_in es) (parts_same p k ∙ e))
+    by_part k false e = grind (arith, records_at, written, filter-insertion_out, rest, parts_same, without_there)
 
 pub removed_records : (es fs : List (Key × List ℕ)) (p : Part) → IsDistinct key_eq (keys_of es)
     → IsDistinct key_eq (keys_of fs) → Writes es p None fs
     → records_in fs ≡ records_without p.0 p.1 (records_in es)
-removed_records es fs p u v writes =
-    same_records (records_in fs) (filter (λ x. not (is_at p x)) (records_in es)) (in_order_in fs)
-    (pairwise-filter (in_turn part_of part_before) (λ x. not (is_at p x)) (records_in es) (in_order_in es))
-    (λ k. by_part k (key_eq (key_of p) (key_of k)) refl)
+removed_records es fs p u v writes = grind (arith, same_records, in_order_in, pairwise-filter, by_part)
   where
     by_part : (k : Part) (b : Bool) → key_eq (key_of p) (key_of k) ≡ b
         → filter (is_at k) (records_in fs) ≡ filter (is_at k) (filter (λ x. not (is_at p x)) (records_in es))
@@ -172,11 +157,7 @@ removed_records es fs p u v writes =
         ∙ written p k true None (lookup (key_eq (key_of k)) es) e) in
         left ∙ sym (subst (λ (j : Part). filter (is_at j) (filter (λ x. not (is_at p x)) (records_in es)) ≡ []) same
         (without_here p (records_in es)))
-    by_part k false e =
-        let left = records_at fs v k
-        ∙ ap (λ (o : Option (List ℕ)). option_to_list (option_map (made k) o)) (writes (key_of k)
-        ∙ written p k false None (lookup (key_eq (key_of k)) es) e) in
-        left ∙ sym (records_at es u k) ∙ sym (without_there p k (records_in es) (parts_same p k ∙ e))
+    by_part k false e = grind (arith, records_at, written, without_there, parts_same)
 
 -- those of a connector go
 pub departed_records : (es fs : List (Key × List ℕ)) (conn : ConnId) → fs ≡ filter (λ e. not (nat_eq e.0.0.0 conn.0)) es
@@ -196,12 +177,7 @@ first_of (x ∷ xs) = Some x
 
 found_first : (q : Record → Bool) (xs : List Record) → find q xs ≡ first_of (filter q xs)
 found_first q [] = refl
-found_first q (x ∷ xs) = go (q x) refl (found_first q xs)
-  where
-    go : (b : Bool) → q x ≡ b → find q xs ≡ first_of (filter q xs)
-        → find q (x ∷ xs) ≡ first_of (filter q (x ∷ xs))
-    go true e ih = rw e refl
-    go false e ih = rw e ih
+found_first q (x ∷ xs) = grind (arith, found_first q xs)
 
 first_one : (o : Option Record) → first_of (option_to_list o) ≡ o
 first_one None = refl
@@ -209,9 +185,7 @@ first_one (Some x) = refl
 
 find_in : (es : List (Key × List ℕ)) → IsDistinct key_eq (keys_of es) → (p : Part)
     → find (is_at p) (records_in es) ≡ option_map (made p) (lookup (key_eq (key_of p)) es)
-find_in es u p =
-    found_first (is_at p) (records_in es) ∙ ap first_of (records_at es u p)
-    ∙ first_one (option_map (made p) (lookup (key_eq (key_of p)) es))
+find_in es u p = grind (arith, found_first, records_at, first_one)
 
 data_of : (p : Part) (o : Option (List ℕ)) → o ≡ option_map (λ (x : Record). x.rec) (option_map (made p) o)
 data_of p None = refl

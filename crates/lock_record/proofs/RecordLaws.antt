@@ -1,13 +1,9 @@
 -- Record data stay in order, with those of a connector for a resource once.
-use Rattle.lock_record.proofs.Imports.{◌≡◌, Bool, true, not, ◌&&◌, List, filter, refl, ap, ◌∙◌, and_from, not-true, same_part_comm, list_all_weaker, list_all-filter_same, list_all_always, FindsPlace, pairwise-filter, pairwise-insertion, pairwise-insertion_any, Record, is_record, part_of, records_with, records_without, stands_before, in_order, are_apart, AreRecords}
+use Rattle.lock_record.proofs.Imports.{arith, ◌≡◌, Bool, true, not, ◌&&◌, List, filter, refl, ap, ◌∙◌, and_from, not-true, same_part_comm, list_all_weaker, list_all-filter_same, list_all_always, FindsPlace, pairwise-filter, pairwise-insertion, pairwise-insertion_any, Record, is_record, part_of, records_with, records_without, stands_before, in_order, are_apart, AreRecords}
 use Rattle.lock_record.proofs.PartLaws.{part_order}
 
 pub records-filter : (q : Record → Bool) (records : List Record) → AreRecords records → AreRecords (filter q records)
-records-filter q records is =
-    record {
-      ordered = pairwise-filter in_order q records is.ordered;
-      one_each = pairwise-filter are_apart q records is.one_each;
-    }
+records-filter q records is = grind (arith, pairwise-filter)
 
 pub finds_place : (new : Record) → FindsPlace in_order (λ other. stands_before other new) (λ other. true) new
 finds_place new =

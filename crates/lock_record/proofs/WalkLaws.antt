@@ -1,5 +1,5 @@
 -- Entries one after another.
-use Rattle.lock_record.proofs.Imports.{◌≡◌, ℕ, zero, suc, ◌+◌, ◌<◌, ◌==◌, ◌||◌, ◌&&◌, nat_lt, Bool, true, false, List, [], ◌∷◌, ◌++◌, option_map, slice_get, length, drop, map, filter, refl, sym, ap, ◌∙◌, arith, if◌then◌else◌, list_any, list_all, IsPermutation, and_parts, and_from, nat_tests, ConnId, Resource, resource_before, same_part, same_resource, insertion, pairwise, list_all-filter_same, list_all-insertion, list_any-insertion, arranged, in_turn, resource_order, insertion_agree, arranged-filter, sorted_is, Record, Key, recorded, records_in, is_of, is_part_by, part_of, part_before, resource_at, resource_of, resources_by}
+use Rattle.lock_record.proofs.Imports.{◌≡◌, ℕ, zero, suc, ◌+◌, ◌<◌, ◌==◌, ◌||◌, ◌&&◌, Bool, true, false, List, [], ◌∷◌, ◌++◌, option_map, slice_get, length, drop, map, filter, refl, sym, ap, ◌∙◌, arith, if◌then◌else◌, list_any, list_all, IsPermutation, and_parts, and_from, nat_tests, ConnId, Resource, resource_before, same_part, same_resource, insertion, pairwise, list_all-filter_same, list_all-insertion, list_any-insertion, arranged, in_turn, resource_order, insertion_agree, arranged-filter, sorted_is, Record, Key, recorded, records_in, is_of, is_part_by, part_of, part_before, resource_at, resource_of, resources_by}
 use Rattle.lock_record.proofs.PartLaws.{part_order}
 
 -- what some of them have
@@ -7,9 +7,7 @@ any_arranged : (p : Record → Bool) (xs : List Record)
     → list_any p (arranged part_of part_before xs) ≡ list_any p xs
 unfolding arranged
 any_arranged p [] = refl
-any_arranged p (x ∷ xs) =
-    list_any-insertion p (λ y. part_before (part_of y) (part_of x)) x (arranged part_of part_before xs)
-    ∙ ap (λ (b : Bool). p x || b) (any_arranged p xs)
+any_arranged p (x ∷ xs) = grind (arith, list_any-insertion, any_arranged p xs)
 
 pub any_in : (es : List (Key × List ℕ)) (p : Record → Bool)
     → list_any p (map recorded es) ≡ list_any p (records_in es)
@@ -20,11 +18,7 @@ pub there_at : (conn : ConnId) (xs : List Record) (k : ℕ)
     → is_part_by conn (option_map part_of (slice_get xs k)) ≡ true → list_any (is_of conn) xs ≡ true
 there_at conn [] k h = h
 there_at conn (x ∷ xs) zero h = rw h refl
-there_at conn (x ∷ xs) (suc k) h = go (is_of conn x) (list_any (is_of conn) xs) (there_at conn xs k h)
-  where
-    go : (b c : Bool) → c ≡ true → b || c ≡ true
-    go true c e = refl
-    go false c e = e
+there_at conn (x ∷ xs) (suc k) h = grind (arith, there_at conn xs k h)
 
 -- one that isn't is passed by
 pub skipped : (conn : ConnId) (xs : List Record) (k : ℕ) → k < length xs
@@ -32,9 +26,7 @@ pub skipped : (conn : ConnId) (xs : List Record) (k : ℕ) → k < length xs
     → list_any (is_of conn) (drop (k + 1) xs) ≡ list_any (is_of conn) (drop k xs)
 skipped conn [] k less h = absurd (omega (arith, less))
 skipped conn (x ∷ xs) zero less h = rw h refl
-skipped conn (x ∷ xs) (suc k) less h =
-    let next : suc k + 1 ≡ suc (k + 1) = omega arith in
-    rw next (skipped conn xs k (omega (arith, less)) h)
+skipped conn (x ∷ xs) (suc k) less h = grind (arith, skipped conn xs k (omega (arith, less)) h)
 
 -- ---- a connector's resources, one after another
 
@@ -42,24 +34,13 @@ pub listed_next : (conn : ConnId) (xs : List Record) (k : ℕ) → k < length xs
     → resources_by conn (drop k xs)
     ≡ resource_at conn (option_map part_of (slice_get xs k)) ++ resources_by conn (drop (k + 1) xs)
 listed_next conn [] k less = absurd (omega (arith, less))
-listed_next conn (x ∷ xs) zero less = go (is_of conn x) refl
-  where
-    go : (b : Bool) → is_of conn x ≡ b → resources_by conn (x ∷ xs)
-        ≡ (if is_of conn x then x.r ∷ [] else []) ++ resources_by conn xs
-    go true e = rw e refl
-    go false e = rw e refl
-listed_next conn (x ∷ xs) (suc k) less =
-    let next : suc k + 1 ≡ suc (k + 1) = omega arith in
-    rw next (listed_next conn xs k (omega (arith, less)))
+listed_next conn (x ∷ xs) zero less = grind arith
+listed_next conn (x ∷ xs) (suc k) less = grind (arith, listed_next conn xs k (omega (arith, less)))
 
 -- with the same connector the order is that of the resources
 part_as_resource : (a b : Record) (conn : ConnId) → is_of conn a ≡ true → is_of conn b ≡ true
     → part_before (part_of a) (part_of b) ≡ resource_before a.r b.r
-part_as_resource a b conn e f =
-    bits (resource_before a.r b.r) (same_resource a.r b.r) a.conn.0 b.conn.0 conn.0 e f
-  where
-    bits : (r s : Bool) (m n k : ℕ) → m == k ≡ true → n == k ≡ true → r || (s && nat_lt m n) ≡ r
-    bits r s m n k e f = grind (arith, nat_tests)
+part_as_resource a b conn e f = grind (arith, nat_tests)
 
 all_arranged : (p : Record → Bool) (xs : List Record) → list_all p xs ≡ true
     → list_all p (arranged part_of part_before xs) ≡ true

@@ -1,5 +1,5 @@
 -- What a line's act shows, whichever it is.
-use Rattle.plex_agent.proofs.Imports.{◌≡◌, ℕ, ◌*◌, ◌<◌, inl, inr, nat_lt, Bool, true, false, List, [], ◌∷◌, length, Some, None, refl, sym, ap, subst, ◌∙◌, append-nil, slice_get, MatchBool, ltb-true, StrForm, ConnId, StrNo, AnyHistory, Act, AgentEnd, Shown, Transcript, first_step, call_of, calls_on, RunsUpTo, ShowsAct, PassShown, Rising, pass_at, AtWork, Tests, TestsWord, ShowsOnly, RunsOut, Acts, ShowsUpTo}
+use Rattle.plex_agent.proofs.Imports.{arith, ◌≡◌, ℕ, ◌*◌, ◌<◌, inl, inr, nat_lt, Bool, true, false, List, [], ◌∷◌, length, Some, None, refl, sym, ap, subst, ◌∙◌, append-nil, slice_get, MatchBool, ltb-true, StrForm, ConnId, StrNo, AnyHistory, Act, AgentEnd, Shown, Transcript, first_step, call_of, calls_on, RunsUpTo, ShowsAct, PassShown, Rising, pass_at, AtWork, Tests, TestsWord, ShowsOnly, RunsOut, Acts, ShowsUpTo}
 use Rattle.plex_board.specs.PlexScript.declared.agents.Step.TheVariants as step
 use Rattle.plex_board.specs.PlexScript.declared.scripts.Act.TheVariants as act
 use Rattle.plex_board.specs.PlexScript.declared.transcripts.AgentEnd.TheVariants as ended
@@ -42,13 +42,7 @@ module _ (me : Caller) (limit : ℕ) (form : StrForm) (on : StrNo) (retry : ℕ)
 
   one_shown : (done : Act) (item : Shown) → Moves me on before after (item ∷ []) → after.shown.end ≡ before.shown.end
       → ShownWhole form me.histories by on retry done (item ∷ []) → IsTurned done
-  one_shown done item moves same whole =
-      record {
-        part = item ∷ [];
-        moves = moves;
-        shows = λ owner within.
-            subst (Ends done (item ∷ [])) (sym (same ∙ going)) whole;
-      }
+  one_shown done item moves same whole = grind arith
 
   runs_out : (done : Act) → RunsOut before after → ShownCut form me.histories by on retry done [] → IsTurned done
   runs_out done (desk, shows) cut =

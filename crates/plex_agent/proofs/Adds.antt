@@ -1,5 +1,5 @@
 -- What each kind of item does to a pass: calls, tests, posts and takes.
-use Rattle.plex_agent.proofs.Imports.{◌≡◌, ℕ, ◌+◌, ◌*◌, ◌^◌, ◌≤◌, ◌<◌, ◌==◌, ◌&&◌, nat_lt, inl, inr, Bool, true, false, List, [], ◌∷◌, ◌++◌, map, Some, None, refl, sym, ap, ◌∙◌, arith, append-nil, slice_get, cond, All, bit_at, ltb-false, map-append, All-head, All-tail, StrForm, ConnId, StrNo, Entry, Told, Meaning, Tells, cache_meaning, list_meaning, lock_meaning, AnyAsk, AnyHistory, Shown, AnyCall, numbers_on, surest_on, seen_on, TellsBit, TellsWord, place_of, Sight, bit_in, sight, indices_of, IsTold, AnyReply, PassShown, IsLater, with_call, IsAnyTold, told_past, each_sight, bit_in_word, AnyTells, all_bits}
+use Rattle.plex_agent.proofs.Imports.{◌≡◌, ℕ, ◌+◌, ◌*◌, ◌^◌, ◌≤◌, ◌<◌, ◌==◌, ◌&&◌, nat_lt, Bool, true, false, List, [], ◌∷◌, ◌++◌, map, Some, None, refl, sym, ◌∙◌, arith, append-nil, slice_get, cond, All, bit_at, ltb-false, map-append, All-head, All-tail, StrForm, ConnId, StrNo, Entry, Told, Meaning, Tells, cache_meaning, list_meaning, lock_meaning, AnyAsk, AnyHistory, Shown, AnyCall, surest_on, seen_on, TellsBit, TellsWord, place_of, Sight, bit_in, sight, indices_of, IsTold, AnyReply, PassShown, IsLater, with_call, IsAnyTold, told_past, each_sight, bit_in_word, AnyTells, all_bits}
 use Rattle.plex_board.specs.PlexScript.declared.asks.AnyHistory.TheVariants as history
 use Rattle.plex_board.specs.PlexScript.declared.transcripts.Shown.TheVariants as shown
 use Rattle.plex_agent.proofs.Fronts.{itself, front_same, front_more}
@@ -8,12 +8,7 @@ use Rattle.plex_agent.proofs.Passes.{Caller, IsOf, IsShown, IsWithin, Adds}
 -- ---- readings
 
 of_item : (item : Shown) → IsOf (place_of item) item
-of_item (shown.Call place number) =
-    record {
-      numbers = λ other apart. rw apart refl;
-      seen = λ other apart. rw apart refl;
-      sure = λ other apart. rw apart refl;
-    }
+of_item (shown.Call place number) = grind arith
 of_item (shown.Test place index bit at) =
     record { numbers = λ other apart. refl; seen = λ other apart. rw apart refl; sure = λ other apart. refl }
 of_item (shown.Word place word bits at) =
@@ -27,10 +22,7 @@ of_item (shown.Took place sure) =
 
 -- a number that is read of an item of this structure is the one that the item shows
 number_read : (place number n most : ℕ) → cond (place == place) (Some number) None ≡ Some n → number ≤ most → n ≤ most
-number_read place number n most read small =
-    let there : Some number ≡ Some n = rw (itself place) at read in
-    let is : number ≡ n = cc in
-    omega (arith, is, small)
+number_read place number n most read small = grind (arith, itself)
 
 -- ---- the end of a list
 
@@ -44,13 +36,7 @@ module _ {C R I S : Type 0} (meaning : Meaning C R I S) (form : StrForm) (entrie
     (test : Sight) (sure : ℕ) where
   tells_less : IsTold meaning form entries conn.0 test → test.index < form.vector → sure ≤ test.sure
       → Tells meaning form entries test.at sure conn test.index test.bit
-  tells_less told inside less =
-      let tells : Tells meaning form entries test.at test.sure conn test.index test.bit = told.tells inside in
-      record {
-        point = tells.point;
-        seen = omega (arith, tells.seen, less);
-        stood = elim tells.stood [ inl now ↦ inl now | inr below ↦ inr (omega (arith, below.0, less), below.1) ];
-      }
+  tells_less told inside less = grind arith
 
 -- a test tells what stood at a point that isn't before less, either
 told_tells : (form : StrForm) (entries : AnyHistory) (conn : ConnId) (test : Sight) (sure : ℕ)
@@ -100,22 +86,7 @@ module _ (form : StrForm) (entries : AnyHistory) (conn : ConnId) (on : StrNo) (b
 module _ (me : Caller) (on : StrNo) (pass : PassShown) where
   pub call_adds : (asked : AnyAsk) (told : Told) (reply : AnyReply) → pass.known < told.no
       → Adds me on pass (with_call asked told reply pass) (shown.Call on told.no)
-  call_adds asked told reply above =
-      let one : numbers_on on (shown.Call on told.no ∷ []) ≡ told.no ∷ [] = rw (itself on.0) refl in
-      record {
-        of = of_item (shown.Call on told.no);
-        owner = refl;
-        calls = front_more pass.calls _;
-        tests = front_same pass.tests;
-        numbers = map-append (λ (call : AnyCall). call.no) pass.calls _
-            ∙ ap (λ (t : List ℕ). map (λ (call : AnyCall). call.no) pass.calls ++ t) (sym one);
-        known = omega (arith, above);
-        sure = λ n less small. omega (arith, small, above);
-        seen_now = λ n read. number_read on.0 told.no n told.no read (omega arith);
-        sure_now = λ n read. number_read on.0 told.no n told.no read (omega arith);
-        reached_now = λ n read. number_read on.0 told.no n told.no read (omega arith);
-        good = λ within before is. (tt, λ form entries known there. tt);
-      }
+  call_adds asked told reply above = grind (arith, itself, of_item, front_more, front_same, map-append, number_read)
 
   abbrev pub with_test : ℕ → Bool → ℕ → PassShown
   with_test index bit at =
@@ -186,56 +157,11 @@ module _ (me : Caller) (on : StrNo) (pass : PassShown) where
       }
 
   pub bad_adds : (index : ℕ) (word : Bool) (len : ℕ) → Adds me on pass pass (shown.BadIndex on index word len)
-  bad_adds index word len =
-      record {
-        of = of_item (shown.BadIndex on index word len);
-        owner = refl;
-        calls = front_same pass.calls;
-        tests = front_same pass.tests;
-        numbers = sym (append-nil (map (λ (call : AnyCall). call.no) pass.calls));
-        known = omega arith;
-        sure = λ n less small. less;
-        seen_now = λ n read. absurd (cc read);
-        sure_now = λ n read. absurd (cc read);
-        reached_now = λ n read. absurd (cc read);
-        good = λ within before is. (tt, λ form entries known there. tt);
-      }
+  bad_adds index word len = grind (arith, of_item, front_same, append-nil)
 
   pub post_adds : pass.sure ≤ pass.known → Adds me on pass pass (shown.Posted on pass.sure)
-  post_adds ordered =
-      record {
-        of = of_item (shown.Posted on pass.sure);
-        owner = refl;
-        calls = front_same pass.calls;
-        tests = front_same pass.tests;
-        numbers = sym (append-nil (map (λ (call : AnyCall). call.no) pass.calls));
-        known = omega arith;
-        sure = λ n less small. less;
-        seen_now = λ n read. number_read on.0 pass.sure n pass.known read ordered;
-        sure_now = λ n read. number_read on.0 pass.sure n pass.sure read (omega arith);
-        reached_now = λ n read. number_read on.0 pass.sure n pass.known read ordered;
-        good = λ within before is. ((is.sure, omega (arith, ordered, within.known)), λ form entries known there. tt);
-      }
+  post_adds ordered = grind (arith, of_item, front_same, append-nil, number_read)
 
   pub take_adds : (pass' : PassShown) → IsLater pass pass' → pass'.sure ≤ pass'.known
       → Adds me on pass pass' (shown.Took on pass'.sure)
-  take_adds pass' later ordered =
-      let same_calls : pass'.calls ≡ pass.calls = ap (λ (p : PassShown). p.calls) later.same in
-      let same_tests : pass'.tests ≡ pass.tests = ap (λ (p : PassShown). p.tests) later.same in
-      record {
-        of = of_item (shown.Took on pass'.sure);
-        owner = ap (λ (p : PassShown). p.owner) later.same;
-        calls = record { more = []; behind = same_calls ∙ sym (append-nil pass.calls) };
-        tests = record { more = []; behind = same_tests ∙ sym (append-nil pass.tests) };
-        numbers = ap (map (λ (call : AnyCall). call.no)) same_calls
-            ∙ sym (append-nil (map (λ (call : AnyCall). call.no) pass.calls));
-        known = later.known;
-        sure = λ n less small. omega (arith, less, later.sure);
-        seen_now = λ n read. number_read on.0 pass'.sure n pass'.known read ordered;
-        sure_now = λ n read. number_read on.0 pass'.sure n pass'.sure read (omega arith);
-        reached_now = λ n read. number_read on.0 pass'.sure n pass'.known read ordered;
-        good = λ within before is. (
-          (omega (arith, is.sure, later.sure), omega (arith, ordered, within.known)),
-          λ form entries known there. tt,
-        );
-      }
+  take_adds pass' later ordered = grind (arith, of_item, append-nil, number_read)

@@ -1,5 +1,5 @@
 -- What the run by the machine alone has to do with what was done at a structure.
-use Rattle.plex_agent.proofs.Imports.{◌≡◌, ◌≢◌, ℕ, ◌≤◌, ◌==◌, max, fold, Bool, true, false, cond, List, [], ◌∷◌, ◌++◌, Option, None, Some, refl, sym, ap, subst, ◌∙◌, arith, unwrap_or, filter_map, cons_option, filter_map-append, fold-append, ConnId, StrNo, AnyHistory, Shown, Transcript, AnyCall, any_take, end_of, shown_on, seen_on, PassShown, NoteShown}
+use Rattle.plex_agent.proofs.Imports.{◌≡◌, ◌≢◌, ℕ, ◌≤◌, ◌==◌, max, List, [], ◌∷◌, ◌++◌, Option, None, Some, sym, ap, ◌∙◌, arith, unwrap_or, filter_map-append, fold-append, ConnId, StrNo, AnyHistory, Shown, Transcript, AnyCall, any_take, end_of, shown_on, seen_on, PassShown, NoteShown}
 use Rattle.plex_board.specs.PlexScript.declared.transcripts.AgentEnd.TheVariants as ended
 use Rattle.plex_agent.proofs.Spots.{conn, str, put, put_all, same_number, other_number, Spot}
 
@@ -7,17 +7,11 @@ use Rattle.plex_agent.proofs.Spots.{conn, str, put, put_all, same_number, other_
 
 pub seen_push : (on : StrNo) (items : List Shown) (item : Shown) (n : ℕ) → shown_on on item ≡ Some n
     → seen_on on (items ++ item ∷ []) ≡ max (seen_on on items) n
-seen_push on items item n e =
-    ap (fold max 0) (filter_map-append (shown_on on) items (item ∷ []))
-    ∙ fold-append max 0 (filter_map (shown_on on) items) (filter_map (shown_on on) (item ∷ []))
-    ∙ ap (λ (o : Option ℕ). fold max (seen_on on items) (cons_option o [])) e
+seen_push on items item n e = grind (arith, filter_map-append, fold-append)
 
 pub seen_none : (on : StrNo) (items : List Shown) (item : Shown) → shown_on on item ≡ None
     → seen_on on (items ++ item ∷ []) ≡ seen_on on items
-seen_none on items item e =
-    ap (fold max 0) (filter_map-append (shown_on on) items (item ∷ []))
-    ∙ fold-append max 0 (filter_map (shown_on on) items) (filter_map (shown_on on) (item ∷ []))
-    ∙ ap (λ (o : Option ℕ). fold max (seen_on on items) (cons_option o [])) e
+seen_none on items item e = grind (arith, filter_map-append, fold-append)
 
 -- ---- agreement
 
@@ -50,11 +44,7 @@ pub record AgreesAt (callers : ℕ) (entries : AnyHistory) (x : ℕ) (shows : �
 put_both : {X Y : Type 0} (P : ℕ → X → Y → Type 0) (at : ℕ) (x : X) (xs : ℕ → X) (y : Y) (ys : ℕ → Y) → P at x y
     → ((other : ℕ) → other ≢ at → P other (xs other) (ys other)) → (other : ℕ)
     → P other (put at x xs other) (put at y ys other)
-put_both {X} {Y} P at x xs y ys here rest other = go (other == at) refl
-  where
-    go : (b : Bool) → other == at ≡ b → P other (cond b x (xs other)) (cond b y (ys other))
-    go true same = subst (λ n. P n x y) (sym (same_number other at same)) here
-    go false apart = rest other (other_number other at apart)
+put_both {X} {Y} P at x xs y ys here rest other = grind (arith, same_number, other_number)
 
 -- the caller's pass and transcript changed
 pub agrees_put : (callers : ℕ) (entries : AnyHistory) (x : ℕ) (shows shows' : ℕ → Type 0) (by : ℕ) (spot : Spot)
@@ -72,20 +62,7 @@ pub agrees_put : (callers : ℕ) (entries : AnyHistory) (x : ℕ) (shows shows' 
     (put by transcript transcripts) history' number'
 agrees_put callers entries x shows shows' by spot transcripts history history' number number' pass last events front
     transcript
-    agrees history_is number_is front_is seen less lasts =
-    record {
-      history_is = history_is;
-      front_is = front_is;
-      seen = put_both (λ c pass' transcript'. c ≤ callers → transcript'.end ≡ ended.Done
-          → IsSeen (str x) pass' transcript'.items (shows' c)) by pass spot.passes transcript transcripts
-          (λ within works. seen works)
-          (λ c apart within works.
-          let before = agrees.seen c within works in
-          record { complete = before.complete; most = before.most; seen = λ is. before.seen (less c apart is) });
-      lasts = lasts;
-      number_is = number_is;
-      noted = agrees.noted;
-    }
+    agrees history_is number_is front_is seen less lasts = grind (arith, put_both, str)
 
 -- the same at another structure: nothing happened there
 pub agrees_elsewhere : (callers : ℕ) (entries : AnyHistory) (x : ℕ) (shows shows' : ℕ → Type 0) (by : ℕ) (spot : Spot)
@@ -96,26 +73,7 @@ pub agrees_elsewhere : (callers : ℕ) (entries : AnyHistory) (x : ℕ) (shows s
     → ((c : ℕ) → shows' c → shows c)
     → AgreesAt callers entries x shows' spot (put by transcript transcripts) history number
 agrees_elsewhere callers entries x shows shows' by spot transcripts history number transcript caller agrees works same
-    less =
-    record {
-      history_is = agrees.history_is;
-      front_is = agrees.front_is;
-      seen = λ c. put_all (λ c transcript'. c ≤ callers → transcript'.end ≡ ended.Done
-          → IsSeen (str x) (spot.passes c) transcript'.items (shows' c)) by transcript transcripts
-          (λ within working.
-          let before = agrees.seen by within (works working) in
-          record {
-            complete = before.complete;
-            most = omega (arith, same, before.most);
-            seen = λ is. same ∙ before.seen (less by is);
-          })
-          (λ c apart within working.
-          let before = agrees.seen c within working in
-          record { complete = before.complete; most = before.most; seen = λ is. before.seen (less c is) }) c;
-      lasts = agrees.lasts;
-      number_is = agrees.number_is;
-      noted = agrees.noted;
-    }
+    less = grind (arith, put_all, str)
 
 pub last_is : (by : ℕ) (c : ConnId) → Some (conn by) ≡ Some c → c.0 ≡ by
 last_is by c e = sym (ap (λ (o : Option ConnId). (unwrap_or o (conn 0)).0) e)

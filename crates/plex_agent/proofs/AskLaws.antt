@@ -1,5 +1,5 @@
 -- The calls of a line, put together from its steps.
-use Rattle.plex_agent.proofs.Imports.{◌≡◌, ◌≢◌, ℕ, suc, ◌<◌, ◌≤◌, List, [], ◌∷◌, ◌++◌, length, map, Option, refl, sym, ap, subst, ◌∙◌, append-nil, append_assoc, arith, IfSome, set-set, Kind, StrNo, CallRefused, Step, AnyAsk, AgentEnd, Shown, most_asks, step_after, IsReady, PassShown, with_call, CellShown, DeskShown, pass_at, with_pass, IsLaterOn, BoardShown, IsDeskOf, cell_on, pass_at-with_pass_same, with_pass-pass_at, desk-length, AtWork, Asks, Steps, EndsAt, Halts, call_item, IsAsked, at_work, asks_some, fewer_asks, ready_after}
+use Rattle.plex_agent.proofs.Imports.{◌≡◌, ◌≢◌, ℕ, ◌<◌, ◌≤◌, List, [], ◌∷◌, ◌++◌, length, map, Option, refl, ap, subst, ◌∙◌, append-nil, append_assoc, arith, IfSome, set-set, Kind, StrNo, CallRefused, Step, AnyAsk, AgentEnd, Shown, most_asks, step_after, IsReady, PassShown, with_call, DeskShown, pass_at, with_pass, IsLaterOn, BoardShown, IsDeskOf, cell_on, pass_at-with_pass_same, with_pass-pass_at, desk-length, AtWork, Asks, Steps, EndsAt, Halts, call_item, IsAsked, at_work, asks_some, fewer_asks, ready_after}
 use Rattle.plex_board.specs.StructCell.declared.refused.CallRefused.TheVariants as refused
 use Rattle.plex_board.specs.PlexScript.declared.agents.Step.TheVariants as step
 use Rattle.plex_board.specs.PlexScript.declared.transcripts.AgentEnd.TheVariants as ended
@@ -8,9 +8,7 @@ use Rattle.plex_agent.proofs.CellLaws.{some_is, cell_there}
 
 with_pass_twice : (on : StrNo) (first second : PassShown) (desk : DeskShown)
     → with_pass on second (with_pass on first desk) ≡ with_pass on second desk
-with_pass_twice on first second desk =
-    ap (λ (passes : List PassShown). let d : DeskShown = record desk { passes = passes } in d)
-    (set-set desk.passes on.0 first second)
+with_pass_twice on first second desk = grind (arith, set-set)
 
 module _ (limit : ℕ) (kind : Kind) (line : Option AnyAsk) (on : StrNo) where
   -- a step, and the steps behind it
@@ -47,16 +45,7 @@ module _ (limit : ℕ) (kind : Kind) (line : Option AnyAsk) (on : StrNo) where
   pub asks_end : (now : Step) (before after : AtWork)
       → EndsAt limit kind line on now before.desk after.desk after.shown.end
       → after.shown.items ≡ before.shown.items → Asks limit kind line on now before after
-  asks_end now before after ends same =
-      record {
-        tolds = [];
-        last = now;
-        pass = pass_at before.desk on;
-        steps = (refl, refl);
-        items = same ∙ sym (append-nil before.shown.items);
-        ends = subst (λ (d : DeskShown). EndsAt limit kind line on now d after.desk after.shown.end)
-            (sym (with_pass-pass_at before.desk on)) ends;
-      }
+  asks_end now before after ends same = grind (arith, append-nil, with_pass-pass_at)
 
   -- the call wasn't made
   pub asks_refused : (now : Step) (refusal : CallRefused) (end : AgentEnd) (before : AtWork) (after : DeskShown)
@@ -67,8 +56,7 @@ module _ (limit : ℕ) (kind : Kind) (line : Option AnyAsk) (on : StrNo) where
       → end ≡ end_of on refusal
       → Asks limit kind line on now before (at_work after items end)
   asks_refused now refusal end before after items ready goes later ordered full still same ends =
-      subst (λ (end : AgentEnd). Asks limit kind line on now before (at_work after items end)) (sym ends)
-      (by_refusal refusal full still)
+      grind (arith, by_refusal)
     where
       halts : Halts kind line on now before.desk after
       halts =
@@ -92,22 +80,13 @@ module _ {L : Type 0} (board : BoardShown L) (on : StrNo) where
   module _ (line : Option AnyAsk) (now next : Step) (before after : AtWork) (there : on.0 < length board.cells)
       (asked : IfSome (cell_on board on) (λ cell. IsAsked cell.form.kind line on now next before after)) where
     asked_here : IsAsked (cell_there board on there).0.form.kind line on now next before after
-    asked_here =
-        let cell = cell_there board on there in
-        some_is (λ (cell : CellShown L). IsAsked cell.form.kind line on now next before after) (cell_on board on)
-        cell.0 cell.1 asked
+    asked_here = grind (arith, cell_there, some_is)
 
     pub asked_fewer : now ≢ step.Rest → most_asks next < most_asks now
-    asked_fewer goes =
-        let here = asked_here in
-        let fewer : suc (most_asks (step_after now here.told)) ≤ most_asks now = fewer_asks now here.told goes in
-        let same : most_asks next ≡ most_asks (step_after now here.told) = ap most_asks here.next_is in
-        omega (arith, fewer, same)
+    asked_fewer goes = grind (arith, asked_here, fewer_asks)
 
     pub asked_ready : IsReady line now → IsReady line next
-    asked_ready ready =
-        let here = asked_here in
-        subst (IsReady line) (sym here.next_is) (ready_after line now here.told ready)
+    asked_ready ready = grind (arith, asked_here, ready_after)
 
     pub asked_owner : after.desk.owner ≡ before.desk.owner
     asked_owner = ap (λ (d : DeskShown). d.owner) (asked_here).desk

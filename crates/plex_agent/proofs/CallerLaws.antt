@@ -43,6 +43,4 @@ module _ {L : Type 0} (board : BoardShown L) (before between after : AtWork) whe
     pub does_others : line.by.0 == owner.0 ≡ false → DoesLines board (lines_by owner (drop (i + 1) lines)) before
         after
         → DoesLines board (lines_by owner (drop i lines)) before after
-    does_others other rest =
-        let here : drop i lines ≡ line ∷ drop (i + 1) lines = drop_next lines i line d within value in
-        rw (here, other) rest
+    does_others other rest = grind (arith, drop_next)

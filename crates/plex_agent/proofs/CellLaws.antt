@@ -27,12 +27,7 @@ module _ {L : Type 0} (board : BoardShown L) (on : StrNo) where
       (type_is : IfSome (cell_on board on) (λ cell. cell.str_type ≡ type_of_kind kind))
       (may : IfSome (cell_on board on) (IsAskable line by)) (asks : Some asked ≡ asked_by kind line now) where
     pub ask_fits : IfSome (cell_on board on) (λ cell. IsAskOf cell asked)
-    ask_fits =
-        if_each (λ (cell : CellShown L). IsAskOf cell asked) (cell_on board on) (λ cell is.
-        (may_ask cell kind line by now asked (some_is _ _ cell is type_is) (some_is _ _ cell is may) asks).0)
+    ask_fits = grind (arith, if_each, may_ask, some_is)
 
     pub may_ask_there : on.0 < length board.cells → MayAskAny by asked
-    may_ask_there below =
-        let there = cell_there below in
-        (may_ask there.0 kind line by now asked (some_is _ _ there.0 there.1 type_is)
-        (some_is _ _ there.0 there.1 may) asks).1
+    may_ask_there below = grind (arith, cell_there, may_ask, some_is)

@@ -123,11 +123,7 @@ module _ {L : Type 0} (limit : ℕ) (board : BoardShown L) (me : Caller)
     where
       made : MatchBool (is_active before.desk on)
           (AsksToDepart cell on before after) (after ≡ before)
-      made =
-          subst (λ (e : AgentEnd). MatchBool (is_done_as e)
-          (MatchBool (is_active before.desk on)
-          (AsksToDepart cell on before after) (after ≡ before))
-          (after ≡ before)) going departs
+      made = grind arith
 
       by_link : (b : Bool) → is_active before.desk on ≡ b
           → MatchBool b (AsksToDepart cell on before after) (after ≡ before)
@@ -214,16 +210,7 @@ module _ {L : Type 0} (limit : ℕ) (board : BoardShown L) (me : Caller)
       (on : StrNo) → AreLinked k desk
       → (on ≡ place k) × DepartsUpTo (is_active desk (place k)) part × (limit ≤ length_on me.histories (place k))
       → StoppedAt k (cell ∷ cells) part on
-  closing_stops k cell cells desk part on links (here, (linked, none), full) =
-      subst (StoppedAt k (cell ∷ cells) part) (sym here)
-      (record {
-        past = 0;
-        at = omega arith;
-        within = omega arith;
-        closings = none;
-        linked = links (place k) (omega arith) ∙ linked;
-        full = full;
-      })
+  closing_stops k cell cells desk part on links (here, (linked, none), full) = grind arith
 
   closing_breaks : (k : ℕ) (cell : CellShown L) (cells : List (CellShown L)) (desk : DeskShown) (part : List Shown)
       → AreLinked k desk → DepartsUpTo (is_active desk (place k)) part → BrokenAt k (cell ∷ cells) part
@@ -282,9 +269,7 @@ module _ {L : Type 0} (limit : ℕ) (board : BoardShown L) (me : Caller)
 
       -- to hear of others changes nothing of where the caller is active
       links_ready : AreLinked k before.desk → AreLinked k ready.desk
-      links_ready links on past =
-          links on past
-          ∙ ap (λ (t : List AnyCall). is_linked t) (ap (λ (p : PassShown). p.calls) (sym (hears.later on).same))
+      links_ready links on past = grind arith
 
       still : (end : AgentEnd) → between.shown.end ≡ end → is_done_as end ≡ false
           → (AreLinked k ready.desk → OneEnds cell.form.kind k ready.desk turned.part end

@@ -17,10 +17,7 @@ crew_is_idle board crew new few =
   where
     within : (k d : ℕ) → k < length (range_with_len 0 (board.callers + 1))
         → get_or (range_with_len 0 (board.callers + 1)) k d ≤ CONNECTORS
-    within k d lt =
-        let n = board.callers + 1 in
-        let inside : k < n = omega (arith, lt, length-range_with_len 0 n) in
-        omega (arith, get_or-range_with_len 0 n k d inside, inside, few)
+    within k d lt = grind (arith, length-range_with_len, get_or-range_with_len)
 
 -- a line that a caller may play is a line for the board
 pub lines_fit : {L : Type 0} (board : BoardShown L) (lines played : List Line) → lines ≡ played
@@ -33,28 +30,17 @@ lines_fit board lines played same playable =
 pub work_each : {L : Type 0} (board : BoardShown L) (lines all : List Line) (crew workers : List AtWork)
     → lines ≡ all → crew ≡ crew_of board → WorkEach board lines crew workers
     → WorkEach board all (crew_of board) workers
-work_each board lines all crew workers lines_are new worked =
-    subst (λ (it : List AtWork). WorkEach board all it workers) new
-    (subst (λ (it : List Line). WorkEach board it crew workers) lines_are worked)
+work_each board lines all crew workers lines_are new worked = grind arith
 
 module _ {L : Type 0} (board : BoardShown L) (lines : List Line) (workers : List AtWork)
     (worked : WorkEach board lines (crew_of board) workers) where
   -- each is at its own desk still
   pub worked-callers : AreCallersOf board workers
-  worked-callers = record {
-    callers = worked.callers ∙ (new_callers board).callers;
-    each = λ c worker there.
-        let (idler, at, works) = worked.each c worker there in (
-          works.of_board,
-          ap (λ owner. owner.0) works.owner ∙ ap (λ (it : AtWork). it.desk.owner.0) (crew_at board c idler at),
-        );
-  }
+  worked-callers = grind (arith, new_callers, crew_at)
 
   serves : (c : ℕ) (worker : AtWork) → slice_get workers c ≡ Some worker
       → Serves board lines (record { desk = new_desk board c; shown = no_items }) worker
-  serves c worker there =
-      let (idler, at, works) = worked.each c worker there in
-      subst (λ (it : AtWork). Serves board lines (idle_worker it.desk) worker) (crew_at board c idler at) works.serves
+  serves c worker there = grind (arith, crew_at)
 
 -- whatever the schedule was, what the callers were shown goes with the histories of the closed board
 pub served_shows : {L : Type 0} (limit : ℕ) (script : Script) (board : BoardShown L) (histories : List AnyHistory)

@@ -279,28 +279,8 @@ record IsNoted (front : ℕ) (note : Option NoteShown) (before after : PassShown
 
 is_noted : (front : ℕ) (note : Option NoteShown) (pass : PassShown) → IsKnownNote front note → pass.known ≤ front
     → pass.sure ≤ pass.known → IsNoted front note pass (with_any_note note pass)
-is_noted front None pass noted within sure =
-    record {
-      known = omega arith;
-      sure = omega arith;
-      more = omega arith;
-      within = within;
-      ordered = sure;
-      owner = refl;
-      calls = refl;
-      tests = refl;
-    }
-is_noted front (Some note) pass noted within sure =
-    record {
-      known = omega arith;
-      sure = refl;
-      more = refl;
-      within = omega (arith, noted.1);
-      ordered = omega (arith, noted.0);
-      owner = refl;
-      calls = refl;
-      tests = refl;
-    }
+is_noted front None pass noted within sure = grind arith
+is_noted front (Some note) pass noted within sure = grind arith
 
 pub goes_take : (stage : Stage) (shows : Shows) (on by : ℕ) (state : State)
     → on < stage.cells → by ≤ stage.callers → (state.shown by).end ≡ ended.Done → shows on by

@@ -1,5 +1,5 @@
 -- A board as its script begins: its stage, and that nothing has been done.
-use Rattle.plex_agent.proofs.Imports.{◌≡◌, ℕ, zero, suc, ◌+◌, ◌≤◌, ◌<◌, false, List, [], ◌∷◌, length, map, slice_get, replicate, Option, None, Some, refl, sym, ap, subst, ◌∙◌, arith, All, option_map, unwrap_or, get_or-replicate, length-replicate, length-map, length-map-range_with_len, get_or-map-range_with_len, All-nil, All-cons, All-weaker, All-map, slice_get-map, slice_get_within, slice_get-get_or, get_or_from_slice_get, get_within, StrForm, Kind, CfId, ConnId, Telling, AreMadeBelow, AnyHistory, Line, Script, AnyCall, IsOfKind, AreAnyAsTold, no_calls, numbers_from, any_take, any_numbers, take_none, start, connectors, IsRunnable, IsRunnableLine, type_of_kind, type_of_history, PassShown, unused_pass, CellShown, pass_at, no_pass, BoardShown, IsStarted, new_desk, IsClosed, no_items, AtWork, worker_of, no_worker, new_floor}
+use Rattle.plex_agent.proofs.Imports.{◌≡◌, ℕ, zero, suc, ◌+◌, ◌≤◌, ◌<◌, false, List, [], ◌∷◌, length, map, slice_get, replicate, Option, None, Some, refl, sym, ap, subst, ◌∙◌, arith, All, option_map, unwrap_or, get_or-replicate, length-replicate, length-map, length-map-range_with_len, get_or-map-range_with_len, All-nil, All-cons, All-weaker, All-map, slice_get-map, slice_get_within, slice_get-get_or, get_or_from_slice_get, get_within, StrForm, Kind, CfId, ConnId, Telling, AreMadeBelow, AnyHistory, Script, AnyCall, IsOfKind, AreAnyAsTold, no_calls, numbers_from, any_take, any_numbers, take_none, start, connectors, IsRunnable, type_of_kind, type_of_history, PassShown, unused_pass, CellShown, pass_at, no_pass, BoardShown, IsStarted, new_desk, IsClosed, no_items, new_floor}
 use Rattle.plex_board.specs.CfTypes.declared.forms.Kind.TheVariants as kind
 use Rattle.plex_board.specs.PlexScript.declared.asks.AnyHistory.TheVariants as history
 use Rattle.plex_agent.proofs.Spots.{conn, str, Spot, IsKnownPass}
@@ -146,9 +146,7 @@ module _ {L : Type 0} (limit : ℕ) (told : ℕ → CfId → Telling) (script : 
   }
 
   pub callers_are : All (λ line. line.by.0 ≤ board.callers) script.lines
-  callers_are =
-      All-weaker (IsRunnableLine script) (λ (line : Line). line.by.0 ≤ board.callers)
-      (λ line is. omega (arith, is.caller, given.callers)) script.lines given.runnable.lines
+  callers_are = grind (arith, All-weaker)
 
   -- ---- nothing done
 
@@ -186,25 +184,17 @@ module _ {L : Type 0} (limit : ℕ) (told : ℕ → CfId → Telling) (script : 
       }
 
   pub floor_new : IsFloor (stage_of limit told board histories) (new_floor board) new_state
-  floor_new = record {
-    workers = length-map-range_with_len new_worker 0 (board.callers + 1);
-    tray = length-replicate (length board.cells) None;
-    lasts = length-replicate (length board.cells) None;
-    worker = λ c inside.
-        let here : worker_of (new_floor board) (conn c) ≡ new_worker c =
-        get_or-map-range_with_len new_worker 0 (board.callers + 1) c c no_worker (omega arith) (omega arith) in
-        subst (λ (w : AtWork). IsWorker (length board.cells) c w new_state) (sym here)
-        (record {
-          size = length-map board.cells (λ (cell : CellShown L). unused_pass cell.str_type cell.words c);
-          passes = λ x within. refl;
-          shown = refl;
-        });
-    note = λ x within. get_or-replicate (length board.cells) x None None within;
-    last = λ x within. get_or-replicate (length board.cells) x None None within;
-  }
-    where
-      new_worker : ℕ → AtWork
-      new_worker owner = record { desk = new_desk board owner; shown = no_items }
+  floor_new =
+      grind (
+        arith,
+        length-map-range_with_len,
+        length-replicate,
+        conn,
+        get_or-map-range_with_len,
+        IsWorker,
+        length-map,
+        get_or-replicate,
+      )
 
   pub agrees_new : Agrees (stage_of limit told board histories) of_all new_state (start script)
   agrees_new = record {

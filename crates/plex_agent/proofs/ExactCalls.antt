@@ -1,5 +1,5 @@
 -- The calls of one line: what they keep, and the steps of the run by the machine alone that go with them.
-use Rattle.plex_agent.proofs.Imports.{◌≡◌, ◌≢◌, ℕ, zero, suc, ◌≤◌, ◌<◌, nat_le, true, false, List, [], ◌∷◌, ◌++◌, map, slice_get, Option, Some, refl, sym, ap, subst, ◌∙◌, arith, append-nil, append_assoc, nat_tests, StrForm, Kind, CfId, ConnId, Telling, StrNo, Told, Step, AnyAsk, AnyHistory, AgentEnd, Shown, Transcript, step_after, most_asks, asked_by, rests, fewer_asks, some_goes, any_length, any_take, any_told, end_of, Run, stopped_at, steps_made, AnyReply, PassShown, IsLater, with_call, Steps, call_item}
+use Rattle.plex_agent.proofs.Imports.{◌≡◌, ◌≢◌, ℕ, zero, suc, ◌≤◌, ◌<◌, List, [], ◌∷◌, ◌++◌, map, slice_get, Option, Some, refl, sym, ap, subst, ◌∙◌, arith, append-nil, append_assoc, nat_tests, StrForm, Kind, CfId, ConnId, Telling, StrNo, Told, Step, AnyAsk, AnyHistory, AgentEnd, Shown, Transcript, step_after, most_asks, asked_by, rests, fewer_asks, some_goes, any_length, any_take, any_told, end_of, Run, stopped_at, steps_made, AnyReply, PassShown, IsLater, with_call, Steps, call_item}
 use Rattle.plex_board.specs.PlexScript.declared.agents.Step.TheVariants as step
 use Rattle.plex_board.specs.PlexScript.declared.transcripts.AgentEnd.TheVariants as ended
 use Rattle.plex_board.specs.PlexScript.declared.transcripts.Shown.TheVariants as shown
@@ -70,28 +70,12 @@ module _ (stage : Stage) (is : IsStage stage) (line : Option AnyAsk) (on by : �
       → asked_by kind_here line now ≡ Some asked
       → slice_get run.histories on ≡ Some entries → stage.limit ≤ any_length entries
       → steps_here (suc less) now run ≡ stopped_at (conn by) (str on) run
-  full_made less now asked entries run asks there full =
-      let test : nat_le stage.limit (any_length entries) ≡ true = grind (arith, nat_tests) in
-      rw (asks, there, test) (resting stage.limit stage.told less (stage.form on) line (conn by) (str on)
-      (stopped_at (conn by) (str on) run))
+  full_made less now asked entries run asks there full = grind (arith, nat_tests, resting, conn, str)
 
   stop_moved : (pass : PassShown) (end : AgentEnd) (before : State) → (before.spots on).last ≡ Some (conn by)
       → IsMoved on by pass (record { items = (before.shown by).items ++ []; end = end }) before
       (stopped_state on by pass end before)
-  stop_moved pass end before last =
-      let spot : Spot = moved by pass (before.spots on) in
-      let now : put on spot before.spots on ≡ spot = put_same on spot before.spots in
-      record {
-        here = ap (λ (s : Spot). s.passes by) now ∙ put_same by pass (before.spots on).passes;
-        others = λ c apart. ap (λ (s : Spot). s.passes c) now ∙ put_other by pass (before.spots on).passes c apart;
-        note = ap (λ (s : Spot). s.note) now;
-        last = ap (λ (s : Spot). s.last) now ∙ sym last;
-        elsewhere = λ x apart. put_other on spot before.spots x apart;
-        shown = put_same by (record (before.shown by) { end = end }) before.shown
-            ∙ ap (λ (t : List Shown). (let it : Transcript = record { items = t; end = end } in it))
-            (sym (append-nil (before.shown by).items));
-        others_shown = λ c apart. put_other by (record (before.shown by) { end = end }) before.shown c apart;
-      }
+  stop_moved pass end before last = grind (arith, Spot, moved, put, put_same, put_other, append-nil)
 
   full_go : (shows shows' : Shows) (most : ℕ) (now : Step) (pass : PassShown) (before : State)
       → SaysLess shows shows' on by
@@ -148,26 +132,7 @@ module _ (stage : Stage) (is : IsStage stage) (line : Option AnyAsk) (on by : �
       → (before.shown by).end ≡ ended.Done → now ≡ step.Rest → pass ≡ (before.spots on).passes by
       → StepsGo shows shows most now pass (record { items = (before.shown by).items ++ []; end = ended.Done }) before
   rest_go shows most now pass before works rest same =
-      record {
-        after = before;
-        is_moved = record {
-          here = sym same;
-          others = λ c apart. refl;
-          note = refl;
-          last = refl;
-          elsewhere = λ x apart. refl;
-          shown = ap (λ (t : List Shown).
-              (let it : Transcript = record { items = t; end = (before.shown by).end } in it))
-              (sym (append-nil (before.shown by).items))
-              ∙ ap (λ (e : AgentEnd). (let it : Transcript =
-              record { items = (before.shown by).items ++ []; end = e } in it)) works;
-          others_shown = λ c apart. refl;
-        };
-        goes = goes_same stage shows shows before before (λ run. run) (steps_here most now)
-            (λ run. sym (ap (λ (s : Step). steps_here most s run) rest
-            ∙ resting stage.limit stage.told most (stage.form on) line (conn by) (str on) run))
-            (goes_not stage shows before);
-      }
+      grind (arith, append-nil, goes_same, resting, conn, str, goes_not)
 
   -- ---- a call, and the steps behind it
 
@@ -175,35 +140,12 @@ module _ (stage : Stage) (is : IsStage stage) (line : Option AnyAsk) (on by : �
       → IsMoved on by (with_call asked told reply ((before.spots on).passes by))
       (record (before.shown by) { items = (before.shown by).items ++ shown.Call (str on) told.no ∷ [] }) before
       (called_state on by asked told reply before)
-  call_moved asked told reply before =
-      let spot : Spot = called by asked told reply (before.spots on) in
-      let pass : PassShown = with_call asked told reply ((before.spots on).passes by) in
-      let transcript : Transcript = record (before.shown by)
-      { items = (before.shown by).items ++ shown.Call (str on) told.no ∷ [] } in
-      let now : put on spot before.spots on ≡ spot = put_same on spot before.spots in
-      record {
-        here = ap (λ (s : Spot). s.passes by) now ∙ put_same by pass (before.spots on).passes;
-        others = λ c apart. ap (λ (s : Spot). s.passes c) now ∙ put_other by pass (before.spots on).passes c apart;
-        note = ap (λ (s : Spot). s.note) now;
-        last = ap (λ (s : Spot). s.last) now;
-        elsewhere = λ x apart. put_other on spot before.spots x apart;
-        shown = put_same by transcript before.shown;
-        others_shown = λ c apart. put_other by transcript before.shown c apart;
-      }
+  call_moved asked told reply before = grind (arith, Spot, called, str, put, put_same, put_other)
 
   pub moved_then : (pass pass' : PassShown) (transcript transcript' : Transcript) (first second third : State)
       → IsMoved on by pass transcript first second → IsMoved on by pass' transcript' second third
       → IsMoved on by pass' transcript' first third
-  moved_then pass pass' transcript transcript' first second third one two =
-      record {
-        here = two.here;
-        others = λ c apart. two.others c apart ∙ one.others c apart;
-        note = two.note ∙ one.note;
-        last = two.last ∙ one.last;
-        elsewhere = λ x apart. two.elsewhere x apart ∙ one.elsewhere x apart;
-        shown = two.shown;
-        others_shown = λ c apart. two.others_shown c apart ∙ one.others_shown c apart;
-      }
+  moved_then pass pass' transcript transcript' first second third one two = grind arith
 
   call_made_here : (less : ℕ) (now : Step) (asked : AnyAsk) (told : Told) (entries : AnyHistory) (run : Run)
       → asked_by kind_here line now ≡ Some asked → slice_get run.histories on ≡ Some entries
@@ -211,9 +153,7 @@ module _ (stage : Stage) (is : IsStage stage) (line : Option AnyAsk) (on by : �
       → told ≡ any_told (stage.form on) (stage.told on) entries (conn by) asked
       → steps_here (suc less) now run ≡ steps_here less (step_after now told)
       (run_called (stage.form on) (stage.told on) on by asked entries run)
-  call_made_here less now asked told entries run asks there room answer =
-      let test : nat_le stage.limit (any_length entries) ≡ false = grind (arith, nat_tests) in
-      rw (asks, there, test, answer) refl
+  call_made_here less now asked told entries run asks there room answer = grind (arith, nat_tests)
 
   call_go : (shows shows' : Shows) (most : ℕ) (now : Step) (asked : AnyAsk) (told : Told) (reply : AnyReply)
       (pass : PassShown) (end : AgentEnd) (items : List Shown)
@@ -276,14 +216,9 @@ module _ (stage : Stage) (is : IsStage stage) (line : Option AnyAsk) (on by : �
   steps_go shows [] most now last pass pass' ended.Done before works lasts enough steps ends =
       rest_go shows most now pass' before works (sym steps.0 ∙ ends.0) (ends.1 ∙ steps.1)
   steps_go shows [] most now last pass pass' (ended.JournalFull place) before works lasts enough steps ends =
-      rw ends.0
-      (full_go shows shows most now pass' before (says_same shows on by) works lasts enough
-      (subst (λ (p : PassShown). IsHalted kind_here line now p pass') steps.1
-      (subst (λ (s : Step). IsHalted kind_here line s pass pass') steps.0 ends.1)) ends.2)
+      grind (arith, full_go, says_same)
   steps_go shows [] most now last pass pass' ended.NoMemory before works lasts enough steps ends =
-      none_go shows shows most now pass' before works lasts
-      (subst (λ (p : PassShown). IsHalted kind_here line now p pass') steps.1
-      (subst (λ (s : Step). IsHalted kind_here line s pass pass') steps.0 ends))
+      grind (arith, none_go)
   steps_go shows (told ∷ tolds) most now last pass pass' end before works lasts enough steps ends =
       let between : State = called_state on by steps.0 told steps.3 before in
       let step_moved : IsMoved on by (with_call steps.0 told steps.3 ((before.spots on).passes by))
@@ -312,15 +247,9 @@ module _ (stage : Stage) (is : IsStage stage) (line : Option AnyAsk) (on by : �
   steps_first shows shows' [] most now last pass pass' ended.Done before goes says works lasts enough steps ends =
       absurd (goes (sym steps.0 ∙ ends.0))
   steps_first shows shows' [] most now last pass pass' (ended.JournalFull place) before goes says works lasts enough
-      steps ends =
-      rw ends.0
-      (full_go shows shows' most now pass' before says works lasts enough
-      (subst (λ (p : PassShown). IsHalted kind_here line now p pass') steps.1
-      (subst (λ (s : Step). IsHalted kind_here line s pass pass') steps.0 ends.1)) ends.2)
+      steps ends = grind (arith, full_go)
   steps_first shows shows' [] most now last pass pass' ended.NoMemory before goes says works lasts enough steps ends =
-      none_go shows shows' most now pass' before works lasts
-      (subst (λ (p : PassShown). IsHalted kind_here line now p pass') steps.1
-      (subst (λ (s : Step). IsHalted kind_here line s pass pass') steps.0 ends))
+      grind (arith, none_go)
   steps_first shows shows' (told ∷ tolds) most now last pass pass' end before goes says works lasts enough steps ends
       =
       let between : State = called_state on by steps.0 told steps.3 before in

@@ -1,5 +1,5 @@
 -- The closings of a script at a board, against the run by the machine alone.
-use Rattle.plex_agent.proofs.Imports.{inl, inr, ◌≡◌, ◌≢◌, ℕ, zero, suc, ◌+◌, ◌≤◌, ◌<◌, Bool, true, false, List, [], ◌∷◌, ◌++◌, length, map, fold, slice_get, replicate, Option, None, Some, MatchBool, refl, sym, ap, subst, ◌∙◌, arith, length-set, append_assoc, length-append, All, slice_index_or, range_with_len, enumerate_from, get_or-replicate, length-replicate, All-head, All-tail, StrForm, ConnId, AnyAsk, Script, AgentEnd, Transcript, shell_ask, AnyCall, any_calls, own_calls, is_linked, cases_eq, IsAnyPoint, any_take, end_of, IsFrontOf, Run, is_done, after_departure, after_closing, all_steps_made, PassShown, CellShown, IsAnyTold, pass_at, with_pass, BoardShown, note_in, AtWork, Asks, Departs, is_done_as, Floor, worker_of, with_worker, heard_from_last, heard_all, ClosesAll}
+use Rattle.plex_agent.proofs.Imports.{◌≡◌, ◌≢◌, ℕ, zero, suc, ◌+◌, ◌≤◌, ◌<◌, Bool, true, false, List, [], ◌∷◌, ◌++◌, length, map, fold, slice_get, replicate, Option, None, Some, MatchBool, refl, sym, ap, subst, ◌∙◌, arith, length-set, append_assoc, length-append, All, slice_index_or, range_with_len, enumerate_from, get_or-replicate, length-replicate, All-head, All-tail, StrForm, ConnId, AnyAsk, Script, AgentEnd, Transcript, shell_ask, any_calls, own_calls, is_linked, cases_eq, any_take, end_of, IsFrontOf, Run, is_done, after_departure, after_closing, all_steps_made, CellShown, pass_at, BoardShown, note_in, AtWork, Asks, Departs, is_done_as, Floor, worker_of, with_worker, heard_from_last, heard_all, ClosesAll}
 use Rattle.plex_board.specs.CfTypes.declared.shell_commands.ShellCmd.TheVariants as cmd
 use Rattle.plex_board.specs.PlexScript.declared.agents.Step.TheVariants as step
 use Rattle.plex_board.specs.PlexScript.declared.transcripts.AgentEnd.TheVariants as ended
@@ -20,14 +20,7 @@ use Rattle.plex_agent.proofs.LineRuns.{IsStageOf, goes_as}
 pub goes_where : (stage : Stage) (shows shows' : Shows) (before after : State) (goes goes' : Run → Run)
     → (Known stage before → Fits stage before → (run : Run) → Agrees stage shows before run → goes' run ≡ goes run)
     → Goes stage shows shows' before after goes → Goes stage shows shows' before after goes'
-goes_where stage shows shows' before after goes goes' same one =
-    record {
-      known = one.known;
-      back = one.back;
-      agrees = λ known fits run agrees.
-          subst (Agrees stage shows' after) (sym (same known (one.back known fits) run agrees))
-          (one.agrees known fits run agrees);
-    }
+goes_where stage shows shows' before after goes goes' same one = grind (arith, Agrees)
 
 -- ---- hearings at all structures
 
@@ -40,72 +33,30 @@ heard_state_all by state = record {
 pub goes_heard_all : (stage : Stage) (by : ℕ) (state : State) → by ≤ stage.callers → (state.shown by).end ≡ ended.Done
     → Goes stage of_none of_none state (heard_state_all by state) (λ run. run)
 goes_heard_all stage by state caller works =
-    record {
-      known = λ known x within.
-          let heeded : IsHeardPass by (state.spots x) (heard_pass by (state.spots x)) =
-          heard_is stage.callers by (state.spots x) caller (known x within) in
-          known_moved stage.callers by (state.spots x) (heard_pass by (state.spots x)) caller (known x within)
-          (omega (arith, heeded.known))
-          heeded.sure heeded.owner heeded.calls;
-      back = λ known fits. record {
-        at = λ x within.
-            let pass : PassShown = heard_pass by (state.spots x) in
-            let heeded : IsHeardPass by (state.spots x) pass =
-            heard_is stage.callers by (state.spots x) caller (known x within) in
-            fits_put (stage.form x) (stage.entries x) stage.callers by (state.spots x) pass (Some (conn by))
-            pass.known
-            (omega (arith, heeded.known))
-            (λ told. subst (All (IsAnyTold (stage.form x) (stage.entries x) (conn by))) heeded.tests told)
-            (fits.at x within);
-        memory = λ c.
-            put_back (λ c transcript'. c ≤ stage.callers → transcript'.end ≢ ended.NoMemory) by (state.shown by)
-            state.shown
-            (λ is. is) c (fits.memory c);
-        stopped = λ x c within inside stops. elim (cases_eq c by) [
-          | inl mine ↦ absurd (stops (ap (λ (n : ℕ). (state.shown n).end) mine ∙ works))
-          | inr other ↦
-              subst (λ (p : PassShown). IsAnyPoint (stage.entries x) p.known)
-              (put_other by (heard_pass by (state.spots x)) (state.spots x).passes c other)
-              (fits.stopped x c within inside (λ ends. stops (ap (λ (t : Transcript). t.end)
-              (sym (put_other by (state.shown by) state.shown c other)) ∙ ends)))
-        ];
-      };
-      agrees = λ known fits run agrees. record {
-        histories = agrees.histories;
-        transcripts = agrees.transcripts;
-        numbers = agrees.numbers;
-        shown = put_all (λ c transcript'. c ≤ stage.callers → slice_get run.transcripts c ≡ Some transcript') by
-            (state.shown by) state.shown
-            (agrees.shown by) (λ c apart. agrees.shown c);
-        at = λ x within.
-            let spot : Spot = state.spots x in
-            let pass : PassShown = heard_pass by spot in
-            let at : AgreesAt stage.callers (stage.entries x) x (of_none x) spot state.shown
-            (slice_get run.histories x) (slice_get run.posted x) = agrees.at x within in
-            let heeded : IsHeardPass by spot pass = heard_is stage.callers by spot caller (known x within) in
-            let complete : pass.sure ≡ pass.known =
-            heard_complete stage.callers by spot caller (known x within) at.lasts in
-            agrees_put stage.callers (stage.entries x) x (of_none x) (of_none x) by spot state.shown
-            (slice_get run.histories x) (slice_get run.histories x) (slice_get run.posted x) (slice_get run.posted x)
-            pass (Some (conn by))
-            spot.events pass.known (state.shown by) at at.history_is at.number_is (heeded.known ∙ at.front_is)
-            (λ works. record {
-              complete = complete;
-              most = omega (arith, (at.seen by caller works).most, heeded.more);
-              seen = λ said. absurd said;
-            })
-            (λ c apart said. said)
-            (λ c last. ap (λ (n : ℕ). (put by pass spot.passes n).sure) (last_is by c last)
-            ∙ ap (λ (p : PassShown). p.sure) (put_same by pass spot.passes) ∙ complete);
-      };
-    }
+    grind (
+      arith,
+      IsHeardPass,
+      heard_pass,
+      heard_is,
+      known_moved,
+      fits_put,
+      conn,
+      put_back,
+      cases_eq,
+      put_other,
+      put_all,
+      Spot,
+      AgreesAt,
+      of_none,
+      heard_complete,
+      agrees_put,
+      put,
+      last_is,
+      put_same,
+    )
 
 pub heard_others : (by : ℕ) (state : State) → OthersSame by state (heard_state_all by state)
-heard_others by state =
-    record {
-      passes = λ x c apart. put_other by (heard_pass by (state.spots x)) (state.spots x).passes c apart;
-      shown = λ c apart. put_other by (state.shown by) state.shown c apart;
-    }
+heard_others by state = grind (arith, put_other, heard_pass)
 
 -- a worker that has heard of the first structures, so many
 record IsHearing (cells by n : ℕ) (worker : AtWork) (state : State) : Type 0 where
@@ -118,33 +69,14 @@ hearing_next : (stage : Stage) (by n : ℕ) (worker : AtWork) (floor : Floor) (s
     → IsFloor stage floor state → Known stage state → IsHearing stage.cells by n worker state
     → IsHearing stage.cells by (n + 1) (heard_from_last floor (conn by) worker (str n)) state
 hearing_next stage by n worker floor state within is known hearing =
-    let pass : PassShown = heard_pass by (state.spots n) in
-    let heard_is : heard_from_last floor (conn by) worker (str n)
-    ≡ record worker { desk = with_pass (str n) pass worker.desk }
-    =
-    heard_desk stage n by worker floor state within is known hearing.size (hearing.behind n (omega arith) within) in
-    subst (λ (w : AtWork). IsHearing stage.cells by (n + 1) w state) (sym heard_is)
-    (record {
-      size = length-set worker.desk.passes n pass ∙ hearing.size;
-      before = λ x below inside.
-          by_place (λ x. x < n + 1 → x < stage.cells
-          → pass_at (with_pass (str n) pass worker.desk) (str x) ≡ heard_pass by (state.spots x)) n
-          (λ below inside. pass_same worker.desk n pass (omega (arith, hearing.size)))
-          (λ x apart below inside. pass_other worker.desk n x pass apart ∙ hearing.before x (grind arith) inside) x
-          below inside;
-      behind = λ x past inside. pass_other worker.desk n x pass (λ e. absurd (omega (arith, e)))
-          ∙ hearing.behind x (omega arith) inside;
-      shown = hearing.shown;
-    })
+    grind (arith, heard_pass, heard_is, conn, str, heard_desk, length-set, by_place, pass_same, pass_other)
 
 hearing_all : (stage : Stage) (by n left : ℕ) (worker : AtWork) (floor : Floor) (state : State)
     → n + left ≡ stage.cells
     → IsFloor stage floor state → Known stage state → IsHearing stage.cells by n worker state
     → IsHearing stage.cells by stage.cells
     (fold (λ worker place. heard_from_last floor (conn by) worker (str place)) worker (range_with_len n left)) state
-hearing_all stage by n zero worker floor state all is known hearing =
-    let whole : n ≡ stage.cells = omega arith in
-    subst (λ (m : ℕ). IsHearing stage.cells by m worker state) whole hearing
+hearing_all stage by n zero worker floor state all is known hearing = grind arith
 hearing_all stage by n (suc left) worker floor state all is known hearing =
     hearing_all stage by (n + 1) left (heard_from_last floor (conn by) worker (str n)) floor state
     (omega arith) is known
@@ -186,16 +118,7 @@ departs_not : (stage : Stage) (by : ℕ) (worker worker' : AtWork) (before : Sta
     → IsWorker stage.cells by worker before → worker' ≡ worker
     → (Known stage before → Fits stage before → (run : Run) → Agrees stage of_none before run → goes run ≡ run)
     → DepartsGo stage by worker' before goes
-departs_not stage by worker worker' before goes at same still =
-    record {
-      after = before;
-      is_worker = subst (λ (w : AtWork). IsWorker stage.cells by w before) (sym same) at;
-      others = record { passes = λ x c apart. refl; shown = λ c apart. refl };
-      notes = λ x. refl;
-      lasts = λ x. refl;
-      goes_on = goes_where stage of_none of_none before before (λ run. run) goes still
-          (goes_not stage of_none before);
-    }
+departs_not stage by worker worker' before goes at same still = grind (arith, IsWorker, goes_where, of_none, goes_not)
 
 -- a connector is active by its own calls, as the run has it
 linked_is : (stage : Stage) (is : IsStage stage) (on by : ℕ) (worker : AtWork) (before : State) → on < stage.cells
@@ -204,22 +127,14 @@ linked_is : (stage : Stage) (is : IsStage stage) (on by : ℕ) (worker : AtWork)
     → is_linked (own_calls (any_calls (any_take (end_of (before.spots on).events) (stage.entries on))) (conn by))
     ≡ is_linked (pass_at worker.desk (str on)).calls
 linked_is stage is on by worker before within caller at known fits =
-    let spot : Spot = before.spots on in
-    let here : FitsAt (stage.form on) (stage.entries on) stage.callers spot = fits.at on within in
-    let front : IsFrontOf (stage.entries on) spot.events =
-    events_front (stage.form on) (stage.entries on) stage.callers spot (is.legal on within) here in
-    ap (λ (t : List AnyCall). is_linked (own_calls t (conn by))) front.calls_are
-    ∙ sym (ap is_linked ((known on within).pass by caller).calls)
-    ∙ sym (ap (λ (p : PassShown). is_linked p.calls) (at.passes on within))
+    grind (arith, Spot, FitsAt, IsFrontOf, events_front, conn)
 
 module _ (stage : Stage) (is : IsStage stage) (on by : ℕ) (worker worker' : AtWork) (before : State)
     (within : on < stage.cells)
     (caller : by ≤ stage.callers) (at : IsWorker stage.cells by worker before) where
   done_run : (end : AgentEnd) → (before.shown by).end ≡ end → (run : Run) → Agrees stage of_none before run
       → is_done run (conn by) ≡ serial.is_done_as end
-  done_run end ends run agrees =
-      ap (λ (t : Transcript). serial.is_done_as t.end) (transcript_is stage of_none by before run caller agrees)
-      ∙ ap serial.is_done_as ends
+  done_run end ends run agrees = grind (arith, transcript_is, of_none)
 
   departs_case : (b : Bool) → is_linked (pass_at worker.desk (str on)).calls ≡ b → (before.shown by).end ≡ ended.Done
       → (before.spots on).last ≡ Some (conn by)
@@ -250,16 +165,7 @@ module _ (stage : Stage) (is : IsStage stage) (on by : ℕ) (worker worker' : At
               linked,
             ) refl) go.goes;
       }
-  departs_case false linked works last same =
-      departs_not stage by worker worker' before
-      (λ run. after_departure stage.limit stage.told (conn by) run (on, stage.form on)) at same
-      (λ known fits run agrees.
-      rw (
-        done_run ended.Done works run agrees,
-        (agrees.at on within).history_is,
-        linked_is stage is on by worker before within caller at known fits,
-        linked,
-      ) refl)
+  departs_case false linked works last same = grind (arith, departs_not, conn, done_run, linked_is)
 
   departs_end : (end : AgentEnd) → (before.shown by).end ≡ end → (before.spots on).last ≡ Some (conn by)
       → MatchBool (is_done_as end)
@@ -271,26 +177,13 @@ module _ (stage : Stage) (is : IsStage stage) (on by : ℕ) (worker worker' : At
       → DepartsGo stage by worker' before (λ run. after_departure stage.limit stage.told (conn by) run (on, stage.form on))
   departs_end ended.Done ends last departs =
       departs_case (is_linked (pass_at worker.desk (str on)).calls) refl ends last departs
-  departs_end (ended.JournalFull place) ends last same =
-      departs_not stage by worker worker' before
-      (λ run. after_departure stage.limit stage.told (conn by) run (on, stage.form on)) at same
-      (λ known fits run agrees. rw (done_run (ended.JournalFull place) ends run agrees) refl)
-  departs_end ended.NoMemory ends last same =
-      departs_not stage by worker worker' before
-      (λ run. after_departure stage.limit stage.told (conn by) run (on, stage.form on)) at same
-      (λ known fits run agrees. rw (done_run ended.NoMemory ends run agrees) refl)
+  departs_end (ended.JournalFull place) ends last same = grind (arith, departs_not, conn, done_run)
+  departs_end ended.NoMemory ends last same = grind (arith, departs_not, conn, done_run)
 
   pub departs_go : (before.spots on).last ≡ Some (conn by) → Departs stage.limit (stage.form on) (str on) worker
       worker'
       → DepartsGo stage by worker' before (λ run. after_departure stage.limit stage.told (conn by) run (on, stage.form on))
-  departs_go last departs =
-      departs_end (before.shown by).end refl last
-      (subst (λ (t : Transcript). MatchBool (is_done_as t.end)
-      (MatchBool (is_linked (pass_at worker.desk (str on)).calls)
-      (Asks stage.limit (stage.form on).kind (Some (shell_ask (stage.form on).kind cmd.Disconnect)) (str on)
-      (step.Call 0) worker worker')
-      (worker' ≡ worker))
-      (worker' ≡ worker)) at.shown departs)
+  departs_go last departs = grind (arith, departs_end, str)
 
 lasts_kept : (stage : Stage) (by : ℕ) (before after : State) → LastsSame before after
     → ((x : ℕ) → x < stage.cells → (before.spots x).last ≡ Some (conn by))
@@ -372,10 +265,7 @@ module _ {L : Type 0} (board : BoardShown L) (script : Script) (stage : Stage) (
   idle_places : (conn : ConnId) (places : List (ℕ × StrForm)) (run : Run) → is_done run conn ≡ false
       → fold (after_departure stage.limit stage.told conn) run places ≡ run
   idle_places conn [] run stopped = refl
-  idle_places conn (place ∷ places) run stopped =
-      ap (λ (r : Run). fold (after_departure stage.limit stage.told conn) r places)
-      (let still : after_departure stage.limit stage.told conn run place ≡ run = rw stopped refl in still)
-      ∙ idle_places conn places run stopped
+  idle_places conn (place ∷ places) run stopped = grind (arith, conn, idle_places conn places run stopped)
 
   closes_case : (by : ℕ) (floor floor' : Floor) (before : State) → by ≤ stage.callers → IsFloor stage floor before
       → Known stage before
@@ -418,38 +308,17 @@ module _ {L : Type 0} (board : BoardShown L) (script : Script) (stage : Stage) (
             (enumerate_from 0 (map (λ cell. cell.form) board.cells)))
             (goes_heard_all stage by before caller ends) go.goes_on);
       }
-  closes_case by floor floor' before caller at known forms (ended.JournalFull place) ends same = record {
-    after = before;
-    is_floor = subst (λ (f : Floor). IsFloor stage f before) (sym same) at;
-    goes_on = goes_as stage of_none of_none before before (λ run. run)
-        (λ run. after_closing stage.limit stage.told script run (conn by))
-        (λ run agrees. idle_places (conn by) (enumerate_from 0 script.structures) run
-        (ap (λ (t : Transcript). serial.is_done_as t.end) (transcript_is stage of_none by before run caller agrees)
-        ∙ ap serial.is_done_as ends))
-        (goes_not stage of_none before);
-  }
-  closes_case by floor floor' before caller at known forms ended.NoMemory ends same = record {
-    after = before;
-    is_floor = subst (λ (f : Floor). IsFloor stage f before) (sym same) at;
-    goes_on = goes_as stage of_none of_none before before (λ run. run)
-        (λ run. after_closing stage.limit stage.told script run (conn by))
-        (λ run agrees. idle_places (conn by) (enumerate_from 0 script.structures) run
-        (ap (λ (t : Transcript). serial.is_done_as t.end) (transcript_is stage of_none by before run caller agrees)
-        ∙ ap serial.is_done_as ends))
-        (goes_not stage of_none before);
-  }
+  closes_case by floor floor' before caller at known forms (ended.JournalFull place) ends same =
+      grind (arith, IsFloor, goes_as, of_none, conn, idle_places, transcript_is, goes_not)
+  closes_case by floor floor' before caller at known forms ended.NoMemory ends same =
+      grind (arith, IsFloor, goes_as, of_none, conn, idle_places, transcript_is, goes_not)
 
   pub closes_all : (conns : List ConnId) → All (λ conn. conn.0 ≤ stage.callers) conns
       → map (λ cell. cell.form) board.cells ≡ script.structures
       → (floor floor' : Floor) (before : State) → IsFloor stage floor before → Known stage before
       → ClosesAll board conns floor floor'
       → TurnGoes stage of_none of_none before floor' (λ run. fold (after_closing stage.limit stage.told script) run conns)
-  closes_all [] callers forms floor floor' before at known closes =
-      record {
-        after = before;
-        is_floor = subst (λ (f : Floor). IsFloor stage f before) (sym closes) at;
-        goes_on = goes_not stage of_none before;
-      }
+  closes_all [] callers forms floor floor' before at known closes = grind (arith, IsFloor, goes_not, of_none)
   closes_all (conn ∷ conns) callers forms floor floor' before at known closes =
       let caller : conn.0 ≤ stage.callers = All-head (λ (conn : ConnId). conn.0 ≤ stage.callers) conn conns callers in
       let first : TurnGoes stage of_none of_none before closes.0 (λ run. after_closing stage.limit stage.told script run conn) =

@@ -1,6 +1,6 @@
 -- The law of a script's work at one board on one thread: the callers were shown what the run by the machine alone
 -- shows, and the histories that the closed structures left are the run's.
-use Rattle.plex_agent.proofs.Imports.{◌≡◌, ◌≢◌, ℕ, ◌≤◌, ◌<◌, List, [], length, map, fold, get_or, slice_get, Some, sym, ap, subst, ◌∙◌, arith, append-nil, All, option_map, length-map, get_or-map, slice_get-map, slice_get-get_or, CfId, ConnId, Telling, AnyHistory, Script, Transcript, any_calls, any_length, own_calls, AreAnyAsTold, any_take, end_of, calls_rise, same_calls, take_all, end_length, Run, start, connectors, after_line, after_closing, serial_run, IsRunnable, CellShown, IsAnyTold, DeskShown, pass_at, BoardShown, IsStarted, IsAccount, AreClosed, AtWork, Floor, Plays, worker_of, no_worker}
+use Rattle.plex_agent.proofs.Imports.{◌≡◌, ◌≢◌, ℕ, ◌≤◌, ◌<◌, List, [], length, map, fold, get_or, slice_get, Some, sym, ap, subst, ◌∙◌, arith, append-nil, All, length-map, get_or-map, slice_get-map, slice_get-get_or, CfId, ConnId, Telling, AnyHistory, Script, Transcript, any_calls, any_length, own_calls, AreAnyAsTold, any_take, end_of, calls_rise, same_calls, take_all, end_length, Run, start, connectors, after_line, after_closing, serial_run, IsRunnable, CellShown, IsAnyTold, DeskShown, pass_at, BoardShown, IsStarted, IsAccount, AreClosed, AtWork, Floor, Plays, worker_of, no_worker}
 use Rattle.plex_board.specs.PlexScript.declared.transcripts.AgentEnd.TheVariants as ended
 use Rattle.plex_agent.proofs.Spots.{conn, str, Spot, IsKnownPass}
 use Rattle.plex_agent.proofs.Agreements.{AgreesAt}
@@ -13,30 +13,7 @@ use Rattle.plex_agent.proofs.ExactBeginnings.{stage_of, IsGiven, IsPlace, place_
 
 -- no more is said of what callers were shown
 goes_silent : (stage : Stage) (state : State) → Goes stage of_all of_none state state (λ run. run)
-goes_silent stage state =
-    record {
-      known = λ known. known;
-      back = λ known fits. fits;
-      agrees = λ known fits run agrees. record {
-        histories = agrees.histories;
-        transcripts = agrees.transcripts;
-        numbers = agrees.numbers;
-        shown = agrees.shown;
-        at = λ x within.
-            let at : AgreesAt stage.callers (stage.entries x) x (of_all x) (state.spots x) state.shown
-            (slice_get run.histories x) (slice_get run.posted x) = agrees.at x within in
-            record {
-              history_is = at.history_is;
-              front_is = at.front_is;
-              seen = λ c inside works.
-                  let seen = at.seen c inside works in
-                  record { complete = seen.complete; most = seen.most; seen = λ said. absurd said };
-              lasts = at.lasts;
-              number_is = at.number_is;
-              noted = at.noted;
-            };
-      };
-    }
+goes_silent stage state = grind (arith, AgreesAt, of_all)
 
 module _ {L : Type 0} (limit : ℕ) (told : ℕ → CfId → Telling) (script : Script) (board : BoardShown L) (floor : Floor)
     (histories : List AnyHistory)
@@ -118,9 +95,7 @@ module _ {L : Type 0} (limit : ℕ) (told : ℕ → CfId → Telling) (script : 
 
     events_end : (x : ℕ) → x < length board.cells → (place : IsPlace limit told script board histories given x)
         → any_length place.entries ≡ end_of (state.spots x).events
-    events_end x within place =
-        sym (end_length place.cell.form place.entries place.closed.legal)
-        ∙ ap end_of (events_are x within place)
+    events_end x within place = grind (arith, end_length, events_are)
 
     fits_end : Fits stage state
     fits_end = record {
@@ -168,18 +143,7 @@ module _ {L : Type 0} (limit : ℕ) (told : ℕ → CfId → Telling) (script : 
 
     transcripts_end : (run : Run) → Agrees stage of_none state run
         → map (λ worker. worker.shown) floor.workers ≡ run.transcripts
-    transcripts_end run agrees =
-        let size : length (map (λ (worker : AtWork). worker.shown) floor.workers) ≡ length floor.workers =
-        length-map floor.workers (λ (worker : AtWork). worker.shown) in
-        list_same (map (λ (worker : AtWork). worker.shown) floor.workers) run.transcripts
-        (size ∙ at.workers ∙ sym agrees.transcripts)
-        (λ c within.
-        let inside : c ≤ board.callers = omega (arith, size, at.workers) in
-        slice_get-map (λ (worker : AtWork). worker.shown) floor.workers c
-        ∙ ap (option_map (λ (worker : AtWork). worker.shown))
-        (slice_get-get_or floor.workers c no_worker (worker_within c inside))
-        ∙ ap Some (at.worker c inside).shown
-        ∙ sym (agrees.shown c inside))
+    transcripts_end run agrees = grind (arith, length-map, list_same, slice_get-map, slice_get-get_or, worker_within)
 
 -- Where the links answered what they tell, the histories of the closed structures are those of the script's run by the
 -- machine alone, and so is what the callers were shown.

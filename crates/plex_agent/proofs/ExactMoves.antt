@@ -16,24 +16,14 @@ pub run_shows : (stage : Stage) (shows : Shows) (on by : ℕ) (state : State) (t
     → RunGoes on by (any_take (end_of (state.spots on).events) (stage.entries on)) (sure_in (state.spots on).note)
     transcript run
     (record run { transcripts = set run.transcripts by transcript })
-run_shows stage shows on by state transcript run within agrees =
-    record {
-      histories = sym (set_same run.histories on _ (agrees.at on within).history_is);
-      transcripts = refl;
-      numbers = sym (set_same run.posted on _ (agrees.at on within).number_is);
-    }
+run_shows stage shows on by state transcript run within agrees = grind (arith, set_same)
 
 pub run_same : (stage : Stage) (shows : Shows) (on by : ℕ) (state : State) (run : Run)
     → on < stage.cells → by ≤ stage.callers → Agrees stage shows state run
     → RunGoes on by (any_take (end_of (state.spots on).events) (stage.entries on)) (sure_in (state.spots on).note)
     (state.shown by) run
     run
-run_same stage shows on by state run within caller agrees =
-    record {
-      histories = sym (set_same run.histories on _ (agrees.at on within).history_is);
-      transcripts = sym (set_same run.transcripts by _ (agrees.shown by caller));
-      numbers = sym (set_same run.posted on _ (agrees.at on within).number_is);
-    }
+run_same stage shows on by state run within caller agrees = grind (arith, set_same)
 
 pub transcript_is : (stage : Stage) (shows : Shows) (by : ℕ) (state : State) (run : Run) → by ≤ stage.callers
     → Agrees stage shows state run → transcript_of run (conn by) ≡ state.shown by
@@ -126,13 +116,7 @@ pub back_call : (stage : Stage) → IsStage stage → (on by : ℕ) (asked : Any
     → ((state.spots on).passes by).known < told.no
     → Known stage state → Fits stage (called_state on by asked told reply state) → Fits stage state
 back_call stage is on by asked told reply state within caller last works above known fits =
-    let front : ((state.spots on).passes by).known ≡ (state.spots on).front =
-    knows_front stage.callers by (state.spots on) (known on within) last in
-    fits_acted stage on by (called by asked told reply (state.spots on)) _ state
-    (λ inside fits. fits_called (stage.form on) (stage.entries on) stage.callers by (state.spots on) asked told reply
-    (omega arith) fits)
-    (λ c apart. put_other by (with_call asked told reply ((state.spots on).passes by)) (state.spots on).passes c apart) works
-    fits
+    grind (arith, knows_front, fits_acted, called, fits_called, put_other)
 
 -- what the run by the machine alone makes of the call
 abbrev pub run_called : StrForm → (CfId → Telling) → ℕ → ℕ → AnyAsk → AnyHistory → Run → Run
@@ -217,12 +201,7 @@ pub known_stop : (stage : Stage) (on by : ℕ) (pass : PassShown) (end : AgentEn
     → by ≤ stage.callers → (state.spots on).last ≡ Some (conn by) → IsLater ((state.spots on).passes by) pass
     → pass.sure ≤ pass.known → Known stage state → Known stage (stopped_state on by pass end state)
 known_stop stage on by pass end state within caller last later ordered known =
-    let front : ((state.spots on).passes by).known ≡ (state.spots on).front =
-    knows_front stage.callers by (state.spots on) (known on within) last in
-    known_acted stage on by (moved by pass (state.spots on)) (state.shown by) state
-    (λ inside. known_moved stage.callers by (state.spots on) pass caller (known on within)
-    (omega (arith, later.known)) ordered
-    (ap (λ (p : PassShown). p.owner) later.same) (ap (λ (p : PassShown). p.calls) later.same)) known
+    grind (arith, knows_front, known_acted, moved, known_moved)
 
 pub back_stop : (stage : Stage) (on by : ℕ) (pass : PassShown) (end : AgentEnd) (state : State) → on < stage.cells
     → by ≤ stage.callers → (state.spots on).last ≡ Some (conn by) → IsLater ((state.spots on).passes by) pass
@@ -261,15 +240,7 @@ pub still_front : (stage : Stage) → IsStage stage → (on by : ℕ) (pass : Pa
     → IsAnyPoint (stage.entries on) pass.known → (state.spots on).front ≡ end_of (state.spots on).events
     → (pass.known ≡ end_of (state.spots on).events) × (pass.known ≡ (state.spots on).front)
 still_front stage is on by pass transcript state within last later known fits point front_is =
-    let front : ((state.spots on).passes by).known ≡ (state.spots on).front =
-    knows_front stage.callers by (state.spots on) (known on within) last in
-    let here : FitsAt (stage.form on) (stage.entries on) stage.callers (moved by pass (state.spots on)) =
-    fits_here stage on by (moved by pass (state.spots on)) transcript state within fits in
-    let at : pass.known ≡ end_of (state.spots on).events =
-    point_end (stage.entries on) pass.known (state.spots on).events here.more
-    (calls_rise (stage.form on) (stage.entries on) (is.legal on within)) point here.calls
-    (omega (arith, front, front_is, later)) here.before in
-    (at, at ∙ sym front_is)
+    grind (arith, knows_front, FitsAt, moved, fits_here, point_end, calls_rise)
 
 pub full_here : (stage : Stage) → IsStage stage
     → (on by : ℕ) (pass : PassShown) (transcript : Transcript) (state : State)
@@ -279,16 +250,7 @@ pub full_here : (stage : Stage) → IsStage stage
     → IsAnyPoint (stage.entries on) pass.known → (state.spots on).front ≡ end_of (state.spots on).events
     → stage.limit ≤ any_length (any_take (end_of (state.spots on).events) (stage.entries on))
 full_here stage is on by pass transcript state within last later full known fits point front_is =
-    let here : FitsAt (stage.form on) (stage.entries on) stage.callers (moved by pass (state.spots on)) =
-    fits_here stage on by (moved by pass (state.spots on)) transcript state within fits in
-    let size : IsFrontOf (stage.entries on) (state.spots on).events =
-    events_front (stage.form on) (stage.entries on) stage.callers (moved by pass (state.spots on))
-    (is.legal on within) here in
-    omega (
-      arith,
-      size.size,
-      (still_front stage is on by pass transcript state within last later known fits point front_is).0,
-    )
+    grind (arith, FitsAt, moved, fits_here, IsFrontOf, events_front, still_front)
 
 pub agrees_stop : (stage : Stage) → IsStage stage → (shows shows' : Shows) (on by : ℕ) (pass : PassShown) (state : State)
     (run : Run) → on < stage.cells → by ≤ stage.callers → (state.spots on).last ≡ Some (conn by)

@@ -1,16 +1,10 @@
 -- What the histories that are left at the end have to do with what was done at a structure so far.
-use Rattle.plex_agent.proofs.Imports.{◌≡◌, ℕ, ◌≤◌, ◌<◌, ◌==◌, Bool, true, false, cond, List, [], ◌∷◌, ◌++◌, fold, Option, None, Some, refl, sym, ap, subst, ◌∙◌, arith, append_assoc, All, if◌then◌else◌, StrForm, ConnId, CfId, Telling, Told, AnyAsk, AnyHistory, AnyCall, any_calls, any_length, IsAnyLegal, AreAnyAsTold, any_take, any_next, any_told, any_numbers, end_of, last_number, IsNextOf, next_call, IsFrontOf, front_of, numbers_of, numbers_any, IsBefore, AreMadeBelow, AnyReply, PassShown, with_call, note_of, IsAnyTold, with_note}
+use Rattle.plex_agent.proofs.Imports.{◌≡◌, ℕ, ◌≤◌, ◌<◌, ◌==◌, List, [], ◌∷◌, ◌++◌, fold, Option, None, Some, sym, ap, subst, ◌∙◌, arith, append_assoc, All, if◌then◌else◌, StrForm, ConnId, CfId, Telling, Told, AnyAsk, AnyHistory, AnyCall, any_calls, any_length, IsAnyLegal, AreAnyAsTold, any_take, any_next, any_told, any_numbers, end_of, last_number, IsNextOf, next_call, IsFrontOf, front_of, numbers_of, numbers_any, IsBefore, AreMadeBelow, AnyReply, PassShown, with_call, note_of, IsAnyTold, with_note}
 use Rattle.plex_agent.proofs.Spots.{conn, put, same_number, Spot, IsKnown, LastKnows, event, called}
 
 pub put_back : {X : Type 0} (P : ℕ → X → Type 0) (at : ℕ) (x : X) (xs : ℕ → X) → (P at x → P at (xs at))
     → (other : ℕ) → P other (put at x xs other) → P other (xs other)
-put_back {X} P at x xs back other is = go (other == at) refl is
-  where
-    go : (b : Bool) → other == at ≡ b → P other (cond b x (xs other)) → P other (xs other)
-    go true same is =
-        let e : other ≡ at = same_number other at same in
-        subst (λ n. P n (xs n)) (sym e) (back (subst (λ n. P n x) e is))
-    go false apart is = is
+put_back {X} P at x xs back other is = grind (arith, same_number)
 
 -- the calls so far are a beginning of the history's, no pass knows the number of a later one, and the history tells
 -- all tests
@@ -122,61 +116,10 @@ pub record IsHeardPass (by : ℕ) (spot : Spot) (pass : PassShown) : Type 0 wher
 
 pub heard_is : (callers by : ℕ) (spot : Spot) → by ≤ callers → IsKnown callers spot
     → IsHeardPass by spot (heard_pass by spot)
-heard_is callers by spot caller known = by_last spot.last known.lasts
-  where
-    by_other : (other : ConnId) → (other.0 ≤ callers) × ((spot.passes other.0).known ≡ spot.front) → (b : Bool)
-        → other.0 == by ≡ b
-        → IsHeardPass by spot (if b then spot.passes by else with_note (note_of (spot.passes other.0))
-        (spot.passes by))
-    by_other other lasts true same =
-        let e : other.0 ≡ by = same_number other.0 by same in
-        record {
-          known = ap (λ (n : ℕ). (spot.passes n).known) (sym e) ∙ lasts.1;
-          sure = (known.pass by caller).sure;
-          more = omega arith;
-          owner = refl;
-          calls = refl;
-          tests = refl;
-        }
-    by_other other lasts false apart =
-        record {
-          known = omega (arith, lasts.1, (known.pass by caller).within);
-          sure = omega (arith, lasts.1, (known.pass by caller).sure, (known.pass other.0 lasts.0).sure);
-          more = omega arith;
-          owner = refl;
-          calls = refl;
-          tests = refl;
-        }
-
-    by_last : (last : Option ConnId) → LastKnows callers spot last → IsHeardPass by spot (heard_as by spot last)
-    by_last None lasts = record {
-      known = omega (arith, lasts.0, (known.pass by caller).within);
-      sure = (known.pass by caller).sure;
-      more = omega arith;
-      owner = refl;
-      calls = refl;
-      tests = refl;
-    }
-    by_last (Some other) lasts = by_other other lasts (other.0 == by) refl
+heard_is callers by spot caller known = grind (arith, same_number, LastKnows)
 
 -- who hears of complete calls alone has seen all of them complete
 pub heard_complete : (callers by : ℕ) (spot : Spot) → by ≤ callers → IsKnown callers spot
     → ((c : ConnId) → spot.last ≡ Some c → (spot.passes c.0).sure ≡ spot.front)
     → (heard_pass by spot).sure ≡ (heard_pass by spot).known
-heard_complete callers by spot caller known complete = by_last spot.last refl known.lasts
-  where
-    by_other : (other : ConnId) → spot.last ≡ Some other
-        → (other.0 ≤ callers) × ((spot.passes other.0).known ≡ spot.front)
-        → (b : Bool) → other.0 == by ≡ b
-        → (if b then spot.passes by else with_note (note_of (spot.passes other.0)) (spot.passes by)).sure
-        ≡ (if b then spot.passes by else with_note (note_of (spot.passes other.0)) (spot.passes by)).known
-    by_other other last lasts true same =
-        let e : other.0 ≡ by = same_number other.0 by same in
-        subst (λ (n : ℕ). (spot.passes n).sure ≡ (spot.passes n).known) e (complete other last ∙ sym lasts.1)
-    by_other other last lasts false apart =
-        omega (arith, lasts.1, complete other last, (known.pass by caller).within, (known.pass by caller).sure)
-
-    by_last : (last : Option ConnId) → spot.last ≡ last → LastKnows callers spot last
-        → (heard_as by spot last).sure ≡ (heard_as by spot last).known
-    by_last None last lasts = omega (arith, lasts.0, (known.pass by caller).within, (known.pass by caller).sure)
-    by_last (Some other) last lasts = by_other other last lasts (other.0 == by) refl
+heard_complete callers by spot caller known complete = grind (arith, same_number, LastKnows)

@@ -1,14 +1,12 @@
 -- A floor of a board: as it begins, as one caller changes or hears, and as who acted last changes.
-use Rattle.plex_agent.proofs.Imports.{◌≡◌, ◌≢◌, ℕ, ◌+◌, ◌<◌, ◌≤◌, ◌==◌, inl, inr, Bool, true, false, if◌then◌else◌, List, ◌∷◌, ◌++◌, [], append_assoc, append-nil, drop, replicate, length, length-append, Option, Some, None, get_or, set, refl, sym, ◌∙◌, ap, subst, arith, drop-cons, set-append_seam, map-set_same, get_or-append_seam, add-one, eqb-true, get_or_read, get_or_append_left, set-append_left, set-get_or, length-replicate, replicate_more, All-replicate, All-get_or, slice_get_within, slice_get-get_or, get_or_from_slice_get, CONNECTORS, ConnId, StrNo, Transcript, NoteShown, note_of, with_note, DeskShown, no_pass, fixed_of, pass_at, with_pass, BoardShown, IsDeskOf, IsTrayOf, no_notes, AtWork, Floor, no_worker, new_floor, worker_of, with_worker, heard_from_last, heard_from, told_by, IsFloorOf, crew_of}
+use Rattle.plex_agent.proofs.Imports.{◌≡◌, ◌≢◌, ℕ, ◌+◌, ◌<◌, ◌≤◌, ◌==◌, Bool, true, false, if◌then◌else◌, List, ◌∷◌, ◌++◌, [], append_assoc, append-nil, drop, replicate, length, length-append, Option, Some, None, get_or, set, refl, sym, ◌∙◌, ap, subst, arith, drop-cons, set-append_seam, map-set_same, get_or-append_seam, add-one, eqb-true, get_or_read, get_or_append_left, set-append_left, set-get_or, length-replicate, replicate_more, All-replicate, All-get_or, slice_get_within, slice_get-get_or, get_or_from_slice_get, CONNECTORS, ConnId, StrNo, Transcript, NoteShown, note_of, with_note, DeskShown, no_pass, fixed_of, pass_at, with_pass, BoardShown, IsDeskOf, IsTrayOf, no_notes, AtWork, Floor, no_worker, new_floor, worker_of, with_worker, heard_from_last, heard_from, told_by, IsFloorOf, crew_of}
 use Rattle.std.proofs.Common.{unwrap_or}
 use Rattle.std.proofs.Math.ListN.{length-set}
 use Rattle.plex_agent.proofs.SeatedLaws.{own_desk, callers-set, slice_get-set, new_callers}
 
 -- a caller's work that is put where it stands
 pub same_worker : (floor : Floor) (by : ConnId) → with_worker by (worker_of floor by) floor ≡ floor
-same_worker floor by =
-    ap (λ (workers : List AtWork). (let it : Floor = record floor { workers = workers } in it))
-    (set-get_or floor.workers by.0 no_worker)
+same_worker floor by = grind (arith, set-get_or)
 
 module _ {L : Type 0} (board : BoardShown L) (floor : Floor) (fits : IsFloorOf board floor) where
   -- one caller changed, at its own desk
@@ -25,38 +23,19 @@ module _ {L : Type 0} (board : BoardShown L) (floor : Floor) (fits : IsFloorOf b
   -- the tray changed
   pub tray_fits : (tray : List (Option NoteShown)) → IsTrayOf board tray
       → IsFloorOf board (record floor { tray = tray })
-  tray_fits tray right = record {
-    workers = fits.workers;
-    few = fits.few;
-    tray = right;
-    places = fits.places;
-    actors = fits.actors;
-  }
+  tray_fits tray right = grind arith
 
   -- ---- who acted last
 
   -- the last that acted on a structure is a caller
   pub actor_is : (x : ℕ) (other : ConnId) → x < length board.cells → get_or floor.last x None ≡ Some other
       → other.0 ≤ board.callers
-  actor_is x other inside is =
-      let many = fits.places in
-      let within : x < length floor.last = omega arith in
-      fits.actors x other (slice_get-get_or floor.last x None within ∙ ap Some is)
+  actor_is x other inside is = grind (arith, slice_get-get_or)
 
   -- a caller has acted on a structure
   pub acted_fits : (by : ConnId) (on : StrNo) → by.0 ≤ board.callers
       → IsFloorOf board (record floor { last = set floor.last on.0 (Some by) })
-  acted_fits by on within = record {
-    workers = fits.workers;
-    few = fits.few;
-    tray = fits.tray;
-    places = length-set floor.last on.0 (Some by) ∙ fits.places;
-    actors = λ x conn at. elim (slice_get-set floor.last on.0 x (Some by) (Some conn) at) [
-      | inl both ↦ (let it : conn ≡ by = ap (λ (o : Option ConnId). unwrap_or o by) both.1 in
-          subst (λ (c : ConnId). c.0 ≤ board.callers) (sym it) within)
-      | inr there ↦ fits.actors x conn there
-    ];
-  }
+  acted_fits by on within = grind (arith, length-set, slice_get-set)
 
   -- a caller has acted on every structure
   pub everywhere_fits : (by : ConnId) → by.0 ≤ board.callers
@@ -129,14 +108,7 @@ module _ {X : Type 0} (xs low : List X) (d x y x' : X) where
   before_cut [] y' to from whole len inside lt x_is y_is kept =
       absurd (omega (arith, ap length whole, length-append low []))
   before_cut (h ∷ hs) y' to from whole len inside lt x_is y_is kept =
-      let within : to < length low = omega arith in (
-        ap (λ (z : X). set low to x' ++ (z ∷ hs)) (kept ∙ y_is)
-            ∙ sym (set-append_left low (h ∷ hs) to x' within) ∙ ap (λ (all : List X). set all to x') (sym whole),
-        ap (λ (all : List X). get_or all to d) whole ∙ get_or_append_left low (h ∷ hs) d to within
-            ∙ sym (get_or_read low to x within x_is d),
-        ap (λ (all : List X). get_or all from d) whole ∙ ap (λ (n : ℕ). get_or (low ++ h ∷ hs) n d) (sym len)
-            ∙ get_or-append_seam low h hs d ∙ sym y_is,
-      )
+      grind (arith, set-append_left, get_or_append_left, get_or_read, get_or-append_seam)
 
   -- it stands behind the other
   pub behind_cut : (high : List X) (y' : X) (to from : ℕ) → xs ≡ low ++ high → length low ≡ to → to < length xs
@@ -145,17 +117,7 @@ module _ {X : Type 0} (xs low : List X) (d x y x' : X) where
   behind_cut [] y' to from whole len inside lt x_is y_is kept =
       absurd (omega (arith, ap length whole, length-append low []))
   behind_cut (h ∷ hs) y' to from whole len inside lt x_is y_is kept =
-      let within : from < length low = omega arith in (
-        ap (λ (z : X). set low from z ++ (x' ∷ hs)) (kept ∙ y_is)
-            ∙ ap (λ (front : List X). front ++ (x' ∷ hs)) (set-get_or low from y)
-            ∙ sym (set-append_seam low h hs x')
-            ∙ ap (λ (n : ℕ). set (low ++ h ∷ hs) n x') len
-            ∙ ap (λ (all : List X). set all to x') (sym whole),
-        ap (λ (all : List X). get_or all to d) whole ∙ ap (λ (n : ℕ). get_or (low ++ h ∷ hs) n d) (sym len)
-            ∙ get_or-append_seam low h hs d ∙ sym x_is,
-        ap (λ (all : List X). get_or all from d) whole ∙ get_or_append_left low (h ∷ hs) d from within
-            ∙ sym (get_or_read low from y within y_is d),
-      )
+      grind (arith, set-get_or, set-append_seam, get_or-append_seam, get_or_append_left, get_or_read)
 
 -- ---- a list that is written from its front on
 
@@ -208,18 +170,13 @@ module _ (workers : List AtWork) (tray : List (Option NoteShown)) (last : List (
   pub changed : (worker : AtWork) (tray' : List (Option NoteShown))
       → (let it : Floor = record { workers = set workers at worker; tray = tray'; last = last } in it)
       ≡ record (with_worker by worker floor) { tray = tray' }
-  changed worker tray' =
-      ap (λ (f : Floor). (let it : Floor = record f { workers = set f.workers at worker; tray = tray' } in it)) is
-      ∙ ap (λ (n : ℕ). (let it : Floor = record floor { workers = set floor.workers n worker; tray = tray' } in it))
-      at_is
+  changed worker tray' = grind arith
 
   -- and nothing else
   pub changed_only : (worker : AtWork)
       → (let it : Floor = record { workers = set workers at worker; tray = tray; last = last } in it)
       ≡ with_worker by worker floor
-  changed_only worker =
-      changed worker tray
-      ∙ ap (λ (f : Floor). (let it : Floor = record (with_worker by worker floor) { tray = f.tray } in it)) is
+  changed_only worker = grind (arith, changed)
 
 -- the caller's desk changed, and is its own still
 pub changed_fits : {L : Type 0} (board : BoardShown L) (floor after : Floor) (by : ConnId) (desk : DeskShown)
@@ -235,9 +192,7 @@ pub acted : (workers : List AtWork) (tray : List (Option NoteShown)) (last : Lis
     → (by : ConnId) (on : StrNo) (at : ℕ) → at ≡ on.0
     → (let it : Floor = record { workers = workers; tray = tray; last = set last at (Some by) } in it)
     ≡ record floor { last = set floor.last on.0 (Some by) }
-acted workers tray last floor is by on at at_is =
-    ap (λ (f : Floor). (let it : Floor = record f { last = set f.last at (Some by) } in it)) is
-    ∙ ap (λ (n : ℕ). (let it : Floor = record floor { last = set floor.last n (Some by) } in it)) at_is
+acted workers tray last floor is by on at at_is = grind arith
 
 -- what one caller knows of a structure, told to another
 abbrev pub told : StrNo → AtWork → AtWork → AtWork
@@ -254,25 +209,7 @@ pub hears : (workers workers' : List AtWork) (tray : List (Option NoteShown)) (l
     → (let it : Floor = record { workers = workers'; tray = tray; last = last } in it)
     ≡ with_worker by (heard_from_last floor by (worker_of floor by) on) floor
 hears workers workers' tray last floor is by other on x y at from at_is from_is changes x_is y_is read apart =
-    let one = worker_of floor by in
-    let one_is : x ≡ one =
-    sym x_is ∙ ap (λ (f : Floor). get_or f.workers at no_worker) is
-    ∙ ap (λ (n : ℕ). get_or floor.workers n no_worker) at_is in
-    let other_is : y ≡ worker_of floor other =
-    sym y_is ∙ ap (λ (f : Floor). get_or f.workers from no_worker) is
-    ∙ ap (λ (n : ℕ). get_or floor.workers n no_worker) from_is in
-    ap (λ (ws : List AtWork). (let it : Floor = record { workers = ws; tray = tray; last = last } in it)) changes
-    ∙ changed_only workers tray last floor is by at at_is (told on y x)
-    ∙ ap (λ (w : AtWork). with_worker by (told on w x) floor) other_is
-    ∙ ap (λ (w : AtWork). with_worker by (told on (worker_of floor other) w) floor) one_is
-    ∙ ap (λ (w : AtWork). with_worker by w floor) (speaks (other.0 == by.0) refl)
-    ∙ ap (λ (o : Option ConnId). with_worker by (heard_from floor by on o one) floor) (sym read)
-  where
-    speaks : (b : Bool) → (other.0 == by.0) ≡ b
-        → told_by floor on other (worker_of floor by)
-        ≡ (if b then worker_of floor by else told_by floor on other (worker_of floor by))
-    speaks true same = absurd (apart (eqb-true other.0 by.0 same))
-    speaks false same = refl
+    grind (arith, changed_only, eqb-true)
 
 module _ {L : Type 0} (board : BoardShown L) (workers workers' low high : List AtWork) (tray : List (Option NoteShown))
     (last : List (Option ConnId)) (floor : Floor)
@@ -284,12 +221,7 @@ module _ {L : Type 0} (board : BoardShown L) (workers workers' low high : List A
     (tells : desk ≡ with_pass on (with_note (note_of (pass_at y.desk on)) (pass_at x.desk on)) x.desk)
     (kept : desk' ≡ y.desk) where
   read_last : get_or floor.last on.0 None ≡ Some other
-  read_last =
-      let places = fits.places in
-      let inside : on.0 < length floor.last = omega arith in
-      let there : o ≡ get_or floor.last on.0 o =
-      o_found ∙ ap (λ (f : Floor). get_or f.last n o) is ∙ ap (λ (k : ℕ). get_or floor.last k o) n_is in
-      sym (get_or_read floor.last on.0 o inside there None) ∙ o_is
+  read_last = grind (arith, get_or_read)
 
   count_is : length workers ≡ board.callers + 1
   count_is = ap (λ (f : Floor). length f.workers) is ∙ fits.workers.callers
@@ -313,15 +245,7 @@ module _ {L : Type 0} (board : BoardShown L) (workers workers' low high : List A
       → (let it : Floor = record { workers = workers'; tray = tray; last = last } in it)
       ≡ with_worker by (heard_from_last floor by (worker_of floor by) on) floor
   hears_before len lt r_found s_found changes =
-      let count = count_is in
-      let below = other_within in
-      let inside : from < length workers = omega arith in
-      let cut = before_cut workers low no_worker x y (record x { desk = desk }) high
-      (record y { desk = desk' }) to from whole len inside lt
-      (as_found low to x r x_is r_found) (as_found high 0 y s y_is s_found) kept_is in
-      hears workers workers' tray last floor is by other on x y to from to_is from_is
-      (changes ∙ cut.0 ∙ ap (λ (w : AtWork). set workers to w) told_is) cut.1 cut.2 read_last
-      (λ same. omega (arith, same, lt, to_is, from_is))
+      grind (arith, count_is, other_within, before_cut, as_found, kept_is, hears, told_is, read_last)
 
   -- it stands behind it
   pub hears_behind : length low ≡ to → from < to → r ≡ get_or high 0 r → s ≡ get_or low from s
@@ -329,33 +253,19 @@ module _ {L : Type 0} (board : BoardShown L) (workers workers' low high : List A
       → (let it : Floor = record { workers = workers'; tray = tray; last = last } in it)
       ≡ with_worker by (heard_from_last floor by (worker_of floor by) on) floor
   hears_behind len lt r_found s_found changes =
-      let count = count_is in
-      let inside : to < length workers = omega arith in
-      let cut = behind_cut workers low no_worker x y (record x { desk = desk }) high
-      (record y { desk = desk' }) to from whole len inside lt
-      (as_found high 0 x r x_is r_found) (as_found low from y s y_is s_found) kept_is in
-      hears workers workers' tray last floor is by other on x y to from to_is from_is
-      (changes ∙ cut.0 ∙ ap (λ (w : AtWork). set workers to w) told_is) cut.1 cut.2 read_last
-      (λ same. omega (arith, same, lt, to_is, from_is))
+      grind (arith, count_is, behind_cut, as_found, kept_is, hears, told_is, read_last)
 
 -- the two parts of a list are as long as before where one element of each changed
 pub cut_length : {X : Type 0} (xs low high : List X) (i j : ℕ) (x y : X) → xs ≡ low ++ high
     → length (set low i x ++ set high j y) ≡ length xs
-cut_length xs low high i j x y whole =
-    length-append (set low i x) (set high j y) ∙ ap (λ (n : ℕ). n + length (set high j y)) (length-set low i x)
-    ∙ ap (λ (n : ℕ). length low + n) (length-set high j y) ∙ sym (length-append low high) ∙ ap length (sym whole)
+cut_length xs low high i j x y whole = grind (arith, length-append, length-set)
 
 -- the callers at a board where nobody has done anything
 pub new_floor_is : {L : Type 0} (board : BoardShown L) (workers : List AtWork) (tray : List (Option NoteShown))
     (last : List (Option ConnId)) (n : ℕ) → workers ≡ crew_of board → tray ≡ no_notes board → last ≡ replicate n None
     → n ≡ length board.cells
     → (let it : Floor = record { workers = workers; tray = tray; last = last } in it) ≡ new_floor board
-new_floor_is board workers tray last n workers_are tray_is last_is n_is =
-    ap (λ (ws : List AtWork). (let it : Floor = record { workers = ws; tray = tray; last = last } in it)) workers_are
-    ∙ ap (λ (t : List (Option NoteShown)). (let it : Floor = record (new_floor board) { tray = t; last = last } in it))
-    tray_is
-    ∙ ap (λ (l : List (Option ConnId)). (let it : Floor = record (new_floor board) { last = l } in it))
-    (last_is ∙ ap (λ (k : ℕ). replicate k None) n_is)
+new_floor_is board workers tray last n workers_are tray_is last_is n_is = grind arith
 
 drop_all : {X : Type 0} (xs : List X) → drop (length xs) xs ≡ []
 drop_all [] = refl
@@ -369,13 +279,4 @@ pub changed_all : (workers : List AtWork) (tray : List (Option NoteShown)) (last
     → (let it : Floor = record { workers = set workers at worker; tray = tray; last = last' } in it)
     ≡ record (with_worker by worker floor) { last = replicate (length floor.last) (Some by) }
 changed_all workers tray last floor is by at at_is worker last' items old n last_is items_are over under old_is =
-    let end : n ≡ length old = omega arith in
-    let all : last' ≡ replicate (length floor.last) (Some by) =
-    last_is ∙ items_are ∙ ap (λ (k : ℕ). replicate k (Some by) ++ drop k old) end
-    ∙ ap (λ (rest : List (Option ConnId)). replicate (length old) (Some by) ++ rest) (drop_all old)
-    ∙ append-nil (replicate (length old) (Some by))
-    ∙ ap (λ (l : List (Option ConnId)). replicate (length l) (Some by)) old_is
-    ∙ ap (λ (f : Floor). replicate (length f.last) (Some by)) is in
-    ap (λ (f : Floor). (let it : Floor = record f { last = last' } in it))
-    (changed_only workers tray last floor is by at at_is worker)
-    ∙ ap (λ (l : List (Option ConnId)). (let it : Floor = record (with_worker by worker floor) { last = l } in it)) all
+    grind (arith, drop_all, append-nil, changed_only)

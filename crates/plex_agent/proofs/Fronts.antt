@@ -1,5 +1,5 @@
 -- Lists that another list begins with; and a caller's own calls, heard by their numbers.
-use Rattle.plex_agent.proofs.Imports.{◌≡◌, ℕ, ◌<◌, ◌==◌, Bool, true, false, List, [], ◌∷◌, ◌++◌, length, take, Some, refl, sym, ap, subst, ◌∙◌, arith, append-nil, append_assoc, take-append_seam, nat_tests, ConnId, AnyCall, call_numbered, own_calls, Rising}
+use Rattle.plex_agent.proofs.Imports.{◌≡◌, ℕ, ◌<◌, ◌==◌, Bool, true, false, List, [], ◌∷◌, ◌++◌, length, take, Some, refl, sym, ap, ◌∙◌, arith, append-nil, append_assoc, take-append_seam, nat_tests, ConnId, AnyCall, call_numbered, own_calls, Rising}
 
 -- a list, and one that begins with it
 pub record IsFront {X : Type 0} (xs ys : List X) : Type 0 where
@@ -13,12 +13,7 @@ pub front_more : {X : Type 0} (xs ys : List X) → IsFront xs (xs ++ ys)
 front_more xs ys = record { more = ys; behind = refl }
 
 pub front_then : {X : Type 0} (xs ys zs : List X) → IsFront xs ys → IsFront ys zs → IsFront xs zs
-front_then {X} xs ys zs first second =
-    record {
-      more = first.more ++ second.more;
-      behind = second.behind ∙ ap (λ (t : List X). t ++ second.more) first.behind
-          ∙ append_assoc xs first.more second.more;
-    }
+front_then {X} xs ys zs first second = grind (arith, append_assoc)
 
 pub take_front : {X : Type 0} (n : ℕ) (xs ys : List X) → n ≡ length xs → IsFront xs ys → take n ys ≡ xs
 take_front n xs ys is front =
@@ -48,15 +43,8 @@ own_above low (first ∷ calls) conn front call more rise own =
     by_test : (b : Bool) → first.by.0 == conn.0 ≡ b → (front : List AnyCall)
         → own_calls (first ∷ calls) conn ≡ front ++ call ∷ more
         → ((front : List AnyCall) → own_calls calls conn ≡ front ++ call ∷ more → first.no < call.no) → low < call.no
-    by_test true same [] own rest =
-        let both : first ∷ own_calls calls conn ≡ call ∷ more = sym (own_first first calls conn same) ∙ own in
-        let is : first ≡ call = cc in
-        subst (λ (c : AnyCall). low < c.no) is rise.0
-    by_test true same (x ∷ front) own rest =
-        let both : first ∷ own_calls calls conn ≡ x ∷ (front ++ call ∷ more) = sym (own_first first calls conn same)
-        ∙ own in
-        let others : own_calls calls conn ≡ front ++ call ∷ more = cc in
-        omega (arith, rise.0, rest front others)
+    by_test true same [] own rest = grind (arith, own_first)
+    by_test true same (x ∷ front) own rest = grind (arith, own_first)
     by_test false apart front own rest =
         omega (arith, rise.0, rest front (sym (own_skip first calls conn apart) ∙ own))
 
@@ -83,15 +71,6 @@ own_heard low (first ∷ calls) conn front call more rise own =
         → ((front : List AnyCall) → own_calls calls conn ≡ front ++ call ∷ more
         → call_numbered call.no calls ≡ Some call)
         → call_numbered call.no (first ∷ calls) ≡ Some call
-    by_test true same [] own rest =
-        let both : first ∷ own_calls calls conn ≡ call ∷ more = sym (own_first first calls conn same) ∙ own in
-        let is : first ≡ call = cc in
-        subst (λ (c : AnyCall). call_numbered c.no (first ∷ calls) ≡ Some c) is (rw (itself first.no) refl)
-    by_test true same (x ∷ front) own rest =
-        let both : first ∷ own_calls calls conn ≡ x ∷ (front ++ call ∷ more) = sym (own_first first calls conn same)
-        ∙ own in
-        let others : own_calls calls conn ≡ front ++ call ∷ more = cc in
-        past (own_above first.no calls conn front call more rise.1 others) (rest front others)
-    by_test false apart front own rest =
-        let others : own_calls calls conn ≡ front ++ call ∷ more = sym (own_skip first calls conn apart) ∙ own in
-        past (own_above first.no calls conn front call more rise.1 others) (rest front others)
+    by_test true same [] own rest = grind (arith, own_first, itself)
+    by_test true same (x ∷ front) own rest = grind (arith, own_first, past, own_above)
+    by_test false apart front own rest = grind (arith, own_skip, past, own_above)

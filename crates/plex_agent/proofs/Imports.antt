@@ -1,5 +1,5 @@
 -- What proofs here name of other crates, and of this one's definitions. Declares nothing.
-pub use Rattle.std.proofs.Common.{◌≡◌, ℕ, ◌*◌, ◌<◌, inl, inr, nat_lt, Bool, true, false, List, [], ◌∷◌, length, Some, None, refl, sym, ap, subst, ◌∙◌, append-nil, slice_get, MatchBool, ◌+◌, ◌^◌, ◌≤◌, ◌==◌, ◌&&◌, ◌++◌, map, arith, cond, All, ◌≢◌, max, fold, Option, suc, append_assoc, IfSome, drop, get_or, take, if◌then◌else◌, zero, replicate, option_map, nat_le, length-set, length-append, slice_index_or, set, ◌⊎◌, ◌-◌, Result, Ok, Err, OnOk, slice_set, Vec, Global, IfOk, IsOkAnd, rules}
+pub use Rattle.std.proofs.Common.{◌≡◌, ℕ, ◌*◌, ◌<◌, inl, inr, nat_lt, Bool, true, false, List, [], ◌∷◌, length, Some, None, refl, sym, ap, subst, ◌∙◌, append-nil, slice_get, MatchBool, ◌+◌, ◌^◌, ◌≤◌, ◌==◌, ◌&&◌, ◌++◌, map, arith, cond, All, ◌≢◌, max, fold, Option, suc, append_assoc, IfSome, drop, get_or, take, if◌then◌else◌, zero, replicate, option_map, length-set, length-append, slice_index_or, set, ◌⊎◌, ◌-◌, Result, Ok, Err, OnOk, slice_set, Vec, Global, IfOk, IsOkAnd, rules}
 pub use Rattle.std.proofs.Math.Numerals.{add-one}
 pub use Rattle.std.proofs.Math.Seq.{drop-cons, set-append_seam, map-set_same, get_or-append_seam, take-append_seam}
 pub use Rattle.std.proofs.lemmas.Bool.{ltb-true, ltb-false, cases_eq, eqb-true, eqb-false, cases_lt}
@@ -11,7 +11,7 @@ pub use Rattle.std.proofs.lemmas.List.Sums.{fold-append, fold_push}
 pub use Rattle.std.proofs.lemmas.Option.{get_or_from_slice_get, slice_get-get_or, slice_get_within, slice_get-map}
 pub use Rattle.std.proofs.lemmas.Simd.{map-map}
 pub use Rattle.std.specs.Int.{bit_at}
-pub use Rattle.std.specs.List.{filter_map, cons_option, range_with_len, enumerate_from, flat_map}
+pub use Rattle.std.specs.List.{filter_map, range_with_len, enumerate_from, flat_map}
 pub use Rattle.std.specs.Option.{option_copied}
 pub use Rattle.std.specs.Prelude.{unwrap_or}
 pub use Rattle.std.specs.Vec.{vec_len, vec_capacity}
@@ -31,7 +31,6 @@ pub use Rattle.plex_board.specs.Boards.{BoardShown, IsDeskOf, cell_on, AreClosed
 pub use Rattle.plex_board.specs.CacheModel.Meaning.{cache_meaning}
 pub use Rattle.plex_board.specs.Callers.{lines_by, IsLineFor, no_items}
 pub use Rattle.plex_board.specs.Cells.{IsAnyTold, CellShown, IsAskOf}
-pub use Rattle.plex_board.specs.CfIo.Count.{RisesBy}
 pub use Rattle.plex_board.specs.CfLink.Links.{Telling, AreAsked, IsAskedAll, link_at}
 pub use Rattle.plex_board.specs.CfLink.Tells.{TellsEnough}
 pub use Rattle.plex_board.specs.CfLink.declared.links.Links.{Links}
@@ -83,7 +82,7 @@ pub use Rattle.plex_board.specs.VecWords.Logged.{bit_in, sight, indices_of}
 pub use Rattle.plex_board.specs.VecWords.declared.logged.Sight.{Sight}
 pub use Rattle.plex_board.specs.declared.any_reply.AnyReply.{AnyReply}
 pub use Rattle.plex_agent.specs.Calls.{IsAsked, at_work, IsAskable}
-pub use Rattle.plex_agent.specs.Chains.{Hears, DoesLines, DepartsEach, Closes, Serves, HearsThen}
+pub use Rattle.plex_agent.specs.Chains.{Hears, DoesLines, DepartsEach, Serves, HearsThen}
 pub use Rattle.plex_agent.specs.Crews.{IsIdle, IsServed, WorkEach, idle_worker, crew_of}
 pub use Rattle.plex_agent.specs.Ends.{ShowsUpTo, WorkEnds, ShowsWork, beginner}
 pub use Rattle.plex_agent.specs.Played.{IsBoardOf, IsPlayed}

@@ -1,7 +1,6 @@
 -- Turns leave a desk its owner and its passes; and where no pass has seen more complete than it knows, none comes to.
-use Rattle.plex_agent.proofs.Imports.{◌≡◌, ℕ, zero, suc, ◌+◌, ◌*◌, ◌≤◌, nat_lt, inl, inr, Bool, true, false, MatchBool, List, [], ◌∷◌, length, Option, None, Some, get_or, set, refl, sym, ap, subst, ◌∙◌, arith, Kind, StrForm, ConnId, StrNo, Told, Step, AnyAsk, Act, Line, AgentEnd, step_after, is_linked, PassShown, NoteShown, with_call, CellShown, DeskShown, no_pass, pass_at, with_pass, AtWork, Steps, Halts, EndsAt, Asks, Tests, TestsWord, ShowsOnly, Acts, Turns, Departs, is_done_as}
+use Rattle.plex_agent.proofs.Imports.{◌≡◌, ℕ, zero, suc, ◌+◌, ◌*◌, ◌≤◌, nat_lt, inl, inr, Bool, true, false, MatchBool, List, [], ◌∷◌, length, Option, None, Some, get_or, set, refl, sym, ap, subst, ◌∙◌, arith, Kind, StrForm, ConnId, StrNo, Told, Step, AnyAsk, Act, Line, AgentEnd, step_after, PassShown, NoteShown, with_call, CellShown, DeskShown, no_pass, pass_at, with_pass, AtWork, Steps, Halts, EndsAt, Asks, Tests, TestsWord, ShowsOnly, Acts, Turns, Departs}
 use Rattle.std.proofs.lemmas.List.{length-set}
-use Rattle.plex_board.specs.PlexScript.declared.agents.Step.TheVariants as step
 use Rattle.plex_board.specs.PlexScript.declared.scripts.Act.TheVariants as act
 use Rattle.plex_board.specs.PlexScript.declared.transcripts.AgentEnd.TheVariants as ended
 use Rattle.plex_board.specs.PlexScript.declared.transcripts.Shown.TheVariants as shown
@@ -42,12 +41,7 @@ pub record Keeps (before after : DeskShown) : Type 0 where
   pub ordered : IsOrdered before → IsOrdered after
 
 pub keeps_same : (before after : DeskShown) → after ≡ before → Keeps before after
-keeps_same before after same =
-    record {
-      owner = ap (λ (d : DeskShown). d.owner) same;
-      size = ap (λ (d : DeskShown). length d.passes) same;
-      ordered = λ ordered. subst IsOrdered (sym same) ordered;
-    }
+keeps_same before after same = grind arith
 
 keeps_pass : (on : StrNo) (pass : PassShown) (before after : DeskShown) → after ≡ with_pass on pass before
     → (IsOrdered before → IsInOrder pass) → Keeps before after
@@ -60,12 +54,7 @@ keeps_pass on pass before after same here =
     }
 
 pub keeps_then : (first second third : DeskShown) → Keeps first second → Keeps second third → Keeps first third
-keeps_then first second third one two =
-    record {
-      owner = two.owner ∙ one.owner;
-      size = two.size ∙ one.size;
-      ordered = λ ordered. two.ordered (one.ordered ordered);
-    }
+keeps_then first second third one two = grind arith
 
 -- ---- turns keep it
 
@@ -131,31 +120,11 @@ acts_keep limit form on retry act.Take before after (inr out) = keeps_same befor
 
 pub turns_keep : (limit : ℕ) (form : StrForm) (line : Line) (before after : AtWork) → Turns limit form line before after
     → Keeps before.desk after.desk
-turns_keep limit form line before after turns = by_end (is_done_as before.shown.end) turns
-  where
-    by_end : (b : Bool) → MatchBool b (Acts limit form line.on line.retry line.act before after) (after ≡ before)
-        → Keeps before.desk after.desk
-    by_end true acts = acts_keep limit form line.on line.retry line.act before after acts
-    by_end false same = keeps_same before.desk after.desk (ap (λ (w : AtWork). w.desk) same)
+turns_keep limit form line before after turns = grind (arith, acts_keep, keeps_same)
 
 departs_keep : (limit : ℕ) (form : StrForm) (on : StrNo) (before after : AtWork) → Departs limit form on before after
     → Keeps before.desk after.desk
-departs_keep limit form on before after departs = by_end (is_done_as before.shown.end) departs
-  where
-    still : after ≡ before → Keeps before.desk after.desk
-    still same = keeps_same before.desk after.desk (ap (λ (w : AtWork). w.desk) same)
-
-    by_link : (b : Bool) → MatchBool b (Asks limit form.kind (departing form.kind) on (step.Call 0) before after) (after ≡ before)
-        → Keeps before.desk after.desk
-    by_link true asks = asks_keep limit form.kind (departing form.kind) on (step.Call 0) before after asks
-    by_link false same = still same
-
-    by_end : (b : Bool)
-        → MatchBool b (MatchBool (is_linked (pass_at before.desk on).calls)
-        (Asks limit form.kind (departing form.kind) on (step.Call 0) before after) (after ≡ before)) (after ≡ before)
-        → Keeps before.desk after.desk
-    by_end true acts = by_link (is_linked (pass_at before.desk on).calls) acts
-    by_end false same = still same
+departs_keep limit form on before after departs = grind (arith, keeps_same, departing, asks_keep)
 
 pub departs_each_keep : {L : Type 0} (k : ℕ) (cells : List (CellShown L)) (before after : AtWork)
     → alone.DepartsEach k cells before after → Keeps before.desk after.desk

@@ -1,5 +1,5 @@
 -- All lines of a script at a board, against the run by the machine alone.
-use Rattle.plex_agent.proofs.Imports.{◌≡◌, ℕ, ◌*◌, ◌≤◌, ◌<◌, ◌==◌, nat_lt, Bool, true, false, List, [], ◌∷◌, length, fold, set, slice_get, Option, None, Some, MatchBool, ◌⊎◌, inl, inr, refl, sym, ap, subst, ◌∙◌, arith, All, if◌then◌else◌, slice_index_or, All-head, All-tail, slice_get_within, StrForm, ConnId, StrNo, Act, Line, Script, AgentEnd, Shown, Transcript, first_step, Run, act_made, after_line, is_done, test_shown, word_shown, CellShown, BoardShown, cell_on, AtWork, Acts, Tests, TestsWord, ShowsOnly, RunsOut, IfDone, is_done_as, any_word, any_length, Floor, worker_of, with_worker, heard_from, told_by, heard_from_last, is_counted, PlaysAct, is_working, PlaysLine, PlaysLines}
+use Rattle.plex_agent.proofs.Imports.{◌≡◌, ℕ, ◌*◌, ◌≤◌, ◌<◌, ◌==◌, nat_lt, Bool, true, false, List, [], ◌∷◌, length, fold, set, slice_get, Option, None, Some, MatchBool, ◌⊎◌, inl, inr, refl, ap, subst, ◌∙◌, arith, All, if◌then◌else◌, All-head, All-tail, slice_get_within, StrForm, ConnId, StrNo, Act, Line, Script, AgentEnd, Shown, Transcript, first_step, Run, act_made, after_line, is_done, test_shown, word_shown, CellShown, BoardShown, cell_on, AtWork, Acts, Tests, TestsWord, ShowsOnly, RunsOut, IfDone, is_done_as, any_word, any_length, Floor, worker_of, with_worker, heard_from, heard_from_last, is_counted, PlaysAct, is_working, PlaysLine, PlaysLines}
 use Rattle.plex_board.specs.PlexScript.declared.agents.Step.TheVariants as step
 use Rattle.plex_board.specs.PlexScript.declared.scripts.Act.TheVariants as act
 use Rattle.plex_board.specs.PlexScript.declared.transcripts.AgentEnd.TheVariants as ended
@@ -26,13 +26,7 @@ pub record IsStageOf {L : Type 0} (board : BoardShown L) (script : Script) (stag
 pub goes_as : (stage : Stage) (shows shows' : Shows) (before after : State) (goes goes' : Run → Run)
     → ((run : Run) → Agrees stage shows before run → goes' run ≡ goes run) → Goes stage shows shows' before after goes
     → Goes stage shows shows' before after goes'
-goes_as stage shows shows' before after goes goes' same one =
-    record {
-      known = one.known;
-      back = one.back;
-      agrees = λ known fits run agrees. subst (Agrees stage shows' after) (sym (same run agrees))
-          (one.agrees known fits run agrees);
-    }
+goes_as stage shows shows' before after goes goes' same one = grind (arith, Agrees)
 
 -- ---- an act
 
@@ -58,11 +52,7 @@ if_done before after acts works done =
 heard_end : (floor : Floor) (by : ConnId) (on : StrNo) (last : Option ConnId) (worker : AtWork)
     → (heard_from floor by on last worker).shown ≡ worker.shown
 heard_end floor by on None worker = refl
-heard_end floor by on (Some other) worker = by_same (other.0 == by.0)
-  where
-    by_same : (b : Bool) → (if b then worker else told_by floor on other worker).shown ≡ worker.shown
-    by_same true = refl
-    by_same false = refl
+heard_end floor by on (Some other) worker = grind arith
 
 module _ {L : Type 0} (board : BoardShown L) (script : Script) (stage : Stage) (is : IsStage stage)
     (of : IsStageOf board script stage) where
@@ -78,17 +68,11 @@ module _ {L : Type 0} (board : BoardShown L) (script : Script) (stage : Stage) (
     works_here = ap (λ (t : Transcript). t.end) (at.worker line.by.0 caller).shown ∙ works
 
     works_heard : (heard_from_last floor line.by (worker_of floor line.by) line.on).shown.end ≡ ended.Done
-    works_heard =
-        ap (λ (t : Transcript). t.end) (heard_end floor line.by line.on (slice_index_or floor.last line.on.0 None)
-        (worker_of floor line.by))
-        ∙ works_here
+    works_heard = grind (arith, heard_end, works_here)
 
     played_here : (done : Act) → line.act ≡ done → Played cell.limit cell.form line line.act floor floor'
         → Played stage.limit (stage.form line.on.0) line done floor floor'
-    played_here done act_is played =
-        subst (λ (a : Act). Played stage.limit (stage.form line.on.0) line a floor floor') act_is
-        (subst (λ (f : StrForm). Played stage.limit f line line.act floor floor') (of.form line.on.0 cell there)
-        (subst (λ (n : ℕ). Played n cell.form line line.act floor floor') (of.limit line.on.0 cell there) played))
+    played_here done act_is played = grind arith
 
     abbrev Turn : (Run → Run) → Type 1
     Turn goes = TurnGoes stage of_all of_all before floor' goes
@@ -200,50 +184,26 @@ module _ {L : Type 0} (board : BoardShown L) (script : Script) (stage : Stage) (
 
     done_is : (end : AgentEnd) → (before.shown line.by.0).end ≡ end → (run : Run) → Agrees stage of_all before run
         → is_done run line.by ≡ serial.is_done_as end
-    done_is end ends run agrees =
-        ap (λ (t : Transcript). serial.is_done_as t.end) (transcript_is stage of_all line.by.0 before run caller
-        agrees)
-        ∙ ap serial.is_done_as ends
+    done_is end ends run agrees = grind (arith, transcript_is, of_all)
 
     idle : (cell : CellShown L) → cell_on board line.on ≡ Some cell → (end : AgentEnd)
         → (before.shown line.by.0).end ≡ end
         → serial.is_done_as end ≡ false → floor' ≡ floor
         → TurnGoes stage of_all of_all before floor' (λ run. after_line stage.limit stage.told script run line)
-    idle cell there end ends stopped floor_is =
-        record {
-          after = before;
-          is_floor = subst (λ (f : Floor). IsFloor stage f before) (sym floor_is) at;
-          goes_on = goes_as stage of_all of_all before before (λ run. run)
-              (λ run. after_line stage.limit stage.told script run line)
-              (λ run agrees. rw (of.policy line.on.0 cell there, done_is end ends run agrees, stopped) refl)
-              (goes_not stage of_all before);
-        }
+    idle cell there end ends stopped floor_is = grind (arith, IsFloor, goes_as, of_all, done_is, goes_not)
 
     line_case : (cell : CellShown L) → cell_on board line.on ≡ Some cell → (end : AgentEnd)
         → (before.shown line.by.0).end ≡ end
         → MatchBool (is_done_as end) (PlaysAct cell line line.act floor floor') (floor' ≡ floor)
         → TurnGoes stage of_all of_all before floor' (λ run. after_line stage.limit stage.told script run line)
-    line_case cell there ended.Done ends played =
-        let turn = act_turn line cell there caller floor floor' before at known ends line.act refl played in
-        record {
-          after = turn.after;
-          is_floor = turn.is_floor;
-          goes_on = goes_as stage of_all of_all before turn.after
-              (act_made stage.limit stage.told (stage.form line.on.0) line line.act)
-              (λ run. after_line stage.limit stage.told script run line)
-              (λ run agrees. rw (of.policy line.on.0 cell there, done_is ended.Done ends run agrees) refl)
-              turn.goes_on;
-        }
+    line_case cell there ended.Done ends played = grind (arith, act_turn, goes_as, of_all, done_is)
     line_case cell there (ended.JournalFull place) ends same = idle cell there (ended.JournalFull place) ends refl
         same
     line_case cell there ended.NoMemory ends same = idle cell there ended.NoMemory ends refl same
 
     pub line_goes : PlaysLine board line floor floor'
         → TurnGoes stage of_all of_all before floor' (λ run. after_line stage.limit stage.told script run line)
-    line_goes plays =
-        line_case plays.0 plays.1 (before.shown line.by.0).end refl
-        (subst (λ (b : Bool). MatchBool b (PlaysAct plays.0 line line.act floor floor') (floor' ≡ floor))
-        (working_is (before.shown line.by.0).end refl) plays.2)
+    line_goes plays = grind (arith, line_case, working_is)
 
   -- ---- all lines
 
@@ -251,12 +211,7 @@ module _ {L : Type 0} (board : BoardShown L) (script : Script) (stage : Stage) (
       → (floor floor' : Floor) (before : State)
       → IsFloor stage floor before → Known stage before → PlaysLines board lines floor floor'
       → TurnGoes stage of_all of_all before floor' (λ run. fold (after_line stage.limit stage.told script) run lines)
-  lines_go [] callers floor floor' before at known plays =
-      record {
-        after = before;
-        is_floor = subst (λ (f : Floor). IsFloor stage f before) (sym plays) at;
-        goes_on = goes_not stage of_all before;
-      }
+  lines_go [] callers floor floor' before at known plays = grind (arith, IsFloor, goes_not, of_all)
   lines_go (line ∷ lines) callers floor floor' before at known plays =
       let first = line_goes line (All-head (λ (line : Line). line.by.0 ≤ stage.callers) line lines callers) floor
       plays.0 before at known plays.1 in

@@ -1,5 +1,5 @@
 -- A line of a script at a board, and all lines, against the run by the machine alone.
-use Rattle.plex_agent.proofs.Imports.{◌≡◌, ◌≢◌, ℕ, ◌*◌, ◌≤◌, ◌<◌, nat_lt, true, List, [], ◌∷◌, length, map, set, slice_get, Option, None, Some, refl, sym, ap, subst, ◌∙◌, arith, length-set, slice_index_or, nat_tests, set-get_or, ConnId, Step, AnyAsk, Shown, Transcript, AnyHistory, sight, indices_of, shown_on, Run, act_made, all_steps_made, with_shown, post_made, take_made, PassShown, NoteShown, note_of, with_any_note, DeskShown, pass_at, with_pass, no_pass, note_in, AtWork, Asks, Tests, TestsWord, ShowsOnly, RunsOut, Posts, with_item, Floor, worker_of, heard_from_last, worker_after_take}
+use Rattle.plex_agent.proofs.Imports.{◌≡◌, ◌≢◌, ℕ, ◌*◌, ◌≤◌, ◌<◌, nat_lt, true, List, [], ◌∷◌, length, map, set, slice_get, Option, None, Some, refl, sym, ap, subst, ◌∙◌, arith, length-set, slice_index_or, nat_tests, set-get_or, ConnId, Step, AnyAsk, Shown, Transcript, AnyHistory, sight, indices_of, shown_on, Run, act_made, all_steps_made, with_shown, post_made, take_made, PassShown, NoteShown, note_of, with_any_note, pass_at, with_pass, note_in, AtWork, Asks, Tests, TestsWord, ShowsOnly, RunsOut, Posts, with_item, Floor, worker_of, heard_from_last, worker_after_take}
 use Rattle.plex_board.specs.PlexScript.declared.agents.Step.TheVariants as step
 use Rattle.plex_board.specs.PlexScript.declared.scripts.Act.TheVariants as act
 use Rattle.plex_board.specs.PlexScript.declared.transcripts.AgentEnd.TheVariants as ended
@@ -28,10 +28,7 @@ less_heard : (on by : ℕ) → SaysLess of_all (of_others on by) on by
 less_heard on by = record { others = λ c apart is. tt; elsewhere = λ x c apart is. tt }
 
 more_done : (on by : ℕ) → SaysLess (of_others on by) of_all on by
-more_done on by = record {
-  others = λ c apart is same self. apart self;
-  elsewhere = λ x c apart is same self. apart same;
-}
+more_done on by = grind arith
 
 silent : (on by : ℕ) → of_others on by on by → ⊥
 silent on by said = said refl refl
@@ -177,10 +174,7 @@ module _ (stage : Stage) (is : IsStage stage) (on by : ℕ) (within : on < stage
   -- the worker's pass, put there again
   again : (worker : AtWork) (pass : PassShown) → pass_at worker.desk (str on) ≡ pass
       → with_pass (str on) pass worker.desk ≡ worker.desk
-  again worker pass e =
-      ap (λ (p : PassShown). with_pass (str on) p worker.desk) (sym e)
-      ∙ ap (λ (t : List PassShown). (let it : DeskShown = record { owner = worker.desk.owner; passes = t } in it))
-      (set-get_or worker.desk.passes on no_pass)
+  again worker pass e = grind (arith, str, set-get_or)
 
   same_tray : (worker : AtWork) → floor' ≡ record
       { workers = set floor.workers by worker; tray = floor.tray; last = floor.last }

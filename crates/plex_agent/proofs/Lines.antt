@@ -1,5 +1,5 @@
 -- A caller's lines, one after another.
-use Rattle.plex_agent.proofs.Imports.{◌≡◌, ℕ, ◌≤◌, ◌<◌, ◌==◌, Bool, true, false, List, [], ◌∷◌, ◌++◌, length, Some, refl, sym, ap, subst, ◌∙◌, arith, append_assoc, append-nil, slice_get, MatchBool, slice_get_within, StrForm, ConnId, StrNo, AnyHistory, Line, AgentEnd, Shown, Transcript, first_step, call_of, calls_on, length_on, RunsUpTo, ShowsLines, CellShown, Rising, DeskShown, pass_at, BoardShown, cell_on, AtWork, Acts, Turns, is_done_as, lines_by, DoesLines, Hears}
+use Rattle.plex_agent.proofs.Imports.{◌≡◌, ℕ, ◌≤◌, ◌<◌, ◌==◌, false, List, [], ◌∷◌, ◌++◌, length, Some, refl, sym, ap, subst, ◌∙◌, arith, append_assoc, append-nil, slice_get, slice_get_within, StrForm, ConnId, StrNo, AnyHistory, Line, AgentEnd, Shown, Transcript, first_step, call_of, calls_on, length_on, RunsUpTo, ShowsLines, CellShown, Rising, DeskShown, pass_at, BoardShown, cell_on, AtWork, Turns, is_done_as, lines_by, DoesLines, Hears}
 use Rattle.plex_board.specs.PlexScript.declared.transcripts.AgentEnd.TheVariants as ended
 use Rattle.plex_agent.proofs.Passes.{Caller}
 use Rattle.plex_agent.proofs.Moves.{same_number, AreWithin, Goes, goes_then, moves_go, hears_go}
@@ -34,13 +34,7 @@ AreBy conn (line ∷ lines) = (line.by ≡ conn) × AreBy conn lines
 
 pub own_lines : (conn : ConnId) (lines : List Line) → AreBy conn (lines_by conn lines)
 own_lines conn [] = tt
-own_lines conn (line ∷ lines) = by_test (line.by.0 == conn.0) refl (own_lines conn lines)
-  where
-    by_test : (b : Bool) → line.by.0 == conn.0 ≡ b → AreBy conn (lines_by conn lines)
-        → AreBy conn (lines_by conn (line ∷ lines))
-    by_test true same rest =
-        rw same (ap (λ (n : ℕ). (let it : ConnId = record { 0 = n } in it)) (same_number line.by.0 conn.0 same), rest)
-    by_test false apart rest = rw apart rest
+own_lines conn (line ∷ lines) = grind (arith, same_number, own_lines conn lines)
 
 module _ {L : Type 0} (limit : ℕ) (board : BoardShown L) (me : Caller)
     (setting : IsSetting limit board me.forms me.histories) where
@@ -101,18 +95,7 @@ module _ {L : Type 0} (limit : ℕ) (board : BoardShown L) (me : Caller)
       → before.shown.end ≡ ended.Done → length before.desk.passes ≡ length board.cells
       → Turns cell.limit cell.form line before after
       → TurnedBy me limit cell.form line.on line.retry line.by before after line.act
-  line_turned line cell before after there going long turns =
-      acts_turned me limit cell.form line.on line.retry line.by before after going
-      (setting.forms_are line.on.0 cell there) (setting.rise line.on)
-      (omega (arith, slice_get_within board.cells line.on.0 cell there, long)) line.act
-      (subst (λ (n : ℕ). Acts n cell.form line.on line.retry line.act before after)
-      (setting.limits line.on.0 cell there) acts)
-    where
-      acts : Acts cell.limit cell.form line.on line.retry line.act before after
-      acts =
-          subst (λ (e : AgentEnd). MatchBool (is_done_as e)
-          (Acts cell.limit cell.form line.on line.retry line.act before after) (after ≡ before))
-          going turns
+  line_turned line cell before after there going long turns = grind (arith, acts_turned, slice_get_within)
 
   -- how one line ends
   abbrev LineEnds : Line → StrForm → List Shown → AgentEnd → Type 0

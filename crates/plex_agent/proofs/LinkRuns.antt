@@ -1,5 +1,5 @@
 -- What the links of a closed board have to do with its histories: structure by structure, link by link.
-use Rattle.plex_agent.proofs.Imports.{◌≡◌, ℕ, zero, suc, ◌+◌, ◌*◌, ◌-◌, ◌≤◌, ◌<◌, List, [], ◌∷◌, ◌++◌, length, map, slice_get, Option, Some, refl, sym, ap, subst, ◌∙◌, arith, append_assoc, unwrap_or, flat_map, length-map, slice_get_within, RisesBy, IsFacility, StrForm, CfId, Links, Telling, AreAsked, IsAskedAll, link_at, TellsEnough, asked_faults, asked_calls, asked_told, trues, marks_counted, cache_meaning, list_meaning, lock_meaning, AnyHistory, IsAnyLegal, AreAnyAsTold, any_answers, any_marks_at, links_told, link_place, AreTelling, IsLinkOf, AreRunLinks, CellShown, BoardShown, AreEachAsked, AreLinksAsked, four_of, links_of}
+use Rattle.plex_agent.proofs.Imports.{◌≡◌, ℕ, zero, suc, ◌+◌, ◌*◌, ◌-◌, ◌≤◌, ◌<◌, List, [], ◌∷◌, ◌++◌, length, map, slice_get, Option, Some, refl, sym, ap, subst, ◌∙◌, arith, append_assoc, unwrap_or, flat_map, length-map, slice_get_within, IsFacility, StrForm, CfId, Links, Telling, AreAsked, IsAskedAll, link_at, TellsEnough, asked_faults, asked_calls, asked_told, trues, marks_counted, cache_meaning, list_meaning, lock_meaning, AnyHistory, IsAnyLegal, AreAnyAsTold, any_answers, any_marks_at, links_told, link_place, AreTelling, IsLinkOf, AreRunLinks, CellShown, BoardShown, AreEachAsked, AreLinksAsked, four_of, links_of}
 use Rattle.plex_board.specs.CfLink.Links.{Tells}
 use Rattle.plex_board.specs.PlexScript.declared.asks.AnyHistory.TheVariants as history
 
@@ -20,9 +20,7 @@ module _ {L : Type 0} where
 
   place_first : (links : Links L) (others : List L) (cf : CfId) → IsFacility cf
       → slice_get (four_of links ++ others) (link_place 0 cf) ≡ Some (link_at links cf)
-  place_first links others cf is =
-      let at : link_place 0 cf ≡ cf.0 - 1 = omega arith in
-      ap (slice_get (four_of links ++ others)) at ∙ place_here links others cf.0 is.0 is.1
+  place_first links others cf is = grind (arith, place_here)
 
   behind_four : (links : Links L) (others : List L) (i j : ℕ) → i ≡ suc (suc (suc (suc j)))
       → slice_get (four_of links ++ others) i ≡ slice_get others j
@@ -30,9 +28,7 @@ module _ {L : Type 0} where
 
   place_later : (links : Links L) (others : List L) (x : ℕ) (cf : CfId)
       → slice_get (four_of links ++ others) (link_place (suc x) cf) ≡ slice_get others (link_place x cf)
-  place_later links others x cf =
-      behind_four links others (link_place (suc x) cf) (link_place x cf)
-      (let e : 4 * suc x + (cf.0 - 1) ≡ suc (suc (suc (suc (4 * x + (cf.0 - 1))))) = omega arith in e)
+  place_later links others x cf = grind (arith, behind_four)
 
   -- ---- the links of a board
 
@@ -49,15 +45,9 @@ module _ {L : Type 0} where
       → slice_get (all_links cells spare) (link_place x cf) ≡ Some (link_at cell.links cf)
   cell_link [] spare zero cell cf e is = absurd cc
   cell_link [] spare (suc x) cell cf e is = absurd cc
-  cell_link (first ∷ cells) spare zero cell cf e is =
-      let same : first ≡ cell = some_is first cell e in
-      ap (λ (links : List L). slice_get links (link_place 0 cf)) (links_split first cells spare)
-      ∙ place_first first.links (all_links cells spare) cf is
-      ∙ ap (λ (c : CellShown L). Some (link_at c.links cf)) same
+  cell_link (first ∷ cells) spare zero cell cf e is = grind (arith, some_is, links_split, place_first)
   cell_link (first ∷ cells) spare (suc x) cell cf e is =
-      ap (λ (links : List L). slice_get links (link_place (suc x) cf)) (links_split first cells spare)
-      ∙ place_later first.links (all_links cells spare) x cf
-      ∙ cell_link cells spare x cell cf e is
+      grind (arith, links_split, place_later, cell_link cells spare x cell cf e is)
 
   cell_of : (cells : List (CellShown L)) (x : ℕ) (form : StrForm)
       → slice_get (map (λ (cell : CellShown L). cell.form) cells) x ≡ Some form
@@ -106,8 +96,7 @@ module _ {L : Type 0} where
     each_size [] histories spare new each = ap length each
     each_size (cell ∷ cells) [] spare new each = absurd each
     each_size (cell ∷ cells) (one ∷ histories) spare new each =
-        let rest : length each.1 ≡ length (all_links cells spare) = each_size cells histories spare each.1 each.4 in
-        ap length each.2 ∙ ap (λ (n : ℕ). suc (suc (suc (suc n)))) rest ∙ sym (ap length (links_split cell cells spare))
+        grind (arith, links_split, each_size cells histories spare each.1 each.4)
 
     each_spare : (cells : List (CellShown L)) (histories : List AnyHistory) (spare new : List L)
         → AreEachAsked calls downs faults cells histories spare new → (i : ℕ) → 4 * length cells ≤ i
@@ -136,14 +125,7 @@ module _ {L : Type 0} (calls : L → Option ℕ) (downs : L → Option (List ℕ
       → IsAskedAll calls downs faults (any_answers form entries cf) old new
       → IsLinkOf calls downs faults form entries cf old new
   link_of form entries cf old new legal asked =
-      record {
-        asked = asked;
-        marks = subst (λ (n : ℕ). RisesBy n (faults old) (faults new)) (sym (any_marks_counted form entries legal cf))
-            (asked_faults calls downs faults (any_answers form entries cf) old new asked);
-        counted = asked_calls calls downs faults (any_answers form entries cf) old new asked;
-        told = λ told tells.
-            asked_told calls downs faults told (any_answers form entries cf) old new (enough old) tells asked;
-      }
+      grind (arith, any_marks_counted, asked_faults, asked_calls, asked_told)
 
   any_links_told : (form : StrForm) (told : CfId → Telling) (entries : AnyHistory) (old new : Links L)
       → ((cf : CfId) → IsFacility cf → Tells calls downs faults (told cf) (link_at old cf))

@@ -10,10 +10,7 @@ pub same_number : (x y : ℕ) → x == y ≡ true → x ≡ y
 same_number x y same = grind (arith, nat_tests)
 
 pub other_number : (x y : ℕ) → x == y ≡ false → y ≢ x
-other_number x y apart = λ is. absurd (by_number is)
-  where
-    by_number : y ≡ x → ⊥
-    by_number is = grind (arith, nat_tests)
+other_number x y apart = grind (arith, nat_tests)
 
 pub same_place : (on other : StrNo) → on.0 == other.0 ≡ true → on ≡ other
 same_place on other same =
@@ -44,28 +41,12 @@ module _ (me : Caller) where
       → after.desk ≡ with_pass on pass before.desk → after.shown.items ≡ before.shown.items ++ part
       → Advances me on (pass_at before.desk on) pass part → Moves on before after part
   moves_by on before after pass part within desk items advances =
-      record {
-        items = items;
-        owner = ap (λ (d : DeskShown). d.owner) desk;
-        passes = ap (λ (d : DeskShown). length d.passes) desk ∙ length-set before.desk.passes on.0 pass;
-        here = subst (λ (p : PassShown). Advances me on (pass_at before.desk on) p part)
-            (sym (ap (λ (d : DeskShown). pass_at d on) desk ∙ pass_here on pass before.desk within)) advances;
-        rest = λ other apart. ap (λ (d : DeskShown). pass_at d other) desk
-            ∙ pass_elsewhere on other pass before.desk apart;
-      }
+      grind (arith, length-set, Advances, pass_here, pass_elsewhere)
 
   pub moves_still : (on : StrNo) (before after : AtWork) (part : List Shown) → after.desk ≡ before.desk
       → after.shown.items ≡ before.shown.items ++ part
       → Advances me on (pass_at before.desk on) (pass_at before.desk on) part → Moves on before after part
-  moves_still on before after part desk items advances =
-      record {
-        items = items;
-        owner = ap (λ (d : DeskShown). d.owner) desk;
-        passes = ap (λ (d : DeskShown). length d.passes) desk;
-        here = subst (λ (d : DeskShown). Advances me on (pass_at before.desk on) (pass_at d on) part) (sym desk)
-            advances;
-        rest = λ other apart. ap (λ (d : DeskShown). pass_at d other) desk;
-      }
+  moves_still on before after part desk items advances = grind (arith, Advances)
 
   -- ---- at all structures
 
@@ -101,30 +82,16 @@ module _ (me : Caller) where
 
   pub moves_go : (on : StrNo) (before after : AtWork) (part : List Shown) → Moves on before after part
       → Goes before after part
-  moves_go on before after part moves =
-      record {
-        items = moves.items;
-        owner = moves.owner;
-        passes = moves.passes;
-        owners = λ other. owners other (on.0 == other.0) refl;
-        back = λ within other. back within other (on.0 == other.0) refl;
-        forth = λ within is. by_here within (moves.here.forth (within on) before.shown.items (is.shows on) is.each)
-            is;
-      }
+  moves_go on before after part moves = grind (arith, owners, back, by_here)
     where
       owners : (other : StrNo) (b : Bool) → on.0 == other.0 ≡ b
           → (pass_at after.desk other).owner ≡ (pass_at before.desk other).owner
-      owners other true same =
-          subst (λ (place : StrNo). (pass_at after.desk place).owner ≡ (pass_at before.desk place).owner)
-          (same_place on other same)
-          moves.here.owner
+      owners other true same = grind (arith, same_place)
       owners other false apart = ap (λ (p : PassShown). p.owner) (moves.rest other apart)
 
       back : AreWithin after.desk → (other : StrNo) (b : Bool) → on.0 == other.0 ≡ b
           → IsWithin me other (pass_at before.desk other)
-      back within other true same =
-          subst (λ (place : StrNo). IsWithin me place (pass_at before.desk place)) (same_place on other same)
-          (moves.here.back (within on))
+      back within other true same = grind (arith, IsWithin, same_place)
       back within other false apart = subst (IsWithin me other) (moves.rest other apart) (within other)
 
       shows : IsTranscript before → IsShown on (pass_at after.desk on) (before.shown.items ++ part)
@@ -134,10 +101,7 @@ module _ (me : Caller) where
           subst (λ (place : StrNo). IsShown place (pass_at after.desk place) after.shown.items)
           (same_place on other same)
           (subst (IsShown on (pass_at after.desk on)) (sym moves.items) here)
-      shows is here other false apart =
-          subst (λ (p : PassShown). IsShown other p after.shown.items) (sym (moves.rest other apart))
-          (subst (IsShown other (pass_at before.desk other)) (sym moves.items)
-          (moves.here.elsewhere other (pass_at before.desk other) before.shown.items apart (is.shows other)))
+      shows is here other false apart = grind (arith, IsShown)
 
       by_here : AreWithin after.desk
           → IsShown on (pass_at after.desk on) (before.shown.items ++ part)

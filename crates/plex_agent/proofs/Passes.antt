@@ -1,5 +1,5 @@
 -- What a caller's pass to a structure has to do with the items that it was shown, and goes on having as both grow.
-use Rattle.plex_agent.proofs.Imports.{◌≡◌, ℕ, ◌≤◌, ◌==◌, false, List, [], ◌∷◌, ◌++◌, length, map, take, max, fold, Some, None, refl, sym, ap, subst, ◌∙◌, arith, append-nil, append_assoc, slice_get, All, filter_map-append, All-take, All-same, StrForm, ConnId, StrNo, AnyHistory, Shown, AnyCall, own_calls, calls_on, length_on, number_on, numbers_on, sure_on, surest_on, IsNote, shown_on, seen_on, TellsOf, place_of, PassShown, IsLater, IsAnyTold}
+use Rattle.plex_agent.proofs.Imports.{◌≡◌, ℕ, ◌≤◌, ◌==◌, false, List, [], ◌∷◌, ◌++◌, length, map, take, Some, None, refl, sym, ap, subst, ◌∙◌, arith, append-nil, append_assoc, slice_get, All, filter_map-append, All-take, All-same, StrForm, ConnId, StrNo, AnyHistory, Shown, own_calls, calls_on, length_on, number_on, numbers_on, sure_on, surest_on, IsNote, shown_on, seen_on, TellsOf, place_of, PassShown, IsLater, IsAnyTold}
 use Rattle.plex_agent.proofs.Fronts.{IsFront, front_same, front_then, take_front}
 use Rattle.plex_agent.proofs.ShownItems.{Each, each_push, greatest_push, unread_push}
 
@@ -21,15 +21,7 @@ pub record IsShown (on : StrNo) (pass : PassShown) (items : List Shown) : Type 0
 shown_elsewhere : (on other : StrNo) (item : Shown) (pass : PassShown) (before : List Shown) → IsOf on item
     → on.0 == other.0 ≡ false
     → IsShown other pass before → IsShown other pass (before ++ item ∷ [])
-shown_elsewhere on other item pass before of apart is =
-    let unseen = unread_push (shown_on other) before item (of.seen other apart) in
-    let unsure = unread_push (sure_on other) before item (of.sure other apart) in
-    record {
-      numbers = unread_push (number_on other) before item (of.numbers other apart) ∙ is.numbers;
-      seen = subst (λ (t : List ℕ). fold max 0 t ≤ pass.known) (sym unseen) is.seen;
-      sure = subst (λ (t : List ℕ). fold max 0 t ≤ pass.sure) (sym unsure) is.sure;
-      reached = subst (λ (t : List ℕ). fold max 0 t ≤ pass.known) (sym unsure) is.reached;
-    }
+shown_elsewhere on other item pass before of apart is = grind (arith, unread_push)
 
 -- ---- passes beside the histories
 
@@ -181,10 +173,4 @@ module _ (me : Caller) where
           (front_same pass.tests)
 
       shows : (before : List Shown) → IsShown on pass before → IsShown on pass' before
-      shows before is =
-          record {
-            numbers = is.numbers ∙ ap (λ (p : PassShown). map (λ (call : AnyCall). call.no) p.calls) (sym later.same);
-            seen = omega (arith, is.seen, later.known);
-            sure = omega (arith, is.sure, later.sure);
-            reached = omega (arith, is.reached, later.known);
-          }
+      shows before is = grind arith

@@ -1,5 +1,5 @@
 -- What the steps of a line and of a closing come to.
-use Rattle.plex_agent.proofs.Imports.{◌≡◌, ◌≢◌, ℕ, zero, suc, ◌+◌, ◌-◌, ◌<◌, ◌≤◌, ◌==◌, Bool, true, false, if◌then◌else◌, MatchBool, List, [], ◌∷◌, ◌++◌, length, fold, drop, replicate, Option, Some, None, IfSome, Result, Ok, Err, OnOk, get_or, set, slice_set, slice_index_or, refl, sym, ◌∙◌, ap, subst, arith, range_with_len, drop-cons, add-one, eqb-false, eqb-true, get_or-set_same, get_or-set_other, slice_get_within, StrForm, ConnId, StrNo, Act, Line, Shown, Transcript, PassShown, note_of, with_note, with_any_note, DeskShown, pass_at, with_pass, CellShown, BoardShown, cell_on, note_in, AtWork, Turns, Posts, with_item, IsLineFor, Floor, no_worker, worker_of, with_worker, heard_from_last, heard_from, heard_all, told_by, worker_ready, worker_after_take, last_after, is_counted, is_working, PlaysAct, PlaysLine, PlaysLines, ClosesOne, ClosesAll, desk-length, pass_at-with_pass_same, IsTurn, TakesTurn, PlaysActOn, conns_from}
+use Rattle.plex_agent.proofs.Imports.{◌≡◌, ◌≢◌, ℕ, zero, suc, ◌+◌, ◌-◌, ◌<◌, ◌≤◌, ◌==◌, Bool, true, false, if◌then◌else◌, MatchBool, List, [], ◌∷◌, ◌++◌, length, fold, drop, replicate, Option, Some, IfSome, Result, Ok, Err, OnOk, get_or, set, slice_set, refl, sym, ◌∙◌, ap, subst, arith, range_with_len, drop-cons, add-one, eqb-false, eqb-true, get_or-set_same, get_or-set_other, slice_get_within, StrForm, ConnId, StrNo, Act, Line, Shown, Transcript, PassShown, note_of, with_any_note, DeskShown, pass_at, with_pass, CellShown, BoardShown, cell_on, note_in, AtWork, Turns, Posts, with_item, IsLineFor, Floor, no_worker, worker_of, with_worker, heard_from_last, heard_all, worker_after_take, is_counted, is_working, PlaysAct, PlaysLine, PlaysLines, ClosesOne, ClosesAll, desk-length, pass_at-with_pass_same, IsTurn, TakesTurn, PlaysActOn, conns_from}
 use Rattle.plex_board.specs.PlexScript.declared.scripts.Act.TheVariants as act
 use Rattle.plex_board.specs.PlexScript.declared.transcripts.Shown.TheVariants as shown
 use Rattle.plex_board.specs.Callers.{DepartsEach, Closes}
@@ -22,9 +22,7 @@ set-set (z ∷ xs) (suc i) x y = ap (λ (rest : List _). z ∷ rest) (set-set xs
 -- of a caller's work the last that is put stands
 pub put_twice : (floor : Floor) (by : ConnId) (first second : AtWork)
     → with_worker by second (with_worker by first floor) ≡ with_worker by second floor
-put_twice floor by first second =
-    ap (λ (workers : List AtWork). (let it : Floor = record floor { workers = workers } in it))
-    (set-set floor.workers by.0 first second)
+put_twice floor by first second = grind (arith, set-set)
 
 pub worker_put : (floor : Floor) (by : ConnId) (worker : AtWork) → by.0 < length floor.workers
     → worker_of (with_worker by worker floor) by ≡ worker
@@ -40,37 +38,14 @@ turn_played : {L : Type 0} (cell : CellShown L) (line : Line) (counted : Bool) (
     → after ≡ record (with_worker line.by worker before)
     { last = if counted then slice_set before.last line.on.0 (Some line.by) else before.last }
     → PlaysAct cell line line.act before after
-turn_played {L} cell line counted before after worker is_turn counted_is turned after_is =
-    go line.act is_turn (
-      worker,
-      subst (λ (b : Bool). Turns cell.limit cell.form line
-          (if b then heard_from_last before line.by (worker_of before line.by) line.on else worker_of before line.by) worker)
-          counted_is turned,
-      after_is
-          ∙ ap (λ (b : Bool). (let it : Floor = record (with_worker line.by worker before) {
-            last = if b then slice_set before.last line.on.0 (Some line.by) else before.last;
-          } in it)) counted_is,
-    )
-  where
-    go : (a : Act) → IsTurn a
-        → (w : AtWork) × Turns cell.limit cell.form line (worker_ready cell.form line before) w
-        × (after ≡ record (with_worker line.by w before) { last = last_after cell.form line before })
-        → PlaysAct cell line a before after
-    go (act.Call asked) is all = all
-    go act.Events is all = all
-    go (act.Test index) is all = all
-    go (act.TestWord word) is all = all
-    go act.Post is all = absurd is
-    go act.Take is all = absurd is
+turn_played {L} cell line counted before after worker is_turn counted_is turned after_is = grind arith
 
 module _ {L : Type 0} (board : BoardShown L) (line : Line) (bits : ℕ)
     (bits_are : IfSome (cell_on board line.on) (λ cell. bits ≡ cell.form.vector)) (counted : Bool)
     (counted_is : (form : StrForm) → form.vector ≡ bits → counted ≡ is_counted form line.act)
     (is_turn : IsTurn line.act) where
   is_counted_at : (cell : CellShown L) → cell_on board line.on ≡ Some cell → counted ≡ is_counted cell.form line.act
-  is_counted_at cell there =
-      counted_is cell.form (sym (if_there (λ (it : CellShown L). bits ≡ it.form.vector) (cell_on board line.on) cell there
-      bits_are))
+  is_counted_at cell there = grind (arith, if_there)
 
   -- a line that isn't counted is the caller's turn alone
   pub plays_uncounted : (before after : Floor) → counted ≡ false → TakesTurn board line before after
@@ -205,23 +180,7 @@ plays_nothing board line floor ended right = (
 -- what the others know doesn't change as a caller hears of them
 pub same_hearing : (floor : Floor) (by : ConnId) (other : AtWork) (worker : AtWork) (on : StrNo)
     → heard_from_last (with_worker by other floor) by worker on ≡ heard_from_last floor by worker on
-same_hearing floor by changed worker on = from (slice_index_or floor.last on.0 None)
-  where
-    from : (o : Option ConnId) → heard_from (with_worker by changed floor) by on o worker
-        ≡ heard_from floor by on o worker
-    from None = refl
-    from (Some conn) = go (conn.0 == by.0) refl
-      where
-        go : (b : Bool) → (conn.0 == by.0) ≡ b
-            → (if b then worker else told_by (with_worker by changed floor) on conn worker)
-            ≡ (if b then worker else told_by floor on conn worker)
-        go true is = refl
-        go false is =
-            let apart : conn.0 ≢ by.0 = eqb-false conn.0 by.0 is in
-            ap (λ (w : AtWork). (let it : AtWork = record worker {
-              desk = with_pass on (with_note (note_of (pass_at w.desk on)) (pass_at worker.desk on)) worker.desk;
-            } in it))
-            (get_or-set_other floor.workers by.0 conn.0 changed no_worker apart)
+same_hearing floor by changed worker on = grind (arith, eqb-false, get_or-set_other)
 
 -- the numbers from one on
 pub range_more : (k n : ℕ) → k < n → range_with_len k (n - k) ≡ k ∷ range_with_len (k + 1) (n - (k + 1))
@@ -260,24 +219,14 @@ pub heard_everywhere : (start now : Floor) (by : ConnId) (k n : ℕ) (whole : At
     → fold (λ worker place. heard_from_last start by worker (record { 0 = place })) (worker_of now by)
     (range_with_len k (n - k)) ≡ whole
     → now ≡ with_worker by whole start
-heard_everywhere start now by k n whole over now_is rest =
-    let step : AtWork → ℕ → AtWork = λ worker place. heard_from_last start by worker (record { 0 = place }) in
-    let none : n - k ≡ 0 = omega arith in
-    now_is ∙ ap (λ (w : AtWork). with_worker by w start)
-    (sym (ap (λ (m : ℕ). fold step (worker_of now by) (range_with_len k m)) none) ∙ rest)
+heard_everywhere start now by k n whole over now_is rest = grind arith
 
 -- ---- closings
 
 -- a connector's closing is its departures
 departs : {L : Type 0} (board : BoardShown L) (before after : AtWork) → 1 ≤ before.desk.owner.0
     → Closes board before after → DepartsEach 0 board.cells before after
-departs board before after connector closed = go (before.desk.owner.0 == 0) refl closed
-  where
-    go : (b : Bool) → (before.desk.owner.0 == 0) ≡ b
-        → MatchBool b (after ≡ before) (DepartsEach 0 board.cells before after)
-        → DepartsEach 0 board.cells before after
-    go true is closed = absurd (omega (arith, eqb-true before.desk.owner.0 0 is, connector))
-    go false is closed = closed
+departs board before after connector closed = grind (arith, eqb-true)
 
 pub closes_one : {L : Type 0} (board : BoardShown L) (by : ConnId) (before told after : Floor) (desk : DeskShown)
     (seen : Transcript) (worker : AtWork)
@@ -287,33 +236,12 @@ pub closes_one : {L : Type 0} (board : BoardShown L) (by : ConnId) (before told 
     → after ≡ record (with_worker by worker told) { last = replicate (length told.last) (Some by) }
     → ClosesOne board by before after
 closes_one board by before told after desk seen worker works inside places told_is has connector closed after_is =
-    subst (λ (b : Bool). MatchBool b
-    ((w : AtWork) × DepartsEach 0 board.cells (heard_all board before by) w
-    × (after ≡ record (with_worker by w before) { last = replicate (length board.cells) (Some by) }))
-    (after ≡ before)) (sym works) (
-      worker,
-      subst (λ (w : AtWork). DepartsEach 0 board.cells w worker)
-          (ap (λ (f : Floor). worker_of f by) told_is ∙ worker_put before by (heard_all board before by) inside)
-          (subst (λ (w : AtWork). DepartsEach 0 board.cells w worker) (sym has.is)
-          (departs board (record { desk = desk; shown = seen }) worker
-          (subst (λ (conn : ConnId). 1 ≤ conn.0) (sym has.own) connector) closed)),
-      after_is
-          ∙ ap (λ (f : Floor). (let it : Floor = record (with_worker by worker f)
-          { last = replicate (length f.last) (Some by) } in it)) told_is
-          ∙ ap (λ (f : Floor). (let it : Floor = record f { last = replicate (length before.last) (Some by) } in it))
-          (put_twice before by (heard_all board before by) worker)
-          ∙ ap (λ (n : ℕ). (let it : Floor = record (with_worker by worker before)
-          { last = replicate n (Some by) } in it)) places,
-    )
+    grind (arith, worker_put, departs, put_twice)
 
 -- a closing that isn't done, since the connector's work has ended
 pub closes_nothing : {L : Type 0} (board : BoardShown L) (by : ConnId) (floor : Floor) → is_working floor by ≡ false
     → ClosesOne board by floor floor
-closes_nothing board by floor ended =
-    subst (λ (b : Bool). MatchBool b
-    ((w : AtWork) × DepartsEach 0 board.cells (heard_all board floor by) w
-    × (floor ≡ record (with_worker by w floor) { last = replicate (length board.cells) (Some by) }))
-    (floor ≡ floor)) (sym ended) refl
+closes_nothing board by floor ended = grind arith
 
 -- ---- one after another
 

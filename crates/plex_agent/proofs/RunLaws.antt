@@ -94,10 +94,7 @@ pub finished_is : (finished : Result Finished NoMemory) (shown : Result (Vec Tra
     → IfOk shown (λ some. Shows some.items)
     → ((transcripts : List Transcript) → Shows transcripts → HadMemory transcripts → Holds histories transcripts)
     → IfOk finished (λ it. Holds it.histories it.transcripts)
-finished_is (Ok it) (Ok some) histories Shows Holds same items had shows law =
-    subst (λ (hs : List AnyHistory). Holds hs it.transcripts) (sym same)
-    (subst (λ (ts : List Transcript). Holds histories ts) (sym items)
-    (law some.items shows (subst HadMemory items had)))
+finished_is (Ok it) (Ok some) histories Shows Holds same items had shows law = grind arith
 finished_is (Ok it) (Err e) histories Shows Holds same items had shows law = absurd items
 finished_is (Err e) shown histories Shows Holds same items had shows law = tt
 

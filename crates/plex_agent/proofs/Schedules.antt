@@ -1,6 +1,6 @@
 -- A script's work on one thread is one schedule: each caller's lines and departures are a chain of turns, before each of
 -- which it hears of others.
-use Rattle.plex_agent.proofs.Imports.{◌≡◌, ◌≢◌, ℕ, zero, suc, ◌+◌, ◌≤◌, ◌<◌, ◌==◌, inl, Bool, true, false, MatchBool, List, [], ◌∷◌, length, map, fold, replicate, Option, None, Some, get_or, set, refl, sym, ap, subst, ◌∙◌, arith, All, range_with_len, nat_tests, length-map, get_or-set_same, get_or-set_other, All-head, All-tail, length-map-range_with_len, get_or-map-range_with_len, slice_get_within, get_or_from_slice_get, StrForm, ConnId, StrNo, Act, Line, Script, AnyHistory, numbers_from, connectors, ShowsHistories, PassShown, NoteShown, IsLater, note_of, unused_pass, CellShown, with_note, with_any_note, no_pass, pass_at, with_pass, BoardShown, IsStarted, AreClosed, cell_on, new_desk, note_in, AtWork, Takes, Acts, Turns, is_done_as, with_item, lines_by, no_items, Floor, Plays, PlaysLines, PlaysLine, PlaysAct, ClosesOne, ClosesAll, new_floor, no_worker, worker_of, told_by, heard_from, heard_from_last, heard_all, is_counted, is_working, with_worker, last_after, worker_ready, worker_after_take, Hears, HearsThen, DoesLines, DepartsEach, Serves}
+use Rattle.plex_agent.proofs.Imports.{◌≡◌, ◌≢◌, ℕ, zero, suc, ◌+◌, ◌≤◌, ◌<◌, ◌==◌, inl, Bool, true, false, MatchBool, List, [], ◌∷◌, length, map, fold, replicate, Option, None, Some, get_or, set, refl, sym, ap, subst, ◌∙◌, arith, All, range_with_len, nat_tests, length-map, get_or-set_same, get_or-set_other, All-head, All-tail, length-map-range_with_len, get_or-map-range_with_len, slice_get_within, get_or_from_slice_get, StrForm, ConnId, StrNo, Act, Line, Script, AnyHistory, numbers_from, connectors, ShowsHistories, PassShown, NoteShown, IsLater, note_of, unused_pass, CellShown, with_note, with_any_note, no_pass, pass_at, with_pass, BoardShown, IsStarted, AreClosed, cell_on, new_desk, note_in, AtWork, Takes, Acts, Turns, is_done_as, with_item, lines_by, no_items, Floor, Plays, PlaysLines, PlaysLine, PlaysAct, ClosesOne, ClosesAll, new_floor, no_worker, worker_of, told_by, heard_from, heard_from_last, heard_all, is_working, with_worker, last_after, worker_ready, worker_after_take, Hears, HearsThen, DoesLines, DepartsEach, Serves}
 use Rattle.std.proofs.lemmas.List.{length-set}
 use Rattle.plex_board.specs.PlexScript.declared.scripts.Act.TheVariants as act
 use Rattle.plex_board.specs.PlexScript.declared.transcripts.AgentEnd.TheVariants as ended
@@ -83,12 +83,7 @@ module _ (floor : Floor) (ordered : (c : ℕ) → IsOrdered (worker_of floor (co
   hears_all board by = hears_each by (range_with_len 0 (length board.cells)) (worker_of floor by)
 
   hears_ready : (form : StrForm) (line : Line) → HearsWell (worker_of floor line.by) (worker_ready form line floor)
-  hears_ready form line = by_count (is_counted form line.act) refl
-    where
-      by_count : (b : Bool) → is_counted form line.act ≡ b
-          → HearsWell (worker_of floor line.by) (worker_ready form line floor)
-      by_count true counted = rw counted (hears_last line.by line.on (worker_of floor line.by))
-      by_count false not = rw not (well_none (worker_of floor line.by))
+  hears_ready form line = grind (arith, hears_last, well_none)
 
 -- ---- one caller at work
 
@@ -147,17 +142,7 @@ module _ {L : Type 0} (board : BoardShown L) where
       → Turns cell.limit cell.form line (worker_ready cell.form line before) worker
       → after ≡ record (with_worker line.by worker before) { last = last_after cell.form line before }
       → Worked line.by (Turns cell.limit cell.form line) before after
-  turn_worked cell line before after orderly worker turns same =
-      record {
-        ready = worker_ready cell.form line before;
-        worker = worker;
-        hears = hears_ready before orderly.ordered cell.form line;
-        acted = turns;
-        keeps = turns_keep cell.limit cell.form line (worker_ready cell.form line before) worker turns;
-        workers = ap (λ (f : Floor). f.workers) same;
-        notes = λ x. subst (λ (t : List (Option NoteShown)). IsNoteOrdered (get_or t x None))
-            (sym (ap (λ (f : Floor). f.tray) same)) (orderly.notes x);
-      }
+  turn_worked cell line before after orderly worker turns same = grind (arith, hears_ready, turns_keep, IsNoteOrdered)
 
   -- what a line's caller does, where its work goes on
   act_worked : (cell : CellShown L) (line : Line) (done : Act) (before after : Floor) → line.act ≡ done
@@ -289,11 +274,7 @@ module _ {L : Type 0} (board : BoardShown L) where
       → PlaysLines board lines before after
       → IsOrderly board after
       × DoesLines board (lines_by (conn c) lines) (worker_of before (conn c)) (worker_of after (conn c))
-  lines_serve [] c before after callers orderly same = (
-    subst (IsOrderly board) (sym same) orderly,
-    subst (λ (f : Floor). Hears (worker_of before (conn c)) (worker_of f (conn c))) (sym same)
-        (hears_none (worker_of before (conn c))),
-  )
+  lines_serve [] c before after callers orderly same = grind (arith, conn, hears_none)
   lines_serve (line ∷ lines) c before after callers orderly (between, first, rest) =
       by_test (line.by.0 == c) refl
       (lines_serve lines c between after (All-tail (λ (l : Line). l.by.0 ≤ board.callers) line lines callers) goes.orderly
@@ -335,16 +316,7 @@ module _ {L : Type 0} (board : BoardShown L) where
       → after ≡ record (with_worker by worker before) { last = replicate (length board.cells) (Some by) }
       → Worked by Departures before after
   close_worked by before after orderly worker departs same =
-      record {
-        ready = heard_all board before by;
-        worker = worker;
-        hears = hears_all before orderly.ordered board by;
-        acted = departs;
-        keeps = departs_each_keep 0 board.cells (heard_all board before by) worker departs;
-        workers = ap (λ (f : Floor). f.workers) same;
-        notes = λ x. subst (λ (t : List (Option NoteShown)). IsNoteOrdered (get_or t x None))
-            (sym (ap (λ (f : Floor). f.tray) same)) (orderly.notes x);
-      }
+      grind (arith, hears_all, departs_each_keep, IsNoteOrdered)
 
   pub record CloseGoes (by c : ℕ) (before after : Floor) : Type 0 where
     pub orderly : IsOrderly board after
@@ -356,16 +328,7 @@ module _ {L : Type 0} (board : BoardShown L) where
   close_goes by c before after caller orderly closes = by_end (is_working before (conn by)) refl closes
     where
       stopped : is_working before (conn by) ≡ false → after ≡ before → CloseGoes by c before after
-      stopped rests same =
-          record {
-            orderly = subst (IsOrderly board) (sym same) orderly;
-            mine = λ is.
-                subst (λ (f : Floor). DepartsEach 0 board.cells (worker_of before (conn c)) (worker_of f (conn c)))
-                (sym same)
-                (departs_not 0 board.cells (worker_of before (conn c))
-                (ap (λ (n : ℕ). is_done_as (worker_of before (conn n)).shown.end) (sym (same_number by c is)) ∙ rests));
-            other = λ apart. ap (λ (f : Floor). worker_of f (conn c)) same;
-          }
+      stopped rests same = grind (arith, conn, departs_not, same_number)
 
       goes : Worked (conn by) Departures before after → CloseGoes by c before after
       goes worked =
@@ -489,13 +452,7 @@ module _ {L : Type 0} (board : BoardShown L) where
   pub plays_serve : (script : Script) (floor : Floor) (c : ℕ) → board.callers ≡ length script.connectors
       → AreCallers script.lines → Plays board script.lines (connectors script) floor → c ≤ board.callers
       → Serves board script.lines (idle c) (worker_of floor (conn c))
-  plays_serve script floor c callers lines plays inside =
-      record {
-        between = worker_of plays.between (conn c);
-        during = subst (λ (w : AtWork). DoesLines board (lines_by (conn c) script.lines) w
-            (worker_of plays.between (conn c))) (begins_as c inside) during.1;
-        closing = by_owner (c == 0) refl;
-      }
+  plays_serve script floor c callers lines plays inside = grind (arith, conn, during, begins_as, by_owner)
     where
       during : IsOrderly board plays.between
           × DoesLines board (lines_by (conn c) script.lines) (worker_of (new_floor board) (conn c))

@@ -80,21 +80,12 @@ module _ {L : Type 0} (board : BoardShown L) where
       (omega (arith, slice_get_within (crew_of board) c worker there, length-crew_of)) (omega arith)
 
   pub new_callers : AreCallersOf board (crew_of board)
-  new_callers = record {
-    callers = length-crew_of;
-    each = λ c worker there.
-        let here = crew_at c worker there in (
-          subst (λ (it : AtWork). IsDeskOf board it.desk) (sym here) (new_desk-of_board board c),
-          ap (λ (it : AtWork). it.desk.owner.0) here,
-        );
-  }
+  new_callers = grind (arith, length-crew_of, crew_at, new_desk-of_board)
 
   module _ (desks : List DeskShown) (new : desks ≡ map (new_desk board) (range_with_len 0 (board.callers + 1))) where
     -- the callers that come to new desks
     pub new_crew : (workers : List AtWork) → workers ≡ map idle_worker desks → workers ≡ crew_of board
-    new_crew workers idlers =
-        idlers ∙ ap (map idle_worker) new
-        ∙ map-map idle_worker (new_desk board) (range_with_len 0 (board.callers + 1))
+    new_crew workers idlers = grind (arith, map-map)
 
     -- the desks of a board where nobody has done anything
     pub new_desks-are : (back : List DeskShown) → back ≡ desks → AreDesksOf board back

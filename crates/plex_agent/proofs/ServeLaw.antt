@@ -1,6 +1,6 @@
 -- Callers at work at one board, whatever the schedule was: each works at its own desk, and what is known of the
 -- others is what the histories say.
-use Rattle.plex_agent.proofs.Imports.{◌≡◌, ◌≢◌, ℕ, ◌+◌, ◌≤◌, ◌<◌, inl, inr, List, [], length, map, Some, None, Option, refl, sym, ap, subst, ◌∙◌, arith, append-nil, slice_get, All, cases_lt, length-map, get_or_past, All-nil, slice_get_within, get_within, StrForm, ConnId, StrNo, AnyHistory, Script, AgentEnd, Shown, Transcript, AnyCall, any_calls, any_length, own_calls, calls_of, calls_on, length_of, length_on, AgreesWith, numbers_on, TestsTell, EndsRight, IsHistoryOf, ShowsHistories, CellShown, IsAnyTold, Rising, calls_rise, DeskShown, no_pass, pass_at, BoardShown, IsStarted, IsClosed, IsAccount, AreClosed, new_desk, AtWork, no_items, Serves, WorkEnds, ShowsWork}
+use Rattle.plex_agent.proofs.Imports.{◌≡◌, ◌≢◌, ℕ, ◌+◌, ◌≤◌, ◌<◌, inl, inr, List, [], length, map, Some, None, Option, refl, sym, ap, subst, ◌∙◌, arith, append-nil, slice_get, All, cases_lt, length-map, get_or_past, All-nil, slice_get_within, get_within, StrForm, ConnId, StrNo, AnyHistory, Script, Shown, Transcript, AnyCall, any_calls, any_length, own_calls, calls_of, calls_on, length_of, length_on, AgreesWith, numbers_on, TestsTell, EndsRight, IsHistoryOf, ShowsHistories, CellShown, IsAnyTold, Rising, calls_rise, DeskShown, no_pass, pass_at, BoardShown, IsStarted, IsClosed, IsAccount, AreClosed, new_desk, AtWork, no_items, Serves, WorkEnds, ShowsWork}
 use Rattle.plex_board.specs.PlexScript.declared.transcripts.AgentEnd.TheVariants as ended
 use Rattle.plex_agent.proofs.Passes.{Caller, IsWithin}
 use Rattle.plex_agent.proofs.Moves.{AreWithin, IsTranscript}
@@ -28,9 +28,7 @@ module _ {L : Type 0} (limit : ℕ) (script : Script) (board : BoardShown L) (hi
 
   form_there : (x : ℕ) (cell : CellShown L) → slice_get board.cells x ≡ Some cell
       → slice_get script.structures x ≡ Some cell.form
-  form_there x cell there =
-      ap (λ (forms : List StrForm). slice_get forms x) (sym forms_are)
-      ∙ get_map (λ (cell : CellShown L). cell.form) board.cells x cell there
+  form_there x cell there = grind (arith, get_map)
 
   -- the cell and the history of a structure
   cell_there : (x : ℕ) → x < length board.cells → (cell : CellShown L) × (slice_get board.cells x ≡ Some cell)
@@ -49,12 +47,7 @@ module _ {L : Type 0} (limit : ℕ) (script : Script) (board : BoardShown L) (hi
   closed_at on cell entries there kept = (closed.closed on cell entries there kept).0
 
   setting : IsSetting limit board script.structures histories
-  setting =
-      record {
-        limits = λ x cell there. (starts x cell there).limit_is;
-        forms_are = form_there;
-        rise = λ on. rise on (slice_get histories on.0) refl;
-      }
+  setting = grind (arith, starts, form_there, rise)
     where
       rise : (on : StrNo) (o : Option AnyHistory) → slice_get histories on.0 ≡ o → Rising 0 (calls_on histories on)
       rise on None none = rw none tt
@@ -113,13 +106,7 @@ module _ {L : Type 0} (limit : ℕ) (script : Script) (board : BoardShown L) (hi
             → Some cell.form ≡ Some form → Some entries' ≡ Some entries
             → All (IsAnyTold cell.form entries' (pass_at worker.desk on).owner) (pass_at worker.desk on).tests
             → All (IsAnyTold form entries conn) (pass_at worker.desk on).tests
-        by_names form entries cell entries' found kept tests =
-            let same_form : cell.form ≡ form = cc in
-            let same_entries : entries' ≡ entries = cc in
-            subst (λ (f : StrForm). All (IsAnyTold f entries conn) (pass_at worker.desk on).tests) same_form
-            (subst (λ (h : AnyHistory). All (IsAnyTold cell.form h conn) (pass_at worker.desk on).tests) same_entries
-            (subst (λ (c : ConnId). All (IsAnyTold cell.form entries' c) (pass_at worker.desk on).tests)
-            (owns on within) tests))
+        by_names form entries cell entries' found kept tests = grind (arith, owns)
 
     no_such_pass : (on : StrNo) → length board.cells ≤ on.0 → pass_at worker.desk on ≡ no_pass
     no_such_pass on past = get_or_past worker.desk.passes on.0 no_pass (omega (arith, past, long))
@@ -171,13 +158,7 @@ module _ {L : Type 0} (limit : ℕ) (script : Script) (board : BoardShown L) (hi
   -- where memory was found, the items follow the script, or stop at a full journal
   ends_right : (conn : ConnId) (shown : Transcript) → shown.end ≢ ended.NoMemory
       → ShowsWork limit script histories conn shown → EndsRight limit script histories conn shown.items shown.end
-  ends_right conn shown found work = by_end shown.end found work.ends
-    where
-      by_end : (end : AgentEnd) → end ≢ ended.NoMemory → WorkEnds limit script histories conn shown.items end
-          → EndsRight limit script histories conn shown.items end
-      by_end ended.Done found ends = ends
-      by_end (ended.JournalFull on) found ends = ends
-      by_end ended.NoMemory found ends = absurd (found refl)
+  ends_right conn shown found work = grind arith
 
   -- ---- all callers
 

@@ -1,5 +1,5 @@
 -- What has been done at one structure, by all callers, and what is known of it while a script runs.
-use Rattle.plex_agent.proofs.Imports.{◌≡◌, ◌≢◌, ℕ, ◌+◌, ◌≤◌, ◌<◌, ◌==◌, Bool, true, false, cond, List, [], ◌∷◌, ◌++◌, Option, None, Some, refl, sym, ap, subst, ◌∙◌, arith, append-nil, All, nat_tests, All-head, All-tail, All-push, All-weaker, filter-append, ConnId, StrNo, Told, AnyAsk, AnyCall, own_calls, Rising, AnyReply, PassShown, NoteShown, with_call}
+use Rattle.plex_agent.proofs.Imports.{◌≡◌, ◌≢◌, ℕ, ◌+◌, ◌≤◌, ◌<◌, ◌==◌, true, false, cond, List, [], ◌∷◌, ◌++◌, Option, None, Some, refl, sym, ap, ◌∙◌, arith, append-nil, All, nat_tests, All-head, All-tail, All-push, All-weaker, filter-append, ConnId, StrNo, Told, AnyAsk, AnyCall, own_calls, Rising, AnyReply, PassShown, NoteShown, with_call}
 
 abbrev pub conn : ℕ → ConnId
 conn c = record { 0 = c }
@@ -26,11 +26,7 @@ is_other m n apart = grind (arith, nat_tests)
 
 pub put_all : {X : Type 0} (P : ℕ → X → Type 0) (at : ℕ) (x : X) (xs : ℕ → X) → P at x
     → ((other : ℕ) → other ≢ at → P other (xs other)) → (other : ℕ) → P other (put at x xs other)
-put_all {X} P at x xs here rest other = go (other == at) refl
-  where
-    go : (b : Bool) → other == at ≡ b → P other (cond b x (xs other))
-    go true same = subst (λ n. P n x) (sym (same_number other at same)) here
-    go false apart = rest other (other_number other at apart)
+put_all {X} P at x xs here rest other = grind (arith, same_number, other_number)
 
 pub put_same : {X : Type 0} (at : ℕ) (x : X) (xs : ℕ → X) → put at x xs at ≡ x
 put_same at x xs = rw (is_same at) refl
@@ -54,16 +50,11 @@ rising_push low (first ∷ calls) call front least rising below above = (
 
 pub own_push : (calls : List AnyCall) (call : AnyCall) (c : ℕ) → call.by.0 ≡ c
     → own_calls (calls ++ call ∷ []) (conn c) ≡ own_calls calls (conn c) ++ call ∷ []
-own_push calls call c mine =
-    let same : call.by.0 == c ≡ true = rw mine (is_same c) in
-    filter-append (λ (call : AnyCall). call.by.0 == c) calls (call ∷ []) ∙ rw same refl
+own_push calls call c mine = grind (arith, is_same, filter-append)
 
 pub own_push_other : (calls : List AnyCall) (call : AnyCall) (c : ℕ) → call.by.0 ≢ c
     → own_calls (calls ++ call ∷ []) (conn c) ≡ own_calls calls (conn c)
-own_push_other calls call c apart =
-    let other : call.by.0 == c ≡ false = is_other call.by.0 c apart in
-    filter-append (λ (call : AnyCall). call.by.0 == c) calls (call ∷ [])
-    ∙ rw other (append-nil (own_calls calls (conn c)))
+own_push_other calls call c apart = grind (arith, is_other, filter-append, append-nil)
 
 -- ---- a structure
 
@@ -139,9 +130,7 @@ note_later front front' (Some note) later noted = (noted.0, omega (arith, noted.
 
 below_later : (front front' : ℕ) (calls : List AnyCall) → front ≤ front' → AreBelow front calls
     → AreBelow front' calls
-below_later front front' calls later below =
-    All-weaker (λ (call : AnyCall). call.no ≤ front) (λ (call : AnyCall). call.no ≤ front') (λ call is. omega arith)
-    calls below
+below_later front front' calls later below = grind (arith, All-weaker)
 
 pass_later : (events : List AnyCall) (front front' c : ℕ) (pass : PassShown) → front ≤ front'
     → IsKnownPass events front c pass
@@ -153,69 +142,17 @@ pub known_moved : (callers by : ℕ) (spot : Spot) (pass : PassShown) → by ≤
     → spot.front ≤ pass.known → pass.sure ≤ pass.known → pass.owner ≡ (spot.passes by).owner
     → pass.calls ≡ (spot.passes by).calls → IsKnown callers (moved by pass spot)
 known_moved callers by spot pass caller known later sure owner calls =
-    record {
-      pass = put_all (λ c pass'. c ≤ callers → IsKnownPass spot.events pass.known c pass') by pass spot.passes
-          (λ within. record {
-            owner = owner ∙ (known.pass by caller).owner;
-            sure = sure;
-            within = omega arith;
-            calls = calls ∙ (known.pass by caller).calls;
-          })
-          (λ other apart within.
-          pass_later spot.events spot.front pass.known other (spot.passes other) later (known.pass other within));
-      rising = known.rising;
-      below = below_later spot.front pass.known spot.events later known.below;
-      by = known.by;
-      lasts = (caller, ap (λ (p : PassShown). p.known) (put_same by pass spot.passes));
-      noted = note_later spot.front pass.known spot.note later known.noted;
-    }
+    grind (arith, put_all, pass_later, below_later, put_same, note_later)
 
 pub known_noticed : (callers by : ℕ) (spot : Spot) (pass : PassShown) → by ≤ callers → IsKnown callers spot
     → (spot.passes by).known ≤ pass.known → pass.known ≤ spot.front → pass.sure ≤ pass.known
     → pass.owner ≡ (spot.passes by).owner → pass.calls ≡ (spot.passes by).calls
     → IsKnown callers (noticed by pass spot)
-known_noticed callers by spot pass caller known later within sure owner calls =
-    record {
-      pass = put_all (λ c pass'. c ≤ callers → IsKnownPass spot.events spot.front c pass') by pass spot.passes
-          (λ inside. record {
-            owner = owner ∙ (known.pass by caller).owner;
-            sure = sure;
-            within = within;
-            calls = calls ∙ (known.pass by caller).calls;
-          })
-          (λ other apart inside. known.pass other inside);
-      rising = known.rising;
-      below = known.below;
-      by = known.by;
-      lasts = last_noticed spot.last known.lasts;
-      noted = known.noted;
-    }
-  where
-    last_noticed : (last : Option ConnId) → LastKnows callers spot last → LastKnows callers (noticed by pass spot)
-        last
-    last_noticed None is = is
-    last_noticed (Some c) is = (
-      is.0,
-      put_all (λ c pass'. (spot.passes c).known ≡ spot.front → pass'.known ≡ spot.front) by pass spot.passes
-          (λ before. omega (arith, before, later, within)) (λ other apart before. before) c.0 is.1,
-    )
+known_noticed callers by spot pass caller known later within sure owner calls = grind (arith, put_all)
 
 pub known_posted : (callers : ℕ) (spot : Spot) (note : NoteShown) → IsKnown callers spot → note.sure ≤ note.known
     → note.known ≤ spot.front → IsKnown callers (posted (Some note) spot)
-known_posted callers spot note known sure within =
-    record {
-      pass = known.pass;
-      rising = known.rising;
-      below = known.below;
-      by = known.by;
-      lasts = same_last spot.last known.lasts;
-      noted = (sure, within);
-    }
-  where
-    same_last : (last : Option ConnId) → LastKnows callers spot last → LastKnows callers (posted (Some note) spot)
-        last
-    same_last None is = is
-    same_last (Some c) is = is
+known_posted callers spot note known sure within = grind arith
 
 pub known_called : (callers by : ℕ) (spot : Spot) (asked : AnyAsk) (told : Told) (reply : AnyReply) → by ≤ callers
     → IsKnown callers spot

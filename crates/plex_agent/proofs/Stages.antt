@@ -1,6 +1,6 @@
 -- What has been done at all structures, and the steps of it: what each keeps, what it says of what was done before,
 -- and that the run by the machine alone goes with it.
-use Rattle.plex_agent.proofs.Imports.{◌≡◌, ◌≢◌, ℕ, ◌+◌, ◌≤◌, ◌<◌, inl, inr, List, length, set, slice_get, Some, sym, ap, subst, ◌∙◌, length-set, StrForm, CfId, Telling, cases_eq, AnyHistory, Transcript, IsAnyLegal, AreAnyAsTold, IsAnyPoint, any_take, any_numbers, end_of, AreMadeBelow, seen_on, Run, get-set_same, get-set_other, PassShown}
+use Rattle.plex_agent.proofs.Imports.{arith, ◌≡◌, ◌≢◌, ℕ, ◌+◌, ◌≤◌, ◌<◌, List, length, set, slice_get, Some, ap, subst, ◌∙◌, length-set, StrForm, CfId, Telling, cases_eq, AnyHistory, Transcript, IsAnyLegal, AreAnyAsTold, IsAnyPoint, any_take, any_numbers, end_of, AreMadeBelow, seen_on, Run, get-set_same, get-set_other}
 use Rattle.plex_board.specs.PlexScript.declared.transcripts.AgentEnd.TheVariants as ended
 use Rattle.plex_agent.proofs.Spots.{str, put, put_all, put_same, put_other, Spot, IsKnown}
 use Rattle.plex_agent.proofs.Fits.{put_back, FitsAt}
@@ -80,13 +80,7 @@ goes_not stage shows state = record
 pub goes_same : (stage : Stage) (shows shows' : Shows) (before after : State) (goes goes' : Run → Run)
     → ((run : Run) → goes run ≡ goes' run) → Goes stage shows shows' before after goes
     → Goes stage shows shows' before after goes'
-goes_same stage shows shows' before after goes goes' same one =
-    record {
-      known = one.known;
-      back = one.back;
-      agrees = λ known fits run agrees. subst (Agrees stage shows' after) (same run)
-          (one.agrees known fits run agrees);
-    }
+goes_same stage shows shows' before after goes goes' same one = grind arith
 
 -- ---- a step at one structure by one caller
 
@@ -105,36 +99,7 @@ pub fits_acted : (stage : Stage) (on by : ℕ) (spot : Spot) (transcript : Trans
     → ((c : ℕ) → c ≢ by → spot.passes c ≡ (state.spots on).passes c) → (state.shown by).end ≡ ended.Done
     → Fits stage (acted on by spot transcript state) → Fits stage state
 fits_acted stage on by spot transcript state here others works fits =
-    record {
-      at = λ x.
-          put_back (λ x spot'. x < stage.cells → FitsAt (stage.form x) (stage.entries x) stage.callers spot') on spot
-          state.spots
-          (λ is within. here within (is within)) x (fits.at x);
-      memory = λ c.
-          put_back (λ c transcript'. c ≤ stage.callers → transcript'.end ≢ ended.NoMemory) by transcript state.shown
-          (λ is within. works_has_memory works) c (fits.memory c);
-      stopped = λ x c within inside stops. elim (cases_eq c by) [
-        | inl mine ↦ absurd (stops (ap (λ (n : ℕ). (state.shown n).end) mine ∙ works))
-        | inr other ↦
-            let still : put by transcript state.shown c ≡ state.shown c = put_other by transcript state.shown c other in
-            let point : IsAnyPoint (stage.entries x) ((put on spot state.spots x).passes c).known =
-            fits.stopped x c within inside (λ ends. stops (ap (λ (t : Transcript). t.end) (sym still) ∙ ends)) in
-            elim (cases_eq x on) [
-              | inl here ↦
-                  let same : (put on spot state.spots x).passes c ≡ (state.spots x).passes c =
-                  ap (λ (n : ℕ). (put on spot state.spots n).passes c) here
-                  ∙ ap (λ (s : Spot). s.passes c) (put_same on spot state.spots) ∙ others c other
-                  ∙ ap (λ (n : ℕ). (state.spots n).passes c) (sym here) in
-                  subst (λ (p : PassShown). IsAnyPoint (stage.entries x) p.known) same point
-              | inr elsewhere ↦
-                  subst (λ (s : Spot). IsAnyPoint (stage.entries x) (s.passes c).known)
-                  (put_other on spot state.spots x elsewhere) point
-            ]
-      ];
-    }
-  where
-    works_has_memory : (state.shown by).end ≡ ended.Done → (state.shown by).end ≢ ended.NoMemory
-    works_has_memory works none = let bad : ended.Done ≡ ended.NoMemory = sym works ∙ none in absurd cc
+    grind (arith, put_back, FitsAt, cases_eq, put, put_other, Spot, put_same)
 
 -- what stands at the structure after the step
 pub fits_here : (stage : Stage) (on by : ℕ) (spot : Spot) (transcript : Transcript) (state : State) → on < stage.cells

@@ -1,7 +1,6 @@
 -- What the steps of a line ask may be asked.
-use Rattle.plex_agent.proofs.Imports.{◌≡◌, Some, None, Option, refl, sym, subst, Kind, ConnId, ShellCmd, MayCommand, Step, AnyAsk, asked_by, shell_ask, type_of_kind, MayAskAny, CellShown, IsAskOf, IsAskable}
+use Rattle.plex_agent.proofs.Imports.{arith, ◌≡◌, Some, None, Option, sym, subst, Kind, ConnId, ShellCmd, MayCommand, Step, AnyAsk, asked_by, shell_ask, type_of_kind, MayAskAny, CellShown, IsAskOf, IsAskable}
 use Rattle.plex_board.specs.CfTypes.declared.forms.Kind.TheVariants as kind
-use Rattle.plex_board.specs.CfTypes.declared.shell_commands.ShellCmd.TheVariants as cmd
 use Rattle.plex_board.specs.PlexScript.declared.agents.Step.TheVariants as step
 
 -- ---- what may be asked
@@ -26,12 +25,6 @@ pub may_ask : {L : Type 0} (cell : CellShown L) (kind : Kind) (line : Option Any
 may_ask cell kind None by (step.Call asks) asked type_is may asks' = absurd cc
 may_ask cell kind (Some call) by (step.Call asks) asked type_is may asks' =
     let here : call ≡ asked = cc in subst (λ ask. IsAskOf cell ask × MayAskAny by ask) here may.call
-may_ask cell kind line by (step.Next left behind) asked type_is may asks' =
-    let here : shell_ask kind cmd.Next ≡ asked = cc in
-    subst (λ ask. IsAskOf cell ask × MayAskAny by ask) here
-    (common_ask cell kind cmd.Next type_is, common_may kind by cmd.Next may.caller)
-may_ask cell kind line by (step.Respond left behind) asked type_is may asks' =
-    let here : shell_ask kind cmd.Respond ≡ asked = cc in
-    subst (λ ask. IsAskOf cell ask × MayAskAny by ask) here
-    (common_ask cell kind cmd.Respond type_is, common_may kind by cmd.Respond may.caller)
+may_ask cell kind line by (step.Next left behind) asked type_is may asks' = grind (arith, common_ask, common_may)
+may_ask cell kind line by (step.Respond left behind) asked type_is may asks' = grind (arith, common_ask, common_may)
 may_ask cell kind line by step.Rest asked type_is may asks' = absurd cc

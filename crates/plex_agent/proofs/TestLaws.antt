@@ -1,5 +1,5 @@
 -- What a caller's tests show of its structure's history, where they aren't behind what it had seen complete.
-use Rattle.plex_agent.proofs.Imports.{◌≡◌, ℕ, ◌+◌, ◌*◌, ◌^◌, ◌<◌, ◌≤◌, ◌==◌, ◌&&◌, nat_lt, inl, inr, Bool, true, false, List, take, map, refl, sym, ◌∙◌, arith, All, bit_at, ltb-true, ltb-false, StrForm, ConnId, Entry, Meaning, stands_after, cache_meaning, list_meaning, lock_meaning, AnyHistory, Sight, bit_in, sight, indices_of, IsTold, IsAnyTold, told_past, each_sight, bit_in_word, IsAnyPoint, any_take, any_stands, any_word, all_bits}
+use Rattle.plex_agent.proofs.Imports.{◌≡◌, ℕ, ◌+◌, ◌*◌, ◌^◌, ◌<◌, ◌≤◌, ◌==◌, ◌&&◌, nat_lt, inl, inr, Bool, List, take, map, ◌∙◌, arith, All, bit_at, ltb-true, ltb-false, StrForm, ConnId, Entry, Meaning, stands_after, cache_meaning, list_meaning, lock_meaning, AnyHistory, Sight, sight, indices_of, IsTold, IsAnyTold, told_past, each_sight, bit_in_word, IsAnyPoint, any_take, any_stands, any_word, all_bits}
 use Rattle.plex_board.specs.PlexScript.declared.asks.AnyHistory.TheVariants as history
 
 -- ---- one bit
@@ -29,19 +29,8 @@ bit_of form h conn index = nat_lt index form.vector && any_stands form h conn in
 bit_shown : (form : StrForm) (h : AnyHistory) (conn : ConnId) (word bits at sure k : ℕ)
     → IsAnyTold form h conn (sight bits at sure (32 * word + k)) → at ≤ sure → k < 32
     → bit_of form (any_take at h) conn (32 * word + k) ≡ (bit_at bits k == 1)
-bit_shown form h conn word bits at sure k told least small = by_place (nat_lt (32 * word + k) form.vector) refl
-  where
-    place : bit_in bits (32 * word + k) ≡ (bit_at bits k == 1)
-    place = bit_in_word bits word k small
-
-    by_place : (b : Bool) → nat_lt (32 * word + k) form.vector ≡ b
-        → bit_of form (any_take at h) conn (32 * word + k) ≡ (bit_at bits k == 1)
-    by_place true inside =
-        rw inside (sym (told_bit form h conn (sight bits at sure (32 * word + k)) told least
-        (ltb-true (32 * word + k) form.vector inside)) ∙ place)
-    by_place false past =
-        rw past (sym (told_past form h conn (sight bits at sure (32 * word + k)) told
-        (ltb-false (32 * word + k) form.vector past)) ∙ place)
+bit_shown form h conn word bits at sure k told least small =
+    grind (arith, bit_in_word, told_bit, ltb-true, told_past, ltb-false)
 
 -- the tests of a word show all of its bits
 pub told_word : (form : StrForm) (h : AnyHistory) (conn : ConnId) (word bits at sure : ℕ)

@@ -1,5 +1,5 @@
 -- A step at one structure, as the workers of a floor see it; hearings; and work that ends for want of memory.
-use Rattle.plex_agent.proofs.Imports.{◌≡◌, ◌≢◌, ℕ, ◌≤◌, ◌<◌, ◌==◌, Bool, true, false, List, length, set, Option, None, Some, refl, sym, ap, ◌∙◌, arith, length-set, slice_index_or, if◌then◌else◌, get_or-set_same, get_or-set_other, set-get_or, ConnId, Transcript, Run, PassShown, NoteShown, note_of, with_note, DeskShown, pass_at, with_pass, no_pass, note_in, AtWork, Floor, worker_of, heard_from, heard_from_last}
+use Rattle.plex_agent.proofs.Imports.{◌≡◌, ◌≢◌, ℕ, ◌≤◌, ◌<◌, ◌==◌, List, length, set, Option, None, Some, sym, ap, ◌∙◌, arith, length-set, slice_index_or, if◌then◌else◌, get_or-set_same, get_or-set_other, set-get_or, ConnId, Transcript, Run, PassShown, NoteShown, pass_at, with_pass, note_in, AtWork, Floor, worker_of, heard_from_last}
 use Rattle.plex_board.specs.PlexScript.declared.transcripts.AgentEnd.TheVariants as ended
 use Rattle.plex_agent.proofs.Spots.{conn, str, put, put_same, put_other, Spot, LastKnows, noticed, known_noticed}
 use Rattle.plex_agent.proofs.Fits.{fits_put, heard_as, heard_pass}
@@ -32,45 +32,25 @@ module _ (on by : ℕ) (pass : PassShown) (note : Option NoteShown) (last : Opti
   spot_there x apart = put_other on (changed by pass note last front (before.spots on)) before.spots x apart
 
   pub turned_others : OthersSame by before turned
-  turned_others = record {
-    passes = λ x c apart. by_place (λ x. (turned.spots x).passes c ≡ (before.spots x).passes c) on
-        (ap (λ (s : Spot). s.passes c) spot_here ∙ put_other by pass (before.spots on).passes c apart)
-        (λ x apart'. ap (λ (s : Spot). s.passes c) (spot_there x apart')) x;
-    shown = λ c apart. put_other by transcript before.shown c apart;
-  }
+  turned_others = grind (arith, by_place, Spot, spot_here, put_other, spot_there)
 
   pub turned_worker : (cells : ℕ) (worker worker' : AtWork) → on < cells → IsWorker cells by worker before
       → worker'.desk ≡ with_pass (str on) pass worker.desk → worker'.shown ≡ transcript
       → IsWorker cells by worker' turned
   turned_worker cells worker worker' within is desk shown =
-      record {
-        size = ap (λ (d : DeskShown). length d.passes) desk ∙ length-set worker.desk.passes on pass ∙ is.size;
-        passes = by_place (λ x. x < cells → pass_at worker'.desk (str x) ≡ (turned.spots x).passes by) on
-            (λ inside. ap (λ (d : DeskShown). pass_at d (str on)) desk
-            ∙ pass_same worker.desk on pass (omega (arith, is.size))
-            ∙ sym (put_same by pass (before.spots on).passes) ∙ sym (ap (λ (s : Spot). s.passes by) spot_here))
-            (λ x apart inside. ap (λ (d : DeskShown). pass_at d (str x)) desk ∙ pass_other worker.desk on x pass apart
-            ∙ is.passes x inside ∙ sym (ap (λ (s : Spot). s.passes by) (spot_there x apart)));
-        shown = shown ∙ sym (put_same by transcript before.shown);
-      }
+      grind (arith, length-set, by_place, str, pass_same, put_same, Spot, spot_here, pass_other, spot_there)
 
   pub turned_note : (cells : ℕ) (tray : List (Option NoteShown)) → length tray ≡ cells
       → ((x : ℕ) → x < cells → note_in tray (str x) ≡ (before.spots x).note)
       → (x : ℕ) → x < cells → note_in (set tray on note) (str x) ≡ (turned.spots x).note
   turned_note cells tray size was =
-      by_place (λ x. x < cells → note_in (set tray on note) (str x) ≡ (turned.spots x).note) on
-      (λ within. get_or-set_same tray on note None (omega (arith, size)) ∙ sym (ap (λ (s : Spot). s.note) spot_here))
-      (λ x apart within. get_or-set_other tray on x note None apart ∙ was x within
-      ∙ sym (ap (λ (s : Spot). s.note) (spot_there x apart)))
+      grind (arith, by_place, str, get_or-set_same, Spot, spot_here, get_or-set_other, spot_there)
 
   pub turned_last : (cells : ℕ) (lasts : List (Option ConnId)) → length lasts ≡ cells
       → ((x : ℕ) → x < cells → slice_index_or lasts x None ≡ (before.spots x).last)
       → (x : ℕ) → x < cells → slice_index_or (set lasts on last) x None ≡ (turned.spots x).last
   turned_last cells lasts size was =
-      by_place (λ x. x < cells → slice_index_or (set lasts on last) x None ≡ (turned.spots x).last) on
-      (λ within. get_or-set_same lasts on last None (omega (arith, size)) ∙ sym (ap (λ (s : Spot). s.last) spot_here))
-      (λ x apart within. get_or-set_other lasts on x last None apart ∙ was x within
-      ∙ sym (ap (λ (s : Spot). s.last) (spot_there x apart)))
+      grind (arith, by_place, get_or-set_same, Spot, spot_here, get_or-set_other, spot_there)
 
   -- the floor that such a turn leaves
   pub turned_floor : (stage : Stage) (worker : AtWork) (floor floor' : Floor) → on < stage.cells → by ≤ stage.callers
@@ -113,42 +93,7 @@ pub heard_desk : (stage : Stage) (on by : ℕ) (worker : AtWork) (floor : Floor)
     → heard_from_last floor (conn by) worker (str on)
     ≡ record worker { desk = with_pass (str on) (heard_pass by (state.spots on)) worker.desk }
 heard_desk stage on by worker floor state within is known size pass_is =
-    ap (λ (l : Option ConnId). heard_from floor (conn by) (str on) l worker) (is.last on within)
-    ∙ by_last (state.spots on).last (known on within).lasts
-  where
-    again : worker ≡ record worker { desk = with_pass (str on) ((state.spots on).passes by) worker.desk }
-    again =
-        ap (λ (t : List PassShown). (let it : AtWork = record worker { desk = record worker.desk { passes = t } } in
-        it))
-        (sym (set-get_or worker.desk.passes on no_pass))
-        ∙ ap (λ (p : PassShown). (let it : AtWork = record worker { desk = with_pass (str on) p worker.desk } in it))
-        pass_is
-
-    by_other : (other : ConnId) → other.0 ≤ stage.callers → (b : Bool) → other.0 == by ≡ b
-        → (if b then worker else record worker {
-          desk = with_pass (str on) (with_note (note_of (pass_at (worker_of floor other).desk (str on)))
-              (pass_at worker.desk (str on))) worker.desk;
-        })
-        ≡ record worker {
-          desk = with_pass (str on)
-              (if b then (state.spots on).passes by else with_note (note_of ((state.spots on).passes other.0))
-              ((state.spots on).passes by))
-              worker.desk;
-        }
-    by_other other inside true same = again
-    by_other other inside false apart =
-        ap (λ (p : PassShown). (let it : AtWork = record worker {
-          desk = with_pass (str on) (with_note (note_of p) (pass_at worker.desk (str on))) worker.desk;
-        } in it)) ((is.worker other.0 inside).passes on within)
-        ∙ ap (λ (p : PassShown). (let it : AtWork = record worker {
-          desk = with_pass (str on) (with_note (note_of ((state.spots on).passes other.0)) p) worker.desk;
-        } in it)) pass_is
-
-    by_last : (last : Option ConnId) → LastKnows stage.callers (state.spots on) last
-        → heard_from floor (conn by) (str on) last worker
-        ≡ record worker { desk = with_pass (str on) (heard_as by (state.spots on) last) worker.desk }
-    by_last None lasts = again
-    by_last (Some other) lasts = by_other other lasts.0 (other.0 == by) refl
+    grind (arith, conn, str, set-get_or, LastKnows, heard_as)
 
 -- the caller that heard
 pub heard_worker : (stage : Stage) (on by : ℕ) (floor : Floor) (state : State) → on < stage.cells → by ≤ stage.callers
@@ -178,19 +123,4 @@ pub goes_out : (stage : Stage) (shows shows' : Shows) (on by : ℕ) (goes : Run 
     → on < stage.cells → by ≤ stage.callers → (state.shown by).end ≡ ended.Done
     → Goes stage shows shows' state (out_state on by state) goes
 goes_out stage shows shows' on by goes state within caller works =
-    let spot : Spot = state.spots on in
-    let pass : PassShown = spot.passes by in
-    let transcript : Transcript = record (state.shown by) { end = ended.NoMemory } in
-    record {
-      known = λ known.
-          known_acted stage on by (noticed by pass spot) transcript state
-          (λ inside. known_noticed stage.callers by spot pass caller (known on within) (omega arith)
-          ((known on within).pass by caller).within ((known on within).pass by caller).sure refl refl) known;
-      back = λ known fits.
-          fits_acted stage on by (noticed by pass spot) transcript state
-          (λ inside fits. fits_put (stage.form on) (stage.entries on) stage.callers by spot pass spot.last spot.front
-          (omega arith) (λ told. told) fits)
-          (λ c apart. put_other by pass spot.passes c apart) works fits;
-      agrees = λ known fits run agrees.
-          absurd (fits.memory by caller (ap (λ (t : Transcript). t.end) (put_same by transcript state.shown)));
-    }
+    grind (arith, Spot, known_acted, noticed, known_noticed, fits_acted, fits_put, put_other, put_same)

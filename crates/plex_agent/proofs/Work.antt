@@ -1,5 +1,5 @@
 -- The whole work of a caller: its lines, and then its closing.
-use Rattle.plex_agent.proofs.Imports.{◌≡◌, ◌≢◌, ℕ, zero, suc, ◌+◌, ◌<◌, ◌==◌, inl, inr, Bool, true, false, List, [], ◌∷◌, ◌++◌, length, map, take, get_or, refl, sym, ap, subst, ◌∙◌, arith, append-nil, slice_get, MatchBool, length-map, nat_tests, StrForm, ConnId, AnyHistory, Script, AgentEnd, Shown, Transcript, AnyCall, own_calls, is_linked, calls_on, AgreesWith, ShowsLines, ShowsClosings, lines_of, numbers_on, PassShown, unused_pass, CellShown, no_pass, pass_at, BoardShown, AtWork, is_done_as, Serves, DepartsEach, Hears, WorkEnds, beginner}
+use Rattle.plex_agent.proofs.Imports.{◌≡◌, ◌≢◌, ℕ, zero, suc, ◌+◌, ◌<◌, ◌==◌, Bool, true, false, List, [], ◌∷◌, ◌++◌, length, map, get_or, refl, sym, ap, subst, ◌∙◌, arith, append-nil, slice_get, MatchBool, length-map, nat_tests, ConnId, AnyHistory, Script, AgentEnd, Shown, Transcript, AnyCall, own_calls, is_linked, calls_on, AgreesWith, ShowsLines, lines_of, numbers_on, PassShown, unused_pass, CellShown, no_pass, pass_at, BoardShown, AtWork, is_done_as, Serves, DepartsEach, Hears, WorkEnds, beginner}
 use Rattle.plex_board.specs.PlexScript.declared.transcripts.AgentEnd.TheVariants as ended
 use Rattle.plex_agent.proofs.Fronts.{take_front}
 use Rattle.plex_agent.proofs.ShownItems.{each_none}
@@ -66,9 +66,7 @@ module _ {L : Type 0} (limit : ℕ) (board : BoardShown L) (script : Script) (hi
     -- what the lines show, where the work went on
     lines_shown : between.shown.end ≡ ended.Done → AreWithin me between.desk
         → ShowsLines script.structures histories (lines_of script conn) played.part
-    lines_shown going within =
-        subst (LinesEnd limit board me setting (lines_of script conn) played.part) going
-        (played.shows (begins_owning board conn) within)
+    lines_shown going within = grind (arith, LinesEnd, begins_owning)
 
     operator_ends : between.shown.end ≡ ended.Done → Hears between worker → conn.0 == 0 ≡ true → Finished worker
     operator_ends going later operator =
@@ -107,42 +105,8 @@ module _ {L : Type 0} (limit : ℕ) (board : BoardShown L) (script : Script) (hi
             → LinesEnd limit board me setting (lines_of script conn) played.part end
             → WorkEnds limit script histories conn played.part end
         by_end ended.Done stopped agrees ends = absurd cc
-        by_end (ended.JournalFull on) stopped agrees ends =
-            record {
-              at = inl (record {
-                before = ends.before;
-                line = ends.line;
-                later = ends.later;
-                lines = ends.split;
-                there = ends.there;
-                form = ends.form;
-                known = ends.known;
-                during = ends.during;
-                last = ends.last;
-                shows = ends.shows;
-                played = ends.played;
-                stopped = ends.stopped;
-              });
-              agrees = agrees;
-              full = ends.full;
-            }
-        by_end ended.NoMemory stopped agrees ends =
-            record {
-              at = inl (record {
-                before = ends.before;
-                line = ends.line;
-                later = ends.later;
-                lines = ends.split;
-                form = ends.form;
-                known = ends.known;
-                during = ends.during;
-                last = ends.last;
-                shows = ends.shows;
-                played = ends.played;
-                broken = ends.broken;
-              });
-              agrees = agrees;
-            }
+        by_end (ended.JournalFull on) stopped agrees ends = grind arith
+        by_end ended.NoMemory stopped agrees ends = grind arith
 
     -- a connector's departures
     module _ (going : between.shown.end ≡ ended.Done) (connector : conn.0 == 0 ≡ false)
@@ -162,69 +126,16 @@ module _ {L : Type 0} (limit : ℕ) (board : BoardShown L) (script : Script) (hi
           (take_front (length (numbers_on on played.part)) pass.calls (own_calls (calls_on histories on) conn) count
           (within on).calls)
 
-      abbrev Departures : List StrForm → Type 0
-      Departures forms = ShowsClosings histories conn 0 forms played.part departed.part
-
       not_operator : conn.0 ≢ 0
-      not_operator = λ is. absurd (by_number is)
-        where
-          by_number : conn.0 ≡ 0 → ⊥
-          by_number is = grind (arith, nat_tests)
+      not_operator = grind (arith, nat_tests)
 
       by_end : (end : AgentEnd) → ShowsLines script.structures histories (lines_of script conn) played.part
           → ClosingEnd limit board me setting played.part 0 board.cells departed.part end
           → AgreesWith histories conn (played.part ++ departed.part)
           → WorkEnds limit script histories conn (played.part ++ departed.part) end
-      by_end ended.Done lines closing agrees =
-          record {
-            during = played.part;
-            after = departed.part;
-            shows = refl;
-            lines = lines;
-            closings = rw connector
-                (subst Departures forms_are closing);
-            agrees = agrees;
-          }
-      by_end (ended.JournalFull on) lines closing agrees =
-          let past : closing.past ≡ on.0 = omega (arith, closing.at) in
-          let long : length board.cells ≡ length script.structures =
-          sym (length-map board.cells (λ (cell : CellShown L). cell.form)) ∙ ap length forms_are in
-          record {
-            at = inr (record {
-              during = played.part;
-              after = departed.part;
-              shows = refl;
-              lines = lines;
-              connector = not_operator;
-              within = omega (arith, past, closing.within, long);
-              closings = subst (λ (n : ℕ). Departures (take n script.structures)) past
-                  (subst (λ (forms : List StrForm). Departures (take closing.past forms)) forms_are
-                  closing.closings);
-              linked = closing.linked;
-            });
-            agrees = agrees;
-            full = closing.full;
-          }
-      by_end ended.NoMemory lines closing agrees =
-          let past : closing.past ≡ closing.on.0 = omega (arith, closing.at) in
-          let long : length board.cells ≡ length script.structures =
-          sym (length-map board.cells (λ (cell : CellShown L). cell.form)) ∙ ap length forms_are in
-          record {
-            at = inr (record {
-              during = played.part;
-              after = departed.part;
-              shows = refl;
-              lines = lines;
-              connector = not_operator;
-              on = closing.on;
-              within = omega (arith, past, closing.within, long);
-              closings = subst (λ (n : ℕ). Departures (take n script.structures)) past
-                  (subst (λ (forms : List StrForm). Departures (take closing.past forms)) forms_are
-                  closing.closings);
-              linked = closing.linked;
-            });
-            agrees = agrees;
-          }
+      by_end ended.Done lines closing agrees = grind arith
+      by_end (ended.JournalFull on) lines closing agrees = grind (arith, length-map, not_operator)
+      by_end ended.NoMemory lines closing agrees = grind (arith, length-map, not_operator)
 
       connector_ends : Finished worker
       connector_ends =

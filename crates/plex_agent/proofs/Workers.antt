@@ -1,5 +1,5 @@
 -- The callers at work at a board, and what has been done at its structures.
-use Rattle.plex_agent.proofs.Imports.{◌≡◌, ◌≢◌, ℕ, ◌+◌, ◌≤◌, ◌<◌, ◌==◌, Bool, true, false, List, ◌++◌, length, map, set, get_or, Option, None, Some, refl, sym, ap, subst, ◌∙◌, arith, length-set, slice_index_or, get_or-set_same, get_or-set_other, set-set, Kind, Step, AnyAsk, AgentEnd, Shown, Transcript, most_asks, all_steps_made, PassShown, IsLater, DeskShown, pass_at, with_pass, no_pass, note_in, AtWork, Asks, EndsAt, Halts, Steps, call_item, Floor, worker_of, no_worker}
+use Rattle.plex_agent.proofs.Imports.{◌≡◌, ◌≢◌, ℕ, ◌+◌, ◌≤◌, ◌<◌, ◌==◌, List, ◌++◌, length, map, set, Option, None, Some, ap, subst, ◌∙◌, arith, length-set, slice_index_or, get_or-set_same, get_or-set_other, set-set, Kind, Step, AnyAsk, AgentEnd, Shown, Transcript, most_asks, all_steps_made, PassShown, DeskShown, pass_at, with_pass, no_pass, note_in, AtWork, Asks, EndsAt, Halts, Steps, call_item, Floor, worker_of}
 use Rattle.plex_board.specs.PlexScript.declared.agents.Step.TheVariants as step
 use Rattle.plex_board.specs.PlexScript.declared.transcripts.AgentEnd.TheVariants as ended
 use Rattle.plex_agent.proofs.Spots.{conn, str, same_number, other_number, Spot}
@@ -19,9 +19,7 @@ pass_other desk on x pass apart = get_or-set_other desk.passes on x pass no_pass
 
 pub pass_again : (desk : DeskShown) (x : ℕ) (pass pass' : PassShown)
     → with_pass (str x) pass' (with_pass (str x) pass desk) ≡ with_pass (str x) pass' desk
-pass_again desk x pass pass' =
-    ap (λ (t : List PassShown). (let it : DeskShown = record { owner = desk.owner; passes = t } in it))
-    (set-set desk.passes x pass pass')
+pass_again desk x pass pass' = grind (arith, set-set)
 
 -- ---- a worker
 
@@ -45,53 +43,28 @@ LastsSame before after = (x : ℕ) → (after.spots x).last ≡ (before.spots x)
 
 pub others_then : (by : ℕ) (first second third : State) → OthersSame by first second → OthersSame by second third
     → OthersSame by first third
-others_then by first second third one two =
-    record {
-      passes = λ x c apart. two.passes x c apart ∙ one.passes x c apart;
-      shown = λ c apart. two.shown c apart ∙ one.shown c apart;
-    }
+others_then by first second third one two = grind arith
 
 pub by_place : (P : ℕ → Type 0) (on : ℕ) → P on → ((x : ℕ) → x ≢ on → P x) → (x : ℕ) → P x
-by_place P on here rest x = go (x == on) refl
-  where
-    go : (b : Bool) → x == on ≡ b → P x
-    go true same = subst P (sym (same_number x on same)) here
-    go false apart = rest x (other_number x on apart)
+by_place P on here rest x = grind (arith, same_number, other_number)
 
 module _ (on by : ℕ) (pass : PassShown) (transcript : Transcript) (before after : State)
     (moved : IsMoved on by pass transcript before after) where
   pub moved_others : OthersSame by before after
-  moved_others = record {
-    passes = λ x c apart. by_place (λ x. (after.spots x).passes c ≡ (before.spots x).passes c) on
-        (moved.others c apart)
-        (λ x apart'. ap (λ (s : Spot). s.passes c) (moved.elsewhere x apart')) x;
-    shown = moved.others_shown;
-  }
+  moved_others = grind (arith, by_place, Spot)
 
   pub moved_notes : NotesSame before after
-  moved_notes =
-      by_place (λ x. (after.spots x).note ≡ (before.spots x).note) on moved.note
-      (λ x apart. ap (λ (s : Spot). s.note) (moved.elsewhere x apart))
+  moved_notes = grind (arith, by_place, Spot)
 
   pub moved_lasts : LastsSame before after
-  moved_lasts =
-      by_place (λ x. (after.spots x).last ≡ (before.spots x).last) on moved.last
-      (λ x apart. ap (λ (s : Spot). s.last) (moved.elsewhere x apart))
+  moved_lasts = grind (arith, by_place, Spot)
 
   -- the worker whose pass and transcript became these
   pub moved_worker : (cells : ℕ) (worker worker' : AtWork) → on < cells → IsWorker cells by worker before
       → worker'.desk ≡ with_pass (str on) pass worker.desk → worker'.shown ≡ transcript
       → IsWorker cells by worker' after
   moved_worker cells worker worker' within is desk shown =
-      record {
-        size = ap (λ (d : DeskShown). length d.passes) desk ∙ length-set worker.desk.passes on pass ∙ is.size;
-        passes = by_place (λ x. x < cells → pass_at worker'.desk (str x) ≡ (after.spots x).passes by) on
-            (λ inside. ap (λ (d : DeskShown). pass_at d (str on)) desk
-            ∙ pass_same worker.desk on pass (omega (arith, is.size)) ∙ sym moved.here)
-            (λ x apart inside. ap (λ (d : DeskShown). pass_at d (str x)) desk ∙ pass_other worker.desk on x pass apart
-            ∙ is.passes x inside ∙ sym (ap (λ (s : Spot). s.passes by) (moved.elsewhere x apart)));
-        shown = shown ∙ sym moved.shown;
-      }
+      grind (arith, length-set, by_place, str, pass_same, pass_other, Spot)
 
 -- ---- the calls of a line
 
@@ -106,29 +79,14 @@ halts_so : (kind : Kind) (line : Option AnyAsk) (on : ℕ) (last : Step) (pass :
     → on < length desk.passes → Halts kind line (str on) last (with_pass (str on) pass desk) after
     → IsHalted kind line last pass (pass_at after (str on))
     × (after ≡ with_pass (str on) (pass_at after (str on)) desk)
-halts_so kind line on last pass desk after within halts = (
-  record {
-    asked = halts.asked;
-    next = halts.next;
-    later = subst (λ (p : PassShown). IsLater p (pass_at after (str on))) (pass_same desk on pass within)
-        halts.later.later;
-    ordered = halts.ordered;
-  },
-  halts.later.rest ∙ pass_again desk on pass (pass_at after (str on)),
-)
+halts_so kind line on last pass desk after within halts = grind (arith, str, pass_same, pass_again)
 
 ends_so : (limit : ℕ) (kind : Kind) (line : Option AnyAsk) (on : ℕ) (last : Step) (pass : PassShown)
     (desk after : DeskShown)
     (end : AgentEnd) → on < length desk.passes
     → EndsAt limit kind line (str on) last (with_pass (str on) pass desk) after end
     → EndsSo limit kind line on last pass desk after end
-ends_so limit kind line on last pass desk after ended.Done within ends =
-    let same : pass_at after (str on) ≡ pass = ap (λ (d : DeskShown). pass_at d (str on)) ends.1
-    ∙ pass_same desk on pass within in
-    record {
-      ends = (ends.0, same);
-      desk_is = ends.1 ∙ ap (λ (p : PassShown). with_pass (str on) p desk) (sym same);
-    }
+ends_so limit kind line on last pass desk after ended.Done within ends = grind (arith, str, pass_same)
 ends_so limit kind line on last pass desk after (ended.JournalFull place) within ends =
     let halts = halts_so kind line on last pass desk after within ends.1 in
     record { ends = (ends.0, halts.0, ends.2); desk_is = halts.1 }
@@ -200,27 +158,4 @@ pub floor_after : (stage : Stage) (by : ℕ) (worker : AtWork) (floor floor' : F
     → ((x : ℕ) → x < stage.cells → slice_index_or floor'.last x None ≡ (after.spots x).last)
     → IsWorker stage.cells by worker after → OthersSame by before after → IsFloor stage floor' after
 floor_after stage by worker floor floor' before after caller is workers tray lasts note last mine others =
-    record {
-      workers = ap length workers ∙ length-set floor.workers by worker ∙ is.workers;
-      tray = tray;
-      lasts = lasts;
-      worker = by_place (λ c. c ≤ stage.callers → IsWorker stage.cells c (worker_of floor' (conn c)) after) by
-          (λ within.
-          let here : worker_of floor' (conn by) ≡ worker =
-          ap (λ (t : List AtWork). get_or t by no_worker) workers
-          ∙ get_or-set_same floor.workers by worker no_worker (omega (arith, is.workers)) in
-          subst (λ (w : AtWork). IsWorker stage.cells by w after) (sym here) mine)
-          (λ c apart within.
-          let there : worker_of floor' (conn c) ≡ worker_of floor (conn c) =
-          ap (λ (t : List AtWork). get_or t c no_worker) workers
-          ∙ get_or-set_other floor.workers by c worker no_worker apart in
-          let was : IsWorker stage.cells c (worker_of floor (conn c)) before = is.worker c within in
-          subst (λ (w : AtWork). IsWorker stage.cells c w after) (sym there)
-          (record {
-            size = was.size;
-            passes = λ x inside. was.passes x inside ∙ sym (others.passes x c apart);
-            shown = was.shown ∙ sym (others.shown c apart);
-          }));
-      note = note;
-      last = last;
-    }
+    grind (arith, length-set, by_place, conn, get_or-set_same, get_or-set_other)

@@ -1,5 +1,5 @@
 -- What is known when a board is closed.
-use Rattle.plex_board.proofs.Imports.{◌≡◌, ℕ, ◌+◌, List, length, map, sym, ap, subst, ◌∙◌, arith, All, Option, range_with_len, length-map, length-range_with_len, AnyHistory, DeskShown, no_pass, BoardShown, IsDeskOf, AreClosed, AreEachAsked, AreLinksAsked, Rest, HomeShown, homes_shown, AllFit, homes_gathered, AreHomes, AreEmpty, AreEnded, IsReady}
+use Rattle.plex_board.proofs.Imports.{◌≡◌, ℕ, ◌+◌, List, length, map, sym, subst, ◌∙◌, arith, All, Option, range_with_len, length-map, length-range_with_len, AnyHistory, DeskShown, no_pass, BoardShown, IsDeskOf, AreClosed, AreEachAsked, AreLinksAsked, Rest, HomeShown, homes_shown, AllFit, homes_gathered, AreHomes, AreEmpty, AreEnded, IsReady}
 use Rattle.plex_board.proofs.HomeLaws.{desks-fit, homes-gathered, accounts-at, count-of-homes, count-of-histories}
 use Rattle.plex_board.proofs.OpenLaws.{homes-fewer}
 
@@ -8,11 +8,7 @@ module _ {L : Type 0} (board : BoardShown L) (desks : List DeskShown) (homes : L
     (owners : map (λ (desk : DeskShown). desk.owner.0) desks ≡ range_with_len 0 (board.callers + 1))
     (are : AreHomes (board.callers + 1) board.cells homes) where
   roomy : AreHomes (length desks) board.cells homes
-  roomy =
-      let count : length desks ≡ board.callers + 1 =
-      sym (length-map desks (λ (desk : DeskShown). desk.owner.0)) ∙ ap length owners
-      ∙ length-range_with_len 0 (board.callers + 1) in
-      homes-fewer (board.callers + 1) (length desks) board.cells homes (omega (arith, count)) are
+  roomy = grind (arith, length-map, length-range_with_len, homes-fewer)
 
   pub close-fits : AllFit desks homes
   close-fits = desks-fit board.cells desks homes roomy of
@@ -35,10 +31,7 @@ module _ {L : Type 0} (board : BoardShown L) (desks : List DeskShown) (homes : L
 module _ {L : Type 0} (board seen : BoardShown L) (rest key : Rest L) (same : board ≡ seen)
     (is : IsReady seen.cells seen.callers key) (kept : rest ≡ key) where
   pub ready-homes : AreHomes (board.callers + 1) board.cells (homes_shown rest.homes.items)
-  ready-homes =
-      subst (λ (r : Rest L). AreHomes (board.callers + 1) board.cells (homes_shown r.homes.items)) (sym kept)
-      (subst (λ (b : BoardShown L). AreHomes (b.callers + 1) b.cells (homes_shown key.homes.items)) (sym same)
-      is.homes)
+  ready-homes = grind arith
 
   pub ready-empty : AreEmpty (homes_shown rest.homes.items)
   ready-empty = subst (λ (r : Rest L). AreEmpty (homes_shown r.homes.items)) (sym kept) is.empty
@@ -50,16 +43,11 @@ homes-seen {L} board seen homes after same are is =
 
 pub ended-seen : {L : Type 0} (board seen : BoardShown L) (homes after : List HomeShown) (histories : List AnyHistory)
     → board ≡ seen → after ≡ homes → AreEnded seen.cells after histories → AreEnded board.cells homes histories
-ended-seen {L} board seen homes after histories same is are =
-    subst (λ (hs : List HomeShown). AreEnded board.cells hs histories) is
-    (subst (λ (b : BoardShown L). AreEnded b.cells after histories) (sym same) are)
+ended-seen {L} board seen homes after histories same is are = grind arith
 
 pub links-seen : {L : Type 0} (asks : L → Option ℕ) (downs : L → Option (List ℕ)) (faults : L → ℕ)
     (board seen : BoardShown L) (rest key : Rest L) (histories : List AnyHistory) (links : List L) → board ≡ seen
     → rest ≡ key → seen.spare ≡ key.spare.items
     → AreEachAsked asks downs faults seen.cells histories rest.spare.items links
     → AreLinksAsked asks downs faults board histories links
-links-seen {L} asks downs faults board seen rest key histories links same kept spare are =
-    subst (λ (b : BoardShown L). AreEachAsked asks downs faults b.cells histories b.spare links) (sym same)
-    (subst (λ (ls : List L). AreEachAsked asks downs faults seen.cells histories ls links) (sym spare)
-    (subst (λ (r : Rest L). AreEachAsked asks downs faults seen.cells histories r.spare.items links) kept are))
+links-seen {L} asks downs faults board seen rest key histories links same kept spare are = grind arith

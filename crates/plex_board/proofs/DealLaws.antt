@@ -1,5 +1,5 @@
 -- What is known where the last pass is dealt to its desk.
-use Rattle.plex_board.proofs.Imports.{◌≡◌, ℕ, ◌+◌, ◌-◌, ◌<◌, ◌≤◌, List, [], ◌∷◌, ◌++◌, length, get_or, set, get_or-set_other, map, sym, ap, subst, ◌∙◌, arith, All, Some, range_with_len, length-append, map-range_with_len_more, All-pop, PassShown, DeskShown, each_with, bare_desk, desk_with}
+use Rattle.plex_board.proofs.Imports.{◌≡◌, ℕ, ◌+◌, ◌-◌, ◌<◌, ◌≤◌, List, [], ◌∷◌, ◌++◌, length, get_or, set, get_or-set_other, map, sym, ap, ◌∙◌, arith, All, Some, range_with_len, length-append, map-range_with_len_more, All-pop, PassShown, DeskShown, each_with, bare_desk, desk_with}
 use Rattle.plex_board.proofs.RowLaws.{each_with-last}
 
 module _ (all front : List PassShown) (pass : PassShown) (owner : ℕ) (all_is : all ≡ front ++ pass ∷ [])
@@ -34,10 +34,7 @@ module _ (all front : List PassShown) (pass : PassShown) (owner : ℕ) (all_is :
 pub few-left : (desks : List DeskShown) (owner most : ℕ) (after : DeskShown)
     → ((k : ℕ) (desk : DeskShown) → k < owner → length (get_or desks k desk).passes < most)
     → (k : ℕ) (desk : DeskShown) → k < owner - 1 → length (get_or (set desks (owner - 1) after) k desk).passes < most
-few-left desks owner most after few k d below =
-    let same : get_or (set desks (owner - 1) after) k d ≡ get_or desks k d =
-    get_or-set_other desks (owner - 1) k after d (λ e. omega (arith, e, below)) in
-    subst (λ (desk : DeskShown). length desk.passes < most) (sym same) (few k d (omega (arith, below)))
+few-left desks owner most after few k d below = grind (arith, get_or-set_other)
 
 -- one desk more
 pub desk-more : (before after : List DeskShown) (n : ℕ) (desk : DeskShown) → after ≡ before ++ desk ∷ []

@@ -10,18 +10,14 @@ pass_at-with_pass_same desk on pass below = get_or-set_same desk.passes on.0 pas
 
 -- the desk with the pass that it has
 pub with_pass-pass_at : (desk : DeskShown) (on : StrNo) → with_pass on (pass_at desk on) desk ≡ desk
-with_pass-pass_at desk on =
-    ap (λ (passes : List PassShown). let d : DeskShown = record desk { passes = passes } in d)
-    (set-get_or desk.passes on.0 no_pass)
+with_pass-pass_at desk on = grind (arith, set-get_or)
 
 -- ---- what a desk of a board has
 
 module _ {L : Type 0} (board : BoardShown L) where
   -- as many passes as the board has structures
   pub desk-length : (desk : DeskShown) → IsDeskOf board desk → length desk.passes ≡ length board.cells
-  desk-length desk of =
-      sym (length-map desk.passes fixed_of) ∙ ap length of
-      ∙ length-map board.cells (λ (cell : CellShown L). fixed_at cell desk.owner)
+  desk-length desk of = grind (arith, length-map)
 
   -- a pass of the cell, and of the desk's owner
   pub desk-pass : (desk : DeskShown) (on : StrNo) (cell : CellShown L) → IsDeskOf board desk
@@ -38,9 +34,7 @@ module _ {L : Type 0} (board : BoardShown L) where
 
   pub desk-pass_is : (desk : DeskShown) (on : StrNo) (cell : CellShown L) → IsDeskOf board desk
       → cell_on board on ≡ Some cell → IsPassOf cell (pass_at desk on)
-  desk-pass_is desk on cell of at =
-      let same : fixed_of (pass_at desk on) ≡ fixed_at cell desk.owner = desk-pass desk on cell of at in
-      (ap (λ (fixed : Fixed). fixed.str_type) same, ap (λ (fixed : Fixed). fixed.words) same)
+  desk-pass_is desk on cell of at = grind (arith, desk-pass)
 
   pub desk-pass_owner : (desk : DeskShown) (on : StrNo) (cell : CellShown L) → IsDeskOf board desk
       → cell_on board on ≡ Some cell → (pass_at desk on).owner ≡ desk.owner

@@ -19,21 +19,12 @@ module _ {L : Type 0} where
       → All (λ (pass : PassShown). All (IsAnyTold cell.form entries pass.owner) pass.tests) passes
       → All (λ (pass : PassShown). IsAnyPoint entries pass.known × (pass.known ≤ any_length entries)) passes
       → All (IsAccount cell entries) passes
-  all-accounts cell entries passes mine replies tests known k d below =
-      record {
-        mine = mine k d below;
-        replies = replies k d below;
-        tests = tests k d below;
-        point = (known k d below).0;
-        known = (known k d below).1;
-      }
+  all-accounts cell entries passes mine replies tests known k d below = grind arith
 
   module _ (left rest : List (CellShown L)) (station : CellShown L) (at later : List AnyPasses) (home : AnyPasses)
       (left_is : left ≡ station ∷ rest) (at_is : at ≡ home ∷ later) where
     both : AreHomes 0 left (homes_shown at) → AreHomes 0 (station ∷ rest) (homes_shown (home ∷ later))
-    both are =
-        subst (λ (hs : List AnyPasses). AreHomes 0 (station ∷ rest) (homes_shown hs)) at_is
-        (subst (λ (cs : List (CellShown L)). AreHomes 0 cs (homes_shown at)) left_is are)
+    both are = grind arith
 
     pub end-homes : AreHomes 0 left (homes_shown at) → AreHomes 0 rest (homes_shown later)
     end-homes are = (both are).1
@@ -45,9 +36,7 @@ module _ {L : Type 0} where
         → (r : List AnyHistory) → AreEnded rest (homes_shown later) r → AreEnded cells homes (after ++ r)
     end-ended cells homes histories after entries after_is so closed account r are =
         let so' : (q : List AnyHistory) → AreEnded (station ∷ rest) (homes_shown (home ∷ later)) q
-        → AreEnded cells homes (histories ++ q) =
-        λ q ended. so q (subst (λ (hs : List AnyPasses). AreEnded left (homes_shown hs) q) (sym at_is)
-        (subst (λ (cs : List (CellShown L)). AreEnded cs (homes_shown (home ∷ later)) q) (sym left_is) ended)) in
+        → AreEnded cells homes (histories ++ q) = grind arith in
         subst (λ (hs : List AnyHistory). AreEnded cells homes (hs ++ r)) (sym after_is)
         (ended-step cells rest homes (homes_shown later) histories station (home_shown home) entries
         so' closed account r are)

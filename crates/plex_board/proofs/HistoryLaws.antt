@@ -1,5 +1,5 @@
 -- What a history of whatever kind says of its calls: how many there are, and that their numbers rise.
-use Rattle.plex_board.proofs.Imports.{◌≡◌, ℕ, suc, ◌*◌, ◌<◌, ◌≤◌, ◌==◌, Bool, true, false, List, [], ◌∷◌, length, map, refl, sym, ap, subst, ◌∙◌, arith, suc-le-suc, zero-lt-suc, All, eq-eqb, ne_eqb, false≢true, StrForm, Kind, ConnId, Ask, Entry, Meaning, Call, calls, IsLegal, RisesTo, numbers_rise, three_each, cache_meaning, list_meaning, lock_meaning, AnyAsk, AnyHistory, AnyCall, any_call, any_calls, any_length, own_calls, IsOfKind, IsAnyLegal, Rising, any_take, no_calls}
+use Rattle.plex_board.proofs.Imports.{◌≡◌, ℕ, suc, ◌*◌, ◌<◌, ◌≤◌, ◌==◌, Bool, true, false, List, [], ◌∷◌, length, map, refl, sym, ap, ◌∙◌, arith, suc-le-suc, zero-lt-suc, All, eq-eqb, ne_eqb, false≢true, StrForm, Kind, ConnId, Ask, Entry, Meaning, Call, calls, IsLegal, RisesTo, numbers_rise, three_each, cache_meaning, list_meaning, lock_meaning, AnyAsk, AnyHistory, AnyCall, any_call, any_calls, any_length, own_calls, IsOfKind, IsAnyLegal, Rising, any_take, no_calls}
 use Rattle.std.proofs.lemmas.List as lists
 use Rattle.plex_script.specs.CfTypes.declared.forms.Kind.TheVariants as kind
 use Rattle.plex_script.specs.declared.scripts.AnyAsk.TheVariants as ask
@@ -85,13 +85,8 @@ first_above low (call ∷ calls) conn first more rise e =
   where
     by_caller : (b : Bool) → call.by.0 == conn.0 ≡ b → (own_calls calls conn ≡ first ∷ more → call.no < first.no)
         → low < first.no
-    by_caller true same above =
-        let both : call ∷ own_calls calls conn ≡ first ∷ more = sym (own_same call calls conn same) ∙ e in
-        let is : call ≡ first = cc in
-        subst (λ (it : AnyCall). low < it.no) is rise.0
-    by_caller false other above =
-        let later : call.no < first.no = above (sym (own_other call calls conn other) ∙ e) in
-        omega (arith, rise.0, later)
+    by_caller true same above = grind (arith, own_same)
+    by_caller false other above = grind (arith, own_other)
 
 tail_same : (x y : AnyCall) (xs ys : List AnyCall) → x ∷ xs ≡ y ∷ ys → (x ≡ y) × (xs ≡ ys)
 tail_same x y xs ys e = (cc, cc)
@@ -99,39 +94,14 @@ tail_same x y xs ys e = (cc, cc)
 -- where both begin with the same call, what follows has the same calls of each caller
 rest_same : (call : AnyCall) (calls others : List AnyCall) (conn : ConnId)
     → own_calls (call ∷ calls) conn ≡ own_calls (call ∷ others) conn → own_calls calls conn ≡ own_calls others conn
-rest_same call calls others conn e = by_caller (call.by.0 == conn.0) refl
-  where
-    by_caller : (b : Bool) → call.by.0 == conn.0 ≡ b → own_calls calls conn ≡ own_calls others conn
-    by_caller true same =
-        (tail_same call call (own_calls calls conn) (own_calls others conn)
-        (sym (own_same call calls conn same) ∙ e ∙ own_same call others conn same)).1
-    by_caller false other = sym (own_other call calls conn other) ∙ e ∙ own_other call others conn other
+rest_same call calls others conn e = grind (arith, tail_same, own_same, own_other)
 
 -- both begin with the same call
 first_same : (first other : AnyCall) (calls others : List AnyCall) → Rising first.no calls → Rising other.no others
     → own_calls (first ∷ calls) first.by ≡ own_calls (other ∷ others) first.by
     → own_calls (first ∷ calls) other.by ≡ own_calls (other ∷ others) other.by → first ≡ other
-first_same first other calls others rise rise' mine its = by_caller (other.by.0 == first.by.0) refl
-  where
-    own_first : own_calls (first ∷ calls) first.by ≡ first ∷ own_calls calls first.by
-    own_first = own_same first calls first.by (eq-eqb first.by.0 first.by.0 refl)
-
-    own_its : own_calls (other ∷ others) other.by ≡ other ∷ own_calls others other.by
-    own_its = own_same other others other.by (eq-eqb other.by.0 other.by.0 refl)
-
-    by_caller : (b : Bool) → other.by.0 == first.by.0 ≡ b → first ≡ other
-    by_caller true same =
-        (tail_same first other (own_calls calls first.by) (own_calls others first.by)
-        (sym own_first ∙ mine ∙ own_same other others first.by same)).0
-    by_caller false apart =
-        let back : first.by.0 == other.by.0 ≡ false = eqb_swap other.by.0 first.by.0 apart in
-        let above : other.no < first.no =
-        first_above other.no others first.by first (own_calls calls first.by) rise'
-        (sym (own_other other others first.by apart) ∙ sym mine ∙ own_first) in
-        let below : first.no < other.no =
-        first_above first.no calls other.by other (own_calls others other.by) rise
-        (sym (own_other first calls other.by back) ∙ its ∙ own_its) in
-        absurd (omega (arith, above, below))
+first_same first other calls others rise rise' mine its =
+    grind (arith, own_same, eq-eqb, tail_same, eqb_swap, first_above, own_other)
 
 abbrev AreBy : ℕ → List AnyCall → Type 0
 AreBy callers calls = All (λ call. call.by.0 ≤ callers) calls

@@ -15,8 +15,7 @@ row-at (pass ∷ passes) (home ∷ homes) (suc x) p d low below =
 each-of-map : {A B : Type 0} (P : B → Type 0) (f : A → B) (xs : List A) → All P (map f xs) → All (λ x. P (f x)) xs
 each-of-map P f [] all = All-nil (λ x. P (f x))
 each-of-map P f (x ∷ xs) all =
-    All-cons (λ x. P (f x)) x xs (All-head P (f x) (map f xs) all)
-    (each-of-map P f xs (All-tail P (f x) (map f xs) all))
+    grind (arith, All-cons, All-head, All-tail, each-of-map P f xs (All-tail P (f x) (map f xs) all))
 
 module _ {L : Type 0} where
   -- ---- a desk's passes
@@ -60,8 +59,7 @@ module _ {L : Type 0} where
   row-fits more (cell ∷ cells) [] passes are of = absurd are
   row-fits more (cell ∷ cells) (home ∷ homes) [] are of = absurd of
   row-fits more (cell ∷ cells) (home ∷ homes) (pass ∷ passes) are of =
-      let room : length home.passes < home.room = omega (arith, are.0.room) in
-      (of.0.0 ∙ sym are.0.type_is, room, row-fits more cells homes passes are.1 of.1)
+      grind (arith, row-fits more cells homes passes are.1 of.1)
 
   pub count-of-homes : (more : ℕ) (cells : List (CellShown L)) (homes : List HomeShown) → AreHomes more cells homes
       → length homes ≡ length cells
@@ -138,12 +136,7 @@ module _ {L : Type 0} where
   ended-at [] homes histories x cell entries d are at its = absurd (cc)
   ended-at (one ∷ cells) [] histories x cell entries d are at its = absurd are
   ended-at (one ∷ cells) (home ∷ homes) [] x cell entries d are at its = absurd are
-  ended-at (one ∷ cells) (home ∷ homes) (first ∷ histories) zero cell entries d are at its =
-      let same : one ≡ cell = cc in
-      let same' : first ≡ entries = cc in
-      let P : CellShown L → AnyHistory → Type 0 =
-      λ c e. IsClosed c e × All (IsAccount c e) home.passes in
-      subst (λ c. P c entries) same (subst (λ e. P one e) same' (are.0, are.1))
+  ended-at (one ∷ cells) (home ∷ homes) (first ∷ histories) zero cell entries d are at its = grind arith
   ended-at (one ∷ cells) (home ∷ homes) (first ∷ histories) (suc x) cell entries d are at its =
       ended-at cells homes histories x cell entries d are.2 at its
 

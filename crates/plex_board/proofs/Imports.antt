@@ -1,7 +1,6 @@
 -- What proofs here name of other crates, and of this one's definitions. Declares nothing.
 pub use Rattle.std.proofs.Common.{◌≡◌, ℕ, List, [], ◌∷◌, ◌++◌, sym, ap, ◌∙◌, IfOk, Ok, Err, Result, ◌+◌, length, map, subst, arith, All, Option, ◌-◌, ◌<◌, ◌≤◌, get_or, set, get_or-set_other, Some, get_or-set_same, refl, append_assoc, option_to_list, suc, ◌*◌, ◌==◌, Bool, true, false, suc-le-suc, zero-lt-suc, zero, slice_get, ◌≢◌, None, IfErr, IfSome, ◌⊎◌, inl, inr, take, fold, Contains, is_some, option_map, ◌%◌, Vec, drop, ◌↔◌, if◌then◌else◌, ◌^◌, add-zero, mod-eq_of_lt, rules, replicate}
 pub use Rattle.std.proofs.Math.Nat.{pow-suc}
-pub use Rattle.std.proofs.Math.Pow.{pow_mono}
 pub use Rattle.std.proofs.Math.Seq.{map-set_same, get_or-append_seam}
 pub use Rattle.std.proofs.lemmas.Bool.{eq-eqb, ne_eqb, false≢true, cases_lt}
 pub use Rattle.std.proofs.lemmas.Bool.Decides.{nat_tests, same_from_decides, Decides-by_or, Decides-eqb}
@@ -34,7 +33,7 @@ pub use Rattle.plex_script.specs.CfTypes.declared.numbers.CfId.{CfId}
 pub use Rattle.plex_script.specs.CfTypes.declared.numbers.ConnId.{ConnId}
 pub use Rattle.plex_script.specs.CfTypes.declared.numbers.StrNo.{StrNo}
 pub use Rattle.plex_script.specs.EngineApi.Answers.{answers, answers_from, read_all}
-pub use Rattle.plex_script.specs.EngineApi.History.{Call, calls, IsLegal, Turn, numbers, after_turn, own, replay, with_marks, IsPoint}
+pub use Rattle.plex_script.specs.EngineApi.History.{Call, calls, IsLegal, Turn, after_turn, own, replay, with_marks, IsPoint}
 pub use Rattle.plex_script.specs.EngineApi.LinkAsks.{links_asked, Asks, reached_in, marks_of, answers_to}
 pub use Rattle.plex_script.specs.EngineApi.Machine.{Machine}
 pub use Rattle.plex_script.specs.EngineApi.Meaning.{Meaning}
@@ -50,24 +49,24 @@ pub use Rattle.struct_cell.proofs.CfLink.LinkLaws.{asked_told}
 pub use Rattle.struct_cell.specs.Calls.{reply_to}
 pub use Rattle.struct_cell.specs.Cells.{About, own_call_of}
 pub use Rattle.struct_cell.specs.CfIo.Count.{IsListed}
-pub use Rattle.struct_cell.specs.CfLink.Links.{AreAsked, Telling, link_at, calls_after, IsAsTold, Tells, IsAskedAll}
+pub use Rattle.struct_cell.specs.CfLink.Links.{AreAsked, Telling, link_at, calls_after, IsAsTold, Tells}
 pub use Rattle.struct_cell.specs.CfLink.Tells.{TellsEnough}
 pub use Rattle.struct_cell.specs.CfLink.declared.links.Links.{Links}
 pub use Rattle.struct_cell.specs.Limits.{AreMadeBelow}
 pub use Rattle.struct_cell.specs.Telling.{IsTold}
-pub use Rattle.struct_cell.specs.VecWords.Logged.{bit_in, sight, words_of}
+pub use Rattle.struct_cell.specs.VecWords.Logged.{bit_in, sight}
 unfoldable pub use Rattle.struct_cell.specs.VecWords.Logged.{indices_of}
 pub use Rattle.struct_cell.specs.VecWords.Tokens.{PassSeen, WordTable, new_pass}
 pub use Rattle.struct_cell.specs.VecWords.declared.logged.Sight.{Sight}
 pub use Rattle.struct_cell.specs.declared.inside.CellKey.{CellKey}
 pub use Rattle.struct_cell.specs.declared.refused.CallRefused.{CallRefused}
 pub use Rattle.plex_board.specs.Boards.{BoardShown, IsDeskOf, AreClosed, AreEachAsked, AreLinksAsked, cell_on, fixed_at, new_desk, IsClosed, IsAccount, four_of, IsStarted, links_of, IsTrayOf}
-pub use Rattle.plex_board.specs.Cells.{CellShown, IsPassOf, IsAnyTold, own_replies, keyed_as, replied, IsNoteOf, cell_shown, IsAskOf}
+pub use Rattle.plex_board.specs.Cells.{CellShown, IsPassOf, IsAnyTold, own_replies, keyed_as, replied, IsNoteOf, cell_shown}
 pub use Rattle.plex_board.specs.Desks.{DeskShown, no_pass, Fixed, fixed_of, pass_at, with_pass, IsAnsweredOn}
 pub use Rattle.plex_board.specs.Kinds.{IsAnyPoint, any_answers, IsOfKind, IsAnyLegal, Rising, any_take, no_calls, AreAnyAsTold, any_next, any_told, any_numbers, end_of, last_number, numbers_from, MayAskAny}
 pub use Rattle.plex_board.specs.Notes.{with_any_note}
 pub use Rattle.plex_board.specs.Openings.{bare_desk, desk_with, desk_at, IsOpening, IsUnused}
-pub use Rattle.plex_board.specs.Passes.{PassShown, Replied, IsAnswered, call_by, heard_by, reply_by, replies_by, shown_as, with_call, unused_pass, passes_shown, type_of_passes, room_of, NoteShown, IsLater, reply_numbered, note_shown, pass_shown, note_of}
+pub use Rattle.plex_board.specs.Passes.{PassShown, IsAnswered, call_by, heard_by, reply_by, replies_by, shown_as, with_call, unused_pass, passes_shown, type_of_passes, room_of, NoteShown, IsLater, reply_numbered, note_shown, pass_shown, note_of}
 pub use Rattle.plex_board.specs.Rests.{HomeShown, homes_shown, AllFit, homes_gathered, AreHomes, AreEmpty, AreEnded, IsReady, each_with, home_shown, home_with, Fits, IsHomeOf, ArePasses}
 pub use Rattle.plex_board.specs.Told.{next_by, told_by, after_call, down_of, is_listed}
 pub use Rattle.plex_board.specs.Types.{StrType, OfCache, type_of_kind, OfList, OfLock}

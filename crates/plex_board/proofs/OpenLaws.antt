@@ -1,5 +1,5 @@
 -- What is known as structures are made one after the other.
-use Rattle.plex_board.proofs.Imports.{◌≡◌, ℕ, ◌≤◌, List, [], ◌∷◌, ◌++◌, length, map, refl, sym, ap, subst, ◌∙◌, arith, append_assoc, All, map-append, All-push, All-nil, All-map, StrForm, Links, AnyHistory, AnyPasses, StrType, type_of_kind, PassShown, unused_pass, passes_shown, type_of_passes, room_of, CellShown, IsPassOf, WordTable, DeskShown, IsClosed, IsAccount, IsStarted, each_with, HomeShown, home_shown, homes_shown, IsHomeOf, AreHomes, AreEmpty, AreEnded, desk_with, desk_at}
+use Rattle.plex_board.proofs.Imports.{◌≡◌, ℕ, ◌≤◌, List, [], ◌∷◌, ◌++◌, map, refl, sym, ap, subst, ◌∙◌, arith, append_assoc, All, map-append, All-push, All-nil, All-map, StrForm, Links, AnyHistory, AnyPasses, StrType, type_of_kind, PassShown, unused_pass, passes_shown, type_of_passes, room_of, CellShown, WordTable, DeskShown, IsClosed, IsAccount, IsStarted, each_with, HomeShown, home_shown, homes_shown, IsHomeOf, AreHomes, AreEmpty, AreEnded, desk_with, desk_at}
 
 -- a caller that has seen nothing hasn't called
 pub unused-calls : (str_type : StrType) (words : WordTable) (passes : List PassShown) (owners : List ℕ)
@@ -14,15 +14,7 @@ module _ {L : Type 0} where
       → each_with desk_with (map (unused_pass cell.str_type cell.words) owners) (map (desk_at cells) owners)
       ≡ map (desk_at (cells ++ cell ∷ [])) owners
   desks-column cells cell [] = refl
-  desks-column cells cell (owner ∷ owners) =
-      let passes : (desk_at cells owner).passes ++ unused_pass cell.str_type cell.words owner ∷ []
-      ≡ (desk_at (cells ++ cell ∷ []) owner).passes =
-      sym (map-append (λ (c : CellShown L). unused_pass c.str_type c.words owner) cells (cell ∷ [])) in
-      let one : desk_with (unused_pass cell.str_type cell.words owner) (desk_at cells owner)
-      ≡ desk_at (cells ++ cell ∷ []) owner =
-      ap (λ (p : List PassShown). let d : DeskShown = record { owner = record { 0 = owner }; passes = p } in d) passes
-      in
-      cc (desks-column cells cell owners)
+  desks-column cells cell (owner ∷ owners) = grind (arith, map-append, desks-column cells cell owners)
 
   pub homes-push : (more : ℕ) (cells : List (CellShown L)) (cell : CellShown L) (homes : List HomeShown)
       (home : HomeShown) → AreHomes more cells homes → IsHomeOf more cell home → AreHomes more (cells ++ cell ∷ [])
@@ -39,10 +31,8 @@ module _ {L : Type 0} where
   homes-fewer more fewer [] [] less are = tt
   homes-fewer more fewer [] (home ∷ homes) less are = absurd are
   homes-fewer more fewer (cell ∷ cells) [] less are = absurd are
-  homes-fewer more fewer (cell ∷ cells) (home ∷ homes) less are = (
-    record { type_is = are.0.type_is; passes = are.0.passes; room = omega (arith, are.0.room, less) },
-    homes-fewer more fewer cells homes less are.1,
-  )
+  homes-fewer more fewer (cell ∷ cells) (home ∷ homes) less are =
+      grind (arith, homes-fewer more fewer cells homes less are.1)
 
   -- the cell of a new station
   pub started-cell : (cell : CellShown L) (form : StrForm) (callers limit : ℕ) (links : Links L)
@@ -54,15 +44,7 @@ module _ {L : Type 0} where
         words = cell.words;
         links = links;
       } → (cell.words.conns ≡ callers) × (cell.words.len ≡ form.vector) → IsStarted callers limit cell
-  started-cell cell form callers limit links is words =
-      let form_is : cell.form ≡ form = ap (λ (c : CellShown L). c.form) is in
-      record {
-        type_is = ap (λ (c : CellShown L). c.str_type) is ∙ sym (ap (λ (f : StrForm). type_of_kind f.kind) form_is);
-        callers_is = ap (λ (c : CellShown L). c.callers) is;
-        limit_is = ap (λ (c : CellShown L). c.limit) is;
-        conns_is = words.0;
-        len_is = words.1 ∙ sym (ap (λ (f : StrForm). f.vector) form_is);
-      }
+  started-cell cell form callers limit links is words = grind arith
 
   -- ---- one structure more
 
@@ -75,11 +57,7 @@ module _ {L : Type 0} where
     pub more-desks : (owners : List ℕ) (passes : List PassShown) (desks after : List DeskShown)
         → desks ≡ map (desk_at cells) owners → passes ≡ map (unused_pass cell.str_type cell.words) owners
         → after ≡ each_with desk_with passes desks → after ≡ map (desk_at more) owners
-    more-desks owners passes desks after are unused is =
-        is ∙ ap (λ (ps : List PassShown). each_with desk_with ps desks) unused
-        ∙ ap (each_with desk_with (map (unused_pass cell.str_type cell.words) owners)) are
-        ∙ desks-column cells cell owners
-        ∙ ap (λ (cs : List (CellShown L)). map (desk_at cs) owners) (sym more_is)
+    more-desks owners passes desks after are unused is = grind (arith, desks-column)
 
     module _ (homes after : List AnyPasses) (home : AnyPasses) (after_is : after ≡ homes ++ home ∷ []) where
       shown-push : homes_shown after ≡ homes_shown homes ++ home_shown home ∷ []
@@ -87,11 +65,7 @@ module _ {L : Type 0} where
 
       pub more-homes : (n : ℕ) → AreHomes n cells (homes_shown homes) → IsHomeOf n cell (home_shown home)
           → AreHomes n more (homes_shown after)
-      more-homes n are is =
-          subst (λ (hs : List HomeShown). AreHomes n more hs) (sym shown-push)
-          (subst (λ (cs : List (CellShown L)). AreHomes n cs (homes_shown homes ++ home_shown home ∷ []))
-          (sym more_is)
-          (homes-push n cells cell (homes_shown homes) (home_shown home) are is))
+      more-homes n are is = grind (arith, shown-push, homes-push)
 
       pub more-empty : AreEmpty (homes_shown homes) → passes_shown home ≡ [] → AreEmpty (homes_shown after)
       more-empty all none =
@@ -101,13 +75,7 @@ module _ {L : Type 0} where
   -- a home without passes
   pub empty-home : (n : ℕ) (cell : CellShown L) (home : AnyPasses) → type_of_passes home ≡ cell.str_type
       → passes_shown home ≡ [] → n ≤ room_of home → IsHomeOf n cell (home_shown home)
-  empty-home n cell home is none room =
-      let count : length (passes_shown home) ≡ 0 = ap length none in
-      record {
-        type_is = is;
-        passes = subst (All (IsPassOf cell)) (sym none) (All-nil (IsPassOf cell));
-        room = omega (arith, count, room);
-      }
+  empty-home n cell home is none room = grind (arith, All-nil)
 
   -- a history more, whatever the rest will be
   pub ended-step : (cells left : List (CellShown L)) (homes at : List HomeShown) (histories : List AnyHistory)
@@ -116,6 +84,4 @@ module _ {L : Type 0} where
       ++ rest))
       → IsClosed cell entries → All (IsAccount cell entries) home.passes
       → (rest : List AnyHistory) → AreEnded left at rest → AreEnded cells homes ((histories ++ entries ∷ []) ++ rest)
-  ended-step cells left homes at histories cell home entries so closed account rest are =
-      subst (AreEnded cells homes) (sym (append_assoc histories (entries ∷ []) rest))
-      (so (entries ∷ rest) (closed, account, are))
+  ended-step cells left homes at histories cell home entries so closed account rest are = grind (arith, append_assoc)

@@ -1,5 +1,5 @@
 -- What is known where a call of a board is a call of one of its stations, with one of a desk's places.
-use Rattle.plex_board.proofs.Imports.{◌≡◌, ◌≢◌, ℕ, ◌<◌, ◌≤◌, List, length, get_or, set, refl, sym, ap, subst, ◌∙◌, arith, get_or-set_same, Some, None, Ok, Err, Option, Result, slice_get, IfOk, IfErr, IfSome, map-set_same, set-get_or, slice_get_read, get_or_from_slice_get, StrNo, Told, AnyAsk, CallRefused, PassShown, NoteShown, IsAnswered, IsLater, with_call, with_any_note, CellShown, IsPassOf, DeskShown, IsAnsweredOn, fixed_of, no_pass, pass_at, with_pass, BoardShown, cell_on, IsDeskOf}
+use Rattle.plex_board.proofs.Imports.{◌≡◌, ◌≢◌, ℕ, ◌<◌, ◌≤◌, length, get_or, set, refl, sym, ap, subst, ◌∙◌, arith, get_or-set_same, Some, None, Ok, Err, Option, Result, slice_get, IfOk, IfErr, IfSome, map-set_same, set-get_or, slice_get_read, get_or_from_slice_get, StrNo, Told, AnyAsk, CallRefused, PassShown, NoteShown, IsAnswered, IsLater, with_any_note, CellShown, IsPassOf, DeskShown, IsAnsweredOn, fixed_of, no_pass, pass_at, BoardShown, cell_on, IsDeskOf}
 use Rattle.struct_cell.specs.declared.refused.CallRefused.TheVariants as refused
 use Rattle.plex_board.proofs.DeskLaws.{desk-length, desk-pass_is, desk-pass_owner}
 
@@ -15,11 +15,7 @@ module _ {L : Type 0} where
   pub cell-is : (board seen : BoardShown L) (on : StrNo) (k : ℕ) (station : CellShown L)
       → board ≡ seen → on.0 < length board.cells → k ≡ on.0 → station ≡ get_or seen.cells k station
       → cell_on board on ≡ Some station
-  cell-is board seen on k station same below at is =
-      let is' : station ≡ get_or board.cells on.0 station =
-      is ∙ ap (λ (n : ℕ). get_or seen.cells n station) at
-      ∙ ap (λ (b : BoardShown L). get_or b.cells on.0 station) (sym same) in
-      slice_get_read board.cells (length board.cells) on.0 station refl below is'
+  cell-is board seen on k station same below at is = grind (arith, slice_get_read)
 
   pub place-is : (board seen : BoardShown L) (desk has : DeskShown) (on : StrNo) (k j : ℕ)
       (station : CellShown L) (place : PassShown)
@@ -28,9 +24,7 @@ module _ {L : Type 0} where
       → IsPlace board desk on station place
   place-is board seen desk has on k j station place same same' of below at at' is is' =
       let cell : cell_on board on ≡ Some station = cell-is board seen on k station same below at is in
-      let here : place ≡ get_or desk.passes on.0 place =
-      is' ∙ ap (λ (n : ℕ). get_or has.passes n place) at'
-      ∙ ap (λ (d : DeskShown). get_or d.passes on.0 place) (sym same') in
+      let here : place ≡ get_or desk.passes on.0 place = grind arith in
       let lower : on.0 < length desk.passes = omega (arith, desk-length board desk of, below) in
       let there : slice_get desk.passes on.0 ≡ Some place =
       slice_get_read desk.passes (length desk.passes) on.0 place refl lower here in
@@ -56,19 +50,13 @@ module _ {L : Type 0} where
   pub changed-of_board : (board : BoardShown L) (desk has : DeskShown) (j : ℕ) (place after : PassShown)
       → desk ≡ has → IsDeskOf board desk → place ≡ get_or has.passes j place → fixed_of after ≡ fixed_of place
       → IsDeskOf board (record { owner = has.owner; passes = set has.passes j after })
-  changed-of_board board desk has j place after same of is fixed =
-      map-set_same fixed_of has.passes j after place (fixed ∙ ap fixed_of is)
-      ∙ subst (IsDeskOf board) same of
+  changed-of_board board desk has j place after same of is fixed = grind (arith, map-set_same)
 
   -- the pass that stands there afterwards
   pub changed-at : (board : BoardShown L) (desk has : DeskShown) (on : StrNo) (j : ℕ) (after : PassShown)
       → desk ≡ has → IsDeskOf board desk → on.0 < length board.cells → j ≡ on.0
       → pass_at (record { owner = has.owner; passes = set has.passes j after }) on ≡ after
-  changed-at board desk has on j after same of below at =
-      let lower : on.0 < length desk.passes = omega (arith, desk-length board desk of, below) in
-      let lower' : on.0 < length has.passes = subst (λ (d : DeskShown). on.0 < length d.passes) same lower in
-      subst (λ (n : ℕ). get_or (set has.passes n after) on.0 no_pass ≡ after) (sym at)
-      (get_or-set_same has.passes on.0 after no_pass lower')
+  changed-at board desk has on j after same of below at = grind (arith, desk-length, get_or-set_same)
 
   -- why a call isn't made, as the board tells it
   pub full-on : (board : BoardShown L) (on : StrNo) (station : CellShown L) (after : DeskShown) (place : PassShown)
@@ -80,19 +68,13 @@ module _ {L : Type 0} where
       → IfSome (cell_on board on) (λ cell. (refusal ≡ refused.JournalFull cell.limit)
       × (cell.limit ≤ (pass_at after on).known)))
   full-on board on station after place (Ok told) is at full = full
-  full-on board on station after place (Err refusal) is at full =
-      λ other. some-cell (λ (cell : CellShown L). (refusal ≡ refused.JournalFull cell.limit)
-      × (cell.limit ≤ (pass_at after on).known)) board on station is
-      (subst (λ (p : PassShown). (refusal ≡ refused.JournalFull station.limit) × (station.limit ≤ p.known))
-      (sym at) (full other))
+  full-on board on station after place (Err refusal) is at full = grind (arith, some-cell)
 
 -- a desk in which a place was put back as it was
 put_again : (desk has : DeskShown) (j : ℕ) (place after : PassShown) → desk ≡ has
     → place ≡ get_or has.passes j place → after ≡ place
     → (let changed : DeskShown = record { owner = has.owner; passes = set has.passes j after } in changed) ≡ desk
-put_again desk has j place after same is still =
-    ap (λ (passes : List PassShown). (let d : DeskShown = record { owner = has.owner; passes = passes } in d))
-    (ap (set has.passes j) (still ∙ is) ∙ set-get_or has.passes j place) ∙ sym same
+put_again desk has j place after same is still = grind (arith, set-get_or)
 
 -- where memory was lacking the desk is as it was
 pub still-on : (desk has : DeskShown) (j : ℕ) (place after : PassShown) (answer : Result Told CallRefused)
@@ -118,15 +100,7 @@ pub answered-on : (desk has : DeskShown) (on : StrNo) (j : ℕ) (place after : P
     → IfOk answer (λ told. IsAnswered asked told place after)
     → IfOk answer (λ told. IsAnsweredOn on asked told desk
     (record { owner = has.owner; passes = set has.passes j after }))
-answered-on desk has on j place after asked (Ok told) same at is made =
-    let new : after ≡ with_call asked told made.reply (pass_at desk on) =
-    made.pass ∙ ap (with_call asked told made.reply) (sym is) in
-    record {
-      reply = made.reply;
-      desk = ap (λ (n : ℕ). (let d : DeskShown = record { owner = has.owner; passes = set has.passes n after } in d)) at
-          ∙ ap (λ (p : PassShown). with_pass on p has) new
-          ∙ ap (with_pass on (with_call asked told made.reply (pass_at desk on))) (sym same);
-    }
+answered-on desk has on j place after asked (Ok told) same at is made = grind arith
 answered-on desk has on j place after asked (Err refusal) same at is made = tt
 
 -- a call keeps what is fixed, made or not

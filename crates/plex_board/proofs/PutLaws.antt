@@ -22,10 +22,7 @@ module _ (homes : List AnyPasses) (all front : List PassShown) (pass : PassShown
 
   module _ (home : AnyPasses) (home_is : home ≡ get_or homes k home) where
     shown-at : get_or (homes_shown homes) (length front) (home_shown home) ≡ home_shown home
-    shown-at =
-        let below : length front < length homes = omega (arith, put-there, k_is) in
-        get_or-map home_shown homes (length front) home (home_shown home) below
-        ∙ ap (λ (n : ℕ). home_shown (get_or homes n home)) (sym k_is) ∙ ap home_shown (sym home_is)
+    shown-at = grind (arith, put-there, get_or-map)
 
     pub put-type : pass.str_type ≡ type_of_passes home
     put-type = (last (home_shown home)).type_is ∙ ap (λ (h : HomeShown). h.str_type) shown-at
@@ -37,13 +34,7 @@ module _ (homes : List AnyPasses) (all front : List PassShown) (pass : PassShown
         (type_is : type_of_passes after ≡ type_of_passes home) (room : room_of after ≡ room_of home) where
       shown-after : homes_shown (set homes k after)
           ≡ set (homes_shown homes) (length front) (home_with pass (home_shown home))
-      shown-after =
-          map-set home_shown homes k after
-          ∙ ap (λ (n : ℕ). set (homes_shown homes) n (home_shown after)) k_is
-          ∙ ap (λ (h : HomeShown). set (homes_shown homes) (length front) h)
-          (same-home (type_of_passes after) (type_of_passes home) (passes_shown after) (passes_shown home
-          ++ pass ∷ [])
-          (room_of after) (room_of home) type_is passes room)
+      shown-after = grind (arith, map-set, same-home)
 
       pub put-fits : Fits front (homes_shown (set homes k after))
       put-fits =

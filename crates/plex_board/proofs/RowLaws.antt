@@ -34,11 +34,4 @@ fits-last [] pass [] d fits = absurd fits
 fits-last [] pass (home ∷ homes) d fits =
     record { there = omega arith; type_is = fits.0; room = fits.1; rest = λ v. tt }
 fits-last (x ∷ passes) pass [] d fits = absurd fits
-fits-last (x ∷ passes) pass (home ∷ homes) d fits =
-    let last : FitsLast passes pass homes d = fits-last passes pass homes d fits.2 in
-    record {
-      there = omega (arith, last.there);
-      type_is = last.type_is;
-      room = last.room;
-      rest = λ v. (fits.0, fits.1, last.rest v);
-    }
+fits-last (x ∷ passes) pass (home ∷ homes) d fits = grind (arith, fits-last passes pass homes d fits.2)

@@ -1,6 +1,6 @@
 -- Where a call of a history stands: the entries up to its number are the next ones of those up to the number of the
 -- call before it.
-use Rattle.plex_board.proofs.Imports.{◌≡◌, ℕ, zero, suc, ◌<◌, ◌≤◌, ◌⊎◌, inl, inr, List, [], ◌∷◌, ◌++◌, length, take, map, fold, refl, sym, ap, subst, ◌∙◌, arith, append_assoc, Contains, append_cancel_left, fold_push, StrForm, CfId, Telling, Ask, Entry, Meaning, told_of, Call, Turn, calls, numbers, after_turn, IsLegal, by_turns, calls-turn, call_added, IsMade, call_made, length-turn, cache_meaning, list_meaning, lock_meaning, AnyAsk, AnyHistory, AnyCall, any_call, any_calls, any_length, next_by, told_by, after_call, down_of, IsAnyLegal, AreAnyAsTold, IsAnyPoint, Rising, any_take, any_next, any_told, any_numbers, end_of, last_number}
+use Rattle.plex_board.proofs.Imports.{◌≡◌, ℕ, zero, suc, ◌<◌, ◌≤◌, ◌⊎◌, inl, inr, List, [], ◌∷◌, ◌++◌, length, take, map, fold, refl, sym, ap, subst, ◌∙◌, arith, append_assoc, Contains, append_cancel_left, fold_push, StrForm, CfId, Telling, Ask, Entry, Meaning, told_of, Call, Turn, calls, IsLegal, by_turns, calls-turn, call_added, IsMade, call_made, length-turn, cache_meaning, list_meaning, lock_meaning, AnyAsk, AnyHistory, AnyCall, any_call, any_calls, any_length, next_by, told_by, down_of, IsAnyLegal, AreAnyAsTold, IsAnyPoint, Rising, any_take, any_next, any_told, any_numbers, end_of, last_number}
 use Rattle.plex_script.specs.EngineApi.History as histories
 use Rattle.plex_script.specs.declared.scripts.AnyAsk.TheVariants as ask
 use Rattle.plex_script.specs.declared.asks.AnyHistory.TheVariants as history
@@ -101,19 +101,14 @@ module _ {C R I S : Type 0} (meaning : Meaning C R I S) (of : Ask C → AnyAsk) 
         let all : calls (take call.no entries) ≡ xs ++ call ∷ [] =
         ap calls made.up_to ∙ calls-turn meaning form made.began made.turn
         ∙ (let one : calls made.began ≡ xs = made.before in
-        let two : call ≡ call_added meaning form made.began made.turn = made.is in cc) in
-        subst (IsFront entries) (sym it.2) (record {
-          size = ap (λ (n : ℕ). length (take n entries)) ends ∙ size ∙ sym ends;
-          calls_are = ap (λ (n : ℕ). calls (take n entries)) ends ∙ all;
-        })
+        let two : call ≡ call_added meaning form made.began made.turn = made.is in cc) in grind arith
   ]
 
   -- a legal history ends with its last call
   ends_with : (entries : List (Entry C R)) → IsLegal meaning form entries → ended (calls entries) ≡ length entries
   ends_with entries legal =
-      by_turns meaning form (λ h. ended (calls h) ≡ length h) refl (λ h turn fine was.
-      ap ended (calls-turn meaning form h turn) ∙ fold_push histories.last_number 0 (calls h) (call_added meaning form h turn)
-      ∙ sym (length-turn meaning form h turn)) entries legal
+      by_turns meaning form (λ h. ended (calls h) ≡ length h) refl (
+      grind (arith, calls-turn, fold_push, call_added, length-turn)) entries legal
 
   module _ (told : CfId → Telling) where
     -- and they are the run of these calls
@@ -130,8 +125,7 @@ module _ {C R I S : Type 0} (meaning : Meaning C R I S) (of : Ask C → AnyAsk) 
           let at : IsRunAt meaning form told entries xs call =
           run_at meaning form told entries legal all xs call more cut in
           let ends : ended (xs ++ call ∷ []) ≡ call.no = fold_push histories.last_number 0 xs call in
-          subst (λ (ys : List (Call C R)). take (ended ys) entries ≡ run_of meaning form told ys) (sym it.2)
-          (ap (λ (n : ℕ). take n entries) ends ∙ at.up_to ∙ sym (fold_push (after_call meaning form told) [] xs call))
+          grind (arith, run_of, fold_push)
     ]
 
     -- a call is the next one of those before it
@@ -155,11 +149,7 @@ module _ {C R I S : Type 0} (meaning : Meaning C R I S) (of : Ask C → AnyAsk) 
         let one : added ∷ [] ≡ call ∷ [] = append_cancel_left front (added ∷ []) (call ∷ []) both in
         let is : added ≡ call = cc in
         subst (λ (h : List (Entry C R)). IsNextOne entries h call) (sym (is_run entries legal all front (call ∷ more) e))
-        (record {
-          next = at.up_to;
-          number = at.number;
-          answer = ap (λ (c : Call C R). told_of c.no c.ask c.reply) (sym is);
-        })
+        (grind arith)
 
 -- ---- histories of whatever kind
 
@@ -192,9 +182,7 @@ next_call form told (history.List entries) legal all front call more e =
     let one : IsNextOne list_meaning ask.List form told entries (take (ended list_meaning ask.List form at.before) entries)
     at.here = next_one list_meaning ask.List form told entries legal all at.before at.here at.behind at.cut in
     subst (λ (n : ℕ). IsNextOf form told (history.List entries) (any_take n (history.List entries)) call) (sym ends)
-    (subst (λ (c : AnyCall). IsNextOf form told (history.List entries)
-    (any_take (ended list_meaning ask.List form at.before) (history.List entries)) c) at.here_is
-    (record { next = ap history.List one.next; number = one.number; answer = one.answer }))
+    (grind arith)
 next_call form told (history.Lock entries) legal all front call more e =
     let at : IsHeardAt lock_meaning ask.Lock form (calls entries) front call =
     heard_at lock_meaning ask.Lock form (calls entries) front call more e in
@@ -203,9 +191,7 @@ next_call form told (history.Lock entries) legal all front call more e =
     let one : IsNextOne lock_meaning ask.Lock form told entries (take (ended lock_meaning ask.Lock form at.before) entries)
     at.here = next_one lock_meaning ask.Lock form told entries legal all at.before at.here at.behind at.cut in
     subst (λ (n : ℕ). IsNextOf form told (history.Lock entries) (any_take n (history.Lock entries)) call) (sym ends)
-    (subst (λ (c : AnyCall). IsNextOf form told (history.Lock entries)
-    (any_take (ended lock_meaning ask.Lock form at.before) (history.Lock entries)) c) at.here_is
-    (record { next = ap history.Lock one.next; number = one.number; answer = one.answer }))
+    (grind arith)
 
 -- the entries up to the last of some calls that a history begins with
 pub record IsFrontOf (h : AnyHistory) (front : List AnyCall) : Type 0 where
@@ -223,9 +209,7 @@ front_of form (history.Cache entries) legal front more e =
     is_front cache_meaning ask.Cache form entries legal at.before at.behind at.cut in
     record {
       size = ap (λ (n : ℕ). length (take n entries)) ends ∙ is.size ∙ sym ends;
-      calls_are =
-          ap (λ (n : ℕ). map (any_call ask.Cache) (calls (take n entries))) ends
-          ∙ ap (map (any_call ask.Cache)) is.calls_are ∙ at.before_is;
+      calls_are = grind arith;
     }
 front_of form (history.List entries) legal front more e =
     let at : IsHeardFront list_meaning ask.List form (calls entries) front =
@@ -236,9 +220,7 @@ front_of form (history.List entries) legal front more e =
     is_front list_meaning ask.List form entries legal at.before at.behind at.cut in
     record {
       size = ap (λ (n : ℕ). length (take n entries)) ends ∙ is.size ∙ sym ends;
-      calls_are =
-          ap (λ (n : ℕ). map (any_call ask.List) (calls (take n entries))) ends
-          ∙ ap (map (any_call ask.List)) is.calls_are ∙ at.before_is;
+      calls_are = grind arith;
     }
 front_of form (history.Lock entries) legal front more e =
     let at : IsHeardFront lock_meaning ask.Lock form (calls entries) front =
@@ -249,9 +231,7 @@ front_of form (history.Lock entries) legal front more e =
     is_front lock_meaning ask.Lock form entries legal at.before at.behind at.cut in
     record {
       size = ap (λ (n : ℕ). length (take n entries)) ends ∙ is.size ∙ sym ends;
-      calls_are =
-          ap (λ (n : ℕ). map (any_call ask.Lock) (calls (take n entries))) ends
-          ∙ ap (map (any_call ask.Lock)) is.calls_are ∙ at.before_is;
+      calls_are = grind arith;
     }
 
 -- a legal history ends with its last call
@@ -322,18 +302,14 @@ above_first n (call ∷ some) low rise there before = elim (in_front call.no n (
 
 end_above : (low : ℕ) (front more : List AnyCall) → Rising low (front ++ more) → low ≤ fold last_number low front
 end_above low [] more rise = omega arith
-end_above low (call ∷ front) more rise =
-    let later : call.no ≤ fold last_number call.no front = end_above call.no front more rise.1 in
-    omega (arith, rise.0, later)
+end_above low (call ∷ front) more rise = grind (arith, end_above call.no front more rise.1)
 
 at_end : (low n : ℕ) (front more : List AnyCall) → Rising low (front ++ more)
     → (n ≡ low) ⊎ Contains (numbers_of (front ++ more)) n → fold last_number low front ≤ n → IsBefore n more
     → n ≡ fold last_number low front
 at_end low n [] more rise (inl same) least before = same
 at_end low n [] more rise (inr there) least before = absurd (above_first n more low rise there before)
-at_end low n (call ∷ front) more rise (inl same) least before =
-    let later : call.no ≤ fold last_number call.no front = end_above call.no front more rise.1 in
-    absurd (omega (arith, rise.0, later, least, same))
+at_end low n (call ∷ front) more rise (inl same) least before = grind (arith, end_above)
 at_end low n (call ∷ front) more rise (inr there) least before =
     elim (in_front call.no n (numbers_of (front ++ more)) there) [
       | inl here ↦ at_end call.no n front more rise.1 (inl (sym here)) least before
@@ -343,6 +319,4 @@ at_end low n (call ∷ front) more rise (inr there) least before =
 -- a point that isn't before the last of some calls, but before the next one, is the number of the last
 pub point_end : (h : AnyHistory) (n : ℕ) (front more : List AnyCall) → Rising 0 (any_calls h) → IsAnyPoint h n
     → any_calls h ≡ front ++ more → end_of front ≤ n → IsBefore n more → n ≡ end_of front
-point_end h n front more rise point e least before =
-    at_end 0 n front more (subst (Rising 0) e rise)
-    (subst (λ (some : List AnyCall). (n ≡ 0) ⊎ Contains (numbers_of some) n) e (point_of h n point)) least before
+point_end h n front more rise point e least before = grind (arith, at_end, point_of)

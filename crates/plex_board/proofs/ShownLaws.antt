@@ -1,12 +1,10 @@
 -- What holds of passes and calls by the type of their structure holds of them as they are shown.
-use Rattle.plex_board.proofs.Imports.{◌≡◌, ℕ, ◌<◌, ◌≤◌, ◌==◌, Bool, true, false, List, [], ◌∷◌, length, map, get_or, All, refl, sym, ap, subst, ◌∙◌, arith, Option, is_some, option_map, nat_tests, map-map, length-map, get_or-map, range_with_len, length-range_with_len, All-map, All-weaker, Links, AreAsked, StrForm, CfId, ConnId, Ask, Reply, Entry, Meaning, Call, calls, own, map-filtered, AnyAsk, AnyCall, any_call, call_numbered, own_calls, Sight, WordTable, PassSeen, new_pass, CellKey, reply_to, About, own_call_of, AreMadeBelow, IsTold, StrType, AnyReply, PassShown, call_by, heard_by, replies_by, reply_by, reply_numbered, shown_as, unused_pass, CellShown, keyed_as, replied, IsPassOf}
+use Rattle.plex_board.proofs.Imports.{◌≡◌, ℕ, ◌<◌, ◌≤◌, ◌==◌, Bool, true, List, [], ◌∷◌, length, map, get_or, All, refl, sym, subst, ◌∙◌, arith, Option, is_some, option_map, nat_tests, map-map, length-map, get_or-map, range_with_len, length-range_with_len, All-map, All-weaker, Links, AreAsked, StrForm, CfId, ConnId, Ask, Reply, Entry, Meaning, Call, calls, own, map-filtered, AnyAsk, AnyCall, any_call, call_numbered, own_calls, Sight, WordTable, PassSeen, new_pass, CellKey, reply_to, About, own_call_of, AreMadeBelow, IsTold, StrType, AnyReply, PassShown, call_by, heard_by, replies_by, reply_by, reply_numbered, shown_as, unused_pass, CellShown, keyed_as, replied, IsPassOf}
 
 -- a vector of so many has room for so many
 pub room_for : {X : Type 0} (of : ℕ → X) (n : ℕ) (items : List X) (len cap : ℕ) → (len ≡ length items) × (len ≤ cap)
     → items ≡ map of (range_with_len 0 n) → n ≤ cap
-room_for of n items len cap ok are =
-    let count : length items ≡ n = ap length are ∙ length-map (range_with_len 0 n) of ∙ length-range_with_len 0 n in
-    omega (arith, count, ok.0, ok.1)
+room_for of n items len cap ok are = grind (arith, length-map, length-range_with_len)
 
 module _ {C R : Type 0} (str_type : StrType) (of : Ask C → AnyAsk) (told : Reply R → AnyReply) where
   -- passes that have seen nothing
@@ -18,18 +16,12 @@ module _ {C R : Type 0} (str_type : StrType) (of : Ask C → AnyAsk) (told : Rep
 
   heard_same : (owner : ConnId) (call : Call C R) → call.by.0 == owner.0 ≡ true
       → any_call of (call_by owner (own_call_of call)) ≡ any_call of call
-  heard_same owner call is =
-      let same : call.by.0 ≡ owner.0 = grind (arith, nat_tests) in
-      ap (λ (n : ℕ). any_call of (call_by (record { 0 = n }) (own_call_of call))) (sym same)
+  heard_same owner call is = grind (arith, nat_tests)
 
   -- a caller's own calls, as it heard of them
   heard_own : (history : List (Entry C R)) (owner : ConnId)
       → heard_by of owner (map own_call_of (own history owner)) ≡ own_calls (map (any_call of) (calls history)) owner
-  heard_own history owner =
-      map-map (λ (it : ℕ × About C R). any_call of (call_by owner it)) own_call_of (own history owner)
-      ∙ map-filtered (λ (call : Call C R). any_call of (call_by owner (own_call_of call))) (any_call of)
-      (λ (call : Call C R). call.by.0 == owner.0) (λ (call : AnyCall). call.by.0 == owner.0)
-      (heard_same owner) (λ call. refl) (calls history)
+  heard_own history owner = grind (arith, map-map, map-filtered, heard_same)
 
   -- and the replies to them
   replied_own : (history : List (Entry C R)) (owner : ConnId)
@@ -71,12 +63,7 @@ module _ {C R : Type 0} (str_type : StrType) (of : Ask C → AnyAsk) (told : Rep
         → All (λ (pass : PassShown). pass.calls ≡ own_calls (map (any_call of) (calls history)) pass.owner) list
     shown_mine history mine =
         each_shown (λ (pass : PassShown). pass.calls ≡ own_calls (map (any_call of) (calls history)) pass.owner)
-        (All-weaker
-        (λ (pass : PassSeen (About C R)). pass.mine ≡ map own_call_of (own history (record { 0 = pass.owner })))
-        (λ (pass : PassSeen (About C R)). heard_by of (record { 0 = pass.owner }) pass.mine
-        ≡ own_calls (map (any_call of) (calls history)) (record { 0 = pass.owner }))
-        (λ pass is. ap (heard_by of (record { 0 = pass.owner })) is ∙ heard_own history (record { 0 = pass.owner }))
-        passes mine)
+        (grind (arith, All-weaker, heard_own))
 
     pub shown_replies : (history : List (Entry C R))
         → All (λ (pass : PassSeen (About C R)). pass.mine ≡ map own_call_of (own history (record { 0 = pass.owner })))
@@ -84,12 +71,7 @@ module _ {C R : Type 0} (str_type : StrType) (of : Ask C → AnyAsk) (told : Rep
         → All (λ (pass : PassShown). pass.replies ≡ map (replied told) (own history pass.owner)) list
     shown_replies history mine =
         each_shown (λ (pass : PassShown). pass.replies ≡ map (replied told) (own history pass.owner))
-        (All-weaker
-        (λ (pass : PassSeen (About C R)). pass.mine ≡ map own_call_of (own history (record { 0 = pass.owner })))
-        (λ (pass : PassSeen (About C R)). replies_by told pass.mine
-        ≡ map (replied told) (own history (record { 0 = pass.owner })))
-        (λ pass is. ap (replies_by told) is ∙ replied_own history (record { 0 = pass.owner }))
-        passes mine)
+        (grind (arith, All-weaker, replied_own))
 
     pub shown_tests : {I S : Type 0} (meaning : Meaning C R I S) (history : List (Entry C R))
         → All (λ (pass : PassSeen (About C R)). All (IsTold meaning key.form history pass.owner) pass.tests) passes
@@ -98,9 +80,7 @@ module _ {C R : Type 0} (str_type : StrType) (of : Ask C → AnyAsk) (told : Rep
     shown_tests meaning history tells =
         each_shown
         (λ (pass : PassShown). All (λ (test : Sight). IsTold meaning shown.form history pass.owner.0 test) pass.tests)
-        (subst (λ (s : CellShown L). All (λ (pass : PassSeen (About C R)). All
-        (λ (test : Sight). IsTold meaning s.form history pass.owner test) pass.tests) passes)
-        (sym shown_is) tells)
+        (grind arith)
 
     pub shown_known : (P : ℕ → Type 0) → All (λ (pass : PassSeen (About C R)). P pass.known) passes
         → All (λ (pass : PassShown). P pass.known) list
@@ -122,41 +102,21 @@ module _ {C R : Type 0} (str_type : StrType) (of : Ask C → AnyAsk) (told : Rep
   pub reply_shown : (number : ℕ) (mine : List (ℕ × About C R))
       → reply_numbered number (replies_by told mine) ≡ option_map told (reply_to number mine)
   reply_shown number [] = refl
-  reply_shown number (it ∷ mine) = go (it.0 == number) refl (reply_shown number mine)
-    where
-      go : (b : Bool) → it.0 == number ≡ b
-          → reply_numbered number (replies_by told mine) ≡ option_map told (reply_to number mine)
-          → reply_numbered number (replies_by told (it ∷ mine)) ≡ option_map told (reply_to number (it ∷ mine))
-      go true same rest = rw same refl
-      go false other rest = rw other rest
+  reply_shown number (it ∷ mine) = grind (arith, reply_shown number mine)
 
   -- there is one exactly where a call has the number
   pub reply_exists : (number : ℕ) (owner : ConnId) (mine : List (ℕ × About C R))
       → is_some (reply_numbered number (replies_by told mine))
       ≡ is_some (call_numbered number (heard_by of owner mine))
   reply_exists number owner [] = refl
-  reply_exists number owner (it ∷ mine) = go (it.0 == number) refl (reply_exists number owner mine)
-    where
-      go : (b : Bool) → it.0 == number ≡ b
-          → is_some (reply_numbered number (replies_by told mine))
-          ≡ is_some (call_numbered number (heard_by of owner mine))
-          → is_some (reply_numbered number (replies_by told (it ∷ mine)))
-          ≡ is_some (call_numbered number (heard_by of owner (it ∷ mine)))
-      go true same rest = rw same refl
-      go false other rest = rw other rest
+  reply_exists number owner (it ∷ mine) = grind (arith, reply_exists number owner mine)
 
   -- what the owner of a pass is told of the call of this number
   module _ (number : ℕ) (reply : Option (Reply R)) (answer : Option AnyReply) (pass : PassShown)
       (seen : PassSeen (About C R)) (pass_is : pass ≡ shown_as str_type of told seen)
       (reply_is : reply ≡ reply_to number seen.mine) (answer_is : answer ≡ option_map told reply) where
     pub told_reply : answer ≡ reply_numbered number pass.replies
-    told_reply =
-        answer_is ∙ ap (option_map told) reply_is ∙ sym (reply_shown number seen.mine)
-        ∙ sym (ap (λ (p : PassShown). reply_numbered number p.replies) pass_is)
+    told_reply = grind (arith, reply_shown)
 
     pub told_own : is_some answer ≡ is_some (call_numbered number pass.calls)
-    told_own =
-        ap (λ (o : Option AnyReply). is_some o)
-        (told_reply ∙ ap (λ (p : PassShown). reply_numbered number p.replies) pass_is)
-        ∙ reply_exists number (record { 0 = seen.owner }) seen.mine
-        ∙ sym (ap (λ (p : PassShown). is_some (call_numbered number p.calls)) pass_is)
+    told_own = grind (arith, told_reply, reply_exists)

@@ -10,9 +10,7 @@ links-regroup {X} front four left rest all is parts =
 -- one form more
 pub forms-more : {X : Type 0} (forms : List X) (i : ℕ) (form : X) (made after : List X) → i < length forms
     → form ≡ get_or forms i form → made ≡ take i forms → after ≡ made ++ form ∷ [] → after ≡ take (i + 1) forms
-forms-more {X} forms i form made after below is are more =
-    more ∙ ap (λ (xs : List X). xs ++ form ∷ []) are ∙ ap (λ (x : X). take i forms ++ x ∷ []) is
-    ∙ sym (take_more forms i form below)
+forms-more {X} forms i form made after below is are more = grind (arith, take_more)
 
 -- the new desks are those of the board
 pub desks-opened : {L : Type 0} (board : BoardShown L) (cells : List (CellShown L)) (callers : ℕ) (spare : List L)
@@ -42,21 +40,12 @@ module _ {L : Type 0} where
   pub start-none : (cells : List (CellShown L)) (left all : List L) → cells ≡ [] → left ≡ all
       → (map (λ (cell : CellShown L). cell.form) cells ≡ []) × (length cells ≡ 0)
       × (flat_map (λ (cell : CellShown L). four_of cell.links) cells ++ left ≡ all)
-  start-none cells left all none same = (
-    ap (λ (cs : List (CellShown L)). map (λ (cell : CellShown L). cell.form) cs) none,
-    ap length none,
-    ap (λ (cs : List (CellShown L)). flat_map (λ (cell : CellShown L). four_of cell.links) cs ++ left) none ∙ same,
-  )
+  start-none cells left all none same = grind arith
 
   pub count-more : (cells more : List (CellShown L)) (form : StrForm) (i : ℕ)
       → map (λ (cell : CellShown L). cell.form) more ≡ map (λ (cell : CellShown L). cell.form) cells ++ form ∷ []
       → length cells ≡ i → length more ≡ i + 1
-  count-more cells more form i is at =
-      let f : CellShown L → StrForm = λ cell. cell.form in
-      let count : length more ≡ length cells + 1 =
-      sym (length-map more f) ∙ ap length is ∙ length-append (map f cells) (form ∷ [])
-      ∙ ap (λ (n : ℕ). n + 1) (length-map cells f) in
-      omega (arith, count, at)
+  count-more cells more form i is at = grind (arith, length-map, length-append)
 
   -- ---- the board that was opened
 
@@ -71,9 +60,7 @@ module _ {L : Type 0} where
     pub opened-cells : (answer : Result (BoardShown L × V) E) (n limit : ℕ) → callers ≡ n
         → All (IsStarted callers limit) cells → IfOk answer (λ r. r.0 ≡ opened cells callers spare)
         → IfOk answer (λ r. All (IsStarted n limit) r.0.cells)
-    opened-cells (Ok r) n limit same are is =
-        subst (λ (b : BoardShown L). All (IsStarted n limit) b.cells) (sym is)
-        (subst (λ (m : ℕ). All (IsStarted m limit) cells) same are)
+    opened-cells (Ok r) n limit same are is = grind arith
     opened-cells (Err e) n limit same are is = tt
 
     pub opened-links : (answer : Result (BoardShown L × V) E) (all : List L)
@@ -87,7 +74,5 @@ module _ {L : Type 0} where
       → IfOk answer (λ r. r.0 ≡ record { cells = cells; callers = callers; spare = spare })
       → IfOk answer (λ r. r.1.items ≡ map (desk_at cells) (range_with_len 0 (callers + 1)))
       → IfOk answer (λ r. r.1.items ≡ map (new_desk r.0) (range_with_len 0 (n + 1)))
-  opened-desks cells callers spare (Ok r) n same is are =
-      desks-opened r.0 cells callers spare (range_with_len 0 (n + 1)) r.1.items is
-      (are ∙ ap (λ (m : ℕ). map (desk_at cells) (range_with_len 0 (m + 1))) same)
+  opened-desks cells callers spare (Ok r) n same is are = grind (arith, desks-opened)
   opened-desks cells callers spare (Err e) n same is are = tt

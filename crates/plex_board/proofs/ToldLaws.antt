@@ -101,24 +101,14 @@ module _ {C R I S : Type 0} (meaning : Meaning C R I S) (form : StrForm) (told :
       record {
         before = ap calls (sym run) ∙ made.before;
         up_to = whole;
-        number = (
-            let few : length (take call.no history) ≡ call.no =
-            (let inside : call.no ≤ length history = made.within in omega (arith, length-take call.no history)) in
-            sym few ∙ ap length whole);
+        number = grind (arith, length-take);
         last = ap calls (sym whole) ∙ here;
       }
 
   -- ---- over links
 
   facility_or : (cf : CfId) → IsFacility cf ⊎ (¬ IsFacility cf)
-  facility_or cf =
-      elim (cases_lt cf.0 1) [
-        | inl low ↦ inr (λ (it : IsFacility cf). (let one : 1 ≤ cf.0 = it.0 in omega arith))
-        | inr high ↦ elim (cases_lt 4 cf.0) [
-          | inl above ↦ inr (λ (it : IsFacility cf). (let four : cf.0 ≤ 4 = it.1 in omega arith))
-          | inr within ↦ inl (high, within)
-        ]
-      ]
+  facility_or cf = grind (arith, cases_lt)
 
   nothing_told : (told : Telling) → IsAsTold told []
   nothing_told told [] answer more e = absurd cc

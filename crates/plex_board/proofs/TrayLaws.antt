@@ -1,5 +1,5 @@
 -- What is known of a tray whose slot on a structure is read or written.
-use Rattle.plex_board.proofs.Imports.{◌≡◌, ℕ, zero, suc, ◌<◌, List, [], ◌∷◌, length, get_or, set, map, refl, sym, ap, subst, ◌∙◌, arith, ◌⊎◌, inl, inr, Some, None, Option, slice_get, IfSome, option_map, length-set, length-map, map-set, map-set_same, slice_get_read, slice_get-map, slice_get_within, StrNo, AnyNote, NoteShown, note_shown, CellShown, IsNoteOf, BoardShown, cell_on, IsTrayOf}
+use Rattle.plex_board.proofs.Imports.{◌≡◌, ℕ, zero, suc, ◌<◌, List, [], ◌∷◌, length, get_or, set, map, refl, sym, ap, ◌∙◌, arith, ◌⊎◌, inl, inr, Some, None, Option, slice_get, IfSome, option_map, length-set, length-map, map-set, map-set_same, slice_get_read, slice_get-map, slice_get_within, StrNo, AnyNote, NoteShown, note_shown, CellShown, IsNoteOf, BoardShown, cell_on, IsTrayOf}
 
 -- an element after one was written: the written one, or what was there
 element-after : {X : Type 0} (xs : List X) (i x : ℕ) (v w : X) → slice_get (set xs i v) x ≡ Some w
@@ -16,38 +16,16 @@ module _ {L : Type 0} (board : BoardShown L) where
       (cell_is : cell_on board on ≡ Some cell) where
     -- the tray stays the board's where a note of the cell comes in
     pub tray-set : (note : NoteShown) → IsNoteOf cell note → IsTrayOf board (set tray on.0 (Some note))
-    tray-set note is = record {
-      slots = length-set tray on.0 (Some note) ∙ of.slots;
-      notes = λ x other n at its.
-          elim (element-after tray on.0 x (Some note) (Some n) its) [
-            | inl e ↦
-                let same : n ≡ note = cc in
-                let cell' : cell ≡ other = let o : Some cell ≡ Some other = sym cell_is
-                ∙ sym (ap (slice_get board.cells) e.1) ∙ at in cc in
-                subst (λ (m : NoteShown). IsNoteOf other m) (sym same) (subst (λ (c : CellShown L). IsNoteOf c note)
-                cell' is)
-            | inr e ↦ of.notes x other n at e
-          ];
-    }
+    tray-set note is = grind (arith, length-set, element-after)
 
     module _ (slots : List (Option AnyNote)) (tray_is : tray ≡ map (option_map note_shown) slots) where
       pub slot-there : on.0 < length slots
-      slot-there =
-          let below : on.0 < length board.cells = slice_get_within board.cells on.0 cell cell_is in
-          let same : length tray ≡ length slots = ap length tray_is ∙ length-map slots (option_map note_shown) in
-          omega (arith, below, same, of.slots)
+      slot-there = grind (arith, slice_get_within, length-map)
 
       -- the note in the slot is one of the cell
       pub slot-is : (j : ℕ) (slot : Option AnyNote) → j ≡ on.0 → slot ≡ get_or slots j slot
           → IfSome slot (λ note. IsNoteOf cell (note_shown note))
-      slot-is j slot at is =
-          let is' : slot ≡ get_or slots on.0 slot = is ∙ ap (λ (n : ℕ). get_or slots n slot) at in
-          let here : slice_get slots on.0 ≡ Some slot =
-          slice_get_read slots (length slots) on.0 slot refl slot-there is' in
-          let shown : slice_get tray on.0 ≡ Some (option_map note_shown slot) =
-          ap (λ (t : List (Option NoteShown)). slice_get t on.0) tray_is
-          ∙ slice_get-map (option_map note_shown) slots on.0 ∙ ap (option_map (option_map note_shown)) here in
-          noted slot shown
+      slot-is j slot at is = grind (arith, slice_get_read, slot-there, slice_get-map, noted)
         where
           noted : (s : Option AnyNote) → slice_get tray on.0 ≡ Some (option_map note_shown s)
               → IfSome s (λ note. IsNoteOf cell (note_shown note))
@@ -60,11 +38,7 @@ module _ (slots : List (Option AnyNote)) (tray : List (Option NoteShown)) (on : 
     (tray_is : tray ≡ map (option_map note_shown) slots) (at : j ≡ on.0) where
   pub tray-after : (slot : Option AnyNote) (note : NoteShown) → option_map note_shown slot ≡ Some note
       → map (option_map note_shown) (set slots j slot) ≡ set tray on.0 (Some note)
-  tray-after slot note is =
-      map-set (option_map note_shown) slots j slot
-      ∙ ap (λ (t : List (Option NoteShown)). set t j (option_map note_shown slot)) (sym tray_is)
-      ∙ ap (λ (n : ℕ). set tray n (option_map note_shown slot)) at
-      ∙ ap (λ (o : Option NoteShown). set tray on.0 o) is
+  tray-after slot note is = grind (arith, map-set)
 
   pub tray-same : (slot after : Option AnyNote) → slot ≡ get_or slots j slot
       → option_map note_shown after ≡ option_map note_shown slot

@@ -1,5 +1,5 @@
 -- Structures that nobody has called yet, as they end.
-use Rattle.plex_board.proofs.Imports.{◌≡◌, ℕ, suc, ◌+◌, ◌<◌, ◌≤◌, List, [], ◌∷◌, ◌++◌, length, get_or, map, All, refl, sym, ap, subst, ◌∙◌, arith, append_assoc, Option, Some, slice_get, flat_map, range_with_len, length-map, get_or-map, length-range_with_len, get_or-map-range_with_len, All-map, All-weaker, slice_get_within, get_or_from_slice_get, ConnId, Links, AreAsked, AnyHistory, any_calls, own_calls, any_answers, PassShown, unused_pass, CellShown, DeskShown, no_pass, fixed_of, IsStarted, IsClosed, IsAccount, AreEachAsked, four_of, fixed_at, Opening, HomeShown, homes_shown, AllFit, homes_gathered, AreHomes, AreEnded, IsOpening, IsUnused, desk_at}
+use Rattle.plex_board.proofs.Imports.{◌≡◌, ℕ, suc, ◌+◌, ◌<◌, ◌≤◌, List, [], ◌∷◌, ◌++◌, length, get_or, map, All, refl, sym, ap, subst, ◌∙◌, arith, append_assoc, Option, Some, slice_get, flat_map, range_with_len, length-map, get_or-map, length-range_with_len, get_or-map-range_with_len, All-map, All-weaker, slice_get_within, get_or_from_slice_get, ConnId, Links, AreAsked, AnyHistory, any_calls, own_calls, any_answers, PassShown, unused_pass, CellShown, DeskShown, no_pass, fixed_of, IsClosed, IsAccount, AreEachAsked, four_of, fixed_at, Opening, HomeShown, homes_shown, AllFit, homes_gathered, AreHomes, AreEnded, IsOpening, IsUnused, desk_at}
 use Rattle.plex_board.proofs.UnusedPassLaws.{unused_links}
 use Rattle.plex_board.proofs.DeskLaws.{new_desk-of_board}
 use Rattle.plex_board.proofs.HomeLaws.{desks-fit, homes-gathered, accounts-at, count-of-homes}
@@ -53,17 +53,13 @@ module _ {L : Type 0} (cells : List (CellShown L)) (homes : List HomeShown) (des
       subst (λ (c : CellShown L). c.callers < length desks) here all in
       let below : owner.0 < length desks = omega (arith, few, callers) in
       let new : DeskShown = desk_at cells owner.0 in
-      let desk : get_or desks owner.0 new ≡ new =
-      ap (λ (ds : List DeskShown). get_or ds owner.0 new) is.desks_are
-      ∙ get_or-map-range_with_len (desk_at cells) 0 (length desks) owner.0 owner.0 new below (omega arith) in
+      let desk : get_or desks owner.0 new ≡ new = grind (arith, get_or-map-range_with_len) in
       let unused : CellShown L → PassShown = λ c. unused_pass c.str_type c.words owner.0 in
       let pass : get_or new.passes x no_pass ≡ unused cell =
       get_or-map unused cells x cell no_pass within ∙ ap unused here in
       let account : IsAccount cell entries (get_or (get_or desks owner.0 new).passes x no_pass) =
       accounts owner.0 new below in
-      let mine : IsAccount cell entries (unused cell) =
-      subst (IsAccount cell entries) pass
-      (subst (λ (d : DeskShown). IsAccount cell entries (get_or d.passes x no_pass)) desk account) in
+      let mine : IsAccount cell entries (unused cell) = grind arith in
       sym mine.mine
 
   -- all links come back as they were
@@ -85,20 +81,7 @@ module _ {L : Type 0} (cells : List (CellShown L)) (homes : List HomeShown) (des
 -- a board that is opened has no calls yet
 pub opening-unused : {L : Type 0} (callers limit : ℕ) (opening : Opening L) → IsOpening callers limit opening
     → IsUnused opening.stations.items (homes_shown opening.rest.homes.items) opening.desks.items
-opening-unused {L} callers limit opening is =
-    let cells : List (CellShown L) = opening.stations.items in
-    let count : length opening.desks.items ≡ callers + 1 =
-    ap length is.desks ∙ length-map (range_with_len 0 (callers + 1)) (desk_at cells)
-    ∙ length-range_with_len 0 (callers + 1) in
-    record {
-      homes_are =
-          subst (λ (n : ℕ). AreHomes n cells (homes_shown opening.rest.homes.items)) (sym count) is.begun.homes;
-      empty = is.begun.empty;
-      desks_are = is.desks ∙ ap (λ (n : ℕ). map (desk_at cells) (range_with_len 0 n)) (sym count);
-      callers =
-          All-weaker (IsStarted callers limit) (λ (cell : CellShown L). cell.callers < length opening.desks.items)
-          (λ cell started. omega (arith, started.callers_is, count)) cells is.started;
-    }
+opening-unused {L} callers limit opening is = grind (arith, length-map, length-range_with_len, All-weaker)
 
 -- each new desk has room for one place more
 pub desks-few : {L : Type 0} (cells : List (CellShown L)) (owners : List ℕ) (desks : List DeskShown) (most : ℕ)
@@ -106,7 +89,4 @@ pub desks-few : {L : Type 0} (cells : List (CellShown L)) (owners : List ℕ) (d
     → All (λ (desk : DeskShown). length desk.passes < most) desks
 desks-few {L} cells owners desks most are few =
     subst (All (λ (desk : DeskShown). length desk.passes < most)) (sym are)
-    (All-map (λ (desk : DeskShown). length desk.passes < most) (desk_at cells) owners (λ k d below.
-    let count : length (desk_at cells (get_or owners k d)).passes ≡ length cells =
-    length-map cells (λ (cell : CellShown L). unused_pass cell.str_type cell.words (get_or owners k d)) in
-    omega (arith, count, few)))
+    (All-map (λ (desk : DeskShown). length desk.passes < most) (desk_at cells) owners (grind (arith, length-map)))

@@ -1,5 +1,5 @@
 -- A structure that nobody has called: its links were asked nothing.
-use Rattle.plex_board.proofs.Imports.{◌≡◌, ℕ, ◌+◌, ◌<◌, ◌≤◌, ◌==◌, Bool, true, false, List, [], ◌∷◌, ◌++◌, length, get_or, map, All, refl, sym, ap, subst, ◌∙◌, arith, Option, eq-eqb, range_with_len, All-head, length-map-range_with_len, get_or-map-range_with_len, StrForm, CfId, ConnId, Links, IsAskedAll, AreAsked, link_at, Entry, Meaning, calls, IsLegal, by_turns, calls-turn, call_added, cache_meaning, list_meaning, lock_meaning, AnyHistory, AnyCall, any_call, any_calls, own_calls, WordTable, StrType, IsAnyLegal, any_answers, PassShown, unused_pass, CellShown}
+use Rattle.plex_board.proofs.Imports.{◌≡◌, ℕ, ◌+◌, ◌<◌, ◌≤◌, ◌==◌, Bool, true, false, List, [], ◌∷◌, ◌++◌, length, get_or, map, All, refl, sym, ap, subst, ◌∙◌, arith, Option, eq-eqb, range_with_len, All-head, length-map-range_with_len, get_or-map-range_with_len, StrForm, CfId, ConnId, Links, AreAsked, Entry, Meaning, calls, IsLegal, by_turns, calls-turn, call_added, cache_meaning, list_meaning, lock_meaning, AnyHistory, AnyCall, any_call, any_calls, own_calls, WordTable, StrType, IsAnyLegal, any_answers, PassShown, unused_pass, CellShown}
 use Rattle.std.proofs.Common.{length-append}
 use Rattle.plex_script.specs.declared.scripts.AnyAsk.TheVariants as ask
 use Rattle.plex_script.specs.declared.asks.AnyHistory.TheVariants as history
@@ -55,12 +55,7 @@ module _ {L : Type 0} (asks : L → Option ℕ) (downs : L → Option (List ℕ)
   none_asked : (answers : CfId → List Bool) (old new : Links L) → AreAsked asks downs faults answers old new
       → ((cf : CfId) → answers cf ≡ []) → new ≡ old
   none_asked answers old new asked none =
-      let all : AreAsked asks downs faults (λ (cf : CfId). []) old new =
-      record {
-        asked = λ cf here. subst (λ (some : List Bool). IsAskedAll asks downs faults some (link_at old cf)
-            (link_at new cf)) (none cf) (asked.asked cf here);
-        others = λ cf other. refl;
-      } in
+      let all : AreAsked asks downs faults (λ (cf : CfId). []) old new = grind arith in
       let one : new.one ≡ old.one = all.asked (record { 0 = 1 }) (omega arith, omega arith) in
       let two : new.two ≡ old.two = all.asked (record { 0 = 2 }) (omega arith, omega arith) in
       let three : new.three ≡ old.three = all.asked (record { 0 = 3 }) (omega arith, omega arith) in
@@ -79,9 +74,7 @@ module _ {L : Type 0} (asks : L → Option ℕ) (downs : L → Option (List ℕ)
       → IsAnyLegal cell.form entries → All (λ (call : AnyCall). call.by.0 ≤ cell.callers) (any_calls entries)
       → ((owner : ConnId) → owner.0 ≤ cell.callers → own_calls (any_calls entries) owner ≡ [])
       → AreAsked asks downs faults (any_answers cell.form entries) cell.links handed → handed ≡ cell.links
-  unused_links cell entries handed legal within none asked =
-      none_asked (any_answers cell.form entries) cell.links handed asked
-      (none_answered cell.form entries legal (none_called cell.callers (any_calls entries) within none))
+  unused_links cell entries handed legal within none asked = grind (arith, none_asked, none_answered, none_called)
 
 -- ---- passes that have seen nothing
 

@@ -1,12 +1,9 @@
 -- Words made of bits, which are added one after another; and a number is the sum of its bits' worths.
-use Rattle.plex_board.proofs.Imports.{◌≡◌, ℕ, zero, suc, ◌+◌, ◌*◌, ◌^◌, ◌%◌, ◌<◌, ◌≤◌, ◌==◌, Bool, true, false, if◌then◌else◌, List, [], ◌∷◌, ◌++◌, refl, sym, ap, ◌∙◌, arith, add-zero, mod-eq_of_lt, bit_at, sum_by, sum_by_push, mod-pow-add, bit_at-lt, pow-suc, pow_mono, numbers_from}
+use Rattle.plex_board.proofs.Imports.{◌≡◌, ℕ, zero, suc, ◌+◌, ◌*◌, ◌^◌, ◌%◌, ◌<◌, ◌≤◌, ◌==◌, Bool, if◌then◌else◌, [], ◌∷◌, ◌++◌, sym, ap, ◌∙◌, arith, add-zero, mod-eq_of_lt, bit_at, sum_by, sum_by_push, mod-pow-add, bit_at-lt, pow-suc, numbers_from}
 
 pub numbers_from-suc : (first n : ℕ) → numbers_from first (suc n) ≡ numbers_from first n ++ (first + n) ∷ []
 numbers_from-suc first zero = ap (λ (m : ℕ). m ∷ []) (sym (add-zero first))
-numbers_from-suc first (suc n) =
-    let same : (first + 1) + n ≡ first + suc n = omega arith in
-    ap (λ (rest : List ℕ). first ∷ rest)
-    (numbers_from-suc (first + 1) n ∙ ap (λ (m : ℕ). numbers_from (first + 1) n ++ m ∷ []) same)
+numbers_from-suc first (suc n) = grind (arith, numbers_from-suc (first + 1) n)
 
 -- the value of a bit at its place
 abbrev pub worth : (ℕ → Bool) → ℕ → ℕ
@@ -21,16 +18,7 @@ word_next bits n =
 
 pub word_below : (bits : ℕ → Bool) (n : ℕ) → suc (sum_by (worth bits) (numbers_from 0 n)) ≤ 2 ^ n
 word_below bits zero = omega arith
-word_below bits (suc n) = by_bit (bits n) refl (word_below bits n)
-  where
-    by_bit : (b : Bool) → bits n ≡ b → suc (sum_by (worth bits) (numbers_from 0 n)) ≤ 2 ^ n
-        → suc (sum_by (worth bits) (numbers_from 0 (suc n))) ≤ 2 ^ suc n
-    by_bit true set below =
-        let value : worth bits n ≡ 2 ^ n = rw set refl in
-        omega (arith, word_next bits n, below, value, pow-suc 2 n)
-    by_bit false clear below =
-        let value : worth bits n ≡ 0 = rw clear refl in
-        omega (arith, word_next bits n, below, value, pow-suc 2 n)
+word_below bits (suc n) = grind (arith, word_next, pow-suc, word_below bits n)
 
 worth_of_bit : (bit unit : ℕ) → bit < 2 → (if bit == 1 then unit else 0) ≡ bit * unit
 worth_of_bit zero unit small = omega arith
@@ -45,9 +33,7 @@ low_bits number (suc n) bits are =
     let one : 1 + n ≡ suc n = omega arith in
     let before : sum_by (worth bits) (numbers_from 0 n) ≡ number % 2 ^ n =
     low_bits number n bits (λ k within. are k (omega arith)) in
-    let last : worth bits n ≡ bit_at number n * 2 ^ n =
-    ap (λ (b : Bool). if b then 2 ^ n else 0) (are n (omega arith))
-    ∙ worth_of_bit (bit_at number n) (2 ^ n) (bit_at-lt number n) in
+    let last : worth bits n ≡ bit_at number n * 2 ^ n = grind (arith, worth_of_bit, bit_at-lt) in
     let parts : number % 2 ^ suc n ≡ bit_at number n * 2 ^ n + number % 2 ^ n =
     ap (λ (m : ℕ). number % 2 ^ m) (sym one) ∙ mod-pow-add number 1 n in
     word_next bits n ∙ omega (arith, before, last, parts)

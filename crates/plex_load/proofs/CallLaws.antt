@@ -1,5 +1,5 @@
 -- The calls of a connector are entries that are counted one by one.
-use Rattle.plex_load.proofs.Imports.{◌≡◌, ℕ, ◌+◌, ◌==◌, ◌&&◌, Bool, true, false, cond, List, [], ◌∷◌, length, map, refl, sym, ap, ◌∙◌, arith, count_by, cons_option, sum_by-cons, CacheCmd, CacheReply, ListCmd, ListReply, LockCmd, LockReply, ConnId, Ask, What, Entry, Call, call_told, calls, AnyAsk, any_call, own_calls, is_call, is_call_by}
+use Rattle.plex_load.proofs.Imports.{◌≡◌, ℕ, ◌+◌, ◌==◌, ◌&&◌, Bool, true, false, cond, List, [], ◌∷◌, length, map, refl, ◌∙◌, arith, count_by, cons_option, sum_by-cons, CacheCmd, CacheReply, ListCmd, ListReply, LockCmd, LockReply, ConnId, Ask, What, Entry, Call, call_told, calls, AnyAsk, any_call, own_calls, is_call, is_call_by}
 use Rattle.plex_script.specs.EngineApi.declared.asks.What.TheVariants as what
 use Rattle.plex_script.specs.declared.scripts.AnyAsk.TheVariants as ask
 
@@ -9,13 +9,7 @@ module _ {C R : Type 0} (of : Ask C → AnyAsk) (conn : ConnId) where
 
   one_call : (call : Call C R) (told : List (Call C R))
       → own_of (call ∷ told) ≡ cond (call.by.0 == conn.0 && true) 1 0 + own_of told
-  one_call call told = by_test (call.by.0 == conn.0) refl
-    where
-      by_test : (b : Bool) → (call.by.0 == conn.0) ≡ b
-          → (let rest = own_calls (map (any_call of) told) conn in
-          length (cond b (any_call of call ∷ rest) rest) ≡ cond (b && true) 1 0 + own_of told)
-      by_test true e = omega arith
-      by_test false e = omega arith
+  one_call call told = grind arith
 
   pub counted : (entries : List (Entry C R)) → count_by (is_call_by conn) entries ≡ own_of (calls entries)
   counted [] = refl
@@ -30,9 +24,7 @@ module _ {C R : Type 0} (of : Ask C → AnyAsk) (conn : ConnId) where
       at_what : (w : What C) → count_by (is_call_by {C = C} {R = R} conn) entries ≡ own_of (calls entries)
           → cond (entry.by.0 == conn.0 && is_call w) 1 0 + count_by (is_call_by {C = C} {R = R} conn) entries
           ≡ own_of (cons_option (call_told entry.no entry.by entry.reply w) (calls entries))
-      at_what (what.Call asked) rest =
-          ap (λ (n : ℕ). cond (entry.by.0 == conn.0 && true) 1 0 + n) rest
-          ∙ sym (one_call (record { no = entry.no; by = entry.by; ask = asked; reply = entry.reply }) (calls entries))
+      at_what (what.Call asked) rest = grind (arith, one_call)
       at_what (what.Lost cf) rest = none (entry.by.0 == conn.0) rest
 
 -- of each kind

@@ -1,5 +1,5 @@
 -- What holds of each line of a load.
-use Rattle.plex_load.proofs.Imports.{◌≡◌, ℕ, ◌+◌, ◌≤◌, ◌<◌, [], ◌++◌, length, get_or, map, refl, sym, ap, ◌∙◌, subst, arith, length-append, All, range_with_len, All-nil, All-cons, All-append, All-map, length-range_with_len, length-map-range_with_len, get_or-range_with_len, Line, number_after, index_of, lines_each, own_line, work, connect_line, work_line, connector_lines, first_number, own_lines, lines_of_first, load_script}
+use Rattle.plex_load.proofs.Imports.{◌≡◌, ℕ, ◌+◌, ◌≤◌, ◌<◌, [], ◌++◌, length, get_or, map, refl, sym, ◌∙◌, subst, arith, length-append, All, range_with_len, All-nil, All-cons, All-append, All-map, length-range_with_len, length-map-range_with_len, get_or-range_with_len, Line, number_after, index_of, lines_each, own_line, work, connect_line, work_line, connector_lines, first_number, own_lines, lines_of_first, load_script}
 
 pub each-is : lines_each ≡ 1000
 unfolding lines_each
@@ -16,16 +16,7 @@ length-connector c x = omega (arith, length-map-range_with_len (work_line c x) 1
 
 pub length-load : (n : ℕ) → length (load_script n).lines ≡ 4004
 unfolding load_script
-length-load n =
-    let long : (c : ℕ) → length (own_lines n c) ≡ 1001 = λ c. length-connector c (first_number n c) in
-    let third = own_lines n 3 ++ [] in
-    let second = own_lines n 2 ++ third in
-    let first = own_lines n 1 ++ second in
-    let parts = length-append (own_lines n 0) first in
-    let behind = length-append (own_lines n 1) second in
-    let last = length-append (own_lines n 2) third in
-    let none = length-append (own_lines n 3) [] in
-    ap length (four_parts n) ∙ omega (arith, parts, behind, last, none, long 0, long 1, long 2, long 3)
+length-load n = grind (arith, length-connector, length-append, four_parts)
 
 module _ (P : Line → Type 0) where
   each_work : (c x count : ℕ) → ((i number : ℕ) → 1 ≤ i → i ≤ count → P (own_line c i (work c i (index_of number))))
@@ -39,9 +30,7 @@ module _ (P : Line → Type 0) where
   each_of_connector : (c x : ℕ) → P (connect_line c)
       → ((i number : ℕ) → 1 ≤ i → i ≤ 1000 → P (own_line c i (work c i (index_of number))))
       → All P (connector_lines c x)
-  each_of_connector c x connect each =
-      All-cons P (connect_line c) (map (work_line c x) (range_with_len 1 lines_each)) connect
-      (each_work c x lines_each (λ i number low high. each i number low (omega (arith, high, each-is))))
+  each_of_connector c x connect each = grind (arith, All-cons, each_work, each-is)
 
   -- what holds of each CONNECT, and of each line behind one, holds of each line
   pub each_line : ((c : ℕ) → c < 4 → P (connect_line c))

@@ -36,8 +36,8 @@ pub use Rattle.plex_script.specs.Heard.{any_call, own_calls, any_length}
 pub use Rattle.plex_script.specs.Limits.{AreFacilities, HasRoom, IsStructureIn, IsLineIn, KeepsLimits}
 pub use Rattle.plex_script.specs.LineWords.{MayDo}
 pub use Rattle.plex_script.specs.PlexPlain.Ranges.{IsNamed, AreNames, AreWithin}
-pub use Rattle.plex_script.specs.PlexSpell.Tokens.{Declared, is_term, is_name, is_declared}
-pub use Rattle.plex_script.specs.PlexSpell.Tokens.Token.{Term, NewName}
+pub use Rattle.plex_script.specs.PlexSpell.Tokens.{Declared, is_term, is_name}
+pub use Rattle.plex_script.specs.PlexSpell.Tokens.Token.{Term}
 pub use Rattle.plex_script.specs.PlexSpell.Words.{line_text}
 pub use Rattle.plex_script.specs.Printed.{script_text, class_in, line_tokens, numbered_behind, with_line_numbers}
 pub use Rattle.plex_script.specs.Scripts.{IsScript, line_number}
@@ -48,7 +48,7 @@ pub use Rattle.plex_script.specs.declared.scripts.AnyAsk.{AnyAsk}
 pub use Rattle.plex_script.specs.declared.scripts.Line.{Line}
 pub use Rattle.plex_script.specs.declared.scripts.Script.{Script}
 pub use Rattle.plex_load.specs.Counts.{is_call, is_call_by}
-pub use Rattle.plex_load.specs.Generated.{index_of, own_line, work, connect_line, work_line, connector_lines, first_number, own_lines, read, write, named, letter, page, connect, load_facility, load_pref, load_form, load_connectors, next_number, place_of}
+pub use Rattle.plex_load.specs.Generated.{index_of, own_line, work, connect_line, work_line, connector_lines, first_number, own_lines, read, write, named, letter, page, connect, load_facility, load_form, load_connectors, next_number, place_of}
 unfoldable pub use Rattle.plex_load.specs.Generated.{number_after, lines_each, lines_of_first, load_script}
 pub use Rattle.plex_load.specs.Loads.{asks_on, asks_of, IsLoad}
 pub use Rattle.plex_load.specs.Summary.{calls_line, calls_by, refusals_of, tests_of}

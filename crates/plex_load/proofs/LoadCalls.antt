@@ -1,18 +1,11 @@
 -- How many calls the lines of a load make.
-use Rattle.plex_load.proofs.Imports.{◌≡◌, ℕ, ◌+◌, ◌*◌, ◌%◌, ◌≤◌, ◌==◌, zero, suc, Bool, true, false, cond, [], ◌++◌, map, refl, ap, ◌∙◌, arith, range_with_len, nat_tests, sum_by-map-range_with_len_more, sum_by-append, sum_by-cons, StrNo, first_step, most_asks, number_after, index_of, lines_each, read, write, work, connect_line, work_line, connector_lines, first_number, own_lines, lines_of_first, load_script, asks_on, asks_of}
+use Rattle.plex_load.proofs.Imports.{◌≡◌, ℕ, ◌+◌, ◌*◌, ◌%◌, ◌≤◌, ◌==◌, zero, suc, Bool, true, false, cond, [], ◌++◌, map, refl, ap, ◌∙◌, arith, range_with_len, nat_tests, sum_by-map-range_with_len_more, sum_by-append, sum_by-cons, StrNo, first_step, most_asks, work, work_line, connector_lines, first_number, own_lines, lines_of_first, load_script, asks_on, asks_of}
 use Rattle.std.specs.List.{sum_by}
-use Rattle.plex_script.specs.declared.scripts.Act.TheVariants as act
 use Rattle.plex_load.proofs.EachLine.{each-is, four_parts}
 
 -- a test asks nothing, and any other line behind CONNECT asks once
 asks_work : (c i j : ℕ) → most_asks (first_step (work c i j) 0) ≡ cond (i % 4 == 0) 0 1
-asks_work c i j = at_test (i % 4 == 0) (i % 4 == 1)
-  where
-    at_test : (a b : Bool)
-        → most_asks (first_step (cond a (act.Test j) (cond b (write c i j) (read j))) 0) ≡ cond a 0 1
-    at_test true b = refl
-    at_test false true = refl
-    at_test false false = refl
+asks_work c i j = grind arith
 
 three_more : (b : Bool) (k next before one two three four : ℕ) → next ≡ k + 1 → before ≡ cond b (3 * k) 0
     → one ≡ before + cond b 1 0 → two ≡ one + cond b 1 0 → three ≡ two + cond b 1 0 → four ≡ three + cond b 0 0
@@ -28,16 +21,12 @@ module _ (on : StrNo) where
   -- what a line asks of the structure, if it is this one
   asks_line : (c x i : ℕ) (tests : Bool) → (i % 4 == 0) ≡ tests
       → asks_on on (work_line c x i) ≡ cond (0 == on.0) (cond tests 0 1) 0
-  asks_line c x i tests e =
-      ap (λ (n : ℕ). cond (0 == on.0) n 0) (asks_work c i (index_of (number_after i x)))
-      ∙ ap (λ (b : Bool). cond (0 == on.0) (cond b 0 1) 0) e
+  asks_line c x i tests e = grind (arith, asks_work)
 
   asks_more : (c x n i : ℕ) (tests : Bool) → 1 + n ≡ i → (i % 4 == 0) ≡ tests
       → sum_by (asks_on on) (map (work_line c x) (range_with_len 1 (n + 1)))
       ≡ sum_by (asks_on on) (map (work_line c x) (range_with_len 1 n)) + cond (0 == on.0) (cond tests 0 1) 0
-  asks_more c x n i tests at e =
-      sum_by-map-range_with_len_more (asks_on on) (work_line c x) 1 n i at
-      ∙ ap (λ (m : ℕ). sum_by (asks_on on) (map (work_line c x) (range_with_len 1 n)) + m) (asks_line c x i tests e)
+  asks_more c x n i tests at e = grind (arith, sum_by-map-range_with_len_more, asks_line)
 
   -- three of each four lines ask once
   asks_works : (c x k n : ℕ) → n ≡ 4 * k
@@ -57,14 +46,7 @@ module _ (on : StrNo) where
       (asks_more c x (m + 1 + 1 + 1) (m + 4) true (omega arith) (grind (arith, nat_tests)))
 
   asks_connector : (c x : ℕ) → sum_by (asks_on on) (connector_lines c x) ≡ cond (0 == on.0) 751 0
-  asks_connector c x =
-      let rest = asks_works c x 250 lines_each each-is in
-      let first = sum_by-cons (asks_on on) (connect_line c) (map (work_line c x) (range_with_len 1 lines_each)) in
-      at_test (0 == on.0) first rest
-    where
-      at_test : (b : Bool) {all work : ℕ} → all ≡ cond b 1 0 + work → work ≡ cond b 750 0 → all ≡ cond b 751 0
-      at_test true e f = omega arith
-      at_test false e f = omega arith
+  asks_connector c x = grind (arith, asks_works, each-is, sum_by-cons)
 
   asks_lines : (n : ℕ) → sum_by (asks_on on) (lines_of_first n 4) ≡ cond (0 == on.0) 3004 0
   asks_lines n =
@@ -86,8 +68,4 @@ module _ (on : StrNo) where
 
 pub load_calls : (n : ℕ) (on : StrNo) → asks_of (load_script n) on ≤ 3008
 unfolding load_script
-load_calls n on = at_test (0 == on.0) (asks_lines on n)
-  where
-    at_test : (b : Bool) {lines : ℕ} → lines ≡ cond b 3004 0 → lines + 4 ≤ 3008
-    at_test true e = omega (arith, e)
-    at_test false e = omega (arith, e)
+load_calls n on = grind (arith, asks_lines)

@@ -1,7 +1,6 @@
 -- What holds of each load.
-use Rattle.plex_load.proofs.Imports.{◌≡◌, ℕ, ◌%◌, ◌==◌, Bool, true, false, cond, refl, sym, subst, All, Line, Script, script_text, IsScript, IsWellFormed, script-formed, script-reads, index_of, read, write, work, load_script, IsLoad}
-use Rattle.plex_script.specs.declared.scripts.Act.TheVariants as act
-use Rattle.plex_load.proofs.EachLine.{each_line, length-load}
+use Rattle.plex_load.proofs.Imports.{◌≡◌, ℕ, ◌%◌, ◌==◌, sym, subst, Script, script_text, IsScript, IsWellFormed, script-formed, script-reads, load_script, IsLoad}
+use Rattle.plex_load.proofs.EachLine.{length-load}
 use Rattle.plex_load.proofs.LoadCalls.{load_calls}
 use Rattle.plex_load.proofs.LoadLimits.{load-keeps}
 use Rattle.plex_load.proofs.Numbering.{load_numbered}

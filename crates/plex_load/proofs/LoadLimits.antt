@@ -1,5 +1,5 @@
 -- A load keeps the forms, the ranges and the limits of the language.
-use Rattle.plex_load.proofs.Imports.{◌≡◌, ℕ, ◌+◌, ◌≤◌, ◌<◌, ◌==◌, ◌%◌, zero, suc, Bool, true, false, not, cond, List, [], ◌∷◌, ◌++◌, length, codes, get_or, refl, sym, ap, ◌∙◌, subst, arith, All, decimal, nat_tests, All-nil, All-cons, get_or-map-range_with_len, Pref, Name16, IsForm, IsPref, IsPadded, Declared, is_term, is_name, is_declared, Term, NewName, IsNamed, AreNames, AreWithin, words-within, Act, MayDo, class_in, line_tokens, AreFacilities, HasRoom, IsStructureIn, IsLineIn, KeepsLimits, named, letter, page, read, write, connect, work, own_line, index_of, load_facility, load_pref, load_form, load_connectors, lines_of_first, load_script}
+use Rattle.plex_load.proofs.Imports.{◌≡◌, ℕ, ◌+◌, ◌≤◌, ◌<◌, ◌==◌, ◌%◌, zero, suc, Bool, true, false, not, cond, List, [], ◌∷◌, ◌++◌, length, codes, get_or, refl, ◌∙◌, arith, All, decimal, nat_tests, All-nil, All-cons, get_or-map-range_with_len, Pref, Name16, IsForm, IsPref, IsPadded, Declared, is_term, is_name, Term, IsNamed, AreNames, AreWithin, words-within, Act, MayDo, class_in, line_tokens, AreFacilities, HasRoom, IsStructureIn, IsLineIn, KeepsLimits, named, letter, page, read, write, connect, work, own_line, index_of, load_facility, load_form, load_connectors, lines_of_first, load_script}
 use Rattle.plex_script.specs.CfTypes.declared.forms.Kind.TheVariants as kind
 use Rattle.plex_script.specs.declared.scripts.Act.TheVariants as act
 use Rattle.plex_load.proofs.EachLine.{each_line}
@@ -17,49 +17,26 @@ padded_named word term short =
 -- ---- the policy
 
 cache_named : IsNamed load_form.name
-cache_named =
-    (words-within nobody (NewName load_form.name ∷ []) (codes "LOADCACHE" ∷ []) []
-    (((refl, omega arith), refl), refl)).0
+cache_named = grind (arith, words-within, nobody)
 
 one_set : (pref : Pref) → IsPref pref → All IsPref (pref ∷ [])
 one_set pref is = All-cons IsPref pref [] is (All-nil IsPref)
 
 facilities_kept : AreFacilities (load_facility ∷ [])
-facilities_kept = (
-  one_set load_facility (omega arith, omega arith, omega arith),
-  λ i j d before low. absurd (omega (arith, before, low)),
-)
+facilities_kept = grind (arith, one_set)
 
 form_is : IsForm load_form
-form_is = record {
-  kind = tt;
-  caps = record {
-    some_entries = omega arith;
-    most_entries = omega arith;
-    some_elements = omega arith;
-    most_elements = omega arith;
-  };
-  some_conns = omega arith;
-  most_conns = omega arith;
-  vector = (omega arith, omega arith);
-  prefs = one_set load_pref (omega arith, omega arith, omega arith);
-  apart = λ i j d before low. absurd (omega (arith, before, low));
-}
+form_is = grind (arith, one_set)
 
 form_kept : IsStructureIn (load_facility ∷ []) load_form
-form_kept =
-    let stands : Pref → Type 0 = λ pref. is_declared (load_facility ∷ []) pref.cf ≡ true in
-    record { formed = form_is; declared = All-cons stands load_pref [] refl (All-nil stands) }
+form_kept = grind (arith, form_is, All-cons, All-nil)
 
 structures_kept : All (IsStructureIn (load_facility ∷ [])) (load_form ∷ [])
 structures_kept =
     let kept = IsStructureIn (load_facility ∷ []) in All-cons kept load_form [] form_kept (All-nil kept)
 
 structure_names_kept : AreNames (load_form.name ∷ [])
-structure_names_kept = (
-  All-cons IsNamed load_form.name [] cache_named (All-nil IsNamed),
-  λ i j d before low. absurd (omega (arith, before, low)),
-)
+structure_names_kept = grind (arith, All-cons, cache_named, All-nil)
 
 letter_is_name : (c : ℕ) → c < 4 → is_name (letter c) ≡ true
 letter_is_name zero low = refl
@@ -69,31 +46,18 @@ letter_is_name (suc (suc (suc zero))) low = refl
 letter_is_name (suc (suc (suc (suc c)))) low = absurd (omega arith)
 
 letter_named : (c : ℕ) → c < 4 → IsNamed (named (letter c))
-letter_named c low =
-    (words-within nobody (NewName (named (letter c)) ∷ []) (letter c ∷ []) []
-    (((letter_is_name c low, omega arith), refl), refl)).0
+letter_named c low = grind (arith, words-within, nobody, letter_is_name)
 
 connector_at : (k : ℕ) (d : Name16) → k < 4 → get_or load_connectors k d ≡ named (letter k)
 connector_at k d low = get_or-map-range_with_len (λ (c : ℕ). named (letter c)) 0 4 k k d low (omega arith)
 
 connectors_kept : AreNames load_connectors
-connectors_kept = (
-  λ k d low. subst IsNamed (sym (connector_at k d low)) (letter_named k low),
-  λ i j d before low same.
-      let names : named (letter i) ≡ named (letter j) =
-      sym (connector_at i d (omega (arith, before, low))) ∙ same ∙ connector_at j d low in
-      let first : 65 + i ≡ 65 + j = ap (λ (name : Name16). get_or name.0 0 0) names in
-      absurd (omega (arith, first, before)),
-)
+connectors_kept = grind (arith, connector_at, letter_named)
 
 -- the structure takes 512 of the facility's 1,000 units
 room_kept : (n : ℕ) → HasRoom (load_script n)
 unfolding load_script
-room_kept n cf = at_test (1 == cf.0)
-  where
-    at_test : (b : Bool) → 0 + cond b 512 0 ≤ cond b 1000 0
-    at_test true = omega arith
-    at_test false = omega arith
+room_kept n cf = grind arith
 
 -- ---- lines
 
@@ -160,13 +124,5 @@ lines_kept n =
 
 pub load-keeps : (n : ℕ) → KeepsLimits (load_script n)
 unfolding load_script
-load-keeps n = record {
-  facilities = facilities_kept;
-  few_structures = omega arith;
-  structures = structures_kept;
-  structure_names = structure_names_kept;
-  few_connectors = omega arith;
-  connectors = connectors_kept;
-  room = room_kept n;
-  lines = lines_kept n;
-}
+load-keeps n =
+    grind (arith, facilities_kept, structures_kept, structure_names_kept, connectors_kept, room_kept, lines_kept)

@@ -18,17 +18,12 @@ after-add a (suc b) x = ap (λ (n : ℕ). number_after n x) (add-suc a b) ∙ ap
 
 pub first_none : (n number : ℕ) → number ≡ n % 2147483648 → number ≡ first_number n 0
 unfolding number_after
-first_none n number is =
-    let none : 0 ≡ lines_each * 0 = grind arith in
-    is ∙ ap (λ (steps : ℕ). number_after steps (n % 2147483648)) none
+first_none n number is = grind arith
 
 -- the number that goes on from the lines of one connector more
 pub first_more : (n c number next : ℕ) → number ≡ first_number n c → next ≡ number_after lines_each number
     → next ≡ first_number n (c + 1)
-first_more n c number next here goes =
-    let steps : lines_each * c + lines_each ≡ lines_each * (c + 1) = grind arith in
-    goes ∙ ap (number_after lines_each) here ∙ sym (after-add (lines_each * c) lines_each (n % 2147483648))
-    ∙ ap (λ (k : ℕ). number_after k (n % 2147483648)) steps
+first_more n c number next here goes = grind (arith, after-add)
 
 -- ---- lines
 
@@ -54,9 +49,7 @@ range_more a n j is =
 -- what one number more makes
 pub parts_more : {X : Type 0} (f : ℕ → List X) (start before after : List X) (k : ℕ) → after ≡ before ++ f k
     → before ≡ start ++ flat_map f (range_with_len 0 k) → after ≡ start ++ flat_map f (range_with_len 0 (k + 1))
-parts_more {X} f start before after k adds is =
-    adds ∙ ap (λ (xs : List X). xs ++ f k) is ∙ flat_map_more f start (range_with_len 0 k) k
-    ∙ ap (λ (ks : List ℕ). start ++ flat_map f ks) (sym (range_more 0 k k (omega arith)))
+parts_more {X} f start before after k adds is = grind (arith, flat_map_more, range_more)
 
 -- the lines of no connector, and of one more
 pub callers_none : (n : ℕ) (lines : List Line) → lines ≡ [] → lines ≡ lines_of_first n 0

@@ -1,5 +1,5 @@
 -- The lines of a load have the numbers that they have in its text.
-use Rattle.plex_load.proofs.Imports.{◌≡◌, ℕ, ◌+◌, ◌*◌, ◌≤◌, ◌<◌, zero, suc, List, [], ◌∷◌, ◌++◌, length, map, refl, sym, ap, ◌∙◌, subst, arith, range_with_len, Line, numbered_behind, with_line_numbers, line_number, lines_each, place_of, work_line, connector_lines, first_number, own_lines, lines_of_first, load_script}
+use Rattle.plex_load.proofs.Imports.{◌≡◌, ℕ, ◌+◌, ◌*◌, ◌≤◌, ◌<◌, zero, suc, List, [], ◌∷◌, ◌++◌, length, map, refl, sym, ◌∙◌, subst, arith, range_with_len, Line, numbered_behind, with_line_numbers, line_number, place_of, work_line, connector_lines, first_number, own_lines, lines_of_first, load_script}
 use Rattle.plex_load.proofs.EachLine.{each-is, four_parts, length-connector}
 
 -- each line has the number that it has behind so many others
@@ -9,9 +9,7 @@ AreNumbered count (line ∷ lines) = (line.at ≡ line_number (count + 1)) × Ar
 
 numbered_same : (count : ℕ) (lines : List Line) → AreNumbered count lines → numbered_behind count lines ≡ lines
 numbered_same count [] h = refl
-numbered_same count (line ∷ lines) h =
-    ap (λ (at : ℕ). (record line { at = at }) ∷ numbered_behind (count + 1) lines) (sym h.0)
-    ∙ ap (λ (ls : List Line). line ∷ ls) (numbered_same (count + 1) lines h.1)
+numbered_same count (line ∷ lines) h = grind (arith, numbered_same (count + 1) lines h.1)
 
 numbered-append : (count behind : ℕ) (xs ys : List Line) → count + length xs ≡ behind → AreNumbered count xs
     → AreNumbered behind ys → AreNumbered count (xs ++ ys)
@@ -21,16 +19,11 @@ numbered-append count behind (x ∷ xs) ys at h k = (h.0, numbered-append (count
 numbered_works : (c x first count before : ℕ) → c < 4 → first + count ≤ 1001 → before + 1 ≡ place_of c first
     → AreNumbered before (map (work_line c x) (range_with_len first count))
 numbered_works c x first zero before low short at = tt
-numbered_works c x first (suc count) before low short at = (
-  omega arith,
-  numbered_works c x (first + 1) count (before + 1) low (omega arith) (omega arith),
-)
+numbered_works c x first (suc count) before low short at =
+    grind (arith, numbered_works c x (first + 1) count (before + 1) low (omega arith) (omega arith))
 
 numbered_connector : (c x : ℕ) → c < 4 → AreNumbered (7 + 1001 * c) (connector_lines c x)
-numbered_connector c x low = (
-  omega arith,
-  numbered_works c x 1 lines_each (7 + 1001 * c + 1) low (omega (arith, each-is)) (omega arith),
-)
+numbered_connector c x low = grind (arith, numbered_works, each-is)
 
 numbered_all : (n : ℕ) → AreNumbered 7 (lines_of_first n 4)
 numbered_all n =
@@ -48,6 +41,4 @@ numbered_all n =
 
 pub load_numbered : (n : ℕ) → with_line_numbers (load_script n) ≡ load_script n
 unfolding load_script
-load_numbered n =
-    ap (λ (lines : List Line). record (load_script n) { lines = lines })
-    (numbered_same 7 (lines_of_first n 4) (numbered_all n))
+load_numbered n = grind (arith, numbered_same, numbered_all)

@@ -1,5 +1,5 @@
 -- What proofs here name of other crates, and of this one's definitions. Declares nothing.
-pub use Rattle.std.proofs.Common.{◌≡◌, ◌+◌, ◌<◌, ◌⊎◌, ℕ, zero, suc, Bool, List, [], ◌∷◌, ◌++◌, Option, None, Some, Contains, All, AllPairs, map, length, drop, slice_get, get_or, Result, Ok, Err, refl, sym, ap, ◌∙◌, subst, inl, ⊎_elim, arith, append_assoc, length-append, replicate, slice_index, IfOk, ◌==◌, true, false, not, filter, append-nil, eq-zero-or-pos, inr, rules, ◌-◌, find}
+pub use Rattle.std.proofs.Common.{◌≡◌, ◌+◌, ◌<◌, ◌⊎◌, ℕ, zero, suc, Bool, List, [], ◌∷◌, ◌++◌, Option, None, Some, Contains, All, AllPairs, map, length, drop, slice_get, get_or, Result, Ok, Err, refl, sym, ap, ◌∙◌, subst, inl, ⊎_elim, arith, append_assoc, length-append, replicate, slice_index, IfOk, ◌==◌, true, false, not, filter, append-nil, eq-zero-or-pos, rules, ◌-◌, find}
 pub use Rattle.std.proofs.Math.ListN.{get_or-map}
 pub use Rattle.std.proofs.lemmas.Bool.{eqb-true}
 pub use Rattle.std.proofs.lemmas.Bool.Decides.{nat_tests}

@@ -1,5 +1,5 @@
 -- What is told of connectors that have worked.
-use Rattle.plex_locks.proofs.Imports.{◌≡◌, ◌+◌, ◌<◌, ◌⊎◌, ℕ, zero, suc, Bool, List, [], ◌∷◌, ◌++◌, Option, None, Some, Contains, All, AllPairs, map, length, drop, slice_get, get_or, Result, Ok, Err, refl, sym, ap, ◌∙◌, subst, inl, ⊎_elim, arith, append_assoc, length-append, replicate, slice_index, IfOk, range_with_len, flat_map, option_map, get_or-map, length-map, map-append, length-replicate, All-push, All-nil, All-head, All-contains, All-replicate, get_or-map-range_with_len, length-map-range_with_len, get_or-range_with_len, slice_get-map, slice_get_within, slice_get-get_or, get_or_from_slice_get, none-some, ConnId, Name16, StrForm, IsForm, Hold, Grant, AreCompatible, says_excl, hold, grant, reading, HandSeen, LocksSeen, new_hand, AreAll, IsOthers, HasValue, all_held, Line, Script, IsWellFormed, IsLineOf, Outcome, Granted, Held, Contended, Raced, Freed, NotHeld, Done, HandTold, Locked, tasks_by, word_of, resource_of, left_by, granted_by, FollowsOwn, HasOther, IsOfOthers, AtLocks, AreIdle, IsDealt, IsReady, HasRead, ReadsDone, HaveWorked, asked_by, asked_in, IsHandTold, IsLocked, told_of, none_told, entries_of, dones_of, all_left}
+use Rattle.plex_locks.proofs.Imports.{◌≡◌, ◌+◌, ◌<◌, ◌⊎◌, ℕ, zero, suc, Bool, List, [], ◌∷◌, ◌++◌, Option, Some, Contains, All, AllPairs, map, length, drop, slice_get, get_or, Result, Ok, Err, refl, sym, ap, ◌∙◌, subst, inl, ⊎_elim, arith, append_assoc, length-append, replicate, slice_index, IfOk, range_with_len, option_map, get_or-map, length-map, map-append, length-replicate, All-push, All-nil, All-head, All-contains, All-replicate, get_or-map-range_with_len, length-map-range_with_len, get_or-range_with_len, slice_get-map, slice_get_within, slice_get-get_or, get_or_from_slice_get, none-some, ConnId, Name16, StrForm, IsForm, Hold, Grant, AreCompatible, says_excl, hold, grant, reading, HandSeen, LocksSeen, new_hand, AreAll, IsOthers, HasValue, all_held, Line, Script, IsWellFormed, IsLineOf, Outcome, Granted, Held, Contended, Raced, Freed, NotHeld, Done, HandTold, Locked, tasks_by, word_of, resource_of, left_by, granted_by, HasOther, IsOfOthers, AtLocks, AreIdle, IsDealt, IsReady, HasRead, HaveWorked, asked_by, asked_in, IsHandTold, IsLocked, told_of, none_told, entries_of, dones_of, all_left}
 
 abbrev name_of : AtLocks → Name16
 name_of w = w.name
@@ -14,9 +14,7 @@ by_of w = w.by.0
 
 range-more : (a n : ℕ) → range_with_len a (suc n) ≡ range_with_len a n ++ (a + n) ∷ []
 range-more a zero = let e : a ≡ a + 0 = omega arith in ap (λ k. k ∷ []) e
-range-more a (suc n) =
-    let e : a + 1 + n ≡ a + suc n = omega arith in
-    ap (λ l. a ∷ l) (range-more (a + 1) n) ∙ ap (λ k. a ∷ (range_with_len (a + 1) n ++ k ∷ [])) e
+range-more a (suc n) = grind (arith, range-more (a + 1) n)
 
 mapped-more : {X : Type 0} (f : AtLocks → X) (old more : List AtLocks) (w : AtLocks) → more ≡ old ++ w ∷ []
     → map f more ≡ map f old ++ f w ∷ []
@@ -84,14 +82,7 @@ mapped-at f xs ys k x is there =
 -- an element of a map is that of an element
 unmapped : {X Y : Type 0} (f : X → Y) (xs : List X) (k : ℕ) (y : Y) → slice_get (map f xs) k ≡ Some y
     → (x : X) × (slice_get xs k ≡ Some x) × (f x ≡ y)
-unmapped {X} {Y} f xs k y there = go (slice_get xs k) refl
-  where
-    same : (y z : Y) → Some y ≡ Some z → y ≡ z
-    same y z e = ap (λ (o : Option Y). Rattle.std.specs.Prelude.unwrap_or o y) e
-
-    go : (o : Option X) → slice_get xs k ≡ o → (x : X) × (slice_get xs k ≡ Some x) × (f x ≡ y)
-    go (Some x) is = (x, is, same (f x) y (sym (slice_get-map f xs k ∙ ap (option_map f) is) ∙ there))
-    go None is = absurd (none-some y (sym (slice_get-map f xs k ∙ ap (option_map f) is) ∙ there))
+unmapped {X} {Y} f xs k y there = grind (arith, slice_get-map, none-some)
 
 -- what a hand was granted is among its connector's grants
 granted-in : (n : ℕ) (holds : List Hold) (word : ℕ) (excl : Bool)
@@ -119,10 +110,7 @@ numbers-from first (suc n) (w ∷ ws) long own =
 
 tables-of : (locks : LocksSeen) (workers : List AtLocks) → ((c : ℕ) (w : AtLocks) → slice_get workers c ≡ Some w
     → w.hand.table ≡ locks.table) → All (λ (h : HandSeen). h.table ≡ locks.table) (map hand_of workers)
-tables-of locks workers own k d lt =
-    let t =
-    unmapped hand_of workers k (get_or (map hand_of workers) k d) (slice_get-get_or (map hand_of workers) k d lt) in
-    subst (λ (h : HandSeen). h.table ≡ locks.table) t.2 (own k t.0 t.1)
+tables-of locks workers own k d lt = grind (arith, unmapped, slice_get-get_or)
 
 all-left : (n : ℕ) (workers : List AtLocks) → ((c : ℕ) (w : AtLocks) → slice_get workers c ≡ Some w
     → w.hand.held ≡ left_by n [] w.done) → all_held (map hand_of workers) ≡ all_left n (dones_of (map told_of workers))
@@ -149,17 +137,7 @@ module _ (script : Script) (locks : LocksSeen) (callers : ℕ) (idle : List AtLo
 
   -- a hand that did nothing is one of the words, and what it did goes with it
   pub all-ready : All (IsReady locks) idle
-  all-ready k d lt =
-      let w = get_or idle k d in
-      let there = slice_get-get_or idle k d lt in
-      let done = idles.done k d lt in
-      let hand = hand-at k w there in
-      subst (λ (x : HandSeen × List Done). IsReady locks (record w { hand = x.0; done = x.1 }))
-      (λ i. (sym hand i, sym done i)) record {
-        table = refl;
-        words = refl;
-        worked = record { own = tt; held = refl; ever = refl; read = All-nil (ReadsDone (new_hand locks (1 + k))) };
-      }
+  all-ready k d lt = grind (arith, slice_get-get_or, hand-at, All-nil)
 
 module _ (script : Script) (locks : LocksSeen) (callers : ℕ) (idle workers : List AtLocks) (dealt : List HandSeen)
     (some_words : locks.words ≡ entries_of script.structures) (count : callers ≡ length script.connectors)
@@ -169,10 +147,7 @@ module _ (script : Script) (locks : LocksSeen) (callers : ℕ) (idle workers : L
   length-workers = worked.callers ∙ length-idle script locks callers idle dealt count fresh idles
 
   number-at : (c : ℕ) (w : AtLocks) → slice_get workers c ≡ Some w → w.hand.number ≡ 1 + c
-  number-at c w there =
-      let t = worked.each c w there in
-      t.2.still.number ∙ ap (λ (h : HandSeen). h.number)
-      (hand-at script locks callers idle dealt count fresh idles c t.0 t.1)
+  number-at c w there = grind (arith, hand-at)
 
   ready-at : (c : ℕ) (w : AtLocks) → slice_get workers c ≡ Some w → IsReady locks w
   ready-at c w there = (worked.each c w there).2.ready
@@ -263,17 +238,7 @@ module _ (script : Script) (locks : LocksSeen) (callers : ℕ) (idle workers : L
 
     told-at : (place : ℕ) (told : HandTold) → slice_get (map told_of workers) place ≡ Some told
         → IsHandTold script dones place told
-    told-at place told there =
-        let t = unmapped told_of workers place told there in
-        let idler = worked.each place t.0 t.1 in
-        subst (IsHandTold script dones place) t.2 record {
-          name =
-              mapped-at name_of idle script.connectors place idler.0 idles.names idler.1
-              ∙ ap Some (sym idler.2.still.name);
-          asked = asked-at place t.0 t.1;
-          own = subst (λ m. FollowsOwn m [] t.0.done) (words-at place t.0 t.1) (ready-at place t.0 t.1).worked.own;
-          others = others place t.0 t.1;
-        }
+    told-at place told there = grind (arith, unmapped, mapped-at, asked-at, words-at, ready-at, others)
 
     pub told-right : IsLocked script (record { hands = map told_of workers; words = words })
     told-right = record {
@@ -293,13 +258,8 @@ no-lines script formed none = lines script.structures script.lines formed.forms 
     lines : (structures : List StrForm) (lines : List Line) → All IsForm structures → entries_of structures ≡ 0
         → All (IsLineOf script) lines → structures ≡ script.structures → lines ≡ []
     lines structures [] forms none all same = refl
-    lines [] (x ∷ xs) forms none all same =
-        let line = All-head (IsLineOf script) x xs all in
-        absurd (none-some line.form
-        (subst (λ (l : List StrForm). slice_get l x.on.0 ≡ Some line.form) (sym same) line.known))
-    lines (form ∷ more) (x ∷ xs) forms none all same =
-        let some_entries = (All-head IsForm form more forms).caps.some_entries in
-        absurd (omega (arith, some_entries, none))
+    lines [] (x ∷ xs) forms none all same = grind (arith, All-head, none-some)
+    lines (form ∷ more) (x ∷ xs) forms none all same = grind (arith, All-head)
 
 none-left : (n : ℕ) (connectors : List Name16) → all_left n (dones_of (map none_told connectors)) ≡ []
 none-left n [] = refl
@@ -338,12 +298,7 @@ none-right script told entries formed same nobody hands words =
 
     asked : (place : ℕ) (name : Name16) → slice_get script.connectors place ≡ Some name
         → [] ≡ asked_in (tasks_by (record { 0 = 1 + place }) script.lines)
-    asked place name there = ⊎_elim
-        (λ (e : script.connectors ≡ []).
-        absurd (none-some name (subst (λ (l : List Name16). slice_get l place ≡ Some name) e there)))
-        (λ (e : entries ≡ 0). ap (λ l. asked_in (tasks_by (record { 0 = 1 + place }) l))
-        (sym (no-lines script formed (sym same ∙ e))))
-        nobody
+    asked place name there = grind (arith, ⊎_elim, none-some, no-lines)
 
 pub none-told : {E : Type 0} (result : Result Locked E) (script : Script) (entries : ℕ) (connectors : List Name16)
     → IsWellFormed script → entries ≡ entries_of script.structures → connectors ≡ script.connectors

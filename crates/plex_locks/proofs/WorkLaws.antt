@@ -20,9 +20,7 @@ follows-more n held (x ∷ xs) d own here =
 
 granted-more : (n : ℕ) (dones : List Done) (d : Done)
     → granted_by n (dones ++ d ∷ []) ≡ granted_by n dones ++ grant_in n d.request d.outcome
-granted-more n dones d =
-    flat_map-append (λ (x : Done). grant_in n x.request x.outcome) dones (d ∷ [])
-    ∙ ap (λ l. granted_by n dones ++ l) (append-nil (grant_in n d.request d.outcome))
+granted-more n dones d = grind (arith, flat_map-append, append-nil)
 
 abbrev grants : ℕ → List Hold → List Grant
 grants number holds = map (λ (x : Hold). grant number x.word x.excl) holds

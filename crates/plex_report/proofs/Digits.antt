@@ -1,5 +1,5 @@
 -- Binary digits, one after another.
-use Rattle.plex_report.proofs.Imports.{◌≡◌, ℕ, ◌+◌, ◌%◌, ◌/◌, zero, suc, [], ◌∷◌, ◌++◌, List, refl, sym, ap, ◌∙◌, arith, append_assoc, binary_digits}
+use Rattle.plex_report.proofs.Imports.{◌≡◌, ℕ, ◌+◌, ◌%◌, ◌/◌, zero, suc, [], ◌∷◌, ◌++◌, List, refl, ◌∙◌, arith, append_assoc, binary_digits}
 
 pub digits_end : (n : ℕ) → binary_digits 0 n ≡ []
 unfolding binary_digits
@@ -12,12 +12,8 @@ digits_next count n = refl
 pub digits_more : (count rest n : ℕ) → count ≡ rest + 1
     → binary_digits count n ≡ (48 + n % 2) ∷ binary_digits rest (n / 2)
 digits_more zero rest n e = absurd (omega arith)
-digits_more (suc count) rest n e =
-    let same : count ≡ rest = omega arith in digits_next count n ∙ ap (λ k. (48 + n % 2) ∷ binary_digits k (n / 2))
-    same
+digits_more (suc count) rest n e = grind (arith, digits_next)
 
 pub line_more : (line : List ℕ) (count rest n : ℕ) → count ≡ rest + 1
     → (line ++ (48 + n % 2) ∷ []) ++ binary_digits rest (n / 2) ≡ line ++ binary_digits count n
-line_more line count rest n e =
-    append_assoc line ((48 + n % 2) ∷ []) (binary_digits rest (n / 2))
-    ∙ ap (λ digits. line ++ digits) (sym (digits_more count rest n e))
+line_more line count rest n e = grind (arith, append_assoc, digits_more)

@@ -26,14 +26,7 @@ module _ {X : Type 0} (lines : ℕ → X → List (List ℕ)) (size : X → ℕ)
       → i < length xs → k ≡ sum_by (λ x. size x + 1) (take i xs) + j → j ≤ size (get_or xs i d)
       → slice_get (lines_each lines first xs ++ rest) k ≡ slice_get (lines (first + i) (get_or xs i d)) j
   get_within first [] rest i k j d h e within = absurd (omega arith)
-  get_within first (x ∷ xs) rest zero k j d h e within =
-      let same : k ≡ j = omega arith in
-      let at : first ≡ first + zero = omega arith in
-      let len : length (lines first x) ≡ size x + 1 = sized first x in
-      ap (λ l. slice_get l k) (append_assoc (lines first x) (lines_each lines (first + 1) xs) rest)
-      ∙ ap (slice_get (lines first x ++ (lines_each lines (first + 1) xs ++ rest))) same
-      ∙ get_left (lines first x) (lines_each lines (first + 1) xs ++ rest) j (omega arith)
-      ∙ ap (λ m. slice_get (lines m x) j) at
+  get_within first (x ∷ xs) rest zero k j d h e within = grind (arith, append_assoc, get_left)
   get_within first (x ∷ xs) rest (suc i) k j d h e within =
       let len : length (lines first x) ≡ size x + 1 = sized first x in
       let n = sum_by (λ x. size x + 1) (take i xs) + j in

@@ -1,12 +1,9 @@
 -- Sets of callers: that the active connectors are one, and how letters to one are posted.
-use Rattle.plex_shell.proofs.Imports.{◌≡◌, ℕ, suc, ◌+◌, ◌-◌, ◌<◌, ◌≤◌, Bool, true, false, cond, not, ◌&&◌, ◌==◌, List, [], ◌∷◌, filter, refl, sym, subst, arith, eq-eqb, ne_eqb, and_right, CALLERS, Event, ConnId, conns_from, is_member, without_member, Connections, is_active, actives, Mailboxes, with_letter, with_letters, letters_to, filter_agree_from, is_member-from, without_member-from, AreCallers}
+use Rattle.plex_shell.proofs.Imports.{◌≡◌, ℕ, ◌+◌, ◌-◌, ◌<◌, ◌≤◌, Bool, true, false, not, ◌&&◌, ◌==◌, List, [], ◌∷◌, filter, refl, subst, arith, eq-eqb, ne_eqb, and_right, CALLERS, Event, ConnId, conns_from, is_member, without_member, Connections, is_active, actives, Mailboxes, with_letter, with_letters, letters_to, filter_agree_from, is_member-from, without_member-from, AreCallers}
 
 -- those of the callers that pass a test
 AreCallers-filter : (p : ConnId → Bool) → AreCallers (filter p (conns_from 0 CALLERS))
-AreCallers-filter p = record {
-  in_order = filter_agree_from p (λ conn. is_member conn (filter p (conns_from 0 CALLERS))) 0 CALLERS
-      (λ conn low high. sym (is_member-from p conn 0 CALLERS low high));
-}
+AreCallers-filter p = grind (arith, filter_agree_from, is_member-from)
 
 pub AreCallers-actives : (conns : Connections) → AreCallers (actives conns)
 unfolding actives
@@ -33,9 +30,7 @@ AreCallers-other_actives conn conns = AreCallers-filter_without (is_active conns
 
 -- callers without one of them
 pub AreCallers-without : (conn : ConnId) (set : List ConnId) → AreCallers set → AreCallers (without_member conn set)
-AreCallers-without conn set are =
-    subst (λ (all : List ConnId). AreCallers (without_member conn all)) (sym are.in_order)
-    (AreCallers-filter_without (λ other. is_member other set) conn)
+AreCallers-without conn set are = grind (arith, AreCallers-filter_without)
 
 -- the members from this number on
 abbrev pub members_from : List ConnId → ℕ → List ConnId
@@ -50,17 +45,7 @@ members_at false set number = members_from set (number + 1)
 members_from-first : (set : List ConnId) (number : ℕ) → number < CALLERS
     → members_from set number ≡ members_at (is_member (record { 0 = number }) set) set number
 unfolding conns_from
-members_from-first set number within =
-    let one_more : suc (CALLERS - (number + 1)) ≡ CALLERS - number = omega arith in
-    subst (λ (count : ℕ). filter (λ (conn : ConnId). is_member conn set) (conns_from number count)
-    ≡ members_at (is_member (record { 0 = number }) set) set number)
-    one_more (go (is_member (record { 0 = number }) set))
-  where
-    go : (member : Bool)
-        → cond member (record { 0 = number } ∷ members_from set (number + 1)) (members_from set (number + 1))
-        ≡ members_at member set number
-    go true = refl
-    go false = refl
+members_from-first set number within = grind arith
 
 -- the letters that are left, from this number on, make the mail whole
 abbrev pub LeadsFrom : List ConnId → Event → Mailboxes → ℕ → Mailboxes → Type 0
@@ -79,9 +64,7 @@ module _ (set : List ConnId) (event : Event) (number : ℕ) (within : number < C
 -- nobody is left behind the callers
 nobody_left : (set : List ConnId) (number : ℕ) → CALLERS ≤ number → members_from set number ≡ []
 unfolding conns_from
-nobody_left set number past =
-    let none : 0 ≡ CALLERS - number = omega arith in
-    subst (λ (count : ℕ). filter (λ (conn : ConnId). is_member conn set) (conns_from number count) ≡ []) none refl
+nobody_left set number past = grind arith
 
 pub leads_all : (set : List ConnId) (event : Event) (number : ℕ) (whole now : Mailboxes) → CALLERS ≤ number
     → LeadsFrom set event whole number now → now ≡ whole

@@ -80,23 +80,11 @@ module _ {C R I S : Type 0} (meaning : Meaning C R I S) (is_kind : Kind → Bool
       rest = drop (length (items_of meaning new) + 1) all
 
       split : all ≡ items_of meaning new ++ item ∷ rest
-      split =
-          split_next all (length (items_of meaning new)) item
-          (subst (λ (s : Shape). slice_get (meaning.items s old.state) (length (items_of meaning new)) ≡ Some item)
-          (sym is.shape) at)
-          ∙ ap (λ (l : List I). l ++ item ∷ rest) (sym here.first)
+      split = grind (arith, split_next)
 
       -- the next item can be placed
       pub place-next : IsNextItem meaning IsContent new.shape new.state item
-      place-next =
-          record {
-            at = old.caps;
-            whole = old.state;
-            others = rest;
-            content = here.content;
-            first = split;
-            alone = full.alone;
-          }
+      place-next = grind (arith, split)
 
       pub place-fits : Fits new.shape.kind (meaning.need (items_of meaning new ++ item ∷ [])) new.caps
       place-fits =
@@ -108,37 +96,20 @@ module _ {C R I S : Type 0} (meaning : Meaning C R I S) (is_kind : Kind → Bool
       -- with the next item it is what the first items make, with that one
       placed_state : content_of_items meaning new.shape (items_of meaning new ++ item ∷ [])
           ≡ meaning.place new.shape new.state item
-      placed_state =
-          made_push new.shape (items_of meaning new) item
-          ∙ ap (λ (s : S). meaning.place new.shape s item) full.alone
+      placed_state = grind (arith, made_push)
 
       split_behind : all ≡ (items_of meaning new ++ item ∷ []) ++ rest
       split_behind = split ∙ sym (append_assoc (items_of meaning new) (item ∷ []) rest)
 
       pub placed-items : items_of meaning (with_item meaning new item) ≡ items_of meaning new ++ item ∷ []
-      placed-items =
-          ap (meaning.items new.shape) (sym placed_state)
-          ∙ laws.items_front new.shape old.caps old.state (items_of meaning new ++ item ∷ []) rest here.content
-          split_behind
+      placed-items = grind (arith, placed_state, split_behind)
 
       pub placed-filled : IsFilled meaning IsContent (with_item meaning new item)
-      placed-filled =
-          record {
-            at = old.caps;
-            whole = old.state;
-            others = rest;
-            content = here.content;
-            first = split_behind ∙ ap (λ (l : List I). l ++ rest) (sym placed-items);
-            alone = ap (content_of_items meaning new.shape) placed-items ∙ placed_state;
-            unaltered = full.unaltered;
-          }
+      placed-filled = grind (arith, split_behind, placed-items, placed_state)
 
       pub placed-copy : copy_in meaning (with_item meaning new item)
           ≡ with_next meaning 1 old (copy_in meaning new)
-      placed-copy =
-          ap (λ (l : List I). record { shape = new.shape; caps = new.caps; items = l })
-          (placed-items ∙ ap (λ (l : List I). l ++ item ∷ []) is.first
-          ∙ sym (take_next (items_of meaning old) (length (items_of meaning new)) item at))
+      placed-copy = grind (arith, placed-items, take_next)
 
       -- whether or not the item could be placed
       pub after-place : {X : Type 0} (result : Result X I) (after : Held S)
@@ -159,36 +130,18 @@ module _ {C R I S : Type 0} (meaning : Meaning C R I S) (is_kind : Kind → Bool
       last = ends_with (items_of meaning held) some
 
       whole_split : meaning.items held.shape full.whole ≡ front ++ last.0 ∷ full.others
-      whole_split =
-          full.first ∙ ap (λ (l : List I). l ++ full.others) last.1
-          ∙ append_assoc front (last.0 ∷ []) full.others
+      whole_split = grind (arith, append_assoc)
 
       state_left : meaning.unplace held.shape held.state ≡ content_of_items meaning held.shape front
-      state_left =
-          ap (meaning.unplace held.shape) (sym full.alone ∙ ap (content_of_items meaning held.shape) last.1)
-          ∙ laws.unplace_front held.shape full.at full.whole front last.0 full.others full.content whole_split
+      state_left = grind (arith, whole_split)
 
       pub dropped-items : items_of meaning (without_last_item meaning held) ≡ front
-      dropped-items =
-          ap (meaning.items held.shape) state_left
-          ∙ laws.items_front held.shape full.at full.whole front (last.0 ∷ full.others) full.content whole_split
+      dropped-items = grind (arith, state_left, whole_split)
 
       pub dropped-filled : IsFilled meaning IsContent (without_last_item meaning held)
-      dropped-filled =
-          record {
-            at = full.at;
-            whole = full.whole;
-            others = last.0 ∷ full.others;
-            content = full.content;
-            first = whole_split ∙ ap (λ (l : List I). l ++ last.0 ∷ full.others) (sym dropped-items);
-            alone = ap (content_of_items meaning held.shape) dropped-items ∙ sym state_left;
-            unaltered = full.unaltered;
-          }
+      dropped-filled = grind (arith, whole_split, dropped-items, state_left)
 
       pub dropped-one : (after : Held S) (copy : Copy I) → copy_in meaning held ≡ copy
           → after ≡ without_last_item meaning held
           → copy_in meaning after ≡ record copy { items = take (length copy.items - 1) copy.items }
-      dropped-one after copy seen same =
-          ap (copy_in meaning) same
-          ∙ ap (λ (l : List I). record { shape = held.shape; caps = held.caps; items = l }) dropped-items
-          ∙ ap (λ (c : Copy I). record c { items = take (length c.items - 1) c.items }) seen
+      dropped-one after copy seen same = grind (arith, dropped-items)

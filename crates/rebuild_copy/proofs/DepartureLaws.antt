@@ -1,5 +1,5 @@
 -- A departure while a new instance stands.
-use Rattle.rebuild_copy.proofs.Imports.{◌≡◌, Bool, List, [], length, take, refl, sym, subst, arith, Caps, Kind, Shape, Fits, IsNoMoreOf, Meaning, Held, items_of, Copy, IsCopyOf}
+use Rattle.rebuild_copy.proofs.Imports.{◌≡◌, Bool, List, [], arith, Caps, Kind, Shape, Fits, IsNoMoreOf, Meaning, Held, items_of, Copy, IsCopyOf}
 use Rattle.cf_types.specs.declared.forms.Kind.TheVariants as kind
 
 -- what needs no more by the kind's rule fits as well
@@ -17,12 +17,4 @@ pub copy_left : {C R I S : Type 0} (meaning : Meaning C R I S) (is_kind : Kind �
     → IsNoMoreOf held.shape.kind (meaning.need (meaning.items held.shape state)) (meaning.need (items_of meaning held))
     → IsCopyOf meaning is_kind IsContent copy held
     → IsCopyOf meaning is_kind IsContent copy (record held { state = state })
-copy_left {I = I} meaning is_kind IsContent held state copy none content less is =
-    record {
-      shape = is.shape;
-      kind = is.kind;
-      content = content;
-      first = subst (λ (items : List I). items ≡ take (length items) (meaning.items held.shape state)) (sym none) refl;
-      fits = fits_no_more held.shape.kind (meaning.need (meaning.items held.shape state))
-          (meaning.need (items_of meaning held)) copy.caps less is.fits;
-    }
+copy_left {I = I} meaning is_kind IsContent held state copy none content less is = grind (arith, fits_no_more)

@@ -1,5 +1,5 @@
 -- What proofs here name of other crates, and of this one's definitions. Declares nothing.
-pub use Rattle.std.proofs.Common.{◌≡◌, ℕ, ◌+◌, ◌-◌, ◌^◌, ◌<◌, ◌≤◌, max, List, [], ◌∷◌, ◌++◌, length, take, drop, get_or, set, Option, Some, None, refl, sym, ap, ◌∙◌, subst, inl, arith, All, fold, slice_get, ◌≢◌, ◌⊎◌, inr, Contains, true, ◌&&◌, ◌||◌, not, eqb, ltb, replicate}
+pub use Rattle.std.proofs.Common.{◌≡◌, ℕ, ◌+◌, ◌-◌, ◌^◌, ◌<◌, ◌≤◌, max, List, [], ◌∷◌, ◌++◌, length, take, drop, get_or, set, Option, Some, None, refl, sym, ap, ◌∙◌, subst, inl, arith, All, fold, slice_get, ◌≢◌, ◌⊎◌, inr, Contains, true, ◌&&◌, ◌||◌, replicate}
 pub use Rattle.std.proofs.lemmas.Bool.{cond_both, cases_eq, cases_lt, and_parts, or_cases, ltb-true, eqb-true, eqb-false, not-true}
 pub use Rattle.std.proofs.lemmas.Bool.Decides.{nat_tests}
 pub use Rattle.std.proofs.lemmas.List.{length_push, drop-append-le, take-append-drop, get_or-set_same, get_or-set_other, get_or-replicate, get_or_past, length-replicate, take_all}

@@ -1,5 +1,5 @@
 -- The law of a load: what it tells stays told by every log that later steps make.
-use Rattle.vec_world.proofs.Imports.{◌≡◌, ℕ, ◌+◌, ◌-◌, ◌^◌, ◌<◌, ◌≤◌, max, List, [], ◌∷◌, ◌++◌, length, take, drop, get_or, set, Option, Some, None, refl, sym, ap, ◌∙◌, subst, inl, arith, All, fold, slice_get, cond_both, length_push, drop-append-le, take-append-drop, fold-append, fold_more, All-drop, All-take, Step, Store, Commit, Load, LoadCount, Split, Join, World, IsOpen, FitsHalf, bits_of, stamp_of, word_at, known_by, start, is_open, has_word, has_pass, can_store, with_store, with_commit, with_learned, with_note, with_note_told, act, world_of, Tells, TellsWord, EachLoadTells, known_at_load, logged_since}
+use Rattle.vec_world.proofs.Imports.{◌≡◌, ℕ, ◌+◌, ◌-◌, ◌^◌, ◌<◌, ◌≤◌, List, [], ◌∷◌, ◌++◌, length, take, drop, get_or, Option, Some, None, sym, ap, ◌∙◌, subst, inl, arith, All, fold, cond_both, length_push, drop-append-le, take-append-drop, fold-append, fold_more, All-drop, All-take, Step, Store, Commit, Load, LoadCount, Split, Join, World, IsOpen, FitsHalf, bits_of, stamp_of, word_at, known_by, start, is_open, has_word, has_pass, can_store, with_store, with_commit, with_learned, with_note, with_note_told, act, world_of, Tells, TellsWord, EachLoadTells, known_at_load, logged_since}
 use Rattle.vec_world.proofs.LogLaws.{Carries-at, StampsUpTo-weaker, settled-store, settled-commit, settled-max, settled-below, Tells-push_commit, Tells-push_store}
 use Rattle.vec_world.proofs.WorldLaws.{Settled, IsSound, CanStore, can_store_from_test, open_from_test, stamp-above, settled-known, settled-stamp, sound-stored, sound-committed, sound-learned, sound-noted, sound-told, sound-act, sound-world_of, fold-act}
 
@@ -64,43 +64,13 @@ after_load-committed before after word bits number done fresh since =
 -- a step that logs nothing changes nothing that was told
 after_load-learned : (before after : World) (word bits number pass at : ℕ) → IsSound (with_learned after pass at)
     → IsAfterLoad before word bits number after → IsAfterLoad before word bits number (with_learned after pass at)
-after_load-learned before after word bits number pass at =
-    cond_both (has_pass after pass) (record after { known = set after.known pass (max (known_by after pass) at) })
-    after
-    (λ w. IsSound w → IsAfterLoad before word bits number after → IsAfterLoad before word bits number w)
-    (λ _ sound since. record {
-      sound = sound;
-      settled = since.settled;
-      count = since.count;
-      log = since.log;
-      told = since.told;
-    })
-    (λ _ sound since. since)
+after_load-learned before after word bits number pass at = grind (arith, cond_both, IsSound)
 
 after_load-told : (before after : World) (word bits number into : ℕ) (note : Option ℕ)
     → IsSound (with_note_told after into note)
     → IsAfterLoad before word bits number after → IsAfterLoad before word bits number (with_note_told after into note)
 after_load-told before after word bits number into None sound since = since
-after_load-told before after word bits number into (Some note) sound since =
-    cond_both (has_pass after into) (record after { known = set after.known into (max (known_by after into) note) })
-    after
-    (λ w. IsSound (record w { notes = take (length after.notes - 1) after.notes })
-    → IsAfterLoad before word bits number (record w { notes = take (length after.notes - 1) after.notes }))
-    (λ _ new. record {
-      sound = new;
-      settled = since.settled;
-      count = since.count;
-      log = since.log;
-      told = since.told;
-    })
-    (λ _ new. record {
-      sound = new;
-      settled = since.settled;
-      count = since.count;
-      log = since.log;
-      told = since.told;
-    })
-    sound
+after_load-told before after word bits number into (Some note) sound since = grind (arith, cond_both, IsSound)
 
 after_load-act : (before : World) (word bits number : ℕ) (after : World) (step : Step) → FitsHalf step
     → IsAfterLoad before word bits number after → IsAfterLoad before word bits number (act after step)
@@ -133,11 +103,7 @@ after_load-act before word bits number after (Split pass) fits since =
     })
     (λ _. since)
 after_load-act before word bits number after (Join into) fits since =
-    cond_both (has_pass after into) (with_note_told after into (slice_get after.notes (length after.notes - 1))) after
-    (IsAfterLoad before word bits number)
-    (λ _. after_load-told before after word bits number into (slice_get after.notes (length after.notes - 1))
-    (sound-told after into (slice_get after.notes (length after.notes - 1)) refl since.sound) since)
-    (λ _. since)
+    grind (arith, cond_both, after_load-told, sound-told)
 
 -- At the load itself.
 
@@ -185,6 +151,4 @@ each_load_tells words passes steps fits place pass word there in_passes in_words
 pub world_of-more : (words passes : ℕ) (steps : List Step) (i : ℕ) (d : Step) (world after : World) → i < length steps
     → world ≡ world_of words passes (take i steps) → after ≡ act world (get_or steps i d)
     → after ≡ world_of words passes (take (i + 1) steps)
-world_of-more words passes steps i d world after within so_far acts =
-    acts ∙ ap (λ (w : World). act w (get_or steps i d)) so_far
-    ∙ sym (fold_more act (start words passes) steps i d within)
+world_of-more words passes steps i d world after within so_far acts = grind (arith, fold_more)

@@ -22,23 +22,17 @@ bits_after-other word number old to bits stamp other = grind (arith, nat_tests)
 -- a store gives its bits from its stamp on
 pub bits_at-push_store : (log : List Step) (word bits stamp number : ℕ) → stamp ≤ number
     → bits_at (log ++ Store word bits stamp ∷ []) word number ≡ bits
-bits_at-push_store log word bits stamp number low =
-    bits_at-push log (Store word bits stamp) word number
-    ∙ bits_after-store word number (bits_at log word number) bits stamp low
+bits_at-push_store log word bits stamp number low = grind (arith, bits_at-push, bits_after-store)
 
 -- it leaves the bits at each number below its stamp
 pub bits_at-push_above : (log : List Step) (to bits stamp word number : ℕ) → number < stamp
     → bits_at (log ++ Store to bits stamp ∷ []) word number ≡ bits_at log word number
-bits_at-push_above log to bits stamp word number high =
-    bits_at-push log (Store to bits stamp) word number
-    ∙ bits_after-above word number (bits_at log word number) to bits stamp high
+bits_at-push_above log to bits stamp word number high = grind (arith, bits_at-push, bits_after-above)
 
 -- it leaves each other word
 pub bits_at-push_other : (log : List Step) (to bits stamp word number : ℕ) → to ≢ word
     → bits_at (log ++ Store to bits stamp ∷ []) word number ≡ bits_at log word number
-bits_at-push_other log to bits stamp word number other =
-    bits_at-push log (Store to bits stamp) word number
-    ∙ bits_after-other word number (bits_at log word number) to bits stamp other
+bits_at-push_other log to bits stamp word number other = grind (arith, bits_at-push, bits_after-other)
 
 -- a commit leaves all bits
 pub bits_at-push_commit : (log : List Step) (committed word number : ℕ)
@@ -51,16 +45,7 @@ bits_at-push_commit log committed word number = bits_at-push log (Commit committ
 bits_after-up_to : (word low high old : ℕ) (step : Step) → low ≤ high → OnStoreTo word (λ stamp. stamp ≤ low) step
     → bits_after word high old step ≡ bits_after word low old step
 bits_after-up_to word low high old (Store to bits stamp) order within =
-    elim (cases_eq to word) [
-      | inl same ↦
-          subst (λ (v : ℕ). bits_after word high old (Store v bits stamp) ≡ bits_after word low old
-          (Store v bits stamp))
-          (sym same)
-          (bits_after-store word high old bits stamp (let h : stamp ≤ low = within same in omega arith)
-          ∙ sym (bits_after-store word low old bits stamp (within same)))
-      | inr other ↦
-          bits_after-other word high old to bits stamp other ∙ sym (bits_after-other word low old to bits stamp other)
-    ]
+    grind (arith, cases_eq, bits_after-store, bits_after-other)
 bits_after-up_to word low high old _ order within = refl
 
 fold-up_to : (word low high old : ℕ) (log : List Step) → low ≤ high → StampsUpTo log word low
@@ -84,9 +69,7 @@ OnStoreTo-weaker word low high order _ within = within
 
 pub StampsUpTo-weaker : (log : List Step) (word low high : ℕ) → low ≤ high → StampsUpTo log word low
     → StampsUpTo log word high
-StampsUpTo-weaker log word low high order within =
-    All-weaker (OnStoreTo word (λ stamp. stamp ≤ low)) (OnStoreTo word (λ stamp. stamp ≤ high))
-    (OnStoreTo-weaker word low high order) log within
+StampsUpTo-weaker log word low high order within = grind (arith, All-weaker, OnStoreTo-weaker)
 
 -- what holds of the stamp of each store to the word
 OnStoreTo-from_each : (P : ℕ → Type 0) (log : List Step) (word : ℕ) → ((stamp : ℕ) → HasStore log word stamp
@@ -163,32 +146,12 @@ CarriesWord-push_store log word old bits stamp fits order carries =
 
 pub settled-store : (log : List Step) (count flying word bits stamp number : ℕ) → IsOpen count flying stamp
     → IsSettled log count flying number → IsSettled (log ++ Store word bits stamp ∷ []) count stamp number
-settled-store log count flying word bits stamp number fresh (inl low) =
-    inl (
-      low.0,
-      elim low.1 [
-        | inl none ↦ inl none
-        | inr done ↦ inr (Contains-append_left log (Store word bits stamp ∷ []) (Commit number) done)
-      ],
-    )
-settled-store log count flying word bits stamp number fresh (inr flies) =
-    elim fresh.1 [
-      | inl none ↦ inl (let zero : number ≡ 0 = flies ∙ none in (omega arith, inl zero))
-      | inr same ↦ inr (flies ∙ same)
-    ]
+settled-store log count flying word bits stamp number fresh (inl low) = grind (arith, Contains-append_left)
+settled-store log count flying word bits stamp number fresh (inr flies) = grind arith
 
 pub settled-commit : (log : List Step) (count flying done number : ℕ) → IsOpen count flying done
     → IsSettled log count flying number → IsSettled (log ++ Commit done ∷ []) done 0 number
-settled-commit log count flying done number fresh (inl low) =
-    let above : count < done = fresh.0 in
-    let below : number ≤ count = low.0 in
-    inl (
-      omega arith,
-      elim low.1 [
-        | inl none ↦ inl none
-        | inr was ↦ inr (Contains-append_left log (Commit done ∷ []) (Commit number) was)
-      ],
-    )
+settled-commit log count flying done number fresh (inl low) = grind (arith, Contains-append_left)
 settled-commit log count flying done number fresh (inr flies) =
     elim fresh.1 [
       | inl none ↦ inl (let zero : number ≡ 0 = flies ∙ none in (omega arith, inl zero))
@@ -215,11 +178,7 @@ pub settled-below : (log : List Step) (count flying stamp number : ℕ) → IsOp
     → IsSettled log count flying number → number ≤ stamp
 settled-below log count flying stamp number fresh (inl low) =
     let above : count < stamp = fresh.0 in let below : number ≤ count = low.0 in omega arith
-settled-below log count flying stamp number fresh (inr flies) =
-    elim fresh.1 [
-      | inl none ↦ let zero : number ≡ 0 = flies ∙ none in omega arith
-      | inr same ↦ let it : number ≡ stamp = flies ∙ same in omega arith
-    ]
+settled-below log count flying stamp number fresh (inr flies) = grind arith
 
 -- What a load told stays told.
 
@@ -246,45 +205,13 @@ pub store-cases : (log : List Step) (to bits stamp word number : ℕ) → 0 < st
     → Leaves log (log ++ Store to bits stamp ∷ []) word number
     ⊎ ((to ≡ word) × (stamp ≡ number) × Moves log (log ++ Store to bits stamp ∷ []) word number)
 store-cases log to bits stamp word number some most within =
-    elim (cases_eq to word) [
-      | inr other ↦
-          inl (
-            bits_at-push_other log to bits stamp word number other,
-            bits_at-push_other log to bits stamp word
-                (number - 1) other,
-          )
-      | inl same ↦ elim (cases_lt number stamp) [
-        | inl high ↦
-            inl (
-              bits_at-push_above log to bits stamp word number high,
-              bits_at-push_above log to bits stamp word
-                  (number - 1) (omega arith),
-            )
-        | inr low ↦
-            let below = bits_at-push_above log to bits stamp word (number - 1) (omega arith) in
-            let is : stamp ≡ number = omega arith in
-            let within' : StampsUpTo log word (number - 1) =
-            subst (λ (w : ℕ). StampsUpTo log w (number - 1)) same
-            (subst (λ (n : ℕ). StampsUpTo log to (n - 1)) is within) in
-            inr (same, is, (below ∙ sym (bits_at-up_to log word (number - 1) number (omega arith) within'), below))
-      ]
-    ]
+    grind (arith, cases_eq, bits_at-push_other, cases_lt, bits_at-push_above, bits_at-up_to)
 
 Tells-left : (log later : List Step) (step : Step) (count word bits number : ℕ)
     → Leaves log (log ++ step ∷ []) word number
     → Tells log later count word bits number → Tells (log ++ step ∷ []) (later ++ step ∷ []) count word bits number
 Tells-left log later step count word bits number leaves (inl now) = inl (now ∙ sym leaves.0)
-Tells-left log later step count word bits number leaves (inr below) =
-    let has = below.2 in
-    inr (
-      below.0,
-      below.1 ∙ sym leaves.1,
-      (
-        has.0,
-        Contains-append_left later (step ∷ [])
-            (Store word has.0 number) has.1,
-      ),
-    )
+Tells-left log later step count word bits number leaves (inr below) = grind (arith, Contains-append_left)
 
 pub Tells-push_commit : (log later : List Step) (committed count word bits number : ℕ)
     → Tells log later count word bits number

@@ -1,5 +1,5 @@
 -- What every step of the machine keeps.
-use Rattle.vec_world.proofs.Imports.{◌≡◌, ◌≢◌, ◌⊎◌, ℕ, ◌-◌, ◌^◌, ◌<◌, ◌≤◌, true, ◌&&◌, ◌||◌, not, eqb, ltb, max, List, [], ◌∷◌, ◌++◌, length, take, get_or, set, replicate, Option, Some, None, refl, sym, ap, ◌∙◌, subst, inl, inr, arith, All, fold, slice_get, cases_eq, cases_lt, and_parts, or_cases, ltb-true, eqb-true, eqb-false, not-true, cond_both, slice_get_within, get_or_from_slice_get, get_or-set_same, get_or-set_other, get_or-replicate, get_or_past, length-replicate, All-nil, All-head, All-tail, All-get_or, All-push, All-set, All-take, All-weaker, All-replicate, Contains-push, Step, Store, Commit, Load, LoadCount, Split, Join, World, IsOpen, IsSettled, FitsHalf, bits_of, stamp_of, word_of, CarriesWord, word_at, known_by, start, is_open, has_word, has_pass, can_store, with_store, with_commit, with_learned, with_note, with_note_told, act, world_of, IsGenuine, HasGenuineNumbers}
+use Rattle.vec_world.proofs.Imports.{◌≡◌, ◌≢◌, ◌⊎◌, ℕ, ◌-◌, ◌^◌, ◌<◌, ◌≤◌, true, ◌&&◌, ◌||◌, max, List, [], ◌∷◌, ◌++◌, length, take, get_or, set, replicate, Option, Some, None, refl, sym, ◌∙◌, subst, inl, inr, arith, All, fold, slice_get, cases_eq, cases_lt, and_parts, or_cases, ltb-true, eqb-true, eqb-false, not-true, cond_both, slice_get_within, get_or_from_slice_get, get_or-set_same, get_or-set_other, get_or-replicate, get_or_past, length-replicate, All-nil, All-head, All-tail, All-get_or, All-push, All-set, All-take, All-weaker, All-replicate, Contains-push, Step, Store, Commit, Load, LoadCount, Split, Join, World, IsOpen, IsSettled, FitsHalf, bits_of, stamp_of, word_of, CarriesWord, word_at, known_by, start, is_open, has_word, has_pass, can_store, with_store, with_commit, with_learned, with_note, with_note_told, act, world_of, IsGenuine, HasGenuineNumbers}
 use Rattle.vec_world.proofs.LogLaws.{Carries-nil, Carries-push_other, Carries-push_commit, CarriesWord-push_store, stamp_of-word_of, settled-store, settled-commit, settled-max}
 
 -- What holds of each world that steps make.
@@ -19,14 +19,7 @@ pub record IsSound (world : World) : Type 0 where
 
 pub open_from_test : (world : World) (number : ℕ) → is_open world number ≡ true → IsOpen world.count world.flying
     number
-open_from_test world number test =
-    let parts = and_parts (ltb world.count number) (eqb world.flying 0 || eqb world.flying number) test in (
-      ltb-true world.count number parts.0,
-      elim (or_cases (eqb world.flying 0) (eqb world.flying number) parts.1) [
-        | inl none ↦ inl (eqb-true world.flying 0 none)
-        | inr same ↦ inr (eqb-true world.flying number same)
-      ],
-    )
+open_from_test world number test = grind (arith, and_parts, ltb-true, or_cases, eqb-true)
 
 -- a store can act: there is such a word, the stamp is open, and the word doesn't carry it
 pub record CanStore (world : World) (word stamp : ℕ) : Type 0 where
@@ -36,15 +29,7 @@ pub record CanStore (world : World) (word stamp : ℕ) : Type 0 where
 
 pub can_store_from_test : (world : World) (word stamp : ℕ) → can_store world word stamp ≡ true
     → CanStore world word stamp
-can_store_from_test world word stamp test =
-    let same = eqb (stamp_of (word_at world word)) stamp in
-    let parts = and_parts (has_word world word) (is_open world stamp && not same) test in
-    let rest = and_parts (is_open world stamp) (not same) parts.1 in
-    record {
-      within = ltb-true word (length world.words) parts.0;
-      fresh = open_from_test world stamp rest.0;
-      other = eqb-false (stamp_of (word_at world word)) stamp (not-true same rest.1);
-    }
+can_store_from_test world word stamp test = grind (arith, and_parts, ltb-true, open_from_test, eqb-false, not-true)
 
 -- what a pass knows and what a word is stamped with are settled, also where there is no such pass or word: that reads
 -- as 0
@@ -52,33 +37,16 @@ settled-zero : (world : World) (number : ℕ) → number ≡ 0 → Settled world
 settled-zero world number none = inl (omega arith, inl none)
 
 pub settled-known : (world : World) (pass : ℕ) → All (Settled world) world.known → Settled world (known_by world pass)
-settled-known world pass known =
-    elim (cases_lt pass (length world.known)) [
-      | inl there ↦ All-get_or (Settled world) world.known pass 0 there known
-      | inr past ↦ settled-zero world (known_by world pass) (get_or_past world.known pass 0 past)
-    ]
+settled-known world pass known = grind (arith, cases_lt, All-get_or, settled-zero, get_or_past)
 
 pub settled-stamp : (world : World) (word : ℕ) → All (λ value. Settled world (stamp_of value)) world.words
     → Settled world (stamp_of (word_at world word))
-settled-stamp world word stamps =
-    elim (cases_lt word (length world.words)) [
-      | inl there ↦ All-get_or (λ value. Settled world (stamp_of value)) world.words word 0 there stamps
-      | inr past ↦ settled-zero world (stamp_of (word_at world word))
-          (ap stamp_of (get_or_past world.words word 0 past))
-    ]
+settled-stamp world word stamps = grind (arith, cases_lt, All-get_or, settled-zero, get_or_past)
 
 -- the stamp of a store that acts is above the word's
 pub stamp-above : (world : World) (word stamp : ℕ) → CanStore world word stamp → IsSound world
     → stamp_of (word_at world word) < stamp
-stamp-above world word stamp can sound =
-    let above : world.count < stamp = can.fresh.0 in
-    elim (settled-stamp world word sound.stamps) [
-      | inl low ↦ omega (arith, low.0)
-      | inr flies ↦ elim can.fresh.1 [
-        | inl none ↦ omega arith
-        | inr same ↦ absurd (can.other (flies ∙ same))
-      ]
-    ]
+stamp-above world word stamp can sound = grind (arith, settled-stamp)
 
 -- Each change keeps the world sound.
 
@@ -208,11 +176,7 @@ sound-told world into (Some note) there sound =
 
 -- a list of zeros has 0 at each place, and past its end
 get_or-zeros : (many at : ℕ) → get_or {A = ℕ} (replicate many 0) at 0 ≡ 0
-get_or-zeros many at =
-    elim (cases_lt at many) [
-      | inl less ↦ get_or-replicate many at 0 0 less
-      | inr more ↦ get_or_past (replicate many 0) at 0 (omega (arith, length-replicate {A = ℕ} many 0))
-    ]
+get_or-zeros many at = grind (arith, cases_lt, get_or-replicate, get_or_past, length-replicate)
 
 pub sound-start : (words passes : ℕ) → IsSound (start words passes)
 sound-start words passes =
@@ -242,10 +206,7 @@ sound-act world (LoadCount pass) fits sound = sound-learned world pass world.cou
 sound-act world (Split pass) fits sound =
     cond_both (has_pass world pass) (with_note world pass) world IsSound
     (λ _. sound-noted world pass sound) (λ _. sound)
-sound-act world (Join into) fits sound =
-    cond_both (has_pass world into) (with_note_told world into
-    (slice_get world.notes (length world.notes - 1))) world IsSound
-    (λ _. sound-told world into (slice_get world.notes (length world.notes - 1)) refl sound) (λ _. sound)
+sound-act world (Join into) fits sound = grind (arith, cond_both, sound-told)
 
 -- what each step keeps, a list of steps keeps
 pub fold-act : (P : World → Type 0) → ((world : World) (step : Step) → FitsHalf step → P world → P (act world step))
@@ -263,19 +224,8 @@ sound-world_of words passes steps fits = fold-act IsSound sound-act (start words
 -- Numbers are genuine.
 
 genuine_from_settled : (world : World) (number : ℕ) → Settled world number → IsGenuine world number
-genuine_from_settled world number (inl low) = (
-  elim low.1 [ inl none ↦ inl none | inr done ↦ inr (inl done) ],
-  let below : number ≤ world.count = low.0 in
-      omega arith,
-)
+genuine_from_settled world number (inl low) = grind arith
 genuine_from_settled world number (inr flies) = (inr (inr flies), omega arith)
 
 pub genuine_from_sound : (world : World) → IsSound world → HasGenuineNumbers world
-genuine_from_sound world sound =
-    record {
-      known = All-weaker (Settled world) (IsGenuine world) (genuine_from_settled world) world.known sound.known;
-      notes = All-weaker (Settled world) (IsGenuine world) (genuine_from_settled world) world.notes sound.notes;
-      stamps =
-          All-weaker (λ value. Settled world (stamp_of value)) (λ value. IsGenuine world (stamp_of value))
-          (λ value. genuine_from_settled world (stamp_of value)) world.words sound.stamps;
-    }
+genuine_from_sound world sound = grind (arith, All-weaker, genuine_from_settled)

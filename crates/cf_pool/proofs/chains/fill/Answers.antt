@@ -12,9 +12,7 @@ bounds-lens-head c =
     c.store-rest.ensures.cells c.store-rest.ensures.behind
 
 pub returns-clause-shared : goal.returns-clause-shared
-returns-clause-shared c =
-    fill_shared _ _ _ _ _ c.requires.shared _ c.requires.some c.requires.few c.requires.room _ _ _ c.need_of.ensures
-    c.store-rest.ensures.cells c.store-rest.ensures.behind
+returns-clause-shared c = grind (arith, fill_shared)
 
 pub returns-clause-chains : goal.returns-clause-chains
 returns-clause-chains c =

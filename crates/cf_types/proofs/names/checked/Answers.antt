@@ -1,4 +1,4 @@
-use Rattle.cf_types.proofs.Imports.{arith, refl, rules, common_steps, term_byte}
+use Rattle.cf_types.proofs.Imports.{arith, rules, common_steps, term_byte}
 use Rattle.cf_types.proofs.TermFaults.{passes_at_none, fails_at_some}
 use Rattle.cf_types.proofs.names.checked.Goals as goal
 
@@ -8,15 +8,7 @@ returns-in-Some-clause-term c =
     (λ wrong. absurd (cc), λ term. let passes = term.characters in cc)
 
 pub returns-in-None-clause-term : goal.returns-in-None-clause-term
-returns-in-None-clause-term c = (
-  λ _. record {
-    nonempty = grind (arith, common_steps);
-    short = omega arith;
-    characters = passes_at_none term_byte
-        c.args.text.now (cc);
-  },
-  λ _. refl,
-)
+returns-in-None-clause-term c = grind (arith, common_steps, passes_at_none)
 
 -- the wrong body limit_itself_is_too_long is refused at this goal
 pub returns-then-text-limit-clause-term : goal.returns-then-text-limit-clause-term

@@ -20,25 +20,7 @@ work_all-requires-clause-lines g c κs within =
     lines_fit c.args.board.now c.items.result.now c.args.script.now.lines c.items.ensures c.requires.lines
 
 pub returns-clause-served : goal.returns-clause-served
-returns-clause-served g c =
-    let value = ap (λ (it : List AtWork). length it) c.as_mut_slice.ensures.value in
-    let long = c.work_all.ensures.callers in
-    let count = c.in-Ok.seated.0.ok.0 in
-    let same : length c.work_all.new.workers ≡ c.in-Ok.seated.0.len = omega arith in
-    record {
-      workers = c.work_all.new.workers;
-      work = work_each c.args.board.now c.items.result.now c.args.script.now.lines
-          c.as_mut_slice.result.now c.work_all.new.workers c.items.ensures
-          (c.as_mut_slice.ensures.value ∙ new_crew c.args.board.now c.args.desks.items c.requires.desks
-          c.in-Ok.seated.0.items c.in-Ok.ensures.workers)
-          c.work_all.ensures;
-      desks_are = c.part-desks.ensures.desks
-          ∙ ap (λ (it : List AtWork). map (λ (worker : AtWork). worker.desk) it)
-          (with_items_is c.in-Ok.seated.0 c.work_all.new.workers same);
-      shown_are = c.part-desks.ensures.shown
-          ∙ ap (λ (it : List AtWork). map (λ (worker : AtWork). worker.shown) it)
-          (with_items_is c.in-Ok.seated.0 c.work_all.new.workers same);
-    }
+returns-clause-served g c = grind (arith, work_each, new_crew, with_items_is)
 
 pub returns-clause-of_board : goal.returns-clause-of_board
 returns-clause-of_board g c =

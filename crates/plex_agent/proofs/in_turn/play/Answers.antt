@@ -17,12 +17,7 @@ returns-in-Err-clause-of_board g c =
     c.in-Err.ensures.handed_back
 
 pub play-played-requires-clause-start : goal.play-played-requires-clause-start
-play-played-requires-clause-start g c κs within =
-    new_floor_is c.args.board.now c.in-Ok-seat.seated.0.items c.in-Ok.tray c.in-Ok-nobody.last.items
-    c.structures.result
-    (new_crew c.args.board.now c.args.desks.items c.requires.desks c.in-Ok-seat.seated.0.items
-    c.in-Ok-seat.ensures.workers)
-    c.in-Ok.ensures.notes c.in-Ok-nobody.ensures c.structures.ensures
+play-played-requires-clause-start g c κs within = grind (arith, new_floor_is, new_crew)
 
 pub play-played-requires-clause-floor : goal.play-played-requires-clause-floor
 play-played-requires-clause-floor g c κs within =

@@ -1,4 +1,4 @@
-use Rattle.plex_board.proofs.Imports.{rules, length, sym, ap, ◌∙◌, arith, length-append}
+use Rattle.plex_board.proofs.Imports.{◌∙◌, arith, length-append}
 use Rattle.plex_board.proofs.EndLaws.{taken-first, none-left, all-accounts, end-homes, end-ended, end-asked, end-count, end-done, asked-done}
 use Rattle.plex_board.proofs.ending.end.Goals as goal
 
@@ -20,25 +20,11 @@ loop-station-preserved g c =
           c.push_reserved.ensures.items c.push_four.ensures.items said.links before.links;
       history_room =
           omega (arith, count, before.history_room, c.push_reserved.ensures.len, c.push_reserved.ensures.capacity);
-      link_room =
-          omega (
-            arith,
-            count,
-            before.link_room,
-            c.push_four.ensures.capacity,
-            c.push_four.new.links.ok.0,
-            c.loop-station.links.ok.0,
-            simp length-append at (ap length c.push_four.ensures.items),
-          );
+      link_room = grind (arith, length-append);
     }
 
 pub returns-clause-histories : goal.returns-clause-histories
-returns-clause-histories g c =
-    let none = none-left _ (sym c.loop-station.station-iterator.rest.ok.0 ∙ c.in-None.ensures.steps.0) in
-    end-done _ _ _ _ _ none c.loop-station.invariant.homes c.loop-station.invariant.ended
+returns-clause-histories g c = grind (arith, none-left, end-done)
 
 pub returns-clause-links : goal.returns-clause-links
-returns-clause-links g c =
-    let none = none-left _ (sym c.loop-station.station-iterator.rest.ok.0 ∙ c.in-None.ensures.steps.0) in
-    asked-done g.L.Link.calls g.L.Link.downs g.L.Link.faults _ _ _ _ _ _ none c.loop-station.invariant.links
-    (search rules)
+returns-clause-links g c = grind (arith, none-left, asked-done)

@@ -1,29 +1,15 @@
-use Rattle.plex_locks.proofs.Imports.{arith, ◌≡◌, ◌<◌, ℕ, map, length, sym, ap, ◌∙◌, subst, All, List, AllPairs, slice_index, length-map-range_with_len, Name16, AreCompatible, HandSeen, new_hand, AreAll, HasValue, all_held, IsOthers, Line, HandTold, AtLocks, AreIdle, IsLocked, told_of}
+use Rattle.plex_locks.proofs.Imports.{arith, ◌≡◌, ◌<◌, ℕ, map, sym, ◌∙◌, subst, All, List, AllPairs, slice_index, length-map-range_with_len, Name16, AreCompatible, HandSeen, AreAll, HasValue, all_held, IsOthers, Line, HandTold, AtLocks, AreIdle, IsLocked, told_of}
 use Rattle.plex_locks.proofs.ToldLaws.{length-idle, all-ready, all-hands, told-right}
 use Rattle.plex_locks.proofs.locking.all_done.Goals as goal
 
 pub workers_of-requires-clause-count : goal.workers_of-requires-clause-count
-workers_of-requires-clause-count g c =
-    ap length c.in-Ok.ensures.hands
-    ∙ (length-map-range_with_len (new_hand c.in-Ok.locks) 1 c.args.callers
-    ∙ (c.requires.callers.2 ∙ ap length (sym c.items-connectors.ensures)))
+workers_of-requires-clause-count g c = grind (arith, length-map-range_with_len)
 
 pub work_each-requires-clause-callers : goal.work_each-requires-clause-callers
-work_each-requires-clause-callers g c κs within =
-    let some_callers = c.requires.callers.0 in
-    let long =
-    length-idle c.args.script.now c.in-Ok.locks c.args.callers c.in_ok-workers.workers.items c.in-Ok.hands.items
-    c.requires.callers.2 c.in-Ok.ensures.hands
-    (subst (λ (x : List Name16 × List Line). AreIdle x.0 x.1 c.in-Ok.hands.items c.in_ok-workers.workers.items)
-    (λ i. (c.items-connectors.ensures i, c.items.ensures i)) c.in_ok-workers.ensures) in
-    omega (arith, long, some_callers)
+work_each-requires-clause-callers g c κs within = grind (arith, length-idle)
 
 pub work_each-requires-clause-ready : goal.work_each-requires-clause-ready
-work_each-requires-clause-ready g c κs within =
-    all-ready c.args.script.now c.in-Ok.locks c.args.callers c.in_ok-workers.workers.items c.in-Ok.hands.items
-    c.requires.callers.2 c.in-Ok.ensures.hands
-    (subst (λ (x : List Name16 × List Line). AreIdle x.0 x.1 c.in-Ok.hands.items c.in_ok-workers.workers.items)
-    (λ i. (c.items-connectors.ensures i, c.items.ensures i)) c.in_ok-workers.ensures)
+work_each-requires-clause-ready g c κs within = grind (arith, all-ready)
 
 pub close-words-requires : goal.close-words-requires
 close-words-requires g c =

@@ -1,16 +1,8 @@
-use Rattle.plex_locks.proofs.Imports.{◌≡◌, ◌<◌, ◌-◌, length, sym, arith, suc, nat_tests, return-yes, return-no}
+use Rattle.plex_locks.proofs.Imports.{◌≡◌, ◌<◌, ◌-◌, arith, nat_tests, return-yes, return-no}
 use Rattle.plex_locks.proofs.others.without_return.Goals as goal
 
 pub returns-then-line-last-eq13 : goal.returns-then-line-last-eq13
-returns-then-line-last-eq13 c =
-    let line = c.args.line.now in
-    let some : 0 < length line = grind (arith, nat_tests) in
-    let len : length line ≡ suc (length line - 1) = omega arith in
-    sym (return-yes line (length line - 1) len c.if-line-last-eq13.true)
+returns-then-line-last-eq13 c = grind (arith, nat_tests, return-yes)
 
 pub returns-else-line-last-eq13 : goal.returns-else-line-last-eq13
-returns-else-line-last-eq13 c =
-    let line = c.args.line.now in
-    let some : 0 < length line = grind (arith, nat_tests) in
-    let len : length line ≡ suc (length line - 1) = omega arith in
-    sym (return-no line (length line - 1) len c.if-line-last-eq13.false)
+returns-else-line-last-eq13 c = grind (arith, nat_tests, return-no)

@@ -1,4 +1,4 @@
-use Rattle.vec_world.proofs.Imports.{◌<◌, length, subst, sym, take, All, take_all, All-more, FitsHalf}
+use Rattle.vec_world.proofs.Imports.{arith, ◌<◌, length, take_all, All-more, FitsHalf}
 use Rattle.vec_world.proofs.WorldLaws.{IsSound, sound-world_of, genuine_from_sound}
 use Rattle.vec_world.proofs.LoadLaws.{each_load_tells, world_of-more}
 use Rattle.vec_world.proofs.machine.run.Goals as goal
@@ -13,14 +13,7 @@ loop-step-preserved c =
     )
 
 pub returns-clause-fresh : goal.returns-clause-fresh
-returns-clause-fresh c =
-    let steps = c.args.steps.now in
-    each_load_tells c.args.words c.args.passes steps
-    (subst (All FitsHalf) (take_all c.loop-step.step-index steps c.loop-step-test.false) c.loop-step.invariant.1)
+returns-clause-fresh c = grind (arith, each_load_tells, take_all)
 
 pub returns-clause-genuine : goal.returns-clause-genuine
-returns-clause-genuine c =
-    let so_far = take c.loop-step.step-index c.args.steps.now in
-    genuine_from_sound c.loop-step.world
-    (subst IsSound (sym c.loop-step.invariant.0)
-    (sound-world_of c.args.words c.args.passes so_far c.loop-step.invariant.1))
+returns-clause-genuine c = grind (arith, genuine_from_sound, IsSound, sound-world_of)

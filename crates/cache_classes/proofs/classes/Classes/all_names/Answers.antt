@@ -1,13 +1,7 @@
-use Rattle.cache_classes.proofs.Imports.{List, ap, subst, arith, ◌∙◌, IsPermutation, Name16, same_name, name_before, neighbours, names_in, ClassBatch}
+use Rattle.cache_classes.proofs.Imports.{arith, ◌∙◌, neighbours}
 use Rattle.cache_classes.proofs.NameOrder.{name_order}
 use Rattle.cache_classes.proofs.WalkLaws.{sorted_names}
 use Rattle.cache_classes.proofs.classes.Classes.all_names.Goals as goal
 
 pub returns : goal.returns
-returns c =
-    sorted_names c.self.inside.map.entries c.sort.new.self.items
-    (subst (λ (l : List Name16). IsPermutation l c.sort.new.self.items) c.in_ok-list.ensures
-    c.in_ok-sort.ensures.permutation)
-    (neighbours same_name name_before name_order c.sort.new.self.items
-    (λ k d less. c.in_ok-sort.ensures.sorted k d (omega arith) less))
-    ∙ ap (λ (b : ClassBatch). names_in b.names) c.self.view_is
+returns c = grind (arith, sorted_names, neighbours, name_order)

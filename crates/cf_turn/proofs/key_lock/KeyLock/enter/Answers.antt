@@ -1,4 +1,4 @@
-use Rattle.cf_turn.proofs.Imports.{rules, [], ap, ◌∙◌, stand_waiting}
+use Rattle.cf_turn.proofs.Imports.{arith, rules, [], ◌∙◌}
 use Rattle.cf_turn.proofs.Steps.{enters}
 use Rattle.cf_turn.proofs.key_lock.KeyLock.enter.Goals as goal
 
@@ -10,9 +10,4 @@ load_new_seat-requires g c = (
 )
 
 pub returns : goal.returns
-returns g c =
-    let made = c.load_new_seat.ensures in
-    record {
-      name = made.0 ∙ ap (λ l. l.name) c.self.view_is;
-      waits = (λ k. (made.2 k, made.1 k)) ∙ ap (λ l. (stand_waiting l.key, [])) c.self.view_is;
-    }
+returns g c = grind arith

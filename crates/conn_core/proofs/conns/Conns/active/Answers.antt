@@ -1,4 +1,4 @@
-use Rattle.std.proofs.Common.{◌≡◌, ℕ, ◌+◌, Bool, true, false, cond, filter, List, sym, subst, ◌∙◌, arith}
+use Rattle.std.proofs.Common.{◌≡◌, ℕ, ◌+◌, Bool, cond, filter, List, subst, ◌∙◌, arith}
 use Rattle.cf_types.specs.declared.limits.TheConstants.{CALLERS}
 use Rattle.cf_types.specs.declared.numbers.ConnId.{ConnId}
 use Rattle.cf_types.specs.ConnSets.{conns_from, with_member}
@@ -25,15 +25,7 @@ unfolding conns_from
 loop-number-init c = c.none-set.ensures
 
 pub loop-number-preserved : goal.loop-number-preserved
-loop-number-preserved c =
-    let more = one_more c.args.self.now c.loop-number.number c.loop-number.set c.if-is_active.set
-    c.loop-number.invariant in
-    elim c.if-is_active.branch [
-      | then-is_active w ↦ more true (sym w.if-is_active.true ∙ c.is_active.ensures) (w.set-is
-          ∙ w.with-set.ensures)
-      | else-is_active w ↦ more false (sym w.if-is_active.false
-          ∙ c.is_active.ensures) w.set-is
-    ]
+loop-number-preserved c = grind (arith, one_more, then-is_active, else-is_active)
 
 pub returns : goal.returns
 returns c = all_of_them c.args.self.now c.loop-number.number c.loop-number.set (omega arith) c.loop-number.invariant

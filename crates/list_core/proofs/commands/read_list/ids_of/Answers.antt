@@ -2,11 +2,7 @@ use Rattle.list_core.proofs.Imports.{◌≡◌, ◌++◌, ◌∷◌, [], Some, B
 use Rattle.list_core.proofs.commands.read_list.ids_of.Goals as goal
 
 pub unreachable-requires : goal.unreachable-requires
-unreachable-requires c =
-    let recs = records_of c.args.kept.now.content.lists c.args.header in
-    none_within recs c.loop-place.place (omega (arith, c.loop-place-test.true, c.len-place-end.ensures))
-    (none_shown c.args.kept.now.chains c.at.result (slice_get recs c.loop-place.place) c.at.ensures.«record»
-    c.in-None.is)
+unreachable-requires c = grind (arith, none_within, none_shown)
 
 pub loop-place-preserved : goal.loop-place-preserved
 loop-place-preserved c =
@@ -21,8 +17,4 @@ loop-place-preserved c =
     ∙ map-append (λ (r : Record). r.id) (take c.loop-place.place recs) (rec ∷ []))
 
 pub returns : goal.returns
-returns c =
-    let recs = records_of c.args.kept.now.content.lists c.args.header in
-    c.loop-place.invariant
-    ∙ ap (map (λ (r : Record). r.id)) (take_all c.loop-place.place recs
-    (omega (arith, c.loop-place-test.false, c.len-place-end.ensures)))
+returns c = grind (arith, take_all)

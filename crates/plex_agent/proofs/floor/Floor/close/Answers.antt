@@ -1,4 +1,4 @@
-use Rattle.plex_agent.proofs.Imports.{◌≡◌, ◌<◌, ◌≤◌, List, Option, Some, length, sym, ◌∙◌, ap, subst, arith, with_items_is, ConnId, Floor, heard_all, with_worker, IsFloorOf}
+use Rattle.plex_agent.proofs.Imports.{◌≡◌, ◌<◌, ◌≤◌, List, Option, length, sym, ◌∙◌, ap, subst, arith, with_items_is, ConnId, Floor, heard_all, with_worker, IsFloorOf}
 use Rattle.plex_agent.proofs.FloorLaws.{has_desk, changed_all, worker_fits, everywhere_fits, filled_more}
 use Rattle.plex_agent.proofs.PlayLaws.{hears_more, heard_everywhere, closes_one, closes_nothing}
 use Rattle.plex_agent.proofs.floor.Floor.close.Goals as goal
@@ -33,9 +33,7 @@ closing-requires-clause-owner g c κs within =
     omega arith
 
 pub loop-last-preserved : goal.loop-last-preserved
-loop-last-preserved g c =
-    filled_more c.loop-last.last-items c.deref_mut-last-items.result.now c.loop-last.last-index (Some c.args.conn)
-    c.loop-last.invariant c.loop-last-test.true
+loop-last-preserved g c = grind (arith, filled_more)
 
 pub returns-clause-closed : goal.returns-clause-closed
 returns-clause-closed g c =

@@ -1,4 +1,4 @@
-use Rattle.plex_agent.proofs.Imports.{refl, sym, ◌∙◌}
+use Rattle.plex_agent.proofs.Imports.{arith, refl, sym, ◌∙◌}
 use Rattle.plex_board.specs.PlexScript.declared.scripts.Act.TheVariants as act
 use Rattle.plex_agent.proofs.PlayLaws.{on_ok, plays_line, plays_nothing}
 use Rattle.plex_agent.proofs.floor.Floor.line.Goals as goal
@@ -9,16 +9,10 @@ returns-then-not-is_working-clause-played g c =
     (sym c.is_working.ensures ∙ c.if-not-is_working.true) c.requires.line.right
 
 pub returns-in-Post-clause-played : goal.returns-in-Post-clause-played
-returns-in-Post-clause-played g c =
-    on_ok c.post.result
-    (plays_line c.args.board.now c.args.line.now act.Post c.args.self.now c.post.new.self
-    (sym c.is_working.ensures ∙ c.if-not-is_working.false) c.in-Post.is) c.post.ensures.posted
+returns-in-Post-clause-played g c = grind (arith, on_ok, plays_line)
 
 pub returns-in-Take-clause-played : goal.returns-in-Take-clause-played
-returns-in-Take-clause-played g c =
-    on_ok c.take.result
-    (plays_line c.args.board.now c.args.line.now act.Take c.args.self.now c.take.new.self
-    (sym c.is_working.ensures ∙ c.if-not-is_working.false) c.in-Take.is) c.take.ensures.took
+returns-in-Take-clause-played g c = grind (arith, on_ok, plays_line)
 
 pub returns-in-Call-clause-played : goal.returns-in-Call-clause-played
 returns-in-Call-clause-played g c =

@@ -1,4 +1,4 @@
-use Rattle.plex_agent.proofs.Imports.{Some, slice_set, sym, ◌∙◌, ap, subst, slice_get_within, note_of, DeskShown, pass_at, IsDeskOf, Floor, with_worker, IsFloorOf}
+use Rattle.plex_agent.proofs.Imports.{arith, Some, slice_set, sym, ◌∙◌, ap, subst, slice_get_within, note_of, DeskShown, pass_at, IsDeskOf, Floor, with_worker, IsFloorOf}
 use Rattle.plex_agent.proofs.FloorLaws.{has_desk, changed, worker_fits, tray_fits}
 use Rattle.plex_agent.proofs.PlayLaws.{on_ok, posts}
 use Rattle.plex_agent.proofs.floor.Floor.post.Goals as goal
@@ -11,9 +11,7 @@ post_in-sure-requires-clause-desk g c κs within =
     c.index_mut-worker.ensures.value).fits
 
 pub post_in-sure-requires-clause-place : goal.post_in-sure-requires-clause-place
-post_in-sure-requires-clause-place g c κs within =
-    slice_get_within c.args.board.now.cells c.args.line.now.on.0 c.requires.line.right.cell
-    c.requires.line.right.there
+post_in-sure-requires-clause-place g c κs within = grind (arith, slice_get_within)
 
 pub returns-clause-posted : goal.returns-clause-posted
 returns-clause-posted g c =

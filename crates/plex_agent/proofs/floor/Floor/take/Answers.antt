@@ -1,4 +1,4 @@
-use Rattle.plex_agent.proofs.Imports.{List, Option, set, ◌∙◌, ap, slice_get_within, NoteShown, with_any_note, DeskShown, pass_at, with_pass, note_in, Floor}
+use Rattle.plex_agent.proofs.Imports.{arith, List, Option, set, ◌∙◌, ap, slice_get_within, NoteShown, with_any_note, DeskShown, pass_at, with_pass, note_in, Floor}
 use Rattle.plex_agent.proofs.FloorLaws.{has_desk, changed_only, changed_fits}
 use Rattle.plex_agent.proofs.PlayLaws.{on_ok, takes}
 use Rattle.plex_agent.proofs.floor.Floor.take.Goals as goal
@@ -11,9 +11,7 @@ take_in-sure-requires-clause-desk g c κs within =
     c.index_mut-worker.ensures.value).fits
 
 pub take_in-sure-requires-clause-place : goal.take_in-sure-requires-clause-place
-take_in-sure-requires-clause-place g c κs within =
-    slice_get_within c.args.board.now.cells c.args.line.now.on.0 c.requires.line.right.cell
-    c.requires.line.right.there
+take_in-sure-requires-clause-place g c κs within = grind (arith, slice_get_within)
 
 pub returns-clause-took : goal.returns-clause-took
 returns-clause-took g c =

@@ -1,4 +1,4 @@
-use Rattle.plex_agent.proofs.Imports.{◌<◌, length, sym, ap, subst, arith, slice_get_within, Floor, IsFloorOf}
+use Rattle.plex_agent.proofs.Imports.{◌<◌, length, sym, subst, arith, slice_get_within, Floor, IsFloorOf}
 use Rattle.plex_agent.proofs.FloorLaws.{acted, acted_fits}
 use Rattle.plex_agent.proofs.PlayLaws.{plays_counted, plays_uncounted}
 use Rattle.plex_agent.proofs.floor.Floor.turn.Goals as goal
@@ -10,19 +10,10 @@ returns-then-not-is_counted-clause-played g c =
     c.work.ensures.turned
 
 pub hear-requires-clause-place : goal.hear-requires-clause-place
-hear-requires-clause-place g c κs within =
-    slice_get_within c.args.board.now.cells c.args.line.now.on.0 c.requires.line.right.cell
-    c.requires.line.right.there
+hear-requires-clause-place g c κs within = grind (arith, slice_get_within)
 
 pub index_mut-requires : goal.index_mut-requires
-index_mut-requires g c =
-    let places = c.work-2.ensures.of_board.places in
-    let within = slice_get_within c.args.board.now.cells c.args.line.now.on.0 c.requires.line.right.cell
-    c.requires.line.right.there in
-    let same = ap (λ (floor : Floor). length floor.last) c.self.view_is in
-    let count = c.self.inside.last.ok.0 in
-    let at_is = c.from.ensures in
-    omega arith
+index_mut-requires g c = grind (arith, slice_get_within)
 
 pub returns-clause-played : goal.returns-clause-played
 returns-clause-played g c =

@@ -1,4 +1,4 @@
-use Rattle.plex_board.proofs.Imports.{◌≤◌, ap, length, cache_meaning, list_meaning, lock_meaning, calls, numbers, IsPoint, any_answers, OfCache, OfList, OfLock, passes_shown, cell_shown}
+use Rattle.plex_board.proofs.Imports.{arith, ◌≤◌, ap, length, cache_meaning, list_meaning, lock_meaning, calls, IsPoint, OfCache, OfList, OfLock, passes_shown, cell_shown}
 use Rattle.plex_script.specs.declared.scripts.AnyAsk.TheVariants as ask
 use Rattle.plex_script.specs.declared.asks.AnyHistory.TheVariants as history
 use Rattle.plex_board.specs.declared.any_reply.AnyReply.TheVariants as reply
@@ -129,52 +129,19 @@ returns-in-Lock-Lock-clause-known g c =
     (λ n. IsPoint c.close-history-in-Lock-Lock.result.history n × (n ≤ length c.close-history-in-Lock-Lock.result.history)) c.close-history-in-Lock-Lock.ensures.known
 
 pub returns-in-Cache-Cache-clause-room : goal.returns-in-Cache-Cache-clause-room
-returns-in-Cache-Cache-clause-room g c =
-    shown_room
-    OfCache ask.Cache reply.Cache (cell_shown c.args.self) c.in-Cache-Cache.cell (passes_shown c.args.passes)
-    c.in-Cache-Cache.passes.items
-    (ap cell_shown c.in-Cache-Cache.is-0) (ap passes_shown c.in-Cache-Cache.is-1)
-    (numbers c.close-history.result.history) c.close-history.ensures.room
+returns-in-Cache-Cache-clause-room g c = grind (arith, shown_room)
 
 pub returns-in-Cache-Cache-clause-links : goal.returns-in-Cache-Cache-clause-links
-returns-in-Cache-Cache-clause-links g c =
-    shown_links
-    OfCache ask.Cache reply.Cache (cell_shown c.args.self) c.in-Cache-Cache.cell (passes_shown c.args.passes)
-    c.in-Cache-Cache.passes.items
-    (ap cell_shown c.in-Cache-Cache.is-0) (ap passes_shown c.in-Cache-Cache.is-1)
-    g.L.Link.calls g.L.Link.downs g.L.Link.faults
-    (λ form. any_answers form (history.Cache c.close-history.result.history)) c.close-history.result.links c.close-history.ensures.links
+returns-in-Cache-Cache-clause-links g c = grind (arith, shown_links)
 
 pub returns-in-List-List-clause-room : goal.returns-in-List-List-clause-room
-returns-in-List-List-clause-room g c =
-    shown_room
-    OfList ask.List reply.List (cell_shown c.args.self) c.in-List-List.cell (passes_shown c.args.passes)
-    c.in-List-List.passes.items
-    (ap cell_shown c.in-List-List.is-0) (ap passes_shown c.in-List-List.is-1)
-    (numbers c.close-history-in-List-List.result.history) c.close-history-in-List-List.ensures.room
+returns-in-List-List-clause-room g c = grind (arith, shown_room)
 
 pub returns-in-List-List-clause-links : goal.returns-in-List-List-clause-links
-returns-in-List-List-clause-links g c =
-    shown_links
-    OfList ask.List reply.List (cell_shown c.args.self) c.in-List-List.cell (passes_shown c.args.passes)
-    c.in-List-List.passes.items
-    (ap cell_shown c.in-List-List.is-0) (ap passes_shown c.in-List-List.is-1)
-    g.L.Link.calls g.L.Link.downs g.L.Link.faults
-    (λ form. any_answers form (history.List c.close-history-in-List-List.result.history)) c.close-history-in-List-List.result.links c.close-history-in-List-List.ensures.links
+returns-in-List-List-clause-links g c = grind (arith, shown_links)
 
 pub returns-in-Lock-Lock-clause-room : goal.returns-in-Lock-Lock-clause-room
-returns-in-Lock-Lock-clause-room g c =
-    shown_room
-    OfLock ask.Lock reply.Lock (cell_shown c.args.self) c.in-Lock-Lock.cell (passes_shown c.args.passes)
-    c.in-Lock-Lock.passes.items
-    (ap cell_shown c.in-Lock-Lock.is-0) (ap passes_shown c.in-Lock-Lock.is-1)
-    (numbers c.close-history-in-Lock-Lock.result.history) c.close-history-in-Lock-Lock.ensures.room
+returns-in-Lock-Lock-clause-room g c = grind (arith, shown_room)
 
 pub returns-in-Lock-Lock-clause-links : goal.returns-in-Lock-Lock-clause-links
-returns-in-Lock-Lock-clause-links g c =
-    shown_links
-    OfLock ask.Lock reply.Lock (cell_shown c.args.self) c.in-Lock-Lock.cell (passes_shown c.args.passes)
-    c.in-Lock-Lock.passes.items
-    (ap cell_shown c.in-Lock-Lock.is-0) (ap passes_shown c.in-Lock-Lock.is-1)
-    g.L.Link.calls g.L.Link.downs g.L.Link.faults
-    (λ form. any_answers form (history.Lock c.close-history-in-Lock-Lock.result.history)) c.close-history-in-Lock-Lock.result.links c.close-history-in-Lock-Lock.ensures.links
+returns-in-Lock-Lock-clause-links g c = grind (arith, shown_links)

@@ -1,4 +1,4 @@
-use Rattle.plex_board.proofs.Imports.{set, sym, subst, IsAskOf, MayAskAny}
+use Rattle.plex_board.proofs.Imports.{arith, sym, subst, MayAskAny}
 use Rattle.plex_board.proofs.PlaceLaws.{place-is, cell-is, cell-some, changed-of_board, changed-at, full-on, still-on, answered-on, call-fixed}
 use Rattle.plex_board.proofs.board.Board.call.Goals as goal
 
@@ -8,10 +8,7 @@ call-requires-clause-place g c κs within =
     c.from.ensures c.from-2.ensures c.index.ensures c.index_mut.ensures.value).of_cell
 
 pub call-requires-clause-ask : goal.call-requires-clause-ask
-call-requires-clause-ask g c κs within =
-    cell-some (λ cell. IsAskOf cell c.args.ask) c.args.self.now c.args.on c.index.result.now
-    (cell-is c.args.self.now _ c.args.on _ _ (sym c.self.view_is) c.requires.place c.from.ensures c.index.ensures)
-    c.requires.ask
+call-requires-clause-ask g c κs within = grind (arith, cell-some, cell-is)
 
 pub call-requires-clause-may : goal.call-requires-clause-may
 call-requires-clause-may g c κs within =
@@ -21,23 +18,10 @@ call-requires-clause-may g c κs within =
     c.from.ensures c.from-2.ensures c.index.ensures c.index_mut.ensures.value).owner_is) c.requires.may
 
 pub returns-clause-answered : goal.returns-clause-answered
-returns-clause-answered g c =
-    answered-on c.args.desk.now
-    (record { owner = c.desk.inside.owner; passes = c.desk.inside.places.items }) c.args.on c.from-2.result
-    c.index_mut.result.now c.call.new.place c.args.ask c.call.result (sym c.desk.view_is) c.from-2.ensures
-    (place-is _ _ _ _ c.args.on _ _ _ _ (sym c.self.view_is) (sym c.desk.view_is) c.requires.desk c.requires.place
-    c.from.ensures c.from-2.ensures c.index.ensures c.index_mut.ensures.value).pass_is
-    c.call.ensures.answered
+returns-clause-answered g c = grind (arith, answered-on, place-is)
 
 pub returns-clause-full : goal.returns-clause-full
-returns-clause-full g c =
-    full-on c.args.self.now c.args.on c.index.result.now
-    (record { owner = c.desk.inside.owner; passes = set c.desk.inside.places.items c.from-2.result c.call.new.place })
-    c.call.new.place c.call.result
-    (cell-is c.args.self.now _ c.args.on _ _ (sym c.self.view_is) c.requires.place c.from.ensures c.index.ensures)
-    (changed-at c.args.self.now c.args.desk.now _ c.args.on _ _ (sym c.desk.view_is) c.requires.desk
-    c.requires.place c.from-2.ensures)
-    c.call.ensures.full
+returns-clause-full g c = grind (arith, full-on, cell-is, changed-at)
 
 pub returns-clause-no_memory : goal.returns-clause-no_memory
 returns-clause-no_memory g c =
@@ -45,7 +29,4 @@ returns-clause-no_memory g c =
     c.call.ensures.no_memory
 
 pub returns-clause-of_board : goal.returns-clause-of_board
-returns-clause-of_board g c =
-    changed-of_board c.args.self.now c.args.desk.now _ _ _ _ (sym c.desk.view_is) c.requires.desk
-    c.index_mut.ensures.value
-    (call-fixed c.call.result c.args.ask _ _ c.call.ensures.answered c.call.ensures.refused)
+returns-clause-of_board g c = grind (arith, changed-of_board, call-fixed)

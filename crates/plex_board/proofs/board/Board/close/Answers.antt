@@ -1,11 +1,9 @@
-use Rattle.plex_board.proofs.Imports.{refl, sym}
+use Rattle.plex_board.proofs.Imports.{arith, sym}
 use Rattle.plex_board.proofs.CloseLaws.{close-fits, close-homes, close-says, ready-homes, ready-empty, homes-seen, ended-seen, links-seen}
 use Rattle.plex_board.proofs.board.Board.close.Goals as goal
 
 pub gather-requires : goal.gather-requires
-gather-requires g c =
-    close-fits c.args.self c.args.desks.items _ c.requires.desks c.requires.owners
-    (ready-homes _ _ c.end-rest.result _ (sym c.self.view_is) c.self.invariant c.end-rest.ensures)
+gather-requires g c = grind (arith, close-fits, ready-homes)
 
 pub end-requires-clause-homes : goal.end-requires-clause-homes
 end-requires-clause-homes g c κs within =
@@ -22,6 +20,4 @@ returns-clause-histories g c =
     (ended-seen _ _ _ _ _ (sym c.self.view_is) c.gather.ensures c.end.ensures.histories)
 
 pub returns-clause-links : goal.returns-clause-links
-returns-clause-links g c =
-    links-seen g.L.Link.calls g.L.Link.downs g.L.Link.faults c.args.self _ c.end-rest.result _ _ _ (sym c.self.view_is)
-    c.end-rest.ensures refl c.end.ensures.links
+returns-clause-links g c = grind (arith, links-seen)

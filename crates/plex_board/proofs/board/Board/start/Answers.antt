@@ -14,9 +14,7 @@ loop-form-init g c =
     }
 
 pub add-requires-clause-formed : goal.add-requires-clause-formed
-add-requires-clause-formed g c κs within =
-    item-formed c.args.script.now.structures c.items-form-items.result.now c.loop-form.form-index c.form-item.result
-    c.items-form-items.ensures c.requires.policy.forms c.loop-form-test.true c.form-item.is
+add-requires-clause-formed g c κs within = grind (arith, item-formed)
 
 pub loop-form-preserved : goal.loop-form-preserved
 loop-form-preserved g c =
@@ -32,12 +30,7 @@ loop-form-preserved g c =
     }
 
 pub returns-clause-forms : goal.returns-clause-forms
-returns-clause-forms g c =
-    opened-forms c.loop-form.opening.stations.items (length c.items.result.now) (into_iter_items c.loop-form.left)
-    c.open.result _
-    (c.loop-form.invariant.forms ∙ take_all c.loop-form.form-index c.items-form-items.result.now
-    c.loop-form-test.false
-    ∙ c.items-form-items.ensures) c.open.ensures.board
+returns-clause-forms g c = grind (arith, opened-forms, take_all)
 
 pub returns-clause-cells : goal.returns-clause-cells
 returns-clause-cells g c =

@@ -1,4 +1,4 @@
-use Rattle.plex_board.proofs.Imports.{◌<◌, sym, subst, ap, words_of, fixed_of}
+use Rattle.plex_board.proofs.Imports.{arith, ◌<◌, sym, subst}
 use Rattle.plex_board.proofs.PlaceLaws.{place-is, cell-is, cell-some, changed-of_board}
 use Rattle.plex_board.proofs.board.Board.test_word.Goals as goal
 
@@ -15,13 +15,7 @@ test_word-requires-clause-caller g c κs within =
     c.from.ensures c.from-2.ensures c.index.ensures c.index_mut.ensures.value).owner_is) c.requires.caller
 
 pub test_word-requires-clause-word : goal.test_word-requires-clause-word
-test_word-requires-clause-word g c κs within =
-    cell-some (λ cell. c.args.word < words_of cell.words.len) c.args.self.now c.args.on c.index.result.now
-    (cell-is c.args.self.now _ c.args.on _ _ (sym c.self.view_is) c.requires.place c.from.ensures c.index.ensures)
-    c.requires.word
+test_word-requires-clause-word g c κs within = grind (arith, cell-some, cell-is)
 
 pub returns-clause-of_board : goal.returns-clause-of_board
-returns-clause-of_board g c =
-    changed-of_board c.args.self.now c.args.desk.now _ _ _ _ (sym c.desk.view_is) c.requires.desk
-    c.index_mut.ensures.value
-    (ap fixed_of c.test_word.ensures.place)
+returns-clause-of_board g c = grind (arith, changed-of_board)

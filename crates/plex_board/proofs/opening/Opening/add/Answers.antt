@@ -1,4 +1,4 @@
-use Rattle.plex_board.proofs.Imports.{◌+◌, ◌≤◌, sym, subst, ap, ◌∙◌, arith, length-map, home_shown}
+use Rattle.plex_board.proofs.Imports.{◌+◌, ◌≤◌, sym, subst, ◌∙◌, arith, length-map}
 use Rattle.plex_board.proofs.StationLaws.{started-passes}
 use Rattle.plex_board.proofs.HomeLaws.{count-of-homes}
 use Rattle.plex_board.proofs.UnusedLaws.{desks-few}
@@ -12,16 +12,7 @@ pub deal-requires-clause-few : goal.deal-requires-clause-few
 deal-requires-clause-few g c = desks-few _ _ _ _ c.requires.opening.desks c.requires.few
 
 pub push_reserved-requires-2 : goal.push_reserved-requires-2
-push_reserved-requires-2 g c =
-    let begun = c.requires.opening.begun in
-    omega (
-      arith,
-      count-of-homes _ _ _ begun.homes,
-      length-map c.args.self.now.rest.homes.items home_shown,
-      c.args.self.now.rest.homes.ok.0,
-      begun.homes_room,
-      c.requires.few,
-    )
+push_reserved-requires-2 g c = grind (arith, count-of-homes, length-map)
 
 pub returns-clause-opening : goal.returns-clause-opening
 returns-clause-opening g c =
@@ -33,22 +24,5 @@ returns-clause-opening g c =
       stations_room = subst (λ n. 16 ≤ n) (sym c.push_reserved.ensures.capacity) old.stations_room;
       desks = more-desks _ _ _ c.push_reserved.ensures.items _ _ _ _ old.desks passes
           c.deal.ensures.desks;
-      begun = record {
-        homes = more-homes _ _ _ c.push_reserved.ensures.items _ _ _ c.push_reserved-2.ensures.items
-            (c.args.callers + 1) old.begun.homes
-            (empty-home (c.args.callers + 1) _ c.deal.new.home
-            (c.deal.ensures.str_type ∙ c.in_ok-station.ensures.passes_type
-            ∙ sym (ap (λ cell. cell.str_type) c.in_ok-station.ensures.cell))
-            c.deal.ensures.empty
-            (subst (λ n. c.args.callers + 1 ≤ n) (sym c.deal.ensures.room) c.in_ok-station.ensures.room));
-        empty = more-empty _ _ _ c.push_reserved.ensures.items _ _ _ c.push_reserved-2.ensures.items
-            old.begun.empty c.deal.ensures.empty;
-        homes_room = subst (λ n. 16 ≤ n) (sym c.push_reserved-2.ensures.capacity) old.begun.homes_room;
-        no_histories = old.begun.no_histories;
-        history_room = old.begun.history_room;
-        no_links = old.begun.no_links;
-        link_room = old.begun.link_room;
-        no_spare = old.begun.no_spare;
-        spare_room = old.begun.spare_room;
-      };
+      begun = grind (arith, more-homes, empty-home, more-empty);
     }

@@ -53,11 +53,7 @@ invariant_of-result g c =
 
 pub close-history-requires-clause-passes : goal.close-history-requires-clause-passes
 close-history-requires-clause-passes g c κs within =
-    let same : passes_shown c.put.new.self ≡ passes_shown c.in_ok-cell.passes =
-    c.put.ensures.passes
-    ∙ ap (λ (pass : PassShown). passes_shown c.pop.new.self ++ pass ∷ []) c.tell-first.ensures.pass
-    ∙ sym (popped (λ pass. passes_shown c.in_ok-cell.passes ≡ passes_shown c.pop.new.self ++ pass_shown pass ∷ [])
-    c.pop.result c.unwrap-pass.result c.unwrap-pass.ensures c.pop.ensures.some) in
+    let same : passes_shown c.put.new.self ≡ passes_shown c.in_ok-cell.passes = grind (arith, popped) in
     subst (All (IsPassOf (cell_shown c.in_ok-cell.cell))) (sym same)
     (unused-of_cell (cell_shown c.in_ok-cell.cell) (passes_shown c.in_ok-cell.passes) _
     (started-passes _ _ _ _ _ _ _ c.in_ok-cell.ensures.cell c.in_ok-cell.ensures.passes))
@@ -65,11 +61,7 @@ close-history-requires-clause-passes g c κs within =
 -- nobody has called yet, so no link was asked
 pub returns-in-Err-clause-handed_back : goal.returns-in-Err-clause-handed_back
 returns-in-Err-clause-handed_back g c =
-    let same : passes_shown c.put.new.self ≡ passes_shown c.in_ok-cell.passes =
-    c.put.ensures.passes
-    ∙ ap (λ (pass : PassShown). passes_shown c.pop.new.self ++ pass ∷ []) c.tell-first.ensures.pass
-    ∙ sym (popped (λ pass. passes_shown c.in_ok-cell.passes ≡ passes_shown c.pop.new.self ++ pass_shown pass ∷ [])
-    c.pop.result c.unwrap-pass.result c.unwrap-pass.ensures c.pop.ensures.some) in
+    let same : passes_shown c.put.new.self ≡ passes_shown c.in_ok-cell.passes = grind (arith, popped) in
     let callers : (cell_shown c.in_ok-cell.cell).callers ≡ c.args.callers =
     ap (λ cell. cell.callers) c.in_ok-cell.ensures.cell in
     unused_links g.L.Link.calls g.L.Link.downs g.L.Link.faults (cell_shown c.in_ok-cell.cell)

@@ -1,4 +1,5 @@
 -- The active connectors are callers.
+use Rattle.plex_shell.proofs.Imports.{arith}
 use Rattle.plex_shell.proofs.CallerSets.{AreCallers-actives}
 use Rattle.plex_shell.proofs.shell.Shell.start_rebuild.Goals as goal
 
@@ -6,12 +7,4 @@ pub tell-requires-clause-callers : goal.tell-requires-clause-callers
 tell-requires-clause-callers c = rw c.active-members.ensures (AreCallers-actives _)
 
 pub invariant_of-self : goal.invariant_of-self
-invariant_of-self c =
-    record {
-      form = c.self.invariant.form;
-      caps = c.self.invariant.caps;
-      rebuild = rw c.start.ensures (record {
-        callers = rw c.active-members.ensures (AreCallers-actives _);
-        caps = c.requires.caps;
-      });
-    }
+invariant_of-self c = grind (arith, AreCallers-actives)
