@@ -1,13 +1,13 @@
 #!/usr/bin/env python3
-"""Shortens written-out proofs of a crate: asks grind whether it proves them with the names of the lemmas that they cite.
+"""Shortens written-out proofs of a crate: asks grind whether it proves them with the lemmas that they cite.
 
     python3 docs/ask-grind.py CRATE [LINES]
 
-Each proof, function of a `where` block, value of a `let`, field, or part in parentheses of LINES lines or more (3, unless
-given) is tried: a copy of its lemma under another name has `grind (arith, lemma, lemma)` in that place, all copies in one
-check of the crate. What is proved so replaces what was written where it is shorter. Then the crate is checked again, and a
-file that fails goes back. Run it on a clean tree; `git diff` shows what it did. What no proof cites any more, and imports
-that nothing uses (`rt check --fix-imports`), are left for you.
+Each proof, function of a `where` block, value of a `let`, field, or part in parentheses of LINES lines or more (3,
+unless given) is tried: a copy of its lemma under another name has `grind (arith, lemma, lemma)` in that place, all
+copies in one check of the crate. What is proved so replaces what was written where it is shorter. Then the crate is
+checked again, and a file that fails goes back. Run it on a clean tree; `git diff` shows what it did. Lemmas that no
+proof cites any more, and imports that nothing uses (`rt check --fix-imports`), are left for you.
 """
 import os
 import re
@@ -52,6 +52,13 @@ class Try:
     text: str
     gain: int
 
+    def copy(self, lines, number):
+        """The lemma under another name, with the call in its place."""
+        (low, high), name = self.clause, self.lemma.name
+        head = re.compile(rf"^( {{{self.lemma.indent}}}(?:(?:unfoldable|pub|opaque) )*){re.escape(name)}(?=\s)")
+        whole = [*lines[self.lemma.start:low], *self.text.split("\n"), *lines[high:self.lemma.end]]
+        return [head.sub(rf"\g<1>{name}__{number}", line) for line in whole]
+
 
 def indent_of(line):
     return len(line) - len(line.lstrip())
@@ -85,7 +92,7 @@ def lemmas(lines):
         if not head or indent != levels[-1] or line.split()[0] in ("use", "let", "record", "data"):
             continue
         it = Lemma(head.group(2), indent, at - 1, is_abbreviation="abbrev" in head.group(1))
-        while at < len(lines) and lines[at].strip() and (indent_of(lines[at]) > indent or lines[at].strip().startswith("unfolding ")):
+        while at < len(lines) and (indent_of(lines[at]) > indent or lines[at].lstrip().startswith("unfolding ")):
             at += 1
         while at < len(lines) and re.match(rf" {{{indent}}}{re.escape(it.name)}\s", lines[at]):
             begin, at = at, at + 1
@@ -171,19 +178,27 @@ def applications(text, name):
     return found
 
 
+def handed_on(text):
+    """The names that a module of `pub use` lines hands on, each with the module that it is from."""
+    lines = re.findall(r"^(?:unfoldable )?pub use (\S+?)\.\{(.*)\}", text, re.M)
+    return {word.split(" as ")[-1].strip(): home for home, words in lines for word in words.split(",")}
+
+
+def common_names():
+    """What the library's module Common hands on."""
+    page = subprocess.run(["rt", "doc"], stdout=subprocess.PIPE, text=True).stdout.strip()
+    return handed_on((Path(page).parent / "rattle/std/proofs/Common.antt").read_text())
+
+
 class Crate:
     def __init__(self, name):
-        self.name, self.folder = name, TOP / "crates" / name
+        self.name, self.folder, self.common = name, TOP / "crates" / name, common_names()
         self.files = [it for it in sorted((self.folder / "proofs").rglob("*.antt"))
                       if it.name not in ("Lib.antt", "Imports.antt", "Invariants.antt")]
         self.unfolded = {word for it in self.files for line in it.read_text().split("\n")
                          if line.strip().startswith("unfolding ") for word in line.split()[1:]}
-        self.homes = {}
         imports = self.folder / "proofs/Imports.antt"
-        if imports.exists():
-            for line in imports.read_text().split("\n"):
-                line = re.sub(r"^(unfoldable )?pub ", "", line)
-                self.homes.update((word, home) for word, home in self.names(line))
+        self.homes = handed_on(imports.read_text()) if imports.exists() else {}
 
     def names(self, line):
         found = IMPORT.match(line)
@@ -191,8 +206,7 @@ class Crate:
 
     def is_fact(self, word, home):
         home = self.homes.get(word, "") if home.endswith(".proofs.Imports") else home
-        if home == "Rattle.std.proofs.Common":
-            return "-" in word or "_" in word or "→" in word
+        home = self.common.get(word, "") if home == "Rattle.std.proofs.Common" else home
         return ".proofs." in home or home.startswith(("native.", "lib.", "mathlib."))
 
     def has_arith(self, text):
@@ -262,10 +276,7 @@ class Crate:
                 lines, behind = text.split("\n"), defaultdict(list)
                 for n, it in enumerate(tries):
                     if it.file == file:
-                        low, high = it.clause
-                        copy = [*lines[it.lemma.start:low], *it.text.split("\n"), *lines[high:it.lemma.end]]
-                        head = re.compile(rf"^( {{{it.lemma.indent}}}(?:(?:unfoldable|pub|opaque) )*){re.escape(it.lemma.name)}(?=\s)")
-                        behind[it.lemma.end].append((n, [head.sub(rf"\g<1>{it.lemma.name}__{n}", line) for line in copy]))
+                        behind[it.lemma.end].append((n, it.copy(lines, n)))
                 out = []
                 for at in range(len(lines) + 1):
                     for n, copy in behind[at]:
@@ -279,8 +290,8 @@ class Crate:
                 for file, text in originals.items():
                     file.write_text(text)
             refused = {places[file, at] for file, at, _ in bad if (file, at) in places}
-            ill = {places.get((file, at)) for file, at, why in bad if re.match("error: (expected|unexpected|this line)", why)}
-            ill.discard(None)
+            ill_formed = re.compile("error: (expected|unexpected|this line)")
+            ill = {places[file, at] for file, at, why in bad if (file, at) in places and ill_formed.match(why)}
             if not ill:
                 return [it for n, it in enumerate(tries) if n not in refused]
             tries = [it for n, it in enumerate(tries) if n not in ill]
@@ -291,13 +302,15 @@ def put(tries):
     """Writes what was proved, the greatest gains first and none inside another; returns how many."""
     chosen = []
     for it in sorted(tries, key=lambda it: (-it.gain, it.start - it.end)):
-        if all((it.file, it.clause) != (other.file, other.clause) or it.end <= other.start or other.end <= it.start for other in chosen):
+        beside = [other for other in chosen if (other.file, other.clause) == (it.file, it.clause)]
+        if all(it.end <= other.start or other.end <= it.start for other in beside):
             chosen.append(it)
     for file in {it.file for it in chosen}:
         lines = file.read_text().split("\n")
         for low, high in sorted({it.clause for it in chosen if it.file == file}, reverse=True):
             text = "\n".join(lines[low:high])
-            for it in sorted((it for it in chosen if (it.file, it.clause) == (file, (low, high))), key=lambda it: -it.start):
+            here = [it for it in chosen if (it.file, it.clause) == (file, (low, high))]
+            for it in sorted(here, key=lambda it: -it.start):
                 text = text[:it.start] + it.call + text[it.end:]
             lines[low:high] = text.split("\n")
         file.write_text("\n".join(lines))
