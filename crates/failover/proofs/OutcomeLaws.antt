@@ -1,6 +1,29 @@
 -- What the closed board says of the structure, of its links, and of the reader's last test.
-use Rattle.failover.proofs.Imports.{◌≡◌, ℕ, ◌+◌, ◌<◌, ◌++◌, List, [], ◌∷◌, length, map, Some, slice_get, get_or, sym, ap, subst, ◌∙◌, arith, All, Bool, Option, option_map, unwrap_or, flat_map, range_with_len, get_or-append_seam, length-append, slice_get_within, slice_get-get_or, slice_get-map, get_or_from_slice_get, Links, ListLink, AreAsked, IsAskedAll, IsAsTold, calls_after, asked_calls, asked_told, StrForm, ConnId, AnyHistory, Script, Tested, any_answers, CellShown, IsAnyTold, DeskShown, pass_at, BoardShown, IsAccount, AreClosed, AreEachAsked, AreLinksAsked, links_of, four_of, new_desk, desk-pass_owner, AreDownOnce, IsDownAt, HasPool, AreSeated, HasTested, gbp, sight_of, IsOpened, IsOutcome, WasAsked, reader, cf1, cf2, down_once}
+use Rattle.std.proofs.Common.{◌≡◌, ℕ, ◌+◌, ◌<◌, ◌++◌, List, [], ◌∷◌, length, map, Some, slice_get, get_or, sym, ap, subst, ◌∙◌, arith}
+use Rattle.std.specs.Prelude.{All, Bool, Option}
+use Rattle.std.specs.Option.{option_map, unwrap_or}
+use Rattle.std.specs.List.{flat_map, range_with_len}
+use Rattle.std.proofs.Math.Seq.{get_or-append_seam}
+use Rattle.std.proofs.lemmas.List.{length-append}
+use Rattle.std.proofs.lemmas.Option.{slice_get_within, slice_get-get_or, slice_get-map, get_or_from_slice_get}
+use Rattle.plex_board.specs.CfLink.declared.links.Links.{Links}
+use Rattle.plex_board.specs.CfLink.declared.list_link.ListLink.{ListLink}
+use Rattle.plex_board.specs.CfLink.Links.{AreAsked, IsAskedAll, IsAsTold, calls_after}
+use Rattle.plex_board.proofs.CfLink.LinkLaws.{asked_calls, asked_told}
+use Rattle.plex_board.specs.CfTypes.declared.forms.StrForm.{StrForm}
+use Rattle.plex_board.specs.CfTypes.declared.numbers.ConnId.{ConnId}
+use Rattle.plex_board.specs.PlexScript.declared.asks.AnyHistory.{AnyHistory}
 use Rattle.plex_board.specs.PlexScript.declared.asks.AnyHistory.TheVariants as history
+use Rattle.plex_board.specs.PlexScript.declared.scripts.Script.{Script}
+use Rattle.plex_board.specs.VecWords.declared.logged.Tested.{Tested}
+use Rattle.plex_board.specs.Kinds.{any_answers}
+use Rattle.plex_board.specs.Cells.{CellShown, IsAnyTold}
+use Rattle.plex_board.specs.Desks.{DeskShown, pass_at}
+use Rattle.plex_board.specs.Boards.{BoardShown, IsAccount, AreClosed, AreEachAsked, AreLinksAsked, links_of, four_of, new_desk}
+use Rattle.plex_board.proofs.DeskLaws.{desk-pass_owner}
+use Rattle.failover.specs.Failing.{AreDownOnce, IsDownAt}
+use Rattle.failover.specs.Members.{HasPool, AreSeated, HasTested, gbp, sight_of}
+use Rattle.failover.specs.Outcome.{IsOpened, IsOutcome, WasAsked, reader, cf1, cf2, down_once}
 use Rattle.failover.proofs.SeatLaws.{seat_owner, seat_of_board, seated}
 
 -- what a listed link tells

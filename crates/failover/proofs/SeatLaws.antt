@@ -1,6 +1,27 @@
 -- The desks of the operator and of the members: as the board begins, and once one of them was used.
-use Rattle.failover.proofs.Imports.{◌≡◌, ℕ, ◌+◌, ◌<◌, ◌≤◌, List, [], ◌∷◌, length, map, ◌++◌, set, get_or, get_or-set_same, Some, sym, ap, subst, ◌∙◌, arith, refl, IfSome, slice_get, range_with_len, map-set_same, length-map, length-set, get_or-map, slice_get_within, slice_get_read, length-range_with_len, length-map-range_with_len, get_or-range_with_len, All-nil, All-cons, All-same, All-set, Kind, ConnId, Script, IsScript, script-formed, Tested, type_of_kind, PassShown, CellShown, DeskShown, pass_at, with_pass, BoardShown, IsPolicy, IsDeskOf, cell_on, new_desk, new_desk-of_board, desk-length, pass_at-with_pass_same, HasPool, AreSeated, HasTested, gbp, owner_of, sight_of}
+use Rattle.std.proofs.Common.{◌≡◌, ℕ, ◌+◌, ◌<◌, ◌≤◌, List, [], ◌∷◌, length, map, ◌++◌, set, get_or, get_or-set_same, Some, sym, ap, subst, ◌∙◌, arith, refl}
+use Rattle.std.specs.Prelude.{IfSome, slice_get}
+use Rattle.std.specs.List.{range_with_len}
+use Rattle.std.proofs.Math.Seq.{map-set_same}
+use Rattle.std.proofs.lemmas.List.{length-map, length-set}
+use Rattle.std.proofs.lemmas.Option.{slice_get_within, slice_get_read}
+use Rattle.std.proofs.lemmas.List.FromFn.{length-range_with_len, length-map-range_with_len, get_or-range_with_len}
+use Rattle.std.proofs.lemmas.List.{get_or-map}
+use Rattle.std.proofs.lemmas.List.Elements.{All-nil, All-cons, All-same, All-set}
+use Rattle.plex_board.specs.CfTypes.declared.forms.Kind.{Kind}
 use Rattle.plex_board.specs.CfTypes.declared.forms.Kind.TheVariants as kind
+use Rattle.plex_board.specs.CfTypes.declared.numbers.ConnId.{ConnId}
+use Rattle.plex_board.specs.PlexScript.declared.scripts.Script.{Script}
+use Rattle.plex_board.specs.PlexScript.Scripts.{IsScript}
+use Rattle.plex_board.proofs.PlexScript.FormedLines.{script-formed}
+use Rattle.plex_board.specs.VecWords.declared.logged.Tested.{Tested}
+use Rattle.plex_board.specs.Types.{type_of_kind}
+use Rattle.plex_board.specs.Passes.{PassShown}
+use Rattle.plex_board.specs.Cells.{CellShown}
+use Rattle.plex_board.specs.Desks.{DeskShown, pass_at, with_pass}
+use Rattle.plex_board.specs.Boards.{BoardShown, IsPolicy, IsDeskOf, cell_on, new_desk}
+use Rattle.plex_board.proofs.DeskLaws.{new_desk-of_board, desk-length, pass_at-with_pass_same}
+use Rattle.failover.specs.Members.{HasPool, AreSeated, HasTested, gbp, owner_of, sight_of}
 
 -- what a text says states a policy
 pub policy_of : (text : List ℕ) (script : Script) → IsScript text script → IsPolicy script

@@ -1,5 +1,18 @@
 -- The desks of the members: as the board begins, and as it ends.
-use Rattle.two_members.proofs.Imports.{◌≡◌, ℕ, ◌+◌, ◌≤◌, ◌++◌, List, [], ◌∷◌, length, map, get_or, sym, ap, subst, ◌∙◌, arith, All, range_with_len, length-append, length-map-range_with_len, All-nil, All-cons, All-same, CONNECTORS, Script, IsScript, script-formed, DeskShown, BoardShown, IsPolicy, IsDeskOf, new_desk, new_desk-of_board, HasPool, IsMember, Stays}
+use Rattle.std.proofs.Common.{◌≡◌, ℕ, ◌+◌, ◌≤◌, ◌++◌, List, [], ◌∷◌, length, map, get_or, sym, ap, subst, ◌∙◌, arith}
+use Rattle.std.specs.Prelude.{All}
+use Rattle.std.specs.List.{range_with_len}
+use Rattle.std.proofs.lemmas.List.{length-append}
+use Rattle.std.proofs.lemmas.List.FromFn.{length-map-range_with_len}
+use Rattle.std.proofs.lemmas.List.Elements.{All-nil, All-cons, All-same}
+use Rattle.plex_board.specs.CfTypes.declared.limits.TheConstants.{CONNECTORS}
+use Rattle.plex_board.specs.PlexScript.declared.scripts.Script.{Script}
+use Rattle.plex_board.specs.PlexScript.Scripts.{IsScript}
+use Rattle.plex_board.proofs.PlexScript.FormedLines.{script-formed}
+use Rattle.plex_board.specs.Desks.{DeskShown}
+use Rattle.plex_board.specs.Boards.{BoardShown, IsPolicy, IsDeskOf, new_desk}
+use Rattle.plex_board.proofs.DeskLaws.{new_desk-of_board}
+use Rattle.two_members.specs.Members.{HasPool, IsMember, Stays}
 
 -- what a text says states a policy
 pub policy_of : (text : List ℕ) (script : Script) → IsScript text script → IsPolicy script

@@ -1,6 +1,21 @@
 -- What the closed board says of the reader's last test.
-use Rattle.two_members.proofs.Imports.{◌≡◌, ◌<◌, ◌++◌, List, [], ◌∷◌, length, map, Some, slice_get, get_or, sym, ap, subst, ◌∙◌, arith, All, option_map, get_or-append_seam, length-append, slice_get_within, slice_get-get_or, slice_get-map, StrForm, AnyHistory, Script, reply_numbered, CellShown, IsAnyTold, own_replies, DeskShown, pass_at, BoardShown, IsDeskOf, IsAccount, AreClosed, desk-pass_owner, HasPool, HasRead, HasTested, IsOutcome, gbp, reader, sight_of, Seen}
+use Rattle.std.proofs.Common.{◌≡◌, ◌<◌, ◌++◌, List, [], ◌∷◌, length, map, Some, slice_get, get_or, sym, ap, subst, ◌∙◌, arith}
+use Rattle.std.specs.Prelude.{All}
+use Rattle.std.specs.Option.{option_map}
+use Rattle.std.proofs.Math.Seq.{get_or-append_seam}
+use Rattle.std.proofs.lemmas.List.{length-append}
+use Rattle.std.proofs.lemmas.Option.{slice_get_within, slice_get-get_or, slice_get-map}
+use Rattle.plex_board.specs.CfTypes.declared.forms.StrForm.{StrForm}
+use Rattle.plex_board.specs.PlexScript.declared.asks.AnyHistory.{AnyHistory}
 use Rattle.plex_board.specs.PlexScript.declared.asks.AnyHistory.TheVariants as history
+use Rattle.plex_board.specs.PlexScript.declared.scripts.Script.{Script}
+use Rattle.plex_board.specs.Passes.{reply_numbered}
+use Rattle.plex_board.specs.Cells.{CellShown, IsAnyTold, own_replies}
+use Rattle.plex_board.specs.Desks.{DeskShown, pass_at}
+use Rattle.plex_board.specs.Boards.{BoardShown, IsDeskOf, IsAccount, AreClosed}
+use Rattle.plex_board.proofs.DeskLaws.{desk-pass_owner}
+use Rattle.two_members.specs.Members.{HasPool, HasRead, HasTested, IsOutcome, gbp, reader, sight_of}
+use Rattle.two_members.specs.declared.seen.Seen.{Seen}
 
 -- what holds of each holds of the last
 all_last : {A : Type 0} (P : A → Type 0) (front all : List A) (x : A) → all ≡ front ++ x ∷ [] → All P all → P x

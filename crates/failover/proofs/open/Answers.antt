@@ -1,5 +1,6 @@
 -- The desks are those of a board that begins, and its links those that are down once.
-use Rattle.failover.proofs.Imports.{rules, ◌≡◌, length, HasPool}
+use Rattle.std.proofs.Common.{rules, ◌≡◌, length}
+use Rattle.failover.specs.Members.{HasPool}
 use Rattle.failover.proofs.OutcomeLaws.{opened}
 use Rattle.failover.proofs.open.Goals as goal
 

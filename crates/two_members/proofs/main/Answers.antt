@@ -1,5 +1,5 @@
 -- The text of the policy is a script, and each script states a policy.
-use Rattle.two_members.proofs.Imports.{rules}
+use Rattle.std.proofs.Common.{rules}
 use Rattle.two_members.proofs.MemberLaws.{policy_of}
 use Rattle.two_members.proofs.main.Goals as goal
 

@@ -1,7 +1,9 @@
 -- The desks of the members, from the start of the board to its end.
-use Rattle.two_members.proofs.Imports.{rules, ◌≡◌, length, ◌∙◌, ap, arith, DeskShown, HasPool}
+use Rattle.std.proofs.Common.{rules, ◌≡◌, length, ◌∙◌, ap, arith}
+use Rattle.plex_board.specs.Desks.{DeskShown}
 use Rattle.two_members.proofs.MemberLaws.{seats, member, all-of_board, all-owners}
 use Rattle.two_members.proofs.OutcomeLaws.{outcome}
+use Rattle.two_members.specs.Members.{HasPool}
 use Rattle.two_members.proofs.members.Goals as goal
 
 pub work-written-requires-clause-members : goal.work-written-requires-clause-members

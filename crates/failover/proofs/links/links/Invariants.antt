@@ -1,5 +1,6 @@
 -- so many links were made as turns, and the first two are down once
-use Rattle.failover.proofs.Imports.{◌≡◌, length, AreDownOnce}
+use Rattle.std.specs.Prelude.{◌≡◌, length}
+use Rattle.failover.specs.Failing.{AreDownOnce}
 use Rattle.failover.proofs.links.links.Given as goal
 
 abbrev pub invariant-loop : goal.invariant-loop

@@ -1,4 +1,4 @@
-use Rattle.failover.proofs.Imports.{AreSeated}
+use Rattle.failover.specs.Members.{AreSeated}
 use Rattle.failover.proofs.members.share.Given as goal
 
 abbrev pub invariant-loop-data : goal.invariant-loop-data

@@ -1,5 +1,5 @@
 -- The desk is the second member's, and its last test is this one.
-use Rattle.failover.proofs.Imports.{arith}
+use Rattle.std.proofs.Common.{arith}
 use Rattle.failover.proofs.SeatLaws.{seat_owner, has_tested}
 use Rattle.failover.proofs.members.test_copy.Goals as goal
 

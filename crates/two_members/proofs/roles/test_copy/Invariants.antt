@@ -1,4 +1,5 @@
-use Rattle.two_members.proofs.Imports.{◌≡◌, IsMember, Stays, replies_at}
+use Rattle.std.proofs.Common.{◌≡◌}
+use Rattle.two_members.specs.Members.{IsMember, Stays, replies_at}
 use Rattle.two_members.proofs.roles.test_copy.Given as goal
 
 abbrev pub invariant-loop : goal.invariant-loop

@@ -1,4 +1,4 @@
-use Rattle.two_members.proofs.Imports.{IsMember, Stays}
+use Rattle.two_members.specs.Members.{IsMember, Stays}
 use Rattle.two_members.proofs.roles.wait_past.Given as goal
 
 abbrev pub invariant-loop : goal.invariant-loop
