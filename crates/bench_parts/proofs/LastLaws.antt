@@ -39,6 +39,5 @@ last-of_one {X} a (y ∷ front) x is =
 pub last-passes : {D : Type 0} (table : WordTable) (passes front : List (PassSeen D)) (found : Option (PassSeen D))
     → passes ≡ map (new_pass table) (range_with_len 0 (1 + 1)) → passes ≡ front ++ option_to_list found
     → IfSome found (λ pass. (pass.table ≡ table) × (0 < pass.owner))
-last-passes table passes front found are ends =
-    last-some (λ pass. (pass.table ≡ table) × (0 < pass.owner)) (new_pass table 0) (new_pass table 1) front found
-    (sym are ∙ ends) (refl, omega arith)
+last-passes table passes front found are ends = last-some (λ pass. (pass.table ≡ table) × (0 < pass.owner))
+    (new_pass table 0) (new_pass table 1) front found (sym are ∙ ends) (refl, omega arith)

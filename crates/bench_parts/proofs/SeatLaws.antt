@@ -23,8 +23,7 @@ module _ {L : Type 0} where
   -- the cell of one form
   first-pool : (callers limit : ℕ) (cells : List (CellShown L)) (forms : List StrForm)
       → map (λ (cell : CellShown L). cell.form) cells ≡ forms → IsCacheAlone forms
-      → All (IsStarted callers limit) cells
-      → (0 < length cells) × IfSome (slice_get cells 0) IsPool
+      → All (IsStarted callers limit) cells → (0 < length cells) × IfSome (slice_get cells 0) IsPool
   first-pool callers limit [] forms is alone all = absurd (subst IsCacheAlone (sym is) alone)
   first-pool callers limit (cell ∷ []) forms is alone all =
       let form : IsCacheForm cell.form = subst IsCacheAlone (sym is) alone in
@@ -41,8 +40,7 @@ module _ {L : Type 0} where
 
   -- the same of a board that may have begun
   pub begun-board : {V E : Type 0} (callers limit : ℕ) (script : Script) (answer : Result (BoardShown L × V) E)
-      → IsOneCache script
-      → IfOk answer (λ r. map (λ (cell : CellShown L). cell.form) r.0.cells ≡ script.structures)
+      → IsOneCache script → IfOk answer (λ r. map (λ (cell : CellShown L). cell.form) r.0.cells ≡ script.structures)
       → IfOk answer (λ r. All (IsStarted callers limit) r.0.cells) → IfOk answer (λ r. IsCacheBoard r.0)
   begun-board callers limit script (Ok r) one forms cells = board_is callers limit r.0 script forms one cells
   begun-board callers limit script (Err e) one forms cells = tt
@@ -70,8 +68,7 @@ module _ {L : Type 0} (board : BoardShown L) where
       → desks ≡ map (new_desk board) (range_with_len 0 (1 + 1)) → desks ≡ front ++ option_to_list found
       → IfSome found (IsSeated board)
   last-seated desks front found cache are ends =
-      last-some (IsSeated board) (new_desk board 0) (new_desk board 1) front found (sym are ∙ ends)
-      (record {
+      last-some (IsSeated board) (new_desk board 0) (new_desk board 1) front found (sym are ∙ ends) (record {
         board_is = cache;
         of_board = new_desk-of_board board 1;
         connector = (omega arith, omega arith);

@@ -19,18 +19,16 @@ last_is x xs =
     ap (λ n. option_map name_of (slice_get (x ∷ xs) n)) back ∙ at_end x xs
 
 -- what stands last isn't before what stands in front
-not_ahead : (first : Name16) (xs : List Changed) (name : Name16)
-    → list_all (λ y. not (name_before y.name first)) xs ≡ true → name_before name first ≡ false
-    → name_before (last_after name xs) first ≡ false
+not_ahead : (first : Name16) (xs : List Changed) (name : Name16) → list_all (λ y. not (name_before y.name first))
+    xs ≡ true → name_before name first ≡ false → name_before (last_after name xs) first ≡ false
 not_ahead first [] name h e = e
 not_ahead first (x ∷ xs) name h e =
     let parts = and_parts (not (name_before x.name first)) (list_all (λ y. not (name_before y.name first)) xs) h in
     not_ahead first xs x.name parts.1 (not-true (name_before x.name first) parts.0)
 
 -- one more behind a list whose last doesn't stand before it
-stays : (new first : Name16) (xs : List Changed) → name_before first new ≡ false
-    → list_all (λ y. not (name_before y.name first)) xs ≡ true
-    → Some (last_after first xs) ≡ later (Some (last_after first xs)) (Some new)
+stays : (new first : Name16) (xs : List Changed) → name_before first new ≡ false → list_all (λ y. not (name_before
+    y.name first)) xs ≡ true → Some (last_after first xs) ≡ later (Some (last_after first xs)) (Some new)
 stays new first xs e h =
     let last : Name16 = last_after first xs in
     let behind : name_before last new ≡ false = name_order.follows new first last e
@@ -65,9 +63,8 @@ last_more new [] turn = refl
 last_more new (x ∷ xs) turn = grind (arith, and_parts, last_is, last_with, stays)
 
 -- one entry more in front of those behind it
-pub last_next : (es : List Entry) (k : ℕ) → k < length es
-    → later (last_name (classes_in (drop (k + 1) es))) (option_map name_of (slice_get (entries_in es) k))
-    ≡ last_name (classes_in (drop k es))
+pub last_next : (es : List Entry) (k : ℕ) → k < length es → later (last_name (classes_in (drop (k + 1) es)))
+    (option_map name_of (slice_get (entries_in es) k)) ≡ last_name (classes_in (drop k es))
 unfolding arranged
 last_next [] k less = absurd (omega (arith, less))
 last_next (e ∷ es) zero less = sym (last_more (changed_at e) (classes_in es) (in_order_in es))
@@ -78,8 +75,7 @@ pub last_none : (es : List Entry) (k : ℕ) → length es ≤ k → None ≡ las
 unfolding arranged
 last_none es k past = ap (λ (l : List Entry). last_name (classes_in l)) (sym (drop_all k es past))
 
-pub last_step : (es : List Entry) (k now : ℕ) (last next : Option Name16) → k ≡ now + 1 → k ≤ length es
-    → last ≡ last_name (classes_in (drop k es))
-    → next ≡ later last (option_map name_of (slice_get (entries_in es) now))
-    → next ≡ last_name (classes_in (drop now es))
+pub last_step : (es : List Entry) (k now : ℕ) (last next : Option Name16)
+    → k ≡ now + 1 → k ≤ length es → last ≡ last_name (classes_in (drop k es)) → next ≡ later
+    last (option_map name_of (slice_get (entries_in es) now)) → next ≡ last_name (classes_in (drop now es))
 last_step es k now last next is within so_far e = grind (arith, last_next)

@@ -20,10 +20,9 @@ entries_at : (es : List Entry) → IsDistinct same (keys_of es) → (name : Name
 entries_at [] u name = refl
 entries_at (e ∷ es) u name = go (same name.0 e.0) refl (entries_at es (tail_unique e es u) name)
   where
-    go : (b : Bool) → same name.0 e.0 ≡ b
-        → filter (is_named name) (entries_in es) ≡ option_to_list (option_map (made name) (lookup (same name.0) es))
-        → filter (is_named name) (entries_in (e ∷ es))
-        ≡ option_to_list (option_map (made name) (cond (same name.0 e.0) (Some e.1) (lookup (same name.0) es)))
+    go : (b : Bool) → same name.0 e.0 ≡ b → filter (is_named name) (entries_in es) ≡ option_to_list (option_map
+        (made name) (lookup (same name.0) es)) → filter (is_named name) (entries_in (e ∷ es)) ≡ option_to_list
+        (option_map (made name) (cond (same name.0 e.0) (Some e.1) (lookup (same name.0) es)))
     go true h ih =
         let here : is_named name (changed_at e) ≡ true = nat_list_eq_equiv.symm e.0 name.0 ∙ h in
         let none : lookup (same name.0) es ≡ None = lookup-none (same name.0) es
@@ -50,12 +49,10 @@ pub in_order_in : (es : List Entry) → pairwise (in_turn name_of name_before) (
 in_order_in es = arranged_in_turn name_of same_name name_before at_slot name_order (entries_in es)
 
 -- two lists in order are equal where the names have the same
-same_names : (xs ys : List Changed) → pairwise (in_turn name_of name_before) xs ≡ true
-    → pairwise (in_turn name_of name_before) ys ≡ true
-    → ((name : Name16) → filter (is_named name) xs ≡ filter (is_named name) ys) → xs ≡ ys
-same_names xs ys h g f =
-    ordered_filters name_of same_name (λ x y. name_before x.name y.name) name_order.itself
-    (λ x y. name_order.ties x.name y.name) xs ys h g f
+same_names : (xs ys : List Changed) → pairwise (in_turn name_of name_before) xs ≡ true → pairwise (in_turn name_of
+    name_before) ys ≡ true → ((name : Name16) → filter (is_named name) xs ≡ filter (is_named name) ys) → xs ≡ ys
+same_names xs ys h g f = ordered_filters name_of same_name (λ x y. name_before x.name y.name)
+    name_order.itself (λ x y. name_order.ties x.name y.name) xs ys h g f
 
 -- ---- one name more, or less
 
@@ -66,10 +63,8 @@ alone q b x (y ∷ ys) e none = grind (arith, alone q b x ys e)
 
 -- what is left without a name
 without_here : (name : Name16) (xs : List Changed) → filter (is_named name) (names_without name xs) ≡ []
-without_here name xs =
-    filter-filter (is_named name) (λ x. not (is_named name x)) xs
-    ∙ ap (λ (q : Changed → Bool). filter q xs) (λ i x. both (is_named name x) i)
-    ∙ filter_nothing xs
+without_here name xs = filter-filter (is_named name) (λ x. not (is_named name x)) xs
+    ∙ ap (λ (q : Changed → Bool). filter q xs) (λ i x. both (is_named name x) i) ∙ filter_nothing xs
   where
     both : (b : Bool) → not b && b ≡ false
     both true = refl
@@ -81,19 +76,17 @@ without_there name k xs apart = grind (arith, filter_swap, filter_absorbed, othe
   where
     other : (x : Changed) → is_named k x ≡ true → (b : Bool) → is_named name x ≡ b → b ≡ false
     other x e false f = refl
-    other x e true f =
-        absurd (false≢true (sym apart
-        ∙ subst (λ (n : Name16). same_name n k ≡ true) (name_order.equal x.name name f) e))
+    other x e true f = absurd
+        (false≢true (sym apart ∙ subst (λ (n : Name16). same_name n k ≡ true) (name_order.equal x.name name f) e))
 
 finds_place : (new : Changed) → FindsPlace (in_turn name_of name_before) (λ other. name_before other.name new.name)
     (λ other. true) new
-finds_place new =
-    record {
-      front = λ other h. ap not (name_order.asym other.name new.name h);
-      stop = λ other h e. ap not e;
-      follows = λ y z h e. ap not (name_order.follows new.name y.name z.name
-          (not-true (name_before y.name new.name) h) (not-true (name_before z.name y.name) e));
-    }
+finds_place new = record {
+  front = λ other h. ap not (name_order.asym other.name new.name h);
+  stop = λ other h e. ap not e;
+  follows = λ y z h e. ap not (name_order.follows new.name y.name z.name
+      (not-true (name_before y.name new.name) h) (not-true (name_before z.name y.name) e));
+}
 
 written : (b c : Bool) (w o : Option ℕ) → c ≡ b → cond c w o ≡ cond b w o
 written b c w o e = ap (λ (t : Bool). cond t w o) e
@@ -112,12 +105,10 @@ module _ (es fs : List Entry) (name : Name16) (u : IsDistinct same (keys_of es))
 
   pub put_names : (class : ℕ) → Writes es name (Some class) fs
       → classes_in fs ≡ names_with (made name class) (names_without name (classes_in es))
-  put_names class writes =
-      same_names (classes_in fs) (names_with new rest) (in_order_in fs)
+  put_names class writes = same_names (classes_in fs) (names_with new rest) (in_order_in fs)
       (pairwise-insertion (in_turn name_of name_before) (λ y. name_before y.name name) (λ y. true) new rest
-      (finds_place new) (list_all_always (λ y. true) (λ y. refl) rest)
-      (pairwise-filter (in_turn name_of name_before) (λ x. not (is_named name x)) (classes_in es) (in_order_in es)))
-      (λ k. by_name k (same_name name k) refl)
+      (finds_place new) (list_all_always (λ y. true) (λ y. refl) rest) (pairwise-filter (in_turn name_of name_before)
+      (λ x. not (is_named name x)) (classes_in es) (in_order_in es))) (λ k. by_name k (same_name name k) refl)
     where
       new : Changed
       new = made name class
@@ -125,18 +116,15 @@ module _ (es fs : List Entry) (name : Name16) (u : IsDistinct same (keys_of es))
       rest : List Changed
       rest = names_without name (classes_in es)
 
-      by_name : (k : Name16) (b : Bool) → same_name name k ≡ b
-          → filter (is_named k) (classes_in fs)
-          ≡ filter (is_named k) (insertion (λ y. name_before y.name name) new rest)
+      by_name : (k : Name16) (b : Bool) → same_name name k ≡ b → filter
+          (is_named k) (classes_in fs) ≡ filter (is_named k) (insertion (λ y. name_before y.name name) new rest)
       by_name k true e =
           let one : name ≡ k = name_order.equal name k e in
           here (Some class) writes k e ∙ ap (λ (n : Name16). made n class ∷ []) (sym one)
           ∙ sym (alone (is_named k) (λ y. name_before y.name name) new rest e
           (subst (λ (n : Name16). filter (is_named n) rest ≡ []) one (without_here name (classes_in es))))
-      by_name k false e =
-          there (Some class) writes k e
-          ∙ sym (filter-insertion_out (is_named k) (λ y. name_before y.name name) new rest e
-          ∙ without_there name k (classes_in es) e)
+      by_name k false e = there (Some class) writes k e ∙ sym (filter-insertion_out (is_named k)
+          (λ y. name_before y.name name) new rest e ∙ without_there name k (classes_in es) e)
 
   pub removed_names : Writes es name None fs → classes_in fs ≡ names_without name (classes_in es)
   removed_names writes = grind (arith, same_names, in_order_in, pairwise-filter, by_name)
@@ -145,9 +133,8 @@ module _ (es fs : List Entry) (name : Name16) (u : IsDistinct same (keys_of es))
           → filter (is_named k) (classes_in fs) ≡ filter (is_named k) (names_without name (classes_in es))
       by_name k true e =
           let one : name ≡ k = name_order.equal name k e in
-          here None writes k e
-          ∙ sym (subst (λ (n : Name16). filter (is_named n) (names_without name (classes_in es)) ≡ []) one
-          (without_here name (classes_in es)))
+          here None writes k e ∙ sym (subst (λ (n : Name16). filter (is_named n)
+          (names_without name (classes_in es)) ≡ []) one (without_here name (classes_in es)))
       by_name k false e = there None writes k e ∙ sym (without_there name k (classes_in es) e)
 
 -- ---- how many

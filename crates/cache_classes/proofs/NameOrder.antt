@@ -7,9 +7,8 @@ less Equal h = absurd (false≢true h)
 less Greater h = absurd (false≢true h)
 
 before-trans : (a b c : Name16) → name_before a b ≡ true → name_before b c ≡ true → name_before a c ≡ true
-before-trans a b c h k =
-    ap is_lt (nat_list_cmp_total.trans a.0 b.0 c.0 (less (slice_cmp nat_cmp a.0 b.0) h)
-    (less (slice_cmp nat_cmp b.0 c.0) k))
+before-trans a b c h k = ap is_lt
+    (nat_list_cmp_total.trans a.0 b.0 c.0 (less (slice_cmp nat_cmp a.0 b.0) h) (less (slice_cmp nat_cmp b.0 c.0) k))
 
 turned : (o p : Ordering) (same : Bool) → o ≡ ordering_reverse p → same ≡ is_eq p → same ≡ false → is_lt p ≡ false
     → is_lt o ≡ true
@@ -18,10 +17,8 @@ turned o Equal same e f g h = absurd (false≢true (sym g ∙ f))
 turned o Greater same e f g h = rw e refl
 
 before-else : (a b : Name16) → same_name a b ≡ false → name_before a b ≡ false → name_before b a ≡ true
-before-else a b apart h =
-    turned (slice_cmp nat_cmp b.0 a.0) (slice_cmp nat_cmp a.0 b.0) (same_name a b)
-    (nat_list_cmp_total.antisymm b.0 a.0)
-    (texts_ties a.0 b.0) apart h
+before-else a b apart h = turned (slice_cmp nat_cmp b.0 a.0)
+    (slice_cmp nat_cmp a.0 b.0) (same_name a b) (nat_list_cmp_total.antisymm b.0 a.0) (texts_ties a.0 b.0) apart h
 
 not_before : (o : Ordering) (same : Bool) → same ≡ is_eq o → is_lt o ≡ true → same ≡ false
 not_before Less same e h = e
@@ -30,14 +27,12 @@ not_before Greater same e h = absurd (false≢true h)
 
 once : (a : Name16) (t : Bool) → name_before a a ≡ t → t ≡ false
 once a false e = refl
-once a true e =
-    absurd (false≢true (sym (not_before (slice_cmp nat_cmp a.0 a.0) (same_name a a) (texts_ties a.0 a.0) e)
-    ∙ same_name-refl a))
+once a true e = absurd (false≢true
+    (sym (not_before (slice_cmp nat_cmp a.0 a.0) (same_name a a) (texts_ties a.0 a.0) e) ∙ same_name-refl a))
 
 asym : (a b : Name16) (t : Bool) → name_before a b ≡ true → name_before b a ≡ t → t ≡ false
 asym a b false h e = refl
-asym a b true h e =
-    absurd (false≢true (sym (once a (name_before a a) refl) ∙ before-trans a b a h e))
+asym a b true h e = absurd (false≢true (sym (once a (name_before a a) refl) ∙ before-trans a b a h e))
 
 follows : (a b c : Name16) (t s : Bool) → name_before b a ≡ false → name_before c b ≡ false → name_before c a ≡ t
     → same_name b a ≡ s → t ≡ false

@@ -36,6 +36,7 @@ impl Model for Classes {
 }
 
 // Takes out a name, if it is there.
+#[tactic(auto, using(crate::proofs::MapLaws::removed_names))]
 fn take_out(map: &mut Entries, name: &Name16)
     requires { IsDistinct (pointwise nat_eq) (keys_of map.old.entries) }
     ensures unique { IsDistinct (pointwise nat_eq) (keys_of map.new.entries) }
@@ -59,6 +60,7 @@ fn write(map: &mut Entries, name: Name16, class: u32)
 }
 
 // A name takes a class, in place of the one that it had, where there is room for it.
+#[tactic(auto, using(crate::proofs::MapLaws::put_names))]
 fn put(map: &mut Entries, name: Name16, class: u32)
     requires unique { IsDistinct (pointwise nat_eq) (keys_of map.old.entries) }
     requires room { 1 ≤ spare map.old }
@@ -127,6 +129,7 @@ fn one_if(own: bool) -> u32
 }
 
 // How many names a class has.
+#[tactic(auto, using(crate::proofs::WalkLaws::counted_next, crate::proofs::WalkLaws::count_fits))]
 fn count_of(map: &Entries, class: u32) -> u32
     requires { length map.now.entries < 4294967296 }
     ensures { result ≡ count_of class (entries_in map.now.entries) }
@@ -167,6 +170,7 @@ fn later(last: Option<Name16>, name: Option<Name16>) -> Option<Name16>
 }
 
 // The last name of all.
+#[tactic(auto, using(crate::proofs::LastLaws::last_none, crate::proofs::LastLaws::last_step))]
 fn last_of(map: &Entries) -> Option<Name16>
     ensures { result ≡ last_name (classes_in map.now.entries) }
 {
@@ -190,6 +194,7 @@ impl Classes {
     }
 
     /// The same names and classes once more.
+    #[tactic(auto, using(std::proofs::lemmas::List::Elements::same_from_all_zip))]
     pub fn copy(&self, alloc: Global) -> Result<Classes, NoMemory>
         ensures { IfOk result (λ copy. copy.names ≡ self.now.names) }
     {
@@ -200,6 +205,7 @@ impl Classes {
     }
 
     /// How many names there are.
+    #[tactic(auto, using(crate::proofs::MapLaws::length_in, crate::proofs::WalkLaws::alike_in))]
     pub fn len(&self) -> usize
         ensures names { result ≡ length self.now.names }
         ensures entries { result ≡ length self.now.entries }
@@ -233,6 +239,7 @@ impl Classes {
 
     /// The names of a castout class, in the order of names (READ_COCLASS of IXLCACHE). Only want of
     /// memory is refused.
+    #[tactic(auto, using(crate::proofs::WalkLaws::sorted_of, cf_lists::proofs::SortLaws::neighbours, crate::proofs::NameOrder::name_order))]
     pub fn names(&self, alloc: Global, class: u32) -> Result<Vec<Name16>, NoMemory>
         ensures { IfOk result (λ list. list.items ≡ names_of class self.now.names) }
     {
@@ -242,6 +249,7 @@ impl Classes {
     }
 
     /// All names, in their order. Only want of memory is refused.
+    #[tactic(auto, using(crate::proofs::WalkLaws::sorted_names, cf_lists::proofs::SortLaws::neighbours, crate::proofs::NameOrder::name_order))]
     pub fn all_names(&self, alloc: Global) -> Result<Vec<Name16>, NoMemory>
         ensures { IfOk result (λ list. list.items ≡ names_in self.now.names) }
     {
@@ -251,6 +259,7 @@ impl Classes {
     }
 
     /// How many names a castout class has (READ_COSTATS of IXLCACHE).
+    #[tactic(auto, using(crate::proofs::WalkLaws::alike_in))]
     pub fn count(&self, class: u32) -> u32
         ensures { result ≡ count_of class self.now.names }
     {

@@ -5,11 +5,6 @@ test_step : (a b c : Bool) → b ≡ a → not (a && true) && not c ≡ not (b |
 test_step true b c e = rw e refl
 test_step false b c e = rw e refl
 
--- the first name's go, and then those of the others
-pub regs_spared-cons : (name : Name16) (names : List Name16) (regs : List Registration)
-    → regs_spared names (regs_without_name name None regs) ≡ regs_spared (name ∷ names) regs
-regs_spared-cons name names regs = grind (arith, filter-filter, filter_agree, test_step, same_name-sym)
-
 -- what has ended so far
 pub record Ending (names : List Name16) (start now : List Registration) (i : ℕ) (room : ℕ)
     (told later : List BitChange) : Type 0 where
@@ -19,25 +14,23 @@ pub record Ending (names : List Name16) (start now : List Registration) (i : ℕ
   pub bits : Gains (stands start) (stands now) told later
 
 pub ending_more : (names : List Name16) (start now next : List Registration) (i room left ended : ℕ)
-    (told later last : List BitChange) (d : Name16)
-    → i < length names → Ending names start now i room told later → next ≡ regs_without_name (get_or names i d) None
-    now
-    → length next + ended ≡ length now → left + ended ≡ room → Gains (stands now) (stands next) later last
-    → Ending names start next (i + 1) left told last
+    (told later last : List BitChange) (d : Name16) → i < length names → Ending names start now i room told later
+    → next ≡ regs_without_name (get_or names i d) None now → length next + ended ≡ length now → left + ended ≡ room
+    → Gains (stands now) (stands next) later last → Ending names start next (i + 1) left told last
 ending_more names start now next i room left ended told later last d lt so_far is few spent bits =
-    grind (arith, Falls, falls_filter, regs_spared-cons, drop_more, gains_falls)
+    grind (arith, Falls, falls_filter, drop_more, gains_falls, filter-filter, filter_agree, test_step, same_name-sym)
 
 pub ending_all : (names : List Name16) (start now : List Registration) (i room : ℕ) (told later : List BitChange)
-    → length names ≤ i
-    → Ending names start now i room told later → now ≡ regs_spared names start
+    → length names ≤ i → Ending names start now i room told later → now ≡ regs_spared names start
 ending_all names start now i room told later le so_far = grind (arith, filter_all, list_all_always, drop_all)
 
 -- the new registration stands where two filters keep it
 pub stands_kept_twice : (p q : Registration → Bool) (by : ConnId) (index : ℕ) (name : Name16)
-    (regs : List Registration)
-    → p (record { conn = by; index = index; name = name }) ≡ true
-    → q (record { conn = by; index = index; name = name }) ≡ true
-    → stands (filter q (filter p (regs_with by index name regs))) by index ≡ true
+    (regs : List Registration) → p (record { conn = by; index = index; name = name }) ≡ true → q (record {
+      conn = by;
+      index = index;
+      name = name;
+    }) ≡ true → stands (filter q (filter p (regs_with by index name regs))) by index ≡ true
 stands_kept_twice p q by index name regs e f = grind (arith, filter-filter, stands_kept, and_from)
 
 pub falls_twice : (p q : Registration → Bool) (regs : List Registration) → Falls (stands regs)
@@ -54,15 +47,10 @@ gains_registered by index name gone before middle after told between later first
     let q = λ (reg : Registration). not (is_among gone reg.name) in
     let start = rw made at first in
     let last = rw (ends, made) at second in
-    rw (ends, made)
-    (gains_then_falls by index name before (regs_spared gone (regs_with by index name before)) told between later
-    (stands_kept q by index name before (ap not apart)) (falls_filter q (regs_with by index name before)) start last)
+    rw (ends, made) (gains_then_falls _ _ _ _ _ _ _ _ (stands_kept q by index name before (ap not apart))
+    (falls_filter q (regs_with by index name before)) start last)
 
 -- ---- counts, a class at a time
-
-pub class_counts-append : (rows : List CacheItem) (classes others : List ℕ) → class_counts rows (classes ++ others) ≡
-    class_counts rows classes ++ class_counts rows others
-class_counts-append rows classes others = grind (arith, filter-append, map-append)
 
 pub range-more : (class last : ℕ) → class < last → range_with_len class (last - class) ≡ class ∷ range_with_len
     (class + 1) (last - (class + 1))
@@ -79,7 +67,6 @@ ending_room name regs room le = omega (arith, le, length-filter-le (ends_with_na
 
 -- the next class
 pub class_turn : (counts all : List (ℕ × ℕ)) (rows : List CacheItem) (class last : ℕ) → class < last
-    → counts ++ class_counts rows (range_with_len class (last - class)) ≡ all
-    → (counts ++ class_counts rows (class ∷ [])) ++ class_counts rows
-    (range_with_len (class + 1) (last - (class + 1))) ≡ all
-class_turn counts all rows class last lt h = grind (arith, append_assoc, class_counts-append, range-more)
+    → counts ++ class_counts rows (range_with_len class (last - class)) ≡ all → (counts ++ class_counts
+    rows (class ∷ [])) ++ class_counts rows (range_with_len (class + 1) (last - (class + 1))) ≡ all
+class_turn counts all rows class last lt h = grind (arith, append_assoc, range-more, filter-append, map-append)

@@ -1,5 +1,5 @@
 -- The names of the rows that are reclaimed, counted a row at a time.
-use Rattle.cache_core.proofs.Imports.{◌≡◌, ℕ, suc, zero, Option, None, option_map, slice_get, append-nil, ◌+◌, ◌≤◌, Bool, true, false, not, cond, List, [], ◌∷◌, ◌++◌, append_assoc, length, length-append, drop, filter, map, sum_by, refl, sym, ap, ◌∙◌, arith, Some, option_to_list, drop_all, length-map, filter-append, sum_by-cons, sum_by-append, length-filter_both, sum_by-filter_both, fold-map, shortest_prefix, filter-filter, filter_swap, sum_by-filter-le, length-filter-le, shortest_prefix-nil, shortest_prefix_agree, shortest_prefix-map, Caps, Name16, CacheItem, Request, Room, Reclaimable, is_row_of, elements_in, is_reclaimable, reclaim_order, victims, DirectoryFull, reclaimed_for, room_for, is_enough, reclaimable_of, reclaimable_from, size}
+use Rattle.cache_core.proofs.Imports.{le-leb, lt-leb, IfOk-weaker, ◌≡◌, ℕ, suc, zero, Option, None, option_map, slice_get, append-nil, ◌+◌, ◌≤◌, true, false, not, cond, List, [], ◌∷◌, ◌++◌, append_assoc, length, length-append, drop, filter, map, sum_by, refl, sym, ap, ◌∙◌, arith, Some, option_to_list, drop_all, length-map, filter-append, sum_by-cons, sum_by-append, length-filter_both, sum_by-filter_both, fold-map, shortest_prefix, filter-filter, filter_swap, sum_by-filter-le, length-filter-le, shortest_prefix-nil, shortest_prefix_agree, shortest_prefix-map, Caps, Name16, CacheItem, Request, Room, Reclaimable, is_row_of, elements_in, is_reclaimable, reclaim_order, victims, DirectoryFull, reclaimed_for, room_for, is_enough, reclaimable_of, reclaimable_from, size}
 use Rattle.cache_model.specs.Room as room
 use Rattle.cache_core.specs.Measure as measure
 
@@ -8,13 +8,8 @@ weight row = row.elements
 
 -- the names of as few rows as leave room, where so many rows are gone and so many elements given back already
 abbrev pub front_from : Room → ℕ → ℕ → List Reclaimable → List Name16
-front_from room count given rows =
-    map (λ row. row.name) (shortest_prefix (λ gone. is_enough room (count + length gone)
-    (given + sum_by weight gone)) rows)
-
-name_step : (b : Bool) (row : Reclaimable) (rows : List Reclaimable) → b ≡ false
-    → map (λ (r : Reclaimable). r.name) (cond b [] (row ∷ rows)) ≡ row.name ∷ map (λ (r : Reclaimable). r.name) rows
-name_step b row rows e = rw e refl
+front_from room count given rows = map (λ row. row.name) (shortest_prefix
+    (λ gone. is_enough room (count + length gone) (given + sum_by weight gone)) rows)
 
 -- the first row goes, where there isn't room without it
 pub front_more : (room : Room) (count given : ℕ) (row : Reclaimable) (rows : List Reclaimable)
@@ -23,15 +18,11 @@ pub front_more : (room : Room) (count given : ℕ) (row : Reclaimable) (rows : L
 front_more room count given row rows e =
     let none : is_enough room (count + 0) (given + 0) ≡ false = at (count + 0) (given + 0) (omega arith)
     (omega arith) in
-    name_step (is_enough room (count + 0) (given + 0)) row
-    (shortest_prefix (λ gone. is_enough room (count + length (row ∷ gone))
-    (given + sum_by weight (row ∷ gone))) rows) none
-    ∙ ap (λ (l : List Reclaimable). row.name ∷ map (λ (r : Reclaimable). r.name) l)
+    (grind arith) ∙ ap (λ (l : List Reclaimable). row.name ∷ map (λ (r : Reclaimable). r.name) l)
     (shortest_prefix_agree (λ gone. is_enough room (count + length (row ∷ gone)) (given + sum_by weight (row ∷ gone)))
     (λ gone. is_enough room (count + 1 + length gone) (given + row.elements + sum_by weight gone))
     (λ gone. same (count + length (row ∷ gone)) (given + sum_by weight (row ∷ gone)) (count + 1 + length gone)
-    (given + row.elements + sum_by weight gone)
-    (omega arith) (omega (arith, sum_by-cons weight row gone))) rows)
+    (given + row.elements + sum_by weight gone) (omega arith) (omega (arith, sum_by-cons weight row gone))) rows)
   where
     at : (n m : ℕ) → n ≡ count → m ≡ given → is_enough room n m ≡ false
     at n m f g = rw (f, g) e
@@ -39,19 +30,10 @@ front_more room count given row rows e =
     same : (n m k j : ℕ) → n ≡ k → m ≡ j → is_enough room n m ≡ is_enough room k j
     same n m k j f g = rw (f, g) refl
 
--- no row goes where there is room
-pub front_enough : (room : Room) (count given : ℕ) (rows : List Reclaimable) → is_enough room count given ≡ true
-    → front_from room count given rows ≡ []
-front_enough room count given rows e = grind (arith, shortest_prefix-nil)
-
 -- ---- how many rows and elements the order has
 
 pub length-reclaimed : (stg : ℕ) (rows : List CacheItem) → length (reclaimed_for stg rows) ≤ length rows
 length-reclaimed stg rows = grind (arith, length-append, length-filter_both, length-filter-le)
-
-pub length-order : (request : Request) (rows : List CacheItem)
-    → length (reclaim_order request rows) ≡ length (filter (is_reclaimable request.name) rows)
-length-order request rows = grind (arith, length-append, length-filter_both)
 
 pub elements-order : (request : Request) (rows : List CacheItem)
     → elements_in (reclaim_order request rows) ≡ elements_in (filter (is_reclaimable request.name) rows)
@@ -62,121 +44,101 @@ elements-order request rows = grind (arith, sum_by-append, size, sum_by-filter_b
 weight-map : (rows : List CacheItem) → sum_by weight (map reclaimable_of rows) ≡ elements_in rows
 weight-map rows = fold-map (λ n row. n + weight row) reclaimable_of 0 rows
 
-pub weight-order : (request : Request) (rows : List CacheItem)
-    → sum_by weight (map reclaimable_of (reclaim_order request rows)) ≤ elements_in rows
-weight-order request rows = grind (arith, weight-map, elements-order, sum_by-filter-le, size)
-
 map-names : (rows : List CacheItem) → map (λ (r : Reclaimable). r.name) (map reclaimable_of rows)
     ≡ map (λ (r : CacheItem). r.name) rows
 map-names [] = refl
 map-names (row ∷ rows) = ap (λ (l : List Name16). row.name ∷ l) (map-names rows)
 
 -- what decides of the rows decides of their names and sizes
-pub victims-measured : (caps : Caps) (request : Request) (rows : List CacheItem)
-    → measure.front_names (room_for caps request rows) (map reclaimable_of (reclaim_order request rows))
-    ≡ victims caps request rows
+pub victims-measured : (caps : Caps) (request : Request) (rows : List CacheItem) → measure.front_names
+    (room_for caps request rows) (map reclaimable_of (reclaim_order request rows)) ≡ victims caps request rows
 victims-measured caps request rows =
     grind (arith, shortest_prefix-map, map-names, shortest_prefix_agree, length-map, weight-map)
 
 -- ---- want of room by numbers
 
-pub room_refusal-measured : (caps : Caps) (request : Request) (rows : List CacheItem)
-    → room.room_refusal caps request rows
-    ≡ cond (measure.has_place (room_for caps request rows) (length (filter (is_reclaimable request.name) rows)))
+pub room_refusal-measured : (caps : Caps) (request : Request) (rows : List CacheItem) → room.room_refusal caps request
+    rows ≡ cond (measure.has_place (room_for caps request rows) (length (filter (is_reclaimable request.name) rows)))
     (room.elements_refusal request.elements (measure.free_elements (room_for caps request rows)
-    (elements_in (filter (is_reclaimable request.name) rows))))
-    (Some (DirectoryFull caps.entries))
-room_refusal-measured caps request rows = grind (arith, length-order, elements-order)
+    (elements_in (filter (is_reclaimable request.name) rows)))) (Some (DirectoryFull caps.entries))
+room_refusal-measured caps request rows = grind (arith, elements-order, length-append, length-filter_both)
 
 -- ---- a place of the order at a time
 
 -- what a place adds
-drop_step : (name : Name16) (rows : List CacheItem) (k j : ℕ) → j ≡ suc k
-    → map reclaimable_of (filter (λ row. not (is_row_of name row)) (drop k rows))
-    ≡ option_to_list (option_map reclaimable_of (measure.other_than name (slice_get rows k)))
-    ++ map reclaimable_of (filter (λ row. not (is_row_of name row)) (drop j rows))
+drop_step : (name : Name16) (rows : List CacheItem) (k j : ℕ) → j ≡ suc k → map reclaimable_of (filter
+    (λ row. not (is_row_of name row)) (drop k rows)) ≡ option_to_list (option_map reclaimable_of (measure.other_than
+    name (slice_get rows k))) ++ map reclaimable_of (filter (λ row. not (is_row_of name row)) (drop j rows))
 drop_step name [] zero j e = rw e refl
 drop_step name [] (suc k) j e = rw e refl
 drop_step name (row ∷ rows) zero j e = grind arith
 drop_step name (row ∷ rows) (suc k) j e = rw e (drop_step name rows k (suc k) refl)
 
-pub reclaimable_step : (request : Request) (rows : List CacheItem) (k : ℕ)
-    → reclaimable_from request rows k
-    ≡ option_to_list (measure.victim_at request rows k) ++ reclaimable_from request rows (k + 1)
-reclaimable_step request rows k = drop_step request.name (reclaimed_for request.stg rows) k (k + 1) (omega arith)
+module _ (request : Request) (rows : List CacheItem) where
+  reclaimable_step : (k : ℕ) → reclaimable_from request rows k
+      ≡ option_to_list (measure.victim_at request rows k) ++ reclaimable_from request rows (k + 1)
+  reclaimable_step k = drop_step request.name (reclaimed_for request.stg rows) k (k + 1) (omega arith)
 
--- the order is what other names have in it
-pub reclaimable-order : (request : Request) (rows : List CacheItem)
-    → reclaimable_from request rows 0 ≡ map reclaimable_of (reclaim_order request rows)
-reclaimable-order request rows = grind (arith, filter-append, filter_swap, filter-filter)
-
--- nothing stands past the end
-pub reclaimable-past : (request : Request) (rows : List CacheItem) (k : ℕ) → length rows ≤ k
-    → reclaimable_from request rows k ≡ []
-reclaimable-past request rows k le = grind (arith, drop_all, length-reclaimed)
+  -- the order is what other names have in it
+  pub reclaimable-order : reclaimable_from request rows 0 ≡ map reclaimable_of (reclaim_order request rows)
+  reclaimable-order = grind (arith, filter-append, filter_swap, filter-filter)
 
 -- the names so far, and those of what is left, where so many elements are given back
-pub record Fronting (request : Request) (rows : List CacheItem) (room : Room) (names : List Name16)
-    (count given k : ℕ)
-    : Type 0 where
+pub record Fronting (request : Request)
+    (rows : List CacheItem) (room : Room) (names : List Name16) (count given k : ℕ) : Type 0 where
   pub told : names ++ front_from room count given (reclaimable_from request rows k)
       ≡ measure.front_names room (reclaimable_from request rows 0)
   pub weighs : given + sum_by weight (reclaimable_from request rows k) ≤ elements_in rows
 
-pub fronting_none : (request : Request) (rows : List CacheItem) (room : Room) (names more : List Name16)
-    (count given long sum k : ℕ) (o : Option Reclaimable)
-    → o ≡ measure.victim_at request rows k → o ≡ None
-    → more ≡ names → long ≡ count → sum ≡ given
-    → Fronting request rows room names count given k → Fronting request rows room more long sum (k + 1)
-fronting_none request rows room names more count given long sum k o is none e f g so_far =
-    grind (arith, reclaimable_step)
-
-next_row : (request : Request) (rows : List CacheItem) (k : ℕ) (o : Option Reclaimable) (row : Reclaimable)
-    → o ≡ measure.victim_at request rows k → o ≡ Some row
-    → reclaimable_from request rows k ≡ row ∷ reclaimable_from request rows (k + 1)
-next_row request rows k o row is some = grind (arith, reclaimable_step)
-
-pub fronting_some : (request : Request) (rows : List CacheItem) (room : Room) (names more : List Name16)
-    (count given long sum k : ℕ) (o : Option Reclaimable) (row : Reclaimable)
-    → o ≡ measure.victim_at request rows k → o ≡ Some row
-    → is_enough room count given ≡ false → more ≡ names ++ row.name ∷ [] → long ≡ count + 1
-    → sum ≡ given + row.elements
-    → Fronting request rows room names count given k → Fronting request rows room more long sum (k + 1)
-fronting_some request rows room names more count given long sum k o row is some lacks e f g so_far =
-    let rest = reclaimable_from request rows (k + 1) in
-    let next : reclaimable_from request rows k ≡ row ∷ rest = next_row request rows k o row is some in
-    rw (e, f, g) (record {
-      told =
-          append_assoc names (row.name ∷ []) (front_from room (count + 1) (given + row.elements) rest)
-          ∙ ap (λ (l : List Name16). names ++ l) (sym (front_more room count given row rest lacks))
-          ∙ ap (λ (l : List Reclaimable). names ++ front_from room count given l) (sym next) ∙ so_far.told;
-      weighs =
-          let whole = ap (λ (l : List Reclaimable). sum_by weight l) next in
-          omega (arith, so_far.weighs, whole, sum_by-cons weight row rest);
-    })
-
--- the next row fits the sum
-pub fronting_fits : (request : Request) (rows : List CacheItem) (room : Room) (names : List Name16)
-    (count given k : ℕ)
-    (o : Option Reclaimable) (row : Reclaimable)
-    → o ≡ measure.victim_at request rows k → o ≡ Some row
-    → Fronting request rows room names count given k → given + row.elements ≤ elements_in rows
-fronting_fits request rows room names count given k o row is some so_far =
-    let rest = reclaimable_from request rows (k + 1) in
-    let next : reclaimable_from request rows k ≡ row ∷ rest = next_row request rows k o row is some in
-    omega (arith, so_far.weighs, ap (λ (l : List Reclaimable). sum_by weight l) next, sum_by-cons weight row rest)
-
 pub fronting_start : (request : Request) (rows : List CacheItem) (room : Room) → Fronting request rows room [] 0 0 0
-fronting_start request rows room = grind (arith, reclaimable-order, weight-order, shortest_prefix_agree)
+fronting_start request rows room =
+    grind (arith, reclaimable-order, shortest_prefix_agree, weight-map, elements-order, sum_by-filter-le, size)
 
-pub fronting_enough : (request : Request) (rows : List CacheItem) (room : Room) (names : List Name16)
-    (count given k : ℕ) → is_enough room count given ≡ true
-    → Fronting request rows room names count given k
-    → names ≡ measure.front_names room (reclaimable_from request rows 0)
-fronting_enough request rows room names count given k enough so_far = grind (arith, append-nil, front_enough)
+module _ (request : Request) (rows : List CacheItem) (room : Room) (names : List Name16) (count given k : ℕ)
+    (so_far : Fronting request rows room names count given k) where
+  pub fronting_none : (more : List Name16) (long sum : ℕ) (o : Option Reclaimable) → o ≡ measure.victim_at request
+      rows k → o ≡ None → more ≡ names → long ≡ count → sum ≡ given → Fronting request rows room more long sum (k + 1)
+  fronting_none more long sum o is none e f g = grind (arith, reclaimable_step)
 
-pub fronting_end : (request : Request) (rows : List CacheItem) (room : Room) (names : List Name16) (count given k : ℕ)
-    → length rows ≤ k
-    → Fronting request rows room names count given k
-    → names ≡ measure.front_names room (reclaimable_from request rows 0)
-fronting_end request rows room names count given k le so_far = grind (arith, append-nil, reclaimable-past)
+  pub fronting_enough : is_enough room count given ≡ true
+      → names ≡ measure.front_names room (reclaimable_from request rows 0)
+  fronting_enough enough = grind (arith, append-nil, shortest_prefix-nil)
+
+  pub fronting_end : length rows ≤ k → names ≡ measure.front_names room (reclaimable_from request rows 0)
+  fronting_end le = grind (arith, append-nil, drop_all, length-reclaimed)
+
+  module _ (o : Option Reclaimable) (row : Reclaimable) (is : o ≡ measure.victim_at request rows k)
+      (some : o ≡ Some row) where
+    next_row : reclaimable_from request rows k ≡ row ∷ reclaimable_from request rows (k + 1)
+    next_row = grind (arith, reclaimable_step)
+
+    -- the next row fits the sum
+    pub fronting_fits : given + row.elements ≤ elements_in rows
+    fronting_fits = omega (
+      arith,
+      so_far.weighs,
+      ap (λ (l : List Reclaimable). sum_by weight l) next_row,
+      sum_by-cons weight row (reclaimable_from request rows (k + 1)),
+    )
+
+    pub fronting_some : (more : List Name16) (long sum : ℕ) → is_enough room count given ≡ false
+        → more ≡ names ++ row.name ∷ [] → long ≡ count + 1 → sum ≡ given + row.elements
+        → Fronting request rows room more long sum (k + 1)
+    fronting_some more long sum lacks e f g =
+        let rest = reclaimable_from request rows (k + 1) in
+        rw (e, f, g) (record {
+          told = append_assoc names (row.name ∷ []) (front_from room (count + 1) (given + row.elements) rest)
+              ∙ ap (λ (l : List Name16). names ++ l) (sym (front_more room count given row rest lacks))
+              ∙ ap (λ (l : List Reclaimable). names ++ front_from room count given l) (sym next_row) ∙ so_far.told;
+          weighs =
+              let whole = ap (λ (l : List Reclaimable). sum_by weight l) next_row in
+              omega (arith, so_far.weighs, whole, sum_by-cons weight row rest);
+        })
+
+-- ---- what functions are proved by
+
+pub ruleset refusal_told = (le-leb, lt-leb, room_refusal-measured)
+
+pub ruleset victims_told = (IfOk-weaker, reclaimable-order, victims-measured)
+
+pub ruleset fewer = (length-filter-le, length-append)

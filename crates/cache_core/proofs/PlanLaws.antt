@@ -1,5 +1,5 @@
 -- What a plan that isn't refused says.
-use Rattle.cache_core.proofs.Imports.{arith, ◌≡◌, ℕ, ◌<◌, List, ◌∷◌, cond, leb, Option, None, Some, Result, Ok, Err, refl, sym, ap, ◌∙◌, subst, OnOk, OnErr, cases_lt, le-leb, first_refusal, Caps, ConnId, Refusal, CacheCmd, Read, Write, CrossInval, RegList, Castout, Unlock, CoClass, CoStats, DirInfo, Delete, StgStats, CacheReply, CacheItem, IsDirectory, Content, cause, request_spared, Plan, plan_unless, plan_for, IsSpared, IsIndexed}
+use Rattle.cache_core.proofs.Imports.{EngineView, arith, ◌≡◌, ℕ, ◌<◌, List, ◌∷◌, cond, leb, Option, None, Some, Result, Ok, Err, refl, sym, ap, ◌∙◌, subst, OnOk, OnErr, cases_lt, le-leb, first_refusal, Caps, ConnId, Refusal, CacheCmd, Read, Write, CacheReply, CacheItem, IsDirectory, Content, cause, request_spared, Plan, plan_unless, plan_for, IsSpared, IsIndexed}
 use Rattle.cache_model.specs.Commands.Read as read
 use Rattle.cache_model.specs.Commands.Write as write
 use Rattle.cache_model.specs.Step.{victims}
@@ -14,41 +14,37 @@ pub record IsAccepted (vector : ℕ) (caps : Caps) (content : Content) (by : Con
   pub none : cause vector caps content by cmd ≡ None
   pub gone : plan.gone ≡ victims caps content.rows cmd
 
-accepted_step : (vector : ℕ) (caps : Caps) (content : Content) (by : ConnId) (cmd : CacheCmd) (plan : Plan)
-    (told : CacheReply) (o : Option Refusal)
-    → cause vector caps content by cmd ≡ o → plan ≡ plan_unless o caps content by cmd → plan.reply ≡ Ok told
-    → IsAccepted vector caps content by cmd plan
-accepted_step vector caps content by cmd plan told None e is h =
-    record { none = e; gone = ap (λ (p : Plan). p.gone) is }
+accepted_step : (vector : ℕ) (caps : Caps) (content : Content) (by : ConnId) (cmd : CacheCmd)
+    (plan : Plan) (told : CacheReply) (o : Option Refusal) → cause vector caps content by cmd ≡ o
+    → plan ≡ plan_unless o caps content by cmd → plan.reply ≡ Ok told → IsAccepted vector caps content by cmd plan
+accepted_step vector caps content by cmd plan told None e is h = grind arith
 accepted_step vector caps content by cmd plan told (Some refusal) e is h =
     let wrong : Ok told ≡ Err refusal = sym h ∙ ap (λ (p : Plan). p.reply) is in absurd (cc)
 
 pub plan_accepted : (vector : ℕ) (caps : Caps) (content : Content) (by : ConnId) (cmd : CacheCmd) (plan : Plan)
     (told : CacheReply)
     → plan ≡ plan_for vector caps content by cmd → plan.reply ≡ Ok told → IsAccepted vector caps content by cmd plan
-plan_accepted vector caps content by cmd plan told is h =
-    accepted_step vector caps content by cmd plan told (cause vector caps content by cmd) refl is h
+plan_accepted vector caps content by cmd plan told is h = grind (arith, accepted_step)
+
+-- the plan that was made for the command is taken
+pub taken_accepted : (seen view : EngineView) (by : ConnId)
+    (cmd : CacheCmd) (taken : Option Plan) (plan : Plan) (told : CacheReply) → seen ≡ view → view.plan ≡ Some
+    (plan_for view.held.shape.vector view.held.caps view.held.state by cmd) → taken ≡ seen.plan → taken ≡ Some plan
+    → plan.reply ≡ Ok told → IsAccepted seen.held.shape.vector seen.held.caps seen.held.state by cmd plan
+taken_accepted seen view by cmd taken plan told is planned took some fine = plan_accepted
+    _ _ _ _ _ _ told (plan_taken taken seen.plan plan _ took some (subst (λ (s : EngineView). s.plan ≡ Some
+    (plan_for s.held.shape.vector s.held.caps s.held.state by cmd)) (sym is) planned)) fine
 
 -- a command's own name isn't reclaimed for it
 pub spared_victims : (caps : Caps) (rows : List CacheItem) (cmd : CacheCmd) → IsDirectory rows
     → IsSpared (victims caps rows cmd) cmd
 spared_victims caps rows (Read name index old stg) is = request_spared caps (read.request name stg) rows is
-spared_victims caps rows (Write name index body class adj old stg when_reg) is = request_spared caps
-    (write.request name body stg) rows is
-spared_victims caps rows (CrossInval name) is = tt
-spared_victims caps rows RegList is = tt
-spared_victims caps rows (Castout name) is = tt
-spared_victims caps rows (Unlock name) is = tt
-spared_victims caps rows (CoClass class) is = tt
-spared_victims caps rows CoStats is = tt
-spared_victims caps rows (DirInfo name) is = tt
-spared_victims caps rows (Delete name) is = tt
-spared_victims caps rows (StgStats stg) is = tt
+spared_victims caps rows (Write name index body class adj old stg when_reg) is = request_spared _ _ _ is
+spared_victims caps rows _ is = tt
 
 -- what holds either way
-pub either_way : {X E Y : Type 0} (P : Y → Type 0) (r : Result X E) (old more now : Y) → OnOk r (now ≡ more)
-    → OnErr r (now ≡ old)
-    → P more → P old → P now
+pub either_way : {X E Y : Type 0} (P : Y → Type 0) (r : Result X E) (old more now : Y)
+    → OnOk r (now ≡ more) → OnErr r (now ≡ old) → P more → P old → P now
 either_way P (Ok x) old more now e f a b = subst P (sym e) a
 either_way P (Err x) old more now e f a b = subst P (sym f) b
 
@@ -65,14 +61,5 @@ below vector index refusal other h = grind (arith, cases_lt, le-leb)
 pub indexed : (vector : ℕ) (caps : Caps) (content : Content) (by : ConnId) (cmd : CacheCmd)
     → cause vector caps content by cmd ≡ None → IsIndexed vector cmd
 indexed vector caps content by (Read name index old stg) h = below vector index _ _ (first_none _ _ h)
-indexed vector caps content by (Write name index body class adj old stg when_reg) h =
-    below vector index _ _ (first_none _ _ h)
-indexed vector caps content by (CrossInval name) h = tt
-indexed vector caps content by RegList h = tt
-indexed vector caps content by (Castout name) h = tt
-indexed vector caps content by (Unlock name) h = tt
-indexed vector caps content by (CoClass class) h = tt
-indexed vector caps content by CoStats h = tt
-indexed vector caps content by (DirInfo name) h = tt
-indexed vector caps content by (Delete name) h = tt
-indexed vector caps content by (StgStats stg) h = tt
+indexed vector caps content by (Write name index body class adj old stg when_reg) h = grind (arith, below, first_none)
+indexed vector caps content by _ h = tt

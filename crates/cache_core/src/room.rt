@@ -71,6 +71,7 @@ impl Room {
 }
 
 /// Why there is no room for a request, even where every other unchanged row is reclaimed for it.
+#[tactic(auto, using(crate::proofs::FrontLaws::refusal_told))]
 pub(crate) fn room_refusal(caps: Caps, rows: &Rows, request: &Request) -> Judged
     requires { elements_in rows.now.rows < 2 ^ 32 }
     ensures { result_err result ≡ room_refusal caps request.now rows.now.rows }
@@ -148,6 +149,7 @@ fn front(
 }
 
 /// The names of the rows that are reclaimed for a request.
+#[tactic(auto, using(crate::proofs::FrontLaws::victims_told))]
 pub(crate) fn victims(
     alloc: Global,
     caps: Caps,

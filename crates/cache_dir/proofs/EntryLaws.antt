@@ -1,5 +1,5 @@
 -- The entries of a map: copied in their order, and changed.
-use Rattle.cache_dir.proofs.Imports.{arith, ◌≡◌, ℕ, suc, Bool, true, false, nat_eq, cond, List, [], ◌∷◌, ◌++◌, Option, None, Some, option_map, map, length, refl, sym, ap, ◌∙◌, subst, append_assoc, append-nil, IsDistinct, keys_of, lookup, RetainsPairs, pointwise, nat_list_eq_equiv, false≢true, NonePasses, none_past_head}
+use Rattle.cache_dir.proofs.Imports.{arith, ◌≡◌, ℕ, Bool, true, false, nat_eq, cond, List, [], ◌∷◌, ◌++◌, None, Some, map, refl, sym, ap, ◌∙◌, subst, append_assoc, append-nil, IsDistinct, keys_of, lookup, RetainsPairs, pointwise, nat_list_eq_equiv, false≢true, NonePasses, none_past_head}
 
 abbrev pub Entries : Type 0 → Type 0
 Entries X = List (List ℕ × X)
@@ -26,10 +26,8 @@ module _ {X : Type 0} where
     where
       go : (b : Bool) → same e.0 x.0 ≡ b → lookup (same e.0) front ≡ None
           → cond b (Some x.1) (lookup (same e.0) front) ≡ None
-      go true h ih =
-          absurd (false≢true (sym (none_at (same x.0) front e back
-          (none_past_head nat_list_eq_equiv x.0 x (front ++ e ∷ back) u (nat_list_eq_equiv.refl x.0)))
-          ∙ nat_list_eq_equiv.symm x.0 e.0 ∙ h))
+      go true h ih = absurd (false≢true (sym (none_at (same x.0) front e back (none_past_head nat_list_eq_equiv
+          x.0 x (front ++ e ∷ back) u (nat_list_eq_equiv.refl x.0))) ∙ nat_list_eq_equiv.symm x.0 e.0 ∙ h))
       go false h ih = ih
 
   -- the next one goes behind what is copied
@@ -49,21 +47,6 @@ module _ {X : Type 0} where
 
   abbrev pub changed_values : (X → X) → Entries X → Entries X
   changed_values g es = map (λ e. (e.0, g e.1)) es
-
-  changed_step : (g : X → X) (b : Bool) (x : X) (o r : Option X) → r ≡ option_map g o
-      → cond b (Some (g x)) r ≡ option_map g (cond b (Some x) o)
-  changed_step g true x o r e = refl
-  changed_step g false x o r e = e
-
-  pub lookup-changed : (g : X → X) (p : List ℕ → Bool) (es : Entries X)
-      → lookup p (changed_values g es) ≡ option_map g (lookup p es)
-  lookup-changed g p [] = refl
-  lookup-changed g p (e ∷ es) =
-      changed_step g (p e.0) e.1 (lookup p es) (lookup p (changed_values g es)) (lookup-changed g p es)
-
-  pub length-changed : (g : X → X) (es : Entries X) → length (changed_values g es) ≡ length es
-  length-changed g [] = refl
-  length-changed g (e ∷ es) = ap suc (length-changed g es)
 
 -- what `retain` leaves, where the closure keeps everything and changes each value
 pub changed-RetainsPairs : {X F : Type 0} (T : F → List ℕ → X → Bool → X → F → Type 0) (g : X → X) (f : F)

@@ -1,5 +1,5 @@
 -- Every command, departure and end of registrations leads from content to content.
-use Rattle.cache_model.proofs.Imports.{◌≡◌, ℕ, ◌+◌, ◌-◌, ◌≤◌, Bool, true, false, not, ◌&&◌, ◌||◌, cond, List, [], ◌∷◌, Option, Some, None, is_some, is_none, unwrap_or, option_map, length, filter, map, nat_lt, nat_le, ◌⊎◌, inl, inr, refl, sym, ap, ◌∙◌, subst, arith, list_all, and_parts, and_from, or_cases, or_right, not-true, false≢true, ltb-true, leb-true, length-map, any-filter_same, Caps, Name16, ConnId, Refusal, IsChanged, NotChanged, CacheCmd, Read, Write, CrossInval, RegList, Castout, Unlock, CoClass, CoStats, DirInfo, Delete, StgStats, CacheReply, same_name, Outcome, first_refusal, unless_refused, list_all-filter, list_all_weaker, list_all_both, list_all-filter_same, length-filter-le, sum_by-filter-le, any_is_found, none-filter, all_found, list_all-insertion, Registration, is_of, regs_with, regs_without, regs_without_name, ends_with_name, IsRegistry, same_name-eq, same_name-refl, registry-with, registry-filter, CacheItem, Holder, Request, is_row_of, is_changed, elements_of, elements_in, row_of, has_row, rows_without, rows_replaced, new_row, row_or_new, is_sound, IsDirectory, Content, IsContent, IsOrderly, content_without, content_forgotten, without_hold, is_among, rows_spared, regs_spared, victims, has_place, free_elements, room_refusal, entry_refusal, held_refusal, unchanged_refusal, not_held_refusal, is_changed_row, cause, done}
+use Rattle.cache_model.proofs.Imports.{◌≡◌, ℕ, ◌+◌, ◌-◌, ◌≤◌, Bool, true, false, not, ◌&&◌, ◌||◌, cond, List, [], ◌∷◌, Option, Some, None, is_some, is_none, unwrap_or, option_map, length, filter, map, nat_lt, nat_le, ◌⊎◌, inl, inr, refl, sym, ap, ◌∙◌, subst, arith, list_all, and_parts, and_from, or_cases, or_right, not-true, false≢true, ltb-true, leb-true, length-map, any-filter_same, Caps, Name16, ConnId, Refusal, IsChanged, CacheCmd, Read, Write, CrossInval, Castout, Unlock, Delete, CacheReply, same_name, Outcome, first_refusal, unless_refused, list_all-filter, list_all_weaker, list_all_both, list_all-filter_same, length-filter-le, sum_by-filter-le, any_is_found, none-filter, all_found, list_all-insertion, Registration, is_of, regs_with, regs_without, regs_without_name, ends_with_name, IsRegistry, same_name-eq, same_name-refl, registry-with, registry-filter, CacheItem, Holder, Request, is_row_of, elements_of, elements_in, row_of, has_row, rows_without, rows_replaced, new_row, row_or_new, is_sound, IsDirectory, Content, IsContent, IsOrderly, content_without, content_forgotten, without_hold, is_among, rows_spared, regs_spared, victims, has_place, free_elements, room_refusal, entry_refusal, held_refusal, unchanged_refusal, not_held_refusal, is_changed_row, cause, done}
 use Rattle.cache_model.specs.Commands.Read as read
 use Rattle.cache_model.specs.Commands.Write as write
 use Rattle.cache_model.specs.Commands.Castout as castout
@@ -37,65 +37,50 @@ each_with row names rows regs h =
     let kept = list_all-filter (λ reg. same_name reg.name row.name || has_row reg.name rows)
     (λ reg. not (is_among names reg.name)) regs h in
     let spared = list_all-filter_same (λ reg. not (is_among names reg.name)) regs in
-    list_all_weaker (λ reg. (same_name reg.name row.name || has_row reg.name rows) && not (is_among names reg.name))
-    (λ reg. has_row reg.name (rows_replaced row (rows_spared names rows))) one (regs_spared names regs)
-    (list_all_both (λ reg. same_name reg.name row.name || has_row reg.name rows)
-    (λ reg. not (is_among names reg.name))
-    (regs_spared names regs) kept spared)
+    list_all_weaker _ _ one _ (list_all_both (λ reg. same_name reg.name row.name || has_row reg.name rows)
+    (λ reg. not (is_among names reg.name)) (regs_spared names regs) kept spared)
   where
     pick : (reg : Registration) → is_among names reg.name ≡ false → (same_name reg.name row.name ≡ true)
-        ⊎ (has_row reg.name rows ≡ true)
-        → has_row reg.name (rows_replaced row (rows_spared names rows)) ≡ true
-    pick reg out (inl same) =
-        subst (λ (n : Name16). has_row n (rows_replaced row (rows_spared names rows)) ≡ true)
-        (sym (same_name-eq reg.name row.name same))
-        (has_row_here row (rows_spared names rows))
+        ⊎ (has_row reg.name rows ≡ true) → has_row reg.name (rows_replaced row (rows_spared names rows)) ≡ true
+    pick reg out (inl same) = subst (λ (n : Name16). has_row n (rows_replaced row (rows_spared names rows)) ≡ true)
+        (sym (same_name-eq reg.name row.name same)) (has_row_here row (rows_spared names rows))
     pick reg out (inr there) = has_row_stays reg.name row (rows_spared names rows)
         (has_row-spared reg.name names rows out ∙ there)
 
-    one : (reg : Registration) → (same_name reg.name row.name || has_row reg.name rows)
-        && not (is_among names reg.name) ≡ true
-        → has_row reg.name (rows_replaced row (rows_spared names rows)) ≡ true
+    one : (reg : Registration) → (same_name reg.name row.name || has_row reg.name rows) &&
+        not (is_among names reg.name) ≡ true → has_row reg.name (rows_replaced row (rows_spared names rows)) ≡ true
     one reg h = grind (arith, and_parts, pick, not-true, or_cases)
 
 -- rows and registrations are in order where a row takes its place, and others go
 orderly_own : (content : Content) (row : CacheItem) (names : List Name16) (regs : List Registration)
     → IsOrderly content → is_sound row ≡ true → IsRegistry regs
-    → list_all (λ reg. same_name reg.name row.name || has_row reg.name content.rows) regs ≡ true
-    → IsOrderly (record {
+    → list_all (λ reg. same_name reg.name row.name || has_row reg.name content.rows) regs ≡ true → IsOrderly (record {
       rows = rows_replaced row (rows_spared names content.rows);
       regs = regs_spared names regs;
     })
-orderly_own content row names regs is sound registry each =
-    record {
-      directory = directory-replaced row (rows_spared names content.rows)
-          (directory-filter (λ (r : CacheItem). not (is_among names r.name)) content.rows is.directory) sound;
-      registry = registry-filter (λ (reg : Registration). not (is_among names reg.name)) regs registry;
-      row_each = each_with row names content.rows regs each;
-    }
+orderly_own content row names regs is sound registry each = record {
+  directory = directory-replaced row (rows_spared names content.rows)
+      (directory-filter (λ (r : CacheItem). not (is_among names r.name)) content.rows is.directory) sound;
+  registry = registry-filter (λ (reg : Registration). not (is_among names reg.name)) regs registry;
+  row_each = each_with row names content.rows regs each;
+}
 
 pub orderly_used : (content : Content) (row : CacheItem) (name : Name16) (names : List Name16)
-    (regs : List Registration)
-    → row.name ≡ name → IsOrderly content → is_sound row ≡ true → IsRegistry regs
-    → list_all (λ reg. same_name reg.name name || has_row reg.name content.rows) regs ≡ true
-    → IsOrderly (record {
+    (regs : List Registration) → row.name ≡ name → IsOrderly content → is_sound row ≡ true → IsRegistry regs
+    → list_all (λ reg. same_name reg.name name || has_row reg.name content.rows) regs ≡ true → IsOrderly (record {
       rows = rows_replaced row (rows_spared names content.rows);
       regs = regs_spared names regs;
     })
 orderly_used content row name names regs named is sound registry each =
-    orderly_own content row names regs is sound registry
-    (subst (λ (n : Name16). list_all (λ (reg : Registration). same_name reg.name n || has_row reg.name content.rows)
-    regs ≡ true) (sym named) each)
+    orderly_own content row names regs is sound registry (grind arith)
 
 pub orderly-content : (caps : Caps) (content : Content) → IsContent caps content → IsOrderly content
-orderly-content caps content is =
-    record { directory = is.directory; registry = is.registry; row_each = is.row_each }
+orderly-content caps content is = record { directory = is.directory; registry = is.registry; row_each = is.row_each }
 
 -- the data are those asked for, or no more than the name's own
 abbrev pub DataFit : Request → List CacheItem → CacheItem → Type 0
-DataFit request rows row =
-    (elements_of row.body ≤ request.elements) ⊎ (elements_of row.body + elements_in (rows_without request.name rows) ≤
-    elements_in rows)
+DataFit request rows row = (elements_of row.body ≤ request.elements)
+    ⊎ (elements_of row.body + elements_in (rows_without request.name rows) ≤ elements_in rows)
 
 fit_bound : (s need c w k g all old : ℕ) → (s ≤ need) ⊎ (s + w ≤ all) → need ≤ c - (w - g) → k + old + g ≡ all
     → w + old ≡ all → all ≤ c → s + k ≤ c
@@ -120,15 +105,13 @@ abbrev pub kept : Caps → CacheItem → ℕ → ℕ → List CacheItem → List
 kept caps row need stg rows = rows_spared (victims caps (asked row need stg) rows) rows
 
 within_old : (caps : Caps) (row old : CacheItem) (need stg : ℕ) (rows : List CacheItem) → IsDirectory rows
-    → Within caps rows
-    → room_refusal caps (asked row need stg) rows ≡ None → DataFit (asked row need stg) rows row
+    → Within caps rows → room_refusal caps (asked row need stg) rows ≡ None → DataFit (asked row need stg) rows row
     → row_of row.name rows ≡ Some old → Within caps (rows_replaced row (kept caps row need stg rows))
 within_old caps row old need stg rows is within none fit found =
     let request = asked row need stg in
     let left = kept caps row need stg rows in
     let room = and_parts (has_place caps request rows (gone caps request rows))
-    (nat_le need (free_elements caps request rows (gone caps request rows)))
-    (room_left caps request rows none) in
+    (nat_le need (free_elements caps request rows (gone caps request rows))) (room_left caps request rows none) in
     let le = leb-true need (free_elements caps request rows (gone caps request rows)) room.1 in
     let there : row_of row.name left ≡ Some old = row_of-spared row.name (victims caps request rows) rows
     (request_spared caps request rows is) ∙ found in
@@ -138,72 +121,59 @@ within_old caps row old need stg rows is within none fit found =
     let w = elements-without row.name rows old is found in
     let all = elements-spared caps request rows is in
     let bound = fit_bound (elements_of row.body) need caps.elements (elements_in (rows_without row.name rows))
-    (elements_in (rows_without row.name left))
-    (elements_in (gone caps request rows)) (elements_in rows) (elements_of old.body) fit le (omega (arith, e, all)) w
-    within.elements in
+    (elements_in (rows_without row.name left)) (elements_in (gone caps request rows))
+    (elements_in rows) (elements_of old.body) fit le (omega (arith, e, all)) w within.elements in
     record {
       entries = omega (arith, n, length-replaced row left, length-spared caps request rows is, within.entries);
       elements = omega (arith, bound, elements-replaced row left);
     }
 
 within_new : (caps : Caps) (row : CacheItem) (need stg : ℕ) (rows : List CacheItem) → IsDirectory rows
-    → Within caps rows
-    → room_refusal caps (asked row need stg) rows ≡ None → DataFit (asked row need stg) rows row
+    → Within caps rows → room_refusal caps (asked row need stg) rows ≡ None → DataFit (asked row need stg) rows row
     → row_of row.name rows ≡ None → Within caps (rows_replaced row (kept caps row need stg rows))
 within_new caps row need stg rows is within none fit found =
     let request = asked row need stg in
     let left = kept caps row need stg rows in
     let room = and_parts (has_place caps request rows (gone caps request rows))
-    (nat_le need (free_elements caps request rows (gone caps request rows)))
-    (room_left caps request rows none) in
+    (nat_le need (free_elements caps request rows (gone caps request rows))) (room_left caps request rows none) in
     let le = leb-true need (free_elements caps request rows (gone caps request rows)) room.1 in
-    let absent : has_row row.name rows ≡ false = any_is_found (is_row_of row.name) rows
-    ∙ ap (λ (p : Option CacheItem). is_some p) found in
-    let out : has_row row.name left ≡ false = none-filter (is_row_of row.name)
-    (λ (r : CacheItem). not (is_among (victims caps request rows) r.name)) rows absent in
-    let same : rows_without row.name left ≡ left = without-absent row.name left out in
-    let whole : rows_without row.name rows ≡ rows = without-absent row.name rows absent in
-    let w : elements_in (rows_without row.name rows) ≡ elements_in rows = ap (λ (l : List CacheItem). elements_in l)
-    whole in
-    let k : elements_in (rows_without row.name left) ≡ elements_in left = ap (λ (l : List CacheItem). elements_in l)
-    same in
-    let n : length (rows_without row.name left) ≡ length left = ap (λ (l : List CacheItem). length l) same in
-    let place = place_bound (has_row row.name rows) (length left) (length rows) (length (gone caps request rows))
-    caps.entries absent room.0
-    (length-spared caps request rows is) in
+    let absent = any_is_found (is_row_of row.name) rows ∙ ap (λ p. is_some p) found in
+    let out = none-filter (is_row_of row.name) (λ r. not (is_among (victims caps request rows) r.name)) rows absent in
+    let same = without-absent row.name left out in
+    let whole = without-absent row.name rows absent in
+    let w = ap (λ l. elements_in l) whole in
+    let k = ap (λ l. elements_in l) same in
+    let n = ap (λ l. length l) same in
+    let place = place_bound (has_row row.name rows) (length left)
+    (length rows) (length (gone caps request rows)) caps.entries absent room.0 (length-spared caps request rows is) in
     let all = elements-spared caps request rows is in
     let bound = fit_bound (elements_of row.body) need caps.elements (elements_in (rows_without row.name rows))
-    (elements_in (rows_without row.name left))
-    (elements_in (gone caps request rows)) (elements_in rows) 0 fit le (omega (arith, k, all)) (omega (arith, w))
-    within.elements in
+    (elements_in (rows_without row.name left)) (elements_in (gone caps request rows))
+    (elements_in rows) 0 fit le (omega (arith, k, all)) (omega (arith, w)) within.elements in
     record {
       entries = omega (arith, n, place, length-replaced row left);
       elements = omega (arith, bound, elements-replaced row left);
     }
 
 within_used : (caps : Caps) (row : CacheItem) (need stg : ℕ) (rows : List CacheItem) → IsDirectory rows
-    → Within caps rows
-    → room_refusal caps (asked row need stg) rows ≡ None → DataFit (asked row need stg) rows row
-    → (o : Option CacheItem) → row_of row.name rows ≡ o
-    → Within caps (rows_replaced row (kept caps row need stg rows))
+    → Within caps rows → room_refusal caps (asked row need stg) rows ≡ None → DataFit (asked row need stg) rows row →
+    (o : Option CacheItem) → row_of row.name rows ≡ o → Within caps (rows_replaced row (kept caps row need stg rows))
 within_used caps row need stg rows is within none fit (Some old) found = within_old caps row old need stg rows is
     within none fit found
 within_used caps row need stg rows is within none fit None found = within_new caps row need stg rows is within none
     fit found
 
 used_own : (caps : Caps) (content : Content) (row : CacheItem) (need stg : ℕ) (regs : List Registration)
-    → IsContent caps content → room_refusal caps (asked row need stg) content.rows ≡ None → is_sound row ≡ true
-    → DataFit (asked row need stg) content.rows row
-    → IsRegistry regs → list_all (λ reg. same_name reg.name row.name || has_row reg.name content.rows) regs ≡ true
-    → IsContent caps (record {
+    → IsContent caps content → room_refusal caps (asked row need stg) content.rows ≡ None
+    → is_sound row ≡ true → DataFit (asked row need stg) content.rows row → IsRegistry regs → list_all
+    (λ reg. same_name reg.name row.name || has_row reg.name content.rows) regs ≡ true → IsContent caps (record {
       rows = rows_replaced row (kept caps row need stg content.rows);
       regs = regs_spared (victims caps (asked row need stg) content.rows) regs;
     })
 used_own caps content row need stg regs is none sound fit registry each =
     let names = victims caps (asked row need stg) content.rows in
     let within = within_used caps row need stg content.rows is.directory
-    (record { entries = is.entries; elements = is.elements }) none fit
-    (row_of row.name content.rows) refl in
+    (record { entries = is.entries; elements = is.elements }) none fit (row_of row.name content.rows) refl in
     let orderly = orderly_own content row names regs (orderly-content caps content is) sound registry each in
     record {
       directory = orderly.directory;
@@ -218,27 +188,19 @@ abbrev pub asked_by : Name16 → ℕ → ℕ → Request
 asked_by name need stg = record { name = name; elements = need; stg = stg }
 
 pub content_used : (caps : Caps) (content : Content) (row : CacheItem) (name : Name16) (need stg : ℕ)
-    (regs : List Registration)
-    → row.name ≡ name
-    → IsContent caps content → room_refusal caps (asked_by name need stg) content.rows ≡ None → is_sound row ≡ true
-    → DataFit (asked_by name need stg) content.rows row
-    → IsRegistry regs → list_all (λ reg. same_name reg.name name || has_row reg.name content.rows) regs ≡ true
-    → IsContent caps (record {
+    (regs : List Registration) → row.name ≡ name → IsContent caps content → room_refusal caps (asked_by name need stg)
+    content.rows ≡ None → is_sound row ≡ true → DataFit (asked_by name need stg) content.rows row → IsRegistry regs →
+    list_all (λ reg. same_name reg.name name || has_row reg.name content.rows) regs ≡ true → IsContent caps (record {
       rows = rows_replaced row (rows_spared (victims caps (asked_by name need stg) content.rows) content.rows);
       regs = regs_spared (victims caps (asked_by name need stg) content.rows) regs;
     })
-content_used caps content row name need stg regs named =
-    subst
-    (λ (n : Name16). IsContent caps content → room_refusal caps (asked_by n need stg) content.rows ≡ None
-    → is_sound row ≡ true
-    → DataFit (asked_by n need stg) content.rows row
-    → IsRegistry regs → list_all (λ (reg : Registration). same_name reg.name n || has_row reg.name content.rows)
-    regs ≡ true
-    → IsContent caps (record {
+content_used caps content row name need stg regs named = subst (λ (n : Name16). IsContent caps content → room_refusal
+    caps (asked_by n need stg) content.rows ≡ None → is_sound row ≡ true → DataFit (asked_by n need stg) content.rows
+    row → IsRegistry regs → list_all (λ (reg : Registration). same_name reg.name n || has_row reg.name content.rows)
+    regs ≡ true → IsContent caps (record {
       rows = rows_replaced row (rows_spared (victims caps (asked_by n need stg) content.rows) content.rows);
       regs = regs_spared (victims caps (asked_by n need stg) content.rows) regs;
-    }))
-    named (used_own caps content row need stg regs)
+    })) named (used_own caps content row need stg regs)
 
 pub content-read : (vector : ℕ) (caps : Caps) (content : Content) (by : ConnId) (name : Name16) (index : ℕ)
     (old : Option Name16) (stg : ℕ)
@@ -246,14 +208,11 @@ pub content-read : (vector : ℕ) (caps : Caps) (content : Content) (by : ConnId
     → IsContent caps (read.after (victims caps (read.request name stg) content.rows) content by name index stg)
 content-read vector caps content by name index old stg is h =
     let none = none_hold (read.causes vector caps content by name index old stg) h in
-    let rest : elements_in (rows_without name content.rows) ≤ elements_in content.rows =
-    sum_by-filter-le size (λ (row : CacheItem). not (is_row_of name row)) content.rows in
+    let rest = sum_by-filter-le size (λ row. not (is_row_of name row)) content.rows in
     content_used caps content (row_or_new name stg content.rows) name 0 stg (regs_with by index name content.regs)
-    (name-row_or_new name stg content.rows) is none.1.1.0
-    (sound-row_or_new name stg content.rows is.directory)
-    (grind (arith, or_new_size, elements-without))
-    (registry-with by index name content.regs is.registry) (each_registered by index name content.rows content.regs
-    is.row_each)
+    (name-row_or_new name stg content.rows) is none.1.1.0 (sound-row_or_new name stg content.rows is.directory)
+    (grind (arith, or_new_size, elements-without)) (registry-with by index name content.regs is.registry)
+    (each_registered by index name content.rows content.regs is.row_each)
 
 hold_test : (holder : Option Holder) (had rest : Bool) → had ≡ false → (is_none holder || had) && rest ≡ true
     → is_none (option_map write.rewrite holder) || false ≡ true
@@ -269,9 +228,8 @@ unchanged_sound true e = refl
 unchanged_sound false e = e
 
 pub write_sound : (name : Name16) (stg : ℕ) (body : List ℕ) (class : Option ℕ) (adj : Option (List ℕ))
-    (o : Option CacheItem)
-    → is_none class && is_changed_row o ≡ false → ((row : CacheItem) → o ≡ Some row → is_sound row ≡ true)
-    → is_sound (write.row_with body class adj (unwrap_or o (new_row name stg))) ≡ true
+    (o : Option CacheItem) → is_none class && is_changed_row o ≡ false → ((row : CacheItem) → o ≡ Some row
+    → is_sound row ≡ true) → is_sound (write.row_with body class adj (unwrap_or o (new_row name stg))) ≡ true
 write_sound name stg body None adj None e h = refl
 write_sound name stg body (Some class) adj None e h = refl
 write_sound name stg body (Some class) adj (Some row) e h = held_any row.holder
@@ -282,37 +240,28 @@ unless_true true h = absurd (cc)
 unless_true false h = refl
 
 pub content-write : (vector : ℕ) (caps : Caps) (content : Content) (by : ConnId) (name : Name16) (index : ℕ)
-    (body : List ℕ) (class : Option ℕ)
-    (adj : Option (List ℕ)) (old : Option Name16) (stg : ℕ) (when_reg : Bool)
-    → IsContent caps content → first_refusal (write.causes vector caps content by name index body class old stg
-    when_reg) ≡ None
-    → IsContent caps (write.after (victims caps (write.request name body stg) content.rows) content by name index body
-    class adj stg)
+    (body : List ℕ) (class : Option ℕ) (adj : Option (List ℕ)) (old : Option Name16) (stg : ℕ) (when_reg : Bool)
+    → IsContent caps content → first_refusal
+    (write.causes vector caps content by name index body class old stg when_reg) ≡ None → IsContent caps
+    (write.after (victims caps (write.request name body stg) content.rows) content by name index body class adj stg)
 content-write vector caps content by name index body class adj old stg when_reg is h =
     let none = none_hold (write.causes vector caps content by name index body class old stg when_reg) h in
-    content_used caps content (write.row_with body class adj (row_or_new name stg content.rows)) name
-    (elements_of (Some body)) stg
-    (regs_without_name name (Some by) (regs_with by index name content.regs)) (name-row_or_new name stg content.rows)
-    is none.1.1.1.1.1.0
-    (grind (arith, write_sound, unless_true, all_found))
-    (inl (omega arith))
-    (registry-filter (λ (reg : Registration). not (ends_with_name name (Some by) reg))
-    (regs_with by index name content.regs)
-    (registry-with by index name content.regs is.registry))
-    (list_all-filter (λ (reg : Registration). same_name reg.name name || has_row reg.name content.rows)
-    (λ (reg : Registration). not (ends_with_name name (Some by) reg)) (regs_with by index name content.regs)
-    (each_registered by index name content.rows content.regs is.row_each))
+    content_used _ _ _ _ _ _ _ (name-row_or_new _ _ _) is none.1.1.1.1.1.0 (grind (
+      arith,
+      write_sound,
+      unless_true,
+      all_found,
+    )) (inl (omega arith)) (registry-filter _ _ (registry-with _ _ _ _ is.registry)) (list_all-filter
+    (λ reg. same_name reg.name name || has_row reg.name content.rows) (λ reg. not (ends_with_name name (Some by) reg))
+    _ (each_registered by index name content.rows content.regs is.row_each))
 
 -- ---- a row is replaced by one of the same data
 
-pub content-replaced : (caps : Caps) (content : Content) (name : Name16) (old row : CacheItem)
-    → IsContent caps content
-    → row_of name content.rows ≡ Some old → row.name ≡ name → elements_of row.body ≡ elements_of old.body
-    → is_sound row ≡ true
-    → IsContent caps (record content { rows = rows_replaced row content.rows })
+pub content-replaced : (caps : Caps) (content : Content) (name : Name16) (old row : CacheItem) → IsContent
+    caps content → row_of name content.rows ≡ Some old → row.name ≡ name → elements_of row.body ≡ elements_of old.body
+    → is_sound row ≡ true → IsContent caps (record content { rows = rows_replaced row content.rows })
 content-replaced caps content name old row is found named size sound =
-    let there : row_of row.name content.rows ≡ Some old = subst (λ (n : Name16). row_of n content.rows ≡ Some old)
-    (sym named) found in
+    let there : row_of row.name content.rows ≡ Some old = grind arith in
     let n = length-without row.name content.rows old is.directory there in
     let e = elements-without row.name content.rows old is.directory there in
     record {
@@ -320,14 +269,13 @@ content-replaced caps content name old row is found named size sound =
       entries = omega (arith, n, length-replaced row content.rows, is.entries);
       elements = omega (arith, e, size, elements-replaced row content.rows, is.elements);
       registry = is.registry;
-      row_each = list_all_weaker (λ reg. has_row reg.name content.rows)
-          (λ reg. has_row reg.name (rows_replaced row content.rows))
-          (λ reg k. has_row_stays reg.name row content.rows k) content.regs is.row_each;
+      row_each = list_all_weaker (λ reg. has_row reg.name content.rows) (λ reg. has_row reg.name (rows_replaced
+          row content.rows)) (λ reg k. has_row_stays reg.name row content.rows k) content.regs is.row_each;
     }
 
-unless_changed : (b : Bool) → cond b None (Some NotChanged) ≡ None → b ≡ true
-unless_changed true h = refl
-unless_changed false h = absurd (cc)
+pub unless_false : (b : Bool) (refusal : Refusal) → cond b None (Some refusal) ≡ None → b ≡ true
+unless_false true refusal h = refl
+unless_false false refusal h = absurd (cc)
 
 changed_sound : (hold : Bool) (c d : Bool) → c ≡ true → hold && (not c || d) ≡ true → (false || c)
     && (not c || d) ≡ true
@@ -336,21 +284,15 @@ changed_sound true false d e h = absurd (false≢true e)
 changed_sound false c d e h = absurd (false≢true h)
 
 castout_step : (caps : Caps) (content : Content) (by : ConnId) (name : Name16) (o : Option CacheItem)
-    → IsContent caps content
-    → row_of name content.rows ≡ o → first_refusal (entry_refusal o ∷ held_refusal o ∷ unchanged_refusal o ∷ []) ≡
-    None
-    → IsContent caps (record content {
-      rows = rows_replaced (castout.row_with_hold by (unwrap_or o (new_row name 1)))
-          content.rows;
+    → IsContent caps content → row_of name content.rows ≡ o → first_refusal
+    (entry_refusal o ∷ held_refusal o ∷ unchanged_refusal o ∷ []) ≡ None → IsContent caps (record content {
+      rows = rows_replaced (castout.row_with_hold by (unwrap_or o (new_row name 1))) content.rows;
     })
 castout_step caps content by name None is found h = absurd (cc)
 castout_step caps content by name (Some row) is found h =
     let none = none_hold (entry_refusal (Some row) ∷ held_refusal (Some row) ∷ unchanged_refusal (Some row) ∷ []) h in
     let sound = all_found (is_row_of name) is_sound content.rows row is.directory.sound found in
-    content-replaced caps content name row (castout.row_with_hold by row) is found
-    (found_named name content.rows row found) refl
-    (changed_sound (is_none row.holder || is_changed row) (is_changed row) (is_some row.body)
-    (unless_changed (is_changed row) none.1.1.0) sound)
+    content-replaced _ _ _ _ _ is found (found_named _ _ _ found) refl (grind (arith, changed_sound, unless_false))
 
 pub content-castout : (caps : Caps) (content : Content) (by : ConnId) (name : Name16) → IsContent caps content
     → first_refusal (castout.causes content.rows name) ≡ None → IsContent caps (castout.after content by name)
@@ -362,19 +304,14 @@ let_go_sound true class hold had h = (and_parts hold (not (is_some class) || had
 let_go_sound false class hold had h = refl
 
 unlock_step : (caps : Caps) (content : Content) (by : ConnId) (name : Name16) (o : Option CacheItem)
-    → IsContent caps content
-    → row_of name content.rows ≡ o → first_refusal (entry_refusal o ∷ not_held_refusal by o ∷ []) ≡ None
-    → IsContent caps (record content {
-      rows = rows_replaced (unlock.row_without_hold (unwrap_or o (new_row name 1)))
-          content.rows;
+    → IsContent caps content → row_of name content.rows ≡ o
+    → first_refusal (entry_refusal o ∷ not_held_refusal by o ∷ []) ≡ None → IsContent caps (record content {
+      rows = rows_replaced (unlock.row_without_hold (unwrap_or o (new_row name 1))) content.rows;
     })
 unlock_step caps content by name None is found h = absurd (cc)
 unlock_step caps content by name (Some row) is found h =
     let sound = all_found (is_row_of name) is_sound content.rows row is.directory.sound found in
-    content-replaced caps content name row (unlock.row_without_hold row) is found
-    (found_named name content.rows row found) refl
-    (let_go_sound (unlock.is_rewritten row.holder) row.class (is_none row.holder || is_changed row) (is_some row.body)
-    sound)
+    content-replaced _ _ _ _ _ is found (found_named _ _ _ found) refl (grind (arith, let_go_sound))
 
 pub content-unlock : (caps : Caps) (content : Content) (by : ConnId) (name : Name16) → IsContent caps content
     → first_refusal (unlock.causes content.rows by name) ≡ None → IsContent caps (unlock.after content name)
@@ -382,52 +319,41 @@ content-unlock caps content by name is h = unlock_step caps content by name (row
 
 -- ---- a row goes
 
-gone_each : (name : Name16) (rows : List CacheItem) (reg : Registration) → has_row reg.name rows
-    && not (ends_with_name name None reg) ≡ true
-    → has_row reg.name (rows_without name rows) ≡ true
+pub not_both : (b : Bool) → not (b && true) ≡ true → b ≡ false
+not_both true e = absurd (false≢true e)
+not_both false e = refl
+
+gone_each : (name : Name16) (rows : List CacheItem) (reg : Registration) → has_row reg.name
+    rows && not (ends_with_name name None reg) ≡ true → has_row reg.name (rows_without name rows) ≡ true
 gone_each name rows reg h =
     let parts = and_parts (has_row reg.name rows) (not (ends_with_name name None reg)) h in
-    let apart : same_name reg.name name ≡ false = other (same_name reg.name name) parts.1 in
-    any-filter_same (is_row_of reg.name) (λ row. not (is_row_of name row)) true
-    (λ row k. ap not (subst (λ (n : Name16). same_name n name ≡ false) (sym (same_name-eq row.name reg.name k))
-    apart)) rows
-    ∙ parts.0
-  where
-    other : (b : Bool) → not (b && true) ≡ true → b ≡ false
-    other true e = absurd (false≢true e)
-    other false e = refl
+    any-filter_same (is_row_of reg.name) (λ row. not (is_row_of name row)) true (λ row k. ap not
+    (subst (λ n. same_name n name ≡ false) (sym (same_name-eq _ _ k)) (not_both _ parts.1))) rows ∙ parts.0
 
 pub content-delete : (caps : Caps) (content : Content) (name : Name16) → IsContent caps content
     → IsContent caps (delete.after content name)
-content-delete caps content name is =
-    record {
-      directory = directory-filter (λ row. not (is_row_of name row)) content.rows is.directory;
-      entries = grind (arith, length-filter-le);
-      elements = grind (arith, sum_by-filter-le, size);
-      registry = registry-filter (λ reg. not (ends_with_name name None reg)) content.regs is.registry;
-      row_each =
-          list_all_weaker (λ reg. has_row reg.name content.rows && not (ends_with_name name None reg))
-          (λ reg. has_row reg.name (rows_without name content.rows))
-          (gone_each name content.rows) (regs_without_name name None content.regs)
-          (list_all_both (λ reg. has_row reg.name content.rows) (λ reg. not (ends_with_name name None reg))
-          (regs_without_name name None content.regs)
-          (list_all-filter (λ reg. has_row reg.name content.rows) (λ reg. not (ends_with_name name None reg))
-          content.regs is.row_each)
-          (list_all-filter_same (λ reg. not (ends_with_name name None reg)) content.regs));
-    }
+content-delete caps content name is = record {
+  directory = directory-filter (λ row. not (is_row_of name row)) content.rows is.directory;
+  entries = grind (arith, length-filter-le);
+  elements = grind (arith, sum_by-filter-le, size);
+  registry = registry-filter (λ reg. not (ends_with_name name None reg)) content.regs is.registry;
+  row_each = list_all_weaker _ _ (gone_each name content.rows) _ (list_all_both (λ reg. has_row reg.name
+      content.rows) (λ reg. not (ends_with_name name None reg)) (regs_without_name name None content.regs)
+      (list_all-filter (λ reg. has_row reg.name content.rows) (λ reg. not (ends_with_name name None reg))
+      content.regs is.row_each) (list_all-filter_same (λ reg. not (ends_with_name name None reg)) content.regs));
+}
 
 -- ---- registrations end
 
 pub content-fewer_regs : (caps : Caps) (content : Content) (q : Registration → Bool) → IsContent caps content
     → IsContent caps (record content { regs = filter q content.regs })
-content-fewer_regs caps content q is =
-    record {
-      directory = is.directory;
-      entries = is.entries;
-      elements = is.elements;
-      registry = registry-filter q content.regs is.registry;
-      row_each = list_all-filter (λ reg. has_row reg.name content.rows) q content.regs is.row_each;
-    }
+content-fewer_regs caps content q is = record {
+  directory = is.directory;
+  entries = is.entries;
+  elements = is.elements;
+  registry = registry-filter q content.regs is.registry;
+  row_each = list_all-filter (λ reg. has_row reg.name content.rows) q content.regs is.row_each;
+}
 
 pub content-forgotten : (caps : Caps) (content : Content) → IsContent caps content
     → IsContent caps (content_forgotten content)
@@ -435,38 +361,30 @@ content-forgotten caps content is = grind arith
 
 pub content-without : (caps : Caps) (content : Content) (conn : ConnId) → IsContent caps content
     → IsContent caps (content_without conn content)
-content-without caps content conn is =
-    record {
-      directory = directory-without_hold conn content.rows is.directory;
-      entries = rw (length-map content.rows (without_hold conn)) is.entries;
-      elements = rw (elements-without_hold conn content.rows) is.elements;
-      registry = registry-filter (λ reg. not (is_of conn reg)) content.regs is.registry;
-      row_each = list_all_weaker (λ reg. has_row reg.name content.rows)
-          (λ reg. has_row reg.name (map (without_hold conn) content.rows))
-          (λ reg k. has_row-without_hold conn reg.name content.rows ∙ k) (regs_without conn content.regs)
-          (list_all-filter (λ reg. has_row reg.name content.rows) (λ reg. not (is_of conn reg)) content.regs
-          is.row_each);
-    }
+content-without caps content conn is = record {
+  directory = directory-without_hold conn content.rows is.directory;
+  entries = rw (length-map content.rows (without_hold conn)) is.entries;
+  elements = rw (elements-without_hold conn content.rows) is.elements;
+  registry = registry-filter (λ reg. not (is_of conn reg)) content.regs is.registry;
+  row_each = list_all_weaker (λ reg. has_row reg.name content.rows)
+      (λ reg. has_row reg.name (map (without_hold conn) content.rows)) (λ reg k. has_row-without_hold conn
+      reg.name content.rows ∙ k) (regs_without conn content.regs) (grind (arith, list_all-filter));
+}
 
 -- ---- every command
 
-pub content-done : (vector : ℕ) (caps : Caps) (content : Content) (by : ConnId) (cmd : CacheCmd)
-    → IsContent caps content
-    → cause vector caps content by cmd ≡ None → IsContent caps (done caps content by cmd).state
+pub content-done : (vector : ℕ) (caps : Caps) (content : Content) (by : ConnId) (cmd : CacheCmd) → IsContent
+    caps content → cause vector caps content by cmd ≡ None → IsContent caps (done caps content by cmd).state
 content-done vector caps content by (Read name index old stg) is h = content-read vector caps content by name index
     old stg is h
 content-done vector caps content by (Write name index body class adj old stg when_reg) is h =
     content-write vector caps content by name index body class adj old stg when_reg is h
 content-done vector caps content by (CrossInval name) is h = content-fewer_regs caps content
     (λ reg. not (ends_with_name name (Some by) reg)) is
-content-done vector caps content by RegList is h = is
 content-done vector caps content by (Castout name) is h = content-castout caps content by name is h
 content-done vector caps content by (Unlock name) is h = content-unlock caps content by name is h
-content-done vector caps content by (CoClass class) is h = is
-content-done vector caps content by CoStats is h = is
-content-done vector caps content by (DirInfo name) is h = is
 content-done vector caps content by (Delete name) is h = content-delete caps content name is
-content-done vector caps content by (StgStats stg) is h = is
+content-done vector caps content by _ is h = is
 
 unless_step : (caps : Caps) (refusal : Option Refusal) (content : Content) (outcome : Outcome CacheReply Content)
     → IsContent caps content

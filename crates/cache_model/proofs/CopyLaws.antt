@@ -1,5 +1,5 @@
 -- A valid bit tells a fresh copy: what a registered connector has at the index is what the name's row has.
-use Rattle.cache_model.proofs.Imports.{◌≡◌, ℕ, Bool, true, false, not, ◌&&◌, ◌||◌, ◌==◌, cond, List, [], ◌∷◌, ◌++◌, Option, Some, None, option_map, unwrap_or, filter, find, map, refl, sym, ap, ◌∙◌, subst, arith, option_and_then, and_parts, or_parts, not-true, false≢true, eqb-true, nat_tests, find-append, Caps, Name16, ConnId, Refusal, CacheCmd, Read, Write, CrossInval, RegList, Castout, Unlock, CoClass, CoStats, DirInfo, Delete, StgStats, same_name, unless_refused, insertion, find-filter, find_none, none_filtered, find-insertion_past, find-insertion_here, Registration, is_of, is_at, is_replaced, registered_at, stands_before as before, regs_with, regs_without_name, ends_with_name, same_name-eq, same_name-refl, same_name-sym, CacheItem, is_row_of, is_changed, row_of, has_row, rows_without, rows_replaced, new_row, row_or_new, IsDirectory, Content, IsContent, no_content, content_without, without_hold, is_among, rows_spared, cause, done, after, Copy, Copies, Deed, after_deed, after_run, row_copy, copy_in, reply_copy, copies_with, copies_done, copies_unless, copies_after, copies_run, Calls, Leaves, Forgets}
+use Rattle.cache_model.proofs.Imports.{◌≡◌, ℕ, Bool, true, false, not, ◌&&◌, ◌||◌, ◌==◌, cond, List, [], ◌∷◌, ◌++◌, Option, Some, None, option_map, unwrap_or, filter, find, map, refl, sym, ap, ◌∙◌, subst, arith, option_and_then, and_parts, or_parts, not-true, false≢true, eqb-true, nat_tests, find-append, Caps, Name16, ConnId, Refusal, CacheCmd, Read, Write, CrossInval, Castout, Unlock, Delete, same_name, unless_refused, insertion, find-filter, find_none, none_filtered, find-insertion_past, find-insertion_here, Registration, is_at, is_replaced, registered_at, stands_before as before, regs_with, ends_with_name, same_name-eq, same_name-refl, same_name-sym, CacheItem, is_row_of, is_changed, row_of, has_row, rows_without, rows_replaced, new_row, row_or_new, IsDirectory, Content, IsContent, no_content, content_without, without_hold, is_among, rows_spared, done, after, Copy, Copies, Deed, after_deed, after_run, row_copy, copy_in, reply_copy, copies_with, copies_done, copies_unless, copies_after, copies_run, Calls, Leaves, Forgets}
 use Rattle.cache_model.specs.Rows.{stands_before}
 use Rattle.cache_model.specs.Commands.Read as read
 use Rattle.cache_model.specs.Commands.Write as write
@@ -10,55 +10,45 @@ use Rattle.cache_model.specs.Step.{victims}
 use Rattle.cache_model.proofs.RowLaws.{name-row_or_new}
 use Rattle.cache_model.proofs.RoomLaws.{request_spared, row_of-spared}
 use Rattle.cache_model.proofs.EngineLaws.{content-nothing}
-use Rattle.cache_model.proofs.ContentLaws.{content-step, content-without, content-forgotten}
+use Rattle.cache_model.proofs.ContentLaws.{not_both, content-step, content-without, content-forgotten}
 
 -- ---- the row of a name after a row is replaced
 
-found_with : (b : Bool) (n : Name16) (row : CacheItem) (rest : List CacheItem) → has_row row.name rest ≡ false
-    → (s : Bool) → same_name row.name n ≡ s
-    → row_of n (cond b (insertion (stands_before row) row rest) (rest ++ row ∷ [])) ≡ cond s (Some row)
-    (row_of n rest)
+found_with : (b : Bool) (n : Name16) (row : CacheItem) (rest : List CacheItem)
+    → has_row row.name rest ≡ false → (s : Bool) → same_name row.name n ≡ s → row_of
+    n (cond b (insertion (stands_before row) row rest) (rest ++ row ∷ [])) ≡ cond s (Some row) (row_of n rest)
 found_with true n row rest alone true e =
-    let none : has_row n rest ≡ false = subst (λ (m : Name16). has_row m rest ≡ false) (same_name-eq row.name n e)
-    alone in
+    let none = subst (λ m. has_row m rest ≡ false) (same_name-eq row.name n e) alone in
     find-insertion_here (is_row_of n) (stands_before row) row rest e none
 found_with true n row rest alone false e = find-insertion_past (is_row_of n) (stands_before row) row rest e
 found_with false n row rest alone true e =
-    let none : has_row n rest ≡ false = subst (λ (m : Name16). has_row m rest ≡ false) (same_name-eq row.name n e)
-    alone in
-    find-append (is_row_of n) rest (row ∷ []) ∙ rw (find_none (is_row_of n) rest none, e) refl
+    let none = subst (λ m. has_row m rest ≡ false) (same_name-eq _ n e) alone in
+    find-append (is_row_of n) rest (row ∷ []) ∙ rw (find_none _ _ none, e) refl
 found_with false n row rest alone false e = grind (arith, find-append)
 
 pub other_found : (n name : Name16) (rows : List CacheItem) → same_name name n ≡ false
     → row_of n (rows_without name rows) ≡ row_of n rows
-other_found n name rows e =
-    find-filter (is_row_of n) (λ row. not (is_row_of name row))
-    (λ row k. ap not (subst (λ (m : Name16). same_name m name ≡ false) (sym (same_name-eq row.name n k))
-    (same_name-sym n name ∙ e))) rows
+other_found n name rows e = find-filter (is_row_of n) (λ row. not (is_row_of name row)) (λ row k. ap not (subst
+    (λ (m : Name16). same_name m name ≡ false) (sym (same_name-eq row.name n k)) (same_name-sym n name ∙ e))) rows
 
 pub row_of-replaced : (n : Name16) (row : CacheItem) (rows : List CacheItem) (s : Bool) → same_name row.name n ≡ s
     → row_of n (rows_replaced row rows) ≡ cond s (Some row) (row_of n rows)
-row_of-replaced n row rows true e =
-    found_with (is_changed row) n row (rows_without row.name rows) (none_filtered (is_row_of row.name) rows) true e
-row_of-replaced n row rows false e =
-    found_with (is_changed row) n row (rows_without row.name rows) (none_filtered (is_row_of row.name) rows) false e
-    ∙ other_found n row.name rows e
+row_of-replaced n row rows true e = found_with _ n _ _ (none_filtered (is_row_of row.name) rows) _ e
+row_of-replaced n row rows false e = found_with (is_changed row) n
+    row (rows_without row.name rows) (none_filtered (is_row_of row.name) rows) false e ∙ other_found n row.name rows e
 
 -- a name's copy after its row is replaced, and that of other names
 pub copy-here : (name : Name16) (row : CacheItem) (rows : List CacheItem) → row.name ≡ name
     → copy_in (rows_replaced row rows) name ≡ row_copy row
-copy-here name row rows named =
-    ap (λ o. option_and_then row_copy o)
-    (row_of-replaced name row rows true (subst (λ (n : Name16). same_name row.name n ≡ true) named
-    (same_name-refl row.name)))
+copy-here name row rows named = ap (λ o. option_and_then row_copy o) (row_of-replaced name
+    row rows true (subst (λ (n : Name16). same_name row.name n ≡ true) named (same_name-refl row.name)))
 
 pub copy-other : (n : Name16) (row : CacheItem) (rows : List CacheItem) → same_name row.name n ≡ false
     → copy_in (rows_replaced row rows) n ≡ copy_in rows n
 copy-other n row rows e = ap (λ o. option_and_then row_copy o) (row_of-replaced n row rows false e)
 
 pub copy-same : (name n : Name16) (row : CacheItem) (rows : List CacheItem) → row.name ≡ name
-    → row_copy row ≡ copy_in rows name
-    → copy_in (rows_replaced row rows) n ≡ copy_in rows n
+    → row_copy row ≡ copy_in rows name → copy_in (rows_replaced row rows) n ≡ copy_in rows n
 copy-same name n row rows named is = grind (arith, same_name-eq, copy-here, copy-other)
 
 pub copy-spared : (n : Name16) (gone : List Name16) (rows : List CacheItem) → is_among gone n ≡ false
@@ -92,22 +82,18 @@ each_step : (P Q : Registration → Type 0) (q : Registration → Bool) (b : Boo
 each_step P Q q true reg regs e h p rest = (h reg e p, rest)
 each_step P Q q false reg regs e h p rest = rest
 
-pub each_filter : (P Q : Registration → Type 0) (q : Registration → Bool) → ((r : Registration) → q r ≡ true → P r
-    → Q r) → (regs : List Registration)
-    → Each P regs → Each Q (filter q regs)
+pub each_filter : (P Q : Registration → Type 0) (q : Registration → Bool) → ((r : Registration)
+    → q r ≡ true → P r → Q r) → (regs : List Registration) → Each P regs → Each Q (filter q regs)
 each_filter P Q q h [] all = tt
-each_filter P Q q h (reg ∷ regs) all = each_step P Q q (q reg) reg (filter q regs) refl h all.0
-    (each_filter P Q q h regs all.1)
+each_filter P Q q h (reg ∷ regs) all = grind (arith, each_step, each_filter P Q q h regs all.1)
 
-each_place : (P : Registration → Type 0) (b : Bool) (new reg : Registration) (regs zs : List Registration) → P new
-    → P reg → Each P regs → Each P zs
-    → Each P (cond b (reg ∷ zs) (new ∷ reg ∷ regs))
+each_place : (P : Registration → Type 0) (b : Bool) (new reg : Registration) (regs zs : List Registration)
+    → P new → P reg → Each P regs → Each P zs → Each P (cond b (reg ∷ zs) (new ∷ reg ∷ regs))
 each_place P true new reg regs zs n p rest ih = (p, ih)
 each_place P false new reg regs zs n p rest ih = (n, (p, rest))
 
-pub each_insertion : (P : Registration → Type 0) (first : Registration → Bool) (new : Registration)
-    (regs : List Registration) → P new → Each P regs
-    → Each P (insertion first new regs)
+pub each_insertion : (P : Registration → Type 0) (first : Registration → Bool)
+    (new : Registration) (regs : List Registration) → P new → Each P regs → Each P (insertion first new regs)
 each_insertion P first new [] n all = (n, tt)
 each_insertion P first new (reg ∷ regs) n all = grind (arith, each_place, each_insertion P first new regs n all.1)
 
@@ -139,9 +125,7 @@ own_place by index copy copies = let here : (by.0 == by.0) && (index == index) �
 -- ---- READ
 
 read_fresh : (gone : List Name16) (content : Content) (copies : Copies) (by : ConnId) (name : Name16) (index stg : ℕ)
-    → is_among gone name ≡ false
-    → AllFresh content copies
-    → AllFresh (read.after gone content by name index stg)
+    → is_among gone name ≡ false → AllFresh content copies → AllFresh (read.after gone content by name index stg)
     (copies_with by index (reply_copy (read.reply content.rows name stg)) copies)
 read_fresh gone content copies by name index stg out all =
     let row = row_or_new name stg content.rows in
@@ -149,19 +133,16 @@ read_fresh gone content copies by name index stg out all =
     let told = copies_with by index (reply_copy (read.reply content.rows name stg)) copies in
     let new : Registration = record { conn = by; index = index; name = name } in
     let Q : Registration → Type 0 = λ reg. not (is_among gone reg.name) ≡ true → Fresh rows told reg in
-    each_filter Q (Fresh rows told) (λ reg. not (is_among gone reg.name)) (λ reg e q. q e)
-    (regs_with by index name content.regs)
-    (each_insertion Q (λ other. before other new) new (filter (λ reg. not (is_replaced by index name reg))
-    content.regs)
-    (λ e. own_place by index (reply_copy (read.reply content.rows name stg)) copies ∙ reply_of_data row row.body
-    ∙ sym (copy-here name row (rows_spared gone content.rows) (name-row_or_new name stg content.rows)))
-    (each_filter (Fresh content.rows copies) Q (λ reg. not (is_replaced by index name reg))
-    (λ reg e fresh k. other_place by index name reg (reply_copy (read.reply content.rows name stg)) copies e ∙ fresh
-    ∙ sym (same reg (not-true (is_among gone reg.name) k))) content.regs all))
+    each_filter Q _ _ (λ reg e q. q e) _ (each_insertion Q _ _ _ (grind (
+      arith,
+      own_place,
+      reply_of_data,
+      copy-here,
+      name-row_or_new,
+    )) (each_filter _ Q _ (grind (arith, other_place, same, not-true)) _ all))
   where
-    same : (reg : Registration) → is_among gone reg.name ≡ false
-        → copy_in (rows_replaced (row_or_new name stg content.rows) (rows_spared gone content.rows)) reg.name ≡
-        copy_in content.rows reg.name
+    same : (reg : Registration) → is_among gone reg.name ≡ false → copy_in (rows_replaced
+        (row_or_new name stg content.rows) (rows_spared gone content.rows)) reg.name ≡ copy_in content.rows reg.name
     same reg k = grind (arith, copy-same, name-row_or_new, copy-row_or_new, copy-spared)
 
 -- ---- WRITE
@@ -175,10 +156,8 @@ other_name false i true h k = absurd (false≢true k)
 other_name false i false h k = refl
 
 write_fresh : (gone : List Name16) (content : Content) (copies : Copies) (by : ConnId) (name : Name16) (index : ℕ)
-    (body : List ℕ) (class : Option ℕ)
-    (adj : Option (List ℕ)) (stg : ℕ) → AllFresh content copies
-    → AllFresh (write.after gone content by name index body class adj stg) (copies_with by index (Some (body, adj))
-    copies)
+    (body : List ℕ) (class : Option ℕ) (adj : Option (List ℕ)) (stg : ℕ) → AllFresh content copies → AllFresh
+    (write.after gone content by name index body class adj stg) (copies_with by index (Some (body, adj)) copies)
 write_fresh gone content copies by name index body class adj stg all =
     let row = write.row_with body class adj (row_or_new name stg content.rows) in
     let rows = rows_replaced row (rows_spared gone content.rows) in
@@ -187,66 +166,37 @@ write_fresh gone content copies by name index body class adj stg all =
     let Q : Registration → Type 0 = λ reg. not (ends_with_name name (Some by) reg) ≡ true
     → not (is_among gone reg.name) ≡ true → Fresh rows told reg in
     let R : Registration → Type 0 = λ reg. not (is_among gone reg.name) ≡ true → Fresh rows told reg in
-    each_filter R (Fresh rows told) (λ reg. not (is_among gone reg.name)) (λ reg e q. q e)
-    (regs_without_name name (Some by) (regs_with by index name content.regs))
-    (each_filter Q R (λ reg. not (ends_with_name name (Some by) reg)) (λ reg e q. q e)
-    (regs_with by index name content.regs)
-    (each_insertion Q (λ other. before other new) new (filter (λ reg. not (is_replaced by index name reg))
-    content.regs)
-    (λ f e. own_place by index (Some (body, adj)) copies ∙ sym (copy-here name row (rows_spared gone content.rows)
-    (name-row_or_new name stg content.rows)))
+    each_filter R _ _ (λ reg e q. q e) _ (each_filter Q R (λ reg. not (ends_with_name name (Some by) reg))
+    (λ reg e q. q e) (regs_with by index name content.regs) (each_insertion Q (λ other. before other new) new
+    (filter (λ reg. not (is_replaced by index name reg)) content.regs) (λ f e. own_place by index (Some (body, adj))
+    copies ∙ sym (copy-here name row (rows_spared gone content.rows) (name-row_or_new name stg content.rows)))
     (each_filter (Fresh content.rows copies) Q (λ reg. not (is_replaced by index name reg))
     (grind (arith, other_place, same, other_name, not-true)) content.regs all)))
   where
     same : (reg : Registration) → same_name reg.name name ≡ false → is_among gone reg.name ≡ false
         → copy_in (rows_replaced (write.row_with body class adj (row_or_new name stg content.rows))
-        (rows_spared gone content.rows)) reg.name
-        ≡ copy_in content.rows reg.name
-    same reg apart k =
-        copy-other reg.name (write.row_with body class adj (row_or_new name stg content.rows))
-        (rows_spared gone content.rows)
-        (subst (λ (n : Name16). same_name n reg.name ≡ false) (sym (name-row_or_new name stg content.rows))
-        (same_name-sym name reg.name ∙ apart))
-        ∙ copy-spared reg.name gone content.rows k
+        (rows_spared gone content.rows)) reg.name ≡ copy_in content.rows reg.name
+    same reg apart k = copy-other reg.name (write.row_with body class adj (row_or_new name stg content.rows))
+        (rows_spared gone content.rows) (subst (λ (n : Name16). same_name n reg.name ≡ false) (sym (name-row_or_new
+        name stg content.rows)) (same_name-sym name reg.name ∙ apart)) ∙ copy-spared reg.name gone content.rows k
 
 -- ---- the other commands, and the end of a connector
 
-castout_fresh : (content : Content) (copies : Copies) (by : ConnId) (name : Name16) → AllFresh content copies
-    → AllFresh (castout.after content by name) copies
-castout_fresh content copies by name all =
-    let row = castout.row_with_hold by (row_or_new name 1 content.rows) in
-    each_weaker (Fresh content.rows copies) (Fresh (rows_replaced row content.rows) copies)
-    (λ reg fresh. fresh ∙ sym (copy-same name reg.name row content.rows (name-row_or_new name 1 content.rows)
-    (copy-row_or_new name 1 content.rows)))
-    content.regs all
-
-unlock_fresh : (content : Content) (copies : Copies) (name : Name16) → AllFresh content copies
-    → AllFresh (unlock.after content name) copies
-unlock_fresh content copies name all =
-    let row = unlock.row_without_hold (row_or_new name 1 content.rows) in
-    each_weaker (Fresh content.rows copies) (Fresh (rows_replaced row content.rows) copies)
-    (λ reg fresh. fresh ∙ sym (copy-same name reg.name row content.rows (name-row_or_new name 1 content.rows)
-    (copy-row_or_new name 1 content.rows)))
-    content.regs all
-
-not_both : (b : Bool) → not (b && true) ≡ true → b ≡ false
-not_both true e = absurd (false≢true e)
-not_both false e = refl
+-- a row is replaced by one of the same copy
+same_fresh : (content : Content) (copies : Copies) (name : Name16) (row : CacheItem) → row.name ≡ name
+    → row_copy row ≡ copy_in content.rows name → AllFresh content copies
+    → Each (Fresh (rows_replaced row content.rows) copies) content.regs
+same_fresh content copies name row named same all =
+    each_weaker _ _ (λ reg fresh. fresh ∙ sym (copy-same _ _ _ _ named same)) _ all
 
 delete_fresh : (content : Content) (copies : Copies) (name : Name16) → AllFresh content copies
     → AllFresh (delete.after content name) copies
 delete_fresh content copies name all =
-    each_filter (Fresh content.rows copies) (Fresh (rows_without name content.rows) copies)
-    (λ reg. not (ends_with_name name None reg))
-    (λ reg e fresh. fresh
-    ∙ sym (ap (λ o. option_and_then row_copy o)
-    (other_found reg.name name content.rows (same_name-sym name reg.name ∙ not_both (same_name reg.name name) e))))
-    content.regs all
+    each_filter _ _ _ (λ reg e fresh. fresh ∙ sym (grind (arith, other_found, same_name-sym, not_both))) _ all
 
-released_step : (conn : ConnId) (row : CacheItem) (b : Bool) (x y : Option CacheItem) → option_and_then row_copy x ≡
-    option_and_then row_copy y
-    → option_and_then row_copy (cond b (Some (without_hold conn row)) x) ≡ option_and_then row_copy
-    (cond b (Some row) y)
+released_step : (conn : ConnId) (row : CacheItem) (b : Bool) (x y : Option CacheItem)
+    → option_and_then row_copy x ≡ option_and_then row_copy y → option_and_then
+    row_copy (cond b (Some (without_hold conn row)) x) ≡ option_and_then row_copy (cond b (Some row) y)
 released_step conn row true x y e = refl
 released_step conn row false x y e = e
 
@@ -258,9 +208,7 @@ copy-released conn name (row ∷ rows) = grind (arith, released_step, copy-relea
 leave_fresh : (content : Content) (copies : Copies) (conn : ConnId) → AllFresh content copies
     → AllFresh (content_without conn content) copies
 leave_fresh content copies conn all =
-    each_filter (Fresh content.rows copies) (Fresh (map (without_hold conn) content.rows) copies)
-    (λ reg. not (is_of conn reg))
-    (λ reg e fresh. fresh ∙ sym (copy-released conn reg.name content.rows)) content.regs all
+    each_filter _ _ _ (λ reg e fresh. fresh ∙ sym (copy-released conn reg.name content.rows)) _ all
 
 -- ---- every command
 
@@ -274,20 +222,16 @@ after_fresh caps content copies by (Write name index body class adj old stg when
     write_fresh (victims caps content.rows (Write name index body class adj old stg when_reg)) content copies by name
     index body class adj stg all
 after_fresh caps content copies by (CrossInval name) is all = grind (arith, each_filter)
-after_fresh caps content copies by RegList is all = all
-after_fresh caps content copies by (Castout name) is all = castout_fresh content copies by name all
-after_fresh caps content copies by (Unlock name) is all = unlock_fresh content copies name all
-after_fresh caps content copies by (CoClass class) is all = all
-after_fresh caps content copies by CoStats is all = all
-after_fresh caps content copies by (DirInfo name) is all = all
+after_fresh caps content copies by (Castout name) is all = same_fresh content copies name (castout.row_with_hold by
+    (row_or_new name 1 content.rows)) (name-row_or_new name 1 content.rows) (copy-row_or_new name 1 content.rows) all
+after_fresh caps content copies by (Unlock name) is all = same_fresh content copies name (unlock.row_without_hold
+    (row_or_new name 1 content.rows)) (name-row_or_new name 1 content.rows) (copy-row_or_new name 1 content.rows) all
 after_fresh caps content copies by (Delete name) is all = delete_fresh content copies name all
-after_fresh caps content copies by (StgStats stg) is all = all
+after_fresh caps content copies by _ is all = all
 
 unless_fresh : (caps : Caps) (content : Content) (copies : Copies) (by : ConnId) (cmd : CacheCmd)
-    (refusal : Option Refusal) → IsDirectory content.rows
-    → AllFresh content copies
-    → AllFresh (unless_refused refusal content (done caps content by cmd)).state (copies_unless refusal content by cmd
-    copies)
+    (refusal : Option Refusal) → IsDirectory content.rows → AllFresh content copies → AllFresh
+    (unless_refused refusal content (done caps content by cmd)).state (copies_unless refusal content by cmd copies)
 unless_fresh caps content copies by cmd None is all = after_fresh caps content copies by cmd is all
 unless_fresh caps content copies by cmd (Some refusal) is all = all
 
@@ -295,8 +239,7 @@ unless_fresh caps content copies by cmd (Some refusal) is all = all
 pub deed-fresh : (vector : ℕ) (caps : Caps) (content : Content) (copies : Copies) (deed : Deed)
     → IsDirectory content.rows → AllFresh content copies
     → AllFresh (after_deed vector caps content deed) (copies_after vector caps content copies deed)
-deed-fresh vector caps content copies (Calls by cmd) is all = unless_fresh caps content copies by cmd
-    (cause vector caps content by cmd) is all
+deed-fresh vector caps content copies (Calls by cmd) is all = unless_fresh _ _ _ _ _ _ is all
 deed-fresh vector caps content copies (Leaves conn) is all = leave_fresh content copies conn all
 deed-fresh vector caps content copies Forgets is all = tt
 
@@ -323,9 +266,8 @@ run_fresh vector caps content copies (deed ∷ deeds) is all =
     (content-deed vector caps content deed is) (deed-fresh vector caps content copies deed is.directory all)
 
 fresh_step : (rows : List CacheItem) (copies : Copies) (conn : ConnId) (index : ℕ) (name : Name16)
-    (reg : Registration) (regs : List Registration) (b : Bool)
-    → is_at conn index reg ≡ b → Fresh rows copies reg → (registered_at regs conn index ≡ Some name
-    → copies conn index ≡ copy_in rows name)
+    (reg : Registration) (regs : List Registration) (b : Bool) → is_at conn index reg ≡ b
+    → Fresh rows copies reg → (registered_at regs conn index ≡ Some name → copies conn index ≡ copy_in rows name)
     → option_map (λ (r : Registration). r.name) (cond b (Some reg) (find (is_at conn index) regs)) ≡ Some name
     → copies conn index ≡ copy_in rows name
 fresh_step rows copies conn index name reg regs true e fresh h k = grind (arith, and_parts, eqb-true)
@@ -342,13 +284,7 @@ fresh-at rows copies conn index name (reg ∷ regs) all h =
 -- A valid bit: after every run from the empty content, what a connector has a copy of at an index where it is
 -- registered for a name is what the name's row has
 pub fresh-copy : (vector : ℕ) (caps : Caps) (copies : Copies) (deeds : List Deed) (conn : ConnId) (index : ℕ)
-    (name : Name16)
-    → registered_at (after_run vector caps no_content deeds).regs conn index ≡ Some name
-    → copies_run vector caps no_content copies deeds conn index
-    ≡ copy_in (after_run vector caps no_content deeds).rows name
+    (name : Name16) → registered_at (after_run vector caps no_content deeds).regs conn index ≡ Some name → copies_run
+    vector caps no_content copies deeds conn index ≡ copy_in (after_run vector caps no_content deeds).rows name
 fresh-copy vector caps copies deeds conn index name h =
-    fresh-at (after_run vector caps no_content deeds).rows
-    (copies_run vector caps no_content copies deeds) conn index name
-    (after_run vector caps no_content deeds).regs (run_fresh vector caps no_content copies deeds
-    (content-nothing caps) tt)
-    h
+    fresh-at _ _ _ _ _ _ (run_fresh vector caps no_content copies deeds (content-nothing caps) tt) h

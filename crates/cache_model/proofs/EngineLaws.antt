@@ -1,5 +1,5 @@
 -- The laws of the engine's meaning.
-use Rattle.cache_model.proofs.Imports.{◌≡◌, ◌+◌, ◌-◌, ◌≤◌, Bool, IsTrue, true, false, not, ◌&&◌, List, [], ◌∷◌, ◌++◌, append-nil, append_assoc, Option, None, Some, length, length-append, filter, take, drop, slice_get, fold, ◌⊎◌, ⊎_elim, refl, sym, ap, subst, ◌∙◌, arith, list_all, and_parts, or_from, or_left, or_cases, not-true, false≢true, same_name, Name16, filter_all, list_all_weaker, list_all_both, list_all-filter, list_all-filter_same, split_next, length-map, take_all, take_at, take-append-drop, drop_all, slice_get_cases, list_all-append, list_any-append, sum_by-append, is_cache, Caps, Kind, ConnId, Shape, Fits, IsNoMore, IsNoMoreOf, FrontLaws, fronts, pairwise, pairwise_front, Registration, regs_for_others, same_name-eq, same_name-sym, registry-filter, CacheItem, elements_in, has_row, names_apart, Content, IsContent, no_content, content_without, content_forgotten, content_with, content_without_last, regs_without_row, need_of, cache_meaning}
+use Rattle.cache_model.proofs.Imports.{◌≡◌, ◌+◌, ◌-◌, ◌≤◌, Bool, IsTrue, true, false, not, ◌&&◌, List, [], ◌∷◌, ◌++◌, append-nil, append_assoc, Option, None, Some, length, length-append, filter, take, drop, slice_get, fold, ◌⊎◌, ⊎_elim, refl, sym, ap, ◌∙◌, arith, list_all, and_parts, or_from, or_left, or_cases, not-true, false≢true, same_name, Name16, filter_all, list_all_weaker, list_all_both, list_all-filter, list_all-filter_same, split_next, length-map, take_all, take_at, take-append-drop, drop_all, slice_get_cases, list_all-append, list_any-append, sum_by-append, is_cache, Caps, Kind, ConnId, Shape, Fits, IsNoMore, IsNoMoreOf, FrontLaws, fronts, pairwise, pairwise_front, Registration, regs_for_others, same_name-eq, same_name-sym, registry-filter, CacheItem, has_row, names_apart, Content, IsContent, no_content, content_without, content_forgotten, content_with, content_without_last, regs_without_row, need_of, cache_meaning}
 use Rattle.cf_types.specs.declared.forms.Kind.TheVariants as kind
 use Rattle.cache_model.proofs.RowLaws.{size, elements-without_hold}
 use Rattle.cache_model.proofs.ContentLaws as laws
@@ -40,22 +40,17 @@ fits_both kind.Cache need caps is fits = fits
 fits_both (kind.List headers locks refs) need caps is fits = absurd cc
 fits_both kind.Lock need caps is fits = absurd cc
 
-pub content-moved : (shape : Shape) (caps other : Caps) (content : Content) → IsTrue (is_cache shape.kind)
-    → IsContent caps content → Fits shape.kind (need_of content.rows) other
-    → IsContent other (content_forgotten content)
+pub content-moved : (shape : Shape) (caps other : Caps) (content : Content) → IsTrue (is_cache shape.kind) → IsContent
+    caps content → Fits shape.kind (need_of content.rows) other → IsContent other (content_forgotten content)
 content-moved shape caps other content kind is fits = grind (arith, fits_both)
 
 -- ---- a front of the rows
 
-sum_front : (rows others : List CacheItem) → elements_in rows ≤ elements_in (rows ++ others)
-sum_front rows others = omega (arith, sum_by-append size rows others)
-
 -- the first rows of a content, with no registrations, are a content
-pub content-front : (caps : Caps) (whole : Content) (rows others : List CacheItem) → IsContent caps whole
-    → whole.rows ≡ rows ++ others
-    → IsContent caps (record { rows = rows; regs = [] })
+pub content-front : (caps : Caps) (whole : Content) (rows others : List CacheItem)
+    → IsContent caps whole → whole.rows ≡ rows ++ others → IsContent caps (record { rows = rows; regs = [] })
 content-front caps whole rows others is e =
-    grind (arith, pairwise_front, and_parts, list_all-append, length-append, sum_front)
+    grind (arith, pairwise_front, and_parts, list_all-append, length-append, sum_by-append, size)
 
 -- one more of the rows of a content has a name of its own
 pub alone-next : (rows others : List CacheItem) (item : CacheItem) → pairwise names_apart (rows ++ item ∷ others) ≡
@@ -75,8 +70,7 @@ pub content-next : (caps : Caps) (content whole : Content) (item : CacheItem) (o
     → IsContent caps content → IsContent caps whole
     → whole.rows ≡ content.rows ++ item ∷ others → IsContent caps (content_with content item)
 content-next caps content whole item others is all e =
-    let front = content-front caps whole (content.rows ++ item ∷ []) others all
-    (e ∙ sym (append_assoc content.rows (item ∷ []) others)) in
+    let front = content-front _ _ _ _ all (e ∙ sym (append_assoc content.rows (item ∷ []) others)) in
     record {
       directory = front.directory;
       entries = front.entries;
@@ -93,9 +87,8 @@ row_in_front : (row : CacheItem) (front : List CacheItem) (reg : Registration)
 row_in_front row front reg h = grind (arith, and_parts, or_cases, list_any-append, false≢true, same_name-sym, or_from)
 
 -- the last row of a content goes, with its registrations
-without_last : (caps : Caps) (content : Content) → IsContent caps content → (row : Option CacheItem)
-    → slice_get content.rows (length content.rows - 1) ≡ row
-    → IsContent caps (record {
+without_last : (caps : Caps) (content : Content) → IsContent caps content
+    → (row : Option CacheItem) → slice_get content.rows (length content.rows - 1) ≡ row → IsContent caps (record {
       rows = take (length content.rows - 1) content.rows;
       regs = regs_without_row row content.regs;
     })
@@ -105,8 +98,7 @@ without_last caps content is (Some row) at =
     let rows = content.rows in
     let last = length rows - 1 in
     let front = content-front caps content (take last rows) (drop last rows) is (sym (take-append-drop last rows)) in
-    let split : rows ≡ take last rows ++ row ∷ [] =
-    split_next rows last row at
+    let split : rows ≡ take last rows ++ row ∷ [] = split_next rows last row at
     ∙ ap (λ (l : List CacheItem). take last rows ++ row ∷ l) (drop_all (last + 1) rows (omega arith)) in
     let others = λ (reg : Registration). not (same_name reg.name row.name) in
     record {
@@ -116,11 +108,8 @@ without_last caps content is (Some row) at =
       registry = registry-filter others content.regs is.registry;
       row_each = list_all_weaker (λ reg. has_row reg.name (take last rows ++ row ∷ []) && others reg)
           (λ reg. has_row reg.name (take last rows)) (row_in_front row (take last rows))
-          (filter others content.regs)
-          (list_all_both (λ reg. has_row reg.name (take last rows ++ row ∷ [])) others (filter others content.regs)
-          (list_all-filter (λ reg. has_row reg.name (take last rows ++ row ∷ [])) others content.regs
-          (subst (λ (l : List CacheItem). list_all (λ reg. has_row reg.name l) content.regs ≡ true) split is.row_each))
-          (list_all-filter_same others content.regs));
+          (filter others content.regs) (list_all_both (λ reg. has_row reg.name (take last rows ++ row ∷ [])) others
+          (filter others content.regs) (grind (arith, list_all-filter)) (list_all-filter_same others content.regs));
     }
 
 pub content-without_last : (caps : Caps) (content : Content) → IsContent caps content
@@ -133,16 +122,14 @@ last_of [] item = refl
 last_of (row ∷ rows) item = last_of rows item
 
 -- nobody is registered for a name that has no row
-no_regs_for : (name : Name16) (content : Content) → has_row name content.rows ≡ false
-    → list_all (λ reg. has_row reg.name content.rows) content.regs ≡ true
-    → regs_for_others name content.regs ≡ content.regs
+no_regs_for : (name : Name16) (content : Content) → has_row name content.rows ≡ false → list_all
+    (λ reg. has_row reg.name content.rows) content.regs ≡ true → regs_for_others name content.regs ≡ content.regs
 no_regs_for name content none each = grind (arith, filter_all, list_all_weaker, apart)
   where
     apart : (reg : Registration) (named : Bool) → same_name reg.name name ≡ named
         → has_row reg.name content.rows ≡ true → not (same_name reg.name name) ≡ true
-    apart reg true is there =
-        absurd (false≢true (sym none ∙ ap (λ (n : Name16). has_row n content.rows)
-        (sym (same_name-eq reg.name name is)) ∙ there))
+    apart reg true is there = absurd (false≢true
+        (sym none ∙ ap (λ (n : Name16). has_row n content.rows) (sym (same_name-eq reg.name name is)) ∙ there))
     apart reg false is there = ap not is
 
 -- the next row of a content goes again as it came
@@ -155,16 +142,12 @@ unplace-place caps content whole item others is all split =
 -- ---- what the first rows make
 
 pub cache-fronts : FrontLaws cache_meaning is_cache (λ shape caps content. IsContent caps content)
-cache-fronts =
-    fronts cache_meaning is_cache (λ shape caps content. IsContent caps content)
-    (record {
-      content_empty = λ shape caps. content-nothing caps;
-      items_empty = λ shape. refl;
-      made_again = λ shape caps content is. made-items content.rows;
-      content_moved = content-moved;
-      content_place = λ shape caps content item is next.
-          content-next caps content next.whole item next.others is next.content next.first;
-      items_place = λ shape caps content item is next. refl;
-      unplace_place = λ shape caps content item is next.
-          unplace-place caps content next.whole item next.others is next.content next.first;
-    })
+cache-fronts = fronts _ _ (λ shape caps content. IsContent caps content) (record {
+  content_empty = λ shape caps. content-nothing _;
+  items_empty = λ shape. refl;
+  made_again = λ shape caps content is. made-items _;
+  content_moved = content-moved;
+  content_place = λ shape caps content item is next. content-next _ _ _ _ _ is next.content next.first;
+  items_place = λ shape caps content item is next. refl;
+  unplace_place = λ shape caps content item is next. unplace-place _ _ _ _ _ is next.content next.first;
+})

@@ -13,40 +13,29 @@ order_found : (request : Request) (rows : List CacheItem) → IsDirectory rows �
     rows
 order_found request rows is =
     let reclaimable = filter (is_reclaimable request.name) rows in
-    let first : OnesFound (filter (has_storage request.stg) reclaimable) rows =
-    subst (λ (l : List CacheItem). OnesFound l rows) (sym (filter-filter (has_storage request.stg)
-    (is_reclaimable request.name) rows))
-    (found_filter name_of same_name same_name-eq same_name-refl (λ row. is_reclaimable request.name row
-    && has_storage request.stg row) rows is.one_for_name) in
-    let others : OnesFound (filter (λ row. not (has_storage request.stg row)) reclaimable) rows =
-    subst (λ (l : List CacheItem). OnesFound l rows) (sym (filter-filter (λ row. not (has_storage request.stg row))
-    (is_reclaimable request.name) rows))
-    (found_filter name_of same_name same_name-eq same_name-refl (λ row. is_reclaimable request.name row
-    && not (has_storage request.stg row)) rows is.one_for_name) in
-    found_append name_of same_name same_name-eq same_name-refl (filter (has_storage request.stg) reclaimable)
+    let first = subst (λ l. OnesFound l rows) (sym (filter-filter (has_storage request.stg) (is_reclaimable
+    request.name) rows)) (found_filter name_of same_name same_name-eq same_name-refl _ rows is.one_for_name) in
+    let others = subst (λ l. OnesFound l rows)
+    (sym (filter-filter (λ row. not (has_storage request.stg row)) (is_reclaimable request.name) rows))
+    (found_filter name_of same_name same_name-eq same_name-refl _ rows is.one_for_name) in
+    found_append name_of same_name same_name-eq same_name-refl _
     (filter (λ row. not (has_storage request.stg row)) reclaimable) rows first others
 
 order_apart : (request : Request) (rows : List CacheItem) → IsDirectory rows → pairwise names_apart
     (reclaim_order request rows) ≡ true
-order_apart request rows is =
-    pairwise_split names_apart (apart_sym name_of same_name same_name-eq same_name-refl) (has_storage request.stg)
-    (filter (is_reclaimable request.name) rows) (pairwise-filter names_apart (is_reclaimable request.name) rows
-    is.one_for_name)
+order_apart request rows is = pairwise_split names_apart (apart_sym name_of same_name same_name-eq same_name-refl)
+    (has_storage request.stg) (filter (is_reclaimable request.name) rows) (grind (arith, pairwise-filter))
 
 -- what holds of all reclaimable rows holds of the order
-order_all : (p : CacheItem → Bool) (request : Request) (rows : List CacheItem)
-    → ((row : CacheItem) → is_reclaimable request.name row ≡ true → p row ≡ true)
-    → list_all p (reclaim_order request rows) ≡ true
+order_all : (p : CacheItem → Bool) (request : Request) (rows : List CacheItem) → ((row : CacheItem)
+    → is_reclaimable request.name row ≡ true → p row ≡ true) → list_all p (reclaim_order request rows) ≡ true
 order_all p request rows h =
     let reclaimable = filter (is_reclaimable request.name) rows in
     let each = list_all_weaker (is_reclaimable request.name) p h reclaimable
     (list_all-filter_same (is_reclaimable request.name) rows) in
-    list_all-append p (filter (has_storage request.stg) reclaimable)
-    (filter (λ row. not (has_storage request.stg row)) reclaimable)
-    ∙ and_from (list_all p (filter (has_storage request.stg) reclaimable))
-    (list_all p (filter (λ row. not (has_storage request.stg row)) reclaimable))
-    (list_all-filter p (has_storage request.stg) reclaimable each)
-    (list_all-filter p (λ row. not (has_storage request.stg row)) reclaimable each)
+    list_all-append p _ _ ∙ and_from (list_all p (filter (has_storage request.stg) reclaimable)) (list_all
+    p (filter (λ row. not (has_storage request.stg row)) reclaimable)) (list_all-filter p (has_storage request.stg)
+    reclaimable each) (list_all-filter p (λ row. not (has_storage request.stg row)) reclaimable each)
 
 -- the rows that go are apart, each is the one of its name, and none has the command's name
 pub record Goes (caps : Caps) (request : Request) (rows : List CacheItem) : Type 0 where
@@ -56,34 +45,29 @@ pub record Goes (caps : Caps) (request : Request) (rows : List CacheItem) : Type
   pub unchanged : list_all (λ row. not (is_changed row)) (gone caps request rows) ≡ true
 
 pub goes : (caps : Caps) (request : Request) (rows : List CacheItem) → IsDirectory rows → Goes caps request rows
-goes caps request rows is =
-    record {
-      found = found_prefix name_of same_name same_name-eq same_name-refl (has_room caps request rows)
-          (reclaim_order request rows) rows
-          (order_found request rows is);
-      apart = pairwise-shortest_prefix names_apart (has_room caps request rows) (reclaim_order request rows)
-          (order_apart request rows is);
-      other = grind (arith, list_all-shortest_prefix, order_all, and_parts);
-      unchanged = grind (arith, list_all-shortest_prefix, order_all, and_parts);
-    }
+goes caps request rows is = record {
+  found = found_prefix name_of same_name same_name-eq same_name-refl
+      (has_room caps request rows) (reclaim_order request rows) rows (order_found request rows is);
+  apart = pairwise-shortest_prefix names_apart (has_room caps request rows) (reclaim_order request rows)
+      (order_apart request rows is);
+  other = grind (arith, list_all-shortest_prefix, order_all, and_parts);
+  unchanged = grind (arith, list_all-shortest_prefix, order_all, and_parts);
+}
 
 -- the command's name isn't among them
 pub request_spared : (caps : Caps) (request : Request) (rows : List CacheItem) → IsDirectory rows
     → is_among (victims caps request rows) request.name ≡ false
-request_spared caps request rows is =
-    list_any-map (λ other. same_name other request.name) name_of (gone caps request rows)
-    ∙ none_from_all (is_row_of request.name) (gone caps request rows) (goes caps request rows is).other
+request_spared caps request rows is = list_any-map (λ other. same_name other request.name) name_of
+    (gone caps request rows) ∙ none_from_all (is_row_of request.name) (gone caps request rows) (goes _ _ _ is).other
 
 pub length-spared : (caps : Caps) (request : Request) (rows : List CacheItem) → IsDirectory rows
     → length (rows_spared (victims caps request rows) rows) + length (gone caps request rows) ≡ length rows
 length-spared caps request rows is =
     let g = goes caps request rows is in
-    length_spared name_of same_name same_name-eq same_name-refl (gone caps request rows) rows is.one_for_name g.apart
-    g.found
+    length_spared name_of same_name same_name-eq same_name-refl _ rows is.one_for_name g.apart g.found
 
-pub elements-spared : (caps : Caps) (request : Request) (rows : List CacheItem) → IsDirectory rows
-    → elements_in (rows_spared (victims caps request rows) rows) + elements_in (gone caps request rows) ≡ elements_in
-    rows
+pub elements-spared : (caps : Caps) (request : Request) (rows : List CacheItem) → IsDirectory rows → elements_in
+    (rows_spared (victims caps request rows) rows) + elements_in (gone caps request rows) ≡ elements_in rows
 elements-spared caps request rows is =
     let g = goes caps request rows is in
     sum_by_spared name_of same_name same_name-eq same_name-refl size (gone caps request rows) rows is.one_for_name
@@ -100,9 +84,8 @@ has_row-spared name names rows h = grind (arith, any_is_found, row_of-spared)
 
 -- ---- room
 
-room_step : (place : Bool) (need free entries : ℕ) → cond place (elements_refusal need free)
-    (Some (DirectoryFull entries)) ≡ None
-    → place && nat_le need free ≡ true
+room_step : (place : Bool) (need free entries : ℕ)
+    → cond place (elements_refusal need free) (Some (DirectoryFull entries)) ≡ None → place && nat_le need free ≡ true
 room_step true need free entries h = grind arith
 room_step false need free entries h = absurd (cc)
 

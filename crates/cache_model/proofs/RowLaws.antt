@@ -21,9 +21,8 @@ stop_test true true n m e h f = f h
 stop_test true false n m e h f = refl
 stop_test false b n m e h f = absurd (false≢true e)
 
-follows_test : (a b c n m k : Bool) → a ≡ true → (n ≡ true → m ≡ true → k ≡ true) → cond a (cond b n true) (not b) ≡
-    true
-    → cond b (cond c m true) (not c) ≡ true → cond a (cond c k true) (not c) ≡ true
+follows_test : (a b c n m k : Bool) → a ≡ true → (n ≡ true → m ≡ true → k ≡ true) → cond a
+    (cond b n true) (not b) ≡ true → cond b (cond c m true) (not c) ≡ true → cond a (cond c k true) (not c) ≡ true
 follows_test true true true n m k e f h g = f h g
 follows_test true false true n m k e f h g = absurd (false≢true g)
 follows_test true b false n m k e f h g = refl
@@ -45,31 +44,25 @@ others_apart name rows = list_all-filter_same (λ row. not (is_row_of name row))
 
 both_ways : (row other : CacheItem) → not (same_name other.name row.name) ≡ true → names_apart row other
     && names_apart other row ≡ true
-both_ways row other h =
-    and_from (names_apart row other) (names_apart other row) (ap not (same_name-sym row.name other.name) ∙ h) h
+both_ways row other h = grind (arith, and_from, same_name-sym)
 
 ordered_with : (b : Bool) (row : CacheItem) (rest : List CacheItem) → is_changed row ≡ b
     → list_all (λ other. not (same_name other.name row.name)) rest ≡ true → pairwise may_precede rest ≡ true
     → pairwise may_precede (cond b (insertion (stands_before row) row rest) (rest ++ row ∷ [])) ≡ true
-ordered_with true row rest e h o =
-    pairwise-insertion may_precede (stands_before row) (λ other. not (same_name other.name row.name)) row rest
-    (finds_place row e) h o
+ordered_with true row rest e h o = pairwise-insertion may_precede
+    (stands_before row) (λ other. not (same_name other.name row.name)) row rest (finds_place row e) h o
 ordered_with false row rest e h o = grind (arith, pairwise_push, list_all_always, last_test)
 
 apart_with : (b : Bool) (row : CacheItem) (rest : List CacheItem)
-    → list_all (λ other. names_apart row other && names_apart other row) rest ≡ true → pairwise names_apart rest ≡
-    true
-    → pairwise names_apart (cond b (insertion (stands_before row) row rest) (rest ++ row ∷ [])) ≡ true
+    → list_all (λ other. names_apart row other && names_apart other row) rest ≡ true → pairwise names_apart
+    rest ≡ true → pairwise names_apart (cond b (insertion (stands_before row) row rest) (rest ++ row ∷ [])) ≡ true
 apart_with true row rest h o = pairwise-insertion_any names_apart (stands_before row) row rest o h
 apart_with false row rest h o = grind (arith, pairwise_push, list_all_weaker, and_parts)
 
 all_with : (p : CacheItem → Bool) (b : Bool) (row : CacheItem) (rest : List CacheItem) → p row ≡ true
-    → list_all p rest ≡ true
-    → list_all p (cond b (insertion (stands_before row) row rest) (rest ++ row ∷ [])) ≡ true
-all_with p true row rest e h = list_all-insertion p (stands_before row) row rest ∙ and_from (p row) (list_all p rest)
-    e h
-all_with p false row rest e h =
-    list_all-append p rest (row ∷ []) ∙ and_from (list_all p rest) (p row && true) h (and_from (p row) true e refl)
+    → list_all p rest ≡ true → list_all p (cond b (insertion (stands_before row) row rest) (rest ++ row ∷ [])) ≡ true
+all_with p true row rest e h = grind (arith, list_all-insertion, and_from)
+all_with p false row rest e h = grind (arith, list_all-append, and_from)
 
 pub directory-filter : (q : CacheItem → Bool) (rows : List CacheItem) → IsDirectory rows → IsDirectory (filter q rows)
 directory-filter q rows is = grind (arith, pairwise-filter, list_all-filter)
@@ -97,9 +90,8 @@ pub length-replaced : (row : CacheItem) (rows : List CacheItem) → length (rows
     (rows_without row.name rows) + 1
 length-replaced row rows = length_with (is_changed row) row (rows_without row.name rows)
 
-elements_with : (b : Bool) (row : CacheItem) (rest : List CacheItem)
-    → elements_in (cond b (insertion (stands_before row) row rest) (rest ++ row ∷ [])) ≡ elements_of row.body +
-    elements_in rest
+elements_with : (b : Bool) (row : CacheItem) (rest : List CacheItem) → elements_in
+    (cond b (insertion (stands_before row) row rest) (rest ++ row ∷ [])) ≡ elements_of row.body + elements_in rest
 elements_with true row rest = sum_by-insertion size (stands_before row) row rest
 elements_with false row rest = omega (arith, sum_by_push size rest row)
 
@@ -108,14 +100,12 @@ pub elements-replaced : (row : CacheItem) (rows : List CacheItem)
 elements-replaced row rows = elements_with (is_changed row) row (rows_without row.name rows)
 
 pub elements-without : (name : Name16) (rows : List CacheItem) (row : CacheItem) → IsDirectory rows
-    → row_of name rows ≡ Some row
-    → elements_in (rows_without name rows) + elements_of row.body ≡ elements_in rows
+    → row_of name rows ≡ Some row → elements_in (rows_without name rows) + elements_of row.body ≡ elements_in rows
 elements-without name rows row is h = sum_by_without name_of same_name same_name-eq same_name-refl size name rows row
     is.one_for_name h
 
-pub length-without : (name : Name16) (rows : List CacheItem) (row : CacheItem) → IsDirectory rows
-    → row_of name rows ≡ Some row
-    → length (rows_without name rows) + 1 ≡ length rows
+pub length-without : (name : Name16) (rows : List CacheItem) (row : CacheItem)
+    → IsDirectory rows → row_of name rows ≡ Some row → length (rows_without name rows) + 1 ≡ length rows
 length-without name rows row is h = length_without name_of same_name same_name-eq same_name-refl name rows row
     is.one_for_name h
 
@@ -142,9 +132,8 @@ has_row_stays name row rows h = has_row-replaced name row rows ∙ go (same_name
   where
     kept : same_name row.name name ≡ false → (other : CacheItem) → is_row_of name other ≡ true
         → not (is_row_of row.name other) ≡ true
-    kept e other k =
-        ap not (subst (λ (n : Name16). same_name n row.name ≡ false) (sym (same_name-eq other.name name k))
-        (same_name-sym name row.name ∙ e))
+    kept e other k = ap not (subst (λ (n : Name16). same_name n row.name ≡ false)
+        (sym (same_name-eq other.name name k)) (same_name-sym name row.name ∙ e))
 
     go : (b : Bool) → same_name row.name name ≡ b → b || has_row name (rows_without row.name rows) ≡ true
     go true e = refl
@@ -163,28 +152,24 @@ or_new_name name stg (Some row) h = h row refl
 pub name-row_or_new : (name : Name16) (stg : ℕ) (rows : List CacheItem) → (row_or_new name stg rows).name ≡ name
 name-row_or_new name stg rows = grind (arith, or_new_name, same_name-eq, found_passes)
 
-or_new_sound : (name : Name16) (stg : ℕ) (o : Option CacheItem) → ((row : CacheItem) → o ≡ Some row
-    → is_sound row ≡ true)
-    → is_sound (unwrap_or o (new_row name stg)) ≡ true
+or_new_sound : (name : Name16) (stg : ℕ) (o : Option CacheItem)
+    → ((row : CacheItem) → o ≡ Some row → is_sound row ≡ true) → is_sound (unwrap_or o (new_row name stg)) ≡ true
 or_new_sound name stg None h = refl
 or_new_sound name stg (Some row) h = h row refl
 
 pub sound-row_or_new : (name : Name16) (stg : ℕ) (rows : List CacheItem) → IsDirectory rows
     → is_sound (row_or_new name stg rows) ≡ true
-sound-row_or_new name stg rows is =
-    or_new_sound name stg (row_of name rows) (λ row h. all_found (is_row_of name) is_sound rows row is.sound h)
+sound-row_or_new name stg rows is = grind (arith, or_new_sound, all_found)
 
-pub or_new_size : (name : Name16) (stg rest all : ℕ) (o : Option CacheItem) → rest ≤ all
-    → ((row : CacheItem) → o ≡ Some row → rest + elements_of row.body ≡ all)
-    → elements_of (unwrap_or o (new_row name stg)).body + rest ≤ all
+pub or_new_size : (name : Name16) (stg rest all : ℕ) (o : Option CacheItem) → rest ≤ all → ((row : CacheItem) →
+    o ≡ Some row → rest + elements_of row.body ≡ all) → elements_of (unwrap_or o (new_row name stg)).body + rest ≤ all
 or_new_size name stg rest all None le h = omega arith
 or_new_size name stg rest all (Some row) le h = omega (arith, h row refl)
 
 -- ---- a connector lets go
 
-hold_sound : (conn : ConnId) (row : CacheItem) (b : Bool) (c : Bool) → (is_none row.holder || c)
-    && (not c || is_some row.body) ≡ true
-    → (is_none (cond b None row.holder) || c) && (not c || is_some row.body) ≡ true
+hold_sound : (conn : ConnId) (row : CacheItem) (b : Bool) (c : Bool) → (is_none row.holder || c) &&
+    (not c || is_some row.body) ≡ true → (is_none (cond b None row.holder) || c) && (not c || is_some row.body) ≡ true
 hold_sound conn row true c h = grind (arith, and_parts)
 hold_sound conn row false c h = h
 
@@ -195,8 +180,7 @@ directory-without_hold conn rows is = grind (arith, pairwise-map, list_all-map, 
 pub has_row-without_hold : (conn : ConnId) (name : Name16) (rows : List CacheItem)
     → has_row name (map (without_hold conn) rows) ≡ has_row name rows
 has_row-without_hold conn name [] = refl
-has_row-without_hold conn name (row ∷ rows) = ap (λ b. same_name row.name name || b)
-    (has_row-without_hold conn name rows)
+has_row-without_hold conn name (row ∷ rows) = grind (arith, has_row-without_hold conn name rows)
 
 pub elements-without_hold : (conn : ConnId) (rows : List CacheItem) → elements_in (map (without_hold conn) rows) ≡
     elements_in rows
@@ -206,14 +190,11 @@ elements-without_hold conn rows = fold-map (λ n row. n + elements_of row.body) 
 
 alone_apart : (row : CacheItem) (rows : List CacheItem) → has_row row.name rows ≡ false
     → list_all (λ other. names_apart row other && names_apart other row) rows ≡ true
-alone_apart row rows h =
-    list_all_weaker (λ other. not (same_name other.name row.name)) (λ other. names_apart row other
-    && names_apart other row) (both_ways row) rows
-    (all_from_none (is_row_of row.name) rows h)
+alone_apart row rows h = list_all_weaker (λ other. not (same_name other.name row.name)) (λ other. names_apart row
+    other && names_apart other row) (both_ways row) rows (all_from_none (is_row_of row.name) rows h)
 
 pub apart-with : (row : CacheItem) (rows : List CacheItem) → pairwise names_apart rows ≡ true
-    → has_row row.name rows ≡ false
-    → pairwise names_apart (rows_with row rows) ≡ true
+    → has_row row.name rows ≡ false → pairwise names_apart (rows_with row rows) ≡ true
 apart-with row rows u h = apart_with (is_changed row) row rows (alone_apart row rows h) u
 
 -- ---- the row of a name is taken out, changed and put back

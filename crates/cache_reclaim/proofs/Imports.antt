@@ -1,22 +1,11 @@
 -- What proofs here name of other crates, and of this one's definitions. Declares nothing.
+pub use Rattle.cf_types.proofs.Imports.{false≢true, eqb-true, eq-eqb, count_from_yields_List, YieldsList-from_filter_map, YieldsList-from_shown, nth_from_yields_List, reverse-append, length-append, length-reverse, take_all, filter_map-append, filter-append, list_any-IsPermutation, IsPermutation-reverse, none_past_head, lookup_from_place, slice_get-get_or, nat_eq_equiv, pointwise, nat_list_eq_equiv, bytes_decides, cons_option, filter_map, keys_of, lookup, lookup_entry, remove_entry, same_name}
+unfoldable pub use Rattle.cf_types.proofs.Imports.{IsDistinct}
 pub use Rattle.std.proofs.Common.{◌≡◌, ℕ, ◌+◌, ◌<◌, suc, zero, ◌++◌, slice_get, List, [], ◌∷◌, length, ap, refl, arith, Bool, true, false, nat_eq, cond, None, Some, sym, ◌∙◌, subst, append_assoc, append-nil, ◌≢◌, ◌-◌, ◌≤◌, Option, option_map, reverse, not, filter, get_or, IsSome, Result, Ok, Err, OnOk, IsOk, is_some, rules, Bor}
-pub use Rattle.std.proofs.lemmas.Bool.{false≢true, eqb-true, eq-eqb}
-pub use Rattle.std.proofs.lemmas.Iterator.Consumers.{count_from_yields_List, YieldsList-from_filter_map, YieldsList-from_shown, nth_from_yields_List}
-pub use Rattle.std.proofs.lemmas.List.{reverse-append, length-append, length-reverse, take_all}
-pub use Rattle.std.proofs.lemmas.List.Elements.{filter_map-append, filter-append}
-pub use Rattle.std.proofs.lemmas.List.Sorted.{list_any-IsPermutation, IsPermutation-reverse}
 pub use Rattle.std.proofs.lemmas.Map.{NonePasses, lookup-remove_entry, lookup-none}
-pub use Rattle.std.proofs.lemmas.Map.Entries.{none_past_head, lookup_from_place}
-pub use Rattle.std.proofs.lemmas.Option.{slice_get-get_or}
-pub use Rattle.std.specs.Cmp.{nat_eq_equiv}
-pub use Rattle.std.specs.Cmp.Lexicographic.{pointwise, nat_list_eq_equiv, bytes_decides}
 pub use Rattle.std.specs.Iterator.Adapters.{rev_steps}
-pub use Rattle.std.specs.List.{cons_option, filter_map}
-unfoldable pub use Rattle.std.specs.List.{IsDistinct}
-pub use Rattle.std.specs.Map.{keys_of, lookup, lookup_entry, remove_entry}
 pub use Rattle.std.specs.Map.Iter.{TakesLast, deref_pair}
 pub use Rattle.std.specs.declared.alloc.AllocFailed.{AllocFailed}
-pub use Rattle.cf_types.specs.Name.{same_name}
 pub use Rattle.cf_types.specs.declared.names.Name16.{Name16}
 pub use Rattle.indexmap.proofs.CallerLemmas.{insert_entry-new}
 pub use Rattle.lru.specs.LruCache.{LruCache, lru_cache, put_entries, last_entry}

@@ -1,5 +1,5 @@
 -- A map of names that is copied in its order.
-use Rattle.cache_reclaim.proofs.Imports.{◌≡◌, ℕ, Bool, true, false, nat_eq, cond, List, [], ◌∷◌, ◌++◌, None, Some, refl, sym, ap, ◌∙◌, subst, append_assoc, append-nil, IsDistinct, keys_of, lookup, pointwise, nat_list_eq_equiv, false≢true, NonePasses, none_past_head}
+use Rattle.cache_reclaim.proofs.Imports.{arith, ◌≡◌, ℕ, Bool, true, false, nat_eq, cond, List, [], ◌∷◌, ◌++◌, None, Some, refl, sym, ap, ◌∙◌, append_assoc, append-nil, IsDistinct, keys_of, lookup, pointwise, nat_list_eq_equiv, false≢true, NonePasses, none_past_head}
 
 abbrev pub Entries : Type 0
 Entries = List (List ℕ × ℕ)
@@ -20,28 +20,22 @@ none_at p (x ∷ front) e back none = none_at p front e back none.1
 pub apart_in_front : (front : Entries) (e : List ℕ × ℕ) (back : Entries)
     → IsDistinct same (keys_of (front ++ e ∷ back)) → lookup (same e.0) front ≡ None
 apart_in_front [] e back u = refl
-apart_in_front (x ∷ front) e back u =
-    go (same e.0 x.0) refl (apart_in_front front e back (rest_apart x (front ++ e ∷ back) u))
+apart_in_front (x ∷ front) e back u = go (same e.0 x.0) refl (apart_in_front front e back (grind (arith, rest_apart)))
   where
     go : (b : Bool) → same e.0 x.0 ≡ b → lookup (same e.0) front ≡ None
         → cond b (Some x.1) (lookup (same e.0) front) ≡ None
-    go true h ih =
-        absurd (false≢true (sym (none_at (same x.0) front e back
-        (none_past_head nat_list_eq_equiv x.0 x (front ++ e ∷ back) u (nat_list_eq_equiv.refl x.0)))
-        ∙ nat_list_eq_equiv.symm x.0 e.0 ∙ h))
+    go true h ih = absurd (false≢true (sym (none_at (same x.0) front e back (none_past_head nat_list_eq_equiv
+        x.0 x (front ++ e ∷ back) u (nat_list_eq_equiv.refl x.0))) ∙ nat_list_eq_equiv.symm x.0 e.0 ∙ h))
     go false h ih = ih
 
 -- the next one goes behind what is copied
 pub copy_moved : (done left rest next whole : Entries) (e : List ℕ × ℕ) → left ≡ e ∷ rest → next ≡ done ++ e ∷ []
     → done ++ left ≡ whole → next ++ rest ≡ whole
-copy_moved done left rest next whole e taken put seam =
-    ap (λ l. l ++ rest) put ∙ append_assoc done (e ∷ []) rest ∙ ap (λ l. done ++ l) (sym taken) ∙ seam
+copy_moved done left rest next whole e taken put seam = grind (arith, append_assoc)
 
 pub copy_absent : (done left rest whole : Entries) (e : List ℕ × ℕ) → left ≡ e ∷ rest → done ++ left ≡ whole
     → IsDistinct same (keys_of whole) → lookup (same e.0) done ≡ None
-copy_absent done left rest whole e taken seam u =
-    apart_in_front done e rest
-    (subst (λ l. IsDistinct same (keys_of l)) (sym (ap (λ l. done ++ l) (sym taken) ∙ seam)) u)
+copy_absent done left rest whole e taken seam u = apart_in_front done e rest (grind arith)
 
 pub copy_all : (done left whole : Entries) → left ≡ [] → done ++ left ≡ whole → done ≡ whole
 copy_all done left whole none seam = sym (append-nil done) ∙ ap (λ l. done ++ l) (sym none) ∙ seam

@@ -1,6 +1,5 @@
 -- A slot that is written, and one that is freed.
 use Rattle.cache_reclaim.proofs.Imports.{◌≡◌, ◌≢◌, ℕ, suc, ◌-◌, ◌<◌, Bool, true, false, not, nat_eq, cond, List, [], ◌∷◌, ◌++◌, reverse, length, filter, get_or, Option, Some, None, IsSome, Result, Ok, Err, OnOk, IsOk, is_some, refl, sym, ap, ◌∙◌, subst, arith, IsDistinct, cons_option, filter_map, keys_of, lookup, lookup_entry, remove_entry, nat_eq_equiv, false≢true, eqb-true, eq-eqb, reverse-append, length-append, length-reverse, take_all, filter_map-append, filter-append, NonePasses, lookup-remove_entry, lookup-none, none_past_head, lookup_from_place, slice_get-get_or, LruCache, lru_cache, put_entries, last_entry, AllocFailed, list_any-IsPermutation, IsPermutation-reverse, Used, Name16, same_name, order_without, order_touched, has_name, is_in_part, used_in, part_of, by_name, IsFree, EndsFree, ends_free, IsTied, IsSlotOf, WritesName}
-use Rattle.std.specs.List.{slice_get}
 use Rattle.std.proofs.lemmas.List.{append_assoc, append-nil}
 use Rattle.cache_reclaim.proofs.NameKeys.{same_name-eq, same_name-from, same_name-sym, same_name-ne}
 
@@ -17,10 +16,6 @@ entry_there k (e ∷ es) h = go (nat_eq k e.0) refl h (λ some. entry_there k es
     go true h some ih =
         let same : e.0 ≡ k = sym (eqb-true k e.0 h) in (e.1, ap (λ j. Some (j, e.1)) same)
     go false h some ih = ih some
-
-pub put_there : (es : List (ℕ × Option Used)) (cap k : ℕ) (w : Option Used) → IsSome (lookup (nat_eq k) es)
-    → put_entries nat_eq (lru_cache es cap) k w ≡ (k, w) ∷ remove_entry (nat_eq k) es
-put_there es cap k w h = let there = entry_there k es h in rw there.1 refl
 
 shorter : (k : ℕ) (es : List (ℕ × Option Used)) → IsSome (lookup (nat_eq k) es)
     → length es ≡ suc (length (remove_entry (nat_eq k) es))
@@ -47,9 +42,8 @@ ends_removed : (k : ℕ) (es : List (ℕ × Option Used)) → EndsFree es → En
 ends_removed k [] h = h
 ends_removed k (e ∷ es) h = go (nat_eq k e.0) e.1 h (λ f. ends_removed k es f)
   where
-    go : (b : Bool) (w : Option Used) → ends_free w (IsFree es) (EndsFree es)
-        → (EndsFree es → EndsFree (remove_entry (nat_eq k) es))
-        → EndsFree (cond b es ((e.0, w) ∷ remove_entry (nat_eq k) es))
+    go : (b : Bool) (w : Option Used) → ends_free w (IsFree es) (EndsFree es) → (EndsFree es
+        → EndsFree (remove_entry (nat_eq k) es)) → EndsFree (cond b es ((e.0, w) ∷ remove_entry (nat_eq k) es))
     go true None f ih = free_ends es f
     go true (Some u) f ih = f
     go false None f ih = free_removed k es f
@@ -81,10 +75,6 @@ removed_reads : (es : List (ℕ × Option Used)) (k q : ℕ) → IsDistinct nat_
     → lookup (nat_eq q) (remove_entry (nat_eq k) es) ≡ cond (nat_eq k q) None (lookup (nat_eq q) es)
 removed_reads es k q u = lookup-remove_entry nat_eq_equiv (nat_eq k) (one_key k) q es u
 
-pub reads_front : (es : List (ℕ × Option Used)) (k : ℕ) (w : Option Used) → IsDistinct nat_eq (keys_of es)
-    → Reads es k w ((k, w) ∷ remove_entry (nat_eq k) es)
-reads_front es k w u q = grind (arith, removed_reads)
-
 or_last : Option (Option Used) → Option (Option Used) → Option (Option Used)
 or_last None o = o
 or_last (Some v) o = Some v
@@ -115,14 +105,13 @@ module _ (es : List (ℕ × Option Used)) (ns : List (List ℕ × ℕ)) (cap : �
   pub slot_there : lookup (by_name name) ns ≡ Some k → IsSome (lookup (nat_eq k) es)
   slot_there there = ap is_some (tied.slotted name k there).1
 
-  module _ (of : IsSlotOf es name k) (there : IsSome (lookup (nat_eq k) es)) (fs : List (ℕ × Option Used))
-      (ms : List (List ℕ × ℕ))
-      (unique : IsDistinct nat_eq (keys_of fs)) where
+  module _ (of : IsSlotOf es name k) (there : IsSome (lookup (nat_eq k) es))
+      (fs : List (ℕ × Option Used)) (ms : List (List ℕ × ℕ)) (unique : IsDistinct nat_eq (keys_of fs)) where
     pub touched_tied : (stg : ℕ) → fs ≡ (k, Some (record { name = name; stg = stg })) ∷ remove_entry (nat_eq k) es
         → WritesName ns name (Some k) ms → IsTied fs ms cap
     touched_tied stg is writes =
         let reads : Reads es k (Some (record { name = name; stg = stg })) fs
-        = λ q. ap (lookup (nat_eq q)) is ∙ reads_front es k _ tied.unique q in
+        = λ q. ap (lookup (nat_eq q)) is ∙ (grind (arith, removed_reads)) in
         record {
           full = ap length is ∙ sym (shorter k es there) ∙ tied.full;
           unique = unique;
@@ -131,24 +120,20 @@ module _ (es : List (ℕ × Option Used)) (ns : List (List ℕ × ℕ)) (cap : �
           slotted = λ n j h. slotted_now (same_name name n) n j refl reads (sym (writes n) ∙ h);
         }
       where
-        named_now : (b : Bool) (j : ℕ) (u : Used) → nat_eq k j ≡ b
-            → cond b (Some (Some (let v : Used = record { name = name; stg = stg } in v))) (lookup (nat_eq j) es)
-            ≡ Some (Some u)
-            → cond (same_name name u.name) (Some k) (lookup (by_name u.name) ns) ≡ Some j
-        named_now true j u e h =
-            let same : name ≡ u.name = cc in rw (same_name-from name u.name same) (ap Some (eqb-true k j e))
+        named_now : (b : Bool) (j : ℕ) (u : Used) → nat_eq k j ≡ b → cond
+            b (Some (Some (let v : Used = record { name = name; stg = stg } in v))) (lookup (nat_eq j) es) ≡ Some
+            (Some u) → cond (same_name name u.name) (Some k) (lookup (by_name u.name) ns) ≡ Some j
+        named_now true j u e h = grind (arith, same_name-from, eqb-true)
         named_now false j u e h = grind (arith, same_name-sym)
 
-        slotted_now : (b : Bool) (n : Name16) (j : ℕ) → same_name name n ≡ b
-            → Reads es k (Some (record { name = name; stg = stg })) fs
-            → cond b (Some k) (lookup (by_name n) ns) ≡ Some j
+        slotted_now : (b : Bool) (n : Name16) (j : ℕ) → same_name name n ≡ b → Reads es k
+            (Some (record { name = name; stg = stg })) fs → cond b (Some k) (lookup (by_name n) ns) ≡ Some j
             → (s : ℕ) × (lookup (nat_eq j) fs ≡ Some (Some (record { name = n; stg = s })))
         slotted_now true n j e reads h =
             let same : k ≡ j = cc in (
               stg,
-              reads j ∙ rw (eq-eqb k j same)
-                  (ap (λ (m : Name16). Some (Some (let v : Used = record { name = m; stg = stg } in v)))
-                  (same_name-eq name n e)),
+              reads j ∙ rw (eq-eqb k j same) (ap (λ (m : Name16). Some (Some
+                  (let v : Used = record { name = m; stg = stg } in v))) (same_name-eq name n e)),
             )
         slotted_now false n j e reads h =
             let found = tied.slotted n j h in
@@ -160,18 +145,15 @@ module _ (es : List (ℕ × Option Used)) (ns : List (List ℕ × ℕ)) (cap : �
     removed_tied is writes =
         let reads : Reads es k None fs = λ q. ap (lookup (nat_eq q)) is ∙ reads_back es k None tied.unique q in
         record {
-          full = ap length is ∙ omega
-              (arith, length-append (remove_entry (nat_eq k) es) ((k, None) ∷ []), shorter k es there, tied.full);
+          full = grind (arith, length-append, shorter);
           unique = unique;
-          free_last = subst EndsFree (sym is)
-              (ends_push k (remove_entry (nat_eq k) es) (ends_removed k es tied.free_last));
+          free_last = grind (arith, ends_push, ends_removed);
           named = λ j u h. writes u.name ∙ named_now (nat_eq k j) j u refl (sym (reads j) ∙ h);
           slotted = λ n j h. slotted_now (same_name name n) n j refl reads (sym (writes n) ∙ h);
         }
       where
-        named_now : (b : Bool) (j : ℕ) (u : Used) → nat_eq k j ≡ b
-            → cond b (Some None) (lookup (nat_eq j) es) ≡ Some (Some u)
-            → cond (same_name name u.name) None (lookup (by_name u.name) ns) ≡ Some j
+        named_now : (b : Bool) (j : ℕ) (u : Used) → nat_eq k j ≡ b → cond b (Some None) (lookup (nat_eq j) es) ≡ Some
+            (Some u) → cond (same_name name u.name) None (lookup (by_name u.name) ns) ≡ Some j
         named_now true j u e h = absurd (cc)
         named_now false j u e h = grind (arith, same_name-sym)
 
@@ -206,20 +188,17 @@ unfolding tells Tells
 tells_all name t [] u of = tt
 tells_all name t (e ∷ es) u of = (
   here e.1 refl,
-  tells_all name t es (tail_unique e es u)
-      (λ j v h. of j v (later (nat_eq j e.0) j v refl h)),
+  tells_all name t es (tail_unique e es u) (λ j v h. of j v (later (nat_eq j e.0) j v refl h)),
 )
   where
     here : (w : Option Used) → e.1 ≡ w → tells name t e.0 w
     here None h = tt
-    here (Some v) h = of e.0 v
-        (ap (λ b. cond b (Some e.1) (lookup (nat_eq e.0) es)) (nat_eq_equiv.refl e.0) ∙ ap Some h)
+    here (Some v) h = grind arith
 
     later : (b : Bool) (j : ℕ) (v : Used) → nat_eq j e.0 ≡ b → lookup (nat_eq j) es ≡ Some (Some v)
         → cond b (Some e.1) (lookup (nat_eq j) es) ≡ Some (Some v)
-    later true j v g h = absurd
-        (let none : None ≡ Some (Some v) = sym (lookup-none (nat_eq j) es (none_past_head nat_eq_equiv j e es u g))
-        ∙ h in cc)
+    later true j v g h = absurd (let none : None ≡ Some (Some v) =
+        sym (lookup-none (nat_eq j) es (none_past_head nat_eq_equiv j e es u g)) ∙ h in cc)
     later false j v g h = h
 
 no_name : (name : Name16) (es : List (ℕ × Option Used)) → Tells name (λ j. false) es
@@ -241,12 +220,10 @@ keeps name [] t = refl
 keeps name (e ∷ es) t = grind (arith, tells, keeps name es t.1)
 
 used_removed : (name : Name16) (k : ℕ) (es : List (ℕ × Option Used)) → IsDistinct nat_eq (keys_of es)
-    → Tells name (nat_eq k) es
-    → used_in (remove_entry (nat_eq k) es) ≡ order_without name (used_in es)
+    → Tells name (nat_eq k) es → used_in (remove_entry (nat_eq k) es) ≡ order_without name (used_in es)
 unfolding tells Tells
 used_removed name k [] u t = refl
-used_removed name k (e ∷ es) u t =
-    go (nat_eq k e.0) e.1 refl t.0 (used_removed name k es (tail_unique e es u) t.1)
+used_removed name k (e ∷ es) u t = go (nat_eq k e.0) e.1 refl t.0 (used_removed name k es (tail_unique e es u) t.1)
     (λ h. kept_all name k es (none_past_head nat_eq_equiv k e es u h) t.1)
   where
     go : (b : Bool) (w : Option Used) → nat_eq k e.0 ≡ b → tells name (nat_eq k) e.0 w
@@ -261,9 +238,8 @@ used_removed name k (e ∷ es) u t =
 -- from the least recently used
 used_back : (es : List (ℕ × Option Used)) → used_in (reverse es) ≡ reverse (used_in es)
 used_back [] = refl
-used_back (e ∷ es) =
-    ap used_in (reverse-append (e ∷ []) es) ∙ filter_map-append (λ x. x.1) (reverse es) (e ∷ [])
-    ∙ ap (λ l. l ++ used_in (e ∷ [])) (used_back es) ∙ go e.1
+used_back (e ∷ es) = ap used_in (reverse-append (e ∷ []) es)
+    ∙ filter_map-append (λ x. x.1) (reverse es) (e ∷ []) ∙ ap (λ l. l ++ used_in (e ∷ [])) (used_back es) ∙ go e.1
   where
     go : (w : Option Used) → reverse (used_in es) ++ cons_option w [] ≡ reverse (cons_option w (used_in es))
     go None = append-nil (reverse (used_in es))
@@ -271,8 +247,7 @@ used_back (e ∷ es) =
 
 without_back : (name : Name16) (us : List Used) → order_without name (reverse us) ≡ reverse (order_without name us)
 without_back name [] = refl
-without_back name (u ∷ us) =
-    ap (order_without name) (reverse-append (u ∷ []) us)
+without_back name (u ∷ us) = ap (order_without name) (reverse-append (u ∷ []) us)
     ∙ filter-append (λ v. not (same_name v.name name)) (reverse us) (u ∷ [])
     ∙ ap (λ l. l ++ order_without name (u ∷ [])) (without_back name us) ∙ go (not (same_name u.name name))
   where
@@ -281,21 +256,21 @@ without_back name (u ∷ us) =
     go true = sym (reverse-append (u ∷ []) (order_without name us))
     go false = append-nil (reverse (order_without name us))
 
-module _ (es : List (ℕ × Option Used)) (ns : List (List ℕ × ℕ)) (cap : ℕ) (tied : IsTied es ns cap) (name : Name16)
-    (k : ℕ) (of : IsSlotOf es name k)
-    (fs : List (ℕ × Option Used)) where
+module _ (es : List (ℕ × Option Used)) (ns : List (List ℕ × ℕ)) (cap : ℕ) (tied : IsTied es ns cap)
+    (name : Name16) (k : ℕ) (of : IsSlotOf es name k) (fs : List (ℕ × Option Used)) where
   rest_order : used_in (reverse (remove_entry (nat_eq k) es)) ≡ order_without name (used_in (reverse es))
   rest_order = grind (arith, used_back, used_removed, tells_all, without_back)
 
   pub touched_order : (stg : ℕ) → fs ≡ (k, Some (record { name = name; stg = stg })) ∷ remove_entry (nat_eq k) es
       → used_in (reverse fs) ≡ order_touched name stg (used_in (reverse es))
-  touched_order stg is =
-      ap (λ l. used_in (reverse l)) is
-      ∙ ap used_in (reverse-append ((k, Some (let v : Used = record { name = name; stg = stg } in v)) ∷ [])
-      (remove_entry (nat_eq k) es))
-      ∙ filter_map-append (λ x. x.1) (reverse (remove_entry (nat_eq k) es))
-      ((k, Some (let v : Used = record { name = name; stg = stg } in v)) ∷ [])
-      ∙ ap (λ l. l ++ (let v : Used = record { name = name; stg = stg } in v) ∷ []) rest_order
+  touched_order stg is = ap (λ l. used_in (reverse l)) is ∙ ap used_in (reverse-append ((
+    k,
+    Some (let v : Used = record { name = name; stg = stg } in v),
+  ) ∷ []) (remove_entry (nat_eq k) es)) ∙ filter_map-append (λ x. x.1) (reverse (remove_entry (nat_eq k) es)) ((
+    k,
+    Some (let v : Used = record { name = name; stg = stg }
+        in v),
+  ) ∷ []) ∙ ap (λ l. l ++ (let v : Used = record { name = name; stg = stg } in v) ∷ []) rest_order
 
   pub removed_order : fs ≡ remove_entry (nat_eq k) es ++ (k, None) ∷ []
       → used_in (reverse fs) ≡ order_without name (used_in (reverse es))
@@ -303,15 +278,12 @@ module _ (es : List (ℕ × Option Used)) (ns : List (List ℕ × ℕ)) (cap : �
 
 -- ---- a free slot
 
-last_one : (e : ℕ × Option Used) → last_entry (e ∷ []) ≡ Some e
-last_one e = let zero_at : length (e ∷ []) - 1 ≡ 0 = omega arith in ap (slice_get (e ∷ [])) zero_at
-
 last_later : (e x : ℕ × Option Used) (xs : List (ℕ × Option Used)) → last_entry (e ∷ x ∷ xs) ≡ last_entry (x ∷ xs)
 last_later e x xs = grind arith
 
 all_free : (es : List (ℕ × Option Used)) (k : ℕ) (w : Option Used) → IsFree es → last_entry es ≡ Some (k, w) → w ≡ None
 all_free [] k w free h = absurd (cc)
-all_free (e ∷ []) k w free h = grind (arith, last_one)
+all_free (e ∷ []) k w free h = grind arith
 all_free (e ∷ x ∷ xs) k w free h = all_free (x ∷ xs) k w free.1 (sym (last_later e x xs) ∙ h)
 
 pub last_free : (es : List (ℕ × Option Used)) (k : ℕ) (w : Option Used) → EndsFree es → length (used_in es) < length es
@@ -337,8 +309,7 @@ free_found es k w u free h l =
 
 pub not_empty : (es : List (ℕ × Option Used)) → 0 < length es → last_entry es ≢ None
 not_empty [] h e = absurd (omega arith)
-not_empty (x ∷ xs) h e =
-    absurd (let there : last_entry (x ∷ xs) ≡ Some (get_or (x ∷ xs) (length (x ∷ xs) - 1) x)
+not_empty (x ∷ xs) h e = absurd (let there : last_entry (x ∷ xs) ≡ Some (get_or (x ∷ xs) (length (x ∷ xs) - 1) x)
     = slice_get-get_or (x ∷ xs) (length (x ∷ xs) - 1) x (omega arith) in cc)
 
 -- how many names there are
@@ -350,57 +321,46 @@ pub place_for : (es : List (ℕ × Option Used)) (ns : List (List ℕ × ℕ)) (
     → (has_name name (used_in (reverse es)) ≡ false → length (used_in (reverse es)) < cap)
     → lookup (by_name name) ns ≡ None → length (used_in es) < cap
 place_for es ns cap name tied place none =
-    let told = tells_all name (λ j. false) es tied.unique
-    (λ j u h. same_name-ne u.name name
-    (λ e. absurd (let one : None ≡ Some j = sym none ∙ ap (λ n. lookup (by_name n) ns) (sym e)
-    ∙ tied.named j u h in cc))) in
+    let told = tells_all name (λ j. false) es tied.unique (λ j u h. same_name-ne u.name name (grind arith)) in
     let missing : has_name name (used_in (reverse es)) ≡ false
-    = ap (has_name name) (used_back es)
-    ∙ sym (list_any-IsPermutation (λ u. same_name u.name name) (used_in es) (reverse (used_in es))
-    (IsPermutation-reverse (used_in es)))
-    ∙ no_name name es told in
+    = ap (has_name name) (used_back es) ∙ sym (list_any-IsPermutation (λ u. same_name u.name name)
+    (used_in es) (reverse (used_in es)) (IsPermutation-reverse (used_in es))) ∙ no_name name es told in
     omega (arith, place missing, used_length es)
 
 -- nothing goes where the name isn't there
 pub none_order : (es : List (ℕ × Option Used)) (ns : List (List ℕ × ℕ)) (cap : ℕ) (name : Name16) → IsTied es ns cap
-    → lookup (by_name name) ns ≡ None
-    → used_in (reverse es) ≡ order_without name (used_in (reverse es))
+    → lookup (by_name name) ns ≡ None → used_in (reverse es) ≡ order_without name (used_in (reverse es))
 none_order es ns cap name tied none = grind (arith, tells_all, same_name-ne, used_back, keeps, without_back)
 
-pub put_written : (r : Result (Option (Option Used)) (AllocFailed (ℕ × Option Used))) (es : List (ℕ × Option Used))
-    (cap k : ℕ) (w : Option Used) (fs : LruCache ℕ (Option Used))
-    → IsSome (lookup (nat_eq k) es) → (IsSome (lookup (nat_eq k) es) → IsOk r)
-    → OnOk r (fs ≡ lru_cache (put_entries nat_eq (lru_cache es cap) k w) cap)
-    → fs.entries ≡ (k, w) ∷ remove_entry (nat_eq k) es
-put_written (Ok x) es cap k w fs some ok on = ap (λ c. c.entries) on ∙ put_there es cap k w some
+pub put_written : (r : Result (Option (Option Used)) (AllocFailed (ℕ × Option Used)))
+    (es : List (ℕ × Option Used)) (cap k : ℕ) (w : Option Used) (fs : LruCache ℕ (Option Used))
+    → IsSome (lookup (nat_eq k) es) → (IsSome (lookup (nat_eq k) es) → IsOk r) → OnOk r (fs ≡ lru_cache
+    (put_entries nat_eq (lru_cache es cap) k w) cap) → fs.entries ≡ (k, w) ∷ remove_entry (nat_eq k) es
+put_written (Ok x) es cap k w fs some ok on = ap (λ c. c.entries) on ∙ (grind (arith, entry_there))
 put_written (Err x) es cap k w fs some ok on = absurd (false≢true (ok some))
 
 -- ---- slots that are all free
 
 missing : (b : Bool) (x : ℕ × Option Used) (o : Option (Option Used)) (f : Option (ℕ × Option Used))
-    → cond b (Some x.1) o ≡ None
-    → (o ≡ None → f ≡ None) → cond b (Some x) f ≡ None
+    → cond b (Some x.1) o ≡ None → (o ≡ None → f ≡ None) → cond b (Some x) f ≡ None
 missing true x o f h ih = absurd (cc)
 missing false x o f h ih = ih h
 
-neither : (v : Used) (b : Bool) (w : Option Used) (o : Option (Option Used)) → w ≡ None
-    → cond b (Some w) o ≡ Some (Some v)
-    → (o ≡ Some (Some v) → ⊥) → ⊥
+neither : (v : Used) (b : Bool) (w : Option Used) (o : Option (Option Used))
+    → w ≡ None → cond b (Some w) o ≡ Some (Some v) → (o ≡ Some (Some v) → ⊥) → ⊥
 neither v true w o n h ih = absurd (cc)
 neither v false w o n h ih = ih h
 
-pub put_missing : (es : List (ℕ × Option Used)) (most k : ℕ) (w : Option Used) → lookup (nat_eq k) es ≡ None
-    → length es < most
-    → put_entries nat_eq (lru_cache es most) k w ≡ (k, w) ∷ es
+pub put_missing : (es : List (ℕ × Option Used)) (most k : ℕ) (w : Option Used)
+    → lookup (nat_eq k) es ≡ None → length es < most → put_entries nat_eq (lru_cache es most) k w ≡ (k, w) ∷ es
 put_missing es most k w none lt = rw (no_entry es none) (ap (λ l. (k, w) ∷ l) (take_all (most - 1) es (omega arith)))
   where
     no_entry : (xs : List (ℕ × Option Used)) → lookup (nat_eq k) xs ≡ None → lookup_entry (nat_eq k) xs ≡ None
     no_entry [] h = refl
     no_entry (x ∷ xs) h = missing (nat_eq k x.0) x (lookup (nat_eq k) xs) (lookup_entry (nat_eq k) xs) h (no_entry xs)
 
-pub free_tied : (es : List (ℕ × Option Used)) (ns : List (List ℕ × ℕ)) (cap : ℕ) → IsFree es → length es ≡ cap
-    → IsDistinct nat_eq (keys_of es)
-    → ns ≡ [] → IsTied es ns cap
+pub free_tied : (es : List (ℕ × Option Used)) (ns : List (List ℕ × ℕ)) (cap : ℕ)
+    → IsFree es → length es ≡ cap → IsDistinct nat_eq (keys_of es) → ns ≡ [] → IsTied es ns cap
 free_tied es ns cap free full u none = grind (arith, free_ends, never)
   where
     never : (k : ℕ) (v : Used) (xs : List (ℕ × Option Used)) → IsFree xs → lookup (nat_eq k) xs ≡ Some (Some v) → ⊥
@@ -426,8 +386,7 @@ used_part stg own (e ∷ es) = grind (arith, used_part stg own es)
 -- the last of what is left goes to the front of what is copied
 pub seam_moved : (left rest done next whole : List (ℕ × Option Used)) (e : ℕ × Option Used) → left ≡ rest ++ e ∷ []
     → next ≡ e ∷ done → left ++ done ≡ whole → rest ++ next ≡ whole
-seam_moved left rest done next whole e taken put seam =
-    ap (λ l. rest ++ l) put ∙ sym (append_assoc rest (e ∷ []) done) ∙ ap (λ l. l ++ done) (sym taken) ∙ seam
+seam_moved left rest done next whole e taken put seam = grind (arith, append_assoc)
 
 pub apart_behind : (front : List (ℕ × Option Used)) (e : ℕ × Option Used) (back : List (ℕ × Option Used))
     → IsDistinct nat_eq (keys_of (front ++ e ∷ back)) → lookup (nat_eq e.0) back ≡ None
@@ -438,9 +397,8 @@ apart_behind (x ∷ front) e back u = apart_behind front e back (tail_unique x (
 -- the next one isn't copied yet, and there is a place for it
 pub copy_missing : (left rest done whole : List (ℕ × Option Used)) (e : ℕ × Option Used) → left ≡ rest ++ e ∷ []
     → left ++ done ≡ whole → IsDistinct nat_eq (keys_of whole) → lookup (nat_eq e.0) done ≡ None
-copy_missing left rest done whole e taken seam u =
-    apart_behind rest e done
-    (subst (λ l. IsDistinct nat_eq (keys_of l)) (sym (seam_moved left rest done (e ∷ done) whole e taken refl seam)) u)
+copy_missing left rest done whole e taken seam u = apart_behind rest e done (subst
+    (λ l. IsDistinct nat_eq (keys_of l)) (sym (seam_moved left rest done (e ∷ done) whole e taken refl seam)) u)
 
 pub copy_place : (left rest done whole : List (ℕ × Option Used)) (e : ℕ × Option Used) (most : ℕ)
     → left ≡ rest ++ e ∷ [] → left ++ done ≡ whole → length whole ≡ most → length done < most

@@ -71,6 +71,7 @@ impl Order {
 
     /// A name, of a row of this storage class (1 to 8), becomes the most recently used. It takes
     /// room for one name at most, and no memory.
+    #[tactic(auto, using(crate::proofs::SlotLaws::place_for))]
     pub fn touch(&mut self, name: Name16, stg: u32)
         requires room { 1 ≤ self.old.room }
         requires place { has_name name self.old.order ≡ false

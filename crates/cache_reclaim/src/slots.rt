@@ -241,6 +241,7 @@ fn nth_in_part(slots: &LruCache<u32, Option<Used>>, stg: u32, own: bool, k: usiz
 }
 
 // The name that is reclaimed at a place (from 0) past those of a storage class.
+#[tactic(auto, using(crate::proofs::PlaceLaws::past_front, crate::proofs::PlaceLaws::victim_behind))]
 fn other_victim(slots: &LruCache<u32, Option<Used>>, stg: u32, k: usize) -> Option<Name16>
     requires { slice_get (filter (is_in_part stg true) (used_in (reverse slots.now.entries))) k
         ≡ None }
@@ -251,6 +252,7 @@ fn other_victim(slots: &LruCache<u32, Option<Used>>, stg: u32, k: usize) -> Opti
 }
 
 /// The name that is reclaimed at a place (from 0) for a storage class.
+#[tactic(auto, using(crate::proofs::PlaceLaws::get_front))]
 pub(crate) fn victim(slots: &LruCache<u32, Option<Used>>, stg: u32, k: usize) -> Option<Name16>
     ensures { result ≡ victim stg k (used_in (reverse slots.now.entries)) }
 {

@@ -1,5 +1,5 @@
 -- The bits that change when registrations come and end.
-use Rattle.cache_regs.proofs.Imports.{◌≡◌, ℕ, Bool, true, false, not, ◌&&◌, ◌||◌, ◌==◌, List, [], ◌∷◌, ◌++◌, filter, append-nil, refl, sym, ap, ◌∙◌, inl, inr, ◌⊎◌, arith, and_parts, false≢true, eqb-true, eq-eqb, nat_tests, any-filter_same, Name16, ConnId, BitChange, Gains, Falls, gains_none, gains_one, gains_then, any-filter, list_any-insertion, list_any-insertion_kept, Registration, is_of, is_at, is_for, regs_with, stands, stands_before, with_reg, set_changes}
+use Rattle.cache_regs.proofs.Imports.{◌≡◌, ℕ, Bool, true, false, not, ◌&&◌, ◌||◌, ◌==◌, List, [], ◌∷◌, ◌++◌, filter, append-nil, refl, sym, ap, ◌∙◌, inl, inr, ◌⊎◌, arith, and_parts, false≢true, eqb-true, eq-eqb, nat_tests, any-filter_same, Name16, ConnId, BitChange, Gains, Falls, gains_none, gains_one, gains_then, any-filter, list_any-insertion, list_any-insertion_kept, Registration, is_at, is_for, regs_with, stands, stands_before, with_reg, set_changes}
 
 -- ---- one registration goes or comes
 
@@ -7,23 +7,20 @@ same_test : (a b c d x y : ℕ) → (a == c) && (b == d) ≡ true → not ((a ==
 same_test a b c d x y e = grind (arith, nat_tests)
 
 -- without what stood at an index
-stands_elsewhere : (regs : List Registration) (by conn : ConnId) (index i : ℕ)
-    → stands (filter (λ reg. not (is_at by index reg)) regs) conn i ≡ (not ((by.0 == conn.0) && (index == i))
-    && stands regs conn i)
+stands_elsewhere : (regs : List Registration) (by conn : ConnId) (index i : ℕ) → stands (filter
+    (λ reg. not (is_at by index reg)) regs) conn i ≡ (not ((by.0 == conn.0) && (index == i)) && stands regs conn i)
 stands_elsewhere regs by conn index i = grind (arith, any-filter_same, same_test)
 
 stands_with : (new : Registration) (regs : List Registration) (conn : ConnId) (i : ℕ)
     → stands (with_reg new regs) conn i ≡ ((new.conn.0 == conn.0) && (new.index == i))
     || (not ((new.conn.0 == conn.0) && (new.index == i)) && stands regs conn i)
-stands_with new regs conn i =
-    list_any-insertion (is_at conn i) (λ reg. stands_before reg new) new
-    (filter (λ reg. not (is_at new.conn new.index reg)) regs)
+stands_with new regs conn i = list_any-insertion (is_at conn i)
+    (λ reg. stands_before reg new) new (filter (λ reg. not (is_at new.conn new.index reg)) regs)
     ∙ ap (λ b. ((new.conn.0 == conn.0) && (new.index == i)) || b) (stands_elsewhere regs new.conn conn new.index i)
 
 -- other bits stay
 pub stands_with-other : (new : Registration) (regs : List Registration) (conn : ConnId) (i : ℕ)
-    → (new.conn.0 == conn.0) && (new.index == i) ≡ false
-    → stands (with_reg new regs) conn i ≡ stands regs conn i
+    → (new.conn.0 == conn.0) && (new.index == i) ≡ false → stands (with_reg new regs) conn i ≡ stands regs conn i
 stands_with-other new regs conn i e = stands_with new regs conn i ∙ rw e refl
 
 self : (a b : ℕ) → (a == a) && (b == b) ≡ true
@@ -35,9 +32,8 @@ stands_with-here new regs = stands_with new regs new.conn new.index ∙ rw (self
 
 -- a registration that stood goes, and its bit is cleared
 pub gains_taken : (conn : ConnId) (index : ℕ) (regs after : List Registration) (told later : List BitChange)
-    → after ≡ filter (λ reg. not (is_at conn index reg)) regs → stands regs conn index ≡ true
-    → later ≡ told ++ record { conn = conn; index = index; bit = false } ∷ []
-    → Gains (stands regs) (stands after) told later
+    → after ≡ filter (λ reg. not (is_at conn index reg)) regs → stands regs conn index ≡ true → later
+    ≡ told ++ record { conn = conn; index = index; bit = false } ∷ [] → Gains (stands regs) (stands after) told later
 gains_taken conn index regs after told later is stood put =
     grind (arith, stands_elsewhere, self, gains_one, false≢true)
 
@@ -49,22 +45,14 @@ same_pair new regs conn i true e stood = grind (arith, and_parts, eqb-true, stan
 same_pair new regs conn i false e stood = stands_with-other new regs conn i e
 
 pub gains_stood : (new : Registration) (regs : List Registration) (bits : List BitChange)
-    → stands regs new.conn new.index ≡ true
-    → Gains (stands regs) (stands (with_reg new regs)) bits bits
+    → stands regs new.conn new.index ≡ true → Gains (stands regs) (stands (with_reg new regs)) bits bits
 gains_stood new regs bits stood = grind (arith, gains_none, same_pair)
-
--- where it didn't, it does now
-pub gains_new : (new : Registration) (regs : List Registration) (bits : List BitChange)
-    → stands regs new.conn new.index ≡ false
-    → Gains (stands regs) (stands (with_reg new regs)) bits
-    (bits ++ record { conn = new.conn; index = new.index; bit = true } ∷ [])
-gains_new new regs bits stood = grind (arith, stands_with-here, gains_one, false≢true, stands_with-other)
 
 -- a registration comes in the place of what stood at its index
 pub gains_set : (new : Registration) (regs after : List Registration) (told later : List BitChange)
-    → after ≡ with_reg new regs → later ≡ told ++ set_changes new regs
-    → Gains (stands regs) (stands after) told later
-gains_set new regs after told later put is = grind (arith, append-nil, gains_stood, gains_new)
+    → after ≡ with_reg new regs → later ≡ told ++ set_changes new regs → Gains (stands regs) (stands after) told later
+gains_set new regs after told later put is =
+    grind (arith, append-nil, gains_stood, stands_with-here, gains_one, false≢true, stands_with-other)
 
 -- ---- a connector's registration for the name at another index ends, and it is registered at the index
 
@@ -73,9 +61,6 @@ spared true true e = refl
 spared false b e = refl
 spared true false e = absurd (false≢true e)
 
-at_index : (f c : Bool) (j i n : ℕ) → c && (j == i) ≡ true → n ≡ i → not (f && not (j == n)) ≡ true
-at_index f c j i n h e = spared f (j == n) (eq-eqb j n (eqb-true j i (and_parts c (j == i) h).1 ∙ sym e))
-
 pub gains_with : (new : Registration) (regs : List Registration) (xs ys zs : List BitChange)
     → let middle = filter (λ reg. not (is_for new.conn new.name reg && not (reg.index == new.index))) regs in
     Gains (stands regs) (stands middle) xs ys → Gains (stands middle) (stands (with_reg new middle)) ys zs
@@ -83,18 +68,13 @@ pub gains_with : (new : Registration) (regs : List Registration) (xs ys zs : Lis
 gains_with new regs xs ys zs first second = grind (arith, gains_then, once)
   where
     once : (conn : ConnId) (i : ℕ) (b : Bool) → (new.conn.0 == conn.0) && (new.index == i) ≡ b
-        → (stands (filter (λ reg. not (is_for new.conn new.name reg && not (reg.index == new.index))) regs) conn i ≡
-        stands regs conn i)
-        ⊎ (stands (with_reg new (filter (λ reg. not (is_for new.conn new.name reg && not (reg.index == new.index)))
-        regs)) conn i
-        ≡ stands (filter (λ reg. not (is_for new.conn new.name reg && not (reg.index == new.index))) regs) conn i)
-    once conn i true e =
-        inl (any-filter_same (is_at conn i) (λ reg. not (is_for new.conn new.name reg
-        && not (reg.index == new.index))) true
-        (λ reg h. at_index (is_for new.conn new.name reg) (is_of conn reg) reg.index i new.index h
-        (eqb-true new.index i (and_parts (new.conn.0 == conn.0) (new.index == i) e).1)) regs)
-    once conn i false e = inr (stands_with-other new (filter (λ reg. not (is_for new.conn new.name reg
-        && not (reg.index == new.index))) regs) conn i e)
+        → (stands (filter (λ reg. not (is_for new.conn new.name reg && not (reg.index == new.index))) regs)
+        conn i ≡ stands regs conn i) ⊎ (stands
+        (with_reg new (filter (λ reg. not (is_for new.conn new.name reg && not (reg.index == new.index))) regs)) conn
+        i ≡ stands (filter (λ reg. not (is_for new.conn new.name reg && not (reg.index == new.index))) regs) conn i)
+    once conn i true e = inl (any-filter_same (is_at conn i) (λ reg. not (is_for new.conn
+        new.name reg && not (reg.index == new.index))) true (grind (arith, eqb-true, and_parts, spared, eq-eqb)) regs)
+    once conn i false e = grind (arith, stands_with-other)
 
 -- ---- after a registration, others end
 
@@ -103,12 +83,6 @@ pub stands_kept : (q : Registration → Bool) (by : ConnId) (index : ℕ) (name 
     → q (record { conn = by; index = index; name = name }) ≡ true → stands (filter q (regs_with by index name regs))
     by index ≡ true
 stands_kept q by index name regs h = grind (arith, list_any-insertion_kept, self)
-
--- elsewhere no bit rises
-stood_elsewhere : (by : ConnId) (index : ℕ) (name : Name16) (regs : List Registration) (conn : ConnId) (i : ℕ)
-    → (by.0 == conn.0) && (index == i) ≡ false
-    → stands (regs_with by index name regs) conn i ≡ true → stands regs conn i ≡ true
-stood_elsewhere by index name regs conn i apart h = grind (arith, list_any-insertion, any-filter, false≢true)
 
 only_falls : (a b c : Bool) → (b ≡ true → a ≡ true) → (c ≡ true → b ≡ true) → (b ≡ a) ⊎ (c ≡ b)
 only_falls false false c h k = inl refl
@@ -119,21 +93,18 @@ only_falls false true c h k = absurd (false≢true (h refl))
 
 -- a connector registers, and then bits fall, but not its own there
 pub gains_then_falls : (by : ConnId) (index : ℕ) (name : Name16) (regs later : List Registration)
-    (xs ys zs : List BitChange)
-    → stands later by index ≡ true → Falls (stands (regs_with by index name regs)) (stands later)
-    → Gains (stands regs) (stands (regs_with by index name regs)) xs ys
-    → Gains (stands (regs_with by index name regs)) (stands later) ys zs
-    → Gains (stands regs) (stands later) xs zs
+    (xs ys zs : List BitChange) → stands later by index ≡ true → Falls (stands (regs_with by index name regs))
+    (stands later) → Gains (stands regs) (stands (regs_with by index name regs)) xs ys
+    → Gains (stands (regs_with by index name regs)) (stands later) ys zs → Gains (stands regs) (stands later) xs zs
 gains_then_falls by index name regs later xs ys zs there falls first second = grind (arith, gains_then, once)
   where
-    once : (conn : ConnId) (i : ℕ) (b : Bool) → (by.0 == conn.0) && (index == i) ≡ b
-        → (stands (regs_with by index name regs) conn i ≡ stands regs conn i)
-        ⊎ (stands later conn i ≡ stands (regs_with by index name regs) conn i)
+    once : (conn : ConnId) (i : ℕ) (b : Bool) → (by.0 == conn.0) && (index == i) ≡ b → (stands (regs_with by index
+        name regs) conn i ≡ stands regs conn i) ⊎ (stands later conn i ≡ stands (regs_with by index name regs) conn i)
     once conn i true e =
         let parts = and_parts (by.0 == conn.0) (index == i) e in
         let here : stands later conn i ≡ true = grind (arith, eqb-true) in
         inr (here ∙ sym (falls conn i here))
-    once conn i false e = grind (arith, only_falls, stood_elsewhere)
+    once conn i false e = grind (arith, only_falls, list_any-insertion, any-filter, false≢true)
 
 -- where registrations end, bits fall
 pub falls_filter : (q : Registration → Bool) (regs : List Registration) → Falls (stands regs) (stands (filter q regs))

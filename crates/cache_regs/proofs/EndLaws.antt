@@ -1,19 +1,17 @@
 -- Ends of registrations, one after another.
-use Rattle.cache_regs.proofs.Imports.{◌≡◌, ℕ, ◌+◌, ◌≤◌, ◌<◌, Bool, true, false, not, ◌&&◌, ◌||◌, ◌==◌, nat_lt, List, [], ◌∷◌, ◌++◌, Option, Some, None, length, filter, refl, sym, ap, ◌∙◌, subst, arith, list_any, list_all, and_parts, false≢true, nat_tests, filter_agree, length-filter_both, BitChange, Name16, ConnId, same_name, Falls, gains_none, gains_falls, filter-filter, filter_swap, filter_absorbed, filter_all, all_from_none, none_from_all, list_all_weaker, list_all_both, any_is_found, list_all-filter, list_all-filter_same, length-filter-le, Registration, is_of, is_at, is_for, index_for, ends_with_name, stands, is_elsewhere, is_below, spares, ends_of, ends_below, FitsEnds, HasEnded, IsAloneFor}
+use Rattle.cache_regs.proofs.Imports.{◌≡◌, ℕ, ◌+◌, ◌≤◌, ◌<◌, Bool, true, false, not, ◌&&◌, ◌||◌, ◌==◌, nat_lt, List, [], ◌∷◌, ◌++◌, Option, Some, None, length, filter, refl, sym, ap, ◌∙◌, subst, arith, list_any, list_all, and_parts, false≢true, nat_tests, filter_agree, length-filter_both, BitChange, Name16, ConnId, Falls, gains_none, gains_falls, filter-filter, filter_swap, filter_absorbed, filter_all, all_from_none, none_from_all, list_all_weaker, list_all_both, any_is_found, list_all-filter, list_all-filter_same, length-filter-le, Registration, is_of, is_at, is_for, index_for, ends_with_name, stands, is_elsewhere, is_below, spares, ends_of, ends_below, FitsEnds, HasEnded, IsAloneFor}
 use Rattle.cache_regs.proofs.BitLaws.{falls_filter, gains_taken}
 
 -- ---- filters
 
-both : (q r s : Registration → Bool) (xs : List Registration)
-    → ((x : Registration) → not (q x) && not (r x) ≡ not (s x))
-    → filter (λ x. not (r x)) (filter (λ x. not (q x)) xs) ≡ filter (λ x. not (s x)) xs
+both : (q r s : Registration → Bool) (xs : List Registration) → ((x : Registration) → not (q x)
+    && not (r x) ≡ not (s x)) → filter (λ x. not (r x)) (filter (λ x. not (q x)) xs) ≡ filter (λ x. not (s x)) xs
 both q r s xs h = grind (arith, filter-filter, filter_agree)
 
 -- two filters that agree within what all of the list are
 pub filter_within : (w q r : Registration → Bool) (xs : List Registration) → list_all w xs ≡ true
     → ((x : Registration) → w x ≡ true → q x ≡ r x) → filter q xs ≡ filter r xs
-filter_within w q r xs all h =
-    ap (filter q) (sym (filter_all w xs all)) ∙ filter-filter q w xs
+filter_within w q r xs all h = ap (filter q) (sym (filter_all w xs all)) ∙ filter-filter q w xs
     ∙ filter_agree (λ x. w x && q x) (λ x. w x && r x) (λ x. within (w x) (q x) (r x) (h x)) xs
     ∙ sym (filter-filter r w xs) ∙ ap (filter r) (filter_all w xs all)
   where
@@ -23,9 +21,8 @@ filter_within w q r xs all h =
 
 pub filter_fewer : (f g : Registration → Bool) (xs : List Registration) → ((x : Registration) → f x ≡ true → g x ≡ true)
     → length (filter f xs) ≤ length (filter g xs)
-filter_fewer f g xs h =
-    subst (λ (l : List Registration). length l ≤ length (filter g xs)) (filter_swap f g xs ∙ filter_absorbed g f h xs)
-    (length-filter-le f (filter g xs))
+filter_fewer f g xs h = subst (λ (l : List Registration). length l ≤ length (filter g xs))
+    (filter_swap f g xs ∙ filter_absorbed g f h xs) (length-filter-le f (filter g xs))
 
 pub any_counted : (q : Registration → Bool) (xs : List Registration) → list_any q xs ≡ true → 1 ≤ length (filter q xs)
 any_counted q [] h = absurd (false≢true h)
@@ -44,17 +41,14 @@ fits_same q r xs room same h = subst (λ (l : List Registration). length xs ≤ 
 -- where one at most ends
 pub fits_few : (q : Registration → Bool) (xs : List Registration) (room : ℕ) → length (filter q xs) ≤ room
     → FitsEnds q xs room
-fits_few q xs room h =
-    let parts = length-filter_both q (λ x. not (q x)) (λ _. refl) xs in omega (arith, h, parts)
+fits_few q xs room h = grind (arith, length-filter_both)
 
 -- after the first ends there is room for the next, as there was for all
 pub fits_step : (p q r s : Registration → Bool) (xs now : List Registration) (told later : List BitChange)
-    (room left : ℕ) → ((x : Registration) → not (q x) && not (r x) ≡ not (s x))
-    → ((x : Registration) → s x ≡ true → p x ≡ true)
-    → FitsEnds p xs room → HasEnded q xs now told later room left → FitsEnds r now left
+    (room left : ℕ) → ((x : Registration) → not (q x) && not (r x) ≡ not (s x)) → ((x : Registration)
+    → s x ≡ true → p x ≡ true) → FitsEnds p xs room → HasEnded q xs now told later room left → FitsEnds r now left
 fits_step p q r s xs now told later room left h within fits ended =
-    let rest : filter (λ x. not (r x)) now ≡ filter (λ x. not (s x)) xs
-    = ap (filter (λ x. not (r x))) ended.gone ∙ both q r s xs h in
+    let rest = ap (filter (λ x. not (r x))) ended.gone ∙ both q r s xs h in
     let same = ap length rest in
     let fewer = filter_fewer (λ x. not (p x)) (λ x. not (s x)) xs (λ x e. contra (s x) (p x) (within x) e) in
     omega (arith, fits, ended.counted, same, fewer)
@@ -70,9 +64,8 @@ pub ended_falls : (q : Registration → Bool) (xs after : List Registration) (to
 ended_falls q xs after told later room left ended = falls_to (λ x. not (q x)) xs after ended.gone
 
 pub ended_then : (q r s : Registration → Bool) (xs now after : List Registration) (told later last : List BitChange)
-    (room left end : ℕ) → ((x : Registration) → not (q x) && not (r x) ≡ not (s x))
-    → HasEnded q xs now told later room left → HasEnded r now after later last left end
-    → HasEnded s xs after told last room end
+    (room left end : ℕ) → ((x : Registration) → not (q x) && not (r x) ≡ not (s x)) → HasEnded
+    q xs now told later room left → HasEnded r now after later last left end → HasEnded s xs after told last room end
 ended_then q r s xs now after told later last room left end h first second =
     grind (arith, both, gains_falls, falls_to)
 
@@ -92,8 +85,7 @@ ended_never q xs told room h = ended_none q xs told room (none_never q xs h)
 pub ended_same : (q r : Registration → Bool) (xs after : List Registration) (told later : List BitChange)
     (room left : ℕ) → filter (λ x. not (q x)) xs ≡ filter (λ x. not (r x)) xs
     → HasEnded q xs after told later room left → HasEnded r xs after told later room left
-ended_same q r xs after told later room left same ended =
-    record { gone = ended.gone ∙ same; bits = ended.bits; counted = ended.counted }
+ended_same q r xs after told later room left same ended = grind arith
 
 -- the one at a place ends
 pub ended_taken : (conn : ConnId) (index : ℕ) (xs after : List Registration) (told later : List BitChange)
@@ -107,10 +99,8 @@ pub ended_absent : (conn : ConnId) (index : ℕ) (xs after : List Registration) 
     (room : ℕ) → after ≡ filter (λ x. not (is_at conn index x)) xs
     → stands xs conn index ≡ false → HasEnded (is_at conn index) xs after told told room room
 ended_absent conn index xs after told room is none =
-    let all : filter (λ x. not (is_at conn index x)) xs ≡ xs
-    = filter_all (λ x. not (is_at conn index x)) xs (all_from_none (is_at conn index) xs none) in
-    subst (λ (l : List Registration). HasEnded (is_at conn index) xs l told told room room) (sym (is ∙ all))
-    (ended_none (is_at conn index) xs told room none)
+    let all = filter_all _ _ (all_from_none (is_at conn index) xs none) in
+    subst (λ l. HasEnded (is_at conn index) xs l told told room room) (sym (is ∙ all)) (ended_none _ _ _ _ none)
 
 -- ---- a connector's at the indexes, one after another
 
@@ -130,9 +120,8 @@ below_all conn len x h = grind arith
 
 -- ---- those for a name, one connector after another
 
-pub name_more : (name : Name16) (spare : Option ConnId) (k : ℕ) (x : Registration)
-    → not (ends_below name spare k x) && not (ends_of name spare (record { 0 = k }) x) ≡ not
-    (ends_below name spare (k + 1) x)
+pub name_more : (name : Name16) (spare : Option ConnId) (k : ℕ) (x : Registration) → not (ends_below name spare k x)
+    && not (ends_of name spare (record { 0 = k }) x) ≡ not (ends_below name spare (k + 1) x)
 name_more name spare k x = grind (arith, nat_tests)
 
 pub name_of_all : (name : Name16) (spare : Option ConnId) (k : ℕ) (x : Registration)
@@ -157,10 +146,8 @@ of_spare name (Some spared) conn b e x = grind (arith, nat_tests)
 pub elsewhere_at : (conn : ConnId) (name : Name16) (at index : ℕ) (xs : List Registration) → (at == index) ≡ false
     → IsAloneFor conn name at xs
     → filter (λ x. not (is_at conn at x)) xs ≡ filter (λ x. not (is_elsewhere conn index name x)) xs
-elsewhere_at conn name at index xs apart alone =
-    filter_agree (λ x. not (is_at conn at x)) (λ x. not (is_at conn at x && not (x.index == index)))
-    (λ x. step (is_of conn x) x.index at index apart) xs
-    ∙ alone (λ x. not (x.index == index))
+elsewhere_at conn name at index xs apart alone = filter_agree (λ x. not (is_at conn at x)) (λ x. not (is_at
+    conn at x && not (x.index == index))) (grind (arith, step)) xs ∙ alone (λ x. not (x.index == index))
   where
     step : (b : Bool) (j k n : ℕ) → (k == n) ≡ false → not (b && (j == k)) ≡ not ((b && (j == k)) && not (j == n))
     step b j k n e = grind (arith, nat_tests)
@@ -169,10 +156,8 @@ elsewhere_at conn name at index xs apart alone =
 pub elsewhere_here : (conn : ConnId) (name : Name16) (at index : ℕ) (xs : List Registration) → (at == index) ≡ true
     → IsAloneFor conn name at xs
     → filter (λ (x : Registration). not false) xs ≡ filter (λ x. not (is_elsewhere conn index name x)) xs
-elsewhere_here conn name at index xs here alone =
-    filter_agree (λ (x : Registration). not false) (λ x. not (is_at conn at x && not (x.index == index)))
-    (λ x. step (is_of conn x) x.index at index here) xs
-    ∙ alone (λ x. not (x.index == index))
+elsewhere_here conn name at index xs here alone = filter_agree (λ (x : Registration). not false) (λ x. not (is_at
+    conn at x && not (x.index == index))) (grind (arith, step)) xs ∙ alone (λ x. not (x.index == index))
   where
     step : (b : Bool) (j k n : ℕ) → (k == n) ≡ true → true ≡ not ((b && (j == k)) && not (j == n))
     step b j k n e = grind (arith, nat_tests)
@@ -180,11 +165,9 @@ elsewhere_here conn name at index xs here alone =
 -- the one for a name
 pub for_at : (conn : ConnId) (name : Name16) (at : ℕ) (xs : List Registration) → IsAloneFor conn name at xs
     → filter (λ x. not (is_at conn at x)) xs ≡ filter (λ x. not (is_for conn name x)) xs
-for_at conn name at xs alone =
-    filter_agree (λ x. not (is_at conn at x)) (λ x. not (is_at conn at x && true)) (λ x. step (is_at conn at x)) xs
-    ∙ alone (λ x. true)
-    ∙ filter_agree (λ x. not (is_for conn name x && true)) (λ x. not (is_for conn name x))
-    (λ x. sym (step (is_for conn name x))) xs
+for_at conn name at xs alone = filter_agree (λ x. not (is_at conn at x))
+    (λ x. not (is_at conn at x && true)) (λ x. step (is_at conn at x)) xs ∙ alone (λ x. true) ∙ filter_agree
+    (λ x. not (is_for conn name x && true)) (λ x. not (is_for conn name x)) (λ x. sym (step (is_for conn name x))) xs
   where
     step : (b : Bool) → not b ≡ not (b && true)
     step true = refl
@@ -202,18 +185,15 @@ pub left_counted : (q : Registration → Bool) (xs after : List Registration) (t
 left_counted q xs after told later room left ended = grind (arith, length-filter_both)
 
 -- at the index and elsewhere nothing is for the name
-pub unnamed : (conn : ConnId) (index : ℕ) (name : Name16) (xs : List Registration)
-    → list_any (is_elsewhere conn index name) xs ≡ false
-    → list_any (is_for conn name) (filter (λ x. not (is_at conn index x)) xs) ≡ false
+pub unnamed : (conn : ConnId) (index : ℕ) (name : Name16) (xs : List Registration) → list_any (is_elsewhere
+    conn index name) xs ≡ false → list_any (is_for conn name) (filter (λ x. not (is_at conn index x)) xs) ≡ false
 unnamed conn index name xs h =
     let left = filter (λ x. not (is_at conn index x)) xs in
-    none_from_all (is_for conn name) left
-    (list_all_weaker (λ x. not (is_elsewhere conn index name x) && not (is_at conn index x))
-    (λ x. not (is_for conn name x)) (λ x e. step (is_of conn x) (same_name x.name name) (x.index == index) e) left
-    (list_all_both (λ x. not (is_elsewhere conn index name x)) (λ x. not (is_at conn index x)) left
-    (list_all-filter (λ x. not (is_elsewhere conn index name x)) (λ x. not (is_at conn index x)) xs
-    (all_from_none (is_elsewhere conn index name) xs h))
-    (list_all-filter_same (λ x. not (is_at conn index x)) xs)))
+    none_from_all (is_for conn name) left (list_all_weaker (λ x. not (is_elsewhere conn index name x)
+    && not (is_at conn index x)) (λ x. not (is_for conn name x)) (grind (arith, step)) left
+    (list_all_both (λ x. not (is_elsewhere conn index name x)) (λ x. not (is_at conn index x))
+    left (list_all-filter (λ x. not (is_elsewhere conn index name x)) (λ x. not (is_at conn index x)) xs
+    (all_from_none (is_elsewhere conn index name) xs h)) (list_all-filter_same (λ x. not (is_at conn index x)) xs)))
   where
     step : (o s b : Bool) → not ((o && s) && not b) && not (o && b) ≡ true → not (o && s) ≡ true
     step false s b e = refl
@@ -234,11 +214,9 @@ for_none conn name xs h = grind (arith, any_is_found)
 
 pub elsewhere_none : (conn : ConnId) (index : ℕ) (name : Name16) (xs : List Registration)
     → index_for xs conn name ≡ None → list_any (is_elsewhere conn index name) xs ≡ false
-elsewhere_none conn index name xs h =
-    none_from_all (is_elsewhere conn index name) xs
-    (list_all_weaker (λ x. not (is_for conn name x)) (λ x. not (is_elsewhere conn index name x))
-    (λ x e. step (is_for conn name x) (x.index == index) e) xs
-    (all_from_none (is_for conn name) xs (for_none conn name xs h)))
+elsewhere_none conn index name xs h = none_from_all (is_elsewhere conn index name) xs (list_all_weaker
+    (λ x. not (is_for conn name x)) (λ x. not (is_elsewhere conn index name x)) (λ x e. step (is_for conn name x)
+    (x.index == index) e) xs (all_from_none (is_for conn name) xs (for_none conn name xs h)))
   where
     step : (a b : Bool) → not a ≡ true → not (a && not b) ≡ true
     step false b e = refl

@@ -13,9 +13,8 @@ none_at conn index xs h = grind (arith, any_is_found)
 
 pub listed_none : (conn : ConnId) (index : ℕ) (xs : List Registration) → registered_at xs conn index ≡ None
     → filter (is_below conn (index + 1)) xs ≡ filter (is_below conn index) xs
-listed_none conn index xs h =
-    filter_within (λ x. not (is_at conn index x)) (is_below conn (index + 1)) (is_below conn index) xs
-    (all_from_none (is_at conn index) xs (none_at conn index xs h)) (λ x e. step (is_of conn x) x.index index e)
+listed_none conn index xs h = filter_within (λ x. not (is_at conn index x)) (is_below conn (index + 1))
+    (is_below conn index) xs (all_from_none (is_at conn index) xs (none_at conn index xs h)) (grind (arith, step))
   where
     step : (b : Bool) (j k : ℕ) → not (b && (j == k)) ≡ true → b && nat_lt j (k + 1) ≡ b && nat_lt j k
     step b j k e = grind (arith, nat_tests)
@@ -31,50 +30,39 @@ none_below conn index x xs here all = grind (arith, filter_none, none_from_all, 
 
 fewer_below : (conn : ConnId) (index : ℕ) (xs : List Registration) → filter (is_below conn (index + 1)) xs ≡ []
     → filter (is_below conn index) xs ≡ []
-fewer_below conn index xs h =
-    filter_agree (is_below conn index) (λ x. is_below conn (index + 1) x && is_below conn index x)
-    (λ x. step (is_of conn x) x.index index) xs
-    ∙ sym (filter-filter (is_below conn index) (is_below conn (index + 1)) xs)
-    ∙ ap (filter (is_below conn index)) h
+fewer_below conn index xs h = filter_agree (is_below conn index)
+    (λ x. is_below conn (index + 1) x && is_below conn index x) (λ x. step (is_of conn x) x.index index) xs
+    ∙ sym (filter-filter (is_below conn index) (is_below conn (index + 1)) xs) ∙ ap (filter (is_below conn index)) h
   where
     step : (b : Bool) (j k : ℕ) → b && nat_lt j k ≡ (b && nat_lt j (k + 1)) && (b && nat_lt j k)
     step b j k = grind (arith, nat_tests)
-
-here_parts : (b : Bool) (j k : ℕ) → b && (j == k) ≡ true → (b && nat_lt j (k + 1) ≡ true) × (b && nat_lt j k ≡ false)
-    × (j ≡ k)
-here_parts b j k h = (grind (arith, nat_tests), grind (arith, nat_tests), grind (arith, nat_tests))
 
 there_same : (b : Bool) (j k : ℕ) → b && (j == k) ≡ false → b && nat_lt j (k + 1) ≡ b && nat_lt j k
 there_same b j k h = grind (arith, nat_tests)
 
 -- the one at an index comes behind those below it
 pub listed_some : (conn : ConnId) (index : ℕ) (name : Name16) (xs : List Registration)
-    → pairwise stands_before xs ≡ true → registered_at xs conn index ≡ Some name
-    → map listed (filter (is_below conn (index + 1)) xs) ≡ map listed (filter (is_below conn index) xs)
-    ++ (index, name) ∷ []
+    → pairwise stands_before xs ≡ true → registered_at xs conn index ≡ Some name → map listed
+    (filter (is_below conn (index + 1)) xs) ≡ map listed (filter (is_below conn index) xs) ++ (index, name) ∷ []
 listed_some conn index name [] h e = absurd (cc)
 listed_some conn index name (x ∷ xs) h e =
     let parts = and_parts (list_all (stands_before x) xs) (pairwise stands_before xs) h in
     go (is_at conn index x) refl parts.0 e (listed_some conn index name xs parts.1)
   where
-    past : (b : Bool) → is_below conn (index + 1) x ≡ b → is_below conn index x ≡ b
-        → map listed (filter (is_below conn (index + 1)) xs) ≡ map listed (filter (is_below conn index) xs)
-        ++ (index, name) ∷ []
-        → map listed (filter (is_below conn (index + 1)) (x ∷ xs)) ≡ map listed (filter (is_below conn index) (x ∷ xs))
-        ++ (index, name) ∷ []
+    past : (b : Bool) → is_below conn (index + 1) x ≡ b → is_below conn index x ≡ b → map listed
+        (filter (is_below conn (index + 1)) xs) ≡ map listed (filter (is_below conn index) xs) ++ (index, name) ∷ []
+        → map listed (filter (is_below conn (index + 1)) (x ∷ xs)) ≡ map
+        listed (filter (is_below conn index) (x ∷ xs)) ++ (index, name) ∷ []
     past true f g ih = rw (f, g) (ap (λ l. listed x ∷ l) ih)
     past false f g ih = rw (f, g) ih
 
     go : (b : Bool) → is_at conn index x ≡ b → list_all (stands_before x) xs ≡ true
         → option_map (λ reg. reg.name) (cond b (Some x) (find (is_at conn index) xs)) ≡ Some name
-        → (registered_at xs conn index ≡ Some name
-        → map listed (filter (is_below conn (index + 1)) xs) ≡ map listed (filter (is_below conn index) xs)
-        ++ (index, name) ∷ [])
-        → map listed (filter (is_below conn (index + 1)) (x ∷ xs)) ≡ map listed (filter (is_below conn index) (x ∷ xs))
-        ++ (index, name) ∷ []
-    go true f all e ih = grind (arith, here_parts, none_below, fewer_below)
-    go false f all e ih =
-        past (is_below conn index x) (there_same (is_of conn x) x.index index f) refl (ih e)
+        → (registered_at xs conn index ≡ Some name → map listed (filter (is_below conn (index + 1)) xs) ≡ map listed
+        (filter (is_below conn index) xs) ++ (index, name) ∷ []) → map listed (filter (is_below conn (index + 1))
+        (x ∷ xs)) ≡ map listed (filter (is_below conn index) (x ∷ xs)) ++ (index, name) ∷ []
+    go true f all e ih = grind (arith, none_below, fewer_below, nat_tests)
+    go false f all e ih = past (is_below conn index x) (there_same (is_of conn x) x.index index f) refl (ih e)
 
 -- ---- counts
 
@@ -88,8 +76,7 @@ count_more name spare k xs =
     let left = ap length (filter-filter now next xs
     ∙ filter_agree (λ x. next x && now x) now (λ x. kept (ends_with_name name spare x) x.conn.0 k) xs) in
     let right = ap length (filter-filter (λ x. not (now x)) next xs
-    ∙ filter_agree (λ x. next x && not (now x)) (ends_of name spare (record { 0 = k }))
-    (λ x. added (ends_with_name name spare x) x.conn.0 k) xs) in
+    ∙ filter_agree (λ x. next x && not (now x)) (ends_of name spare (record { 0 = k })) (grind (arith, added)) xs) in
     omega (arith, parts, left, right)
   where
     kept : (b : Bool) (j k : ℕ) → (b && nat_lt j (k + 1)) && (b && nat_lt j k) ≡ b && nat_lt j k
@@ -100,16 +87,13 @@ count_more name spare k xs =
 
 pub count_spared : (name : Name16) (spare : Option ConnId) (conn : ConnId) (xs : List Registration)
     → spares spare conn ≡ true → 0 ≡ length (filter (ends_of name spare conn) xs)
-count_spared name spare conn xs e =
-    sym (ap length (filter_agree (ends_of name spare conn) (λ x. false) (of_spare name spare conn true e) xs
-    ∙ filter_nothing xs))
+count_spared name spare conn xs e = sym (ap length
+    (filter_agree (ends_of name spare conn) (λ x. false) (of_spare name spare conn true e) xs ∙ filter_nothing xs))
 
-pub count_absent : (name : Name16) (spare : Option ConnId) (conn : ConnId) (xs : List Registration)
-    → spares spare conn ≡ false → list_any (is_for conn name) xs ≡ false
-    → 0 ≡ length (filter (ends_of name spare conn) xs)
-count_absent name spare conn xs e none =
-    sym (ap length (filter_agree (ends_of name spare conn) (is_for conn name) (of_spare name spare conn false e) xs
-    ∙ filter_none (is_for conn name) xs none))
+pub count_absent : (name : Name16) (spare : Option ConnId) (conn : ConnId) (xs : List Registration) → spares
+    spare conn ≡ false → list_any (is_for conn name) xs ≡ false → 0 ≡ length (filter (ends_of name spare conn) xs)
+count_absent name spare conn xs e none = sym (ap length (filter_agree (ends_of name spare conn)
+    (is_for conn name) (of_spare name spare conn false e) xs ∙ filter_none (is_for conn name) xs none))
 
 pub count_one : (name : Name16) (spare : Option ConnId) (conn : ConnId) (xs : List Registration)
     → spares spare conn ≡ false → pairwise names_apart xs ≡ true → list_any (is_for conn name) xs ≡ true
@@ -117,13 +101,11 @@ pub count_one : (name : Name16) (spare : Option ConnId) (conn : ConnId) (xs : Li
 count_one name spare conn xs e apart some =
     let most = one_for_name conn name xs apart in
     let least = any_counted (is_for conn name) xs some in
-    let same =
-    ap length (filter_agree (ends_of name spare conn) (is_for conn name) (of_spare name spare conn false e) xs) in
+    let same = ap length (filter_agree (ends_of name spare conn) (is_for conn name) (grind (arith, of_spare)) xs) in
     omega (arith, most, least, same)
 
-pub count_all : (name : Name16) (spare : Option ConnId) (k : ℕ) (xs : List Registration)
-    → list_all (λ x. nat_lt x.conn.0 k) xs ≡ true
-    → filter (ends_below name spare k) xs ≡ filter (ends_with_name name spare) xs
+pub count_all : (name : Name16) (spare : Option ConnId) (k : ℕ) (xs : List Registration) → list_all
+    (λ x. nat_lt x.conn.0 k) xs ≡ true → filter (ends_below name spare k) xs ≡ filter (ends_with_name name spare) xs
 count_all name spare k xs all = grind (arith, filter_within)
 
 pub count_first : (name : Name16) (spare : Option ConnId) (xs : List Registration)

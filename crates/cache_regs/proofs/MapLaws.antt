@@ -6,8 +6,7 @@ pub place_laws : IsEquivalence place_eq
 place_laws = and_equiv (on_equiv (λ (x : ℕ × ℕ). x.0) nat_eq_equiv) (on_equiv (λ (x : ℕ × ℕ). x.1) nat_eq_equiv)
 
 pub named_laws : IsEquivalence named_eq
-named_laws =
-    and_equiv (on_equiv (λ (x : ℕ × List ℕ). x.0) nat_eq_equiv) (on_equiv (λ (x : ℕ × List ℕ). x.1) nat_list_eq_equiv)
+named_laws = and_equiv (grind arith) (on_equiv (λ (x : ℕ × List ℕ). x.1) nat_list_eq_equiv)
 
 pub same_place : (j k : ℕ × ℕ) → place_eq j k ≡ true → j ≡ k
 same_place j k e = grind (arith, and_parts, eqb-true)
@@ -27,20 +26,12 @@ before_apart : (c i d j : ℕ) → nat_lt c d || ((c == d) && nat_lt i j) ≡ tr
     → ((c == d) && (i == j) ≡ false) × ((d == c) && (j == i) ≡ false)
 before_apart c i d j h = (grind (arith, nat_tests), grind (arith, nat_tests))
 
-before_one_way : (c i d j : ℕ) → nat_lt c d || ((c == d) && nat_lt i j) ≡ true
-    → nat_lt d c || ((d == c) && nat_lt j i) ≡ true → ⊥
-before_one_way c i d j h g = grind (arith, nat_tests)
-
 -- two lists in order are equal where each place has the same registration
 pub same_regs : (xs ys : List Registration) → pairwise stands_before xs ≡ true → pairwise stands_before ys ≡ true
     → ((conn : ConnId) (index : ℕ) → find (is_at conn index) xs ≡ find (is_at conn index) ys) → xs ≡ ys
-same_regs xs ys h g f =
-    ordered_same (λ (reg : Registration). (reg.conn.0, reg.index)) place_eq stands_before
-    same_place
-    (λ k. and_from (nat_eq k.0 k.0) (nat_eq k.1 k.1) (eq-eqb k.0 k.0 refl) (eq-eqb k.1 k.1 refl))
-    (λ x y b. before_apart x.conn.0 x.index y.conn.0 y.index b)
-    (λ x y b e. before_one_way x.conn.0 x.index y.conn.0 y.index b e) xs ys h g
-    (λ k. f (record { 0 = k.0 }) k.1)
+same_regs xs ys h g f = ordered_same (λ (reg : Registration). (reg.conn.0, reg.index)) place_eq stands_before
+    same_place (grind (arith, and_from, eq-eqb)) (λ x y b. before_apart x.conn.0 x.index y.conn.0 y.index b)
+    (λ x y b e. (grind (arith, nat_tests))) xs ys h g (λ k. f (record { 0 = k.0 }) k.1)
 
 -- ---- the entries in order
 
@@ -60,13 +51,11 @@ length-in (e ∷ es) = grind (arith, length-insertion, length-in es)
 pub find_in : (es : List ((ℕ × ℕ) × Name16)) → IsDistinct place_eq (keys_of es) → (conn : ConnId) (index : ℕ)
     → find (is_at conn index) (regs_in es) ≡ option_map (registration conn index) (at_place es conn index)
 find_in [] u conn index = refl
-find_in (e ∷ es) u conn index =
-    go (place_eq (conn.0, index) e.0) refl (find_in es (tail_unique e es u) conn index)
+find_in (e ∷ es) u conn index = go (place_eq (conn.0, index) e.0) refl (find_in es (tail_unique e es u) conn index)
   where
-    go : (b : Bool) → place_eq (conn.0, index) e.0 ≡ b
-        → find (is_at conn index) (regs_in es) ≡ option_map (registration conn index) (at_place es conn index)
-        → find (is_at conn index) (regs_in (e ∷ es)) ≡ option_map (registration conn index)
-        (cond (place_eq (conn.0, index) e.0) (Some e.1) (at_place es conn index))
+    go : (b : Bool) → place_eq (conn.0, index) e.0 ≡ b → find (is_at conn index) (regs_in es) ≡ option_map
+        (registration conn index) (at_place es conn index) → find (is_at conn index) (regs_in (e ∷ es)) ≡ option_map
+        (registration conn index) (cond (place_eq (conn.0, index) e.0) (Some e.1) (at_place es conn index))
     go true h ih =
         let none = ih ∙ ap (option_map (registration conn index)) (lookup-none (place_eq (conn.0, index)) es
         (none_past_head place_laws (conn.0, index) e es u h)) in
@@ -83,22 +72,16 @@ ordered_in (e ∷ es) u =
     let tail = tail_unique e es u in
     let none = find_in es tail (reg_of e).conn (reg_of e).index ∙ ap (option_map (registration (reg_of e).conn e.0.1))
     (lookup-none (place_eq e.0) es (none_past_head place_laws e.0 e es u (place_laws.refl e.0))) in
-    pairwise-insertion stands_before (λ other. stands_before other (reg_of e))
-    (λ other. not (is_at (reg_of e).conn (reg_of e).index other)) (reg_of e) (regs_in es)
-    (finds_place (reg_of e))
-    (all_from_none (is_at (reg_of e).conn (reg_of e).index) (regs_in es)
-    (none_found (is_at (reg_of e).conn (reg_of e).index) (regs_in es) none))
-    (ordered_in es tail)
+    pairwise-insertion _ _ _ _ _ (finds_place (reg_of e)) (all_from_none
+    (is_at (reg_of e).conn (reg_of e).index) (regs_in es) (grind (arith, none_found))) (ordered_in es tail)
 
 -- ---- what a filter leaves
 
 -- one at most is at a place
 filter_step : (q : Registration → Bool) (conn : ConnId) (index : ℕ) (a b : Bool) (x : Registration)
-    (xs : List Registration) → is_at conn index x ≡ a → q x ≡ b
-    → (a ≡ true → find (is_at conn index) xs ≡ None)
-    → find (is_at conn index) (filter q xs) ≡ option_filter q (find (is_at conn index) xs)
-    → find (is_at conn index) (cond b (x ∷ filter q xs) (filter q xs)) ≡ option_filter q
-    (cond a (Some x) (find (is_at conn index) xs))
+    (xs : List Registration) → is_at conn index x ≡ a → q x ≡ b → (a ≡ true → find (is_at conn index) xs ≡ None)
+    → find (is_at conn index) (filter q xs) ≡ option_filter q (find (is_at conn index) xs) → find (is_at conn index)
+    (cond b (x ∷ filter q xs) (filter q xs)) ≡ option_filter q (cond a (Some x) (find (is_at conn index) xs))
 filter_step q conn index true true x xs e f none ih = rw (e, f) refl
 filter_step q conn index true false x xs e f none ih = ih ∙ ap (option_filter q) (none refl) ∙ rw f refl
 filter_step q conn index false true x xs e f none ih = rw e ih
@@ -109,20 +92,17 @@ none_behind : (x : Registration) (xs : List Registration) (conn : ConnId) (index
     → list_all (stands_before x) xs ≡ true → is_at conn index x ≡ true → find (is_at conn index) xs ≡ None
 none_behind x xs conn index all e = grind (arith, same_place, find_none, none_from_all, list_all_weaker, places_apart)
 
-pub find-kept : (q : Registration → Bool) (xs : List Registration) → pairwise stands_before xs ≡ true
-    → (conn : ConnId) (index : ℕ)
-    → find (is_at conn index) (filter q xs) ≡ option_filter q (find (is_at conn index) xs)
+pub find-kept : (q : Registration → Bool) (xs : List Registration) → pairwise stands_before xs ≡ true →
+    (conn : ConnId) (index : ℕ) → find (is_at conn index) (filter q xs) ≡ option_filter q (find (is_at conn index) xs)
 find-kept q [] h conn index = refl
 find-kept q (x ∷ xs) h conn index =
     let parts = and_parts (list_all (stands_before x) xs) (pairwise stands_before xs) h in
-    filter_step q conn index (is_at conn index x) (q x) x xs refl refl (λ e. none_behind x xs conn index parts.0 e)
-    (find-kept q xs parts.1 conn index)
+    filter_step q _ _ _ _ x _ refl refl (λ e. none_behind x _ _ _ parts.0 e) (find-kept q xs parts.1 conn index)
 
 -- ---- one registration less
 
-removed_at : (b : Bool) (c d : ConnId) (i j : ℕ) (o : Option Name16) → place_eq (c.0, i) (d.0, j) ≡ b
-    → option_map (registration d j) (cond b None o)
-    ≡ option_filter (λ reg. not (is_at c i reg)) (option_map (registration d j) o)
+removed_at : (b : Bool) (c d : ConnId) (i j : ℕ) (o : Option Name16) → place_eq (c.0, i) (d.0, j) ≡ b → option_map
+    (registration d j) (cond b None o) ≡ option_filter (λ reg. not (is_at c i reg)) (option_map (registration d j) o)
 removed_at true c d i j None h = refl
 removed_at true c d i j (Some n) h = rw (place_laws.symm (d.0, j) (c.0, i) ∙ h) refl
 removed_at false c d i j None h = refl
@@ -168,8 +148,7 @@ stands_law es u conn index = grind (arith, any_is_found, find_in, some_at)
 pub entry_stands : (es : List ((ℕ × ℕ) × Name16)) → IsDistinct place_eq (keys_of es) → (k : ℕ) (place : ℕ × ℕ)
     (name : Name16) → Some (place, name) ≡ slice_get es k
     → stands (regs_in es) (record { 0 = place.0 }) place.1 ≡ true
-entry_stands es u k place name h =
-    sym (stands_law es u (record { 0 = place.0 }) place.1) ∙ there es k h
+entry_stands es u k place name h = sym (stands_law es u (record { 0 = place.0 }) place.1) ∙ there es k h
   where
     found : (b : Bool) (n : Name16) (o : Option Name16) → is_some o ≡ true → is_some (cond b (Some n) o) ≡ true
     found true n o e = refl
@@ -179,9 +158,12 @@ entry_stands es u k place name h =
         → is_some (lookup (place_eq place) es) ≡ true
     there [] k h = absurd (cc)
     there (e ∷ es) zero h = grind arith
-    there (e ∷ es) (suc k) h =
-        found (place_eq place e.0) e.1 (lookup (place_eq place) es) (there es k h)
+    there (e ∷ es) (suc k) h = found (place_eq place e.0) e.1 (lookup (place_eq place) es) (there es k h)
 
 pub removed_len : (es fs : List ((ℕ × ℕ) × Name16)) (n : ℕ) → length fs + n ≡ length es
     → length (regs_in fs) + n ≡ length (regs_in es)
 removed_len es fs n h = grind (arith, length-in)
+
+-- ---- what `len` is proved by
+
+pub ruleset length_told = (length-in, length-insertion)

@@ -1,5 +1,5 @@
 -- Names: equality and order.
-use Rattle.cache_regs.proofs.Imports.{◌≡◌, ℕ, Bool, true, false, List, Ordering, refl, sym, ap, ◌∙◌, subst, nat_cmp, is_lt, is_eq, ordering_reverse, Less, Equal, Greater, bytes_decides, slice_cmp, texts_ties, nat_list_cmp_total, false≢true, Name16, same_name, name_before}
+use Rattle.cache_regs.proofs.Imports.{◌≡◌, ℕ, Bool, true, false, List, Ordering, refl, sym, ap, ◌∙◌, subst, is_lt, is_eq, ordering_reverse, Less, Equal, Greater, bytes_decides, texts_ties, nat_list_cmp_total, false≢true, Name16, same_name, name_before}
 
 -- names with the same bytes are the same
 pub same_name-eq : (a b : Name16) → same_name a b ≡ true → a ≡ b
@@ -27,9 +27,7 @@ is_less Equal h = absurd (false≢true h)
 is_less Greater h = absurd (false≢true h)
 
 pub name_before-trans : (a b c : Name16) → name_before a b ≡ true → name_before b c ≡ true → name_before a c ≡ true
-name_before-trans a b c h k =
-    ap is_lt (nat_list_cmp_total.trans a.0 b.0 c.0 (is_less (slice_cmp nat_cmp a.0 b.0) h)
-    (is_less (slice_cmp nat_cmp b.0 c.0) k))
+name_before-trans a b c h k = ap is_lt (nat_list_cmp_total.trans a.0 b.0 c.0 (is_less _ h) (is_less _ k))
 
 other_way : (o p : Ordering) (same : Bool) → o ≡ ordering_reverse p → same ≡ is_eq p → same ≡ false → is_lt p ≡ false
     → is_lt o ≡ true
@@ -39,6 +37,4 @@ other_way o Greater same e f g h = rw e refl
 
 -- of two names one is before the other, or they are the same
 pub name_before-else : (a b : Name16) → same_name a b ≡ false → name_before a b ≡ false → name_before b a ≡ true
-name_before-else a b apart h =
-    other_way (slice_cmp nat_cmp b.0 a.0) (slice_cmp nat_cmp a.0 b.0) (same_name a b)
-    (nat_list_cmp_total.antisymm b.0 a.0) (texts_ties a.0 b.0) apart h
+name_before-else a b apart h = other_way _ _ _ (nat_list_cmp_total.antisymm b.0 a.0) (texts_ties a.0 b.0) apart h

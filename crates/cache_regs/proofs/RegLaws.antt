@@ -4,13 +4,8 @@ use Rattle.cache_regs.proofs.NameLaws.{same_name-eq, same_name-sym}
 
 -- ---- the order
 
-before_stop : (c i d j : ℕ) → not ((d == c) && (j == i)) ≡ true → nat_lt d c || ((d == c) && nat_lt j i) ≡ false
-    → nat_lt c d || ((c == d) && nat_lt i j) ≡ true
-before_stop c i d j h e = grind (arith, nat_tests)
-
 before_follows : (c i d j e k : ℕ) → nat_lt c d || ((c == d) && nat_lt i j) ≡ true → nat_lt d e
-    || ((d == e) && nat_lt j k) ≡ true
-    → nat_lt c e || ((c == e) && nat_lt i k) ≡ true
+    || ((d == e) && nat_lt j k) ≡ true → nat_lt c e || ((c == e) && nat_lt i k) ≡ true
 before_follows c i d j e k h g = grind (arith, nat_tests)
 
 before_apart : (c i d j : ℕ) → nat_lt c d || ((c == d) && nat_lt i j) ≡ true → not ((d == c) && (j == i)) ≡ true
@@ -23,7 +18,7 @@ places_apart reg other h = before_apart reg.conn.0 reg.index other.conn.0 other.
 
 pub finds_place : (reg : Registration) → FindsPlace stands_before (λ other. stands_before other reg)
     (λ other. not (is_at reg.conn reg.index other)) reg
-finds_place reg = grind (arith, before_stop, before_follows)
+finds_place reg = grind (arith, before_follows, nat_tests)
 
 -- ---- what takes the place of others
 
@@ -35,16 +30,13 @@ split_test true false false = refl
 split_test false i n = refl
 
 -- the registrations elsewhere for the name go first, and then the one at the index
-pub filter-replaced : (conn : ConnId) (index : ℕ) (name : Name16) (regs : List Registration)
-    → filter (λ reg. not (is_at conn index reg)) (filter
-    (λ reg. not (is_for conn name reg && not (reg.index == index))) regs)
-    ≡ filter (λ reg. not (is_replaced conn index name reg)) regs
-filter-replaced conn index name regs =
-    filter-filter (λ reg. not (is_at conn index reg)) (λ reg. not (is_for conn name reg && not (reg.index == index)))
-    regs
-    ∙ filter_agree (λ reg. not (is_for conn name reg && not (reg.index == index)) && not (is_at conn index reg))
-    (λ reg. not (is_replaced conn index name reg)) (λ reg. split_test (is_of conn reg) (reg.index == index)
-    (same_name reg.name name)) regs
+pub filter-replaced : (conn : ConnId) (index : ℕ) (name : Name16) (regs : List Registration) → filter
+    (λ reg. not (is_at conn index reg)) (filter (λ reg. not (is_for conn name reg && not (reg.index == index)))
+    regs) ≡ filter (λ reg. not (is_replaced conn index name reg)) regs
+filter-replaced conn index name regs = filter-filter (λ reg. not (is_at conn index reg))
+    (λ reg. not (is_for conn name reg && not (reg.index == index))) regs ∙ filter_agree (λ reg. not (is_for conn name
+    reg && not (reg.index == index)) && not (is_at conn index reg)) (λ reg. not (is_replaced conn index name reg))
+    (λ reg. split_test (is_of conn reg) (reg.index == index) (same_name reg.name name)) regs
 
 not_at : (c i n : Bool) → not ((c && i) || (c && n)) ≡ true → not (c && i) ≡ true
 not_at true true n h = h
@@ -66,13 +58,12 @@ registry-with conn index name regs is =
     let others = filter (λ other. not (is_replaced conn index name other)) regs in
     let spared = list_all-filter_same (λ other. not (is_replaced conn index name other)) regs in
     record {
-      ordered =
-          pairwise-insertion stands_before (λ other. stands_before other reg) (λ other. not (is_at conn index other))
-          reg others
-          (finds_place reg)
-          (list_all_weaker (λ other. not (is_replaced conn index name other)) (λ other. not (is_at conn index other))
-          (λ other. not_at (is_of conn other) (other.index == index) (same_name other.name name)) others spared)
-          (pairwise-filter stands_before (λ other. not (is_replaced conn index name other)) regs is.ordered);
+      ordered = pairwise-insertion stands_before (λ other. stands_before other reg)
+          (λ other. not (is_at conn index other)) reg others (finds_place reg) (grind (
+            arith,
+            list_all_weaker,
+            not_at,
+          )) (pairwise-filter stands_before (λ other. not (is_replaced conn index name other)) regs is.ordered);
       one_for_name =
           grind (arith, pairwise-insertion_any, pairwise-filter, list_all_weaker, not_for, turn, same_name-sym);
     }
@@ -83,20 +74,16 @@ registry-filter q regs is = grind (arith, pairwise-filter)
 
 -- ---- one at most for a name
 
-same_for : (reg other : Registration) (conn : ConnId) (name : Name16) → is_for conn name reg ≡ true
-    → names_apart reg other ≡ true
-    → not (is_for conn name other) ≡ true
+same_for : (reg other : Registration) (conn : ConnId) (name : Name16)
+    → is_for conn name reg ≡ true → names_apart reg other ≡ true → not (is_for conn name other) ≡ true
 same_for reg other conn name h e =
     let parts = and_parts (reg.conn.0 == conn.0) (same_name reg.name name) h in
-    let here : not ((conn.0 == other.conn.0) && same_name name other.name) ≡ true =
-    subst₂ (λ (k : ℕ) (m : Name16). not ((k == other.conn.0) && same_name m other.name) ≡ true)
-    (eqb-true reg.conn.0 conn.0 parts.0)
-    (same_name-eq reg.name name parts.1) e in
-    rw (turn other.conn.0 conn.0, same_name-sym other.name name) here
+    let here = subst₂ (λ (k : ℕ) (m : Name16). not ((k == other.conn.0) && same_name m other.name) ≡ true)
+    (eqb-true reg.conn.0 conn.0 parts.0) (same_name-eq _ _ parts.1) e in
+    rw (turn _ _, same_name-sym _ _) here
 
 one_step : (conn : ConnId) (name : Name16) (b : Bool) (reg : Registration) (regs : List Registration)
-    → is_for conn name reg ≡ b
-    → list_all (names_apart reg) regs ≡ true → length (filter (is_for conn name) regs) ≤ 1
+    → is_for conn name reg ≡ b → list_all (names_apart reg) regs ≡ true → length (filter (is_for conn name) regs) ≤ 1
     → length (cond b (reg ∷ filter (is_for conn name) regs) (filter (is_for conn name) regs)) ≤ 1
 one_step conn name true reg regs e apart ih = grind (arith, none_from_all, list_all_weaker, same_for, filter_none)
 one_step conn name false reg regs e apart ih = ih
@@ -109,9 +96,8 @@ one_for_name conn name (reg ∷ regs) h =
     one_step conn name (is_for conn name reg) reg regs refl parts.0 (one_for_name conn name regs parts.1)
 
 -- at another index than one
-pub one_elsewhere : (conn : ConnId) (index : ℕ) (name : Name16) (regs : List Registration)
-    → pairwise names_apart regs ≡ true
-    → length (filter (λ reg. is_for conn name reg && not (reg.index == index)) regs) ≤ 1
+pub one_elsewhere : (conn : ConnId) (index : ℕ) (name : Name16) (regs : List Registration) → pairwise
+    names_apart regs ≡ true → length (filter (λ reg. is_for conn name reg && not (reg.index == index)) regs) ≤ 1
 one_elsewhere conn index name regs h =
     let all = one_for_name conn name regs h in
     let few = length-filter-le (λ reg. not (reg.index == index)) (filter (is_for conn name) regs) in

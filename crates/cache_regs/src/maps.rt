@@ -110,6 +110,7 @@ impl Maps {
     }
 
     /// The same registrations once more.
+    #[tactic(auto, using(std::proofs::lemmas::List::Elements::same_from_all_zip))]
     pub(crate) fn copy(&self) -> Result<Maps, AllocError>
         ensures { IfOk result (λ maps. maps.regs ≡ self.now.regs) }
     {
@@ -120,6 +121,7 @@ impl Maps {
     }
 
     /// How many registrations there are.
+    #[tactic(auto, using(crate::proofs::MapLaws::length_told))]
     pub(crate) fn len(&self) -> usize
         ensures { result ≡ length self.now.regs }
     {
@@ -156,6 +158,7 @@ impl Maps {
     }
 
     /// The place of some registration, where there is one.
+    #[tactic(auto, using(crate::proofs::MapLaws::entry_stands))]
     pub(crate) fn some_place(&self) -> Option<(ConnId, u32)>
         ensures none { IfNone result (self.now.regs ≡ []) }
         ensures some { IfSome result (λ place. stands self.now.regs place.0 place.1 ≡ true) }

@@ -36,6 +36,7 @@ impl Model for Regs {
 }
 
 // How many registrations of a connector end with a name: one or none.
+#[tactic(auto, using(crate::proofs::ListedLaws::count_spared, crate::proofs::ListedLaws::count_one, crate::proofs::ListedLaws::count_absent))]
 fn count_of(maps: &Maps, name: &Name16, spare: Option<ConnId>, conn: ConnId) -> u32
     requires { IsTrue (pairwise names_apart maps.now.regs) }
     ensures count { result ≡ length (filter (ends_of name.now spare conn) maps.now.regs) }

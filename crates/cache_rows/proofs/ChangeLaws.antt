@@ -1,5 +1,5 @@
 -- What commands do to the row of a name, and the rows that they end for it.
-use Rattle.cache_rows.proofs.Imports.{◌≡◌, ℕ, ◌+◌, ◌≤◌, Bool, true, false, not, ◌&&◌, ◌||◌, List, [], ◌∷◌, Option, Some, None, unwrap_or, length, drop, get_or, refl, sym, ap, ◌∙◌, subst, arith, or_left, false≢true, drop_more, drop_all, filter_agree, Name16, same_name, filter-filter, filter_all, find-filter, find_none, list_all_always, same_name-eq, CacheItem, is_row_of, row_of, has_row, rows_without, rows_with, rows_replaced, new_row, row_or_new, is_among, rows_spared, row_with, without-absent, Label, label_of, label_written, item_with, body_of, relabeled, rows_but}
+use Rattle.cache_rows.proofs.Imports.{◌≡◌, ℕ, ◌+◌, ◌≤◌, Bool, true, false, not, ◌&&◌, ◌||◌, List, [], ◌∷◌, Option, Some, None, unwrap_or, length, drop, get_or, refl, sym, ◌∙◌, subst, arith, or_left, false≢true, drop_more, drop_all, filter_agree, Name16, same_name, filter-filter, filter_all, find-filter, find_none, list_all_always, same_name-eq, CacheItem, is_row_of, row_of, has_row, rows_with, rows_replaced, new_row, row_or_new, is_among, rows_spared, row_with, without-absent, Label, label_of, label_written, item_with, body_of, relabeled, rows_but}
 
 -- ---- rows that go, but for one
 
@@ -8,14 +8,10 @@ but_step true b c = refl
 but_step false true c = refl
 but_step false false c = refl
 
-but-cons : (spared name : Name16) (names : List Name16) (rows : List CacheItem)
-    → rows_but spared names (rows_but spared (name ∷ []) rows) ≡ rows_but spared (name ∷ names) rows
-but-cons spared name names rows = grind (arith, filter-filter, filter_agree, but_step)
-
 pub but-more : (spared : Name16) (names : List Name16) (rows all : List CacheItem) (i : ℕ) (d : Name16)
     → i + 1 ≤ length names → rows_but spared (drop i names) rows ≡ all
     → rows_but spared (drop (i + 1) names) (rows_but spared (get_or names i d ∷ []) rows) ≡ all
-but-more spared names rows all i d lt h = grind (arith, but-cons, drop_more)
+but-more spared names rows all i d lt h = grind (arith, drop_more, filter-filter, filter_agree, but_step)
 
 or_true : (a : Bool) → a || not false ≡ true
 or_true true = refl
@@ -35,31 +31,20 @@ but-spared spared name rows e = grind (arith, filter_all, list_all_always, here)
     either a false f = or_true a
 
     here : (row : CacheItem) → is_row_of spared row || not (is_among (name ∷ []) row.name) ≡ true
-    here row =
-        either (is_row_of spared row) (same_name name row.name)
+    here row = either (is_row_of spared row) (same_name name row.name)
         (λ h. subst (λ (n : Name16). same_name n spared ≡ true) (same_name-eq name row.name h) e)
 
 pub not_apart : (b : Bool) → not b ≡ false → b ≡ true
 not_apart true h = refl
 not_apart false h = absurd (false≢true (sym h))
 
--- the row of the name is the same, and the others are those that are spared
-pub but-row : (name : Name16) (names : List Name16) (rows : List CacheItem)
-    → row_of name (rows_but name names rows) ≡ row_of name rows
-but-row name names rows = grind (arith, find-filter, or_left)
-
 others_step : (a c : Bool) → (a || not c) && not a ≡ not c && not a
 others_step true c = grind arith
 others_step false c = refl
 
-but-others : (name : Name16) (names : List Name16) (rows : List CacheItem)
-    → rows_without name (rows_but name names rows) ≡ rows_without name (rows_spared names rows)
-but-others name names rows = grind (arith, filter-filter, filter_agree, others_step)
-
-pub replaced_but : (row : CacheItem) (name : Name16) (names : List Name16) (rows left : List CacheItem)
-    → row.name ≡ name → left ≡ rows_but name names rows
-    → rows_replaced row left ≡ rows_replaced row (rows_spared names rows)
-replaced_but row name names rows left e f = grind (arith, but-others)
+pub replaced_but : (row : CacheItem) (name : Name16) (names : List Name16) (rows left : List CacheItem) → row.name
+    ≡ name → left ≡ rows_but name names rows → rows_replaced row left ≡ rows_replaced row (rows_spared names rows)
+replaced_but row name names rows left e f = grind (arith, filter-filter, filter_agree, others_step)
 
 -- ---- a row with the data that it had
 
@@ -68,28 +53,24 @@ new_body name stg None = refl
 new_body name stg (Some row) = refl
 
 pub relabeled_is : (label : Label) (name : Name16) (stg : ℕ) (rows left : List CacheItem) → label.name ≡ name
-    → row_of name left ≡ row_of name rows
-    → relabeled label left ≡ item_with label (row_or_new name stg rows).body
+    → row_of name left ≡ row_of name rows → relabeled label left ≡ item_with label (row_or_new name stg rows).body
 relabeled_is label name stg rows left e f = grind (arith, new_body)
 
 -- a row with what the directory says of it now, and the data that it had
 pub relabeled_same : (label : Label) (name : Name16) (stg : ℕ) (rows : List CacheItem) → label.name ≡ name
     → rows_replaced (relabeled label rows) rows ≡ rows_replaced (item_with label (row_or_new name stg rows).body) rows
-relabeled_same label name stg rows e =
-    ap (λ (row : CacheItem). rows_replaced row rows) (relabeled_is label name stg rows rows e refl)
+relabeled_same label name stg rows e = grind (arith, relabeled_is)
 
 pub relabeled_spared : (label : Label) (name : Name16) (stg : ℕ) (names : List Name16) (rows left : List CacheItem)
-    → label.name ≡ name → left ≡ rows_but name names rows
-    → rows_replaced (relabeled label left) left
-    ≡ rows_replaced (item_with label (row_or_new name stg rows).body) (rows_spared names rows)
-relabeled_spared label name stg names rows left e f = grind (arith, relabeled_is, but-row, replaced_but)
+    → label.name ≡ name → left ≡ rows_but name names rows → rows_replaced (relabeled label left)
+    left ≡ rows_replaced (item_with label (row_or_new name stg rows).body) (rows_spared names rows)
+relabeled_spared label name stg names rows left e f = grind (arith, relabeled_is, replaced_but, find-filter, or_left)
 
 -- a row with new data
 pub written_same : (old label : Label) (row : CacheItem) (name : Name16) (names : List Name16)
-    (rows left : List CacheItem) (body : List ℕ) (class : Option ℕ) (adj : Option (List ℕ))
-    → old ≡ label_of row → old.name ≡ name → label ≡ label_written class adj old → left ≡ rows_but name names rows
-    → rows_replaced (item_with label (Some body)) left
-    ≡ rows_replaced (row_with body class adj row) (rows_spared names rows)
+    (rows left : List CacheItem) (body : List ℕ) (class : Option ℕ) (adj : Option (List ℕ)) → old ≡ label_of row
+    → old.name ≡ name → label ≡ label_written class adj old → left ≡ rows_but name names rows → rows_replaced
+    (item_with label (Some body)) left ≡ rows_replaced (row_with body class adj row) (rows_spared names rows)
 written_same old label row name names rows left body class adj of named is f = grind (arith, replaced_but)
 
 -- ---- a row whose name has none
@@ -100,6 +81,11 @@ pub put_alone : (row : CacheItem) (rows : List CacheItem) (label : Label) (body 
 put_alone row rows label body alone e f = grind (arith, without-absent)
 
 pub put_bare : (row : CacheItem) (rows : List CacheItem) (label : Label) → has_row row.name rows ≡ false
-    → label ≡ label_of row → row.body ≡ None
-    → rows_replaced (relabeled label rows) rows ≡ rows_with row rows
+    → label ≡ label_of row → row.body ≡ None → rows_replaced (relabeled label rows) rows ≡ rows_with row rows
 put_bare row rows label alone e f = grind (arith, find_none, put_alone)
+
+-- ---- what functions are proved by
+
+pub ruleset spared_told = (but-spared, not_apart)
+
+pub ruleset put_told = (put_alone, put_bare, without-absent)

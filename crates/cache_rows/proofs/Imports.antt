@@ -1,15 +1,15 @@
 -- What proofs here name of other crates, and of this one's definitions. Declares nothing.
+pub use Rattle.cf_types.proofs.Imports.{filter_agree, filter-append, find-append, list_all-append, list_all-map, fold-map, sum_by-cons, sum_by_push, list_all, option_or, same_name, name_before}
+pub use Rattle.cache_classes.proofs.Imports.{names_without, names_with, names_set, room_taken}
+pub use Rattle.cache_model.proofs.Imports.{is_among, rows_spared, without_hold, is_reclaimable}
+pub use Rattle.cache_reclaim.proofs.Imports.{order_without, order_touched}
+pub use Rattle.cf_lists.proofs.Imports.{insertion, pairwise}
+pub use Rattle.cache_regs.proofs.Imports.{stands, regs_with, ends_with_name, regs_without_name}
 pub use Rattle.std.proofs.Common.{◌≡◌, ℕ, ◌+◌, ◌≤◌, Bool, true, false, not, ◌&&◌, ◌||◌, List, [], ◌∷◌, Option, Some, None, unwrap_or, length, drop, get_or, refl, sym, ap, ◌∙◌, subst, arith, cond, ◌++◌, append-nil, is_some, filter, map, zero, suc, ◌-◌, ◌<◌, option_map, option_to_list, slice_get, length-append, ◌==◌, take, set, get_or-set_other, ◌*◌, is_none, sum_by, ◌^◌}
 pub use Rattle.std.proofs.lemmas.Bool.{or_left, false≢true, and_parts, or_right, and_from, leb-true, le-leb}
 pub use Rattle.std.proofs.lemmas.List.{drop_more, drop_all, map-append, length-map}
-pub use Rattle.std.proofs.lemmas.List.Elements.{filter_agree, filter-append}
-pub use Rattle.std.proofs.lemmas.List.Folds.{find-append, list_all-append, list_all-map, fold-map}
-pub use Rattle.std.proofs.lemmas.List.Sums.{sum_by-cons, sum_by_push}
 pub use Rattle.std.proofs.lemmas.Option.{slice_get-map, get_or_from_slice_get}
 pub use Rattle.std.proofs.lemmas.Result.{IfOk-weaker}
-pub use Rattle.std.specs.List.{list_all}
-pub use Rattle.std.specs.Option.{option_or}
-pub use Rattle.cache_classes.specs.Castout.{names_without, names_with, names_set, room_taken}
 pub use Rattle.cache_classes.specs.declared.changed.Changed.{Changed}
 pub use Rattle.cache_model.proofs.EngineLaws.{alone-next}
 pub use Rattle.cache_model.proofs.RowLaws.{without-absent, name_of, apart-with, alone-without, size, found_named, elements-replaced}
@@ -19,12 +19,9 @@ pub use Rattle.cache_model.specs.CfPool.Pools.{Chains}
 pub use Rattle.cache_model.specs.CfPool.declared.chain.Chain.{Chain}
 pub use Rattle.cache_model.specs.Commands.CoStats.{rows_of_class}
 pub use Rattle.cache_model.specs.Commands.Write.{row_with}
-pub use Rattle.cache_model.specs.Contents.{is_among, rows_spared, without_hold}
-pub use Rattle.cache_model.specs.Room.{is_reclaimable}
 pub use Rattle.cache_model.specs.Rows.{is_row_of, row_of, has_row, rows_without, rows_with, rows_replaced, new_row, row_or_new, is_changed, stands_before, may_precede, names_apart, has_storage, has_class, elements_of, elements_in}
 pub use Rattle.cache_model.specs.declared.items.CacheItem.{CacheItem}
 pub use Rattle.cache_reclaim.proofs.LastUseLaws.{slice_get-front, slice_get-behind}
-pub use Rattle.cache_reclaim.specs.LastUse.{order_without, order_touched}
 pub use Rattle.cache_reclaim.specs.declared.used.Used.{Used}
 pub use Rattle.cache_regs.proofs.NameLaws.{same_name-eq, same_name-refl, same_name-sym}
 pub use Rattle.cf_lists.proofs.FilterLaws.{filter-filter, filter_all, find-filter, find_none, list_all_always, filter_swap, filter_none, none_from_all, list_all_weaker, any_is_found, length-filter-le, list_all-filter}
@@ -33,9 +30,6 @@ pub use Rattle.cf_lists.proofs.KeyLaws.{found_filter, AllFound, found_append, su
 pub use Rattle.cf_lists.proofs.PairwiseLaws.{FindsPlace, pairwise-insertion, pairwise_push, pairwise-filter, pairwise-map}
 pub use Rattle.cf_lists.proofs.TableLaws.{get-set_other}
 pub use Rattle.cf_lists.proofs.TakeLaws.{split_next}
-pub use Rattle.cf_lists.specs.Insertions.{insertion}
-pub use Rattle.cf_lists.specs.Pairwise.{pairwise}
-pub use Rattle.cf_types.specs.Name.{same_name, name_before}
 pub use Rattle.cf_types.specs.declared.names.Name16.{Name16}
 pub use Rattle.cf_types.specs.declared.numbers.ConnId.{ConnId}
 pub use Rattle.cache_rows.specs.Indexes.{is_unchanged, changed_of, classes_of, used_of, order_of, order_with, changed_first, reclaimed_for}

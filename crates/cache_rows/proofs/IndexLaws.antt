@@ -1,5 +1,5 @@
 -- The indexes stay those of the rows.
-use Rattle.cache_rows.proofs.Imports.{◌≡◌, ℕ, ◌≤◌, Bool, true, false, not, ◌&&◌, ◌||◌, cond, List, [], ◌∷◌, ◌++◌, append-nil, Option, Some, None, is_some, unwrap_or, filter, map, refl, sym, ap, ◌∙◌, arith, list_all, and_parts, or_left, or_right, false≢true, map-append, filter-append, Name16, ConnId, name_before, pairwise, insertion, filter_swap, filter_none, none_from_all, list_all_weaker, list_all_always, filter-insertion_out, FindsPlace, pairwise-insertion, pairwise_push, Changed, names_without, names_with, names_set, room_taken, Used, order_without, order_touched, same_name-refl, CacheItem, is_changed, has_row, rows_without, stands_before, rows_with, may_precede, names_apart, without_hold, without-absent, alone-next, changed_of, classes_of, used_of, order_of, order_with, changed_first}
+use Rattle.cache_rows.proofs.Imports.{◌≡◌, ℕ, ◌≤◌, Bool, true, false, not, ◌&&◌, ◌||◌, cond, List, [], ◌∷◌, ◌++◌, append-nil, Option, Some, None, is_some, unwrap_or, filter, map, refl, sym, ap, ◌∙◌, arith, list_all, and_parts, or_left, or_right, false≢true, map-append, filter-append, Name16, ConnId, name_before, pairwise, insertion, filter_swap, filter_none, none_from_all, list_all_weaker, list_all_always, filter-insertion_out, pairwise-insertion, pairwise_push, Changed, names_without, names_with, names_set, room_taken, Used, order_without, order_touched, same_name-refl, CacheItem, is_changed, has_row, rows_without, stands_before, rows_with, may_precede, names_apart, without_hold, without-absent, alone-next, changed_of, classes_of, used_of, order_of, order_with, changed_first}
 
 -- ---- filters of maps
 
@@ -23,67 +23,46 @@ pub order-without : (name : Name16) (rows : List CacheItem)
     → order_without name (order_of rows) ≡ order_of (rows_without name rows)
 order-without name rows = grind (arith, filter-map, filter_swap)
 
-classes-absent : (name : Name16) (rows : List CacheItem) → has_row name rows ≡ false
-    → names_without name (classes_of rows) ≡ classes_of rows
-classes-absent name rows h =
-    classes-without name rows ∙ ap (λ (l : List CacheItem). classes_of l) (without-absent name rows h)
-
-order-absent : (name : Name16) (rows : List CacheItem) → has_row name rows ≡ false
-    → order_without name (order_of rows) ≡ order_of rows
-order-absent name rows h =
-    order-without name rows ∙ ap (λ (l : List CacheItem). order_of l) (without-absent name rows h)
-
 -- ---- a row is put in its place
 
 -- where one is unchanged, so are those behind it
-pub unchanged_behind : (y : CacheItem) (ys : List CacheItem) → is_changed y ≡ false
-    → list_all (changed_first y) ys ≡ true
-    → filter is_changed ys ≡ []
+pub unchanged_behind : (y : CacheItem) (ys : List CacheItem)
+    → is_changed y ≡ false → list_all (changed_first y) ys ≡ true → filter is_changed ys ≡ []
 unchanged_behind y ys e h = grind (arith, filter_none, none_from_all, list_all_weaker, false≢true)
 
-placed : (a n : Bool) (row y : CacheItem) (ys zs : List CacheItem) → is_changed row ≡ true → is_changed y ≡ a
-    → (a ≡ false → filter is_changed ys ≡ [])
-    → classes_of zs ≡ names_with (changed_of row) (classes_of ys)
-    → n ≡ name_before y.name row.name
+placed : (a n : Bool) (row y : CacheItem) (ys zs : List CacheItem) → is_changed row ≡ true
+    → is_changed y ≡ a → (a ≡ false → filter is_changed ys ≡ [])
+    → classes_of zs ≡ names_with (changed_of row) (classes_of ys) → n ≡ name_before y.name row.name
     → classes_of (cond (a && n) (y ∷ zs) (row ∷ y ∷ ys)) ≡ names_with (changed_of row) (classes_of (y ∷ ys))
 placed true true row y ys zs e f none ih same = rw (f, ← same) (ap (λ (l : List Changed). changed_of y ∷ l) ih)
 placed true false row y ys zs e f none ih same = rw (e, f, ← same) refl
 placed false n row y ys zs e f none ih same = rw (e, f, none refl) refl
 
-classes-insertion : (row : CacheItem) (rows : List CacheItem) → is_changed row ≡ true
-    → pairwise changed_first rows ≡ true
-    → classes_of (insertion (stands_before row) row rows) ≡ names_with (changed_of row) (classes_of rows)
+classes-insertion : (row : CacheItem) (rows : List CacheItem) → is_changed row ≡ true → pairwise changed_first
+    rows ≡ true → classes_of (insertion (stands_before row) row rows) ≡ names_with (changed_of row) (classes_of rows)
 classes-insertion row [] e h = rw e refl
 classes-insertion row (y ∷ ys) e h =
     let parts = and_parts (list_all (changed_first y) ys) (pairwise changed_first ys) h in
-    placed (is_changed y) (name_before y.name row.name) row y ys (insertion (stands_before row) row ys) e refl
-    (λ f. unchanged_behind y ys f parts.0) (classes-insertion row ys e parts.1) refl
+    placed _ _ _ y _ _ e refl (λ f. unchanged_behind y _ f parts.0) (classes-insertion row ys e parts.1) refl
 
 classes-last : (b : Bool) (row : CacheItem) (rows : List CacheItem) → is_changed row ≡ b
     → classes_of (rows ++ row ∷ []) ≡ classes_of rows ++ cond b (changed_of row ∷ []) []
 classes-last b row rows e = grind (arith, filter-append, map-append)
-
-order-last : (b : Bool) (row : CacheItem) (rows : List CacheItem) → is_changed row ≡ b
-    → order_of (rows ++ row ∷ []) ≡ order_of rows ++ cond b [] (used_of row ∷ [])
-order-last b row rows e = grind (arith, filter-append, map-append)
 
 -- the name's class, where it had none
 set-absent : (name : Name16) (class : Option ℕ) (names : List Changed) → names_without name names ≡ names
     → names_set name class names
     ≡ cond (is_some class) (names_with (record { name = name; class = unwrap_or class 0 }) names) names
 set-absent name None names h = h
-set-absent name (Some class) names h = ap (λ (l : List Changed). names_with (record { name = name; class = class }) l)
-    h
+set-absent name (Some class) names h = grind arith
 
-pub classes-put : (row : CacheItem) (rows : List CacheItem) → has_row row.name rows ≡ false
-    → pairwise changed_first rows ≡ true
-    → names_set row.name row.class (classes_of rows) ≡ classes_of (rows_with row rows)
-classes-put row rows absent h =
-    set-absent row.name row.class (classes_of rows) (classes-absent row.name rows absent) ∙ go (is_changed row) refl
+pub classes-put : (row : CacheItem) (rows : List CacheItem) → has_row row.name rows ≡ false → pairwise
+    changed_first rows ≡ true → names_set row.name row.class (classes_of rows) ≡ classes_of (rows_with row rows)
+classes-put row rows absent h = set-absent row.name row.class
+    (classes_of rows) (grind (arith, classes-without, without-absent)) ∙ go (is_changed row) refl
   where
-    go : (b : Bool) → is_changed row ≡ b
-        → cond b (names_with (changed_of row) (classes_of rows)) (classes_of rows)
-        ≡ classes_of (cond b (insertion (stands_before row) row rows) (rows ++ row ∷ []))
+    go : (b : Bool) → is_changed row ≡ b → cond b (names_with (changed_of row) (classes_of rows))
+        (classes_of rows) ≡ classes_of (cond b (insertion (stands_before row) row rows) (rows ++ row ∷ []))
     go true e = sym (classes-insertion row rows e h)
     go false e = sym (classes-last false row rows e ∙ append-nil (classes_of rows))
 
@@ -91,15 +70,12 @@ touched : (b : Bool) (row : CacheItem) (rows : List CacheItem) → has_row row.n
     → cond b (order_of rows) (order_touched row.name row.stg (order_of rows))
     ≡ order_of rows ++ cond b [] (used_of row ∷ [])
 touched true row rows absent e = sym (append-nil (order_of rows))
-touched false row rows absent e = ap (λ (l : List Used). l ++ used_of row ∷ []) (order-absent row.name rows absent)
+touched false row rows absent e =
+    ap (λ (l : List Used). l ++ used_of row ∷ []) (grind (arith, order-without, without-absent))
 
 pub order-put : (row : CacheItem) (rows : List CacheItem) → has_row row.name rows ≡ false
     → order_with row (order_of rows) ≡ order_of (rows_with row rows)
-order-put row rows absent = grind (arith, filter-insertion_out, touched, order-last)
-
-finds_front : (row : CacheItem) → is_changed row ≡ true
-    → FindsPlace changed_first (stands_before row) (λ other. true) row
-finds_front row e = grind (arith, or_left, and_parts)
+order-put row rows absent = grind (arith, filter-insertion_out, touched, filter-append, map-append)
 
 pub front-put : (row : CacheItem) (rows : List CacheItem) → pairwise changed_first rows ≡ true
     → pairwise changed_first (rows_with row rows) ≡ true
@@ -107,9 +83,8 @@ front-put row rows h = go (is_changed row) refl
   where
     go : (b : Bool) → is_changed row ≡ b → pairwise changed_first
         (cond b (insertion (stands_before row) row rows) (rows ++ row ∷ [])) ≡ true
-    go true e =
-        pairwise-insertion changed_first (stands_before row) (λ other. true) row rows (finds_front row e)
-        (list_all_always (λ (other : CacheItem). true) (λ other. refl) rows) h
+    go true e = pairwise-insertion changed_first (stands_before row) (λ other. true) row rows
+        (grind (arith, or_left, and_parts)) (list_all_always (λ (other : CacheItem). true) (λ other. refl) rows) h
     go false e = grind (arith, pairwise_push, list_all_always, or_right)
 
 -- ---- a row is put behind the others, where it has its place

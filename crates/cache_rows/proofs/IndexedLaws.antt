@@ -1,5 +1,8 @@
 -- A map from names and two indexes hold one list of rows, as rows come and go.
-use Rattle.cache_rows.proofs.Imports.{◌≡◌, ℕ, zero, suc, ◌+◌, ◌-◌, ◌≤◌, ◌<◌, Bool, true, false, not, ◌&&◌, cond, List, [], ◌∷◌, ◌++◌, Option, Some, None, option_map, option_to_list, slice_get, is_some, unwrap_or, length, length-append, filter, map, drop, refl, sym, ap, ◌∙◌, subst, arith, option_or, list_all, and_parts, map-append, length-map, drop_all, filter-append, find-append, slice_get-map, Name16, ConnId, same_name, pairwise, insertion, filter-filter, filter_swap, find-filter, find_none, any_is_found, length-filter-le, find-insertion_past, find-insertion_here, found_filter, pairwise-filter, pairwise-map, Changed, names_without, names_set, Writes, Used, order_without, slice_get-front, slice_get-behind, same_name-eq, same_name-refl, same_name-sym, CacheItem, is_row_of, is_changed, row_of, has_row, rows_without, stands_before, rows_with, rows_replaced, new_row, has_storage, without_hold, name_of, apart-with, alone-without, is_unchanged, changed_of, used_of, order_with, changed_first, Label, item_with, body_of, row_or, changed_in, unchanged_in, rows_in, IsIndexed, counts_at, relabeled}
+use Rattle.std.proofs.lemmas.List.Filters.{length-filter_both}
+use Rattle.cache_model.proofs.CopyLaws.{other_found as found_without, row_of-replaced}
+use Rattle.cache_rows.proofs.StoreLaws.{mapped}
+use Rattle.cache_rows.proofs.Imports.{without-absent, ◌≡◌, ℕ, zero, suc, ◌+◌, ◌-◌, ◌≤◌, ◌<◌, Bool, true, false, not, ◌&&◌, cond, List, [], ◌∷◌, ◌++◌, Option, Some, None, option_map, option_to_list, slice_get, is_some, unwrap_or, length, length-append, filter, map, drop, refl, sym, ap, ◌∙◌, subst, arith, list_all, and_parts, map-append, length-map, drop_all, filter-append, slice_get-map, Name16, ConnId, same_name, pairwise, filter-filter, filter_swap, find_none, any_is_found, length-filter-le, found_filter, pairwise-filter, pairwise-map, Changed, names_without, names_set, Writes, Used, order_without, slice_get-front, slice_get-behind, same_name-eq, same_name-refl, CacheItem, is_row_of, is_changed, row_of, has_row, rows_without, rows_with, rows_replaced, new_row, has_storage, without_hold, name_of, apart-with, alone-without, is_unchanged, order_with, changed_first, Label, item_with, body_of, row_or, changed_in, unchanged_in, rows_in, IsIndexed, counts_at, relabeled}
 use Rattle.cache_classes.specs.Castout as castout
 use Rattle.cache_reclaim.specs.LastUse as last_use
 use Rattle.cache_rows.proofs.IndexLaws.{filter-map, map_same, unchanged_behind, classes-without, order-without, classes-put, order-put, front-put, classes-released, order-released}
@@ -8,9 +11,8 @@ use Rattle.cache_rows.proofs.LookupLaws.{AreFound}
 -- ---- the list is the changed rows, and then the others
 
 parts_step : (b : Bool) (y : CacheItem) (ys : List CacheItem) → (b ≡ false → filter is_changed ys ≡ [])
-    → ys ≡ filter is_changed ys ++ filter is_unchanged ys
-    → y ∷ ys ≡ cond b (y ∷ filter is_changed ys) (filter is_changed ys)
-    ++ cond (not b) (y ∷ filter is_unchanged ys) (filter is_unchanged ys)
+    → ys ≡ filter is_changed ys ++ filter is_unchanged ys → y ∷ ys ≡ cond b (y ∷ filter is_changed ys)
+    (filter is_changed ys) ++ cond (not b) (y ∷ filter is_unchanged ys) (filter is_unchanged ys)
 parts_step true y ys none ih = ap (λ l. y ∷ l) ih
 parts_step false y ys none ih = grind arith
 
@@ -21,9 +23,8 @@ parts_of (y ∷ ys) h =
     let parts = and_parts (list_all (changed_first y) ys) (pairwise changed_first ys) h in
     parts_step (is_changed y) y ys (λ e. unchanged_behind y ys e parts.0) (parts_of ys parts.1)
 
-each_found : (at : Name16 → Option CacheItem) (rows vs : List CacheItem)
-    → ((name : Name16) → at name ≡ row_of name rows) → AreFound vs rows
-    → map (λ (row : CacheItem). row_or at row.name) vs ≡ vs
+each_found : (at : Name16 → Option CacheItem) (rows vs : List CacheItem) → ((name : Name16)
+    → at name ≡ row_of name rows) → AreFound vs rows → map (λ (row : CacheItem). row_or at row.name) vs ≡ vs
 each_found at rows [] f h = refl
 each_found at rows (v ∷ vs) f h =
     let one : row_or at v.name ≡ v = ap (λ o. unwrap_or o (new_row v.name 1)) (f v.name ∙ h.0) in
@@ -31,33 +32,20 @@ each_found at rows (v ∷ vs) f h =
 
 -- ---- the changed rows and the others are all
 
-part_step : (b : Bool) (x : CacheItem) (xs ys zs : List CacheItem) → length ys + length zs ≡ length xs
-    → length (cond (not b) (x ∷ ys) ys) + length (cond b (x ∷ zs) zs) ≡ length (x ∷ xs)
-part_step true x xs ys zs e = omega (arith, e)
-part_step false x xs ys zs e = omega (arith, e)
-
 both_parts : (rows : List CacheItem)
     → length (filter is_unchanged rows) + length (filter is_changed rows) ≡ length rows
-both_parts [] = refl
-both_parts (x ∷ xs) =
-    part_step (is_changed x) x xs (filter is_unchanged xs) (filter is_changed xs) (both_parts xs)
+both_parts rows = grind (arith, length-filter_both is_changed is_unchanged (λ row. refl) rows)
 
 module _ (rows : List CacheItem) (at : Name16 → Option CacheItem) (names : List Changed) (used : List Used)
     (is : IsIndexed rows at names used) where
   pub listed_changed : changed_in at names ≡ filter is_changed rows
-  listed_changed =
-      ap (λ l. changed_in at l) is.classed
-      ∙ map_same (λ (changed : Changed). row_or at changed.name) changed_of (λ (row : CacheItem). row_or at row.name)
-      (λ row. refl) (filter is_changed rows)
-      ∙ each_found at rows (filter is_changed rows) is.found
+  listed_changed = ap (λ l. changed_in at l) is.classed
+      ∙ map_same _ _ _ (λ row. refl) _ ∙ each_found at rows (filter is_changed rows) is.found
       (found_filter name_of same_name same_name-eq same_name-refl is_changed rows is.one_for_name)
 
   listed_unchanged : unchanged_in at used ≡ filter is_unchanged rows
-  listed_unchanged =
-      ap (λ l. unchanged_in at l) is.ordered
-      ∙ map_same (λ (one : Used). row_or at one.name) used_of (λ (row : CacheItem). row_or at row.name)
-      (λ row. refl) (filter is_unchanged rows)
-      ∙ each_found at rows (filter is_unchanged rows) is.found
+  listed_unchanged = ap (λ l. unchanged_in at l) is.ordered
+      ∙ map_same _ _ _ (λ row. refl) _ ∙ each_found at rows (filter is_unchanged rows) is.found
       (found_filter name_of same_name same_name-eq same_name-refl is_unchanged rows is.one_for_name)
 
   -- what the map and the indexes hold is the list
@@ -73,41 +61,25 @@ module _ (rows : List CacheItem) (at : Name16 → Option CacheItem) (names : Lis
 
   -- the names stand in the order of the rows
   names_listed : map name_of rows ≡ castout.names_in names ++ last_use.names_in used
-  names_listed =
-      ap (λ l. map name_of l) (parts_of rows is.changed_front)
-      ∙ map-append name_of (filter is_changed rows) (filter is_unchanged rows)
-      ∙ ap (λ l. l ++ map name_of (filter is_unchanged rows))
-      (sym (ap castout.names_in is.classed
-      ∙ map_same (λ (changed : Changed). changed.name) changed_of name_of (λ row. refl) (filter is_changed rows)))
-      ∙ ap (λ l. castout.names_in names ++ l)
-      (sym (ap last_use.names_in is.ordered
-      ∙ map_same (λ (one : Used). one.name) used_of name_of (λ row. refl) (filter is_unchanged rows)))
+  names_listed = ap (λ l. map name_of l) (parts_of _ is.changed_front) ∙ map-append name_of
+      (filter is_changed rows) (filter is_unchanged rows) ∙ ap (λ l. l ++ map name_of (filter is_unchanged rows))
+      (sym (ap castout.names_in is.classed ∙ map_same _ _ _ (λ row. refl) _))
+      ∙ ap (λ l. castout.names_in names ++ l) (sym (ap last_use.names_in is.ordered ∙ map_same _ _ _ (λ row. refl) _))
 
   pub names_are : (all : List Name16) → all ≡ castout.names_in names ++ last_use.names_in used
       → all ≡ map name_of rows
   names_are all e = e ∙ sym names_listed
 
   row_at_place : (k : ℕ)
-      → option_map name_of (slice_get rows k)
-      ≡ slice_get (castout.names_in names ++ last_use.names_in used) k
+      → option_map name_of (slice_get rows k) ≡ slice_get (castout.names_in names ++ last_use.names_in used) k
   row_at_place k = sym (slice_get-map name_of rows k) ∙ ap (λ l. slice_get l k) names_listed
 
-  -- the name at a place, among the changed rows and behind them
-  pub name_in_front : (k : ℕ) (name : Option Name16) → k < length names
-      → name ≡ option_map (λ (changed : Changed). changed.name) (slice_get names k)
-      → name ≡ option_map name_of (slice_get rows k)
-  name_in_front k name lt e = grind (arith, length-map, slice_get-map, slice_get-front, row_at_place)
-
-  pub name_behind : (k : ℕ) (name : Option Name16) → length names ≤ k
-      → name ≡ option_map (λ (one : Used). one.name) (slice_get used (k - length names))
-      → name ≡ option_map name_of (slice_get rows k)
+  pub name_behind : (k : ℕ) (name : Option Name16) → length names ≤ k → name ≡ option_map
+      (λ (one : Used). one.name) (slice_get used (k - length names)) → name ≡ option_map name_of (slice_get rows k)
   name_behind k name le e =
       let long = length-map names (λ (changed : Changed). changed.name) in
-      e ∙ sym (slice_get-map (λ (one : Used). one.name) used (k - length names))
-      ∙ ap (λ n. slice_get (last_use.names_in used) (k - n)) (sym long)
-      ∙ sym (slice_get-behind (castout.names_in names) (last_use.names_in used) k
-      (k - length (castout.names_in names)) (omega (arith, le, long)))
-      ∙ sym (row_at_place k)
+      e ∙ sym (slice_get-map (λ (one : Used). one.name) used (k - length names)) ∙ ap (λ n. slice_get
+      (last_use.names_in used) (k - n)) (sym long) ∙ sym (grind (arith, slice_get-behind)) ∙ sym (row_at_place k)
 
   fewer_changed : length names ≤ length rows
   fewer_changed = grind (arith, length-map, length-filter-le)
@@ -119,25 +91,21 @@ module _ (rows : List CacheItem) (at : Name16 → Option CacheItem) (names : Lis
   pub last_in_front : (n : ℕ) (name : Option Name16) → n ≡ length rows → 0 < n → n ≤ length names
       → name ≡ option_map (λ (changed : Changed). changed.name) (slice_get names (length names - 1))
       → name ≡ option_map name_of (slice_get rows (n - 1))
-  last_in_front n name all some le e = grind (arith, fewer_changed, name_in_front)
+  last_in_front n name all some le e =
+      grind (arith, fewer_changed, length-map, slice_get-map, slice_get-front, row_at_place)
 
   -- ---- how many rows are of a storage class
 
-  pub changed_storage : (stg : ℕ)
-      → length (filter (λ (changed : Changed). has_storage stg (row_or at changed.name)) names)
-      ≡ length (filter (λ row. has_storage stg row && is_changed row) rows)
+  pub changed_storage : (stg : ℕ) → length (filter (λ (changed : Changed). has_storage stg (row_or at changed.name))
+      names) ≡ length (filter (λ row. has_storage stg row && is_changed row) rows)
   changed_storage stg =
       let row = λ (changed : Changed). row_or at changed.name in
-      sym (length-map (filter (λ (changed : Changed). has_storage stg (row changed)) names) row)
-      ∙ ap (λ (l : List CacheItem). length l)
-      (sym (filter-map (has_storage stg) row names)
-      ∙ ap (λ (l : List CacheItem). filter (has_storage stg) l) listed_changed
-      ∙ filter_swap (has_storage stg) is_changed rows
-      ∙ filter-filter is_changed (has_storage stg) rows)
+      sym (grind (arith, length-map)) ∙ ap (λ (l : List CacheItem). length l) (sym (filter-map
+      (has_storage stg) row names) ∙ ap (λ (l : List CacheItem). filter (has_storage stg) l) listed_changed
+      ∙ filter_swap (has_storage stg) is_changed rows ∙ filter-filter is_changed (has_storage stg) rows)
 
-  pub unchanged_storage : (stg n : ℕ) → n ≡ length (filter (last_use.is_in_part stg true) used)
-      → n + length (filter (λ row. has_storage stg row && is_changed row) rows)
-      ≡ length (filter (has_storage stg) rows)
+  pub unchanged_storage : (stg n : ℕ) → n ≡ length (filter (last_use.is_in_part stg true) used) → n
+      + length (filter (λ row. has_storage stg row && is_changed row) rows) ≡ length (filter (has_storage stg) rows)
   unchanged_storage stg n e = grind (arith, filter-map, length-map, filter_swap, filter-filter, both_parts)
 
 -- ---- one more of a list from a place on
@@ -154,11 +122,9 @@ pub counted_more : (stg : ℕ) (at : Name16 → Option CacheItem) (names : List 
     → now + one + length (filter (λ changed. has_storage stg (row_or at changed.name)) (drop (k + 1) names)) ≡ all
 counted_more stg at names k now one all is so_far = grind (arith, drop_one, filter-append, length-append)
 
-pub count_fits : (stg : ℕ) (at : Name16 → Option CacheItem) (names : List Changed) (k now one : ℕ)
-    → one ≡ counts_at stg at names k
-    → now + length (filter (λ changed. has_storage stg (row_or at changed.name)) (drop k names)) ≡ length (filter
-    (λ changed. has_storage stg (row_or at changed.name)) names)
-    → now + one ≤ length names
+pub count_fits : (stg : ℕ) (at : Name16 → Option CacheItem) (names : List Changed) (k now one : ℕ) → one ≡ counts_at
+    stg at names k → now + length (filter (λ changed. has_storage stg (row_or at changed.name)) (drop k names))
+    ≡ length (filter (λ changed. has_storage stg (row_or at changed.name)) names) → now + one ≤ length names
 count_fits stg at names k now one is so_far =
     let p = λ (changed : Changed). has_storage stg (row_or at changed.name) in
     let more = counted_more stg at names k now one (length (filter p names)) is so_far in
@@ -168,8 +134,7 @@ count_fits stg at names k now one is so_far =
 
 pub nothing : (at : Name16 → Option CacheItem) (names : List Changed) (used : List Used)
     → ((name : Name16) → at name ≡ None) → names ≡ [] → used ≡ [] → IsIndexed [] at names used
-nothing at names used h e f =
-    record { changed_front = refl; one_for_name = refl; classed = e; ordered = f; found = h }
+nothing at names used h e f = grind arith
 
 -- ---- a row is taken out
 
@@ -177,62 +142,24 @@ other_found : (q name : Name16) (rows : List CacheItem)
     → row_of q (rows_without name rows) ≡ cond (same_name name q) None (row_of q rows)
 other_found q name rows = go (same_name name q) refl
   where
-    others : same_name name q ≡ false → (row : CacheItem) → is_row_of q row ≡ true
-        → not (is_row_of name row) ≡ true
-    others e row h =
-        ap not (subst (λ (n : Name16). same_name n name ≡ false) (sym (same_name-eq row.name q h))
-        (same_name-sym q name ∙ e))
-
     go : (b : Bool) → same_name name q ≡ b → row_of q (rows_without name rows) ≡ cond b None (row_of q rows)
-    go true e =
-        find_none (is_row_of q) (rows_without name rows) (alone-without q name rows (sym (same_name-eq name q e)))
-    go false e = find-filter (is_row_of q) (λ row. not (is_row_of name row)) (others e) rows
+    go true e = find_none (is_row_of q) (rows_without name rows) (alone-without q _ _ (sym (same_name-eq name q e)))
+    go false e = found_without q name rows e
 
 pub taken : (rows : List CacheItem) (at next : Name16 → Option CacheItem) (names names' : List Changed)
-    (used used' : List Used) (name : Name16)
-    → IsIndexed rows at names used → Writes at name None next → names' ≡ names_without name names
-    → used' ≡ order_without name used
-    → IsIndexed (rows_without name rows) next names' used'
+    (used used' : List Used) (name : Name16) → IsIndexed rows at names used → Writes at name None next → names' ≡
+    names_without name names → used' ≡ order_without name used → IsIndexed (rows_without name rows) next names' used'
 taken rows at next names names' used used' name is writes e f =
     grind (arith, pairwise-filter, classes-without, order-without, other_found)
 
 -- ---- a row is put in its place
 
-or_none : (o : Option CacheItem) → option_or o None ≡ o
-or_none None = refl
-or_none (Some row) = refl
-
-last_found : (c : Bool) (q : Name16) (row : CacheItem) (rows : List CacheItem) → is_row_of q row ≡ c
-    → (c ≡ true → row_of q rows ≡ None)
-    → row_of q (rows ++ row ∷ []) ≡ cond c (Some row) (row_of q rows)
-last_found true q row rows e none = grind (arith, find-append)
-last_found false q row rows e none = grind (arith, find-append, or_none)
-
-placed_found : (c : Bool) (q : Name16) (row : CacheItem) (rows : List CacheItem) → is_row_of q row ≡ c
-    → (c ≡ true → has_row q rows ≡ false)
-    → row_of q (insertion (stands_before row) row rows) ≡ cond c (Some row) (row_of q rows)
-placed_found true q row rows e none = find-insertion_here (is_row_of q) (stands_before row) row rows e (none refl)
-placed_found false q row rows e none = find-insertion_past (is_row_of q) (stands_before row) row rows e
-
-with_found : (q : Name16) (row : CacheItem) (rows : List CacheItem) → has_row row.name rows ≡ false
-    → row_of q (rows_with row rows) ≡ cond (same_name row.name q) (Some row) (row_of q rows)
-with_found q row rows alone = go (is_changed row)
-  where
-    absent : is_row_of q row ≡ true → has_row q rows ≡ false
-    absent e = subst (λ (n : Name16). has_row n rows ≡ false) (same_name-eq row.name q e) alone
-
-    go : (b : Bool) → row_of q (cond b (insertion (stands_before row) row rows) (rows ++ row ∷ []))
-        ≡ cond (same_name row.name q) (Some row) (row_of q rows)
-    go true = placed_found (is_row_of q row) q row rows refl absent
-    go false = last_found (is_row_of q row) q row rows refl (λ e. find_none (is_row_of q) rows (absent e))
-
-pub come : (rows : List CacheItem) (at next : Name16 → Option CacheItem) (names names' : List Changed)
-    (used used' : List Used) (row : CacheItem)
-    → IsIndexed rows at names used → has_row row.name rows ≡ false → Writes at row.name (Some row) next
-    → names' ≡ names_set row.name row.class names → used' ≡ order_with row used
-    → IsIndexed (rows_with row rows) next names' used'
+pub come : (rows : List CacheItem) (at next : Name16 → Option CacheItem)
+    (names names' : List Changed) (used used' : List Used) (row : CacheItem) → IsIndexed rows at names used
+    → has_row row.name rows ≡ false → Writes at row.name (Some row) next → names' ≡ names_set row.name row.class names
+    → used' ≡ order_with row used → IsIndexed (rows_with row rows) next names' used'
 come rows at next names names' used used' row is alone writes e f =
-    grind (arith, front-put, apart-with, classes-put, order-put, with_found)
+    grind (arith, front-put, apart-with, classes-put, order-put, without-absent, row_of-replaced)
 
 -- ---- a row is put in place of the one of its name
 
@@ -242,47 +169,37 @@ row_twice true row o = refl
 row_twice false row o = refl
 
 pub replaced : (rows : List CacheItem) (at next : Name16 → Option CacheItem) (names left names' : List Changed)
-    (used rest used' : List Used) (row : CacheItem)
-    → IsIndexed rows at names used → Writes at row.name (Some row) next
-    → left ≡ names_without row.name names → rest ≡ order_without row.name used
-    → names' ≡ names_set row.name row.class left → used' ≡ order_with row rest
-    → IsIndexed (rows_replaced row rows) next names' used'
-replaced rows at next names left names' used rest used' row is writes e f g h =
-    come (rows_without row.name rows) middle next left names' rest used' row
-    (taken rows at middle names left used rest row.name is (λ q. refl) e f)
-    (alone-without row.name row.name rows refl)
-    (λ q. writes q ∙ row_twice (same_name row.name q) row (at q)) g h
+    (used rest used' : List Used) (row : CacheItem) → IsIndexed rows at names used → Writes at row.name
+    (Some row) next → left ≡ names_without row.name names → rest ≡ order_without row.name used → names' ≡ names_set
+    row.name row.class left → used' ≡ order_with row rest → IsIndexed (rows_replaced row rows) next names' used'
+replaced rows at next names left names' used rest used' row is writes e f g h = come (rows_without row.name rows)
+    middle next left names' rest used' row (taken rows at middle names left used rest row.name is (λ q. refl) e f)
+    (alone-without row.name row.name rows refl) (λ q. writes q ∙ row_twice (same_name row.name q) row (at q)) g h
   where
     middle : Name16 → Option CacheItem
     middle q = cond (same_name row.name q) None (at q)
 
 pub relabeled_in : (rows : List CacheItem) (at next : Name16 → Option CacheItem) (names left names' : List Changed)
-    (used rest used' : List Used) (label : Label)
-    → IsIndexed rows at names used → Writes at label.name (Some (item_with label (body_of (at label.name)))) next
-    → left ≡ names_without label.name names → rest ≡ order_without label.name used
-    → names' ≡ names_set label.name label.class left → used' ≡ order_with (item_with label None) rest
-    → IsIndexed (rows_replaced (relabeled label rows) rows) next names' used'
+    (used rest used' : List Used) (label : Label) → IsIndexed rows at names used → Writes
+    at label.name (Some (item_with label (body_of (at label.name)))) next → left ≡ names_without label.name names
+    → rest ≡ order_without label.name used → names' ≡ names_set label.name label.class left → used' ≡ order_with
+    (item_with label None) rest → IsIndexed (rows_replaced (relabeled label rows) rows) next names' used'
 relabeled_in rows at next names left names' used rest used' label is writes e f g h =
-    replaced rows at next names left names' used rest used' (relabeled label rows) is
-    (grind arith)
-    e f g h
+    replaced rows at next names left names' used rest used' (relabeled label rows) is (grind arith) e f g h
 
 -- ---- castout locks are released
-
-held_step : (conn : ConnId) (b : Bool) (row : CacheItem) (o r : Option CacheItem)
-    → r ≡ option_map (without_hold conn) o
-    → cond b (Some (without_hold conn row)) r ≡ option_map (without_hold conn) (cond b (Some row) o)
-held_step conn true row o r e = refl
-held_step conn false row o r e = e
 
 released_found : (conn : ConnId) (q : Name16) (rows : List CacheItem)
     → row_of q (map (without_hold conn) rows) ≡ option_map (without_hold conn) (row_of q rows)
 released_found conn q [] = refl
-released_found conn q (row ∷ rows) = grind (arith, held_step, released_found conn q rows)
+released_found conn q (row ∷ rows) = grind (arith, mapped, released_found conn q rows)
 
-pub released : (rows : List CacheItem) (at next : Name16 → Option CacheItem) (names : List Changed)
-    (used : List Used) (conn : ConnId)
-    → IsIndexed rows at names used → ((q : Name16) → next q ≡ option_map (without_hold conn) (at q))
+pub released : (rows : List CacheItem) (at next : Name16 → Option CacheItem) (names : List Changed) (used : List Used)
+    (conn : ConnId) → IsIndexed rows at names used → ((q : Name16) → next q ≡ option_map (without_hold conn) (at q))
     → IsIndexed (map (without_hold conn) rows) next names used
 released rows at next names used conn is moved =
     grind (arith, pairwise-map, classes-released, order-released, released_found)
+
+-- ---- what functions are proved by
+
+pub ruleset fewer = (length-filter-le, length-map)

@@ -19,9 +19,8 @@ body_set : (chains : Chains) (stored : Option Chain) (at : ℕ) (o : Option (Lis
 body_set chains None at o away = refl
 body_set chains (Some chain) at o away = get_or-set_other chains at chain.head o None (λ e. away (ap Some e))
 
-item_set : (chains : Chains) (row : Option DirRow) (at : ℕ) (o : Option (List ℕ))
-    → (head_of (chain_of row) ≡ Some at → ⊥)
-    → option_map (item_in (set chains at o)) row ≡ option_map (item_in chains) row
+item_set : (chains : Chains) (row : Option DirRow) (at : ℕ) (o : Option (List ℕ)) → (head_of (chain_of row) ≡ Some at
+    → ⊥) → option_map (item_in (set chains at o)) row ≡ option_map (item_in chains) row
 item_set chains None at o away = refl
 item_set chains (Some row) at o away = grind (arith, body_set)
 
@@ -30,8 +29,7 @@ IsUnused rows at = (name : Name16) → head_of (chain_of (rows name)) ≡ Some a
 
 stored_set : (chains : Chains) (rows : Rows) (at : ℕ) (o : Option (List ℕ)) → IsUnused rows at
     → AreStored chains rows → AreStored (set chains at o) rows
-stored_set chains rows at o unused is =
-    record { held = λ q. has_set chains (chain_of (rows q)) at o (unused q) (is.held q); apart = is.apart }
+stored_set chains rows at o unused is = grind (arith, has_set)
 
 nothing_there : (o : Option (Option (List ℕ))) (bytes : List ℕ) → o ≡ Some (Some bytes) → o ≡ Some None → ⊥
 nothing_there o bytes e f = cc
@@ -39,21 +37,11 @@ nothing_there o bytes e f = cc
 no_head : (at : ℕ) → head_of None ≡ Some at → ⊥
 no_head at e = cc
 
--- where no chain begins, no row's data begin
-unused_fresh : (chains : Chains) (rows : Rows) (at : ℕ) → AreStored chains rows → slice_get chains at ≡ Some None
-    → IsUnused rows at
-unused_fresh chains rows at is fresh q e = grind (arith, no_head, nothing_there)
-
 -- ---- a row goes
 
 left_head : (rows next : Rows) (name q : Name16) (at : ℕ) → Writes rows name None next
-    → head_of (chain_of (next q)) ≡ Some at
-    → (same_name name q ≡ false) × (head_of (chain_of (rows q)) ≡ Some at)
+    → head_of (chain_of (next q)) ≡ Some at → (same_name name q ≡ false) × (head_of (chain_of (rows q)) ≡ Some at)
 left_head rows next name q at writes e = grind (arith, no_head)
-
-stored_less : (chains : Chains) (rows next : Rows) (name : Name16) → AreStored chains rows
-    → Writes rows name None next → AreStored chains next
-stored_less chains rows next name is writes = grind (arith, left_head)
 
 unused_less : (chains : Chains) (rows next : Rows) (name : Name16) (at : ℕ) → AreStored chains rows
     → Writes rows name None next → head_of (chain_of (rows name)) ≡ Some at → IsUnused next at
@@ -76,7 +64,7 @@ module _ (chains after : Chains) (rows next : Rows) (name : Name16) (stored : Op
   unused_next chain e = unused_less chains rows next name chain.head is writes (ap head_of (sym had ∙ e))
 
   pub ended_stored : AreStored after next
-  ended_stored = grind (arith, stored_less, stored_set, unused_next)
+  ended_stored = grind (arith, stored_set, unused_next, left_head)
 
   pub ended_items : (q : Name16) → option_map (item_in after) (next q)
       ≡ cond (same_name name q) None (option_map (item_in chains) (rows q))
@@ -106,8 +94,7 @@ stored_more chains rows next name row is has unused writes = grind (arith, here,
     both : (q p : Name16) (at : ℕ) (b c : Bool) → same_name name q ≡ b → same_name name p ≡ c
         → next q ≡ cond b (Some row) (rows q) → next p ≡ cond c (Some row) (rows p)
         → head_of (chain_of (next q)) ≡ Some at → head_of (chain_of (next p)) ≡ Some at → same_name q p ≡ true
-    both q p at true true sq sp e f h k =
-        subst (λ (n : Name16). same_name n p ≡ true) (same_name-eq name q sq) sp
+    both q p at true true sq sp e f h k = subst (λ (n : Name16). same_name n p ≡ true) (same_name-eq name q sq) sp
     both q p at true false sq sp e f h k = absurd (unused at (first q (Some row) at e h) p (first p (rows p) at f k))
     both q p at false true sq sp e f h k = absurd (unused at (first p (Some row) at f k) q (first q (rows q) at e h))
     both q p at false false sq sp e f h k = is.apart q p at (first q (rows q) at e h) (first p (rows p) at f k)
@@ -117,13 +104,11 @@ module _ (chains after : Chains) (rows next : Rows) (label : Label) (chain : Cha
     (put : after ≡ set chains chain.head (Some bytes)) (has : HasBytes after chain bytes)
     (writes : Writes rows label.name (Some (row_of_label label (Some chain))) next) where
   unused : IsUnused rows chain.head
-  unused = unused_fresh chains rows chain.head is fresh
+  unused = grind (arith, no_head, nothing_there)
 
   pub written_stored : AreStored after next
-  written_stored =
-      stored_more after rows next label.name (row_of_label label (Some chain))
-      (subst (λ l. AreStored l rows) (sym put) (stored_set chains rows chain.head (Some bytes) unused is))
-      (bytes, has) away writes
+  written_stored = stored_more after rows next label.name (row_of_label label (Some chain)) (subst (λ l. AreStored l
+      rows) (sym put) (stored_set chains rows chain.head (Some bytes) unused is)) (bytes, has) away writes
     where
       away : (at : ℕ) → head_of (Some chain) ≡ Some at → IsUnused rows at
       away at e = let same : chain.head ≡ at = cc in subst (λ k. IsUnused rows k) same unused
@@ -149,17 +134,14 @@ same_data chains label (Some row) = refl
 
 module _ (chains : Chains) (rows next : Rows) (label : Label)
     (writes : Writes rows label.name (Some (row_of_label label (chain_of (rows label.name)))) next) where
-  pub set_items : (q : Name16) → option_map (item_in chains) (next q)
-      ≡ cond (same_name label.name q)
-      (Some (item_with label (body_of (option_map (item_in chains) (rows label.name)))))
-      (option_map (item_in chains) (rows q))
+  pub set_items : (q : Name16) → option_map (item_in chains) (next q) ≡ cond (same_name label.name q) (Some (item_with
+      label (body_of (option_map (item_in chains) (rows label.name))))) (option_map (item_in chains) (rows q))
   set_items q = grind (arith, items_same, same_data)
 
 -- ---- castout locks are released
 
-let_go_item : (chains : Chains) (conn : ConnId) (row : Option DirRow)
-    → option_map (item_in chains) (option_map (let_go conn) row)
-    ≡ option_map (without_hold conn) (option_map (item_in chains) row)
+let_go_item : (chains : Chains) (conn : ConnId) (row : Option DirRow) → option_map (item_in chains)
+    (option_map (let_go conn) row) ≡ option_map (without_hold conn) (option_map (item_in chains) row)
 let_go_item chains conn None = refl
 let_go_item chains conn (Some row) = refl
 
@@ -171,18 +153,18 @@ module _ (chains : Chains) (rows next : Rows) (conn : ConnId)
 
 -- ---- what is seen of the entries
 
-shown_step : (f : DirRow → CacheItem) (b : Bool) (row : DirRow) (o : Option DirRow) (r : Option CacheItem)
-    → r ≡ option_map f o → cond b (Some (f row)) r ≡ option_map f (cond b (Some row) o)
-shown_step f true row o r e = refl
-shown_step f false row o r e = e
+-- one more at the front of what is looked up
+pub mapped : {X Y : Type 0} (f : X → Y) (b : Bool) (x : X) (o : Option X) (r : Option Y) → r ≡ option_map f o
+    → cond b (Some (f x)) r ≡ option_map f (cond b (Some x) o)
+mapped f true x o r e = refl
+mapped f false x o r e = e
 
 pub shown_at : (chains : Chains) (entries : List (List ℕ × DirRow)) (q : Name16)
     → row_at (entries_in chains entries) q ≡ item_at chains entries q
 shown_at chains [] q = refl
-shown_at chains (e ∷ es) q = grind (arith, shown_step, shown_at chains es q)
+shown_at chains (e ∷ es) q = grind (arith, mapped, shown_at chains es q)
 
 pub shown_writes : (chains after : Chains) (entries next : List (List ℕ × DirRow)) (name : Name16)
-    (row : Option CacheItem)
-    → Writes (item_at chains entries) name row (item_at after next)
+    (row : Option CacheItem) → Writes (item_at chains entries) name row (item_at after next)
     → Writes (row_at (entries_in chains entries)) name row (row_at (entries_in after next))
 shown_writes chains after entries next name row writes q = grind (arith, shown_at)

@@ -46,6 +46,7 @@ fn unlocked(label: Label) -> Label
 
 impl Rows {
     // What the directory says of a name: that of its row, or of a new one of this storage class.
+    #[tactic(auto, using(cache_model::proofs::RowLaws::found_named))]
     fn label_or_new(&self, name: &Name16, stg: u32) -> Label
         ensures label { result ≡ label_of (row_or_new name.now stg self.now.rows) }
         ensures named { result.name ≡ name.now }
@@ -57,6 +58,7 @@ impl Rows {
     }
 
     // Ends the row of a name, unless that is the one that is spared.
+    #[tactic(auto, using(crate::proofs::ChangeLaws::spared_told))]
     fn end_other(&mut self, name: &Name16, spared: &Name16)
         ensures rows { self.new.rows ≡ rows_but spared.now (name.now ∷ []) self.old.rows }
         ensures room { self.old.room ≤ self.new.room }
@@ -98,6 +100,7 @@ impl Rows {
     /// Ends the rows of the names that are gone. The row of a name, or a new one of this storage
     /// class, takes data, adjunct and class; where it is held it is rewritten. There are elements
     /// for the data once the rows that are gone and the name's own data have given back theirs.
+    #[tactic(auto, using(crate::proofs::ChangeLaws::written_same))]
     pub fn write(
         &mut self,
         gone: &[Name16],
@@ -124,6 +127,7 @@ impl Rows {
     }
 
     /// A connector holds the castout lock of a row from now on.
+    #[tactic(auto, using(crate::proofs::ChangeLaws::relabeled_same))]
     pub fn hold(&mut self, by: ConnId, name: &Name16)
         requires { 1 ≤ self.old.room }
         ensures rows { self.new.rows
@@ -144,6 +148,7 @@ impl Rows {
 
     /// The castout lock of a row is held no more. The row is unchanged then, unless it was written
     /// since.
+    #[tactic(auto, using(crate::proofs::ChangeLaws::relabeled_same))]
     pub fn unlock(&mut self, name: &Name16)
         requires { 1 ≤ self.old.room }
         ensures rows { self.new.rows

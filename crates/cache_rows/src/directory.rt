@@ -124,6 +124,7 @@ impl Model for Directory {
 
 impl Directory {
     /// No rows, with so many free elements.
+    #[tactic(auto, using(crate::proofs::IndexedLaws::listed, crate::proofs::IndexedLaws::nothing, crate::proofs::IndexedLaws::listed_is))]
     pub(crate) fn new(alloc: Global, entries: u32, elements: u32) -> Result<Directory, NoMemory>
         ensures rows { IfOk result (λ directory. directory.rows ≡ []) }
         ensures entries { IfOk result (λ directory. directory.entries ≡ entries) }
@@ -198,6 +199,7 @@ impl Directory {
     }
 
     /// The name of the row at a place (from 0).
+    #[tactic(auto, using(crate::proofs::LookupLaws::place_told))]
     pub(crate) fn name_at(&self, alloc: Global, k: usize) -> Result<Option<Name16>, NoMemory>
         ensures name { IfOk result (λ name. name ≡ option_map (λ (row : CacheItem). row.name)
             (slice_get self.now.rows k)) }
@@ -219,6 +221,7 @@ impl Directory {
     }
 
     /// The names of the rows of a castout class (1 to 16), in the order of names.
+    #[tactic(auto, using(crate::proofs::LookupLaws::classes_told))]
     pub(crate) fn names_of_class(&self, alloc: Global, class: u32) -> Result<Vec<Name16>, NoMemory>
         ensures { IfOk result (λ names. names.items
             ≡ map (λ (row : CacheItem). row.name) (filter (has_class class) self.now.rows)) }
@@ -227,6 +230,7 @@ impl Directory {
     }
 
     /// How many rows a castout class (1 to 16) has.
+    #[tactic(auto, using(crate::proofs::LookupLaws::classes_told))]
     pub(crate) fn count_of_class(&self, class: u32) -> u32
         ensures { result ≡ rows_of_class self.now.rows class }
     {
@@ -251,6 +255,7 @@ impl Directory {
     }
 
     /// The row that is reclaimed as the `k`-th (from 0) for a storage class (1 to 8).
+    #[tactic(auto, using(crate::proofs::LookupLaws::reclaimed_told))]
     pub(crate) fn reclaimed(&self, stg: u32, k: u32) -> Option<Row<'_>>
         ensures { result ≡ slice_get (reclaimed_for stg self.now.rows) k }
     {

@@ -96,6 +96,7 @@ fn write_row(directory: &mut Directory, tally: &mut Tally, label: &Label, body: 
 }
 
 // Puts in a row whose name has none, where as many elements as its data take are free.
+#[tactic(auto, using(crate::proofs::ChangeLaws::put_told))]
 fn put_in(directory: &mut Directory, tally: &mut Tally, row: &CacheItem)
     requires counted { IsTally tally.old directory.old.rows }
     requires room { 1 ≤ directory.old.room }
@@ -215,6 +216,7 @@ impl Rows {
     }
 
     /// A copy of the row at a place (from 0). Only want of memory is refused.
+    #[tactic(auto, using(crate::proofs::LookupLaws::place_told))]
     pub fn item(&self, alloc: Global, k: u32) -> Result<CacheItem, NoMemory>
         requires { k < length self.now.rows }
         ensures { IfOk result (λ item. slice_get self.now.rows k ≡ Some item) }
@@ -269,6 +271,7 @@ impl Rows {
     }
 
     /// How many rows a storage class (1 to 8) has.
+    #[tactic(auto, using(crate::proofs::IndexedLaws::fewer))]
     pub fn count_of_storage(&self, stg: u32) -> u32
         requires { length self.now.rows < 2 ^ 32 }
         ensures { result ≡ length (filter (has_storage stg) self.now.rows) }
@@ -417,6 +420,7 @@ impl Rows {
     }
 
     /// Takes the last row away; there is one at least.
+    #[tactic(auto, using(crate::proofs::LookupLaws::popped))]
     pub fn pop(&mut self)
         requires { 0 < length self.old.rows }
         ensures rows { self.new.rows ≡ take (length self.old.rows - 1) self.old.rows }

@@ -107,6 +107,7 @@ impl Store {
     }
 
     /// The row of a name, if there is one.
+    #[tactic(auto, using(crate::proofs::StoreLaws::shown_at))]
     pub(crate) fn find(&self, name: &Name16) -> Option<Row<'_>>
         ensures { result ≡ row_at self.now.entries name.now }
     {
@@ -166,6 +167,7 @@ impl Store {
     }
 
     /// Releases all castout locks of a connector; the rows stay otherwise the same.
+    #[tactic(auto, using(crate::proofs::StoreLaws::shown_at, crate::proofs::StoreLaws::released_items))]
     pub(crate) fn release(&mut self, conn: ConnId)
         ensures released { (q : Name16) → row_at self.new.entries q
             ≡ option_map (without_hold conn) (row_at self.old.entries q) }

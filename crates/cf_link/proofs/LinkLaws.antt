@@ -10,7 +10,8 @@ module _ {L : Type 0} (calls : L → Option ℕ) (downs : L → Option (List ℕ
   -- what was asked, and what was asked behind it
   pub asked-append : (xs ys : List Bool) (old middle new : L) → IsAskedAll calls downs faults xs old middle
       → IsAskedAll calls downs faults ys middle new → IsAskedAll calls downs faults (xs ++ ys) old new
-  asked-append [] ys old middle new first second = subst (λ (l : L). IsAskedAll calls downs faults ys l new) first second
+  asked-append [] ys old middle new first second =
+      subst (λ (l : L). IsAskedAll calls downs faults ys l new) first second
   asked-append (x ∷ xs) ys old middle new first second =
       (first.0, first.1, asked-append xs ys first.0 middle new first.2 second)
 
@@ -51,8 +52,7 @@ module _ {L : Type 0} (calls : L → Option ℕ) (downs : L → Option (List ℕ
 
   cut_asked : (front : List Bool) (answer : Bool) (more : List Bool) (old new : L)
       → IsAskedAll calls downs faults (front ++ answer ∷ more) old new → IsCut front answer old
-  cut_asked [] answer more old new asked =
-      record { before = old; after = asked.0; fore = refl; here = asked.1 }
+  cut_asked [] answer more old new asked = record { before = old; after = asked.0; fore = refl; here = asked.1 }
   cut_asked (first ∷ front) answer more old new asked = grind (arith, cut_asked front answer more asked.0 new asked.2)
 
   none_listed : (told : Telling) (count : ℕ) → TellsEnough None (Some told.downs) → ¬ IsListed told.downs count
@@ -60,8 +60,7 @@ module _ {L : Type 0} (calls : L → Option ℕ) (downs : L → Option (List ℕ
 
   -- and where it tells which calls are down, those were
   pub asked_told : (told : Telling) (answers : List Bool) (old new : L) → TellsEnough (calls old) (downs old)
-      → Tells calls downs faults told old
-      → IsAskedAll calls downs faults answers old new → IsAsTold told answers
+      → Tells calls downs faults told old → IsAskedAll calls downs faults answers old new → IsAsTold told answers
   asked_told told answers old new enough tells asked front answer more e =
       grind (arith, cut_asked, asked_downs, asked_calls, none_listed)
 

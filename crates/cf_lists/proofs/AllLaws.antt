@@ -27,13 +27,7 @@ module _ {X : Type 0} where
       → (xs ys : List X) → pairwise relation (xs ++ ys) ≡ true → list_any p xs ≡ true → list_any p ys ≡ false
   none_behind relation p once [] ys h e = absurd (false≢true e)
   none_behind relation p once (x ∷ xs) ys h e =
-      let parts = and_parts (list_all (relation x) (xs ++ ys)) (pairwise relation (xs ++ ys)) h in
-      go (p x) refl parts.0 e (none_behind relation p once xs ys parts.1)
-    where
-      go : (b : Bool) → p x ≡ b → list_all (relation x) (xs ++ ys) ≡ true → b || list_any p xs ≡ true
-          → (list_any p xs ≡ true → list_any p ys ≡ false) → list_any p ys ≡ false
-      go true here each e later = grind (arith, none_from_all, list_all_weaker, and_parts, list_all-append)
-      go false apart each e later = later e
+      grind (arith, and_parts, none_from_all, list_all_weaker, list_all-append, none_behind relation p once xs ys)
 
   pub any_all : (p : X → Bool) (lists : List (List X)) → list_any p (all_records lists) ≡ list_any
       (λ recs. list_any p recs) lists
@@ -51,19 +45,11 @@ module _ {X : Type 0} where
   all-filter p (recs ∷ lists) = grind (arith, filter-append, all-filter p lists)
 
   -- one more in the middle
-  pub pairwise_middle : (relation : X → X → Bool) (xs ys : List X) (z : X) → pairwise relation (xs ++ ys) ≡
-      true
+  pub pairwise_middle : (relation : X → X → Bool) (xs ys : List X) (z : X) → pairwise relation (xs ++ ys) ≡ true
       → list_all (λ x. relation z x && relation x z) (xs ++ ys) ≡ true → pairwise relation (xs ++ z ∷ ys) ≡ true
   pairwise_middle relation [] ys z h e = grind (arith, and_from, list_all_weaker, and_parts)
   pairwise_middle relation (x ∷ xs) ys z h e =
-      let parts = and_parts (list_all (relation x) (xs ++ ys)) (pairwise relation (xs ++ ys)) h in
-      let others = and_parts (relation z x && relation x z) (list_all (λ y. relation z y && relation y z) (xs ++ ys)) e
-      in
-      let halves = and_parts (list_all (relation x) xs) (list_all (relation x) ys)
-      (sym (list_all-append (relation x) xs ys) ∙ parts.0) in
-      and_from (list_all (relation x) (xs ++ z ∷ ys)) (pairwise relation (xs ++ z ∷ ys))
-      (grind (arith, list_all-append, and_from, and_parts))
-      (pairwise_middle relation xs ys z parts.1 others.1)
+      grind (arith, and_parts, list_all-append, and_from, pairwise_middle relation xs ys z)
 
   -- where a list is replaced, the records before and behind it stay
   pub all-set : (lists : List (List X)) (h : ℕ) (recs : List X) → h < length lists
@@ -81,8 +67,12 @@ module _ {X : Type 0} where
   pub pairwise_back : (relation : X → X → Bool) (xs ys : List X) → pairwise relation (xs ++ ys) ≡ true
       → pairwise relation ys ≡ true
   pairwise_back relation [] ys h = h
-  pairwise_back relation (x ∷ xs) ys h =
-      pairwise_back relation xs ys (and_parts (list_all (relation x) (xs ++ ys)) (pairwise relation (xs ++ ys)) h).1
+  pairwise_back relation (x ∷ xs) ys h = grind (
+    arith,
+    and_parts,
+    pairwise_back relation xs
+        ys (and_parts (list_all (relation x) (xs ++ ys)) (pairwise relation (xs ++ ys)) h).1,
+  )
 
   -- the first n records, by header and place
   abbrev pub first_records : ℕ → List (List X) → List (List X)
@@ -98,15 +88,13 @@ module _ {X : Type 0} where
       let none : 0 - length recs ≡ 0 = omega arith in
       rw (none, none-first lists (nil_from_length (all_records lists) rest)) (grind (arith, nil_from_length))
 
-  pub popped : (lists : List (List X)) (h : ℕ) → IsLastFull h lists
-      → set lists h (take (length (list_of h lists) - 1) (list_of h lists)) ≡ first_records
-      (length (all_records lists) - 1) lists
+  pub popped : (lists : List (List X)) (h : ℕ) → IsLastFull h lists → set lists
+      h (take (length (list_of h lists) - 1) (list_of h lists)) ≡ first_records (length (all_records lists) - 1) lists
   popped [] h is = absurd (omega (arith, is.within))
   popped (recs ∷ lists) zero is = grind (arith, length-append, none-first)
   popped (recs ∷ lists) (suc h) is =
       let rest : IsLastFull h lists = record { within = omega (arith, is.within); full = is.full; last = is.last } in
-      let some : 0 < length (all_records lists) =
-      omega (
+      let some : 0 < length (all_records lists) = omega (
         arith,
         is.full,
         ap (λ (l : List X). length l) (all-split lists h (omega (arith, is.within))),

@@ -12,28 +12,21 @@ joined_out : {X : Type 0} (p : X → Bool) (bins : List (List X))
     → ((j : ℕ) → list_all (λ x. not (p x)) (get_or bins j []) ≡ true) → filter p (joined bins) ≡ []
 unfolding joined
 joined_out p [] h = refl
-joined_out p (bin ∷ bins) h =
-    filter-append p bin (joined bins)
+joined_out p (bin ∷ bins) h = filter-append p bin (joined bins)
     ∙ rw (filter_none p bin (none_from_all p bin (h 0)), joined_out p bins (λ j. h (suc j))) refl
 
 -- what passes lies in one entry
 joined_home : {X : Type 0} (p : X → Bool) (at : ℕ → X → Bool) (i : ℕ) (bins : List (List X))
     → ((j : ℕ) → list_all (at j) (get_or bins j []) ≡ true)
-    → ((j : ℕ) (x : X) → j ≢ i → at j x ≡ true → p x ≡ false)
-    → filter p (joined bins) ≡ filter p (get_or bins i [])
+    → ((j : ℕ) (x : X) → j ≢ i → at j x ≡ true → p x ≡ false) → filter p (joined bins) ≡ filter p (get_or bins i [])
 unfolding joined
 joined_home p at i [] h out = refl
-joined_home p at zero (bin ∷ bins) h out =
-    filter-append p bin (joined bins)
-    ∙ ap (λ l. filter p bin ++ l) (joined_out p bins
-    (λ j. list_all_weaker (at (suc j)) (λ x. not (p x)) (λ x e. ap not (out (suc j) x (λ z. cc) e)) (get_or bins j [])
-    (h (suc j))))
-    ∙ append-nil (filter p bin)
-joined_home p at (suc i) (bin ∷ bins) h out =
-    filter-append p bin (joined bins)
-    ∙ ap (λ l. l ++ filter p (joined bins)) (filter_none p bin (none_from_all p bin
-    (list_all_weaker (at 0) (λ x. not (p x)) (λ x e. ap not (out 0 x (λ z. cc) e)) bin (h 0))))
-    ∙ joined_home p (λ j. at (suc j)) i bins (λ j. h (suc j)) (λ j x n. out (suc j) x (λ z. n (omega (arith, z))))
+joined_home p at zero (bin ∷ bins) h out = filter-append p bin (joined bins)
+    ∙ ap (λ l. filter p bin ++ l) (joined_out p bins (λ j. list_all_weaker (at (suc j)) (λ x. not (p x))
+    (λ x e. ap not (out (suc j) x (λ z. cc) e)) (get_or bins j []) (h (suc j)))) ∙ append-nil (filter p bin)
+joined_home p at (suc i) (bin ∷ bins) h out = filter-append p bin (joined bins) ∙ ap (λ l. l ++ filter
+    p (joined bins)) (filter_none p bin (none_from_all p bin (list_all_weaker (at 0) (λ x. not (p x)) (λ x e. ap not
+    (out 0 x (λ z. cc) e)) bin (h 0)))) ∙ joined_home p (λ j. at (suc j)) i bins (λ j. h (suc j)) (grind arith)
 
 module _ {X K : Type 0} (key : X → K) (same before : K → K → Bool) (slot : K → ℕ) (is : IsKeyOrder same before) where
   -- ---- the order
@@ -44,9 +37,8 @@ module _ {X K : Type 0} (key : X → K) (same before : K → K → Bool) (slot :
   pub arranged_in_turn : (xs : List X) → pairwise (in_turn key before) (arranged key before xs) ≡ true
   unfolding arranged
   arranged_in_turn [] = refl
-  arranged_in_turn (x ∷ xs) =
-      pairwise-insertion (in_turn key before) (λ y. before (key y) (key x)) (λ y. true) x (arranged key before xs)
-      (finds_place x) (list_all_always (λ y. true) (λ y. refl) (arranged key before xs)) (arranged_in_turn xs)
+  arranged_in_turn (x ∷ xs) = pairwise-insertion _ (λ y. before (key y) (key x)) (λ y. true)
+      x _ (finds_place x) (list_all_always (λ y. true) (λ y. refl) (arranged key before xs)) (arranged_in_turn xs)
 
   -- of one key none stands before another
   alike : (k : K) (x y : X) → same (key x) k ≡ true → same (key y) k ≡ true → before (key y) (key x) ≡ false
@@ -65,13 +57,10 @@ module _ {X K : Type 0} (key : X → K) (same before : K → K → Bool) (slot :
   elsewhere k j x true n h e = grind (arith, eqb-true)
   elsewhere k j x false n h e = refl
 
-  pub keyed_home : (k : K) (bins : List (List X)) → AreAtHome key slot bins
-      → filter (is_keyed key same k) (arranged key before (joined bins))
-      ≡ filter (is_keyed key same k) (get_or bins (slot k) [])
-  keyed_home k bins h =
-      keyed-arranged k (joined bins)
-      ∙ joined_home (is_keyed key same k) (λ j x. slot (key x) == j) (slot k) bins h
-      (λ j x n e. elsewhere k j x (same (key x) k) n e refl)
+  pub keyed_home : (k : K) (bins : List (List X)) → AreAtHome key slot bins → filter (is_keyed key same k)
+      (arranged key before (joined bins)) ≡ filter (is_keyed key same k) (get_or bins (slot k) [])
+  keyed_home k bins h = keyed-arranged k (joined bins) ∙ joined_home (is_keyed key same k)
+      (λ j x. slot (key x) == j) (slot k) bins h (λ j x n e. elsewhere k j x (same (key x) k) n e refl)
 
   -- ---- one entry changes
 
@@ -81,17 +70,14 @@ module _ {X K : Type 0} (key : X → K) (same before : K → K → Bool) (slot :
       grind (arith, eqb-true, get_or-set_same, get_or-set_other, false≢true, eq-eqb)
 
   -- it is enough that the entry agrees of each of its keys, and that nothing changes of others
-  pub changed : (i : ℕ) (bins : List (List X)) (bin ys : List X) → AreAtHome key slot bins → i < length bins
-      → list_all (λ x. slot (key x) == i) bin ≡ true
-      → ((k : K) → slot k ≡ i → filter (is_keyed key same k) bin ≡ filter (is_keyed key same k) ys)
-      → ((k : K) → slot k ≢ i → filter (is_keyed key same k) (arranged key before (joined bins))
-      ≡ filter (is_keyed key same k) ys)
-      → pairwise (in_turn key before) ys ≡ true
-      → arranged key before (joined (set bins i bin)) ≡ ys
-  changed i bins bin ys h within there here others turn =
-      ordered_filters key same (λ x y. before (key x) (key y)) is.itself (λ x y. is.ties (key x) (key y))
-      (arranged key before (joined (set bins i bin))) ys (arranged_in_turn (joined (set bins i bin))) turn
-      (λ k. keyed_home k (set bins i bin) (home_kept i bins bin h within there) ∙ go k (slot k == i) refl)
+  pub changed : (i : ℕ) (bins : List (List X)) (bin ys : List X)
+      → AreAtHome key slot bins → i < length bins → list_all (λ x. slot (key x) == i) bin ≡ true
+      → ((k : K) → slot k ≡ i → filter (is_keyed key same k) bin ≡ filter (is_keyed key same k) ys) → ((k : K) → slot
+      k ≢ i → filter (is_keyed key same k) (arranged key before (joined bins)) ≡ filter (is_keyed key same k) ys)
+      → pairwise (in_turn key before) ys ≡ true → arranged key before (joined (set bins i bin)) ≡ ys
+  changed i bins bin ys h within there here others turn = ordered_filters key same (λ x y. before (key x) (key y))
+      is.itself (λ x y. is.ties (key x) (key y)) (arranged key before (joined (set bins i bin)))
+      ys (arranged_in_turn _) turn (λ k. keyed_home k _ (home_kept i _ _ h within there) ∙ go k (slot k == i) refl)
     where
       go : (k : K) (b : Bool) → (slot k == i) ≡ b
           → filter (is_keyed key same k) (get_or (set bins i bin) (slot k) []) ≡ filter (is_keyed key same k) ys
@@ -99,6 +85,6 @@ module _ {X K : Type 0} (key : X → K) (same before : K → K → Bool) (slot :
       go k false e = grind (arith, false≢true, eq-eqb, get_or-set_other, keyed_home)
 
   -- what is seen of a key of this entry
-  pub seen : (k : K) (i : ℕ) (bins : List (List X)) → AreAtHome key slot bins → slot k ≡ i
-      → filter (is_keyed key same k) (get_or bins i []) ≡ filter (is_keyed key same k) (arranged key before (joined bins))
+  pub seen : (k : K) (i : ℕ) (bins : List (List X)) → AreAtHome key slot bins → slot k ≡ i → filter
+      (is_keyed key same k) (get_or bins i []) ≡ filter (is_keyed key same k) (arranged key before (joined bins))
   seen k i bins h at = rw (← at) (sym (keyed_home k bins h))

@@ -13,25 +13,22 @@ not_equal Greater h = refl
 
 -- of two resources neither of which is before the other
 tied : (a b : Resource) → resource_before a b ≡ false → resource_before b a ≡ false → same_resource b a ≡ true
-tied a b h e =
-    cc (same_resource-is b a, equal_from (resource_cmp b a) e (sym (ap is_lt (resource_cmp_total.antisymm a b)) ∙ h))
+tied a b h e = cc (same_resource-is b a, equal_from _ e (sym (ap is_lt (resource_cmp_total.antisymm a b)) ∙ h))
 
 once : (a : Resource) (t : Bool) → resource_before a a ≡ t → t ≡ false
 once a false e = refl
-once a true e =
-    absurd (false≢true (sym (not_equal (resource_cmp a a) e) ∙ sym (same_resource-is a a) ∙ same_resource-refl a))
+once a true e = absurd (false≢true (sym (not_equal _ e) ∙ sym (same_resource-is a a) ∙ same_resource-refl a))
 
 pub resource_order : IsKeyOrder same_resource resource_before
-resource_order =
-    record {
-      itself = same_resource-refl;
-      equal = same_resource-eq;
-      once = λ a. once a (resource_before a a) refl;
-      asym = λ a b h. not-true (resource_before b a) (resource_up_to-either b a (ap not h));
-      follows = λ a b c h e. not-true (resource_before c a)
-          (resource_up_to-trans a b c (not_from_false (resource_before b a) h) (not_from_false (resource_before c b) e));
-      ties = tied;
-    }
+resource_order = record {
+  itself = same_resource-refl;
+  equal = same_resource-eq;
+  once = λ a. once a (resource_before a a) refl;
+  asym = λ a b h. not-true (resource_before b a) (resource_up_to-either b a (ap not h));
+  follows = λ a b c h e. not-true (resource_before c a)
+      (resource_up_to-trans a b c (not_from_false (resource_before b a) h) (not_from_false (resource_before c b) e));
+  ties = tied;
+}
 
 -- ---- what stands in front of a resource
 

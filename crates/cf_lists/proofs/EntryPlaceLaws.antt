@@ -1,15 +1,6 @@
 -- Filters of a list with one more element in its place.
-use Rattle.cf_lists.proofs.Imports.{◌≡◌, Bool, true, false, not, cond, List, [], ◌∷◌, ◌++◌, filter, refl, sym, ap, list_all, and_parts, false≢true, insertion, pairwise}
+use Rattle.cf_lists.proofs.Imports.{arith, ◌≡◌, Bool, true, false, not, cond, List, [], ◌∷◌, ◌++◌, filter, refl, sym, ap, list_all, and_parts, false≢true, insertion, pairwise}
 use Rattle.cf_lists.proofs.FilterLaws.{filter_none, none_from_all, list_all_weaker}
-
-in_step : {X : Type 0} (p b : X → Bool) (s t : Bool) (x y : X) (ys : List X) → b y ≡ s → p y ≡ t → p x ≡ true
-    → (s ≡ false → t ≡ false → filter p ys ≡ [])
-    → filter p (insertion b x ys) ≡ insertion b x (filter p ys)
-    → filter p (cond s (y ∷ insertion b x ys) (x ∷ y ∷ ys)) ≡ insertion b x (cond t (y ∷ filter p ys) (filter p ys))
-in_step p b true true x y ys e f g none ih = rw (e, f) (ap (λ l. y ∷ l) ih)
-in_step p b true false x y ys e f g none ih = rw f ih
-in_step p b false true x y ys e f g none ih = rw (e, f, g) refl
-in_step p b false false x y ys e f g none ih = rw (f, g, none refl refl) refl
 
 -- a filter that keeps the element, where behind one that it doesn't stand behind nor is kept none is kept
 pub filter-insertion_in : {X : Type 0} (r : X → X → Bool) (p b : X → Bool) (x : X) (ys : List X) → p x ≡ true
@@ -17,11 +8,7 @@ pub filter-insertion_in : {X : Type 0} (r : X → X → Bool) (p b : X → Bool)
     → pairwise r ys ≡ true → filter p (insertion b x ys) ≡ insertion b x (filter p ys)
 filter-insertion_in r p b x [] e past h = rw e refl
 filter-insertion_in r p b x (y ∷ ys) e past h =
-    let parts = and_parts (list_all (r y) ys) (pairwise r ys) h in
-    in_step p b (b y) (p y) x y ys refl refl e
-    (λ f g. filter_none p ys (none_from_all p ys
-    (list_all_weaker (r y) (λ z. not (p z)) (λ z i. ap not (past y z f g i)) ys parts.0)))
-    (filter-insertion_in r p b x ys e past parts.1)
+    grind (arith, and_parts, filter_none, none_from_all, list_all_weaker, filter-insertion_in r p b x ys e past)
 
 ahead_step : {X : Type 0} (p b : X → Bool) (s t : Bool) (x y : X) (ys zs : List X) → b y ≡ s → p y ≡ t → p x ≡ true
     → (t ≡ true → s ≡ false) → filter p zs ≡ x ∷ filter p ys
@@ -35,19 +22,16 @@ ahead_step p b false false x y ys zs e f g none ih = rw (f, g) refl
 pub filter-insertion_ahead : {X : Type 0} (p b : X → Bool) (x : X) (ys : List X) → p x ≡ true
     → ((y : X) → p y ≡ true → b y ≡ false) → filter p (insertion b x ys) ≡ x ∷ filter p ys
 filter-insertion_ahead p b x [] e none = rw e refl
-filter-insertion_ahead p b x (y ∷ ys) e none =
-    ahead_step p b (b y) (p y) x y ys (insertion b x ys) refl refl e (none y) (filter-insertion_ahead p b x ys e none)
+filter-insertion_ahead p b x (y ∷ ys) e none = grind (arith, ahead_step, filter-insertion_ahead p b x ys e none)
 
 -- behind all
 pub insertion_behind : {X : Type 0} (b : X → Bool) (x : X) (ys : List X) → list_all b ys ≡ true
     → insertion b x ys ≡ ys ++ x ∷ []
 insertion_behind b x [] h = refl
-insertion_behind b x (y ∷ ys) h =
-    let parts = and_parts (b y) (list_all b ys) h in rw parts.0 (ap (λ l. y ∷ l) (insertion_behind b x ys parts.1))
+insertion_behind b x (y ∷ ys) h = grind (arith, and_parts, insertion_behind b x ys)
 
 agree_step : {X : Type 0} (b c : X → Bool) (s : Bool) (x y : X) (ys : List X) → c y ≡ s
-    → insertion b x ys ≡ insertion c x ys
-    → cond s (y ∷ insertion b x ys) (x ∷ y ∷ ys) ≡ insertion c x (y ∷ ys)
+    → insertion b x ys ≡ insertion c x ys → cond s (y ∷ insertion b x ys) (x ∷ y ∷ ys) ≡ insertion c x (y ∷ ys)
 agree_step b c true x y ys e ih = rw e (ap (λ l. y ∷ l) ih)
 agree_step b c false x y ys e ih = rw e refl
 
@@ -55,6 +39,4 @@ agree_step b c false x y ys e ih = rw e refl
 pub insertion_agree : {X : Type 0} (p b c : X → Bool) (x : X) (ys : List X) → list_all p ys ≡ true
     → ((y : X) → p y ≡ true → b y ≡ c y) → insertion b x ys ≡ insertion c x ys
 insertion_agree p b c x [] h same = refl
-insertion_agree p b c x (y ∷ ys) h same =
-    let parts = and_parts (p y) (list_all p ys) h in
-    agree_step b c (b y) x y ys (sym (same y parts.0)) (insertion_agree p b c x ys parts.1 same)
+insertion_agree p b c x (y ∷ ys) h same = grind (arith, and_parts, agree_step, insertion_agree p b c x ys)

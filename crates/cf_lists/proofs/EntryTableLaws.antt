@@ -26,20 +26,17 @@ module _ {X : Type 0} (part_of : X → Part) where
 
   pub in_order : (bins : List (List X))
       → pairwise (in_turn (resource_by part_of) resource_before) (seen_in part_of bins) ≡ true
-  in_order bins =
-      arranged_in_turn (resource_by part_of) same_resource resource_before (λ r. r.hash) resource_order (joined bins)
+  in_order bins = grind (arith, arranged_in_turn, resource_order)
 
   pub ordered : (bins : List (List X)) (order : List Resource) → IsTable part_of bins order
       → pairwise resource_up_to order ≡ true
   ordered bins order is =
       rw is.listed (mapped_pairs (resource_by part_of) resource_up_to (seen_in part_of bins) ∙ in_order bins)
 
-  pub found : (r : Resource) (bins : List (List X)) (order : List Resource) → IsTable part_of bins order
-      → filter (is_on part_of r) (get_or bins (slot_in (length bins) r) [])
-      ≡ filter (is_on part_of r) (seen_in part_of bins)
-  found r bins order is =
-      sym (keyed_home (resource_by part_of) same_resource resource_before (slot_in (length bins)) resource_order r bins
-      is.home)
+  pub found : (r : Resource) (bins : List (List X)) (order : List Resource) → IsTable part_of bins order → filter
+      (is_on part_of r) (get_or bins (slot_in (length bins) r) []) ≡ filter (is_on part_of r) (seen_in part_of bins)
+  found r bins order is = sym (keyed_home (resource_by part_of)
+      same_resource resource_before (slot_in (length bins)) resource_order r bins is.home)
 
   -- ---- parts
 
@@ -52,13 +49,8 @@ module _ {X : Type 0} (part_of : X → Part) where
   other_apart : (x y : X) (s : Bool) → same_resource (part_of y).0 (part_of x).0 ≡ false
       → same_resource (part_of x).0 (part_of y).0 ≡ s → not (s && ((part_of x).1.0 == (part_of y).1.0)) ≡ true
   other_apart x y false e f = refl
-  other_apart x y true e f =
-      absurd (false≢true (sym e ∙ subst (λ r. same_resource (part_of y).0 r ≡ true)
+  other_apart x y true e f = absurd (false≢true (sym e ∙ subst (λ r. same_resource (part_of y).0 r ≡ true)
       (sym (same_resource-eq (part_of x).0 (part_of y).0 f)) (same_resource-refl (part_of y).0)))
-
-  both_apart : (x other : X) → not (is_part part_of (part_of x) other) ≡ true
-      → are_apart part_of x other && are_apart part_of other x ≡ true
-  both_apart x other h = grind (arith, and_from, same_part_comm)
 
   module _ (bins : List (List X)) (order : List Resource) (is : IsTable part_of bins order) (i : ℕ) (d : List X)
       (within : i < length bins) where
@@ -70,10 +62,8 @@ module _ {X : Type 0} (part_of : X → Part) where
 
     lacks : (k : Resource) (b : Bool) → (slot_in (length bins) k == i) ≡ b
         → pairwise (are_apart part_of) (filter (is_on part_of k) (get_or bins i [])) ≡ true
-    lacks k true e =
-        rw (seen (resource_by part_of) same_resource resource_before (slot_in (length bins)) resource_order k i bins
-        is.home (eqb-true (slot_in (length bins) k) i e))
-        (pairwise-filter (are_apart part_of) (is_on part_of k) (seen_in part_of bins) is.one_each)
+    lacks k true e = rw (seen (resource_by part_of) same_resource resource_before (slot_in (length bins))
+        resource_order k i bins is.home (eqb-true (slot_in (length bins) k) i e)) (grind (arith, pairwise-filter))
     lacks k false e = rw (none (get_or bins i []) (is.home i)) refl
       where
         other : (x : X) (t : Bool) → (slot_in (length bins) (part_of x).0 == i) ≡ true
@@ -90,10 +80,8 @@ module _ {X : Type 0} (part_of : X → Part) where
             rw (other x (same_resource (part_of x).0 k) parts.0 refl) (none xs parts.1)
 
     pub entry_apart : pairwise (are_apart part_of) (get_or bins i d) ≡ true
-    entry_apart =
-        rw default (by_key (resource_by part_of) same_resource (are_apart part_of) same_resource-refl
-        (λ x y e. other_apart x y (same_resource (part_of x).0 (part_of y).0) e refl) (get_or bins i [])
-        (λ k. lacks k (slot_in (length bins) k == i) refl))
+    entry_apart = rw default (by_key (resource_by part_of) same_resource (are_apart part_of)
+        same_resource-refl (λ x y e. other_apart x y _ e refl) (get_or bins i []) (λ k. lacks k _ refl))
 
     home_set : (new : List X) → list_all (λ x. slot_in (length bins) (part_of x).0 == i) new ≡ true
         → AreAtHome (resource_by part_of) (slot_in (length (set bins i new))) (set bins i new)
@@ -105,39 +93,32 @@ module _ {X : Type 0} (part_of : X → Part) where
       -- a search for something on the resource
       pub found_in : (q : X → Bool) → ((x : X) → q x ≡ true → is_on part_of p.0 x ≡ true)
           → find q (get_or bins i d) ≡ find q (seen_in part_of bins)
-      found_in q on =
-          rw default (sym (find-filter q (is_on part_of p.0) on (get_or bins i []))
-          ∙ ap (find q) (seen (resource_by part_of) same_resource resource_before (slot_in (length bins)) resource_order
-          p.0 i bins is.home (sym at))
-          ∙ find-filter q (is_on part_of p.0) on (seen_in part_of bins))
+      found_in q on = rw default (sym (find-filter q _ on _) ∙ ap (find q) (seen (resource_by part_of) same_resource
+          resource_before (slot_in (length bins)) resource_order p.0 i bins is.home (sym at)) ∙ find-filter q _ on _)
 
       pub kept_in : (q : X → Bool) → ((x : X) → q x ≡ true → is_on part_of p.0 x ≡ true)
           → filter q (get_or bins i d) ≡ filter q (seen_in part_of bins)
-      kept_in q on =
-          rw default (sym (narrowed q on (get_or bins i []))
-          ∙ ap (filter q) (seen (resource_by part_of) same_resource resource_before (slot_in (length bins)) resource_order
-          p.0 i bins is.home (sym at))
-          ∙ narrowed q on (seen_in part_of bins))
+      kept_in q on = rw default (sym (narrowed q on (get_or bins i []))
+          ∙ ap (filter q) (seen (resource_by part_of) same_resource resource_before (slot_in (length bins))
+          resource_order p.0 i bins is.home (sym at)) ∙ narrowed q on (seen_in part_of bins))
         where
           narrowed : (q : X → Bool) → ((x : X) → q x ≡ true → is_on part_of p.0 x ≡ true) → (xs : List X)
               → filter q (filter (is_on part_of p.0) xs) ≡ filter q xs
           narrowed q on xs = filter_swap q (is_on part_of p.0) xs ∙ filter_absorbed (is_on part_of p.0) q on xs
 
-      pub there_in : list_any (is_part part_of p) (get_or bins i d) ≡ list_any (is_part part_of p) (seen_in part_of bins)
-      there_in =
-          rw default (sym (any_kept (is_part part_of p) (is_on part_of p.0) (part_on p) (get_or bins i []))
+      pub there_in : list_any
+          (is_part part_of p) (get_or bins i d) ≡ list_any (is_part part_of p) (seen_in part_of bins)
+      there_in = rw default (sym (any_kept _ _ (part_on p) _)
           ∙ ap (list_any (is_part part_of p)) (seen (resource_by part_of) same_resource resource_before
-          (slot_in (length bins)) resource_order p.0 i bins is.home (sym at))
-          ∙ any_kept (is_part part_of p) (is_on part_of p.0) (part_on p) (seen_in part_of bins))
+          (slot_in (length bins)) resource_order p.0 i bins is.home (sym at)) ∙ any_kept _ _ (part_on p) _)
 
       near : (x : X) → not (is_part part_of p x) ≡ false → slot_in (length bins) (part_of x).0 ≡ i
       near x e = ap (slot_in (length bins)) (part_resource p x (turned (is_part part_of p x) e)) ∙ sym at
 
       pub taken_seen : (new : List X) → new ≡ filter (λ x. not (is_part part_of p x)) (get_or bins i d)
           → seen_in part_of (set bins i new) ≡ filter (λ x. not (is_part part_of p x)) (seen_in part_of bins)
-      taken_seen new e =
-          rw (e, default) (filtered (resource_by part_of) same_resource resource_before (slot_in (length bins))
-          resource_order i bins is.home within (λ x. not (is_part part_of p x)) near)
+      taken_seen new e = rw (e, default) (filtered (resource_by part_of) same_resource resource_before
+          (slot_in (length bins)) resource_order i bins is.home within (λ x. not (is_part part_of p x)) near)
 
       -- the same, where the order is that of what is seen
       pub taken_bins : (new : List X) → new ≡ filter (λ x. not (is_part part_of p x)) (get_or bins i d)
@@ -146,50 +127,40 @@ module _ {X : Type 0} (part_of : X → Part) where
 
     -- ---- one more: b says where it stands among all, and c where in its entry
 
-    module _ (b c : X → Bool) (x : X) (at : i ≡ slot_in (length bins) (part_of x).0)
-        (front : (y : X) → b y ≡ true → resource_before (part_of x).0 (part_of y).0 ≡ false)
-        (stop : (y : X) → b y ≡ false → resource_before (part_of y).0 (part_of x).0 ≡ false)
-        (agree : (y : X) → same_resource (part_of y).0 (part_of x).0 ≡ true → b y ≡ c y)
-        (others : (y : X) → same_resource (part_of y).0 (part_of x).0 ≡ false → c y ≡ true)
+    module _ (b c : X → Bool) (x : X) (at : i ≡ slot_in (length bins) (part_of x).0) (front : (y : X) → b y ≡ true
+        → resource_before (part_of x).0 (part_of y).0 ≡ false) (stop : (y : X) → b y ≡ false → resource_before
+        (part_of y).0 (part_of x).0 ≡ false) (agree : (y : X) → same_resource (part_of y).0 (part_of x).0 ≡ true
+        → b y ≡ c y) (others : (y : X) → same_resource (part_of y).0 (part_of x).0 ≡ false → c y ≡ true)
         (new : List X) (put : new ≡ insertion c x (get_or bins i d)) where
       pub put_seen : seen_in part_of (set bins i new) ≡ insertion b x (seen_in part_of bins)
-      put_seen =
-          rw (put, default) (inserted (resource_by part_of) same_resource resource_before (slot_in (length bins))
-          resource_order i bins is.home within b c x (sym at) front stop agree others)
+      put_seen = rw (put, default) (inserted (resource_by part_of) same_resource resource_before
+          (slot_in (length bins)) resource_order i bins is.home within b c x (sym at) front stop agree others)
 
-      pub put_table : list_any (is_part part_of (part_of x)) (seen_in part_of bins) ≡ false
-          → IsTable part_of (set bins i new) (insertion (λ other. resource_up_to other (part_of x).0) (part_of x).0 order)
-      put_table none =
-          record {
-            some = rw (length-set bins i new) is.some;
-            home = home_set new (grind (arith, default, list_all-insertion, and_from, eq-eqb));
-            one_each = rw put_seen (pairwise-insertion_any (are_apart part_of) b x (seen_in part_of bins) is.one_each
-                (list_all_weaker (λ other. not (is_part part_of (part_of x) other)) (λ other. are_apart part_of x other
-                && are_apart part_of other x) (both_apart x) (seen_in part_of bins)
-                (all_from_none (is_part part_of (part_of x)) (seen_in part_of bins) none)));
-            listed = rw (put_seen, is.listed) (sym (order_insertion (resource_by part_of) same_resource resource_before
-                resource_order b x front stop (seen_in part_of bins) (in_order bins)));
-          }
+      pub put_table : list_any (is_part part_of (part_of x)) (seen_in part_of bins) ≡ false → IsTable
+          part_of (set bins i new) (insertion (λ other. resource_up_to other (part_of x).0) (part_of x).0 order)
+      put_table none = record {
+        some = rw (length-set bins i new) is.some;
+        home = home_set new (grind (arith, default, list_all-insertion, and_from, eq-eqb));
+        one_each = rw put_seen (pairwise-insertion_any _ b x _ is.one_each
+            (list_all_weaker (λ other. not (is_part part_of (part_of x) other)) (λ other. are_apart part_of
+            x other && are_apart part_of other x) (grind (arith, and_from, same_part_comm))
+            _ (all_from_none (is_part part_of (part_of x)) (seen_in part_of bins) none)));
+        listed = rw (put_seen, is.listed) (sym (order_insertion (resource_by part_of) same_resource resource_before
+            resource_order b x front stop (seen_in part_of bins) (in_order _)));
+      }
 
     -- ---- elements change, and their parts don't
 
-    module _ (f : X → X) (kept : (x : X) → part_of (f x) ≡ part_of x)
-        (others : (x : X) → slot_in (length bins) (part_of x).0 ≢ i → f x ≡ x) (new : List X)
-        (put : new ≡ map f (get_or bins i d)) where
+    module _ (f : X → X) (kept : (x : X) → part_of (f x) ≡ part_of x) (others : (x : X) → slot_in
+        (length bins) (part_of x).0 ≢ i → f x ≡ x) (new : List X) (put : new ≡ map f (get_or bins i d)) where
       pub changed_seen : seen_in part_of (set bins i new) ≡ map f (seen_in part_of bins)
-      changed_seen =
-          rw (put, default) (mapped (resource_by part_of) same_resource resource_before (slot_in (length bins))
-          resource_order i bins is.home within f (λ x. ap (λ p. p.0) (kept x)) others)
+      changed_seen = rw (put, default) (mapped (resource_by part_of) same_resource resource_before
+          (slot_in (length bins)) resource_order i bins is.home within f (λ x. ap (λ p. p.0) (kept x)) others)
 
       keeps_home : (xs : List X) → list_all (λ x. slot_in (length bins) (part_of x).0 == i) xs ≡ true
           → list_all (λ x. slot_in (length bins) (part_of x).0 == i) (map f xs) ≡ true
       keeps_home [] h = refl
-      keeps_home (x ∷ xs) h =
-          let parts = and_parts (slot_in (length bins) (part_of x).0 == i)
-          (list_all (λ y. slot_in (length bins) (part_of y).0 == i) xs) h in
-          and_from (slot_in (length bins) (part_of (f x)).0 == i)
-          (list_all (λ y. slot_in (length bins) (part_of y).0 == i) (map f xs)) (rw (kept x) parts.0)
-          (keeps_home xs parts.1)
+      keeps_home (x ∷ xs) h = grind (arith, and_parts, and_from, keeps_home xs)
 
       keeps_keys : (xs : List X) → map (resource_by part_of) xs ≡ map (resource_by part_of) (map f xs)
       keeps_keys [] = refl
@@ -201,13 +172,11 @@ module _ {X : Type 0} (part_of : X → Part) where
   -- the order of what is seen serves
   pub of_seen : (bins : List (List X)) (order : List Resource) → IsTable part_of bins order
       → IsTable part_of bins (map (resource_by part_of) (seen_in part_of bins))
-  of_seen bins order is =
-      record { some = is.some; home = is.home; one_each = is.one_each; listed = refl }
+  of_seen bins order is = record { some = is.some; home = is.home; one_each = is.one_each; listed = refl }
 
   -- where a part goes, one element goes
   pub one_less : (p : Part) (xs : List X) → pairwise (are_apart part_of) xs ≡ true
-      → list_any (is_part part_of p) xs ≡ true
-      → length (filter (λ x. not (is_part part_of p x)) xs) + 1 ≡ length xs
+      → list_any (is_part part_of p) xs ≡ true → length (filter (λ x. not (is_part part_of p x)) xs) + 1 ≡ length xs
   one_less p xs u any = go (find (is_part part_of p) xs) refl
     where
       go : (o : Option X) → find (is_part part_of p) xs ≡ o
@@ -228,13 +197,11 @@ module _ {X : Type 0} (part_of : X → Part) where
 
   pub last_stop : (x y : X) → not (resource_before (part_of x).0 (part_of y).0) ≡ false
       → resource_before (part_of y).0 (part_of x).0 ≡ false
-  last_stop x y e =
-      resource_order.asym (part_of x).0 (part_of y).0 (turned (resource_before (part_of x).0 (part_of y).0) e)
+  last_stop x y e = resource_order.asym (part_of x).0 (part_of y).0 (turned _ e)
 
   pub last_agree : (x y : X) → same_resource (part_of y).0 (part_of x).0 ≡ true
       → not (resource_before (part_of x).0 (part_of y).0) ≡ true
-  last_agree x y e =
-      ap not (subst (λ k. resource_before (part_of x).0 k ≡ false)
+  last_agree x y e = ap not (subst (λ k. resource_before (part_of x).0 k ≡ false)
       (sym (same_resource-eq (part_of y).0 (part_of x).0 e)) (resource_order.once (part_of x).0))
 
   pub last_put : (x : X) (bin : List X) → bin ++ x ∷ [] ≡ insertion (λ y. true) x bin
@@ -248,8 +215,7 @@ module _ {X : Type 0} (part_of : X → Part) where
 
   pub none_out : (p : Part) (xs : List X) → list_any (is_part part_of p) xs ≡ false
       → xs ≡ filter (λ x. not (is_part part_of p x)) xs
-  none_out p xs h =
-      sym (filter_all (λ x. not (is_part part_of p x)) xs (all_from_none (is_part part_of p) xs h))
+  none_out p xs h = sym (filter_all (λ x. not (is_part part_of p x)) xs (all_from_none (is_part part_of p) xs h))
 
   -- ---- the element at a place
 
@@ -258,23 +224,20 @@ module _ {X : Type 0} (part_of : X → Part) where
   none_past bins order k is h = grind (arith, get_mapped)
 
   pub at_is : (bins : List (List X)) (order : List Resource) (k n : ℕ) (r : Resource) → IsTable part_of bins order
-      → slice_get order k ≡ Some r → n ≡ prefix_len (λ other. resource_before other r) order
-      → slice_get (filter (is_on part_of r) (get_or bins (slot_in (length bins) r) [])) (k - n)
-      ≡ slice_get (seen_in part_of bins) k
+      → slice_get order k ≡ Some r → n ≡ prefix_len (λ other. resource_before other r) order → slice_get (filter
+      (is_on part_of r) (get_or bins (slot_in (length bins) r) [])) (k - n) ≡ slice_get (seen_in part_of bins) k
   at_is bins order k n r is h e = grind (arith, found, go, get_mapped)
     where
       go : (o : Option X) → slice_get (seen_in part_of bins) k ≡ o → option_map (resource_by part_of) o ≡ Some r
-          → slice_get (filter (is_on part_of r) (seen_in part_of bins))
-          (k - prefix_len (λ other. resource_before other r) (map (resource_by part_of) (seen_in part_of bins)))
-          ≡ slice_get (seen_in part_of bins) k
+          → slice_get (filter (is_on part_of r) (seen_in part_of bins)) (k - prefix_len (λ other. resource_before
+          other r) (map (resource_by part_of) (seen_in part_of bins))) ≡ slice_get (seen_in part_of bins) k
       go None f g = absurd (cc)
       go (Some x) f g =
           let same : resource_by part_of x ≡ r = cc in
-          subst (λ a. slice_get (filter (is_on part_of a) (seen_in part_of bins))
-          (k - prefix_len (λ other. resource_before other a) (map (resource_by part_of) (seen_in part_of bins)))
-          ≡ slice_get (seen_in part_of bins) k) same
-          (at_run (resource_by part_of) same_resource resource_before resource_order (seen_in part_of bins) k x
-          (in_order bins) f ∙ sym f)
+          subst (λ a. slice_get (filter (is_on part_of a) (seen_in part_of bins)) (k - prefix_len
+          (λ other. resource_before other a) (map (resource_by part_of) (seen_in part_of bins))) ≡ slice_get
+          (seen_in part_of bins) k) same (at_run (resource_by part_of)
+          same_resource resource_before resource_order (seen_in part_of bins) k x (in_order bins) f ∙ sym f)
 
   -- ---- entries without elements
 

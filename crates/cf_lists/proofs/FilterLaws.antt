@@ -15,21 +15,14 @@ filter_swap g f xs = grind (arith, filter-filter, filter_agree)
 -- a filter that keeps all that the first one kept
 pub filter_absorbed : {X : Type 0} (g f : X → Bool) → ((x : X) → f x ≡ true → g x ≡ true) → (xs : List X)
     → filter g (filter f xs) ≡ filter f xs
-filter_absorbed g f h xs =
-    filter-filter g f xs ∙ filter_agree (λ x. f x && g x) f (grind arith) xs
+filter_absorbed g f h xs = filter-filter g f xs ∙ filter_agree (λ x. f x && g x) f (grind arith) xs
 
 -- ---- all elements
-
-keep_step : {X : Type 0} (b : Bool) (x : X) (xs ys : List X) → b ≡ true → ys ≡ xs → cond b (x ∷ ys) ys ≡ x ∷ xs
-keep_step true x xs ys e ih = ap (λ l. x ∷ l) ih
-keep_step false x xs ys e ih = absurd (false≢true e)
 
 -- a filter that all elements pass
 pub filter_all : {X : Type 0} (p : X → Bool) (xs : List X) → list_all p xs ≡ true → filter p xs ≡ xs
 filter_all p [] h = refl
-filter_all p (x ∷ xs) h =
-    let parts = and_parts (p x) (list_all p xs) h in
-    keep_step (p x) x xs (filter p xs) parts.0 (filter_all p xs parts.1)
+filter_all p (x ∷ xs) h = grind (arith, and_parts, false≢true, filter_all p xs)
 
 kept_step : {X : Type 0} (p : X → Bool) (b : Bool) (x : X) (ys : List X) → p x ≡ true → list_all p ys ≡ true
     → list_all p (cond b (x ∷ ys) ys) ≡ true
@@ -40,17 +33,13 @@ kept_step p false x ys e ih = ih
 pub list_all-filter : {X : Type 0} (p q : X → Bool) (xs : List X) → list_all p xs ≡ true
     → list_all p (filter q xs) ≡ true
 list_all-filter p q [] h = refl
-list_all-filter p q (x ∷ xs) h =
-    let parts = and_parts (p x) (list_all p xs) h in
-    kept_step p (q x) x (filter q xs) parts.0 (list_all-filter p q xs parts.1)
+list_all-filter p q (x ∷ xs) h = grind (arith, and_parts, kept_step, list_all-filter p q xs)
 
 -- what each element of a list has, and what follows from that
 pub list_all_weaker : {X : Type 0} (p q : X → Bool) → ((x : X) → p x ≡ true → q x ≡ true) → (xs : List X)
     → list_all p xs ≡ true → list_all q xs ≡ true
 list_all_weaker p q h [] e = refl
-list_all_weaker p q h (x ∷ xs) e =
-    let parts = and_parts (p x) (list_all p xs) e in
-    and_from (q x) (list_all q xs) (h x parts.0) (list_all_weaker p q h xs parts.1)
+list_all_weaker p q h (x ∷ xs) e = grind (arith, and_parts, and_from, list_all_weaker p q h xs)
 
 pub list_all_always : {X : Type 0} (p : X → Bool) → ((x : X) → p x ≡ true) → (xs : List X) → list_all p xs ≡ true
 list_all_always p h [] = refl
@@ -59,11 +48,7 @@ list_all_always p h (x ∷ xs) = and_from (p x) (list_all p xs) (h x) (list_all_
 pub list_all_both : {X : Type 0} (p q : X → Bool) (xs : List X) → list_all p xs ≡ true → list_all q xs ≡ true
     → list_all (λ x. p x && q x) xs ≡ true
 list_all_both p q [] e f = refl
-list_all_both p q (x ∷ xs) e f =
-    let left = and_parts (p x) (list_all p xs) e in
-    let right = and_parts (q x) (list_all q xs) f in
-    and_from (p x && q x) (list_all (λ y. p y && q y) xs) (and_from (p x) (q x) left.0 right.0)
-    (list_all_both p q xs left.1 right.1)
+list_all_both p q (x ∷ xs) e f = grind (arith, and_parts, and_from, list_all_both p q xs)
 
 -- all that a filter keeps passes it
 pub list_all-filter_same : {X : Type 0} (q : X → Bool) (xs : List X) → list_all q (filter q xs) ≡ true
@@ -74,13 +59,7 @@ list_all-filter_same q (x ∷ xs) = grind (arith, and_from, list_all-filter_same
 pub none_from_all : {X : Type 0} (p : X → Bool) (xs : List X) → list_all (λ x. not (p x)) xs ≡ true
     → list_any p xs ≡ false
 none_from_all p [] h = refl
-none_from_all p (x ∷ xs) h =
-    let parts = and_parts (not (p x)) (list_all (λ y. not (p y)) xs) h in
-    rest (p x) (list_any p xs) parts.0 (none_from_all p xs parts.1)
-  where
-    rest : (a b : Bool) → not a ≡ true → b ≡ false → a || b ≡ false
-    rest true b e f = absurd (false≢true e)
-    rest false b e f = f
+none_from_all p (x ∷ xs) h = grind (arith, and_parts, false≢true, none_from_all p xs)
 
 pub all_from_none : {X : Type 0} (p : X → Bool) (xs : List X) → list_any p xs ≡ false → list_all (λ x. not (p x)) xs ≡
     true
@@ -144,19 +123,11 @@ pub find_none : {X : Type 0} (p : X → Bool) (xs : List X) → list_any p xs �
 find_none p [] h = refl
 find_none p (x ∷ xs) h = grind (arith, false≢true, find_none p xs)
 
-all_found_step : {X : Type 0} (q : X → Bool) (b : Bool) (x y : X) (o : Option X) → q x ≡ true
-    → (o ≡ Some y → q y ≡ true)
-    → cond b (Some x) o ≡ Some y → q y ≡ true
-all_found_step q true x y o e ih h = let same : x ≡ y = cc in subst (λ z. q z ≡ true) same e
-all_found_step q false x y o e ih h = ih h
-
 -- what is found has what all have
 pub all_found : {X : Type 0} (p q : X → Bool) (xs : List X) (y : X) → list_all q xs ≡ true → find p xs ≡ Some y
     → q y ≡ true
 all_found p q [] y h e = absurd (cc)
-all_found p q (x ∷ xs) y h e =
-    let parts = and_parts (q x) (list_all q xs) h in
-    all_found_step q (p x) x y (find p xs) parts.0 (all_found p q xs y parts.1) e
+all_found p q (x ∷ xs) y h e = grind (arith, and_parts, all_found p q xs y)
 
 -- what is found passes
 pub found_passes : {X : Type 0} (p : X → Bool) (xs : List X) (y : X) → find p xs ≡ Some y → p y ≡ true

@@ -44,9 +44,8 @@ module _ {X : Type 0} where
   front_long (l ∷ ls) (suc h) n = ap (λ (k : ℕ). suc k) (front_long ls h n)
 
   -- where a later one passes, no earlier one does
-  none_before : (relation : X → X → Bool) (p : X → Bool)
-      → ((x y : X) → p x ≡ true → relation x y ≡ true → not (p y) ≡ true)
-      → (xs ys : List X) → pairwise relation (xs ++ ys) ≡ true → list_any p ys ≡ true → list_any p xs ≡ false
+  none_before : (relation : X → X → Bool) (p : X → Bool) → ((x y : X) → p x ≡ true → relation x y ≡ true → not (p y)
+      ≡ true) → (xs ys : List X) → pairwise relation (xs ++ ys) ≡ true → list_any p ys ≡ true → list_any p xs ≡ false
   none_before relation p once xs ys h e = grind (arith, false≢true, none_behind, once)
 
 module _ {X : Type 0} (id_of : X → ℕ) where
@@ -57,20 +56,20 @@ module _ {X : Type 0} (id_of : X → ℕ) where
   front_alone [] h n x a e = absurd (cc)
   front_alone (l ∷ ls) zero n x a e =
       let p = is_id id_of (id_of x) in
-      let whole : l ++ all_records ls ≡ take n l ++ (x ∷ drop (n + 1) l ++ all_records ls) =
-      ap (λ (r : List X). r ++ all_records ls) (split_next l n x e)
+      let whole = ap (λ r. r ++ all_records ls) (split_next l n x e)
       ∙ append_assoc (take n l) (x ∷ drop (n + 1) l) (all_records ls) in
-      let here : list_any p (x ∷ drop (n + 1) l ++ all_records ls) ≡ true =
-      any_at p (x ∷ drop (n + 1) l ++ all_records ls) 0 x refl (eq-eqb (id_of x) (id_of x) refl) in
+      let here = any_at p (x ∷ drop (n + 1) l ++ all_records ls) 0 x refl (eq-eqb (id_of x) (id_of x) refl) in
       let none : list_any p (take n l) ≡ false = grind (arith, none_before, once) in
       list_any-append p (take n l) (all_records (emptied ls))
       ∙ ap (λ b. b || list_any p (all_records (emptied ls))) none ∙ none_in p ls
-  front_alone (l ∷ ls) (suc h) n x a e =
-      let p = is_id id_of (id_of x) in
-      let there : list_any p (all_records ls) ≡ true =
-      any_all p ls ∙ any_there p ls h n x e (eq-eqb (id_of x) (id_of x) refl) in
-      let none : list_any p l ≡ false =
-      none_before (ids_apart id_of) p (once id_of (id_of x)) l (all_records ls) a there in
-      list_any-append p l (all_records (front h n ls))
-      ∙ ap (λ b. b || list_any p (all_records (front h n ls))) none
-      ∙ front_alone ls h n x (pairwise_back (ids_apart id_of) l (all_records ls) a) e
+  front_alone (l ∷ ls) (suc h) n x a e = grind (
+    arith,
+    any_all,
+    any_there,
+    eq-eqb,
+    none_before,
+    once,
+    list_any-append,
+    pairwise_back,
+    front_alone ls h n x (pairwise_back (ids_apart id_of) l (all_records ls) a) e,
+  )

@@ -10,28 +10,23 @@ module _ {X : Type 0} (id_of : X → ℕ) where
       → not ((is_id id_of) id y) ≡ true
   once id x y h e = grind (arith, nat_tests)
 
-  pub map_same : (id : ℕ) (f : List X → List X) → ((recs : List X) → (has_id id_of) id recs ≡ false
-      → f recs ≡ recs)
+  pub map_same : (id : ℕ) (f : List X → List X) → ((recs : List X) → (has_id id_of) id recs ≡ false → f recs ≡ recs)
       → (lists : List (List X)) → list_any (has_id id_of id) lists ≡ false → map f lists ≡ lists
   map_same id f same [] h = refl
   map_same id f same (recs ∷ lists) h = grind (arith, false≢true, map_same id f same lists)
 
   -- what changes the list that has the id alone changes that one list
-  pub only_there : (id : ℕ) (f : List X → List X) → ((recs : List X) → (has_id id_of) id recs ≡ false
-      → f recs ≡ recs)
+  pub only_there : (id : ℕ) (f : List X → List X) → ((recs : List X) → (has_id id_of) id recs ≡ false → f recs ≡ recs)
       → (lists : List (List X)) → pairwise (ids_apart id_of) (all_records lists) ≡ true
-      → list_any (has_id id_of id) lists ≡ true
-      → set lists (position_or_len (has_id id_of id) lists)
-      (f (list_of (position_or_len (has_id id_of id) lists) lists)) ≡ map f
-      lists
+      → list_any (has_id id_of id) lists ≡ true → set lists (position_or_len (has_id id_of id) lists)
+      (f (list_of (position_or_len (has_id id_of id) lists) lists)) ≡ map f lists
   only_there id f same [] h e = absurd (false≢true e)
   only_there id f same (recs ∷ lists) h e = grind (arith, go, behind, only_there id f same lists (behind recs h))
     where
       behind : (xs : List X) → pairwise (ids_apart id_of) (xs ++ all_records lists) ≡ true → pairwise (ids_apart id_of)
           (all_records lists) ≡ true
       behind [] k = k
-      behind (x ∷ xs) k =
-          behind xs (and_parts (list_all (ids_apart id_of x) (xs ++ all_records lists))
+      behind (x ∷ xs) k = behind xs (and_parts (list_all (ids_apart id_of x) (xs ++ all_records lists))
           (pairwise (ids_apart id_of) (xs ++ all_records lists)) k).1
 
       later : (k : ℕ) → set (recs ∷ lists) (1 + k) (f (list_of (1 + k) (recs ∷ lists)))
@@ -39,23 +34,17 @@ module _ {X : Type 0} (id_of : X → ℕ) where
       later k = let s : 1 + k ≡ suc k = omega arith in rw s refl
 
       go : (b : Bool) → (has_id id_of) id recs ≡ b → b || list_any (has_id id_of id) lists ≡ true
-          → (list_any (has_id id_of id) lists ≡ true
-          → set lists (position_or_len (has_id id_of id) lists)
-          (f (list_of (position_or_len (has_id id_of id) lists) lists)) ≡
-          map f lists)
-          → set (recs ∷ lists) (cond (not b) (1 + position_or_len (has_id id_of id) lists) 0)
-          (f (list_of (cond (not b) (1 + position_or_len (has_id id_of id) lists) 0) (recs ∷ lists)))
-          ≡ f recs ∷ map f lists
+          → (list_any (has_id id_of id) lists ≡ true → set lists (position_or_len (has_id id_of id) lists)
+          (f (list_of (position_or_len (has_id id_of id) lists) lists)) ≡ map f lists)
+          → set (recs ∷ lists) (cond (not b) (1 + position_or_len (has_id id_of id) lists) 0) (f (list_of
+          (cond (not b) (1 + position_or_len (has_id id_of id) lists) 0) (recs ∷ lists))) ≡ f recs ∷ map f lists
       go true here e rest =
-          let none : list_any (has_id id_of id) lists ≡ false =
-          sym (any_all (is_id id_of id) lists)
-          ∙ none_behind (ids_apart id_of) (is_id id_of id) (once id) recs (all_records lists) h here in
-          ap (λ (l : List (List X)). f recs ∷ l) (sym (map_same id f same lists none))
+          let none = sym (any_all (is_id id_of id) lists) ∙ none_behind _ _ (once _) _ _ h here in
+          ap (λ l. f recs ∷ l) (sym (map_same _ f same _ none))
       go false apart e rest = grind (arith, later)
 
   pub found_there : (id : ℕ) (lists : List (List X)) → list_any (has_id id_of id) lists ≡ true
-      → (record_of id_of) id lists
-      ≡ slice_get (list_of (position_or_len (has_id id_of id) lists) lists)
+      → (record_of id_of) id lists ≡ slice_get (list_of (position_or_len (has_id id_of id) lists) lists)
       (position_or_len (is_id id_of id) (list_of (position_or_len (has_id id_of id) lists) lists))
   found_there id [] e = absurd (false≢true e)
   found_there id (recs ∷ lists) e =
@@ -63,9 +52,8 @@ module _ {X : Type 0} (id_of : X → ℕ) where
 
   pub apart-without : (id : ℕ) (lists : List (List X)) → pairwise (ids_apart id_of) (all_records lists) ≡ true
       → pairwise (ids_apart id_of) (all_records ((lists_without id_of) id lists)) ≡ true
-  apart-without id lists h =
-      ap (λ (l : List X). pairwise (ids_apart id_of) l) (all-filter (λ rec. not ((is_id id_of) id rec)) lists)
-      ∙ pairwise-filter (ids_apart id_of) (λ rec. not ((is_id id_of) id rec)) (all_records lists) h
+  apart-without id lists h = ap (λ (l : List X). pairwise (ids_apart id_of) l) (all-filter (λ rec. not ((is_id id_of)
+      id rec)) lists) ∙ pairwise-filter (ids_apart id_of) (λ rec. not ((is_id id_of) id rec)) (all_records lists) h
 
   same_id : (rec other : X) → id_of ((replaced_by id_of) rec other) ≡ (id_of other)
   same_id rec other = grind (arith, eqb-true)
@@ -84,8 +72,7 @@ module _ {X : Type 0} (id_of : X → ℕ) where
     pub place_in : p < length (list_of h lists)
 
   pub apart-list : (lists : List (List X)) (h : ℕ) → h < length lists
-      → pairwise (ids_apart id_of) (all_records lists) ≡ true
-      → pairwise (ids_apart id_of) (list_of h lists) ≡ true
+      → pairwise (ids_apart id_of) (all_records lists) ≡ true → pairwise (ids_apart id_of) (list_of h lists) ≡ true
   apart-list lists h lt apart =
       let split : pairwise (ids_apart id_of) (all_records (take h lists)
       ++ (list_of h lists ++ all_records (drop (suc h) lists))) ≡ true = grind (arith, all-split) in
@@ -98,28 +85,23 @@ module _ {X : Type 0} (id_of : X → ℕ) where
 
   only_here : (id : ℕ) (f : List X → List X) → ((recs : List X) → (has_id id_of) id recs ≡ false → f recs ≡ recs)
       → (lists : List (List X)) (h p : ℕ) → IsPlaced id lists h p
-      → pairwise (ids_apart id_of) (all_records lists) ≡ true
-      → set lists h (f (list_of h lists)) ≡ map f lists
+      → pairwise (ids_apart id_of) (all_records lists) ≡ true → set lists h (f (list_of h lists)) ≡ map f lists
   only_here id f same lists h p is apart = grind (arith, list_of, only_there)
 
-  without_none : (id : ℕ) (recs : List X) → (has_id id_of) id recs ≡ false
-      → filter (λ rec. not ((is_id id_of) id rec)) recs ≡
-      recs
+  without_none : (id : ℕ) (recs : List X)
+      → (has_id id_of) id recs ≡ false → filter (λ rec. not ((is_id id_of) id rec)) recs ≡ recs
   without_none id recs e = filter_all (λ rec. not ((is_id id_of) id rec)) recs (all_from_none (is_id id_of id) recs e)
 
   turned : (recs : List X) → pairwise (ids_apart id_of) recs ≡ true
       → pairwise (λ (rec other : X). not ((id_of rec) == (id_of other))) recs ≡ true
   turned recs h = grind (arith, pairwise_weaker, nat_tests)
 
-  pub taken_there : (id : ℕ) (lists : List (List X)) (h p : ℕ) → IsPlaced id lists h p
-      → pairwise (ids_apart id_of) (all_records lists) ≡ true
-      → set lists h (remove (list_of h lists) p) ≡ (lists_without id_of) id
-      lists
+  pub taken_there : (id : ℕ) (lists : List (List X)) (h p : ℕ) → IsPlaced id lists h p → pairwise (ids_apart id_of)
+      (all_records lists) ≡ true → set lists h (remove (list_of h lists) p) ≡ (lists_without id_of) id lists
   taken_there id lists h p is apart =
       let recs = list_of h lists in
-      ap (λ (l : List X). set lists h l)
-      (remove_placed (λ (rec : X). (id_of rec)) (λ a b. a == b) eqb-true (λ a. eq-eqb a a refl) id recs p
-      (turned recs (apart-list lists h is.header_in apart)) (grind (arith, any_is_placed)))
+      ap (λ (l : List X). set lists h l) (remove_placed (λ (rec : X). (id_of rec)) (λ a b. a == b) eqb-true (λ a.
+      eq-eqb a a refl) id recs p (turned recs (apart-list lists h is.header_in apart)) (grind (arith, any_is_placed)))
       ∙ only_here id (λ l. filter (λ rec. not ((is_id id_of) id rec)) l) (without_none id) lists h p is apart
 
   pub without_absent : (id : ℕ) (lists : List (List X)) → list_any (has_id id_of id) lists ≡ false
@@ -132,37 +114,28 @@ module _ {X : Type 0} (id_of : X → ℕ) where
   unchanged rec (x ∷ xs) e = grind (arith, false≢true, unchanged rec xs)
 
   pub apart-with : (lists : List (List X)) (h p : ℕ) (rec : X) → h < length lists → p ≤ length (list_of h lists)
-      → pairwise (ids_apart id_of) (all_records lists) ≡ true
-      → list_any ((is_id id_of) (id_of rec)) (all_records lists) ≡ false
-      → pairwise (ids_apart id_of) (all_records (lists_with h p rec lists)) ≡ true
+      → pairwise (ids_apart id_of) (all_records lists) ≡ true → list_any ((is_id id_of) (id_of rec))
+      (all_records lists) ≡ false → pairwise (ids_apart id_of) (all_records (lists_with h p rec lists)) ≡ true
   apart-with lists h p rec lt within apart alone =
       let recs = list_of h lists in
       let front = all_records (take h lists) in
       let back = all_records (drop (suc h) lists) in
-      let split : all_records lists ≡ (front ++ take p recs) ++ (drop p recs ++ back) =
-      all-split lists h lt
-      ∙ ap (λ (l : List X). front ++ (l ++ back)) (sym (take-append-drop p recs))
-      ∙ ap (λ (l : List X). front ++ l) (append_assoc (take p recs) (drop p recs) back)
-      ∙ sym (append_assoc front (take p recs) (drop p recs ++ back)) in
+      let split = all-split _ h lt ∙ ap (λ l. front ++ (l ++ back)) (sym (take-append-drop p recs))
+      ∙ ap (λ l. front ++ l) (append_assoc (take p recs) (drop p recs) back) ∙ sym (grind (arith, append_assoc)) in
       let made : all_records (lists_with h p rec lists) ≡ (front ++ take p recs) ++ rec ∷ (drop p recs ++ back) =
       grind (arith, all-set, append_assoc) in
-      ap (λ (l : List X). pairwise (ids_apart id_of) l) made
-      ∙ pairwise_middle (ids_apart id_of) (front ++ take p recs) (drop p recs ++ back) rec
-      (ap (λ (l : List X). pairwise (ids_apart id_of) l) (sym split) ∙ apart)
-      (ap (λ (l : List X). list_all (λ x. (ids_apart id_of) rec x && (ids_apart id_of) x rec) l) (sym split)
-      ∙ list_all_weaker (λ x. not ((is_id id_of) (id_of rec) x)) (λ x. (ids_apart id_of) rec x
-      && (ids_apart id_of) x rec) (grind (arith, nat_tests))
-      (all_records lists)
-      (all_from_none ((is_id id_of) (id_of rec)) (all_records lists) alone))
+      ap (λ l. pairwise (ids_apart id_of) l) made ∙ pairwise_middle (ids_apart id_of)
+      (front ++ take p recs) (drop p recs ++ back) rec (ap (λ l. pairwise (ids_apart id_of) l) (sym split) ∙ apart)
+      (ap (λ l. list_all (λ x. (ids_apart id_of) rec x && (ids_apart id_of) x rec) l) (sym split) ∙ list_all_weaker
+      (λ x. not ((is_id id_of) (id_of rec) x)) (λ x. (ids_apart id_of) rec x && (ids_apart id_of) x rec)
+      (grind (arith, nat_tests)) _ (all_from_none ((is_id id_of) (id_of rec)) (all_records lists) alone))
 
   -- no record has an id that was taken out
   pub gone : (id : ℕ) (lists : List (List X)) (rec : X) → (is_id id_of) id rec ≡ true
       → list_any ((is_id id_of) (id_of rec)) (all_records ((lists_without id_of) id lists)) ≡ false
-  gone id lists rec e =
-      subst (λ n. list_any (λ (r : X). (id_of r) == n) (all_records ((lists_without id_of) id lists)) ≡ false)
-      (sym (eqb-true (id_of rec) id e))
-      (ap (λ (l : List X). list_any (is_id id_of id) l) (all-filter (λ r. not ((is_id id_of) id r)) lists)
-      ∙ none_filtered (is_id id_of id) (all_records lists))
+  gone id lists rec e = subst (λ n. list_any (λ (r : X). (id_of r) == n) (all_records ((lists_without id_of)
+      id lists)) ≡ false) (sym (eqb-true (id_of rec) id e)) (ap (λ (l : List X). list_any (is_id id_of id) l)
+      (all-filter (λ r. not ((is_id id_of) id r)) lists) ∙ none_filtered (is_id id_of id) (all_records lists))
 
   -- replaced once and once more
   replaced_again : (a b : X) → id_of a ≡ id_of b → (xs : List X)
@@ -181,7 +154,6 @@ module _ {X : Type 0} (id_of : X → ℕ) where
   same_ids a [] id = refl
   same_ids a (x ∷ xs) id = grind (arith, same_id, same_ids a xs id)
 
-  pub any-replaced : (a : X) (lists : List (List X)) (id : ℕ)
-      → list_any (is_id id_of id) (all_records (lists_replaced id_of a lists))
-      ≡ list_any (is_id id_of id) (all_records lists)
+  pub any-replaced : (a : X) (lists : List (List X)) (id : ℕ) → list_any (is_id id_of id)
+      (all_records (lists_replaced id_of a lists)) ≡ list_any (is_id id_of id) (all_records lists)
   any-replaced a lists id = search (all-map, same_ids, arith)

@@ -13,22 +13,15 @@ kept_step f false x xs = refl
 
 -- what a filter leaves, where the two maps agree on it
 pub map-filtered : {X Y : Type 0} (f g : X → Y) (q : X → Bool) (s : Y → Bool) → ((x : X) → q x ≡ true → f x ≡ g x)
-    → ((x : X) → s (g x) ≡ q x)
-    → (xs : List X) → map f (filter q xs) ≡ filter s (map g xs)
+    → ((x : X) → s (g x) ≡ q x) → (xs : List X) → map f (filter q xs) ≡ filter s (map g xs)
 map-filtered f g q s h e [] = refl
 map-filtered f g q s h e (x ∷ xs) = grind (arith, kept_step, filtered_step, map-filtered f g q s h e xs)
 
-put_step : {X Y : Type 0} (f : X → Y) (b : Bool) (x y : X) (ys zs : List X) (ws : List Y) → map f zs ≡ ws
-    → map f (cond b (y ∷ zs) (x ∷ y ∷ ys)) ≡ cond b (f y ∷ ws) (f x ∷ f y ∷ map f ys)
-put_step f true x y ys zs ws e = ap (λ l. f y ∷ l) e
-put_step f false x y ys zs ws e = refl
-
 -- one element more
-pub map-insertion : {X Y : Type 0} (f : X → Y) (before : X → Bool) (ahead : Y → Bool) (x : X)
-    → ((y : X) → ahead (f y) ≡ before y)
-    → (xs : List X) → map f (insertion before x xs) ≡ insertion ahead (f x) (map f xs)
+pub map-insertion : {X Y : Type 0} (f : X → Y) (before : X → Bool) (ahead : Y → Bool) (x : X) → ((y : X)
+    → ahead (f y) ≡ before y) → (xs : List X) → map f (insertion before x xs) ≡ insertion ahead (f x) (map f xs)
 map-insertion f before ahead x e [] = refl
-map-insertion f before ahead x e (y ∷ ys) = grind (arith, put_step, map-insertion f before ahead x e ys)
+map-insertion f before ahead x e (y ∷ ys) = grind (arith, map-insertion f before ahead x e ys)
 
 -- a map in two ways
 pub map-either : {X Y : Type 0} (f g : X → Y) (h : X → X) (k : Y → Y) → ((x : X) → f (h x) ≡ k (g x)) → (xs : List X)

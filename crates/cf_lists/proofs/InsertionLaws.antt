@@ -60,14 +60,12 @@ here_step p false false c x y ys zs e f h ih = rw e refl
 
 -- a search for the element, where no other passes
 pub find-insertion_here : {X : Type 0} (p before : X → Bool) (x : X) (xs : List X) → p x ≡ true
-    → list_any p xs ≡ false
-    → find p (insertion before x xs) ≡ Some x
+    → list_any p xs ≡ false → find p (insertion before x xs) ≡ Some x
 find-insertion_here p before x [] e h = rw e refl
 find-insertion_here p before x (y ∷ ys) e h = grind (arith, here_step, find-insertion_here p before x ys e)
 
 kept_step : {X : Type 0} (p q : X → Bool) (a b : Bool) (x y : X) (ys zs : List X) → p x ≡ true → q x ≡ true
-    → list_any p (filter q zs) ≡ true
-    → q y ≡ b → list_any p (filter q (cond a (y ∷ zs) (x ∷ y ∷ ys))) ≡ true
+    → list_any p (filter q zs) ≡ true → q y ≡ b → list_any p (filter q (cond a (y ∷ zs) (x ∷ y ∷ ys))) ≡ true
 kept_step p q true true x y ys zs e f ih g = rw g (or_right (p y) (list_any p (filter q zs)) ih)
 kept_step p q true false x y ys zs e f ih g = rw g ih
 kept_step p q false b x y ys zs e f ih g = rw (f, e) refl
@@ -76,5 +74,4 @@ kept_step p q false b x y ys zs e f ih g = rw (f, e) refl
 pub list_any-insertion_kept : {X : Type 0} (p q before : X → Bool) (x : X) (xs : List X) → p x ≡ true → q x ≡ true
     → list_any p (filter q (insertion before x xs)) ≡ true
 list_any-insertion_kept p q before x [] e f = rw (f, e) refl
-list_any-insertion_kept p q before x (y ∷ ys) e f =
-    grind (arith, kept_step, list_any-insertion_kept p q before x ys e f)
+list_any-insertion_kept p q before x (y ∷ ys) e f = grind (arith, kept_step, list_any-insertion_kept p q before x ys e)

@@ -44,19 +44,18 @@ module _ {X K : Type 0} (key : X → K) (same : K → K → Bool)
       → list_any (is_keyed k) xs ≡ false
   none_behind k x xs u e = subst (λ n. list_any (is_keyed n) xs ≡ false) (same-eq (key x) k e) (none_later x xs u)
 
-  -- what is left when the one with a key is taken out
-  removed_step : (k : K) (x : X) (xs : List X) → pairwise apart (x ∷ xs) ≡ true
-      → (list_any (is_keyed k) xs ≡ true → remove xs (position_or_len (is_keyed k) xs) ≡ filter
-      (λ y. not (is_keyed k y)) xs)
-      → (b : Bool) → same (key x) k ≡ b → list_any (is_keyed k) (x ∷ xs) ≡ true
-      → remove (x ∷ xs) (position_or_len (is_keyed k) (x ∷ xs)) ≡ filter (λ y. not (is_keyed k y)) (x ∷ xs)
-  removed_step k x xs u ih true e h = grind (arith, filter_all, all_from_none, none_behind)
-  removed_step k x xs u ih false e h = grind (arith, remove_later)
-
   remove_keyed : (k : K) (xs : List X) → pairwise apart xs ≡ true → list_any (is_keyed k) xs ≡ true
       → remove xs (position_or_len (is_keyed k) xs) ≡ filter (λ y. not (is_keyed k y)) xs
   remove_keyed k [] u h = absurd (false≢true h)
-  remove_keyed k (x ∷ xs) u h = grind (arith, removed_step, later_apart, remove_keyed k xs (later_apart x xs u))
+  remove_keyed k (x ∷ xs) u h = grind (
+    arith,
+    later_apart,
+    filter_all,
+    all_from_none,
+    none_behind,
+    remove_later,
+    remove_keyed k xs (later_apart x xs u),
+  )
 
   pub remove_placed : (k : K) (xs : List X) (i : ℕ) → pairwise apart xs ≡ true → position (is_keyed k) xs ≡ Some i
       → remove xs i ≡ filter (λ y. not (is_keyed k y)) xs
@@ -72,17 +71,15 @@ module _ {X K : Type 0} (key : X → K) (same : K → K → Bool)
   sum_step f k x y xs u ih false e h = grind (arith, sum_by-cons)
 
   pub sum_by_without : (f : X → ℕ) (k : K) (xs : List X) (y : X) → pairwise apart xs ≡ true
-      → find (is_keyed k) xs ≡ Some y
-      → sum_by f (filter (λ z. not (is_keyed k z)) xs) + f y ≡ sum_by f xs
+      → find (is_keyed k) xs ≡ Some y → sum_by f (filter (λ z. not (is_keyed k z)) xs) + f y ≡ sum_by f xs
   sum_by_without f k [] y u h = absurd (cc)
-  sum_by_without f k (x ∷ xs) y u h =
-      sum_step f k x y xs u (sum_by_without f k xs y (later_apart x xs u)) (same (key x) k) refl h
+  sum_by_without f k (x ∷ xs) y u h = sum_step f k x y _ u (sum_by_without f k xs y (later_apart x _ u)) _ refl h
 
   pub length_without : (k : K) (xs : List X) (y : X) → pairwise apart xs ≡ true → find (is_keyed k) xs ≡ Some y
       → length (filter (λ z. not (is_keyed k z)) xs) + 1 ≡ length xs
   length_without k [] y u h = absurd (cc)
   length_without k (x ∷ xs) y u h =
-      grind (arith, later_apart, filter_all, all_from_none, none_behind, length_without k xs y (later_apart x xs u))
+      grind (arith, later_apart, filter_all, all_from_none, none_behind, length_without k xs y)
 
   -- ---- without several keys
 
@@ -100,9 +97,7 @@ module _ {X K : Type 0} (key : X → K) (same : K → K → Bool)
   pub found_without : (v : X) (vs xs : List X) → list_all (apart v) vs ≡ true → AllFound vs xs
       → AllFound vs (filter (λ x. not (is_keyed (key v) x)) xs)
   found_without v [] xs e h = tt
-  found_without v (w ∷ ws) xs e h =
-      let parts = and_parts (apart v w) (list_all (apart v) ws) e in (
-      grind (arith, find-filter, same_sym, not-true, found_without v ws xs parts.1 h.1))
+  found_without v (w ∷ ws) xs e h = grind (arith, and_parts, find-filter, same_sym, not-true, found_without v ws xs)
 
   -- the first key goes, and then the others
   spared-cons : (k : K) (ks : List K) (xs : List X) → spared ks (filter (λ x. not (is_keyed k x)) xs) ≡ spared
@@ -115,15 +110,13 @@ module _ {X K : Type 0} (key : X → K) (same : K → K → Bool)
   apart_filter : (q : X → Bool) (xs : List X) → pairwise apart xs ≡ true → pairwise apart (filter q xs) ≡ true
   apart_filter q xs u = pairwise-filter apart q xs u
 
-  pub sum_by_spared : (f : X → ℕ) (vs xs : List X) → pairwise apart xs ≡ true → pairwise apart vs ≡ true
-      → AllFound vs xs
-      → sum_by f (spared (map key vs) xs) + sum_by f vs ≡ sum_by f xs
+  pub sum_by_spared : (f : X → ℕ) (vs xs : List X) → pairwise apart xs ≡ true
+      → pairwise apart vs ≡ true → AllFound vs xs → sum_by f (spared (map key vs) xs) + sum_by f vs ≡ sum_by f xs
   sum_by_spared f [] xs u w h = rw (spared-nil xs) (omega arith)
   sum_by_spared f (v ∷ vs) xs u w h =
       let rest = filter (λ x. not (is_keyed (key v) x)) xs in
       let later = and_parts (list_all (apart v) vs) (pairwise apart vs) w in
-      let ih = sum_by_spared f vs rest (apart_filter (λ x. not (is_keyed (key v) x)) xs u) later.1
-      (found_without v vs xs later.0 h.1) in
+      let ih = sum_by_spared f vs rest (grind (arith, apart_filter)) later.1 (found_without v vs xs later.0 h.1) in
       let one = sum_by_without f (key v) xs v u h.0 in
       rw (← spared-cons (key v) (map key vs) xs) (omega (arith, ih, one, sum_by-cons f v vs))
 
@@ -133,8 +126,7 @@ module _ {X K : Type 0} (key : X → K) (same : K → K → Bool)
   length_spared (v ∷ vs) xs u w h =
       let rest = filter (λ x. not (is_keyed (key v) x)) xs in
       let later = and_parts (list_all (apart v) vs) (pairwise apart vs) w in
-      let ih = length_spared vs rest (apart_filter (λ x. not (is_keyed (key v) x)) xs u) later.1
-      (found_without v vs xs later.0 h.1) in
+      let ih = length_spared vs rest (grind (arith, apart_filter)) later.1 (found_without v vs xs later.0 h.1) in
       let one = length_without (key v) xs v u h.0 in
       rw (← spared-cons (key v) (map key vs) xs) (omega (arith, ih, one))
 
@@ -145,9 +137,7 @@ module _ {X K : Type 0} (key : X → K) (same : K → K → Bool)
 
   found_behind : (x : X) (ws xs : List X) → list_all (apart x) ws ≡ true → AllFound ws xs → AllFound ws (x ∷ xs)
   found_behind x [] xs e h = tt
-  found_behind x (w ∷ ws) xs e h =
-      let parts = and_parts (apart x w) (list_all (apart x) ws) e in
-      (rw (not-true (same (key x) (key w)) parts.0) h.0, found_behind x ws xs parts.1 h.1)
+  found_behind x (w ∷ ws) xs e h = grind (arith, and_parts, not-true, found_behind x ws xs)
 
   found_step : (b : Bool) (x : X) (ws xs : List X) → AllFound ws (x ∷ xs) → AllFound (cond b (x ∷ ws) ws) (x ∷ xs)
   found_step true x ws xs h = (rw (same-refl (key x)) refl, h)
@@ -156,10 +146,7 @@ module _ {X K : Type 0} (key : X → K) (same : K → K → Bool)
   -- what a filter keeps is found
   pub found_filter : (p : X → Bool) (xs : List X) → pairwise apart xs ≡ true → AllFound (filter p xs) xs
   found_filter p [] u = tt
-  found_filter p (x ∷ xs) u =
-      let parts = and_parts (list_all (apart x) xs) (pairwise apart xs) u in
-      found_step (p x) x (filter p xs) xs
-      (found_behind x (filter p xs) xs (list_all-filter (apart x) p xs parts.0) (found_filter p xs parts.1))
+  found_filter p (x ∷ xs) u = grind (arith, and_parts, found_step, found_behind, list_all-filter, found_filter p xs)
 
   pub found_append : (vs ws xs : List X) → AllFound vs xs → AllFound ws xs → AllFound (vs ++ ws) xs
   found_append [] ws xs h k = k

@@ -14,8 +14,7 @@ mapped_more {X} f xs ys i x y within is front back =
     let rest : drop (suc i) ys ≡ drop (suc i) xs = cc in
     let next : i + 1 ≡ suc i = omega arith in
     let image : y ≡ f (get_or xs i x) = is ∙ ap f same in (
-      take_more_set ys i y within ∙ (λ j. front j ++ image j ∷ [])
-          ∙ sym (ap (λ (l : List X). map f l) (take_more xs i x long) ∙ map-append f (take i xs)
-          (get_or xs i x ∷ [])),
+      take_more_set ys i y within ∙ (λ j. front j ++ image j ∷ []) ∙ sym
+          (ap (λ (l : List X). map f l) (take_more xs i x long) ∙ map-append f (take i xs) (get_or xs i x ∷ [])),
       rw next (drop-set-lt (suc i) ys i y (omega arith) ∙ rest),
     )

@@ -10,93 +10,74 @@ use Rattle.cf_lists.proofs.BinLaws.{arranged_in_turn, changed, seen}
 map_same : {X : Type 0} (p : X → Bool) (f : X → X) (xs : List X) → list_all p xs ≡ true
     → ((x : X) → p x ≡ true → f x ≡ x) → map f xs ≡ xs
 map_same p f [] h same = refl
-map_same p f (x ∷ xs) h same =
-    let parts = and_parts (p x) (list_all p xs) h in
-    ap (λ y. y ∷ map f xs) (same x parts.0) ∙ ap (λ l. x ∷ l) (map_same p f xs parts.1 same)
+map_same p f (x ∷ xs) h same = grind (arith, and_parts, map_same p f xs)
 
 module _ {X K : Type 0} (key : X → K) (same before : K → K → Bool) (slot : K → ℕ) (is : IsKeyOrder same before)
     (i : ℕ) (bins : List (List X)) (h : AreAtHome key slot bins) (within : i < length bins) where
   -- ---- elements of the entry leave
 
-  stays : (q : X → Bool) (k : K) (x : X) (b : Bool) → (q x ≡ false → slot (key x) ≡ i) → slot k ≢ i
-      → same (key x) k ≡ true
-      → q x ≡ b → b ≡ true
+  stays : (q : X → Bool) (k : K) (x : X) (b : Bool)
+      → (q x ≡ false → slot (key x) ≡ i) → slot k ≢ i → same (key x) k ≡ true → q x ≡ b → b ≡ true
   stays q k x true near off e f = refl
   stays q k x false near off e f = absurd (off (sym (ap slot (is.equal (key x) k e)) ∙ near f))
 
-  pub filtered : (q : X → Bool) → ((x : X) → q x ≡ false → slot (key x) ≡ i)
-      → arranged key before (joined (set bins i (filter q (get_or bins i []))))
-      ≡ filter q (arranged key before (joined bins))
+  pub filtered : (q : X → Bool) → ((x : X) → q x ≡ false → slot (key x) ≡ i) → arranged key
+      before (joined (set bins i (filter q (get_or bins i [])))) ≡ filter q (arranged key before (joined bins))
   filtered q near =
       let view = arranged key before (joined bins) in
       let bin = get_or bins i [] in
-      changed key same before slot is i bins (filter q bin) (filter q view) h within
-      (list_all-filter (λ x. slot (key x) == i) q bin (h i))
-      (λ k at. filter_swap (is_keyed key same k) q bin ∙ ap (filter q) (seen key same before slot is k i bins h at)
-      ∙ filter_swap q (is_keyed key same k) view)
-      (λ k off. sym (filter_swap (is_keyed key same k) q view
-      ∙ filter_absorbed q (is_keyed key same k) (λ x e. stays q k x (q x) (near x) off e refl) view))
-      (pairwise-filter (in_turn key before) q view (arranged_in_turn key same before slot is (joined bins)))
+      changed key same before slot is i bins (filter q bin) (filter q view) h within (grind (arith, list_all-filter))
+      (λ k at. filter_swap _ q _ ∙ ap (filter q) (seen key same before slot is k i bins h at)
+      ∙ filter_swap q _ _) (grind (arith, filter_swap, filter_absorbed, stays))
+      (pairwise-filter _ q _ (arranged_in_turn key same before slot is (joined bins)))
 
   -- ---- elements of the entry change, and their keys don't
 
   keyed-map : (f : X → X) → ((x : X) → key (f x) ≡ key x) → (k : K) (xs : List X)
       → filter (is_keyed key same k) (map f xs) ≡ map f (filter (is_keyed key same k) xs)
-  keyed-map f kept k xs =
-      sym (map-filtered f f (is_keyed key same k) (is_keyed key same k) (λ x e. refl) (λ x. rw (kept x) refl) xs)
+  keyed-map f kept k xs = grind (arith, map-filtered)
 
   moved : (k : K) (x : X) → slot k ≢ i → same (key x) k ≡ true → slot (key x) ≢ i
   moved k x off e z = off (sym (ap slot (is.equal (key x) k e)) ∙ z)
 
-  pub mapped : (f : X → X) → ((x : X) → key (f x) ≡ key x) → ((x : X) → slot (key x) ≢ i → f x ≡ x)
-      → arranged key before (joined (set bins i (map f (get_or bins i []))))
-      ≡ map f (arranged key before (joined bins))
+  pub mapped : (f : X → X) → ((x : X) → key (f x) ≡ key x) → ((x : X) → slot (key x) ≢ i → f x ≡ x) → arranged
+      key before (joined (set bins i (map f (get_or bins i [])))) ≡ map f (arranged key before (joined bins))
   mapped f kept same_else =
       let view = arranged key before (joined bins) in
       let bin = get_or bins i [] in
-      changed key same before slot is i bins (map f bin) (map f view) h within
-      (list_all-map (λ x. slot (key x) == i) f bin
-      ∙ list_all_weaker (λ x. slot (key x) == i) (λ x. slot (key (f x)) == i) (λ x e. rw (kept x) e) bin (h i))
-      (λ k at. keyed-map f kept k bin ∙ ap (map f) (seen key same before slot is k i bins h at)
-      ∙ sym (keyed-map f kept k view))
-      (λ k off. sym (keyed-map f kept k view
-      ∙ map_same (is_keyed key same k) f (filter (is_keyed key same k) view)
-      (list_all-filter_same (is_keyed key same k) view)
-      (λ x e. same_else x (moved k x off e))))
-      (pairwise-map (in_turn key before) f (λ x y. rw (kept x, kept y) refl) view
-      ∙ arranged_in_turn key same before slot is (joined bins))
+      changed key same before slot is i bins (map f bin) (map f view) h within (grind (
+        arith,
+        list_all-map,
+        list_all_weaker,
+      )) (λ k at. keyed-map f kept k _ ∙ ap (map f) (seen key same before slot is k i bins h at)
+      ∙ sym (keyed-map f kept k _)) (λ k off. sym (keyed-map f kept k _ ∙ map_same _ f _ (grind (
+        arith,
+        list_all-filter_same,
+      )) (λ x e. same_else x (moved k x off e)))) (grind (arith, pairwise-map, arranged_in_turn))
 
   -- ---- an element comes
 
   finds_place : (b : X → Bool) (x : X) → ((y : X) → b y ≡ true → before (key x) (key y) ≡ false)
-      → ((y : X) → b y ≡ false → before (key y) (key x) ≡ false)
-      → FindsPlace (in_turn key before) b (λ y. true) x
+      → ((y : X) → b y ≡ false → before (key y) (key x) ≡ false) → FindsPlace (in_turn key before) b (λ y. true) x
   finds_place b x front stop = grind (arith, not-true)
 
-  past : (b : X → Bool) (x y z : X) (t : Bool) → ((y : X) → b y ≡ false → before (key y) (key x) ≡ false)
-      → b y ≡ false
-      → same (key y) (key x) ≡ false → before (key z) (key y) ≡ false → same (key z) (key x) ≡ t → t ≡ false
+  past : (b : X → Bool) (x y z : X) (t : Bool) → ((y : X) → b y ≡ false → before (key y) (key x) ≡ false) → b
+      y ≡ false → same (key y) (key x) ≡ false → before (key z) (key y) ≡ false → same (key z) (key x) ≡ t → t ≡ false
   past b x y z false stop e f g s = refl
   past b x y z true stop e f g s = grind arith
 
-  come_here : (b c : X → Bool) (x : X) → slot (key x) ≡ i
-      → ((y : X) → b y ≡ false → before (key y) (key x) ≡ false)
-      → ((y : X) → same (key y) (key x) ≡ true → b y ≡ c y)
-      → ((y : X) → same (key y) (key x) ≡ false → c y ≡ true)
-      → filter (is_keyed key same (key x)) (insertion c x (get_or bins i []))
-      ≡ filter (is_keyed key same (key x)) (insertion b x (arranged key before (joined bins)))
+  come_here : (b c : X → Bool) (x : X) → slot (key x) ≡ i → ((y : X) → b y ≡ false → before (key y) (key x) ≡ false)
+      → ((y : X) → same (key y) (key x) ≡ true → b y ≡ c y) → ((y : X) → same (key y) (key x) ≡ false → c y ≡ true)
+      → filter (is_keyed key same (key x)) (insertion c x (get_or bins i [])) ≡ filter
+      (is_keyed key same (key x)) (insertion b x (arranged key before (joined bins)))
   come_here b c x at stop agree others =
       let view = arranged key before (joined bins) in
       let bin = get_or bins i [] in
       let p = is_keyed key same (key x) in
-      filter-insertion_in (λ y z. true) p c x bin (is.itself (key x))
-      (λ y z e f r. absurd (false≢true (sym e ∙ others y f)))
-      (every bin)
-      ∙ sym (insertion_agree p b c x (filter p bin) (list_all-filter_same p bin) agree)
-      ∙ ap (insertion b x) (seen key same before slot is (key x) i bins h at)
-      ∙ sym (filter-insertion_in (in_turn key before) p b x view (is.itself (key x))
-      (λ y z e f r. past b x y z (same (key z) (key x)) stop e f (not-true (before (key z) (key y)) r) refl)
-      (arranged_in_turn key same before slot is (joined bins)))
+      filter-insertion_in (λ y z. true) p c x _ (is.itself (key x)) (grind (arith, false≢true)) (every bin)
+      ∙ sym (insertion_agree p b c x _ (list_all-filter_same p _) agree)
+      ∙ ap (insertion b x) (seen key same before slot is (key x) i bins h at) ∙ sym (filter-insertion_in _ p b x
+      _ (is.itself (key x)) (grind (arith, past, not-true)) (arranged_in_turn key same before slot is (joined bins)))
     where
       every : (ys : List X) → pairwise (λ y z. true) ys ≡ true
       every [] = refl
@@ -104,11 +85,10 @@ module _ {X K : Type 0} (key : X → K) (same before : K → K → Bool) (slot :
           (list_all_always (λ z. true) (λ z. refl) ys) (every ys)
 
   come_step : (b c : X → Bool) (x : X) (k : K) (t : Bool) → same (key x) k ≡ t
-      → filter (is_keyed key same (key x)) (insertion c x (get_or bins i []))
-      ≡ filter (is_keyed key same (key x)) (insertion b x (arranged key before (joined bins)))
-      → filter (is_keyed key same k) (get_or bins i []) ≡ filter (is_keyed key same k) (arranged key before (joined bins))
-      → filter (is_keyed key same k) (insertion c x (get_or bins i []))
-      ≡ filter (is_keyed key same k) (insertion b x (arranged key before (joined bins)))
+      → filter (is_keyed key same (key x)) (insertion c x (get_or bins i [])) ≡ filter (is_keyed key same (key x))
+      (insertion b x (arranged key before (joined bins))) → filter (is_keyed key same k) (get_or bins i []) ≡ filter
+      (is_keyed key same k) (arranged key before (joined bins)) → filter (is_keyed key same k) (insertion
+      c x (get_or bins i [])) ≡ filter (is_keyed key same k) (insertion b x (arranged key before (joined bins)))
   come_step b c x k true e here same_as = grind arith
   come_step b c x k false e here same_as = grind (arith, filter-insertion_out)
 
@@ -117,22 +97,16 @@ module _ {X K : Type 0} (key : X → K) (same before : K → K → Bool) (slot :
   apart_step x k false at off e = refl
 
   -- in the entry it is put behind all of other keys, and among those of its own as in what is seen
-  pub inserted : (b c : X → Bool) (x : X) → slot (key x) ≡ i
-      → ((y : X) → b y ≡ true → before (key x) (key y) ≡ false)
-      → ((y : X) → b y ≡ false → before (key y) (key x) ≡ false)
-      → ((y : X) → same (key y) (key x) ≡ true → b y ≡ c y)
-      → ((y : X) → same (key y) (key x) ≡ false → c y ≡ true)
-      → arranged key before (joined (set bins i (insertion c x (get_or bins i []))))
-      ≡ insertion b x (arranged key before (joined bins))
+  pub inserted : (b c : X → Bool) (x : X) → slot (key x) ≡ i → ((y : X) → b y ≡ true → before (key x) (key y) ≡ false)
+      → ((y : X) → b y ≡ false → before (key y) (key x) ≡ false) → ((y : X) → same (key y) (key x) ≡ true → b y ≡ c y)
+      → ((y : X) → same (key y) (key x) ≡ false → c y ≡ true) → arranged key before
+      (joined (set bins i (insertion c x (get_or bins i [])))) ≡ insertion b x (arranged key before (joined bins))
   inserted b c x at front stop agree others =
       let view = arranged key before (joined bins) in
       let bin = get_or bins i [] in
-      changed key same before slot is i bins (insertion c x bin) (insertion b x view) h within
-      (list_all-insertion (λ y. slot (key y) == i) c x bin
-      ∙ and_from (slot (key x) == i) (list_all (λ y. slot (key y) == i) bin) (eq-eqb (slot (key x)) i at) (h i))
-      (λ k here. come_step b c x k (same (key x) k) refl (come_here b c x at stop agree others)
-      (seen key same before slot is k i bins h here))
-      (λ k off. sym (filter-insertion_out (is_keyed key same k) b x view
-      (apart_step x k (same (key x) k) at off refl)))
-      (pairwise-insertion (in_turn key before) b (λ y. true) x view (finds_place b x front stop)
+      changed key same before slot is i bins (insertion c x bin)
+      (insertion b x view) h within (list_all-insertion (λ y. slot (key y) == i) c x _ ∙ and_from (slot (key x) == i)
+      (list_all (λ y. slot (key y) == i) bin) (eq-eqb (slot (key x)) i at) (h i)) (λ k here. come_step b
+      c x k _ refl (come_here b c x at stop agree others) (seen key same before slot is k i bins h here)) (grind
+      (arith, filter-insertion_out, apart_step)) (pairwise-insertion _ b (λ y. true) x _ (finds_place b x front stop)
       (list_all_always (λ y. true) (λ y. refl) view) (arranged_in_turn key same before slot is (joined bins)))

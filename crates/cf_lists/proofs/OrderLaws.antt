@@ -9,25 +9,17 @@ module _ {X K : Type 0} (key : X → K) (same : K → K → Bool) (before : X �
   abbrev pub is_keyed : K → X → Bool
   is_keyed k x = same (key x) k
 
-  -- what stands before all others is found among these by none that has its key
-  none_after : (x : X) (xs : List X) → list_all (before x) xs ≡ true → find (is_keyed (key x)) xs ≡ None
-  none_after x xs h = grind (arith, find_none, none_from_all, list_all_weaker)
-
-  found_front : (k : K) (b : Bool) (x : X) (xs ys : List X) → is_keyed k x ≡ b
-      → (b ≡ true → find (is_keyed k) xs ≡ None)
-      → (b ≡ true → find (is_keyed k) ys ≡ None)
+  found_front : (k : K) (b : Bool) (x : X) (xs ys : List X)
+      → is_keyed k x ≡ b → (b ≡ true → find (is_keyed k) xs ≡ None) → (b ≡ true → find (is_keyed k) ys ≡ None)
       → find (is_keyed k) (x ∷ xs) ≡ find (is_keyed k) (x ∷ ys) → find (is_keyed k) xs ≡ find (is_keyed k) ys
   found_front k true x xs ys e h g f = h refl ∙ sym (g refl)
   found_front k false x xs ys e h g f = rw e at f
 
   first_same : (b c : Bool) (x y : X) (xs ys : List X) → is_keyed (key x) y ≡ b → is_keyed (key y) x ≡ c
-      → list_all (before x) xs ≡ true → list_all (before y) ys ≡ true
-      → find (is_keyed (key x)) (x ∷ xs) ≡ find (is_keyed (key x)) (y ∷ ys)
-      → find (is_keyed (key y)) (x ∷ xs) ≡ find (is_keyed (key y)) (y ∷ ys) → x ≡ y
-  first_same true c x y xs ys e f h g p q =
-      let here : Some x ≡ Some y = rw (same-refl (key x), e) at p in cc
-  first_same false true x y xs ys e f h g p q =
-      let here : Some x ≡ Some y = rw (f, same-refl (key y)) at q in cc
+      → list_all (before x) xs ≡ true → list_all (before y) ys ≡ true → find (is_keyed (key x)) (x ∷ xs) ≡ find
+      (is_keyed (key x)) (y ∷ ys) → find (is_keyed (key y)) (x ∷ xs) ≡ find (is_keyed (key y)) (y ∷ ys) → x ≡ y
+  first_same true c x y xs ys e f h g p q = grind arith
+  first_same false true x y xs ys e f h g p q = grind arith
   first_same false false x y xs ys e f h g p q = grind (arith, all_found)
 
   pub ordered_same : (xs ys : List X) → pairwise before xs ≡ true → pairwise before ys ≡ true
@@ -40,11 +32,10 @@ module _ {X K : Type 0} (key : X → K) (same : K → K → Bool) (before : X �
       let right = and_parts (list_all (before y) ys) (pairwise before ys) g in
       let first : x ≡ y = first_same _ _ x y xs ys refl refl left.0 right.0 (f (key x)) (f (key y)) in
       let here : list_all (before x) ys ≡ true = subst (λ z. list_all (before z) ys ≡ true) (sym first) right.0 in
-      let rest : xs ≡ ys = ordered_same xs ys left.1 right.1
-      (λ k. found_front k (is_keyed k x) x xs ys refl (none_at k x xs left.0) (none_at k x ys here)
-      (f k ∙ ap (λ z. find (is_keyed k) (z ∷ ys)) (sym first))) in
+      let rest : xs ≡ ys = ordered_same xs ys left.1 right.1 (grind (arith, found_front, none_at)) in
       ap (λ z. z ∷ xs) first ∙ ap (λ zs. y ∷ zs) rest
     where
       none_at : (k : K) (x : X) (xs : List X) → list_all (before x) xs ≡ true → is_keyed k x ≡ true
           → find (is_keyed k) xs ≡ None
-      none_at k x xs h e = subst (λ j. find (is_keyed j) xs ≡ None) (same-eq (key x) k e) (none_after x xs h)
+      none_at k x xs h e = subst (λ j. find (is_keyed j) xs ≡ None)
+          (same-eq (key x) k e) (grind (arith, find_none, none_from_all, list_all_weaker))

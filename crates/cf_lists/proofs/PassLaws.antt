@@ -10,10 +10,9 @@ use Rattle.cf_lists.proofs.SortLaws.{arranged-filter}
 -- ---- one element after another
 
 -- `over` goes over a list, and g is what an element leaves
-pub turned : {X : Type 0} (over : List X → List X) (g : X → List X) → ((x : X) (xs : List X)
-    → over (x ∷ xs) ≡ g x ++ over xs)
-    → (xs new : List X) (m : ℕ) (d : X) (all : List X) → m < length xs → new ≡ drop 1 xs ++ g (get_or xs 0 d)
-    → drop (m + 1) xs ++ over (take (m + 1) xs) ≡ all → drop m new ++ over (take m new) ≡ all
+pub turned : {X : Type 0} (over : List X → List X) (g : X → List X) → ((x : X) (xs : List X) → over
+    (x ∷ xs) ≡ g x ++ over xs) → (xs new : List X) (m : ℕ) (d : X) (all : List X) → m < length xs → new ≡ drop 1
+    xs ++ g (get_or xs 0 d) → drop (m + 1) xs ++ over (take (m + 1) xs) ≡ all → drop m new ++ over (take m new) ≡ all
 turned over g step [] new m d all within put h = absurd (omega (arith, within))
 turned over g step (x ∷ xs) new m d all within put h = grind (arith, drop-append-le, take-append-le, append_assoc)
 
@@ -78,13 +77,12 @@ module _ {X : Type 0} (part_of : X → Part) (bins : List (List X)) (order : Lis
 
   pub left_table : (q : X → Bool) → IsTable part_of (map (filter q) bins)
       (map (resource_by part_of) (seen_in part_of (map (filter q) bins)))
-  left_table q =
-      record {
-        some = rw (length-map bins (filter q)) is.some;
-        home = grind (arith, length-map, over_at, list_all-filter);
-        one_each = rw (left_seen q) (pairwise-filter (are_apart part_of) q (seen_in part_of bins) is.one_each);
-        listed = refl;
-      }
+  left_table q = record {
+    some = rw (length-map bins (filter q)) is.some;
+    home = grind (arith, length-map, over_at, list_all-filter);
+    one_each = rw (left_seen q) (pairwise-filter (are_apart part_of) q (seen_in part_of bins) is.one_each);
+    listed = refl;
+  }
 
   -- ---- elements change, and their parts don't
 
@@ -127,12 +125,11 @@ mapped_whole f xs ys i long whole h = grind (arith, take_all)
 -- ---- counts over all entries
 
 module _ {X : Type 0} (size : List X → ℕ) (parts : (xs ys : List X) → size (xs ++ ys) ≡ size xs + size ys) where
-  pub counted_next : (bins : List (List X)) (i count n all : ℕ) (bin : List X) → i < length bins → bin ≡ get_or bins i bin
-      → n ≡ size bin → count + size (joined (drop i bins)) ≡ all
+  pub counted_next : (bins : List (List X)) (i count n all : ℕ) (bin : List X) → i < length bins
+      → bin ≡ get_or bins i bin → n ≡ size bin → count + size (joined (drop i bins)) ≡ all
       → (count + n) + size (joined (drop (i + 1) bins)) ≡ all
   counted_next bins i count n all bin within is e h =
-      let split : size (joined (drop i bins)) ≡ size bin + size (joined (drop (i + 1) bins)) =
-      ap size (joined_next bins i bin within ∙ ap (λ b. b ++ joined (drop (i + 1) bins)) (sym is))
+      let split = ap size (joined_next _ i _ within ∙ ap (λ b. b ++ joined (drop (i + 1) bins)) (sym is))
       ∙ parts bin (joined (drop (i + 1) bins)) in
       omega (arith, split, e, h)
 

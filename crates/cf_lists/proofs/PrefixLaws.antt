@@ -8,40 +8,27 @@ all_step p false x ys e ih = and_from (p x) (list_all p ys) e ih
 
 -- a prefix has what all elements have
 pub list_all-shortest_prefix : {X : Type 0} (p : X → Bool) (enough : List X → Bool) (xs : List X)
-    → list_all p xs ≡ true
-    → list_all p (shortest_prefix enough xs) ≡ true
+    → list_all p xs ≡ true → list_all p (shortest_prefix enough xs) ≡ true
 list_all-shortest_prefix p enough [] h = refl
 list_all-shortest_prefix p enough (x ∷ xs) h =
-    let parts = and_parts (p x) (list_all p xs) h in
-    all_step p (enough []) x (shortest_prefix (λ prefix. enough (x ∷ prefix)) xs) parts.0
-    (list_all-shortest_prefix p (λ prefix. enough (x ∷ prefix)) xs parts.1)
-
-pair_step : {X : Type 0} (relation : X → X → Bool) (b : Bool) (x : X) (ys : List X) → list_all (relation x) ys ≡ true
-    → pairwise relation ys ≡ true → pairwise relation (cond b [] (x ∷ ys)) ≡ true
-pair_step relation true x ys e ih = refl
-pair_step relation false x ys e ih = and_from (list_all (relation x) ys) (pairwise relation ys) e ih
+    grind (arith, and_parts, all_step, list_all-shortest_prefix p (λ prefix. enough (x ∷ prefix)) xs)
 
 pub pairwise-shortest_prefix : {X : Type 0} (relation : X → X → Bool) (enough : List X → Bool) (xs : List X)
     → pairwise relation xs ≡ true → pairwise relation (shortest_prefix enough xs) ≡ true
 pairwise-shortest_prefix relation enough [] h = refl
-pairwise-shortest_prefix relation enough (x ∷ xs) h =
-    let parts = and_parts (list_all (relation x) xs) (pairwise relation xs) h in
-    let rest = shortest_prefix (λ prefix. enough (x ∷ prefix)) xs in
-    pair_step relation (enough []) x rest
-    (list_all-shortest_prefix (relation x) (λ prefix. enough (x ∷ prefix)) xs parts.0)
-    (pairwise-shortest_prefix relation (λ prefix. enough (x ∷ prefix)) xs parts.1)
-
-enough_step : {X : Type 0} (enough : List X → Bool) (b : Bool) (x : X) (ys : List X) → enough [] ≡ b
-    → enough (x ∷ ys) ≡ true → enough (cond b [] (x ∷ ys)) ≡ true
-enough_step enough true x ys e h = e
-enough_step enough false x ys e h = h
+pairwise-shortest_prefix relation enough (x ∷ xs) h = grind (
+  arith,
+  and_parts,
+  list_all-shortest_prefix,
+  and_from,
+  pairwise-shortest_prefix relation (λ prefix. enough (x ∷ prefix)) xs,
+)
 
 -- where the whole list is enough, so is the prefix
 pub shortest_prefix-enough : {X : Type 0} (enough : List X → Bool) (xs : List X) → enough xs ≡ true
     → enough (shortest_prefix enough xs) ≡ true
 shortest_prefix-enough enough [] h = h
-shortest_prefix-enough enough (x ∷ xs) h =
-    grind (arith, enough_step, shortest_prefix-enough (λ prefix. enough (x ∷ prefix)) xs h)
+shortest_prefix-enough enough (x ∷ xs) h = grind (arith, shortest_prefix-enough (λ prefix. enough (x ∷ prefix)) xs h)
 
 -- where nothing is enough already
 pub shortest_prefix-nil : {X : Type 0} (enough : List X → Bool) (xs : List X) → enough [] ≡ true
@@ -54,15 +41,15 @@ agree_step : {X : Type 0} (a b : Bool) (x : X) (xs ys : List X) → a ≡ b → 
 agree_step a b x xs ys e f = rw (e, f) refl
 
 -- two tests that agree have the same shortest prefix
-pub shortest_prefix_agree : {X : Type 0} (enough also : List X → Bool)
-    → ((prefix : List X) → enough prefix ≡ also prefix) → (xs : List X)
-    → shortest_prefix enough xs ≡ shortest_prefix also xs
+pub shortest_prefix_agree : {X : Type 0} (enough also : List X → Bool) → ((prefix : List X)
+    → enough prefix ≡ also prefix) → (xs : List X) → shortest_prefix enough xs ≡ shortest_prefix also xs
 shortest_prefix_agree enough also h [] = refl
-shortest_prefix_agree enough also h (x ∷ xs) =
-    agree_step (enough []) (also []) x (shortest_prefix (λ prefix. enough (x ∷ prefix)) xs)
-    (shortest_prefix (λ prefix. also (x ∷ prefix)) xs)
-    (h []) (shortest_prefix_agree (λ prefix. enough (x ∷ prefix)) (λ prefix. also (x ∷ prefix))
-    (λ prefix. h (x ∷ prefix)) xs)
+shortest_prefix_agree enough also h (x ∷ xs) = grind (
+  arith,
+  agree_step,
+  shortest_prefix_agree
+      (λ prefix. enough (x ∷ prefix)) (λ prefix. also (x ∷ prefix)) (λ prefix. h (x ∷ prefix)) xs,
+)
 
 map_step : {X Y : Type 0} (f : X → Y) (b : Bool) (x : X) (xs : List X) (ys : List Y) → ys ≡ map f xs
     → cond b [] (f x ∷ ys) ≡ map f (cond b [] (x ∷ xs))

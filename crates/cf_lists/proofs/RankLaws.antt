@@ -28,24 +28,21 @@ module _ {X : Type 0} (part_of : X → Part) where
   -- behind an element that isn't before a resource none is
   behind : (r : Resource) (y : X) (ys : List X) → is_before r y ≡ false → list_all (follows y) ys ≡ true
       → list_all (λ x. not (is_before r x)) ys ≡ true
-  behind r y ys e h =
-      list_all_weaker (follows y) (λ x. not (is_before r x))
+  behind r y ys e h = list_all_weaker (follows y) (λ x. not (is_before r x))
       (λ z f. ap not (resource_order.follows r (key y) (key z) e (not-true (resource_before (key z) (key y)) f))) ys h
 
   -- one that is before a resource isn't on it
   off : (r : Resource) (y : X) (t : Bool) → is_before r y ≡ true → is_on part_of r y ≡ t → t ≡ false
   off r y false e f = refl
-  off r y true e f =
-      absurd (false≢true (sym (resource_order.once r)
-      ∙ subst (λ a. resource_before a r ≡ true) (same_resource-eq (key y) r f) e))
+  off r y true e f = absurd (false≢true
+      (sym (resource_order.once r) ∙ subst (λ a. resource_before a r ≡ true) (same_resource-eq (key y) r f) e))
 
   -- behind one that is behind a resource none is on it
   past : (r : Resource) (y z : X) (t : Bool) → is_before r y ≡ false → is_on part_of r y ≡ false → follows y z ≡ true
       → is_on part_of r z ≡ t → t ≡ false
   past r y z false e f g h = refl
   past r y z true e f g h =
-      let ahead : resource_before r (key y) ≡ false = subst (λ a. resource_before a (key y) ≡ false)
-      (same_resource-eq (key z) r h) (not-true (resource_before (key z) (key y)) g) in
+      let ahead = subst (λ a. resource_before a (key y) ≡ false) (same_resource-eq _ r h) (not-true _ g) in
       absurd (false≢true (sym f ∙ resource_order.ties r (key y) ahead e))
 
   none_past : (r : Resource) (y : X) (ys : List X) → is_before r y ≡ false → is_on part_of r y ≡ false
@@ -54,14 +51,12 @@ module _ {X : Type 0} (part_of : X → Part) where
 
   -- ---- an element found by its resource stands at the place
 
-  here_step : (r : Resource) (k : ℕ) (x y : X) (ys : List X) (s t : Bool) → is_before r y ≡ s → is_on part_of r y ≡ t
-      → list_all (follows y) ys ≡ true
+  here_step : (r : Resource) (k : ℕ) (x y : X) (ys : List X) (s t : Bool) → is_before r y ≡ s
+      → is_on part_of r y ≡ t → list_all (follows y) ys ≡ true
       → ((i : ℕ) → count_before r ys ≤ i → slice_get (filter (is_on part_of r) ys) (i - count_before r ys) ≡ Some x
-      → slice_get ys i ≡ Some x)
-      → length (cond s (y ∷ filter (is_before r) ys) (filter (is_before r) ys)) ≤ k
-      → slice_get (cond t (y ∷ filter (is_on part_of r) ys) (filter (is_on part_of r) ys))
-      (k - length (cond s (y ∷ filter (is_before r) ys) (filter (is_before r) ys))) ≡ Some x
-      → slice_get (y ∷ ys) k ≡ Some x
+      → slice_get ys i ≡ Some x) → length (cond s (y ∷ filter (is_before r) ys) (filter (is_before r) ys)) ≤ k
+      → slice_get (cond t (y ∷ filter (is_on part_of r) ys) (filter (is_on part_of r) ys)) (k - length
+      (cond s (y ∷ filter (is_before r) ys) (filter (is_before r) ys))) ≡ Some x → slice_get (y ∷ ys) k ≡ Some x
   here_step r k x y ys true true e f turn ih most h = absurd (false≢true (sym (off r y true e f)))
   here_step r zero x y ys true false e f turn ih most h = absurd (omega (arith, most))
   here_step r (suc i) x y ys true false e f turn ih most h = grind arith
@@ -74,13 +69,11 @@ module _ {X : Type 0} (part_of : X → Part) where
   here r [] k x turn most h = absurd (let gone : None ≡ Some x = h in cc)
   here r (y ∷ ys) k x turn most h =
       let parts = and_parts (list_all (follows y) ys) (pairwise follows ys) turn in
-      here_step r k x y ys (is_before r y) (is_on part_of r y) refl refl parts.0
-      (λ i m g. here r ys i x parts.1 m g) most h
+      here_step r k x y _ _ _ refl refl parts.0 (λ i m g. here r ys i x parts.1 m g) most h
 
-  placed_cases : (r : Resource) (xs : List X) (k : ℕ) (x : X) (b : Bool) → nat_lt k (count_before r xs) ≡ b
-      → pairwise follows xs ≡ true
-      → (if b then None else slice_get (filter (is_on part_of r) xs) (k - count_before r xs)) ≡ Some x
-      → slice_get xs k ≡ Some x
+  placed_cases : (r : Resource) (xs : List X) (k : ℕ) (x : X) (b : Bool)
+      → nat_lt k (count_before r xs) ≡ b → pairwise follows xs ≡ true → (if b then None else
+      slice_get (filter (is_on part_of r) xs) (k - count_before r xs)) ≡ Some x → slice_get xs k ≡ Some x
   placed_cases r xs k x true e turn h = absurd (let gone : None ≡ Some x = h in cc)
   placed_cases r xs k x false e turn h = here r xs k x turn (grind (arith, nat_tests)) h
 
@@ -106,9 +99,8 @@ module _ {X : Type 0} (part_of : X → Part) where
       (suc k - length (cond s (y ∷ filter (is_before (key x)) ys) (filter (is_before (key x)) ys))) ≡ Some x)
   found_step x y ys k true true e f ahead turn is = absurd (false≢true (sym (off (key x) y true e f)))
   found_step x y ys k true false e f ahead turn is = grind arith
-  found_step x y ys k false false e f ahead turn is =
-      absurd (false≢true (sym f ∙ resource_order.ties (key x) (key y)
-      (not-true (resource_before (key x) (key y)) ahead) e))
+  found_step x y ys k false false e f ahead turn is = absurd
+      (false≢true (sym f ∙ resource_order.ties (key x) (key y) (not-true (resource_before (key x) (key y)) ahead) e))
   found_step x y ys k false true e f ahead turn is = grind (arith, none_before, behind)
 
   found_at : (xs : List X) (k : ℕ) (x : X) → pairwise follows xs ≡ true → slice_get xs k ≡ Some x → IsFound xs k x
@@ -120,11 +112,7 @@ module _ {X : Type 0} (part_of : X → Part) where
     where
       first : is_before (key y) y ≡ false → list_all (follows y) ys ≡ true → IsFound (y ∷ ys) 0 y
       first once turns = grind (arith, none_before, behind, same_resource-refl)
-  found_at (y ∷ ys) (suc k) x turn e =
-      let parts = and_parts (list_all (follows y) ys) (pairwise follows ys) turn in
-      let both = found_step x y ys k (is_before (key x) y) (is_on part_of (key x) y) refl refl
-      (got (follows y) ys k x parts.0 e) parts.0 (found_at ys k x parts.1 e) in
-      record { most = both.0; found = both.1 }
+  found_at (y ∷ ys) (suc k) x turn e = grind (arith, and_parts, found_step, got, found_at ys k x)
 
   placed_own : (xs : List X) (k : ℕ) (x : X) (b : Bool) → nat_lt k (count_before (key x) xs) ≡ b → IsFound xs k x
       → (if b then None else slice_get (filter (is_on part_of (key x)) xs) (k - count_before (key x) xs)) ≡ Some x
@@ -137,9 +125,8 @@ module _ {X : Type 0} (part_of : X → Part) where
   all_arranged p (x ∷ xs) = grind (arith, list_all-insertion, all_arranged p xs)
 
   -- what none of all is placed at, is past the end
-  pub none_placed_on : (bins : List (List X)) (k : ℕ)
-      → list_all (λ x. not (is_some (placed_on part_of (key x) k (seen_in part_of bins)))) (joined bins) ≡ true
-      → None ≡ slice_get (seen_in part_of bins) k
+  pub none_placed_on : (bins : List (List X)) (k : ℕ) → list_all (λ x. not (is_some (placed_on
+      part_of (key x) k (seen_in part_of bins)))) (joined bins) ≡ true → None ≡ slice_get (seen_in part_of bins) k
   none_placed_on bins k h = go (slice_get (seen_in part_of bins) k) refl
     where
       turn : pairwise follows (seen_in part_of bins) ≡ true
@@ -148,17 +135,15 @@ module _ {X : Type 0} (part_of : X → Part) where
       go : (o : Option X) → slice_get (seen_in part_of bins) k ≡ o → None ≡ o
       go None e = refl
       go (Some x) e =
-          let there = placed_own (seen_in part_of bins) k x (nat_lt k (count_before (key x) (seen_in part_of bins))) refl
-          (found_at (seen_in part_of bins) k x turn e) in
-          let none = got (λ z. not (is_some (placed_on part_of (key z) k (seen_in part_of bins)))) (seen_in part_of bins)
-          k x (all_arranged (λ z. not (is_some (placed_on part_of (key z) k (seen_in part_of bins)))) (joined bins) ∙ h) e in
+          let there = placed_own _ k x _ refl (found_at _ k x turn e) in
+          let none = got (λ z. not (is_some (placed_on part_of (key z) k (seen_in part_of bins)))) _
+          k x (all_arranged (λ z. not (is_some (placed_on part_of (key z) k (seen_in part_of bins)))) _ ∙ h) e in
           absurd (false≢true (sym (ap (λ o. not (is_some o)) there) ∙ none))
 
   -- as many of all are before a resource
   pub counted_before : (r : Resource) (bins : List (List X))
       → length (filter (is_before r) (joined bins)) ≡ count_before r (seen_in part_of bins)
-  counted_before r bins =
-      sym (length_arranged key resource_before (filter (is_before r) (joined bins)))
+  counted_before r bins = sym (length_arranged key resource_before (filter (is_before r) (joined bins)))
       ∙ ap length (arranged-filter key same_resource resource_before resource_order (is_before r) (joined bins))
 
   pub length_seen : (bins : List (List X)) → length (joined bins) ≡ length (seen_in part_of bins)
@@ -182,14 +167,12 @@ module _ {X : Type 0} (part_of : X → Part) where
   later_assoc (Some x) (Some y) None = grind arith
   later_assoc (Some x) (Some y) (Some z) = grind (arith, go)
     where
-      go : (s t u : Bool) → resource_before (key y) (key x) ≡ s → resource_before (key z) (key y) ≡ t
-          → resource_before (key z) (key x) ≡ u
-          → later_of part_of (if s then Some x else Some y) (Some z)
-          ≡ later_of part_of (Some x) (if t then Some y else Some z)
+      go : (s t u : Bool) → resource_before (key y) (key x) ≡ s
+          → resource_before (key z) (key y) ≡ t → resource_before (key z) (key x) ≡ u → later_of
+          part_of (if s then Some x else Some y) (Some z) ≡ later_of part_of (Some x) (if t then Some y else Some z)
       go true true true e f g = rw (e, g) refl
-      go true true false e f g =
-          absurd (false≢true (sym (resource_order.follows (key x) (key z) (key y) g
-          (resource_order.asym (key z) (key y) f)) ∙ e))
+      go true true false e f g = absurd (false≢true
+          (sym (resource_order.follows (key x) (key z) (key y) g (resource_order.asym (key z) (key y) f)) ∙ e))
       go true false u e f g = refl
       go false true u e f g = rw (e, f) refl
       go false false true e f g = absurd (false≢true (sym (resource_order.follows (key x) (key y) (key z) e f) ∙ g))
@@ -207,13 +190,13 @@ module _ {X : Type 0} (part_of : X → Part) where
   end_of (x ∷ y ∷ ys) = end_of (y ∷ ys)
 
   end_step : (b : X → Bool) (x y : X) (ys : List X) (s : Bool) → b y ≡ s → list_all (follows y) ys ≡ true
-      → ((z : X) → b z ≡ resource_before (key z) (key x))
-      → end_of (insertion b x ys) ≡ later_of part_of (Some x) (end_of ys)
-      → end_of (cond s (y ∷ insertion b x ys) (x ∷ y ∷ ys)) ≡ later_of part_of (Some x) (end_of (y ∷ ys))
+      → ((z : X) → b z ≡ resource_before (key z) (key x)) → end_of (insertion b x ys) ≡ later_of part_of (Some x)
+      (end_of ys) → end_of (cond s (y ∷ insertion b x ys) (x ∷ y ∷ ys)) ≡ later_of part_of (Some x) (end_of (y ∷ ys))
   end_step b x y [] true e turn is ih = rw (sym (is y) ∙ e) refl
   end_step b x y [] false e turn is ih = rw (sym (is y) ∙ e) refl
   end_step b x y (z ∷ zs) true e turn is ih = grind arith
-  end_step b x y (z ∷ zs) false e turn is ih = sym (stays (z ∷ zs) (behind (key x) y (z ∷ zs) (sym (is y) ∙ e) turn) some)
+  end_step b x y (z ∷ zs) false e turn is ih =
+      sym (stays (z ∷ zs) (behind (key x) y (z ∷ zs) (sym (is y) ∙ e) turn) some)
     where
       some : (o : X) × (end_of (z ∷ zs) ≡ Some o)
       some = ends z zs
@@ -236,18 +219,13 @@ module _ {X : Type 0} (part_of : X → Part) where
   end_insertion : (x : X) (ys : List X) → pairwise follows ys ≡ true
       → end_of (insertion (λ y. resource_before (key y) (key x)) x ys) ≡ later_of part_of (Some x) (end_of ys)
   end_insertion x [] turn = refl
-  end_insertion x (y ∷ ys) turn =
-      let parts = and_parts (list_all (follows y) ys) (pairwise follows ys) turn in
-      end_step (λ z. resource_before (key z) (key x)) x y ys (resource_before (key y) (key x)) refl parts.0 (λ z. refl)
-      (end_insertion x ys parts.1)
+  end_insertion x (y ∷ ys) turn = grind (arith, and_parts, end_step, end_insertion x ys)
 
   end_arranged : (xs : List X) → last_of part_of xs ≡ end_of (arranged key resource_before xs)
   unfolding arranged
   end_arranged [] = refl
-  end_arranged (x ∷ xs) =
-      ap (later_of part_of (Some x)) (end_arranged xs)
-      ∙ sym (end_insertion x (arranged key resource_before xs)
-      (arranged_in_turn key same_resource resource_before (λ r. 0) resource_order xs))
+  end_arranged (x ∷ xs) = ap (later_of part_of (Some x)) (end_arranged xs) ∙ sym (end_insertion x (arranged
+      key resource_before xs) (arranged_in_turn key same_resource resource_before (λ r. 0) resource_order xs))
 
   end_at : (xs : List X) → end_of xs ≡ slice_get xs (length xs - 1)
   end_at [] = refl
@@ -264,16 +242,13 @@ module _ {X : Type 0} (part_of : X → Part) where
   -- ---- entry after entry
 
   pub last_next : (bins : List (List X)) (i : ℕ) (bin : List X) (a new all : Option X) → i < length bins
-      → bin ≡ get_or bins i bin → new ≡ later_of part_of a (last_of part_of bin)
-      → later_of part_of a (last_of part_of (joined (drop i bins))) ≡ all
-      → later_of part_of new (last_of part_of (joined (drop (i + 1) bins))) ≡ all
+      → bin ≡ get_or bins i bin → new ≡ later_of part_of a (last_of part_of bin) → later_of part_of a (last_of part_of
+      (joined (drop i bins))) ≡ all → later_of part_of new (last_of part_of (joined (drop (i + 1) bins))) ≡ all
   last_next bins i bin a new all within is put h =
       let rest = joined (drop (i + 1) bins) in
-      ap (λ o. later_of part_of o (last_of part_of rest)) put
-      ∙ later_assoc a (last_of part_of bin) (last_of part_of rest)
-      ∙ ap (later_of part_of a) (sym (last_append bin rest))
-      ∙ ap (λ b. later_of part_of a (last_of part_of (b ++ rest))) is
-      ∙ ap (λ l. later_of part_of a (last_of part_of l)) (sym (joined_next bins i bin within)) ∙ h
+      ap (λ o. later_of part_of o (last_of part_of rest)) put ∙ later_assoc a (last_of part_of bin) (last_of part_of
+      rest) ∙ ap (later_of part_of a) (sym (last_append bin rest)) ∙ ap (λ b. later_of part_of a (last_of part_of
+      (b ++ rest))) is ∙ ap (λ l. later_of part_of a (last_of part_of l)) (sym (joined_next bins i bin within)) ∙ h
 
   pub last_past : (bins : List (List X)) (i : ℕ) (a all : Option X) → length bins ≤ i
       → later_of part_of a (last_of part_of (joined (drop i bins))) ≡ all → a ≡ all

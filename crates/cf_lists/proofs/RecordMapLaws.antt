@@ -28,9 +28,8 @@ module _ {X Y : Type 0} (f : X → Y) where
       → map (map f) (lists_with h p x lists) ≡ lists_with h p (f x) (map (map f) lists)
   with-map h p x lists = grind (arith, map-set, map-append, take-map, drop-map, records_of-map)
 
-  pub removed-map : (h p : ℕ) (lists : List (List X))
-      → map (map f) (set lists h (remove (records_of lists h) p))
-      ≡ set (map (map f) lists) h (remove (records_of (map (map f) lists) h) p)
+  pub removed-map : (h p : ℕ) (lists : List (List X)) → map (map f) (set lists
+      h (remove (records_of lists h) p)) ≡ set (map (map f) lists) h (remove (records_of (map (map f) lists) h) p)
   removed-map h p lists = grind (arith, map-set, map-append, take-map, drop-map, records_of-map)
 
   pub length-map_of : (lists : List (List X)) (h : ℕ)
@@ -55,10 +54,9 @@ module _ {X Y : Type 0} (f : X → Y) where
   none-map lists e = all-map f lists ∙ ap (λ (l : List X). map f l) e
 
   -- without the last record of a header
-  pub popped-map : (h : ℕ) (lists : List (List X))
-      → map (map f) (with_records lists h (take (length (records_of lists h) - 1) (records_of lists h)))
-      ≡ with_records (map (map f) lists) h
-      (take (length (records_of (map (map f) lists) h) - 1) (records_of (map (map f) lists) h))
+  pub popped-map : (h : ℕ) (lists : List (List X)) → map (map f)
+      (with_records lists h (take (length (records_of lists h) - 1) (records_of lists h))) ≡ with_records
+      (map (map f) lists) h (take (length (records_of (map (map f) lists) h) - 1) (records_of (map (map f) lists) h))
   popped-map h lists = grind (arith, map-set, take-map, length-map_of, records_of-map)
 
   module _ (id_of : X → ℕ) (id_at : Y → ℕ) (same : (x : X) → id_at (f x) ≡ id_of x) where
@@ -83,8 +81,7 @@ module _ {X Y : Type 0} (f : X → Y) where
 
     pub record-map : (id : ℕ) (lists : List (List X))
         → record_of id_at id (map (map f) lists) ≡ option_map f (record_of id_of id lists)
-    record-map id lists =
-        ap (λ (l : List Y). find (is_id id_at id) l) (all-map f lists) ∙ find-map id (all_records lists)
+    record-map id lists = ap (λ l. find (is_id id_at id) l) (all-map f lists) ∙ find-map id (all_records lists)
 
     any_id-map : (id : ℕ) (xs : List X) → has_id id_at id (map f xs) ≡ has_id id_of id xs
     any_id-map id [] = refl
@@ -92,11 +89,9 @@ module _ {X Y : Type 0} (f : X → Y) where
 
     pub any-map : (id : ℕ) (lists : List (List X))
         → list_any (is_id id_at id) (all_records (map (map f) lists)) ≡ list_any (is_id id_of id) (all_records lists)
-    any-map id lists =
-        ap (λ (l : List Y). list_any (is_id id_at id) l) (all-map f lists) ∙ any_id-map id (all_records lists)
+    any-map id lists = ap (λ l. list_any (is_id id_at id) l) (all-map f lists) ∙ any_id-map id (all_records lists)
 
-    apart_one : (x : X) (xs : List X)
-        → list_all (ids_apart id_at (f x)) (map f xs) ≡ list_all (ids_apart id_of x) xs
+    apart_one : (x : X) (xs : List X) → list_all (ids_apart id_at (f x)) (map f xs) ≡ list_all (ids_apart id_of x) xs
     apart_one x [] = refl
     apart_one x (y ∷ ys) = grind (arith, apart_one x ys)
 
@@ -105,11 +100,9 @@ module _ {X Y : Type 0} (f : X → Y) where
     apart_each (x ∷ xs) = grind (arith, apart_one, apart_each xs)
 
     -- ids that are apart stay so
-    pub apart-map : (lists : List (List X))
-        → pairwise (ids_apart id_at) (all_records (map (map f) lists))
-        ≡ pairwise (ids_apart id_of) (all_records lists)
-    apart-map lists =
-        ap (λ (l : List Y). pairwise (ids_apart id_at) l) (all-map f lists) ∙ apart_each (all_records lists)
+    pub apart-map : (lists : List (List X)) → pairwise (ids_apart id_at)
+        (all_records (map (map f) lists)) ≡ pairwise (ids_apart id_of) (all_records lists)
+    apart-map lists = ap (λ l. pairwise (ids_apart id_at) l) (all-map f lists) ∙ apart_each (all_records lists)
 
     position_or_len_agree : {Z : Type 0} (p q : Z → Bool) → ((z : Z) → p z ≡ q z) → (zs : List Z)
         → position_or_len p zs ≡ position_or_len q zs

@@ -28,9 +28,8 @@ inserted_old : (xs : List ℕ) (p key other : ℕ) → list_any (λ k. k == othe
 inserted_old xs p key other h =
     let q : ℕ → Bool = λ k. k == other in
     let halves = sym (list_any-append q (take p xs) (drop p xs)) ∙ ap (list_any q) (take-append-drop p xs) ∙ h in
-    list_any-append q (take p xs) (key ∷ drop p xs)
-    ∙ elim (or_cases (list_any q (take p xs)) (list_any q (drop p xs)) halves) [
-      | inl e ↦ or_left (list_any q (take p xs)) _ e
+    list_any-append q (take p xs) (key ∷ drop p xs) ∙ elim (or_cases _ _ halves) [
+      | inl e ↦ or_left _ _ e
       | inr e ↦ or_right (list_any q (take p xs)) _ (or_right (q key) (list_any q (drop p xs)) e)
     ]
 
@@ -39,8 +38,7 @@ inserted_either : (xs : List ℕ) (p key other : ℕ) → list_any (λ k. k == o
 inserted_either xs p key other h =
     let q : ℕ → Bool = λ k. k == other in
     let back = sym (ap (list_any q) (take-append-drop p xs)) ∙ list_any-append q (take p xs) (drop p xs) in
-    elim (or_cases (list_any q (take p xs)) ((key == other) || list_any q (drop p xs))
-    (sym (list_any-append q (take p xs) (key ∷ drop p xs)) ∙ h)) [
+    elim (or_cases _ _ (sym (list_any-append q (take p xs) (key ∷ drop p xs)) ∙ h)) [
       | inl e ↦ inr (back ∙ or_left (list_any q (take p xs)) _ e)
       | inr f ↦ grind (arith, or_cases, eqb-true, or_right)
     ]
@@ -48,32 +46,27 @@ inserted_either xs p key other h =
 drop_next : (p : ℕ) (xs : List ℕ) → drop (p + 1) xs ≡ drop (suc p) xs
 drop_next p xs = let e : p + 1 ≡ suc p = omega arith in rw e refl
 
-removed_old : (xs : List ℕ) (p key other : ℕ) → slice_get xs p ≡ Some key → other ≢ key
-    → list_any (λ k. k == other) xs ≡ true
-    → list_any (λ k. k == other) (remove xs p) ≡ true
+removed_old : (xs : List ℕ) (p key other : ℕ) → slice_get xs p ≡ Some key
+    → other ≢ key → list_any (λ k. k == other) xs ≡ true → list_any (λ k. k == other) (remove xs p) ≡ true
 removed_old xs p key other at ne h =
     let q : ℕ → Bool = λ k. k == other in
     let split : xs ≡ take p xs ++ key ∷ drop (suc p) xs = split_next xs p key at
     ∙ ap (λ l. take p xs ++ key ∷ l) (drop_next p xs) in
     let halves = sym (list_any-append q (take p xs) (key ∷ drop (suc p) xs)) ∙ sym (ap (list_any q) split) ∙ h in
-    list_any-append q (take p xs) (drop (suc p) xs)
-    ∙ elim (or_cases (list_any q (take p xs)) ((key == other) || list_any q (drop (suc p) xs)) halves) [
+    list_any-append q (take p xs) (drop (suc p) xs) ∙ elim (or_cases _ _ halves) [
       | inl e ↦ or_left (list_any q (take p xs)) _ e
       | inr f ↦ grind (arith, or_cases, eqb-true, or_right)
     ]
 
 removed_back : (xs : List ℕ) (p key other : ℕ) → slice_get xs p ≡ Some key
-    → list_any (λ k. k == other) (remove xs p) ≡ true
-    → list_any (λ k. k == other) xs ≡ true
+    → list_any (λ k. k == other) (remove xs p) ≡ true → list_any (λ k. k == other) xs ≡ true
 removed_back xs p key other at h =
     let q : ℕ → Bool = λ k. k == other in
-    let split : xs ≡ take p xs ++ key ∷ drop (suc p) xs = split_next xs p key at
-    ∙ ap (λ l. take p xs ++ key ∷ l) (drop_next p xs) in
-    ap (list_any q) split ∙ list_any-append q (take p xs) (key ∷ drop (suc p) xs)
-    ∙ elim (or_cases (list_any q (take p xs)) (list_any q (drop (suc p) xs))
-    (sym (list_any-append q (take p xs) (drop (suc p) xs)) ∙ h)) [
-      | inl e ↦ or_left (list_any q (take p xs)) _ e
-      | inr e ↦ or_right (list_any q (take p xs)) _ (or_right (key == other) (list_any q (drop (suc p) xs)) e)
+    let split = split_next xs p key at ∙ ap (λ l. take p xs ++ key ∷ l) (drop_next p xs) in
+    ap (list_any q) split ∙ list_any-append q (take p xs) (key ∷ drop (suc p) xs) ∙ elim (or_cases (list_any
+    q (take p xs)) (list_any q (drop (suc p) xs)) (sym (list_any-append q (take p xs) (drop (suc p) xs)) ∙ h)) [
+      | inl e ↦ or_left _ _ e
+      | inr e ↦ or_right _ _ (or_right _ _ e)
     ]
 
 -- ---- all orders
@@ -84,9 +77,8 @@ changed : (orders : List (List ℕ)) (h : ℕ) (new : List ℕ) (h' key : ℕ) �
     → stands orders h' key ≡ true → stands (set orders h new) h' key ≡ true
 changed orders h new h' key lt keeps st = grind (arith, eqb_tells, get_or-set_same, get_or-set_other)
 
-unchanged : (orders : List (List ℕ)) (h : ℕ) (new : List ℕ) (h' key : ℕ) → h < length orders
-    → stands (set orders h new) h' key ≡ true
-    → ((h' ≡ h) × (list_any (λ k. k == key) new ≡ true)) ⊎ (stands orders h' key ≡ true)
+unchanged : (orders : List (List ℕ)) (h : ℕ) (new : List ℕ) (h' key : ℕ) → h < length orders → stands (set
+    orders h new) h' key ≡ true → ((h' ≡ h) × (list_any (λ k. k == key) new ≡ true)) ⊎ (stands orders h' key ≡ true)
 unchanged orders h new h' key lt st = grind (arith, eqb_tells, get_or-set_same, get_or-set_other)
 
 module _ (orders : List (List ℕ)) (h p key : ℕ) (lt : h < length orders) where
@@ -110,10 +102,8 @@ module _ (orders : List (List ℕ)) (h p key : ℕ) (at : slice_get (records_of 
 
   pub stands_still : (h' other : ℕ) → other ≢ key → stands orders h' other ≡ true
       → stands (set orders h (remove (records_of orders h) p)) h' other ≡ true
-  stands_still h' other ne =
-      changed orders h (remove (records_of orders h) p) h' other within
-      (λ e. removed_old (records_of orders h) p key other at ne
-      (ap (list_any (λ k. k == other)) (list_of-get_or orders h) ∙ e))
+  stands_still h' other ne = changed orders h (remove (records_of orders h) p) h' other within (λ e. removed_old
+      (records_of orders h) p key other at ne (ap (list_any (λ k. k == other)) (list_of-get_or orders h) ∙ e))
 
   pub stands_before : (h' other : ℕ) → stands (set orders h (remove (records_of orders h) p)) h' other ≡ true
       → stands orders h' other ≡ true
@@ -129,27 +119,21 @@ agree_one : {X : Type 0} (f g : ℕ → X) (xs : List ℕ) → ((k : ℕ) → li
     → map f xs ≡ map g xs
 agree_one f g [] h = refl
 agree_one {X} f g (x ∷ xs) h =
-    ap (λ (y : X). y ∷ map f xs) (h x (or_left (x == x) (list_any (λ j. j == x) xs) (eq-eqb x x refl)))
-    ∙ ap (λ (l : List X). g x ∷ l) (agree_one f g xs (λ k e. h k (or_right (x == k) (list_any (λ j. j == k) xs) e)))
+    grind (arith, or_left, eq-eqb, or_right, agree_one f g xs (λ k e. h k (or_right _ (list_any (λ j. j == k) xs) e)))
 
 pub agree : {X : Type 0} (f g : ℕ → X) (orders : List (List ℕ)) → ((h k : ℕ) → stands orders h k ≡ true → f k ≡ g k)
     → map (map f) orders ≡ map (map g) orders
 agree f g [] h = refl
 agree {X} f g (o ∷ os) h = cc (agree_one f g o (λ k e. h zero k e), agree f g os (λ i k e. h (suc i) k e))
 
-one_stands : {X : Type 0} (f : ℕ → X) (q : X → Bool) (xs : List ℕ) (key : ℕ) → list_any (λ j. j == key) xs ≡ true
-    → q (f key) ≡ true
-    → list_any q (map f xs) ≡ true
+one_stands : {X : Type 0} (f : ℕ → X) (q : X → Bool) (xs : List ℕ) (key : ℕ)
+    → list_any (λ j. j == key) xs ≡ true → q (f key) ≡ true → list_any q (map f xs) ≡ true
 one_stands f q [] key e t = absurd (false≢true e)
-one_stands f q (x ∷ xs) key e t = elim (or_cases (x == key) (list_any (λ j. j == key) xs) e) [
-  | inl i ↦ or_left (q (f x)) (list_any q (map f xs)) (ap (λ k. q (f k)) (eqb-true x key i) ∙ t)
-  | inr i ↦ or_right (q (f x)) (list_any q (map f xs)) (one_stands f q xs key i t)
-]
+one_stands f q (x ∷ xs) key e t = grind (arith, or_cases, or_left, eqb-true, or_right, one_stands f q xs key)
 
 -- what passes for a key that stands, passes among all records
 pub any_stands : {X : Type 0} (f : ℕ → X) (q : X → Bool) (orders : List (List ℕ)) (h key : ℕ)
-    → stands orders h key ≡ true → q (f key) ≡ true
-    → list_any q (all_records (map (map f) orders)) ≡ true
+    → stands orders h key ≡ true → q (f key) ≡ true → list_any q (all_records (map (map f) orders)) ≡ true
 any_stands f q [] h key st t = absurd (false≢true st)
 any_stands f q (o ∷ os) zero key st t = grind (arith, list_any-append, or_left, one_stands)
 any_stands f q (o ∷ os) (suc h) key st t = grind (arith, list_any-append, or_right, any_stands f q os h key st t)
@@ -158,17 +142,12 @@ any_stands f q (o ∷ os) (suc h) key st t = grind (arith, list_any-append, or_r
 any_one : {X : Type 0} (f : ℕ → X) (q : X → Bool) (xs : List ℕ) → list_any q (map f xs) ≡ true
     → (k : ℕ) × (list_any (λ j. j == k) xs ≡ true) × (q (f k) ≡ true)
 any_one f q [] e = absurd (false≢true e)
-any_one f q (x ∷ xs) e = elim (or_cases (q (f x)) (list_any q (map f xs)) e) [
-  | inl i ↦ (x, or_left (x == x) (list_any (λ j. j == x) xs) (eq-eqb x x refl), i)
-  | inr i ↦ grind (arith, or_right, any_one f q xs i)
-]
+any_one f q (x ∷ xs) e = grind (arith, or_cases, or_left, eq-eqb, or_right, any_one f q xs)
 
-pub any_key : {X : Type 0} (f : ℕ → X) (q : X → Bool) (orders : List (List ℕ))
-    → list_any q (all_records (map (map f) orders)) ≡ true
-    → (h : ℕ) × (k : ℕ) × (stands orders h k ≡ true) × (q (f k) ≡ true)
+pub any_key : {X : Type 0} (f : ℕ → X) (q : X → Bool) (orders : List (List ℕ)) → list_any
+    q (all_records (map (map f) orders)) ≡ true → (h : ℕ) × (k : ℕ) × (stands orders h k ≡ true) × (q (f k) ≡ true)
 any_key f q [] e = absurd (false≢true e)
-any_key {X} f q (o ∷ os) e =
-    elim (or_cases (list_any q (map f o)) (list_any q (all_records (map (map f) os)))
+any_key {X} f q (o ∷ os) e = elim (or_cases (list_any q (map f o)) (list_any q (all_records (map (map f) os)))
     (sym (list_any-append q (map f o) (all_records (map (map f) os))) ∙ e)) [
       | inl i ↦ let one = any_one f q o i in (zero, one.0, one.1, one.2)
       | inr i ↦ let later = any_key f q os i in (suc later.0, later.1, later.2, later.3)

@@ -40,42 +40,31 @@ module _ {X : Type 0} (id_of : X → ℕ) where
   first_is id [] p x h e i = absurd (cc)
   first_is id (y ∷ ys) zero x h e i = grind (arith, eq-eqb)
   first_is id (y ∷ ys) (suc p) x h e i =
-      let parts = and_parts (list_all (ids_apart id_of y) ys) (pairwise (ids_apart id_of) ys) h in
-      let rest = first_is id ys p x parts.1 e i in
-      go (id_of y == id) refl (all_at (ids_apart id_of y) ys p x parts.0 e) rest
-    where
-      go : (b : Bool) → (id_of y == id) ≡ b → ids_apart id_of y x ≡ true → position_or_len (is_id id_of id) ys ≡ p
-          → cond (not b) (1 + position_or_len (is_id id_of id) ys) 0 ≡ suc p
-      go true t a r = grind (arith, eq-eqb, eqb-true, false≢true)
-      go false t a r = omega (arith, r)
+      grind (arith, and_parts, all_at, eq-eqb, eqb-true, false≢true, first_is id ys p x)
 
   header_is : (id : ℕ) (lists : List (List X)) (h p : ℕ) (x : X) → pairwise (ids_apart id_of) (all_records lists) ≡ true
       → slice_get (list_of h lists) p ≡ Some x → id_of x ≡ id → position_or_len (has_id id_of id) lists ≡ h
   header_is id [] h p x a e i = absurd (cc)
   header_is id (l ∷ ls) zero p x a e i = grind (arith, any_at, eq-eqb)
-  header_is id (l ∷ ls) (suc h) p x a e i =
-      go (has_id id_of id l) refl a (any_there (is_id id_of id) ls h p x e (eq-eqb (id_of x) id i))
-      (header_is id ls h p x (behind l a) e i)
+  header_is id (l ∷ ls) (suc h) p x a e i = go (has_id id_of id l)
+      refl a (any_there (is_id id_of id) ls h p x e (eq-eqb (id_of x) id i)) (header_is id ls h p x (behind l a) e i)
     where
       behind : (xs : List X) → pairwise (ids_apart id_of) (xs ++ all_records ls) ≡ true
           → pairwise (ids_apart id_of) (all_records ls) ≡ true
       behind [] k = k
-      behind (y ∷ xs) k =
-          behind xs (and_parts (list_all (ids_apart id_of y) (xs ++ all_records ls))
+      behind (y ∷ xs) k = behind xs (and_parts (list_all (ids_apart id_of y) (xs ++ all_records ls))
           (pairwise (ids_apart id_of) (xs ++ all_records ls)) k).1
 
       go : (b : Bool) → has_id id_of id l ≡ b → pairwise (ids_apart id_of) (l ++ all_records ls) ≡ true
           → list_any (has_id id_of id) ls ≡ true → position_or_len (has_id id_of id) ls ≡ h
           → cond (not b) (1 + position_or_len (has_id id_of id) ls) 0 ≡ suc h
       go true t k any r =
-          absurd (false≢true (sym (grind (arith, none_behind, once))
-          ∙ any_all (is_id id_of id) ls ∙ any))
+          absurd (false≢true (sym (grind (arith, none_behind, once)) ∙ any_all (is_id id_of id) ls ∙ any))
       go false t k any r = omega (arith, r)
 
   -- where records are apart, one that stands somewhere is the first with its id
-  pub placed_at : (id : ℕ) (lists : List (List X)) (h p : ℕ) (x : X)
-      → pairwise (ids_apart id_of) (all_records lists) ≡ true
-      → slice_get (list_of h lists) p ≡ Some x → id_of x ≡ id → IsPlaced id_of id lists h p
+  pub placed_at : (id : ℕ) (lists : List (List X)) (h p : ℕ) (x : X) → pairwise (ids_apart id_of)
+      (all_records lists) ≡ true → slice_get (list_of h lists) p ≡ Some x → id_of x ≡ id → IsPlaced id_of id lists h p
   placed_at id lists h p x a e i =
       grind (arith, header_within, eq-eqb, any_there, header_is, any_at, list_of, first_is, apart-list, get_within)
 

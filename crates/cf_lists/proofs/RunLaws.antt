@@ -24,10 +24,9 @@ module _ {X K : Type 0} (key : X → K) (same before : K → K → Bool) (is : I
   at_step true false x y ys k e f turn there ih = grind arith
   at_step false false x y ys k e f turn there ih = grind (arith, not-true, got, false≢true)
   at_step false true x y ys k e f turn there ih =
-      let alike : key y ≡ key x = is.equal (key y) (key x) f in
-      let none : prefix_len (λ a. before a (key x)) (map key ys) ≡ 0 = none_before (key x) ys
-      (subst (λ a. list_all (λ z. not (before (key z) a)) ys ≡ true) alike turn) in
-      let back : slice_get (filter (is_keyed key same (key x)) ys) (k - 0) ≡ Some x = rw none at ih in
+      let alike = is.equal (key y) (key x) f in
+      let none = none_before _ _ (subst (λ a. list_all (λ z. not (before (key z) a)) ys ≡ true) alike turn) in
+      let back = rw none at ih in
       let all : suc k - 0 ≡ suc k = omega arith in
       let less : k - 0 ≡ k = omega arith in
       rw all (subst (λ n. slice_get (filter (is_keyed key same (key x)) ys) n ≡ Some x) less back)
@@ -55,12 +54,11 @@ module _ {X K : Type 0} (key : X → K) (same before : K → K → Bool) (is : I
       step true e f ih = refl
       step false e f ih = grind arith
 
-  order_step : (b : X → Bool) (x y : X) (ys : List X) (s t : Bool) → b y ≡ s → before (key x) (key y) ≡ t
-      → (s ≡ true → t ≡ false) → (s ≡ false → before (key y) (key x) ≡ false)
-      → list_all (in_turn key before y) ys ≡ true
-      → map key (insertion b x ys) ≡ insertion (λ a. not (before (key x) a)) (key x) (map key ys)
-      → map key (cond s (y ∷ insertion b x ys) (x ∷ y ∷ ys))
-      ≡ cond (not t) (key y ∷ insertion (λ a. not (before (key x) a)) (key x) (map key ys)) (key x ∷ key y ∷ map key ys)
+  order_step : (b : X → Bool) (x y : X) (ys : List X) (s t : Bool)
+      → b y ≡ s → before (key x) (key y) ≡ t → (s ≡ true → t ≡ false) → (s ≡ false → before (key y) (key x) ≡ false)
+      → list_all (in_turn key before y) ys ≡ true → map key (insertion b x ys) ≡ insertion
+      (λ a. not (before (key x) a)) (key x) (map key ys) → map key (cond s (y ∷ insertion b x ys) (x ∷ y ∷ ys)) ≡ cond
+      (not t) (key y ∷ insertion (λ a. not (before (key x) a)) (key x) (map key ys)) (key x ∷ key y ∷ map key ys)
   order_step b x y ys true true e f front stop turn ih = absurd (false≢true (sym (front refl)))
   order_step b x y ys true false e f front stop turn ih = ap (λ l. key y ∷ l) ih
   order_step b x y ys false true e f front stop turn ih = refl
@@ -80,11 +78,9 @@ module _ {X K : Type 0} (key : X → K) (same before : K → K → Bool) (is : I
 
   -- where an element comes among those of its key, its key comes behind these
   pub order_insertion : (b : X → Bool) (x : X) → ((y : X) → b y ≡ true → before (key x) (key y) ≡ false)
-      → ((y : X) → b y ≡ false → before (key y) (key x) ≡ false) → (xs : List X)
-      → pairwise (in_turn key before) xs ≡ true
-      → map key (insertion b x xs) ≡ insertion (λ a. not (before (key x) a)) (key x) (map key xs)
+      → ((y : X) → b y ≡ false → before (key y) (key x) ≡ false) → (xs : List X) → pairwise (in_turn key before)
+      xs ≡ true → map key (insertion b x xs) ≡ insertion (λ a. not (before (key x) a)) (key x) (map key xs)
   order_insertion b x front stop [] h = refl
   order_insertion b x front stop (y ∷ ys) h =
       let parts = and_parts (list_all (in_turn key before y) ys) (pairwise (in_turn key before) ys) h in
-      order_step b x y ys (b y) (before (key x) (key y)) refl refl (front y) (stop y) parts.0
-      (order_insertion b x front stop ys parts.1)
+      order_step b x y _ _ _ refl refl (front y) (stop y) parts.0 (order_insertion b x front stop ys parts.1)

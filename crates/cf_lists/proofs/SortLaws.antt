@@ -26,16 +26,11 @@ module _ {K : Type 0} (same before : K → K → Bool) (is : IsKeyOrder same bef
   alike k [] [] h g e = refl
   alike k [] (y ∷ ys) h g e = absurd (omega (arith, e))
   alike k (x ∷ xs) [] h g e = absurd (omega (arith, e))
-  alike k (x ∷ xs) (y ∷ ys) h g e =
-      let left = and_parts (same x k) (list_all (λ x. same x k) xs) h in
-      let right = and_parts (same y k) (list_all (λ x. same x k) ys) g in
-      ap (λ z. z ∷ xs) (is.equal x k left.0 ∙ sym (is.equal y k right.0))
-      ∙ ap (λ l. y ∷ l) (alike k xs ys left.1 right.1 (omega (arith, e)))
+  alike k (x ∷ xs) (y ∷ ys) h g e = grind (arith, and_parts, alike k xs ys)
 
   -- neighbours in order
-  pub neighbours : (xs : List K)
-      → ((k : ℕ) (d : K) → k + 1 < length xs → before (get_or xs (k + 1) d) (get_or xs k d) ≡ false)
-      → pairwise (in_turn (λ k. k) before) xs ≡ true
+  pub neighbours : (xs : List K) → ((k : ℕ) (d : K) → k + 1 < length xs
+      → before (get_or xs (k + 1) d) (get_or xs k d) ≡ false) → pairwise (in_turn (λ k. k) before) xs ≡ true
   neighbours [] h = refl
   neighbours (x ∷ []) h = refl
   neighbours (x ∷ y ∷ ys) h =
@@ -73,21 +68,17 @@ module _ {K : Type 0} (same before : K → K → Bool) (is : IsKeyOrder same bef
   -- the same keys in order are the keys of what is seen
   pub sorted_is : {X : Type 0} (key : X → K) (xs : List X) (ks : List K) → IsPermutation (map key xs) ks
       → pairwise (in_turn (λ k. k) before) ks ≡ true → ks ≡ map key (arranged key before xs)
-  sorted_is key xs ks perm turn =
-      ordered_filters (λ k. k) same before is.itself is.ties ks (map key (arranged key before xs)) turn
-      (mapped_pairs key (in_turn (λ k. k) before) (arranged key before xs)
-      ∙ arranged_in_turn key same before (λ k. 0) is xs)
-      (λ k. alike k (filter (λ x. same x k) ks) (filter (λ x. same x k) (map key (arranged key before xs)))
-      (list_all-filter_same (λ x. same x k) ks) (list_all-filter_same (λ x. same x k) (map key (arranged key before xs)))
-      (grind (arith, length_counts, sum_by-IsPermutation, same_counts)))
+  sorted_is key xs ks perm turn = ordered_filters (λ k. k) same before is.itself is.ties ks
+      (map key (arranged key before xs)) turn (mapped_pairs key (in_turn (λ k. k) before) (arranged key before xs)
+      ∙ arranged_in_turn key same before (λ k. 0) is xs) (λ k. alike k (filter (λ x. same x k) ks) (filter (λ x. same
+      x k) (map key (arranged key before xs))) (list_all-filter_same (λ x. same x k) ks) (list_all-filter_same (λ x.
+      same x k) (map key (arranged key before xs))) (grind (arith, length_counts, sum_by-IsPermutation, same_counts)))
 
 module _ {X K : Type 0} (key : X → K) (same before : K → K → Bool) (is : IsKeyOrder same before) where
   -- what is seen of some
   pub arranged-filter : (q : X → Bool) (xs : List X)
       → arranged key before (filter q xs) ≡ filter q (arranged key before xs)
-  arranged-filter q xs =
-      ordered_filters key same (λ x y. before (key x) (key y)) is.itself (λ x y. is.ties (key x) (key y))
-      (arranged key before (filter q xs)) (filter q (arranged key before xs))
-      (arranged_in_turn key same before (λ k. 0) is (filter q xs))
-      (pairwise-filter (in_turn key before) q (arranged key before xs) (arranged_in_turn key same before (λ k. 0) is xs))
-      (grind (arith, keyed-arranged, filter_swap))
+  arranged-filter q xs = ordered_filters key same (λ x y. before (key x) (key y)) is.itself
+      (λ x y. is.ties (key x) (key y)) (arranged key before (filter q xs)) (filter q (arranged key before xs))
+      (arranged_in_turn key same before (λ k. 0) is (filter q xs)) (pairwise-filter (in_turn key before) q (arranged
+      key before xs) (arranged_in_turn key same before (λ k. 0) is xs)) (grind (arith, keyed-arranged, filter_swap))

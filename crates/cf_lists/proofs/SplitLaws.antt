@@ -34,22 +34,18 @@ module _ {X : Type 0} where
   every_found P q (y ∷ ys) x h e = grind (arith, every_found P q ys x h.1)
 
   -- one record more
-  pub all_with : (h p : ℕ) (rec : X) (lists : List (List X)) → h < length lists
-      → (front : List X) × (back : List X) × (all_records lists ≡ front ++ back)
-      × (all_records (lists_with h p rec lists) ≡ front ++ rec ∷ back)
+  pub all_with : (h p : ℕ) (rec : X) (lists : List (List X)) → h < length lists → (front : List X) × (back : List X)
+      × (all_records lists ≡ front ++ back) × (all_records (lists_with h p rec lists) ≡ front ++ rec ∷ back)
   all_with h p rec lists lt =
       let recs = records_of lists h in
       let front = all_records (take h lists) in
       let back = all_records (drop (suc h) lists) in (
         front ++ take p recs,
         drop p recs ++ back,
-        all-split lists h lt
-            ∙ ap (λ (l : List X). front ++ (l ++ back)) (sym (take-append-drop p recs))
-            ∙ ap (λ (l : List X). front ++ l) (append_assoc (take p recs) (drop p recs) back)
-            ∙ sym (append_assoc front (take p recs) (drop p recs ++ back)),
-        all-set lists h (insert recs p rec) lt
-            ∙ ap (λ (l : List X). front ++ l) (append_assoc (take p recs) (rec ∷ drop p recs) back)
-            ∙ sym (append_assoc front (take p recs) (rec ∷ (drop p recs ++ back))),
+        all-split lists h lt ∙ ap (λ (l : List X). front ++ (l ++ back)) (sym (take-append-drop p recs)) ∙ ap (λ (l :
+            List X). front ++ l) (append_assoc (take p recs) (drop p recs) back) ∙ sym (grind (arith, append_assoc)),
+        all-set lists h (insert recs p rec) lt ∙ ap (λ (l : List X). front ++ l) (append_assoc (take p recs)
+            (rec ∷ drop p recs) back) ∙ sym (append_assoc front (take p recs) (rec ∷ (drop p recs ++ back))),
       )
 
 module _ {X Y : Type 0} (f g : X → Y) where
@@ -62,8 +58,7 @@ module _ {X Y : Type 0} (f g : X → Y) where
       → map (map f) lists ≡ map (map g) lists
   agree_all [] h = refl
   agree_all (l ∷ ls) h =
-      ap (λ (r : List Y). r ∷ map (map f) ls) (agree_each l (every_front (λ x. f x ≡ g x) l (all_records ls) h))
-      ∙ ap (λ (r : List (List Y)). map g l ∷ r) (agree_all ls (every_back (λ x. f x ≡ g x) l (all_records ls) h))
+      grind (arith, agree_each, every_front, every_back, agree_all ls (every_back (λ x. f x ≡ g x) l _ h))
 
 module _ {X : Type 0} (id_of : X → ℕ) where
   pub record IsSplit (id : ℕ) (xs : List X) (x : X) : Type 0 where
@@ -91,6 +86,5 @@ module _ {X : Type 0} (id_of : X → ℕ) where
             back = r.back;
             whole = ap (λ (l : List X). y ∷ l) r.whole;
             less = rw t (ap (λ (l : List X). y ∷ l) r.less);
-            other = λ new i. (let k : is_id id_of (id_of new) y ≡ false = ap (λ n. id_of y == n) i ∙ t in
-                ap (λ b. cond b new y ∷ map (replaced_by id_of new) ys) k ∙ ap (λ (l : List X). y ∷ l) (r.other new i));
+            other = grind arith;
           }

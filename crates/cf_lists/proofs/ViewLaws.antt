@@ -18,7 +18,8 @@ pub length_in : {X K : Type 0} (key : X → K) (before : K → K → Bool) (i : 
     → length (get_or bins i []) ≤ length (map key (arranged key before (joined bins)))
 length_in key before i bins = grind (arith, length-map, length_arranged, length_joined)
 
-all_mapped : {X Y : Type 0} (f : X → Y) (p : Y → Bool) (xs : List X) → list_all p (map f xs) ≡ list_all (λ x. p (f x)) xs
+all_mapped : {X Y : Type 0} (f : X → Y) (p : Y → Bool) (xs : List X)
+    → list_all p (map f xs) ≡ list_all (λ x. p (f x)) xs
 all_mapped f p [] = refl
 all_mapped f p (x ∷ xs) = ap (λ b. p (f x) && b) (all_mapped f p xs)
 
@@ -32,27 +33,21 @@ pub by_key : {X K : Type 0} (key : X → K) (same : K → K → Bool) (relation 
     → ((x y : X) → same (key y) (key x) ≡ false → relation x y ≡ true) → (xs : List X)
     → ((k : K) → pairwise relation (filter (is_keyed key same k) xs) ≡ true) → pairwise relation xs ≡ true
 by_key key same relation itself apart [] h = refl
-by_key key same relation itself apart (x ∷ xs) h =
-    and_from (list_all (relation x) xs) (pairwise relation xs)
-    (each xs (and_parts (list_all (relation x) (filter (is_keyed key same (key x)) xs))
-    (pairwise relation (filter (is_keyed key same (key x)) xs)) mine).0)
-    (by_key key same relation itself apart xs (λ k. later (same (key x) k) k refl (h k)))
+by_key key same relation itself apart (x ∷ xs) h = and_from (list_all (relation x) xs) (pairwise relation xs)
+    (grind (arith, each, and_parts, mine)) (by_key key same relation itself apart xs (grind (arith, later)))
   where
     mine : pairwise relation (x ∷ filter (is_keyed key same (key x)) xs) ≡ true
     mine = rw (itself (key x)) at (h (key x))
 
-    later : (b : Bool) (k : _) → same (key x) k ≡ b
-        → pairwise relation (cond (same (key x) k) (x ∷ filter (is_keyed key same k) xs) (filter (is_keyed key same k) xs))
-        ≡ true
+    later : (b : Bool) (k : _) → same (key x) k ≡ b → pairwise relation
+        (cond (same (key x) k) (x ∷ filter (is_keyed key same k) xs) (filter (is_keyed key same k) xs)) ≡ true
         → pairwise relation (filter (is_keyed key same k) xs) ≡ true
-    later true k e g =
-        (and_parts (list_all (relation x) (filter (is_keyed key same k) xs))
+    later true k e g = (and_parts (list_all (relation x) (filter (is_keyed key same k) xs))
         (pairwise relation (filter (is_keyed key same k) xs)) (rw e at g)).1
     later false k e g = rw e at g
 
-    step : (b : Bool) (y : _) (ys : _) → same (key y) (key x) ≡ b
-        → list_all (relation x) (cond b (y ∷ filter (is_keyed key same (key x)) ys) (filter (is_keyed key same (key x)) ys))
-        ≡ true
+    step : (b : Bool) (y : _) (ys : _) → same (key y) (key x) ≡ b → list_all (relation x)
+        (cond b (y ∷ filter (is_keyed key same (key x)) ys) (filter (is_keyed key same (key x)) ys)) ≡ true
         → (list_all (relation x) (filter (is_keyed key same (key x)) ys) ≡ true → list_all (relation x) ys ≡ true)
         → list_all (relation x) (y ∷ ys) ≡ true
     step true y ys e g ih =

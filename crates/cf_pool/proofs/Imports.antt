@@ -10,6 +10,6 @@ pub use Rattle.std.proofs.lemmas.List.Sums.{sum_by-set, sum-map}
 pub use Rattle.std.proofs.lemmas.Option.{slice_get-get_or, get_or_from_slice_get, slice_get_past}
 pub use Rattle.std.specs.List.{enumerate_from, slice_get}
 pub use Rattle.cf_pool.specs.Chains.{need_of, behind, IsWithin, walked, written, stored, chain_at, chains_in, IsRun}
-pub use Rattle.cf_pool.specs.Pools.{need_at, need_in, IsChain}
+pub use Rattle.cf_pool.specs.Pools.{need_at, need_in, IsChain, Chains, with_chain, without_chain}
 pub use Rattle.cf_pool.specs.Shared.{IsShared}
 pub use Rattle.cf_pool.specs.declared.elements.TheConstants.{SIZE}

@@ -10,24 +10,20 @@ length-chains cells next lens = length-map (enumerate_from 0 lens) _ ∙ length-
 
 pub chain_is : (cells : List (List ℕ)) (next lens : List ℕ) (k : ℕ) (d : Option (List ℕ)) → k < length lens
     → get_or (chains_in cells next lens) k d ≡ chain_at cells next k (get_or lens k 0)
-chain_is cells next lens k d h =
-    get_or-map (λ p. chain_at cells next p.0 p.1) (enumerate_from 0 lens) k (0, 0) d
-    (omega (arith, length-enumerate_from 0 lens))
-    ∙ ap (λ p. chain_at cells next p.0 p.1) (get_or-enumerate_from 0 lens k (0, 0) h)
-    ∙ ap (λ j. chain_at cells next j (get_or lens k 0)) (zero-add k)
+chain_is cells next lens k d h = get_or-map (λ p. chain_at cells next p.0 p.1) (enumerate_from 0 lens)
+    k (0, 0) d (omega (arith, length-enumerate_from 0 lens)) ∙ ap (λ p. chain_at cells next p.0 p.1)
+    (get_or-enumerate_from 0 lens k (0, 0) h) ∙ ap (λ j. chain_at cells next j (get_or lens k 0)) (zero-add k)
 
 -- another length at one element, where all other chains stay
-set_chain : (cells cells' : List (List ℕ)) (next next' lens : List ℕ) (at l : ℕ) → at < length lens
-    → ((k : ℕ) → k < length lens → k ≢ at
-    → chain_at cells' next' k (get_or lens k 0) ≡ chain_at cells next k (get_or lens k 0))
+set_chain : (cells cells' : List (List ℕ)) (next next' lens : List ℕ) (at l : ℕ) → at < length lens → ((k : ℕ)
+    → k < length lens → k ≢ at → chain_at cells' next' k (get_or lens k 0) ≡ chain_at cells next k (get_or lens k 0))
     → chains_in cells' next' (set lens at l) ≡ set (chains_in cells next lens) at (chain_at cells' next' at l)
 set_chain cells cells' next next' lens at l lt others =
     grind (arith, length-set, length-chains, same_lists, chain_is, eqb_tells, get_or-set_same, get_or-set_other)
 
 other_chain : (owner rank : ℕ → ℕ) (cells cells' : List (List ℕ)) (next next' : List ℕ) (label at l : ℕ)
     → ((x : ℕ) → owner x ≡ label → (get_or cells' x [] ≡ get_or cells x []) × (get_or next' x 0 ≡ get_or next x 0))
-    → (0 < l → IsRun owner rank next label (need_of l) at)
-    → chain_at cells' next' at l ≡ chain_at cells next at l
+    → (0 < l → IsRun owner rank next label (need_of l) at) → chain_at cells' next' at l ≡ chain_at cells next at l
 other_chain owner rank cells cells' next next' label at zero same run = refl
 other_chain owner rank cells cells' next next' label at (suc l) same run = grind (arith, same_walk)
 
@@ -38,19 +34,15 @@ chain_some cells next at (suc l) h = refl
 
 -- each element has its bytes still
 pub stored_whole : (next : List ℕ) (n at : ℕ) (bytes : List ℕ) (cells : List (List ℕ)) → length cells ≡ length next
-    → IsWithin next n at
-    → ((x : ℕ) → x < length next → length (get_or cells x []) ≡ SIZE)
+    → IsWithin next n at → ((x : ℕ) → x < length next → length (get_or cells x []) ≡ SIZE)
     → (x : ℕ) → x < length next → length (get_or (stored next n at bytes cells) x []) ≡ SIZE
 stored_whole next zero at bytes cells same within whole x h = whole x h
-stored_whole next (suc n) at bytes cells same within whole x h =
-    stored_whole next n (get_or next at 0) (drop SIZE bytes) _ (length-set cells at _ ∙ same) within.1
-    (λ y k. elim (eqb_tells y at) [
-      | inl e ↦ subst (λ z. length (get_or (set cells at (written (take SIZE bytes) (get_or cells at []))) z [])
-          ≡ SIZE) (sym e.1)
-          (rw (get_or-set_same cells at (written (take SIZE bytes) (get_or cells at [])) []
-          (omega (arith, same, within.0)))
-          (length_written (take SIZE bytes) (get_or cells at []) (omega (arith, length-take SIZE bytes))
-          (whole at within.0)))
+stored_whole next (suc n) at bytes cells same within whole x h = stored_whole next n (get_or next at 0)
+    (drop SIZE bytes) _ (length-set cells at _ ∙ same) within.1 (λ y k. elim (eqb_tells y at) [
+      | inl e ↦ subst (λ z. length (get_or (set cells at (written (take SIZE bytes) (get_or cells at [])))
+          z []) ≡ SIZE) (sym e.1) (rw (get_or-set_same cells
+          at (written (take SIZE bytes) (get_or cells at [])) [] (omega (arith, same, within.0))) (length_written
+          (take SIZE bytes) (get_or cells at []) (omega (arith, length-take SIZE bytes)) (whole at within.0)))
       | inr e ↦ rw (get_or-set_other cells at y (written (take SIZE bytes) (get_or cells at [])) [] e.1) (whole y k)
     ]) x h
   where
@@ -58,9 +50,8 @@ stored_whole next (suc n) at bytes cells same within whole x h =
     length_written part cell le e = omega
         (arith, length-append part (drop (length part) cell), length-drop (length part) cell)
 
-length-walked : (cells : List (List ℕ)) (next : List ℕ) → length cells ≡ length next
-    → ((x : ℕ) → x < length next → length (get_or cells x []) ≡ SIZE)
-    → (n at : ℕ) → IsWithin next n at → length (walked cells next n at) ≡ n * SIZE
+length-walked : (cells : List (List ℕ)) (next : List ℕ) → length cells ≡ length next → ((x : ℕ) → x < length next →
+    length (get_or cells x []) ≡ SIZE) → (n at : ℕ) → IsWithin next n at → length (walked cells next n at) ≡ n * SIZE
 length-walked cells next same whole zero at within = refl
 length-walked cells next same whole (suc n) at within =
     let rest = length-walked cells next same whole n (get_or next at 0) within.1 in
@@ -114,9 +105,8 @@ module _ (cells : List (List ℕ)) (next lens : List ℕ) (head free : ℕ) (s :
           absurd (omega (arith, own.1, o))
 
   module _ (l : ℕ) (some : 0 < l) (few : l ≤ 4096) (n : ℕ) (is : n ≡ need_of l) (le : n ≤ free) where
-    pub put_shared : (cells' : List (List ℕ)) → length cells' ≡ length next
-        → ((x : ℕ) → x < length next → length (get_or cells' x []) ≡ SIZE)
-        → IsShared cells' next (set lens head l) (behind next n head) (free - n)
+    pub put_shared : (cells' : List (List ℕ)) → length cells' ≡ length next → ((x : ℕ) → x < length next
+        → length (get_or cells' x []) ≡ SIZE) → IsShared cells' next (set lens head l) (behind next n head) (free - n)
     put_shared cells' same_cells whole =
         let empty = head_empty (omega (arith, is)) in
         let f : ℕ = free - n in
@@ -135,8 +125,7 @@ module _ (cells : List (List ℕ)) (next lens : List ℕ) (head free : ℕ) (s :
           chain_runs = λ at lt len. set_runs at (eqb_tells at head) lt len;
           all = omega (
             arith,
-            sum_by-set need_of lens head l 0
-                (omega (arith, s.all_lens, empty.0)),
+            sum_by-set need_of lens head l 0 (omega (arith, s.all_lens, empty.0)),
             ap need_of empty.1,
             s.all,
           );
@@ -151,24 +140,19 @@ module _ (cells : List (List ℕ)) (next lens : List ℕ) (head free : ℕ) (s :
             (rw (get_or-set_same lens head l 0 lt_lens) few)
         set_short at (inr e) = rw (get_or-set_other lens head at l 0 e.1) (s.short at)
 
-        set_runs : (at : ℕ) → ((eqb at head ≡ true) × (at ≡ head)) ⊎ ((eqb at head ≡ false) × (at ≢ head))
-            → at < length next → 0 < get_or (set lens head l) at 0
-            → IsRun (taken_owner s.owner s.rank (length next) (free - n) head)
-            (taken_rank s.owner s.rank (length next) (free - n) head) next at
-            (need_of (get_or (set lens head l) at 0)) at
-        set_runs at (inl e) lt len =
-            subst (λ k. IsRun (taken_owner s.owner s.rank (length next) (free - n) head)
-            (taken_rank s.owner s.rank (length next) (free - n) head) next k
-            (need_of (get_or (set lens head l) k 0)) k) (sym e.1)
-            (rw (get_or-set_same lens head l 0 lt_lens)
-            (front_run s.owner s.rank _ _ next (length next) head (free - n) free (need_of l) head
-            (omega (arith, is, le))
-            (taken s.owner s.rank (length next) (free - n) head) s.free_run))
+        set_runs : (at : ℕ) → ((eqb at head ≡ true) × (at ≡ head))
+            ⊎ ((eqb at head ≡ false) × (at ≢ head)) → at < length next → 0 < get_or (set lens head l) at 0
+            → IsRun (taken_owner s.owner s.rank (length next) (free - n) head) (taken_rank
+            s.owner s.rank (length next) (free - n) head) next at (need_of (get_or (set lens head l) at 0)) at
+        set_runs at (inl e) lt len = subst (λ k. IsRun (taken_owner s.owner s.rank (length next) (free - n) head)
+            (taken_rank s.owner s.rank (length next) (free - n) head)
+            next k (need_of (get_or (set lens head l) k 0)) k) (sym e.1) (rw (get_or-set_same lens head l 0 lt_lens)
+            (front_run s.owner s.rank _ _ next (length next) head (free - n) free (need_of l)
+            head (omega (arith, is, le)) (taken s.owner s.rank (length next) (free - n) head) s.free_run))
         set_runs at (inr e) lt len = grind (arith, get_or-set_other, kept_run, of_others)
 
-    pub put_chains : (bytes : List ℕ) → length bytes ≡ l
-        → chains_in (stored next n head bytes cells) next (set lens head l)
-        ≡ set (chains_in cells next lens) head (Some bytes)
+    pub put_chains : (bytes : List ℕ) → length bytes ≡ l → chains_in
+        (stored next n head bytes cells) next (set lens head l) ≡ set (chains_in cells next lens) head (Some bytes)
     put_chains bytes len =
         let cells' = stored next n head bytes cells in
         let run = front_run s.owner s.rank _ _ next (length next) head (free - n) free n head (omega (arith, le))
@@ -179,9 +163,8 @@ module _ (cells : List (List ℕ)) (next lens : List ℕ) (head free : ℕ) (s :
         ∙ ap (λ k. Some (take k (walked cells' next n head))) (sym len) ∙ ap Some back in
         subst (λ y. chains_in cells' next (set lens head l) ≡ set (chains_in cells next lens) head y) new
         (set_chain cells cells' next next lens head l (omega (arith, s.all_lens, (head_empty (omega (arith, is))).0))
-        (λ k h ne. other_chain s.owner s.rank cells cells' next next k k (get_or lens k 0)
-        (λ x o. (let there = of_others s.owner s.rank (length next) (free - n) head x k o
-        (omega (arith, s.all_lens, h)) in
+        (λ k h ne. other_chain s.owner s.rank cells cells' next next k k (get_or lens k 0) (λ x o. (let there =
+        of_others s.owner s.rank (length next) (free - n) head x k o (omega (arith, s.all_lens, h)) in
         (stored_outside _ _ next head n head x bytes cells run (λ own. absurd (ne (sym there.0 ∙ own))), refl)))
         (s.chain_runs k (omega (arith, s.all_lens, h)))))
 
@@ -229,14 +212,11 @@ module _ (cells : List (List ℕ)) (next lens : List ℕ) (head free : ℕ) (s :
           few = omega (arith, s.few, links);
           whole = λ x h. s.whole x (omega (arith, links, h));
           short = λ x. set_short x (eqb_tells x at);
-          free_run = rw links (subst
-              (λ k. IsRun owner' rank' (set next (behind next (n - 1) at) head) (length next) k at)
-              (omega (arith, one))
-              (joined_run s.owner s.rank owner' rank' next _ at (length next) free (n - 1) at
-              (behind next (n - 1) at) head links
-              its_own (λ x ne. get_or-set_other next _ x head 0 ne) (get_or-set_same next _ head 0 last_is.0)
-              (kept_run s.owner s.rank owner' rank' next _ (length next) free free head links
-              (λ x o r. (let k = not_its_own x (length next) o (omega (arith, lt)) in
+          free_run = rw links (subst (λ k. IsRun owner' rank' (set next (behind next (n - 1) at) head) (length next)
+              k at) (omega (arith, one)) (joined_run s.owner s.rank owner' rank' next _ at (length next) free
+              (n - 1) at (behind next (n - 1) at) head links its_own (λ x ne. get_or-set_other next _ x head 0 ne)
+              (get_or-set_same next _ head 0 last_is.0) (kept_run s.owner s.rank owner' rank' next _ (length next)
+              free free head links (λ x o r. (let k = not_its_own x (length next) o (omega (arith, lt)) in
               (k.0, k.1, link x (length next) o (omega (arith, lt))))) (omega arith) s.free_run)
               last_is.2 (subst (λ k. IsRun s.owner s.rank next at k at) one run_at) refl));
           chain_runs = λ x h len. set_runs x (eqb_tells x at) (omega (arith, links, h)) len;
@@ -260,10 +240,9 @@ module _ (cells : List (List ℕ)) (next lens : List ℕ) (head free : ℕ) (s :
 
     pub give_chains : chains_in cells (set next (behind next (n - 1) at) head) (set lens at 0)
         ≡ set (chains_in cells next lens) at None
-    give_chains =
-        set_chain cells cells next _ lens at 0 (omega (arith, s.all_lens, lt))
-        (λ k h ne. other_chain s.owner s.rank cells cells next _ k k (get_or lens k 0)
-        (λ x o. (refl, link x k o ne)) (s.chain_runs k (omega (arith, s.all_lens, h))))
+    give_chains = set_chain cells
+        cells next _ lens at 0 (omega (arith, s.all_lens, lt)) (λ k h ne. other_chain s.owner s.rank cells cells
+        next _ k k (get_or lens k 0) (λ x o. (refl, link x k o ne)) (s.chain_runs k (omega (arith, s.all_lens, h))))
 
   -- ---- what a chain is
 
@@ -275,13 +254,11 @@ module _ (cells : List (List ℕ)) (next lens : List ℕ) (head free : ℕ) (s :
       go : (l : ℕ) → (0 < l → IsRun s.owner s.rank next at (need_of l) at)
           → need_at (chain_at cells next at l) ≡ need_of l
       go zero run = refl
-      go (suc l) run =
-          ap need_of (length-take-le (suc l) (walked cells next (need_of (suc l)) at)
-          (omega (
-            arith,
-            length-walked cells next s.all_cells s.whole (need_of (suc l)) at
-                (within_run s.owner s.rank next at (need_of (suc l)) at (run (omega arith))),
-          )))
+      go (suc l) run = ap need_of (length-take-le (suc l) (walked cells next (need_of (suc l)) at) (omega (
+        arith,
+        length-walked cells next s.all_cells s.whole (need_of (suc l)) at
+            (within_run s.owner s.rank next at (need_of (suc l)) at (run (omega arith))),
+      )))
 
   pub all_chains : sum_by need_at (chains_in cells next lens) + free ≡ length (chains_in cells next lens)
   all_chains =
@@ -299,8 +276,7 @@ module _ (cells : List (List ℕ)) (next lens : List ℕ) (head free : ℕ) (s :
         s.all_lens,
         count,
         ap sum same,
-        sum-map need_at
-            (chains_in cells next lens),
+        sum-map need_at (chains_in cells next lens),
         sum-map need_of lens,
       )
 
@@ -331,10 +307,9 @@ module _ (cells : List (List ℕ)) (next lens : List ℕ) (head free : ℕ) (s :
   pub chain_within : (at : ℕ) → at < length next → 0 < get_or lens at 0 → IsWithin next (need_of (get_or lens at 0)) at
   chain_within at lt some = within_run s.owner s.rank next at (need_of (get_or lens at 0)) at (s.chain_runs at lt some)
 
-  module _ (bytes : List ℕ) (some : 1 ≤ length bytes) (few : length bytes ≤ 4096) (room : need_of (length bytes) ≤ free)
-      (n rest : ℕ) (cells' : List (List ℕ)) (is : n ≡ need_of (length bytes))
-      (stores : cells' ≡ stored next n head bytes cells)
-      (follows : rest ≡ behind next n head) where
+  module _ (bytes : List ℕ) (some : 1 ≤ length bytes) (few : length bytes ≤ 4096)
+      (room : need_of (length bytes) ≤ free) (n rest : ℕ) (cells' : List (List ℕ)) (is : n ≡ need_of (length bytes))
+      (stores : cells' ≡ stored next n head bytes cells) (follows : rest ≡ behind next n head) where
     pub fill_first : head < length lens
     fill_first = omega (arith, s.all_lens, (head_empty (omega (arith, some, room))).0)
 
@@ -348,9 +323,11 @@ module _ (cells : List (List ℕ)) (next lens : List ℕ) (head free : ℕ) (s :
     pub fill_fresh : slice_get (chains_in cells next lens) head ≡ Some None
     fill_fresh =
         let empty = (head_empty (omega (arith, some, room))).1 in
-        slice_get-get_or (chains_in cells next lens) head None
-        (omega (arith, fill_first, length-chains cells next lens))
-        ∙ ap Some (chain_is cells next lens head None fill_first ∙ ap (chain_at cells next head) empty)
+        slice_get-get_or (chains_in cells next lens) head None (omega (
+          arith,
+          fill_first,
+          length-chains cells next lens,
+        )) ∙ ap Some (chain_is cells next lens head None fill_first ∙ ap (chain_at cells next head) empty)
 
     pub fill_stored : slice_get (chains_in cells' next (set lens head (length bytes))) head ≡ Some (Some bytes)
     fill_stored = grind (arith, fill_chains, stored_at, fill_first, length-chains)
@@ -381,9 +358,8 @@ module _ (cells : List (List ℕ)) (next lens : List ℕ) (head free : ℕ) (s :
       unlink_last = subst (λ x. x < length next) (sym ends) (last_is at there.0 there.1 n is).0
 
       pub unlink_shared : IsShared cells (set next last head) (set lens at 0) at (free + n)
-      unlink_shared =
-          subst (λ x. IsShared cells (set next x head) (set lens at 0) at (free + n)) (sym ends)
-          (give_shared at there.0 there.1 n is)
+      unlink_shared = subst (λ x. IsShared cells (set next x head) (set lens at 0) at (free + n))
+          (sym ends) (give_shared at there.0 there.1 n is)
 
       pub unlink_chains : chains_in cells (set next last head) (set lens at 0) ≡ set (chains_in cells next lens) at None
       unlink_chains =
@@ -394,19 +370,18 @@ module _ (cells : List (List ℕ)) (next lens : List ℕ) (head free : ℕ) (s :
 pub new_shared : (cells : List (List ℕ)) (next lens : List ℕ) (n : ℕ) → length cells ≡ n → lens ≡ replicate n 0
     → length next ≡ n → n < 4294967296 → ((x : ℕ) → x < length cells → length (get_or cells x []) ≡ SIZE)
     → ((k : ℕ) → k < n → get_or next k 0 ≡ k + 1) → IsShared cells next lens 0 n
-new_shared cells next lens n all none len few whole links =
-    record {
-      owner = λ x. length next;
-      rank = λ x. n - 1 - x;
-      all_cells = all ∙ sym len;
-      all_lens = ap length none ∙ length-replicate n 0 ∙ sym len;
-      few = omega (arith, len, few);
-      whole = λ x h. whole x (omega (arith, all, len, h));
-      short = λ x. omega (arith, no_length x);
-      free_run = run n 0 (omega arith);
-      chain_runs = λ x h some. absurd (omega (arith, no_length x, some));
-      all = omega (arith, ap (sum_by need_of) none, sum_by-replicate need_of n 0, len);
-    }
+new_shared cells next lens n all none len few whole links = record {
+  owner = λ x. length next;
+  rank = λ x. n - 1 - x;
+  all_cells = all ∙ sym len;
+  all_lens = ap length none ∙ length-replicate n 0 ∙ sym len;
+  few = omega (arith, len, few);
+  whole = λ x h. whole x (omega (arith, all, len, h));
+  short = λ x. omega (arith, no_length x);
+  free_run = run n 0 (omega arith);
+  chain_runs = λ x h some. absurd (omega (arith, no_length x, some));
+  all = omega (arith, ap (sum_by need_of) none, sum_by-replicate need_of n 0, len);
+}
   where
     no_length : (x : ℕ) → get_or lens x 0 ≡ 0
     no_length x = grind (arith, cases_lt, get_or-replicate, get_or_past, length-replicate)

@@ -26,11 +26,9 @@ take_both (suc n) [] ys =
 take_both (suc n) (x ∷ xs) ys = grind (arith, take_both n xs ys)
 
 -- a walk goes on behind the first part of so many bytes
-pub walked_more : (cells : List (List ℕ)) (next : List ℕ) (done now whole : List ℕ) (n m at len wanted : ℕ)
-    → length done ≤ len → wanted ≡ len - length done
-    → done ++ take (len - length done) (walked cells next n at) ≡ whole → n ≡ suc m
-    → length (get_or cells at []) ≡ SIZE
-    → now ≡ done ++ take wanted (get_or cells at [])
+pub walked_more : (cells : List (List ℕ)) (next : List ℕ) (done now whole : List ℕ) (n m at len wanted : ℕ) → length
+    done ≤ len → wanted ≡ len - length done → done ++ take (len - length done) (walked cells next n at) ≡ whole
+    → n ≡ suc m → length (get_or cells at []) ≡ SIZE → now ≡ done ++ take wanted (get_or cells at [])
     → (length now ≤ len) × (now ++ take (len - length now) (walked cells next m (get_or next at 0)) ≡ whole)
 walked_more cells next done now whole n m at len wanted few left_is h e size given =
     let cell : List ℕ = get_or cells at [] in
@@ -45,10 +43,8 @@ walked_more cells next done now whole n m at len wanted few left_is h e size giv
     = ap (take left) (walked-step cells next n m at e ∙ ap (λ w. w ++ later) (take_all SIZE cell (omega (arith, size))))
     ∙ take_both left cell later in (
       omega (arith, all, few),
-      ap (λ w. w ++ take (len - length now) later) f
-          ∙ ap (λ k. (done ++ take left cell) ++ take k later) rest
-          ∙ append_assoc done (take left cell) (take (left - length cell) later)
-          ∙ ap (λ w. done ++ w) (sym walk) ∙ h,
+      ap (λ w. w ++ take (len - length now) later) f ∙ ap (λ k. (done ++ take left cell) ++ take k later) rest
+          ∙ append_assoc done (take left cell) (take (left - length cell) later) ∙ ap (λ w. done ++ w) (sym walk) ∙ h,
     )
 
 -- fewer of them are within too
@@ -66,14 +62,15 @@ pub rest_none : (size : ℕ) (xs : List ℕ) → length xs < size → drop (leng
 rest_none size xs h = drop_all (length xs) xs (omega arith) ∙ sym (drop_all size xs (omega arith))
 
 pub stored_more : (next : List ℕ) (n m at : ℕ) (bytes part later cell : List ℕ) (cells whole : List (List ℕ))
-    → n ≡ suc m
-    → stored next n at bytes cells ≡ whole → part ≡ take SIZE bytes → later ≡ drop SIZE bytes
-    → cell ≡ written part (get_or cells at [])
-    → stored next m (get_or next at 0) later (set cells at cell) ≡ whole
+    → n ≡ suc m → stored next n at bytes cells ≡ whole → part ≡ take SIZE bytes → later ≡ drop SIZE bytes
+    → cell ≡ written part (get_or cells at []) → stored next m (get_or next at 0) later (set cells at cell) ≡ whole
 stored_more next n m at bytes part later cell cells whole one h p l c = grind (arith, stored-step)
 
 pub appended : {E : Type 0} (r : Result (Unit {0}) E) (new old part : List ℕ)
-    → new ≡ (if is_ok r then old ++ part else old)
-    → OnOk r (new ≡ old ++ part)
+    → new ≡ (if is_ok r then old ++ part else old) → OnOk r (new ≡ old ++ part)
 appended (Ok x) new old part h = h
 appended (Err x) new old part h = tt
+
+-- ---- what `store` is proved by
+
+pub ruleset stored_told = (behind-step, stored_more, within-step)

@@ -37,6 +37,7 @@ fn split(bytes: &[u8]) -> (&[u8], &[u8])
 }
 
 /// Stores bytes in elements that follow each other, and answers which one comes behind them.
+#[tactic(auto, using(crate::proofs::WalkLaws::stored_told))]
 pub(crate) fn store(
     cells: &mut [[u8; SIZE]],
     next: &[u32],
@@ -63,6 +64,7 @@ pub(crate) fn store(
 }
 
 /// The last of elements that follow each other.
+#[tactic(auto, using(crate::proofs::WalkLaws::within_fewer))]
 pub(crate) fn last_of(next: &[u32], count: u32, head: u32) -> u32
     requires within { IsWithin next.now count head }
     requires some { 0 < count }
@@ -78,6 +80,7 @@ pub(crate) fn last_of(next: &[u32], count: u32, head: u32) -> u32
 }
 
 // Puts the bytes of an element behind others, or the first ones where no more are wanted.
+#[tactic(auto, using(std::proofs::lemmas::List::take_min, crate::proofs::WalkLaws::appended))]
 fn append(bytes: &mut Vec<u8>, cell: &[u8; SIZE], wanted: usize) -> Result<(), AllocError>
     ensures put { OnOk result (bytes.new.items ≡ bytes.old.items ++ take wanted cell.now) }
     ensures whole { length cell.now ≡ SIZE }

@@ -13,14 +13,12 @@ module _ {K : Type 0} where
     arith,
     sum_by-cons turns x xs,
     sum_by-cons turns w xs,
-    ap turns
-        (some-injective x v e),
+    ap turns (some-injective x v e),
   )
   turns-set (x ∷ xs) (suc i) v w e = omega (
     arith,
     sum_by-cons turns x xs,
-    sum_by-cons turns x
-        (set xs i w),
+    sum_by-cons turns x (set xs i w),
     turns-set xs i v w e,
   )
 
@@ -82,16 +80,14 @@ module _ {V K : Type 0} (stands : K → V → Type 0) (key : K) where
       → IsFree (stands key) s → Goes n id s (0 ∷ [])
   goes-free n id s all at free =
       let w : Stand K = stand_in_turn key in let moved = turns-set s.views id (stand_waiting key) w at in
-      let none_before =
-      free.1 in let there = free.2 in (
+      let none_before = free.1 in let there = free.2 in (
         w,
         takes 0 (Some there.0),
         ap (λ hs. get_elem? hs 0) there.1,
         (know-set key s.views id w all (knows key), inr (refl, omega arith, ap (λ hs. set hs 0 none) there.1)),
         (
           (λ _ k e. (refl, (there.0, refl, subst (λ x. stands x there.0) (same key k e) there.2))),
-          λ pos. absurd
-              (omega arith),
+          λ pos. absurd (omega arith),
         ),
       )
 
@@ -107,19 +103,16 @@ module _ {V K : Type 0} (stands : K → V → Type 0) (key : K) where
       )
 
   -- an attempt keeps the rule
-  pub tries : (n id : ℕ) (me : Mine) → me ≡ (stand_waiting key, [])
-      → Allows (Kept stands key) n id me 0 (λ found. either (eqb found 0) 1 found)
-      (Tries stands (step n 0 0 1 none) me)
-  tries n id me e = subst (λ (x : Mine). Allows (Kept stands key) n id x 0 (λ found. either (eqb found 0) 1 found)
-      (Tries stands (step n 0 0 1 none) x)) (sym e)
-      (λ s kept wide at _. ⊎_elim (λ (t : IsFree (stands key) s). subst (Goes n id s) (sym t.0)
-      (goes-free n id s kept.0 at t)) (λ (t : IsTaken s). subst (Goes n id s) (sym t.0)
-      (goes-taken n id s kept.0 at t)) kept.1)
+  pub tries : (n id : ℕ) (me : Mine) → me ≡ (stand_waiting key, []) → Allows (Kept stands key)
+      n id me 0 (λ found. either (eqb found 0) 1 found) (Tries stands (step n 0 0 1 none) me)
+  tries n id me e = subst (λ (x : Mine). Allows (Kept stands key)
+      n id x 0 (λ found. either (eqb found 0) 1 found) (Tries stands (step n 0 0 1 none) x))
+      (sym e) (λ s kept wide at _. ⊎_elim (λ (t : IsFree (stands key) s). subst (Goes n id s) (sym t.0) (goes-free
+      n id s kept.0 at t)) (λ (t : IsTaken s). subst (Goes n id s) (sym t.0) (goes-taken n id s kept.0 at t)) kept.1)
 
   -- a seat that has the turn gives a value back that stands to the key
   pub gives-back : (n id : ℕ) (me : Mine) (value : V) → me.0.turns ≡ 1 → me.1 ≡ (0, Some value) ∷ []
-      → stands key value
-      → Allows (Kept stands key) n id me 0 (λ _. 0) (λ _ after. after.0.turns ≡ 0)
+      → stands key value → Allows (Kept stands key) n id me 0 (λ _. 0) (λ _ after. after.0.turns ≡ 0)
   gives-back n id me value one out ok s kept wide at _ =
       let w : Stand K = stand_waiting key in let moved = turns-set s.views id me.0 w at in (
         w,
@@ -133,8 +126,7 @@ module _ {V K : Type 0} (stands : K → V → Type 0) (key : K) where
                 ap (λ ws. set ws 0 0) t.0,
                 omega arith,
                 (value, ap (put_back s.homes) out ∙ ap (λ hs. set hs 0 (some (Some value))) t.2, ok),
-              ))
-              kept.1,
+              )) kept.1,
         ),
         refl,
       )

@@ -4,18 +4,16 @@ use Rattle.cf_types.proofs.Imports.{◌≡◌, ◌≢◌, ℕ, zero, suc, ◌+�
 -- ---- the connectors of a range that pass a test
 
 -- tests that agree in the range keep the same ones
-pub filter_agree_from : (p q : ConnId → Bool) (first n : ℕ) → ((c : ConnId) → first ≤ c.0 → c.0 < first + n
-    → p c ≡ q c)
-    → filter p (conns_from first n) ≡ filter q (conns_from first n)
+pub filter_agree_from : (p q : ConnId → Bool) (first n : ℕ) → ((c : ConnId) → first ≤ c.0
+    → c.0 < first + n → p c ≡ q c) → filter p (conns_from first n) ≡ filter q (conns_from first n)
 unfolding conns_from
 filter_agree_from p q first zero agree = refl
 filter_agree_from p q first (suc n) agree =
     grind (arith, filter_agree_from p q (first + 1) n (λ c low high. agree c (omega arith) (omega arith)))
 
 -- nobody passes
-pub filter_none_from : (p : ConnId → Bool) (first n : ℕ) → ((c : ConnId) → first ≤ c.0 → c.0 < first + n
-    → p c ≡ false)
-    → filter p (conns_from first n) ≡ []
+pub filter_none_from : (p : ConnId → Bool) (first n : ℕ)
+    → ((c : ConnId) → first ≤ c.0 → c.0 < first + n → p c ≡ false) → filter p (conns_from first n) ≡ []
 unfolding conns_from
 filter_none_from p first zero none = refl
 filter_none_from p first (suc n) none =
@@ -29,9 +27,8 @@ is_member-below p conn first zero below = refl
 is_member-below p conn first (suc n) below = grind (arith, ne_eqb, is_member-below p conn (first + 1) n (omega arith))
 
 -- one in the range is among them where it passes
-is_member-first : (p : ConnId → Bool) (conn : ConnId) (first n : ℕ) → first ≡ conn.0 → (b : Bool)
-    → is_member conn (cond b (record { 0 = first } ∷ filter p (conns_from (first + 1) n))
-    (filter p (conns_from (first + 1) n))) ≡ b
+is_member-first : (p : ConnId → Bool) (conn : ConnId) (first n : ℕ) → first ≡ conn.0 → (b : Bool) → is_member conn
+    (cond b (record { 0 = first } ∷ filter p (conns_from (first + 1) n)) (filter p (conns_from (first + 1) n))) ≡ b
 is_member-first p conn first n here true = rw (eq-eqb first conn.0 here) refl
 is_member-first p conn first n here false = is_member-below p conn (first + 1) n (omega arith)
 
@@ -47,8 +44,7 @@ is_member-from p conn first zero low high = absurd (omega arith)
 is_member-from p conn first (suc n) low high =
     let c : ConnId = record { 0 = first } in
     let at : ℕ → ConnId = λ n. record { 0 = n } in
-    ⊎_elim (λ (here : first ≡ conn.0). is_member-first p conn first n here (p c) ∙ ap (λ (k : ℕ). p (at k)) here)
-    (λ (apart : first ≢ conn.0). is_member-later conn c _ apart (p c)
+    ⊎_elim (λ here. is_member-first p _ _ n here _ ∙ ap (λ k. p (at k)) here) (λ apart. is_member-later _ c _ apart _
     ∙ is_member-from p conn (first + 1) n (omega arith) (omega arith)) (cases_eq first conn.0)
 
 -- ---- a member more
@@ -71,12 +67,11 @@ with_member-later : (conn c : ConnId) (now others : List ConnId) → c.0 < conn.
 with_member-later conn c now others low is true = rw (lt-ltb c.0 conn.0 low) (ap (λ (t : List ConnId). c ∷ t) is)
 with_member-later conn c now others low is false = is
 
-with_member-first : (p q : ConnId → Bool) (conn : ConnId) (first n : ℕ) → first ≡ conn.0 → q conn ≡ true
-    → filter q (conns_from (first + 1) n) ≡ filter p (conns_from (first + 1) n)
+with_member-first : (p q : ConnId → Bool) (conn : ConnId) (first n : ℕ)
+    → first ≡ conn.0 → q conn ≡ true → filter q (conns_from (first + 1) n) ≡ filter p (conns_from (first + 1) n)
     → cond (q (record { 0 = first })) (record { 0 = first } ∷ filter q (conns_from (first + 1) n))
-    (filter q (conns_from (first + 1) n)) ≡ with_member conn
-    (cond (p (record { 0 = first })) (record { 0 = first } ∷ filter p (conns_from (first + 1) n))
-    (filter p (conns_from (first + 1) n)))
+    (filter q (conns_from (first + 1) n)) ≡ with_member conn (cond (p (record { 0 = first }))
+    (record { 0 = first } ∷ filter p (conns_from (first + 1) n)) (filter p (conns_from (first + 1) n)))
 with_member-first p q conn first n here one rest = grind (arith, with_member-here)
 
 -- where one of the range passes besides
@@ -90,17 +85,13 @@ with_member-from p q conn first (suc n) low high one same =
     let others : filter q (conns_from (first + 1) n) ≡ filter p (conns_from (first + 1) n) → first ≡ conn.0
     → cond (q c) (c ∷ filter q (conns_from (first + 1) n)) (filter q (conns_from (first + 1) n))
     ≡ with_member conn (cond (p c) (c ∷ filter p (conns_from (first + 1) n))
-    (filter p (conns_from (first + 1) n))) = λ rest here. with_member-first p q conn first n here one rest in
+    (filter p (conns_from (first + 1) n))) = λ rest here. with_member-first p q _ _ n here one rest in
     let later : first < conn.0 → cond (q c) (c ∷ filter q (conns_from (first + 1) n))
-    (filter q (conns_from (first + 1) n)) ≡ with_member conn
-    (cond (p c) (c ∷ filter p (conns_from (first + 1) n)) (filter p (conns_from (first + 1) n))) =
-    λ before. rw (same c (λ (e : first ≡ conn.0). omega arith))
-    (with_member-later conn c _ _ before (with_member-from p q conn (first + 1) n (omega arith)
-    (omega arith) one same) (p c)) in
-    ⊎_elim (λ (here : first ≡ conn.0). others (filter_agree_from q p (first + 1) n
-    (λ c low high. same c (λ (e : c.0 ≡ conn.0). omega arith))) here)
-    (λ (o : (first < conn.0) ⊎ (conn.0 < first)). ⊎_elim later (λ (h : conn.0 < first). absurd (omega arith)) o)
-    (cases_order first conn.0)
+    (filter q (conns_from (first + 1) n)) ≡ with_member conn (cond (p c) (c ∷ filter p (conns_from (first + 1) n))
+    (filter p (conns_from (first + 1) n))) = λ before. rw (same c (λ e. omega arith)) (with_member-later
+    _ c _ _ before (with_member-from p q conn (first + 1) n (omega arith) (omega arith) one same) _) in
+    ⊎_elim (λ here. others (filter_agree_from q p _ n (λ c low high. same c (λ e. omega arith))) here)
+    (λ o. ⊎_elim later (λ h. absurd (omega arith)) o) (cases_order first conn.0)
 
 -- ---- a member less
 
@@ -136,16 +127,14 @@ with_member-last p conn first zero above = refl
 with_member-last p conn first (suc n) above =
     grind (arith, lt-ltb, with_member-last p conn (first + 1) n (omega arith))
 
-filter-one : (p : ConnId → Bool) (conn : ConnId) (n : ℕ) → n ≤ conn.0 → (b : Bool)
-    → filter p (conns_from 0 n) ++ cond b (conn ∷ []) []
-    ≡ cond b (with_member conn (filter p (conns_from 0 n))) (filter p (conns_from 0 n))
+filter-one : (p : ConnId → Bool) (conn : ConnId) (n : ℕ) → n ≤ conn.0 → (b : Bool) → filter p (conns_from 0 n) ++ cond
+    b (conn ∷ []) [] ≡ cond b (with_member conn (filter p (conns_from 0 n))) (filter p (conns_from 0 n))
 filter-one p conn n above true = sym (with_member-last p conn 0 n (omega arith))
 filter-one p conn n above false = append-nil (filter p (conns_from 0 n))
 
 -- the first n and one more
-pub filter-from_zero_more : (p : ConnId → Bool) (n : ℕ)
-    → filter p (conns_from 0 (n + 1)) ≡ cond (p (record { 0 = n }))
-    (with_member (record { 0 = n }) (filter p (conns_from 0 n))) (filter p (conns_from 0 n))
+pub filter-from_zero_more : (p : ConnId → Bool) (n : ℕ) → filter p (conns_from 0 (n + 1)) ≡ cond
+    (p (record { 0 = n })) (with_member (record { 0 = n }) (filter p (conns_from 0 n))) (filter p (conns_from 0 n))
 filter-from_zero_more p n =
     let conn : ConnId = record { 0 = n } in
     let more : conns_from 0 (n + 1) ≡ conns_from 0 n ++ conn ∷ [] = rw (add-one, conns_from-suc 0 n, zero-add n) refl
@@ -166,19 +155,16 @@ is_member-members bits conn within = is_member-from (λ c. bit_at bits c.0 == 1)
 pub members-set : (bits : ℕ) (conn : ConnId) → conn.0 < SET_NUMBERS
     → members (bit_or bits (1 * 2 ^ conn.0 % 2 ^ SET_NUMBERS)) ≡ with_member conn (members bits)
 unfolding members
-members-set bits conn within =
-    with_member-from (λ c. bit_at bits c.0 == 1) (λ c. bit_at (bit_or bits (1 * 2 ^ conn.0 % 2 ^ SET_NUMBERS)) c.0 == 1) conn 0
-    SET_NUMBERS (omega arith) within (rw (bit_at_set_same w128 bits conn.0 within) refl)
-    (λ c apart. rw (bit_at_set_other w128 bits conn.0 within c.0 apart) refl)
+members-set bits conn within = with_member-from (λ c. bit_at bits c.0 == 1) (λ c. bit_at (bit_or
+    bits (1 * 2 ^ conn.0 % 2 ^ SET_NUMBERS)) c.0 == 1) conn 0 SET_NUMBERS (omega arith) within (rw (bit_at_set_same
+    w128 bits conn.0 within) refl) (λ c apart. rw (bit_at_set_other w128 bits conn.0 within c.0 apart) refl)
 
 pub members-clear : (bits : ℕ) (conn : ConnId) → conn.0 < SET_NUMBERS
     → members (bit_and bits (bit_not w128 (1 * 2 ^ conn.0 % 2 ^ SET_NUMBERS))) ≡ without_member conn (members bits)
 unfolding members
-members-clear bits conn within =
-    without_member-from (λ c. bit_at bits c.0 == 1)
-    (λ c. bit_at (bit_and bits (bit_not w128 (1 * 2 ^ conn.0 % 2 ^ SET_NUMBERS))) c.0 == 1) conn 0 SET_NUMBERS
-    (rw (bit_at_clear_same w128 bits conn.0 within) refl)
-    (λ c apart high. rw (bit_at_clear_other w128 bits conn.0 within c.0 high apart) refl)
+members-clear bits conn within = without_member-from (λ c. bit_at bits c.0 == 1) (λ c. bit_at (bit_and
+    bits (bit_not w128 (1 * 2 ^ conn.0 % 2 ^ SET_NUMBERS))) c.0 == 1) conn 0 SET_NUMBERS (rw (bit_at_clear_same w128
+    bits conn.0 within) refl) (λ c apart high. rw (bit_at_clear_other w128 bits conn.0 within c.0 high apart) refl)
 
 length-first : (c : ConnId) (others : List ConnId) (bit : ℕ) → bit < 2
     → length (cond (bit == 1) (c ∷ others) others) ≡ bit + length others
@@ -200,11 +186,9 @@ count_ones-from bits first (suc n) =
     let others : count_ones (bits / 2 ^ first / 2 % 2 ^ n)
     ≡ length (filter (λ conn. bit_at bits conn.0 == 1) (conns_from (first + 1) n)) =
     rw (shr-shr bits first 1) (count_ones-from bits (first + 1) n) in
-    let whole : bits / 2 ^ first % 2 ^ (n + 1) ≡ (bits / 2 ^ first / 2 % 2 ^ n) * 2 + bit_at bits first =
-    mod-pow-add (bits / 2 ^ first) n 1 in
-    rw (← add-one n) (count_ones-low (bits / 2 ^ first / 2 % 2 ^ n) (bit_at bits first)
-    (bits / 2 ^ first % 2 ^ (n + 1)) whole (bit_at-lt bits first) ∙ ap (λ (k : ℕ). bit_at bits first + k) others
-    ∙ sym (length-first (record { 0 = first }) _ (bit_at bits first) (bit_at-lt bits first)))
+    let whole = mod-pow-add (bits / 2 ^ first) n 1 in
+    rw (← add-one n) (count_ones-low _ _ _ whole (bit_at-lt bits first)
+    ∙ ap (λ k. bit_at bits first + k) others ∙ sym (length-first _ _ _ (bit_at-lt bits first)))
 
 pub length-members : (bits : ℕ) → bits < 2 ^ SET_NUMBERS → count_ones bits ≡ length (members bits)
 unfolding members
@@ -220,11 +204,11 @@ bit_tested bit p small some = ⊎_elim (λ (one : bit ≡ 1). rw (one, ne_eqb (1
 pub has_bit : (bits : ℕ) (conn : ConnId) → conn.0 < SET_NUMBERS
     → not (bit_and bits (1 * 2 ^ conn.0 % 2 ^ SET_NUMBERS) == 0) ≡ is_member conn (members bits)
 has_bit bits conn within =
-    rw (one_shl conn.0 SET_NUMBERS within, and_pow bits conn.0)
-    (bit_tested (bit_at bits conn.0) (2 ^ conn.0) (bit_at-lt bits conn.0) (pow_pos conn.0)
-    ∙ sym (is_member-members bits conn within))
+    rw (one_shl conn.0 SET_NUMBERS within, and_pow bits conn.0) (bit_tested (bit_at bits conn.0)
+    (2 ^ conn.0) (bit_at-lt bits conn.0) (pow_pos conn.0) ∙ sym (is_member-members bits conn within))
 
-pub bits_set-lt : (bits : ℕ) (conn : ConnId) → bits < 2 ^ SET_NUMBERS → bit_or bits (1 * 2 ^ conn.0 % 2 ^ SET_NUMBERS) < 2 ^ SET_NUMBERS
+pub bits_set-lt : (bits : ℕ) (conn : ConnId)
+    → bits < 2 ^ SET_NUMBERS → bit_or bits (1 * 2 ^ conn.0 % 2 ^ SET_NUMBERS) < 2 ^ SET_NUMBERS
 bits_set-lt bits conn small = or_lt SET_NUMBERS _ _ small (omega arith)
 
 -- ---- members of a set with one more, or one less

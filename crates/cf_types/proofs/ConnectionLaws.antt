@@ -15,8 +15,7 @@ state_of-set_same conns conn state within = state_of-get_or (set conns conn.0 st
 
 -- the same past the last place, where there is nothing to set
 state_of-set : (conns : Connections) (conn : ConnId) (state : Option ConnState)
-    → (length conns ≤ conn.0 → state ≡ None)
-    → state_of (slice_set conns conn.0 state) conn ≡ state
+    → (length conns ≤ conn.0 → state ≡ None) → state_of (slice_set conns conn.0 state) conn ≡ state
 state_of-set conns conn state past =
     grind (arith, ⊎_elim, state_of-set_same, state_of-get_or, get_or_past, length-set, cases_lt)
 
@@ -101,9 +100,8 @@ is_active-with_departure_same conn keep conns within =
 
 pub is_active-with_departure_other : (conn : ConnId) (keep : Bool) (conns : Connections) (other : ConnId)
     → other.0 ≢ conn.0 → is_active (with_departure conn keep conns) other ≡ is_active conns other
-is_active-with_departure_other conn keep conns other apart =
-    ap is_active_state (state_of-with_departure_other conn keep conns other apart)
-    ∙ is_active-excused_state conn (state_of conns other)
+is_active-with_departure_other conn keep conns other apart = ap is_active_state
+    (state_of-with_departure_other conn keep conns other apart) ∙ is_active-excused_state conn (state_of conns other)
 
 pub is_active-with_answer : (by about : ConnId) (conns : Connections) (conn : ConnId)
     → is_active (with_answer by about conns) conn ≡ is_active conns conn
@@ -113,16 +111,13 @@ is_active-with_answer by about conns conn =
 pub actives-with_departure : (conn : ConnId) (keep : Bool) (conns : Connections) → conn.0 < length conns
     → actives (with_departure conn keep conns) ≡ without_member conn (actives conns)
 unfolding actives
-actives-with_departure conn keep conns within =
-    without_member-from (is_active conns) (is_active (with_departure conn keep conns)) conn 0 CALLERS
-    (is_active-with_departure_same conn keep conns within)
-    (λ c apart high. is_active-with_departure_other conn keep conns c apart)
+actives-with_departure conn keep conns within = without_member-from _ _
+    _ 0 _ (is_active-with_departure_same _ _ _ within) (λ c apart high. is_active-with_departure_other _ _ _ c apart)
 
 pub actives-with_answer : (by about : ConnId) (conns : Connections)
     → actives (with_answer by about conns) ≡ actives conns
 unfolding actives
-actives-with_answer by about conns = filter_agree_from (is_active (with_answer by about conns)) (is_active conns) 0 CALLERS
-    (λ c low high. is_active-with_answer by about conns c)
+actives-with_answer by about conns = filter_agree_from _ _ 0 _ (λ c low high. is_active-with_answer _ _ _ c)
 
 -- whoever is forced away wasn't active
 pub actives-with_forced : (conn : ConnId) (conns : Connections) → is_active conns conn ≡ false

@@ -54,17 +54,14 @@ difference_changed false true h = refl
 difference_changed true false h = refl
 difference_changed true true h = absurd (h refl)
 
-told_one : (by conn : ConnId) (index i : ℕ) (before after : Bits)
-    → (before by index ≡ after by index → ⊥)
-    → ((by.0 == conn.0) && (index == i) ≡ false → after conn i ≡ before conn i)
-    → bits_told (record { conn = by; index = index; bit = after by index } ∷ []) conn i ≡ difference (before conn i)
-    (after conn i)
+told_one : (by conn : ConnId) (index i : ℕ) (before after : Bits) → (before by index ≡ after by index → ⊥)
+    → ((by.0 == conn.0) && (index == i) ≡ false → after conn i ≡ before conn i) → bits_told (record
+    { conn = by; index = index; bit = after by index } ∷ []) conn i ≡ difference (before conn i) (after conn i)
 told_one by conn index i before after changed others =
     grind (arith, both_left, both_right, difference_changed, difference_none)
 
 -- one bit changed, and is told
-pub gains_one : (by : ConnId) (index : ℕ) (before after : Bits) (bits : List BitChange)
-    → (before by index ≡ after by index → ⊥)
-    → ((conn : ConnId) (i : ℕ) → (by.0 == conn.0) && (index == i) ≡ false → after conn i ≡ before conn i)
+pub gains_one : (by : ConnId) (index : ℕ) (before after : Bits) (bits : List BitChange) → (before by index ≡ after by
+    index → ⊥) → ((conn : ConnId) (i : ℕ) → (by.0 == conn.0) && (index == i) ≡ false → after conn i ≡ before conn i)
     → Gains before after bits (bits ++ record { conn = by; index = index; bit = after by index } ∷ [])
 gains_one by index before after bits changed others = grind (arith, told_one)

@@ -14,8 +14,7 @@ pub same_resource-eq : (a b : Resource) → same_resource a b ≡ true → a ≡
 same_resource-eq a b h =
     let parts = and_parts (same_name a.name b.name) (a.hash == b.hash) h in
     let made : Name16 → ℕ → Resource = λ (name : Name16) (hash : ℕ). record { name = name; hash = hash } in
-    ap (λ (name : Name16). made name a.hash) (same_name-eq a.name b.name parts.0)
-    ∙ ap (made b.name) (eqb-true a.hash b.hash parts.1)
+    ap (λ name. made name a.hash) (same_name-eq _ _ parts.0) ∙ ap (made b.name) (eqb-true a.hash b.hash parts.1)
 
 pub same_resource-refl : (a : Resource) → same_resource a a ≡ true
 same_resource-refl a =
@@ -69,9 +68,8 @@ equal_number : (m n : ℕ) → is_eq (nat_cmp m n) ≡ (m == n)
 equal_number m n = grind (arith, nat_tests)
 
 equal_bytes : (xs ys : List ℕ) → is_eq (slice_cmp nat_cmp xs ys) ≡ pointwise nat_eq xs ys
-equal_bytes xs ys =
-    same_from_slice_cmp nat_cmp is_eq (pointwise nat_eq) refl (λ _ _. refl) (λ _ _. refl)
-    (λ x y xs ys o h. grind (arith, nat_tests)) xs ys (slice_cmp nat_cmp xs ys) refl
+equal_bytes xs ys = same_from_slice_cmp nat_cmp is_eq (pointwise nat_eq)
+    refl (λ _ _. refl) (λ _ _. refl) (λ x y xs ys o h. grind (arith, nat_tests)) xs ys (slice_cmp nat_cmp xs ys) refl
 
 -- two resources are the same where neither comes before the other
 pub same_resource-is : (a b : Resource) → same_resource a b ≡ is_eq (resource_cmp a b)
@@ -85,12 +83,10 @@ same_resource_comm a b = go (same_resource a b) (same_resource b a) refl refl
     go : (s t : Bool) → same_resource a b ≡ s → same_resource b a ≡ t → s ≡ t
     go true true e f = refl
     go false false e f = refl
-    go true false e f =
-        absurd (false≢true (sym f ∙ subst (λ c. same_resource b c ≡ true) (sym (same_resource-eq a b e))
-        (same_resource-refl b)))
-    go false true e f =
-        absurd (false≢true (sym e ∙ subst (λ c. same_resource a c ≡ true) (sym (same_resource-eq b a f))
-        (same_resource-refl a)))
+    go true false e f = absurd (false≢true
+        (sym f ∙ subst (λ c. same_resource b c ≡ true) (sym (same_resource-eq a b e)) (same_resource-refl b)))
+    go false true e f = absurd (false≢true
+        (sym e ∙ subst (λ c. same_resource a c ≡ true) (sym (same_resource-eq b a f)) (same_resource-refl a)))
 
 pub same_part_comm : (a b : Part) → same_part a b ≡ same_part b a
 same_part_comm a b = grind (arith, same_resource_comm, nat_tests)

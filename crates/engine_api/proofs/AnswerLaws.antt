@@ -9,21 +9,20 @@ module _ {C R I S : Type 0} (meaning : Meaning C R I S) (form : StrForm) where
   read-push history entry = fold_push (read_entry meaning form) (begun (opening meaning form)) history entry
 
   from-append : (reading : Reading (Machine S)) (xs ys : List (Entry C R)) (cf : CfId)
-      → answers_from meaning form reading (xs ++ ys) cf
-      ≡ answers_from meaning form reading xs cf ++ answers_from meaning form (fold (read_entry meaning form) reading xs) ys cf
+      → answers_from meaning form reading (xs ++ ys) cf ≡ answers_from meaning form reading
+      xs cf ++ answers_from meaning form (fold (read_entry meaning form) reading xs) ys cf
   from-append reading [] ys cf = refl
   from-append reading (x ∷ xs) ys cf =
       grind (arith, append_assoc, from-append (read_entry meaning form reading x) xs ys cf)
 
   -- the answers of a history begin with those of a front of it
-  pub answers-append : (xs ys : List (Entry C R)) (cf : CfId)
-      → answers meaning form (xs ++ ys) cf
-      ≡ answers meaning form xs cf ++ answers_from meaning form (read_all meaning form xs) ys cf
+  pub answers-append : (xs ys : List (Entry C R)) (cf : CfId) → answers meaning form (xs ++ ys)
+      cf ≡ answers meaning form xs cf ++ answers_from meaning form (read_all meaning form xs) ys cf
   answers-append xs ys cf = from-append (begun (opening meaning form)) xs ys cf
 
   answers-push : (history : List (Entry C R)) (entry : Entry C R) (cf : CfId)
-      → answers meaning form (history ++ entry ∷ []) cf
-      ≡ answers meaning form history cf ++ answers_in meaning form (read_all meaning form history) entry.by entry.what cf
+      → answers meaning form (history ++ entry ∷ []) cf ≡ answers
+      meaning form history cf ++ answers_in meaning form (read_all meaning form history) entry.by entry.what cf
   answers-push history entry cf = grind (arith, answers-append, append-nil)
 
   -- ---- marks
@@ -31,10 +30,9 @@ module _ {C R I S : Type 0} (meaning : Meaning C R I S) (form : StrForm) where
   abbrev at : Machine S → List CfId → Machine S → Reading (Machine S)
   at began marks now = record { began = began; marks = marks; now = now }
 
-  read-marks : (marks some : List CfId) (history : List (Entry C R)) (began : Machine S)
-      → read_all meaning form history ≡ at began some (replay meaning form history)
-      → read_all meaning form (with_marks meaning form history marks)
-      ≡ at began (some ++ marks) (replay meaning form (with_marks meaning form history marks))
+  read-marks : (marks some : List CfId) (history : List (Entry C R)) (began : Machine S) → read_all
+      meaning form history ≡ at began some (replay meaning form history) → read_all meaning form (with_marks meaning
+      form history marks) ≡ at began (some ++ marks) (replay meaning form (with_marks meaning form history marks))
   read-marks [] some history began e =
       e ∙ ap (λ (all : List CfId). at began all (replay meaning form history)) (sym (append-nil some))
   read-marks (cf ∷ marks) some history began e =
@@ -74,9 +72,8 @@ module _ {C R I S : Type 0} (meaning : Meaning C R I S) (form : StrForm) where
 
   -- a turn adds the answers of the links that its call asks
   pub answers-turn : (history : List (Entry C R)) (turn : Turn C) (cf : CfId) → IsAtGroup history
-      → answers meaning form (after_turn meaning form history turn) cf
-      ≡ answers meaning form history cf
-      ++ answers_to turn.down (links_asked meaning form (replay meaning form history) turn.by turn.ask) cf
+      → answers meaning form (after_turn meaning form history turn) cf ≡ answers meaning form
+      history cf ++ answers_to turn.down (links_asked meaning form (replay meaning form history) turn.by turn.ask) cf
   answers-turn history turn cf e = grind (arith, answers-push, read-marked, answers-marks, answers_marked)
 
   -- ---- how many marks there are
@@ -103,7 +100,8 @@ module _ {C R I S : Type 0} (meaning : Meaning C R I S) (form : StrForm) where
       marks-marks marks (with_mark meaning form history mark) cf in
       omega arith
 
-  pub asked_distinct : (cause : Option Refusal) (asks : Asks) → (let it = asked_unless cause asks in AreDistinct it.links)
+  pub asked_distinct : (cause : Option Refusal) (asks : Asks)
+      → (let it = asked_unless cause asks in AreDistinct it.links)
   asked_distinct None asks = distinct_apart asks.links
   asked_distinct (Some refusal) asks = tt
 
@@ -115,22 +113,20 @@ module _ {C R I S : Type 0} (meaning : Meaning C R I S) (form : StrForm) where
 
   counted-turn : (cf : CfId) (history : List (Entry C R)) (turn : Turn C) → AreCounted cf history
       → AreCounted cf (after_turn meaning form history turn)
-  counted-turn cf history turn counted =
-      grind (
-        arith,
-        marks-append,
-        times,
-        marks-marks,
-        marked_once,
-        asked_distinct,
-        answers-turn,
-        trues-append,
-        group-turn,
-      )
+  counted-turn cf history turn counted = grind (
+    arith,
+    marks-append,
+    times,
+    marks-marks,
+    marked_once,
+    asked_distinct,
+    answers-turn,
+    trues-append,
+    group-turn,
+  )
 
   -- a history has as many marks of a facility as its link answered Down
   pub marks_counted : (history : List (Entry C R)) → IsLegal meaning form history → (cf : CfId)
       → marks_at history cf ≡ trues (answers meaning form history cf)
-  marks_counted history legal cf =
-      (by_turns meaning form (AreCounted cf) (refl, refl) (λ h turn fine counted. counted-turn cf h turn counted) history
-      legal).1
+  marks_counted history legal cf = (by_turns meaning form (AreCounted cf)
+      (refl, refl) (λ h turn fine counted. counted-turn cf h turn counted) history legal).1

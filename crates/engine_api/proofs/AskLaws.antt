@@ -112,12 +112,10 @@ apart_few [] = omega arith
 apart_few (x ∷ xs) = grind (arith, filter_few, apart_few xs)
 
 two_listed : (first second : Option CfId) → length (listed first ++ listed second) ≤ 2
-two_listed None None = omega arith
-two_listed None (Some b) = omega arith
-two_listed (Some a) None = omega arith
-two_listed (Some a) (Some b) = omega arith
+two_listed first second = grind arith
 
-two_of_command : (shell : Shell) (command : ShellCmd) → (let asks = asks_of_command shell command in length asks.links ≤ 2)
+two_of_command : (shell : Shell) (command : ShellCmd)
+    → (let asks = asks_of_command shell command in length asks.links ≤ 2)
 two_of_command shell (cmd.Copy n) = two_listed shell.instances.primary (fresh_of shell.rebuild)
 two_of_command shell command = omega arith
 

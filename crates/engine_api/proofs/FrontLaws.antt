@@ -32,9 +32,8 @@ module _ {C R I S : Type 0} (meaning : Meaning C R I S) (is_kind : Kind → Bool
         → IsContent shape caps state → Fits shape.kind (meaning.need (meaning.items shape state)) other
         → IsContent shape other (meaning.forget state)
     content-moved shape caps other state kind is fits =
-        subst (IsContent shape other) (laws.made_again shape caps state is)
-        (laws.content_front shape caps other state (meaning.items shape state) [] kind is
-        (sym (append-nil (meaning.items shape state))) fits)
+        subst (IsContent shape other) (laws.made_again shape caps state is) (laws.content_front shape
+        caps other state (meaning.items shape state) [] kind is (sym (append-nil (meaning.items shape state))) fits)
 
     module _ (shape : Shape) (state : S) (item : I) (next : IsNextItem meaning IsContent shape state item) where
       placed_so : made shape (meaning.items shape state ++ item ∷ []) ≡ meaning.place shape state item
@@ -44,9 +43,8 @@ module _ {C R I S : Type 0} (meaning : Meaning C R I S) (is_kind : Kind → Bool
       split = next.first ∙ sym (append_assoc (meaning.items shape state) (item ∷ []) next.others)
 
       -- with the next item, where that fits, there is a content
-      pub content-placed : (caps : Caps) → IsTrue (is_kind shape.kind)
-          → Fits shape.kind (meaning.need (meaning.items shape state ++ item ∷ [])) caps
-          → IsContent shape caps (meaning.place shape state item)
+      pub content-placed : (caps : Caps) → IsTrue (is_kind shape.kind) → Fits shape.kind (meaning.need
+          (meaning.items shape state ++ item ∷ [])) caps → IsContent shape caps (meaning.place shape state item)
       content-placed caps kind fits = grind (arith, placed_so, split)
 
   -- ---- from laws on one item
@@ -73,8 +71,7 @@ module _ {C R I S : Type 0} (meaning : Meaning C R I S) (is_kind : Kind → Bool
         → ComesNext shape caps state item
         → meaning.items shape (meaning.place shape state item) ≡ meaning.items shape state ++ item ∷ []
     pub unplace_place : (shape : Shape) (caps : Caps) (state : S) (item : I) → IsContent shape caps state
-        → ComesNext shape caps state item
-        → meaning.unplace shape (meaning.place shape state item) ≡ state
+        → ComesNext shape caps state item → meaning.unplace shape (meaning.place shape state item) ≡ state
 
   module _ (laws : PlaceLaws) where
     record IsFront (shape : Shape) (caps : Caps) (front : List I) : Type 0 where
@@ -96,38 +93,31 @@ module _ {C R I S : Type 0} (meaning : Meaning C R I S) (is_kind : Kind → Bool
       front_longer : (front rest others : List I) → meaning.items shape whole ≡ front ++ (rest ++ others)
           → IsFront shape caps front → IsFront shape caps (front ++ rest)
       front_longer front [] others split is = subst (IsFront shape caps) (sym (append-nil front)) is
-      front_longer front (item ∷ rest) others split is =
-          subst (IsFront shape caps) (append_assoc front (item ∷ []) rest)
-          (front_longer (front ++ item ∷ []) rest others
-          (split ∙ sym (append_assoc front (item ∷ []) (rest ++ others)))
-          (front_with front item (rest ++ others) split is))
+      front_longer front (item ∷ rest) others split is = subst (IsFront shape caps)
+          (append_assoc front (item ∷ []) rest) (front_longer (front ++ item ∷ []) rest others (split
+          ∙ sym (append_assoc front (item ∷ []) (rest ++ others))) (front_with front item (rest ++ others) split is))
 
       front_of : (front others : List I) → meaning.items shape whole ≡ front ++ others → IsFront shape caps front
       front_of front others split = front_longer [] front others split (no_front shape caps)
 
       -- what the first items make has no registrations
       forgotten : (front : List I) → IsFront shape caps front → meaning.forget (made shape front) ≡ made shape front
-      forgotten front is =
-          sym (laws.made_again shape caps (made shape front) is.content) ∙ ap (made shape) is.items
+      forgotten front is = sym (laws.made_again shape caps (made shape front) is.content) ∙ ap (made shape) is.items
 
-      moved_front : (other : Caps) (front others : List I) → IsTrue (is_kind shape.kind)
-          → meaning.items shape whole ≡ front ++ others → Fits shape.kind (meaning.need front) other
-          → IsContent shape other (made shape front)
+      moved_front : (other : Caps) (front others : List I) → IsTrue (is_kind shape.kind) → meaning.items shape whole
+          ≡ front ++ others → Fits shape.kind (meaning.need front) other → IsContent shape other (made shape front)
       moved_front other front others kind split fits = grind (arith, front_of, split, forgotten)
 
-      unplaced_front : (front : List I) (item : I) (others : List I)
-          → meaning.items shape whole ≡ front ++ item ∷ others
-          → meaning.unplace shape (made shape (front ++ item ∷ [])) ≡ made shape front
+      unplaced_front : (front : List I) (item : I) (others : List I) → meaning.items shape
+          whole ≡ front ++ item ∷ others → meaning.unplace shape (made shape (front ++ item ∷ [])) ≡ made shape front
       unplaced_front front item others split = grind (arith, front_of, split, made_push, next_of)
 
     pub fronts : FrontLaws
-    fronts =
-        record {
-          made_again = laws.made_again;
-          items_front = λ shape caps state front others is split.
-              (front_of shape caps state is front others split).items;
-          content_front = λ shape caps other state front others kind is split fits.
-              moved_front shape caps state is other front others kind split fits;
-          unplace_front = λ shape caps state front item others is split.
-              unplaced_front shape caps state is front item others split;
-        }
+    fronts = record {
+      made_again = laws.made_again;
+      items_front = λ shape caps state front others is split. (front_of shape caps state is front others split).items;
+      content_front = λ shape caps other state front others kind is split fits.
+          moved_front shape caps state is other front others kind split fits;
+      unplace_front = λ shape caps state front item others is split.
+          unplaced_front shape caps state is front item others split;
+    }

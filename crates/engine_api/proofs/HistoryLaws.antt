@@ -1,5 +1,5 @@
 -- Legal histories: what one more turn does to one, and what is known of each of its entries.
-use Rattle.engine_api.proofs.Imports.{◌≡◌, ℕ, zero, suc, ◌+◌, ◌<◌, ◌≤◌, inl, inr, List, [], ◌∷◌, ◌++◌, length, take, slice_get, Some, refl, sym, ap, subst, ◌∙◌, arith, append_assoc, append-nil, length-append, fold, take-append-le, length-take, fold_push, filter_map-append, CfId, What, Entry, StrForm, Meaning, opening, step, Call, Turn, call_of, calls, machine_after, replay, next_mark, next_entry, with_mark, with_marks, marks_by, after_turn, IsLegal, IsNext, IsNextAs, IsEachNext, Continues}
+use Rattle.engine_api.proofs.Imports.{◌≡◌, ℕ, zero, suc, ◌+◌, ◌<◌, ◌≤◌, inl, inr, List, [], ◌∷◌, ◌++◌, length, take, slice_get, Some, refl, sym, ap, subst, ◌∙◌, arith, append_assoc, append-nil, length-append, fold, take-append-le, length-take, slice_get_within, fold_push, filter_map-append, CfId, What, Entry, StrForm, Meaning, opening, step, Call, Turn, call_of, calls, machine_after, replay, next_mark, next_entry, with_mark, with_marks, marks_by, after_turn, IsLegal, IsNext, IsNextAs, IsEachNext, Continues}
 use Rattle.std.proofs.lemmas.List as lists
 use Rattle.engine_api.specs.declared.asks.What.TheVariants as what
 use Rattle.engine_api.proofs.Pushed.{Each, each_none, each_push, cut_push}
@@ -23,22 +23,20 @@ module _ {C R I S : Type 0} (meaning : Meaning C R I S) (form : StrForm) where
   -- one more turn leaves a legal history legal
   pub legal_turn : (history : List (Entry C R)) (turn : Turn C) → IsLegal meaning form history
       → IsLegal meaning form (after_turn meaning form history turn)
-  legal_turn history turn legal =
-      record {
-        turns = legal.turns ++ turn ∷ [];
-        made =
-            ap (λ (h : List (Entry C R)). after_turn meaning form h turn) legal.made
-            ∙ sym (fold_push (after_turn meaning form) [] legal.turns turn);
-      }
+  legal_turn history turn legal = record {
+    turns = legal.turns ++ turn ∷ [];
+    made = ap (λ (h : List (Entry C R)). after_turn meaning form h turn) legal.made
+        ∙ sym (fold_push (after_turn meaning form) [] legal.turns turn);
+  }
 
   -- what holds of no entries, and of one turn more, holds of a legal history
-  pub by_turns : (P : List (Entry C R) → Type 0) → P []
-      → ((history : List (Entry C R)) (turn : Turn C) → IsLegal meaning form history → P history
-      → P (after_turn meaning form history turn))
+  pub by_turns : (P : List (Entry C R) → Type 0) → P [] → ((history : List (Entry C R)) (turn : Turn C)
+      → IsLegal meaning form history → P history → P (after_turn meaning form history turn))
       → (history : List (Entry C R)) → IsLegal meaning form history → P history
   by_turns P none more history legal = subst P (sym legal.made) (go legal.turns [] legal_none none)
     where
-      go : (turns : List (Turn C)) (h : List (Entry C R)) → IsLegal meaning form h → P h → P (fold (after_turn meaning form) h turns)
+      go : (turns : List (Turn C)) (h : List (Entry C R)) → IsLegal meaning form h
+          → P h → P (fold (after_turn meaning form) h turns)
       go [] h fine p = p
       go (turn ∷ turns) h fine p =
           go turns (after_turn meaning form h turn) (legal_turn h turn fine) (more h turn fine p)
@@ -50,41 +48,30 @@ module _ {C R I S : Type 0} (meaning : Meaning C R I S) (form : StrForm) where
   by_marks P more [] history p = p
   by_marks P more (cf ∷ marks) history p = by_marks P more marks (with_mark meaning form history cf) (more history cf p)
 
-  pub by_entries : (P : List (Entry C R) → Type 0) → P []
-      → ((history : List (Entry C R)) (entry : Entry C R) → P history → IsNext meaning form history entry
-      → P (history ++ entry ∷ []))
-      → (history : List (Entry C R)) → IsLegal meaning form history → P history
-  by_entries P none more history legal =
-      by_turns P none (λ h turn fine p.
+  pub by_entries : (P : List (Entry C R) → Type 0)
+      → P [] → ((history : List (Entry C R)) (entry : Entry C R) → P history → IsNext meaning form history entry
+      → P (history ++ entry ∷ [])) → (history : List (Entry C R)) → IsLegal meaning form history → P history
+  by_entries P none more history legal = by_turns P none (λ h turn fine p.
       let marked : List (Entry C R) = with_marks meaning form h (marks_by meaning form turn.down h turn.by turn.ask) in
-      more marked (next_entry meaning form marked turn.by turn.ask)
-      (by_marks P (λ some cf q. more some (next_mark meaning form some cf) q refl)
-      (marks_by meaning form turn.down h turn.by turn.ask) h p) refl) history legal
+      more marked (next_entry meaning form marked turn.by turn.ask) (by_marks P (λ some cf q. more some (next_mark
+      meaning form some cf) q refl) (marks_by meaning form turn.down h turn.by turn.ask) h p) refl) history legal
 
   -- ---- each entry
 
   -- each entry is the next one of those before it
   pub each_next : (history : List (Entry C R)) → IsLegal meaning form history → IsEachNext meaning form history
-  each_next history legal =
-      by_entries (Each (IsNext meaning form)) (each_none (IsNext meaning form)) (each_push (IsNext meaning form)) history legal
+  each_next history legal = by_entries
+      (Each (IsNext meaning form)) (each_none (IsNext meaning form)) (each_push (IsNext meaning form)) history legal
 
-  number-next : (history : List (Entry C R)) (entry : Entry C R) (told : What C) → IsNextAs meaning form history entry told
-      → entry.no ≡ length history + 1
+  number-next : (history : List (Entry C R)) (entry : Entry C R) (told : What C)
+      → IsNextAs meaning form history entry told → entry.no ≡ length history + 1
   number-next history entry (what.Call ask) e = ap (λ (it : Entry C R). it.no) e
   number-next history entry (what.Lost cf) e = ap (λ (it : Entry C R). it.no) e
-
-  within : {X : Type 0} (xs : List X) (i : ℕ) (x : X) → slice_get xs i ≡ Some x → i < length xs
-  within [] zero x e = absurd cc
-  within [] (suc i) x e = absurd cc
-  within (y ∷ xs) zero x e = omega arith
-  within (y ∷ xs) (suc i) x e = let more : i < length xs = within xs i x e in omega arith
 
   -- the numbers count from 1
   pub number_legal : (history : List (Entry C R)) → IsLegal meaning form history → (i : ℕ) (entry : Entry C R)
       → slice_get history i ≡ Some entry → entry.no ≡ i + 1
-  number_legal history legal i entry e = grind (arith, within, length-take, number-next, each_next)
-
-  -- ---- fronts
+  number_legal history legal i entry e = grind (arith, slice_get_within, length-take, number-next, each_next)
 
   -- ---- calls
 
@@ -123,12 +110,11 @@ module _ {C R I S : Type 0} (meaning : Meaning C R I S) (form : StrForm) where
 
   made_more : (history : List (Entry C R)) (entry : Entry C R) (front : List (Call C R)) (call : Call C R)
       → IsMade history front call → IsMade (history ++ entry ∷ []) front call
-  made_more history entry front call made = grind (arith, append_assoc, take-append-le, within, length-append)
+  made_more history entry front call made = grind (arith, append_assoc, take-append-le, length-append)
 
   abbrev AreMade : List (Entry C R) → Type 0
-  AreMade history =
-      (front : List (Call C R)) (call : Call C R) (more : List (Call C R)) → calls history ≡ front ++ call ∷ more
-      → IsMade history front call
+  AreMade history = (front : List (Call C R)) (call : Call C R) (more : List (Call C R))
+      → calls history ≡ front ++ call ∷ more → IsMade history front call
 
   none_made : AreMade []
   none_made [] call more e = absurd cc
@@ -164,14 +150,11 @@ module _ {C R I S : Type 0} (meaning : Meaning C R I S) (form : StrForm) where
         turn = turn;
         legal = fine;
         before = refl;
-        behind = (let added' = added_marks marks history in added'.0 ++ added ∷ []);
-        starts =
-            ap (λ (h : List (Entry C R)). h ++ added ∷ []) (let added' = added_marks marks history in added'.1)
-            ∙ append_assoc history (let added' = added_marks marks history in added'.0) (added ∷ []);
+        behind = (added_turn history turn).0;
+        starts = (added_turn history turn).1;
         is = refl;
-        up_to =
-            lists.take_all (length marked + 1) (marked ++ added ∷ [])
-            (omega (arith, length-append marked (added ∷ [])));
+        up_to = lists.take_all
+            (length marked + 1) (marked ++ added ∷ []) (omega (arith, length-append marked (added ∷ [])));
         within = omega (arith, length-append marked (added ∷ []));
       }
 
@@ -180,39 +163,30 @@ module _ {C R I S : Type 0} (meaning : Meaning C R I S) (form : StrForm) where
   made_later history turn front call made =
       let marks : List CfId = marks_by meaning form turn.down history turn.by turn.ask in
       let marked : List (Entry C R) = with_marks meaning form history marks in
-      made_more marked (next_entry meaning form marked turn.by turn.ask) front call
-      (by_marks (λ some. IsMade some front call) (λ some cf. made_more some (next_mark meaning form some cf) front call) marks
-      history made)
+      made_more marked (next_entry meaning form marked turn.by turn.ask) front call (by_marks (λ some. IsMade some
+      front call) (λ some cf. made_more some (next_mark meaning form some cf) front call) marks history made)
 
-  pub call_made : (history : List (Entry C R)) → IsLegal meaning form history
-      → (front : List (Call C R)) (call : Call C R) (more : List (Call C R)) → calls history ≡ front ++ call ∷ more
-      → IsMade history front call
-  call_made history legal =
-      by_turns AreMade none_made (λ h turn fine made front call more e.
-      elim (cut_push (calls h) (call_added h turn) front call more (sym (calls-turn h turn) ∙ e)) [
+  pub call_made : (history : List (Entry C R)) → IsLegal meaning form history → (front : List (Call C R))
+      (call : Call C R) (more : List (Call C R)) → calls history ≡ front ++ call ∷ more → IsMade history front call
+  call_made history legal = by_turns AreMade none_made (λ h turn fine made front call more e. elim (cut_push
+      (calls h) (call_added h turn) front call more (sym (calls-turn h turn) ∙ e)) [
         | inl old ↦ made_later h turn front call (made front call old.0 old.1)
         | inr here ↦ rw (here.0, here.1) (made_here h turn fine)
       ]) history legal
 
-  -- ---- a call before which no mark stands
-
-  -- ---- points
-
   -- ---- what continues a history
 
   abbrev FollowsEach : List (Entry C R) → List (Entry C R) → Type 0
-  FollowsEach history others =
-      (i : ℕ) (entry : Entry C R) → slice_get others i ≡ Some entry → IsNext meaning form (history ++ take i others)
-      entry
+  FollowsEach history others = (i : ℕ) (entry : Entry C R) → slice_get others i ≡ Some entry
+      → IsNext meaning form (history ++ take i others) entry
 
   continues_each : (history others : List (Entry C R)) → FollowsEach history others → Continues meaning form history
       others
   continues_each history [] each = tt
   continues_each history (entry ∷ others) each = (
     subst (λ (h : List (Entry C R)). IsNext meaning form h entry) (append-nil history) (each 0 entry refl),
-    continues_each (history ++ entry ∷ []) others (λ i other e.
-        subst (λ (h : List (Entry C R)). IsNext meaning form h other)
-        (sym (append_assoc history (entry ∷ []) (take i others))) (each (suc i) other e)),
+    continues_each (history ++ entry ∷ []) others (λ i other e. subst (λ (h : List (Entry C R)). IsNext meaning
+        form h other) (sym (append_assoc history (entry ∷ []) (take i others))) (each (suc i) other e)),
   )
 
   -- each entry of a legal history continues those before it

@@ -14,82 +14,77 @@ module _ {C R : Type 0} where
   numbered_none = grind arith
 
 module _ {C R I S : Type 0} (meaning : Meaning C R I S) (form : StrForm) where
-  -- the number of the call that a turn adds: marks may stand before it
-  abbrev pub number_added : List (Entry C R) → Turn C → ℕ
-  number_added history turn =
-      length (with_marks meaning form history (marks_by meaning form turn.down history turn.by turn.ask)) + 1
-
-  pub length-turn : (history : List (Entry C R)) (turn : Turn C)
-      → length (after_turn meaning form history turn) ≡ number_added history turn
-  length-turn history turn = grind (arith, length-append)
-
   length-marks : (marks : List CfId) (history : List (Entry C R))
       → length (with_marks meaning form history marks) ≡ length history + length marks
   length-marks [] history = omega arith
   length-marks (cf ∷ marks) history =
       grind (arith, length-append, length-marks marks (with_mark meaning form history cf))
 
-  pub number_past : (history : List (Entry C R)) (turn : Turn C) → length history < number_added history turn
-  number_past history turn =
-      omega (arith, length-marks (marks_by meaning form turn.down history turn.by turn.ask) history)
+  module _ (history : List (Entry C R)) (turn : Turn C) where
+    -- the number of the call that a turn adds: marks may stand before it
+    abbrev pub number_added : ℕ
+    number_added =
+        length (with_marks meaning form history (marks_by meaning form turn.down history turn.by turn.ask)) + 1
 
-  pub last_below-turn : (history : List (Entry C R)) (turn : Turn C) (n : ℕ) → n ≤ number_added history turn
-      → last_call_below (after_turn meaning form history turn) n ≡ last_call_below history n
-  last_below-turn history turn n low =
-      let call : Call C R = call_added meaning form history turn in
-      let is : nat_lt call.no n ≡ false = grind (arith, nat_tests) in
-      ap (fold last_number 0)
-      (ap (filter (λ (c : Call C R). nat_lt c.no n)) (calls-turn meaning form history turn)
-      ∙ below_push n (calls history) call false is
-      ∙ append-nil (filter (λ (c : Call C R). nat_lt c.no n) (calls history)))
+    pub length-turn : length (after_turn meaning form history turn) ≡ number_added
+    length-turn = grind (arith, length-append)
 
-  pub last_below-past : (history : List (Entry C R)) (turn : Turn C) (n : ℕ) → number_added history turn < n
-      → last_call_below (after_turn meaning form history turn) n ≡ number_added history turn
-  last_below-past history turn n past =
-      let call : Call C R = call_added meaning form history turn in
-      let is : nat_lt call.no n ≡ true = grind (arith, nat_tests) in
-      ap (fold last_number 0)
-      (ap (filter (λ (c : Call C R). nat_lt c.no n)) (calls-turn meaning form history turn)
-      ∙ below_push n (calls history) call true is)
-      ∙ fold_push last_number 0 (filter (λ (c : Call C R). nat_lt c.no n) (calls history)) call
+    pub number_past : length history < number_added
+    number_past = omega (arith, length-marks (marks_by meaning form turn.down history turn.by turn.ask) history)
 
-  pub point_cases : (history : List (Entry C R)) (turn : Turn C) (n : ℕ)
-      → IsPoint (after_turn meaning form history turn) n → IsPoint history n ⊎ (number_added history turn ≡ n)
-  point_cases history turn n (inl none) = inl (inl none)
-  point_cases history turn n (inr there) =
-      let all : numbers (after_turn meaning form history turn) ≡ numbers history ++ number_added history turn ∷ [] =
-      ap (map (λ (call : Call C R). call.no)) (calls-turn meaning form history turn)
-      ∙ map-append (λ (call : Call C R). call.no) (calls history) (call_added meaning form history turn ∷ []) in
-      elim (Contains-push_cases (numbers history) (number_added history turn) n
-      (subst (λ (ns : List ℕ). Contains ns n) all there)) [ inl old ↦ inl (inr old) | inr new ↦ inr new ]
+    pub last_below-turn : (n : ℕ) → n ≤ number_added
+        → last_call_below (after_turn meaning form history turn) n ≡ last_call_below history n
+    last_below-turn n low =
+        let call : Call C R = call_added meaning form history turn in
+        let is : nat_lt call.no n ≡ false = grind (arith, nat_tests) in
+        ap (fold last_number 0) (ap (filter (λ (c : Call C R). nat_lt c.no n)) (calls-turn meaning form history turn)
+        ∙ below_push n (calls history) call false is
+        ∙ append-nil (filter (λ (c : Call C R). nat_lt c.no n) (calls history)))
 
-  numbered_turn : (history : List (Entry C R)) (turn : Turn C) → IsNumbered history
-      → IsNumbered (after_turn meaning form history turn)
-  numbered_turn history turn was =
-      let number = number_added history turn in
-      let past : length history < number = number_past history turn in
-      let whole : length (after_turn meaning form history turn) ≡ number = length-turn history turn in
-      record {
-        within = λ n point. subst (λ (m : ℕ). n ≤ m) (sym whole) (
-            elim (point_cases history turn n point) [
-              | inl old ↦ let few = was.within n old in omega (arith, few, past)
-              | inr new ↦ omega (arith, new)
-            ]);
-        below = λ n. subst (λ (m : ℕ). last_call_below (after_turn meaning form history turn) n ≤ m) (sym whole) (
-            elim (cases_lt number n) [
-              | inl high ↦ let here = last_below-past history turn n high in omega (arith, here)
-              | inr low ↦
-                  let same = last_below-turn history turn n low in
-                  let few = was.below n in omega (arith, same, few, past)
-            ]);
-        ended = λ n behind.
-            last_below-past history turn n (subst (λ (m : ℕ). m < n) whole behind) ∙ sym whole;
-        points = λ n point. elim (point_cases history turn n point) [
-          | inl old ↦ let few = was.within n old in last_below-turn history turn (n + 1) (omega (arith, few, past))
-              ∙ was.points n old
-          | inr new ↦ last_below-past history turn (n + 1) (omega (arith, new)) ∙ new
-        ];
-      }
+    pub last_below-past : (n : ℕ) → number_added < n
+        → last_call_below (after_turn meaning form history turn) n ≡ number_added
+    last_below-past n past =
+        let call : Call C R = call_added meaning form history turn in
+        let is : nat_lt call.no n ≡ true = grind (arith, nat_tests) in
+        ap (fold last_number 0) (ap (filter (λ (c : Call C R). nat_lt c.no n)) (calls-turn meaning form history turn)
+        ∙ below_push n (calls history) call true is)
+        ∙ fold_push last_number 0 (filter (λ (c : Call C R). nat_lt c.no n) (calls history)) call
+
+    pub point_cases : (n : ℕ)
+        → IsPoint (after_turn meaning form history turn) n → IsPoint history n ⊎ (number_added ≡ n)
+    point_cases n (inl none) = inl (inl none)
+    point_cases n (inr there) =
+        let all : numbers (after_turn meaning form history turn) ≡ numbers history ++ number_added ∷ [] =
+        ap (map (λ (call : Call C R). call.no)) (calls-turn meaning form history turn)
+        ∙ map-append (λ (call : Call C R). call.no) (calls history) (call_added meaning form history turn ∷ []) in
+        elim (Contains-push_cases (numbers history) number_added n
+        (subst (λ (ns : List ℕ). Contains ns n) all there)) [ inl old ↦ inl (inr old) | inr new ↦ inr new ]
+
+    numbered_turn : IsNumbered history → IsNumbered (after_turn meaning form history turn)
+    numbered_turn was =
+        let number = number_added in
+        let past : length history < number = number_past in
+        let whole : length (after_turn meaning form history turn) ≡ number = length-turn in
+        record {
+          within = λ n point. subst (λ (m : ℕ). n ≤ m) (sym whole) (
+              elim (point_cases n point) [
+                | inl old ↦ let few = was.within n old in omega (arith, few, past)
+                | inr new ↦ omega (arith, new)
+              ]);
+          below = λ n. subst (λ (m : ℕ). last_call_below (after_turn meaning form history turn) n ≤ m) (sym whole) (
+              elim (cases_lt number n) [
+                | inl high ↦ let here = last_below-past n high in omega (arith, here)
+                | inr low ↦
+                    let same = last_below-turn n low in
+                    let few = was.below n in omega (arith, same, few, past)
+              ]);
+          ended = λ n behind. last_below-past n (subst (λ (m : ℕ). m < n) whole behind) ∙ sym whole;
+          points = λ n point. elim (point_cases n point) [
+            | inl old ↦ let few = was.within n old in last_below-turn (n + 1) (omega (arith, few, past))
+                ∙ was.points n old
+            | inr new ↦ last_below-past (n + 1) (omega (arith, new)) ∙ new
+          ];
+        }
 
   -- what the cell keeps of the numbers holds of each legal history
   pub numbered_legal : (history : List (Entry C R)) → IsLegal meaning form history → IsNumbered history
@@ -108,10 +103,10 @@ module _ {C R I S : Type 0} (meaning : Meaning C R I S) (form : StrForm) where
   rises_push low [] high call rises above = (omega (arith, rises), omega arith)
   rises_push low (first ∷ some) high call rises above = (rises.0, rises_push first.no some high call rises.1 above)
 
-  pub numbers_rise : (history : List (Entry C R)) → IsLegal meaning form history → RisesTo 0 (calls history) (length history)
-  numbers_rise history legal =
-      by_turns meaning form (λ h. RisesTo 0 (calls h) (length h)) (omega arith) (λ h turn fine rises.
-      rw (calls-turn meaning form h turn, length-turn h turn)
+  pub numbers_rise : (history : List (Entry C R))
+      → IsLegal meaning form history → RisesTo 0 (calls history) (length history)
+  numbers_rise history legal = by_turns meaning form (λ h. RisesTo 0 (calls h) (length h))
+      (omega arith) (λ h turn fine rises. rw (calls-turn meaning form h turn, length-turn h turn)
       (rises_push 0 (calls h) (length h) (call_added meaning form h turn) rises (number_past h turn))) history legal
 
   -- where a call asks two links at most, there are three entries a call at most
@@ -124,7 +119,8 @@ module _ {C R I S : Type 0} (meaning : Meaning C R I S) (form : StrForm) where
       let marks : List CfId = marks_of turn.down asks in
       let pair : length asks.links ≤ 2 = two (replay meaning form h) turn.by turn.ask in
       let all : length (with_marks meaning form h marks) ≡ length h + length marks = length-marks marks h in
-      let whole : length (after_turn meaning form h turn) ≡ length (with_marks meaning form h marks) + 1 = length-turn h turn in
+      let whole : length (after_turn meaning form h turn) ≡ length (with_marks meaning form h marks) + 1 =
+      length-turn h turn in
       let more : length (calls (after_turn meaning form h turn)) ≡ length (calls h) + 1 =
       ap length (calls-turn meaning form h turn) ∙ length-append (calls h) (call_added meaning form h turn ∷ []) in
       let fewer : length marks ≤ length asks.links = marks_few turn.down asks in

@@ -25,8 +25,7 @@ marks_made down asks = grind (arith, some_down, one_down)
 
 some_has : (ms xs : List CfId) (cf : CfId) → AreSome ms xs → has xs cf ≡ false → has ms cf ≡ false
 some_has ms [] cf some none = rw some refl
-some_has ms (x ∷ xs) cf some none =
-    go (x.0 == cf.0) refl none some (λ (ys : List CfId). some_has ys xs cf)
+some_has ms (x ∷ xs) cf some none = go (x.0 == cf.0) refl none some (λ (ys : List CfId). some_has ys xs cf)
   where
     go : (b : Bool) → x.0 == cf.0 ≡ b → b || has xs cf ≡ false
         → AreSome ms xs ⊎ ((rest : List CfId) × (ms ≡ x ∷ rest) × AreSome rest xs)
@@ -39,18 +38,17 @@ some_has ms (x ∷ xs) cf some none =
 marks_back : (stops : Bool) (d : CfId → Bool) (ms xs : List CfId) → AreDistinct xs → AreSome ms xs
     → (stops ≡ true → length ms ≤ 1) → Agree xs d (has ms) → filter d (reached stops d xs) ≡ ms
 marks_back stops d ms [] distinct some one agree = sym some
-marks_back stops d ms (x ∷ xs) distinct some one agree =
-    elim some [
-      | inl others ↦
-          let none : d x ≡ false = agree x (rw (itself x) refl) ∙ some_has ms xs x others distinct.0 in
-          let next : filter d (reached stops d xs) ≡ ms =
-          marks_back stops d ms xs distinct.1 others one (agree_tail x xs d (has ms) agree) in
-          passed stops none next
-      | inr here ↦
-          let down : d x ≡ true = agree x (rw (itself x) refl) ∙ rw (here.1, itself x) refl in
-          taken stops one here.0 here.1 down (λ (more : Agree xs d (has here.0)).
-          marks_back false d here.0 xs distinct.1 here.2 (λ h. absurd (let e : false ≡ true = h in cc)) more)
-    ]
+marks_back stops d ms (x ∷ xs) distinct some one agree = elim some [
+  | inl others ↦
+      let none : d x ≡ false = agree x (rw (itself x) refl) ∙ some_has ms xs x others distinct.0 in
+      let next : filter d (reached stops d xs) ≡ ms =
+      marks_back stops d ms xs distinct.1 others one (agree_tail x xs d (has ms) agree) in
+      passed stops none next
+  | inr here ↦
+      let down : d x ≡ true = agree x (rw (itself x) refl) ∙ rw (here.1, itself x) refl in
+      taken stops one here.0 here.1 down (λ (more : Agree xs d (has here.0)).
+      marks_back false d here.0 xs distinct.1 here.2 (λ h. absurd (let e : false ≡ true = h in cc)) more)
+]
   where
     passed : (t : Bool) → d x ≡ false → filter d (reached t d xs) ≡ ms → filter d (reached t d (x ∷ xs)) ≡ ms
     passed true none next = rw none next
@@ -62,8 +60,7 @@ marks_back stops d ms (x ∷ xs) distinct some one agree =
         let long : length ms ≡ length (x ∷ y ∷ rest) = ap length e in absurd (omega (arith, le))
 
     apart : (rest : List CfId) → ms ≡ x ∷ rest → Agree xs d (has rest)
-    apart rest e cf h =
-        agree cf (rw h (or_true (x.0 == cf.0)))
+    apart rest e cf h = agree cf (rw h (or_true (x.0 == cf.0)))
         ∙ (let same : has ms cf ≡ x.0 == cf.0 || has rest cf = ap (λ (some : List CfId). has some cf) e in
         same ∙ other (x.0 == cf.0) refl)
       where
@@ -85,8 +82,8 @@ get_seam [] x back = refl
 get_seam (y ∷ front) x back = get_seam front x back
 
 module _ {C R I S : Type 0} (meaning : Meaning C R I S) (form : StrForm) where
-  replied : (history : List (Entry C R)) (entry : Entry C R) (told : What C)
-      → IsNextAs meaning form history entry told → IsReplied meaning form (replay meaning form history) entry.by entry.reply told
+  replied : (history : List (Entry C R)) (entry : Entry C R) (told : What C) → IsNextAs meaning
+      form history entry told → IsReplied meaning form (replay meaning form history) entry.by entry.reply told
   replied history entry (what.Call ask) e = ap (λ (it : Entry C R). it.reply) e
   replied history entry (what.Lost cf) e = (ap (λ (it : Entry C R). it.by) e, ap (λ (it : Entry C R). it.reply) e)
 
@@ -94,23 +91,20 @@ module _ {C R I S : Type 0} (meaning : Meaning C R I S) (form : StrForm) where
   EndsWell before entry = MayEnd meaning form (read_all meaning form before) entry.by entry.what
 
   pub points_from_legal : (history : List (Entry C R)) → IsLegal meaning form history → IsByPoints meaning form history
-  points_from_legal history legal =
-      record {
-        numbered = number_legal meaning form history legal;
-        groups =
-            by_turns meaning form (Each EndsWell) (each_none EndsWell) (λ h turn fine each.
-            let asks : Asks = links_asked meaning form (replay meaning form h) turn.by turn.ask in
-            let marks : List CfId = marks_of turn.down asks in
-            let marked : List (Entry C R) = with_marks meaning form h marks in
-            each_push EndsWell marked (next_entry meaning form marked turn.by turn.ask)
-            (by_marks meaning form (Each EndsWell) (λ some cf all. each_push EndsWell some (next_mark meaning form some cf) all tt)
-            marks h each)
-            (subst (λ (reading : Reading (Machine S)). MayEnd meaning form reading turn.by (what.Call turn.ask))
-            (sym (read-marked meaning form h marks (legal_group meaning form h fine))) (marks_made turn.down asks))) history legal;
-        ended = ap (λ (reading : Reading (Machine S)). reading.marks) (legal_group meaning form history legal);
-        replies = λ i entry e.
-            replied (take i history) entry entry.what (each_next meaning form history legal i entry e);
-      }
+  points_from_legal history legal = record {
+    numbered = number_legal meaning form history legal;
+    groups = by_turns meaning form (Each EndsWell) (each_none EndsWell) (λ h turn fine each.
+        let asks : Asks = links_asked meaning form (replay meaning form h) turn.by turn.ask in
+        let marks : List CfId = marks_of turn.down asks in
+        let marked : List (Entry C R) = with_marks meaning form h marks in
+        each_push EndsWell marked (next_entry meaning form marked turn.by turn.ask) (by_marks meaning form
+        (Each EndsWell) (λ some cf all. each_push EndsWell some (next_mark meaning form some cf) all tt) marks h each)
+        (subst (λ (reading : Reading (Machine S)). MayEnd meaning form reading turn.by (what.Call turn.ask))
+        (sym (read-marked meaning form h marks (legal_group meaning form h fine))) (marks_made turn.down asks)))
+        history legal;
+    ended = ap (λ (reading : Reading (Machine S)). reading.marks) (legal_group meaning form history legal);
+    replies = λ i entry e. replied (take i history) entry entry.what (each_next meaning form history legal i entry e);
+  }
 
   -- ---- and back
 
@@ -121,43 +115,38 @@ module _ {C R I S : Type 0} (meaning : Meaning C R I S) (form : StrForm) where
     legal : IsLegal meaning form began
     is : history ≡ with_marks meaning form began marks
 
-  read_so_far : (history : List (Entry C R)) (far : IsSoFar history)
-      → read_all meaning form history
-      ≡ record { began = replay meaning form far.began; marks = far.marks; now = replay meaning form history }
+  read_so_far : (history : List (Entry C R)) (far : IsSoFar history) → read_all meaning form
+      history ≡ record { began = replay meaning form far.began; marks = far.marks; now = replay meaning form history }
   read_so_far history far = grind (arith, read-marked, legal_group)
 
-  one_more : (history : List (Entry C R)) (number' : ℕ) (by : ConnId) (reply : Reply R) (told : What C) → IsSoFar history
-      → number' ≡ length history + 1 → MayEnd meaning form (read_all meaning form history) by told
+  one_more : (history : List (Entry C R)) (number' : ℕ) (by : ConnId) (reply : Reply R) (told : What C)
+      → IsSoFar history → number' ≡ length history + 1 → MayEnd meaning form (read_all meaning form history) by told
       → IsReplied meaning form (replay meaning form history) by reply told
       → IsSoFar (history ++ record { no = number'; by = by; what = told; reply = reply } ∷ [])
-  one_more history number' by reply (what.Lost cf) far number ends replies =
-      record {
-        began = far.began;
-        marks = far.marks ++ cf ∷ [];
-        legal = far.legal;
-        is =
-            rw (number, replies.0, replies.1)
-            (ap (λ (h : List (Entry C R)). with_mark meaning form h cf) far.is
-            ∙ sym (fold_push (with_mark meaning form) far.began far.marks cf));
-      }
+  one_more history number' by reply (what.Lost cf) far number ends replies = record {
+    began = far.began;
+    marks = far.marks ++ cf ∷ [];
+    legal = far.legal;
+    is = rw (number, replies.0, replies.1) (ap (λ (h : List (Entry C R)). with_mark meaning form h cf) far.is
+        ∙ sym (fold_push (with_mark meaning form) far.began far.marks cf));
+  }
   one_more history number' by reply (what.Call asked) far number ends replies =
       let asks : Asks = links_asked meaning form (replay meaning form far.began) by asked in
       let marks : List CfId = far.marks in
-      let fits : AreMarksOf asks marks =
-      subst (λ (reading : Reading (Machine S)). MayEnd meaning form reading by (what.Call asked)) (read_so_far history far) ends in
+      let fits : AreMarksOf asks marks = subst (λ (reading : Reading (Machine S)). MayEnd meaning
+      form reading by (what.Call asked)) (read_so_far history far) ends in
       let state : Machine S = replay meaning form far.began in
-      let same : marks_of (has marks) asks ≡ marks =
-      marks_back asks.stops (has marks) marks asks.links (asked_distinct meaning form (call_cause form (room_of meaning form state) state.shell by asked)
+      let same : marks_of (has marks) asks ≡ marks = marks_back asks.stops (has marks) marks
+      asks.links (asked_distinct meaning form (call_cause form (room_of meaning form state) state.shell by asked)
       (asks_of state.shell asked)) fits.some fits.one (λ cf h. refl) in
       let turn : Turn C = record { by = by; ask = asked; down = has marks } in
       record {
         began = after_turn meaning form far.began turn;
         marks = [];
         legal = legal_turn meaning form far.began turn far.legal;
-        is =
-            rw (number, replies)
-            (ap (λ (h : List (Entry C R)). with_call meaning form h by asked) far.is
-            ∙ ap (λ (some : List CfId). with_call meaning form (with_marks meaning form far.began some) by asked) (sym same));
+        is = rw (number, replies) (ap (λ (h : List (Entry C R)). with_call meaning form h by asked) far.is
+            ∙ ap (λ (some : List CfId). with_call meaning form (with_marks meaning form far.began some) by asked)
+            (sym same));
       }
 
   so_far : (history front back : List (Entry C R)) → IsByPoints meaning form history → history ≡ front ++ back
@@ -168,15 +157,16 @@ module _ {C R I S : Type 0} (meaning : Meaning C R I S) (form : StrForm) where
       let before : take (length front) history ≡ front = rw e (take_at front (entry ∷ back) (length front) refl) in
       so_far history (front ++ entry ∷ []) back points (e ∙ sym (append_assoc front (entry ∷ []) back))
       (one_more front entry.no entry.by entry.reply entry.what far (points.numbered (length front) entry at)
-      (subst (λ (h : List (Entry C R)). EndsWell h entry) before (points.groups (length front) entry at))
-      (subst (λ (h : List (Entry C R)). IsReplied meaning form (replay meaning form h) entry.by entry.reply entry.what) before
-      (points.replies (length front) entry at)))
+      (subst (λ (h : List (Entry C R)). EndsWell h entry) before (points.groups (length front) entry at)) (subst
+      (λ (h : List (Entry C R)). IsReplied meaning form (replay meaning form h) entry.by entry.reply entry.what)
+      before (points.replies (length front) entry at)))
 
   -- the two are the same
   pub legal_from_points : (history : List (Entry C R)) → IsByPoints meaning form history → IsLegal meaning form history
   legal_from_points history points =
       let far : IsSoFar history =
-      so_far history [] history points refl (record { began = []; marks = []; legal = legal_none meaning form; is = refl }) in
+      so_far history [] history
+      points refl (record { began = []; marks = []; legal = legal_none meaning form; is = refl }) in
       let none : far.marks ≡ [] =
       sym (ap (λ (reading : Reading (Machine S)). reading.marks) (read_so_far history far)) ∙ points.ended in
       subst (IsLegal meaning form) (sym (far.is ∙ ap (with_marks meaning form far.began) none)) far.legal

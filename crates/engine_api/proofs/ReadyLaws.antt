@@ -10,10 +10,9 @@ IsRoomLaw Holds =
     (out other : Effects) → Holds out → out.bits.room ≤ other.bits.room → out.mail.room ≤ other.mail.room → Holds other
 
 -- it does for each wish where it does for commands, departures and the end of registrations
-pub room-cases : {C : Type 0} (Holds : Wish C → Effects → Type 0)
-    → ((by : ConnId) (cmd : C) → IsRoomLaw (Holds (ForCmd by cmd)))
-    → ((conn : ConnId) → IsRoomLaw (Holds (ForLeave conn))) → IsRoomLaw (Holds ForForget)
-    → (wish : Wish C) → IsRoomLaw (Holds wish)
+pub room-cases : {C : Type 0} (Holds : Wish C → Effects → Type 0) → ((by : ConnId) (cmd : C)
+    → IsRoomLaw (Holds (ForCmd by cmd))) → ((conn : ConnId) → IsRoomLaw (Holds (ForLeave conn)))
+    → IsRoomLaw (Holds ForForget) → (wish : Wish C) → IsRoomLaw (Holds wish)
 room-cases Holds commands departures end (ForCmd by cmd) = commands by cmd
 room-cases Holds commands departures end (ForLeave conn) = departures conn
 room-cases Holds commands departures end ForForget = end

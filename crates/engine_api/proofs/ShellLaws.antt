@@ -9,11 +9,6 @@ use Rattle.engine_api.proofs.HistoryLaws.{replay-push}
 
 -- ---- the connections that commands leave
 
-conns-take_event : (shell : Shell) (by : ConnId) (taken : Option Event)
-    → (take_event shell by taken).shell.conns ≡ shell.conns
-conns-take_event shell by None = refl
-conns-take_event shell by (Some taken) = refl
-
 length-answering : (by : ConnId) (answered : Event) (conns : Connections)
     → length (conns_answered by answered conns) ≡ length conns
 length-answering by (event.DiscFail other) conns = length-set conns other.0 _
@@ -24,59 +19,14 @@ length-with_departure : (conn : ConnId) (keep : Bool) (conns : Connections)
 length-with_departure conn keep conns =
     length-set (map (excused_state conn) conns) conn.0 _ ∙ length-map conns (excused_state conn)
 
--- no connection changes where a rebuild goes on or stops
-conns-stop : (shell : Shell) (rebuild : Option Rebuild) → (stop_outcome shell rebuild).shell.conns ≡ shell.conns
-conns-stop shell None = refl
-conns-stop shell (Some rebuild) = refl
-
--- nor where an instance is lost, or made or dropped
-conns-fresh_loss : (cf : CfId) (rebuild : Option Rebuild) (shell : Shell)
-    → (fresh_loss cf rebuild shell).shell.conns ≡ shell.conns
-conns-fresh_loss cf None shell = refl
-conns-fresh_loss cf (Some rebuild) shell = grind arith
-
-conns-primary_loss : (form : StrForm) (cf : CfId) (other : Option CfId) (shell : Shell)
-    → (primary_loss form cf other shell).shell.conns ≡ shell.conns
-conns-primary_loss form cf None shell = refl
-conns-primary_loss form cf (Some other) shell = refl
-
+-- no connection changes where an instance is lost
 pub conns-loss : (form : StrForm) (cf : CfId) (shell : Shell) → (loss_outcome form cf shell).shell.conns ≡ shell.conns
-conns-loss form cf shell = grind (arith, conns-primary_loss, conns-fresh_loss)
-
-pub conns-vary : (form : StrForm) (cf : CfId) (off : Bool) (shell : Shell)
-    → (vary_outcome form cf off shell).shell.conns ≡ shell.conns
-conns-vary form cf true shell = conns-loss form cf (with_off cf true shell)
-conns-vary form cf false shell = refl
-
-pub conns-simplex_again : (second : Option CfId) (shell : Shell)
-    → (simplex_again second shell).shell.conns ≡ shell.conns
-conns-simplex_again None shell = refl
-conns-simplex_again (Some cf) shell = refl
-
-conns-rebuild_connect : (form : StrForm) (shell : Shell) (by : ConnId) (rebuild : Option Rebuild)
-    → (rebuild_connect_outcome form shell by rebuild).shell.conns ≡ shell.conns
-conns-rebuild_connect form shell by None = refl
-conns-rebuild_connect form shell by (Some rebuild) = refl
-
-conns-complete : (shell : Shell) (by : ConnId) (rebuild : Option Rebuild)
-    → (complete_outcome shell by rebuild).shell.conns ≡ shell.conns
-conns-complete shell by None = refl
-conns-complete shell by (Some rebuild) = refl
-
-conns-responded : (by : ConnId) (answered : Event) (rebuild : Option Rebuild) (shell : Shell)
-    → (responded by answered rebuild shell).shell.conns ≡ shell.conns
-conns-responded by answered None shell = refl
-conns-responded by answered (Some rebuild) shell = grind arith
-
-conns-respond : (shell : Shell) (by : ConnId) (answered : Event)
-    → (response_outcome shell by (Some answered)).shell.conns ≡ conns_answered by answered shell.conns
-conns-respond shell by answered = conns-responded by answered shell.rebuild _
+conns-loss form cf shell = grind arith
 
 length-respond : (shell : Shell) (by : ConnId) (answered : Option Event)
     → length (response_outcome shell by answered).shell.conns ≡ length shell.conns
 length-respond shell by None = refl
-length-respond shell by (Some answered) =
-    ap (λ (c : Connections). length c) (conns-respond shell by answered) ∙ length-answering by answered shell.conns
+length-respond shell by (Some answered) = grind (arith, length-answering)
 
 -- there are as many connections after a command as before
 length-shell_done : (form : StrForm) (room : Room) (shell : Shell) (by : ConnId) (command : ShellCmd)
@@ -85,21 +35,10 @@ length-shell_done form room shell by (cmd.Connect keep) = length-set shell.conns
 length-shell_done form room shell by cmd.Disconnect = length-with_departure by false shell.conns
 length-shell_done form room shell by cmd.Fail =
     length-with_departure by (is_kept (state_of shell.conns by)) shell.conns
-length-shell_done form room shell by cmd.Next =
-    ap (λ (c : Connections). length c) (conns-take_event shell by (next_event shell.mail by))
 length-shell_done form room shell by cmd.Respond = length-respond shell by (owed_event shell.mail by)
 length-shell_done form room shell by (cmd.ForceConn other) = length-set shell.conns other.0 None
-length-shell_done form room shell by cmd.RebuildStop =
-    ap (λ (c : Connections). length c) (conns-stop shell shell.rebuild)
-length-shell_done form room shell by cmd.RebuildConnect =
-    ap (λ (c : Connections). length c) (conns-rebuild_connect form shell by shell.rebuild)
-length-shell_done form room shell by cmd.RebuildComplete =
-    ap (λ (c : Connections). length c) (conns-complete shell by shell.rebuild)
-length-shell_done form room shell by (cmd.Vary cf off) =
-    ap (λ (c : Connections). length c) (conns-vary form cf off shell)
-length-shell_done form room shell by cmd.DuplexStop =
-    ap (λ (c : Connections). length c) (conns-simplex_again shell.instances.secondary shell)
-length-shell_done form room shell by command = refl
+length-shell_done form room shell by (cmd.Vary cf off) = grind (arith, conns-loss)
+length-shell_done form room shell by command = grind arith
 
 length-unconnected : length no_connections ≡ CALLERS
 unfolding no_connections
@@ -109,9 +48,8 @@ length-unconnected = refl
 
 module _ {C R I S : Type 0} (meaning : Meaning C R I S) (form : StrForm) where
   -- a command on the content changes no connection, and its answer tells of none
-  conns-content : (machine : Machine S) (by : ConnId) (command : C) (cause : Option Refusal)
-      → (unless meaning form cause machine (content_done meaning form machine by command)).machine.shell.conns
-      ≡ machine.shell.conns
+  conns-content : (machine : Machine S) (by : ConnId) (command : C) (cause : Option Refusal) → (unless meaning
+      form cause machine (content_done meaning form machine by command)).machine.shell.conns ≡ machine.shell.conns
   conns-content machine by command (Some why) = refl
   conns-content machine by command None = refl
 
@@ -131,8 +69,7 @@ module _ {C R I S : Type 0} (meaning : Meaning C R I S) (form : StrForm) where
   length-conns-after : (machine : Machine S) (by : ConnId) (told : What C)
       → length (after_what meaning form machine by told).shell.conns ≡ length machine.shell.conns
   length-conns-after machine by (what.Call asked) = length-conns-step machine by asked
-  length-conns-after machine by (what.Lost cf) =
-      ap (λ (c : Connections). length c) (conns-loss form cf machine.shell)
+  length-conns-after machine by (what.Lost cf) = ap (λ (c : Connections). length c) (conns-loss form cf machine.shell)
 
   length-conns-fold : (machine : Machine S) (history : List (Entry C R))
       → length (fold (machine_after meaning form) machine history).shell.conns ≡ length machine.shell.conns
@@ -148,8 +85,7 @@ module _ {C R I S : Type 0} (meaning : Meaning C R I S) (form : StrForm) where
 
   refused_done : (machine : Machine S) (by : ConnId) (command : ShellCmd) (cause : Option Refusal) (refusal : Refusal)
       → (unless meaning form cause machine (command_done meaning form machine by command)).reply ≡ reply.Refused
-      refusal
-      → (unless meaning form cause machine (command_done meaning form machine by command)).machine ≡ machine
+      refusal → (unless meaning form cause machine (command_done meaning form machine by command)).machine ≡ machine
   refused_done machine by command (Some why) refusal is = refl
   refused_done machine by command None refusal is = absurd (cc)
 
@@ -163,8 +99,7 @@ module _ {C R I S : Type 0} (meaning : Meaning C R I S) (form : StrForm) where
 
   refused_content : (machine : Machine S) (by : ConnId) (command : C) (cause : Option Refusal) (refusal : Refusal)
       → (unless meaning form cause machine (content_done meaning form machine by command)).reply ≡ reply.Refused
-      refusal
-      → (unless meaning form cause machine (content_done meaning form machine by command)).machine ≡ machine
+      refusal → (unless meaning form cause machine (content_done meaning form machine by command)).machine ≡ machine
   refused_content machine by command (Some why) refusal is = refl
   refused_content machine by command None refusal is = grind (arith, refused_stepped)
 
@@ -172,16 +107,12 @@ module _ {C R I S : Type 0} (meaning : Meaning C R I S) (form : StrForm) where
   pub machine-refused : (machine : Machine S) (by : ConnId) (asked : Ask C) (refusal : Refusal)
       → (step meaning form machine by asked).reply ≡ reply.Refused refusal
       → (step meaning form machine by asked).machine ≡ entered_machine machine
-  machine-refused machine by (ask.Shell command) refusal is =
-      ap (entered_machine)
-      (refused_done machine by command (shell_cause form (room_of meaning form machine) machine.shell by command)
-      refusal is)
+  machine-refused machine by (ask.Shell command) refusal is = ap (entered_machine) (refused_done
+      machine by command (shell_cause form (room_of meaning form machine) machine.shell by command) refusal is)
   machine-refused machine by (ask.Content command) refusal is = grind (arith, refused_content)
 
   pub replay-refused : (history : List (Entry C R)) (by : ConnId) (asked : Ask C) (refusal : Refusal)
       → next_reply meaning form history by asked ≡ reply.Refused refusal
-      → replay meaning form (with_call meaning form history by asked)
-      ≡ entered_machine (replay meaning form history)
-  replay-refused history by asked refusal is =
-      replay-push meaning form history (next_entry meaning form history by asked)
-      ∙ machine-refused (replay meaning form history) by asked refusal is
+      → replay meaning form (with_call meaning form history by asked) ≡ entered_machine (replay meaning form history)
+  replay-refused history by asked refusal is = replay-push meaning form history
+      (next_entry meaning form history by asked) ∙ machine-refused (replay meaning form history) by asked refusal is

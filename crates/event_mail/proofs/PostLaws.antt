@@ -2,11 +2,10 @@
 use Rattle.event_mail.proofs.Imports.{◌≡◌, ℕ, ◌+◌, ◌<◌, ◌≤◌, List, [], ◌∷◌, ◌++◌, length, get_or, set, map, slice_set, sym, ap, ◌∙◌, ⊎_elim, ◌≢◌, arith, map-set, set-get_or, get_or-set_other, get_or-map, cases_eq, get_or-set_at, unwrap_or-slice_get, ConnId, Mailbox, Mailboxes, no_events, mailbox_of, Box, mailboxes_of}
 
 -- one mailbox changes
-pub mailboxes_of-set : (boxes : List Box) (mail : Mailboxes) (conn : ConnId) (at : ℕ) (old new : Box)
-    (change : Mailbox
-    → Mailbox) → mailboxes_of boxes ≡ mail → at ≡ conn.0 → at < length boxes → old ≡ get_or boxes at old
-    → new.mailbox ≡ change old.mailbox → mailboxes_of (slice_set boxes at new)
-    ≡ slice_set mail conn.0 (change (mailbox_of mail conn))
+pub mailboxes_of-set : (boxes : List Box) (mail : Mailboxes)
+    (conn : ConnId) (at : ℕ) (old new : Box) (change : Mailbox → Mailbox) → mailboxes_of boxes ≡ mail
+    → at ≡ conn.0 → at < length boxes → old ≡ get_or boxes at old → new.mailbox ≡ change old.mailbox
+    → mailboxes_of (slice_set boxes at new) ≡ slice_set mail conn.0 (change (mailbox_of mail conn))
 mailboxes_of-set boxes mail conn at old new change is here within was now =
     grind (arith, unwrap_or-slice_get, get_or-map, map-set)
 

@@ -41,16 +41,14 @@ faults_of link = link.faults
 -- a link that is down once was down where the answers say so
 told_once : (call : ℕ) (answers : List Bool) (old new : ListLink) → IsDownAt call old
     → IsAskedAll calls_of downs_of faults_of answers old new → IsAsTold (down_once call) answers
-told_once call answers old new down asked =
-    asked_told calls_of downs_of faults_of (down_once call) answers old new tt
-    (record { calls_are = sym down.unasked; downs_are = ap Some down.down }) asked
+told_once call answers old new down asked = asked_told calls_of downs_of faults_of (down_once call)
+    answers old new tt (record { calls_are = sym down.unasked; downs_are = ap Some down.down }) asked
 
 -- and it was asked as often as there are answers
 asked_once : (call : ℕ) (answers : List Bool) (old new : ListLink) → IsDownAt call old
     → IsAskedAll calls_of downs_of faults_of answers old new → new.calls ≡ calls_after answers 0
-asked_once call answers old new down asked =
-    ap (λ (o : Option ℕ). unwrap_or o 0) (asked_calls calls_of downs_of faults_of answers old new asked)
-    ∙ ap (calls_after answers) down.unasked
+asked_once call answers old new down asked = ap (λ (o : Option ℕ). unwrap_or o 0)
+    (asked_calls calls_of downs_of faults_of answers old new asked) ∙ ap (calls_after answers) down.unasked
 
 -- ---- the links of the first structure
 
@@ -79,9 +77,8 @@ four_told form entries old new others links down are asked =
     }
 
 first_told : (cells : List (CellShown ListLink)) (histories : List AnyHistory) (spare links : List ListLink)
-    (cell : CellShown ListLink) (entries : AnyHistory) → slice_get cells 0 ≡ Some cell
-    → slice_get histories 0 ≡ Some entries
-    → AreDownOnce (flat_map (λ (c : CellShown ListLink). four_of c.links) cells ++ spare)
+    (cell : CellShown ListLink) (entries : AnyHistory) → slice_get cells 0 ≡ Some cell → slice_get
+    histories 0 ≡ Some entries → AreDownOnce (flat_map (λ (c : CellShown ListLink). four_of c.links) cells ++ spare)
     → AreEachAsked calls_of downs_of faults_of cells histories spare links → AreTold cell.form entries links
 first_told [] histories spare links cell entries there first down asked =
     let none : 0 < length {A = CellShown ListLink} [] = slice_get_within [] 0 cell there in absurd (omega (arith, none))
@@ -89,9 +86,8 @@ first_told (c ∷ cells) [] spare links cell entries there first down asked = ab
 first_told (c ∷ cells) (e ∷ histories) spare links cell entries there first down asked =
     let same : c ≡ cell = ap (λ (o : Option (CellShown ListLink)). unwrap_or o cell) there in
     let alike : e ≡ entries = ap (λ (o : Option AnyHistory). unwrap_or o entries) first in
-    subst (λ (x : CellShown ListLink). AreTold x.form entries links) same
-    (subst (λ (h : AnyHistory). AreTold c.form h links) alike
-    (four_told c.form e c.links asked.0 asked.1 links down asked.2 asked.3))
+    subst (λ (x : CellShown ListLink). AreTold x.form entries links) same (subst (λ (h : AnyHistory). AreTold c.form
+    h links) alike (four_told c.form e c.links asked.0 asked.1 links down asked.2 asked.3))
 
 -- ---- the test
 
@@ -105,10 +101,9 @@ all_last P front all x are each =
 
 module _ (board : BoardShown ListLink) (script : Script) (histories : List AnyHistory) (desks : List DeskShown)
     (links : List ListLink) (tested : Tested) where
-  pub outcome : map (λ (cell : CellShown ListLink). cell.form) board.cells ≡ script.structures
-      → AreDownOnce (links_of board) → AreSeated board desks → AreClosed board desks histories
-      → AreLinksAsked calls_of downs_of faults_of board histories links → HasTested desks tested
-      → IsOutcome script histories links tested
+  pub outcome : map (λ (cell : CellShown ListLink). cell.form) board.cells ≡ script.structures → AreDownOnce
+      (links_of board) → AreSeated board desks → AreClosed board desks histories → AreLinksAsked calls_of
+      downs_of faults_of board histories links → HasTested desks tested → IsOutcome script histories links tested
   outcome forms down are closed asked has =
       let pool = are.pool in
       let entries : AnyHistory = get_or histories 0 (history.Cache []) in
@@ -118,9 +113,8 @@ module _ (board : BoardShown ListLink) (script : Script) (histories : List AnyHi
       let says = closed.closed gbp pool.cell entries pool.there first in
       let desk : DeskShown = has.desk in
       let here : desk ≡ get_or desks 2 desk = sym (get_or_from_slice_get desks 2 desk desk has.there) in
-      let account : IsAccount pool.cell entries (pass_at desk gbp) =
-      subst (λ (d : DeskShown). IsAccount pool.cell entries (pass_at d gbp)) (sym here)
-      (says.1 2 desk (slice_get_within desks 2 desk has.there)) in
+      let account : IsAccount pool.cell entries (pass_at desk gbp) = subst (λ (d : DeskShown). IsAccount pool.cell
+      entries (pass_at d gbp)) (sym here) (says.1 2 desk (slice_get_within desks 2 desk has.there)) in
       let whose : (pass_at desk gbp).owner ≡ reader =
       desk-pass_owner board desk gbp pool.cell (seat_of_board board desks are 2 desk (omega arith) here) pool.there
       ∙ ap (λ (n : ℕ). let c : ConnId = record { 0 = n } in c) (seat_owner board desks are 2 desk (omega arith) here) in
@@ -148,9 +142,8 @@ module _ (board : BoardShown ListLink) (script : Script) (histories : List AnyHi
 -- a board of a policy whose first structure is there, with three desks
 pub opened : (board : BoardShown ListLink) (script : Script) (desks : List DeskShown) (links : List ListLink)
     (callers : ℕ) → map (λ (cell : CellShown ListLink). cell.form) board.cells ≡ script.structures
-    → board.callers ≡ callers → links_of board ≡ links → AreDownOnce links
-    → desks ≡ map (new_desk board) (range_with_len 0 (callers + 1)) → length desks ≡ 3 → HasPool board
-    → IsOpened script board desks
+    → board.callers ≡ callers → links_of board ≡ links → AreDownOnce links → desks ≡ map (new_desk board)
+    (range_with_len 0 (callers + 1)) → length desks ≡ 3 → HasPool board → IsOpened script board desks
 opened board script desks links callers forms counted are down new three pool = record {
   forms = forms;
   down = subst AreDownOnce (sym are) down;

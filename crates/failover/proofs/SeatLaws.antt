@@ -62,23 +62,21 @@ module _ {L : Type 0} (board : BoardShown L) where
 
     -- each is of the board, and its owner's
     pub seat_of_board : (who : ℕ) (desk : DeskShown) → who ≤ 2 → desk ≡ get_or desks who desk → IsDeskOf board desk
-    seat_of_board who desk low is =
-        subst (IsDeskOf board) (sym is) (are.of_board who desk (seat_within who low))
+    seat_of_board who desk low is = subst (IsDeskOf board) (sym is) (are.of_board who desk (seat_within who low))
 
     pub seat_owner : (who : ℕ) (desk : DeskShown) → who ≤ 2 → desk ≡ get_or desks who desk → desk.owner.0 ≡ who
     seat_owner who desk low is =
         let two = are.two in
         let below : who < board.callers + 1 = omega (arith, two, low) in
-        ap owner_of is
-        ∙ sym (get_or-map owner_of desks who desk 0 (seat_within who low))
+        ap owner_of is ∙ sym (get_or-map owner_of desks who desk 0 (seat_within who low))
         ∙ ap (λ (owners : List ℕ). get_or owners who 0) are.owners
         ∙ get_or-range_with_len 0 (board.callers + 1) who 0 below
         ∙ (let same : 0 + who ≡ who = omega arith in same)
 
     pub seat_is : (who : ConnId) (at : ℕ) (desk : DeskShown) → who.0 ≤ 2 → at ≡ who.0 → desk ≡ get_or desks at desk
         → desk.owner ≡ who
-    seat_is who at desk low same is =
-        ap (λ (n : ℕ). (let c : ConnId = record { 0 = n } in c)) (seat_owner at desk (omega (arith, same, low)) is ∙ same)
+    seat_is who at desk low same is = ap (λ (n : ℕ). (let c : ConnId = record { 0 = n } in c))
+        (seat_owner at desk (omega (arith, same, low)) is ∙ same)
 
     -- one of them was used
     pub still_seated : (who : ℕ) (before after : DeskShown) → before ≡ get_or desks who before

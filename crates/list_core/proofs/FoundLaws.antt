@@ -1,5 +1,5 @@
 -- What is known of a record that a command names.
-use Rattle.list_core.proofs.Imports.{arith, ◌≡◌, ℕ, Bool, true, List, Option, ◌∙◌, IfSome, list_any, false≢true, any_is_found, At, Key16, Lists, all_records, is_id, record_of, lists_without, the_record, with_record, with_new_key, put_back, with_new_data, renewed, IsFound, updated_with}
+use Rattle.list_core.proofs.Imports.{arith, ◌≡◌, ℕ, Bool, true, List, Option, IfSome, list_any, false≢true, any_is_found, At, Key16, Lists, all_records, is_id, record_of, lists_without, the_record, with_record, with_new_key, put_back, with_new_data, renewed, IsFound, updated_with}
 
 pub found-any : (lists : Lists) (at : At) → IsFound lists at → list_any (is_id (the_record lists at).id)
     (all_records lists) ≡ true
@@ -11,9 +11,8 @@ pub found-named : (lists : Lists) (at : At) → IsFound lists at
 found-named lists at is = grind arith
 
 -- it is the record that is taken out and put back
-pub found-put_back : (head : Bool) (header : ℕ) (key : Option Key16) (lists : Lists) (at : At) → IsFound lists at
-    → put_back head header key (record_of (the_record lists at).id lists) (lists_without (the_record lists at).id
-    lists)
+pub found-put_back : (head : Bool) (header : ℕ) (key : Option Key16) (lists : Lists) (at : At) → IsFound lists at →
+    put_back head header key (record_of (the_record lists at).id lists) (lists_without (the_record lists at).id lists)
     ≡ with_record head header (with_new_key key (the_record lists at)) (lists_without (the_record lists at).id lists)
 found-put_back head header key lists at is = grind (arith, false≢true)
 

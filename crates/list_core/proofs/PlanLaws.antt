@@ -1,5 +1,5 @@
 -- What a plan that isn't refused says.
-use Rattle.list_core.proofs.Imports.{arith, ◌≡◌, ℕ, ◌<◌, Option, None, Some, Result, Ok, Err, true, if◌then◌else◌, length, refl, sym, ap, ◌∙◌, subst, OnOk, OnErr, Caps, ConnId, Refusal, At, ListCmd, Write, Update, Read, Move, Delete, ReadList, LockSet, LockReset, LockTest, LControls, SetLimit, Unmonitor, ListReply, Shape, pairwise, Lists, all_records, ids_apart, record_at, Content, IsContent, headers_of, record_refusal, lock_refusal, index_refusal, causes, cause, none_hold, header_there, record_of-at, new-alone, Plan, IsFound, plan_unless, plan_for, IsPossible}
+use Rattle.list_core.proofs.Imports.{arith, ◌≡◌, ℕ, ◌<◌, Option, None, Some, Result, Ok, Err, true, length, refl, sym, ap, ◌∙◌, subst, OnOk, OnErr, Caps, ConnId, Refusal, At, ListCmd, Write, Update, Read, Move, Delete, ReadList, LockSet, LockReset, LockTest, LControls, SetLimit, Unmonitor, ListReply, Shape, pairwise, Lists, all_records, ids_apart, record_at, Content, IsContent, headers_of, record_refusal, lock_refusal, index_refusal, causes, cause, none_hold, header_there, record_of-at, new-alone, Plan, IsFound, plan_unless, plan_for, IsPossible}
 use Rattle.cf_types.specs.declared.list_commands.ListCmd.TheVariants.{Monitor}
 
 -- the plan that is taken is the one that was wanted
@@ -11,12 +11,10 @@ pub record IsAccepted (shape : Shape) (caps : Caps) (content : Content) (by : Co
     Type 0 where
   pub none : cause shape caps content by cmd ≡ None
 
-accepted_step : (shape : Shape) (caps : Caps) (content : Content) (by : ConnId) (cmd : ListCmd) (plan : Plan)
-    (told : ListReply) (o : Option Refusal)
-    → cause shape caps content by cmd ≡ o → plan ≡ plan_unless o content by cmd → plan.reply ≡ Ok told
-    → IsAccepted shape caps content by cmd plan
-accepted_step shape caps content by cmd plan told None e is h =
-    record { none = e }
+accepted_step : (shape : Shape) (caps : Caps) (content : Content) (by : ConnId) (cmd : ListCmd)
+    (plan : Plan) (told : ListReply) (o : Option Refusal) → cause shape caps content by cmd ≡ o
+    → plan ≡ plan_unless o content by cmd → plan.reply ≡ Ok told → IsAccepted shape caps content by cmd plan
+accepted_step shape caps content by cmd plan told None e is h = record { none = e }
 accepted_step shape caps content by cmd plan told (Some refusal) e is h =
     let wrong : Ok told ≡ Err refusal = sym h ∙ ap (λ (p : Plan). p.reply) is in absurd (cc)
 
@@ -42,8 +40,7 @@ at_most : (a n m : ℕ) → m ≡ n → a < n → a < m
 at_most a n m e h = subst (λ (k : ℕ). a < k) (sym e) h
 
 pub possible : (shape : Shape) (caps : Caps) (content : Content) (by : ConnId) (cmd : ListCmd)
-    → IsContent shape caps content
-    → cause shape caps content by cmd ≡ None → IsPossible shape.vector content cmd
+    → IsContent shape caps content → cause shape caps content by cmd ≡ None → IsPossible shape.vector content cmd
 possible shape caps content by (Write header head name key body adj cond) is h =
     let none = none_hold (causes shape caps content by (Write header head name key body adj cond)) h in (
       at_most header (headers_of shape.kind) (length content.lists) is.headers (header_there (headers_of shape.kind)
@@ -61,9 +58,8 @@ possible shape caps content by (Move at header head key version cond) is h =
           header none.1.1.1.1.1.1.0),
     )
 possible shape caps content by (Delete at version cond) is h =
-    let none = none_hold (causes shape caps content by
-    (Delete at version cond)) h in found content.lists at is.one_for_id
-    none.1.1.1.1.0
+    let none = none_hold (causes shape caps content by (Delete at version cond))
+    h in found content.lists at is.one_for_id none.1.1.1.1.0
 possible shape caps content by (ReadList header) is h = tt
 possible shape caps content by (LockSet lock) is h = grind (arith, none_hold, at_most, lock_there)
 possible shape caps content by (LockReset lock) is h = grind (arith, none_hold, at_most, lock_there)
@@ -74,8 +70,7 @@ possible shape caps content by (Monitor header index) is h = grind (arith, none_
 possible shape caps content by (Unmonitor header) is h = tt
 
 -- what holds either way
-pub either_way : {X E Y : Type 0} (P : Y → Type 0) (r : Result X E) (old more now : Y) → OnOk r (now ≡ more)
-    → OnErr r (now ≡ old)
-    → P more → P old → P now
+pub either_way : {X E Y : Type 0} (P : Y → Type 0) (r : Result X E) (old more now : Y)
+    → OnOk r (now ≡ more) → OnErr r (now ≡ old) → P more → P old → P now
 either_way P (Ok x) old more now e f a b = subst P (sym e) a
 either_way P (Err x) old more now e f a b = subst P (sym f) b

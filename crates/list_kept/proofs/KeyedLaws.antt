@@ -1,5 +1,5 @@
 -- The first record with a key, among records in order.
-use Rattle.list_kept.proofs.Imports.{◌≡◌, ℕ, ◌+◌, Bool, true, false, not, cond, List, [], ◌∷◌, Option, Some, None, Ordering, Less, Equal, Greater, is_lt, is_gt, nat_cmp, find, slice_get, refl, sym, ap, ◌∙◌, arith, is_eq, bytes_decides, slice_cmp, texts_ties, list_all, prefix_len, and_parts, not-true, false≢true, Key16, pairwise, find_none, none_from_all, list_all_weaker, Record, key_up_to, key_before, same_key, has_key, may_precede, key_back, key_up_to-either, not_false, comes_behind}
+use Rattle.list_kept.proofs.Imports.{◌≡◌, ◌+◌, Bool, true, false, not, cond, List, [], ◌∷◌, Option, Some, None, Ordering, Less, Equal, Greater, is_lt, is_gt, nat_cmp, find, slice_get, refl, sym, ap, ◌∙◌, arith, is_eq, bytes_decides, slice_cmp, texts_ties, list_all, prefix_len, and_parts, false≢true, Key16, pairwise, find_none, none_from_all, list_all_weaker, Record, key_up_to, same_key, has_key, may_precede, key_back, key_up_to-either, not_false, comes_behind}
 
 -- a key that is given, if one is
 abbrev is_key : Key16 → Option Key16 → Bool
@@ -7,8 +7,7 @@ is_key key None = false
 is_key key (Some other) = same_key other key
 
 keys_same : (a b : Key16) → same_key a b ≡ true → a ≡ b
-keys_same a b h =
-    let keyed : List ℕ → Key16 = λ (bytes : List ℕ). record { 0 = bytes } in ap keyed ((bytes_decides a.0 b.0).0 h)
+keys_same a b h = grind (arith, bytes_decides)
 
 up_to_itself : (key : Option Key16) → key_up_to key key ≡ true
 up_to_itself key = grind (arith, key_up_to-either)
@@ -16,13 +15,11 @@ up_to_itself key = grind (arith, key_up_to-either)
 -- of two keys neither of which is behind the other
 same_up : (a b : Key16) → key_up_to (Some a) (Some b) ≡ true → key_up_to (Some b) (Some a) ≡ true
     → same_key a b ≡ true
-same_up a b h k =
-    texts_ties a.0 b.0
-    ∙ go (slice_cmp nat_cmp a.0 b.0) (sym (key_back a b) ∙ not-true (key_before b a) h) (not-true (key_before a b) k)
+same_up a b h k = texts_ties a.0 b.0 ∙ go (slice_cmp nat_cmp a.0 b.0) (grind (arith, key_back)) (grind arith)
   where
     go : (o : Ordering) → is_gt o ≡ false → is_lt o ≡ false → is_eq o ≡ true
-    go Less g l = absurd (false≢true (sym l))
     go Equal g l = refl
+    go Less g l = absurd (false≢true (sym l))
     go Greater g l = absurd (false≢true (sym g))
 
 -- one that stands before a key hasn't the key
@@ -31,9 +28,8 @@ before_apart key None h = refl
 before_apart key (Some k) h = go (same_key k key) refl
   where
     go : (b : Bool) → same_key k key ≡ b → same_key k key ≡ false
-    go true e =
-        absurd (false≢true (sym (ap not (ap (λ (other : Key16). key_up_to (Some key) (Some other)) (keys_same k key e)
-        ∙ up_to_itself (Some key))) ∙ h))
+    go true e = absurd (false≢true (sym (ap not (ap (λ (other : Key16). key_up_to (Some key) (Some other))
+        (keys_same k key e) ∙ up_to_itself (Some key))) ∙ h))
     go false e = e
 
 -- where one that doesn't stand before a key hasn't the key, no later one has
@@ -62,26 +58,11 @@ find_keyed key (x ∷ xs) h =
     go (comes_behind true (Some key) x) refl (find_keyed key xs parts.1) parts.0
   where
     has_is : (y : Record) → has_key key y ≡ is_key key y.key
-    has_is y = same y.key refl
-      where
-        same : (o : Option Key16) → y.key ≡ o → has_key key y ≡ is_key key o
-        same None e = rw e refl
-        same (Some k) e = rw e refl
-
-    turn : cond (is_key key x.key) (Some x) (find (has_key key) xs) ≡ cond (is_key key x.key) (Some x) None
-        → cond (has_key key x) (Some x) (find (has_key key) xs) ≡ cond (has_key key x) (Some x) None
-    turn e = rw (has_is x) e
-
-    none : (b : Bool) → is_key key x.key ≡ b → comes_behind true (Some key) x ≡ false
-        → list_all (may_precede x) xs ≡ true
-        → cond b (Some x) (find (has_key key) xs) ≡ cond b (Some x) None
-    none true e before each = refl
-    none false e before each = grind (arith, find_none, none_from_all, list_all_weaker, has_is, behind_apart)
+    has_is y = grind arith
 
     go : (b : Bool) → comes_behind true (Some key) x ≡ b
         → find (has_key key) xs ≡ keyed key (slice_get xs (prefix_len (comes_behind true (Some key)) xs))
-        → list_all (may_precede x) xs ≡ true
-        → cond (has_key key x) (Some x) (find (has_key key) xs)
-        ≡ keyed key (slice_get (x ∷ xs) (cond b (1 + prefix_len (comes_behind true (Some key)) xs) 0))
+        → list_all (may_precede x) xs ≡ true → cond (has_key key x) (Some x) (find (has_key key) xs) ≡ keyed
+        key (slice_get (x ∷ xs) (cond b (1 + prefix_len (comes_behind true (Some key)) xs) 0))
     go true e rest each = grind (arith, has_is, before_apart)
-    go false e rest each = turn (none (is_key key x.key) refl e each)
+    go false e rest each = grind (arith, find_none, none_from_all, list_all_weaker, has_is, behind_apart)

@@ -1,28 +1,10 @@
 -- The names of records stay right where a record comes, goes or stands in place of another.
-use Rattle.list_kept.proofs.Imports.{◌≡◌, ℕ, ◌+◌, ◌<◌, Bool, true, false, not, ◌&&◌, ◌||◌, cond, List, [], ◌∷◌, ◌++◌, length, Option, Some, None, find, option_map, unwrap_or, is_some, refl, sym, ap, ◌∙◌, subst, arith, IfSome, list_any, and_parts, eqb-true, false≢true, length-map, Name16, EntryId, Name, same_name-eq, same_name-refl, pairwise, none_from_all, list_all_weaker, find_none, found_passes, any_is_found, filter_all, all_from_none, Named, id_of, Key16, all-map, split_found, Record, Lists, record_id, is_id, ids_apart, all_records, records_of, with_records, record_of, records_without, lists_without, lists_replaced, has_name, names_apart, elements_in, elements_of, with_record, with_new_key, IsWith, with-pairwise, with-records, with-insertion, with-push, sum-with, in-found, all-without, names_apart-sym, size, with-without, record_of-at, put_back, is_its, AreNamed, WritesIts}
+use Rattle.list_kept.proofs.Imports.{find-append, ◌≡◌, ℕ, ◌+◌, ◌<◌, Bool, true, false, not, cond, List, [], ◌∷◌, ◌++◌, length, Option, Some, None, find, option_map, is_some, refl, sym, ap, ◌∙◌, subst, arith, IfSome, list_any, and_parts, eqb-true, false≢true, length-map, Name16, EntryId, Name, same_name-eq, same_name-refl, pairwise, none_from_all, list_all_weaker, find_none, found_passes, any_is_found, filter_all, all_from_none, Named, id_of, Key16, all-map, split_found, Record, Lists, record_id, is_id, ids_apart, all_records, records_of, with_records, record_of, records_without, lists_without, lists_replaced, has_name, names_apart, elements_in, elements_of, with_record, with_new_key, IsWith, with-pairwise, with-records, with-insertion, with-push, sum-with, in-found, all-without, names_apart-sym, size, with-without, record_of-at, put_back, is_its, AreNamed, WritesIts}
 
 -- what is found among records with one more
-find_front : (p : Record → Bool) (rec : Record) (front back : List Record)
-    → (p rec ≡ true → list_any p (front ++ back) ≡ false)
-    → find p (front ++ rec ∷ back) ≡ cond (p rec) (Some rec) (find p (front ++ back))
-find_front p rec [] back alone = refl
-find_front p rec (x ∷ xs) back alone = go (p x) (p rec) refl refl
-    (find_front p rec xs back (λ e. later (p x) (alone e)))
-  where
-    later : (b : Bool) → b || list_any p (xs ++ back) ≡ false → list_any p (xs ++ back) ≡ false
-    later true e = absurd (false≢true (sym e))
-    later false e = e
-
-    none : (b : Bool) → b || list_any p (xs ++ back) ≡ false → b ≡ false
-    none true e = e
-    none false e = refl
-
-    go : (a b : Bool) → p x ≡ a → p rec ≡ b
-        → find p (xs ++ rec ∷ back) ≡ cond (p rec) (Some rec) (find p (xs ++ back))
-        → cond a (Some x) (find p (xs ++ rec ∷ back)) ≡ cond (p rec) (Some rec) (cond a (Some x) (find p (xs ++ back)))
-    go true true e f ih = absurd (false≢true (sym (none (p x) (alone f)) ∙ e))
-    go true false e f ih = rw f refl
-    go false b e f ih = ih
+find_front : (p : Record → Bool) (rec : Record) (front back : List Record) → (p rec ≡ true → list_any
+    p (front ++ back) ≡ false) → find p (front ++ rec ∷ back) ≡ cond (p rec) (Some rec) (find p (front ++ back))
+find_front p rec front back alone = grind (arith, find-append, any_is_found)
 
 find_with : (p : Record → Bool) (rec : Record) (xs ys : List Record) → IsWith rec xs ys
     → (p rec ≡ true → list_any p xs ≡ false) → find p ys ≡ cond (p rec) (Some rec) (find p xs)
@@ -45,10 +27,8 @@ apart_names name rec other h e = go rec.name refl h e
 alone_by : (name : Name16) (rec : Record) (xs ys : List Record) → IsWith rec xs ys → pairwise names_apart ys ≡ true
     → has_name name rec ≡ true → list_any (has_name name) xs ≡ false
 alone_by name rec xs ys w h e =
-    none_from_all (has_name name) xs
-    (list_all_weaker (λ other. names_apart rec other && names_apart other rec) (λ other. not (has_name name other))
-    (λ other k. apart_names name rec other (and_parts (names_apart rec other) (names_apart other rec) k).0 e) xs
-    (with-pairwise names_apart names_apart-sym rec xs ys w h))
+    let apart = with-pairwise names_apart names_apart-sym rec xs ys w h in
+    grind (arith, none_from_all, list_all_weaker, apart_names, and_parts)
 
 has_is : (name : Name16) (rec : Record) → has_name name rec ≡ is_its rec.name name
 has_is name rec = grind arith
@@ -57,23 +37,12 @@ id_with : (name : Name16) (rec : Record) (xs ys : List Record) → IsWith rec xs
     → option_map (λ r. r.id) (find (has_name name) ys)
     ≡ cond (is_its rec.name name) (Some rec.id) (option_map (λ r. r.id) (find (has_name name) xs))
 id_with name rec xs ys w h =
-    ap (option_map {T = Record} {U = EntryId} (λ r. r.id))
-    (find_with (has_name name) rec xs ys w (alone_by name rec xs ys w h))
-    ∙ inner (has_name name rec) ∙ ap (λ b. cond b (Some rec.id)
-    (option_map (λ (r : Record). r.id) (find (has_name name) xs)))
-    (has_is name rec)
-  where
-    inner : (b : Bool) → option_map {T = Record} {U = EntryId} (λ r. r.id) (cond b (Some rec) (find (has_name name) xs))
-        ≡ cond b (Some rec.id) (option_map {T = Record} {U = EntryId} (λ r. r.id) (find (has_name name) xs))
-    inner true = refl
-    inner false = refl
+    let found = find_with (has_name name) rec xs ys w (alone_by name rec xs ys w h) in grind (arith, has_is)
 
 -- a record more
-pub named_more : (names after : Named) (rec : Record) (xs ys : List Record) → IsWith rec xs ys
-    → pairwise names_apart ys ≡ true → AreNamed names xs → WritesIts names rec.name (Some rec.id) after
-    → AreNamed after ys
-named_more names after rec xs ys w h are writes name =
-    writes name ∙ ap (λ o. cond (is_its rec.name name) (Some rec.id) o) (are name) ∙ sym (id_with name rec xs ys w h)
+pub named_more : (names after : Named) (rec : Record) (xs ys : List Record) → IsWith rec xs ys → pairwise
+    names_apart ys ≡ true → AreNamed names xs → WritesIts names rec.name (Some rec.id) after → AreNamed after ys
+named_more names after rec xs ys w h are writes name = grind (arith, id_with)
 
 -- a record less
 pub named_less : (names after : Named) (rec : Record) (xs ys : List Record) → IsWith rec xs ys
@@ -84,12 +53,9 @@ named_less names after rec xs ys w h are writes name = go (is_its rec.name name)
         ≡ cond (is_its rec.name name) (Some rec.id) (option_map (λ r. r.id) (find (has_name name) xs))
     before = are name ∙ id_with name rec xs ys w h
 
-    go : (b : Bool) → is_its rec.name name ≡ b
-        → id_of name after ≡ option_map (λ r. r.id) (find (has_name name) xs)
-    go true e =
-        writes name ∙ ap (λ b. cond b None (id_of name names)) e
-        ∙ sym (ap (option_map {T = Record} {U = EntryId} (λ r. r.id)) (find_none (has_name name) xs
-        (alone_by name rec xs ys w h (has_is name rec ∙ e))))
+    go : (b : Bool) → is_its rec.name name ≡ b → id_of name after ≡ option_map (λ r. r.id) (find (has_name name) xs)
+    go true e = writes name ∙ ap (λ b. cond b None (id_of name names)) e ∙ sym (ap (option_map {T = Record}
+        {U = EntryId} (λ r. r.id)) (find_none (has_name name) xs (alone_by name rec xs ys w h (has_is name rec ∙ e))))
     go false e = grind (arith, before)
 
 -- a record of the same name and id in place of another
@@ -97,12 +63,7 @@ pub named_other : (names : Named) (rec other : Record) (xs ys zs : List Record) 
     → pairwise names_apart ys ≡ true → pairwise names_apart zs ≡ true → rec.name ≡ other.name → rec.id ≡ other.id
     → AreNamed names ys → AreNamed names zs
 named_other names rec other xs ys zs w v h k same id are name =
-    are name ∙ id_with name rec xs ys w h
-    ∙ ap (λ (o : Option Name16). cond (is_its o name) (Some rec.id)
-    (option_map (λ (r : Record). r.id) (find (has_name name) xs))) same
-    ∙ ap (λ (i : EntryId). cond (is_its other.name name) (Some i)
-    (option_map (λ (r : Record). r.id) (find (has_name name) xs))) id
-    ∙ sym (id_with name other xs zs v k)
+    cc (are name, id_with name rec xs ys w h, id_with name other xs zs v k, same, id)
 
 -- a record that comes has a name that nobody has
 pub named_new : (names : Named) (rec : Record) (xs ys : List Record) → IsWith rec xs ys → pairwise names_apart ys ≡ true
@@ -112,8 +73,7 @@ named_new names rec xs ys w h are = go rec.name refl
     go : (o : Option Name16) → rec.name ≡ o → IfSome o (λ name. id_of name names ≡ None)
     go None e = tt
     go (Some name) e =
-        let its : has_name name rec ≡ true = has_is name rec ∙ ap (λ (o : Option Name16). is_its o name) e
-        ∙ same_name-refl name in
+        let its : has_name name rec ≡ true = grind (arith, has_is, same_name-refl) in
         are name
         ∙ ap (option_map {T = Record} {U = EntryId} (λ r. r.id))
         (find_none (has_name name) xs (alone_by name rec xs ys w h its))
@@ -121,8 +81,7 @@ named_new names rec xs ys w h are = go rec.name refl
 -- ---- all records, with one more or less
 
 pub same_id : (id : EntryId) (rec : Record) → is_id id rec ≡ true → id ≡ rec.id
-same_id id rec e =
-    let made : ℕ → EntryId = λ (n : ℕ). record { 0 = n } in ap made (sym (eqb-true rec.id.0 id.0 e))
+same_id id rec e = grind (arith, eqb-true)
 
 -- the record with an id is taken out
 pub taken : (id : EntryId) (lists : Lists) (rec : Record) → pairwise ids_apart (all_records lists) ≡ true
@@ -136,14 +95,12 @@ came head header rec lists lt = grind (arith, with-records, with-insertion)
 
 pub came_last : (header : ℕ) (rec : Record) (lists : Lists) → header < length lists
     → IsWith rec (all_records lists) (all_records (with_records lists header (records_of lists header ++ rec ∷ [])))
-came_last header rec lists lt =
-    with-records rec lists header (records_of lists header ++ rec ∷ []) lt (with-push rec (records_of lists header))
+came_last header rec lists lt = grind (arith, with-records, with-push)
 
 -- one that was taken out comes to its place
 pub came_back : (head : Bool) (header : ℕ) (key : Option Key16) (id : EntryId) (rec : Record) (lists : Lists)
-    → header < length lists → record_of id lists ≡ Some rec
-    → IsWith (with_new_key key rec) (all_records (lists_without id lists))
-    (all_records (put_back head header key (record_of id lists) (lists_without id lists)))
+    → header < length lists → record_of id lists ≡ Some rec → IsWith (with_new_key key rec) (all_records
+    (lists_without id lists)) (all_records (put_back head header key (record_of id lists) (lists_without id lists)))
 came_back head header key id rec lists lt e = grind (arith, IsWith, came, length-map)
 
 -- a record stands in place of another
@@ -165,12 +122,11 @@ replaced lists old rec apart e =
 -- a record that is there is found
 pub some_found : (id : EntryId) (lists : Lists) → list_any (is_id id) (all_records lists) ≡ true
     → (rec : Record) × (record_of id lists ≡ Some rec)
-some_found id lists h = go (record_of id lists) refl (sym (any_is_found (is_id id) (all_records lists)) ∙ h)
+some_found id lists h = go (record_of id lists) refl
   where
-    go : (o : Option Record) → record_of id lists ≡ o → is_some (record_of id lists) ≡ true
-        → (rec : Record) × (record_of id lists ≡ Some rec)
-    go None e f = absurd (false≢true (sym (ap is_some e) ∙ f))
-    go (Some rec) e f = (rec, e)
+    go : (o : Option Record) → record_of id lists ≡ o → (rec : Record) × (record_of id lists ≡ Some rec)
+    go None e = grind (arith, false≢true, any_is_found)
+    go (Some rec) e = (rec, e)
 
 pub elements_with : (rec : Record) (xs ys : List Record) → IsWith rec xs ys
     → elements_in ys ≡ elements_in xs + elements_of rec.body
@@ -186,18 +142,13 @@ named_found names lists name id apart are e = go (find (has_name name) (all_reco
     go : (o : Option Record) → find (has_name name) (all_records lists) ≡ o
         → record_of id lists ≡ find (has_name name) (all_records lists)
     go None f = grind arith
-    go (Some rec) f =
-        let its : id_of name names ≡ Some rec.id =
-        are name ∙ ap (option_map {T = Record} {U = EntryId} (λ r. r.id)) f in
-        let same : id ≡ rec.id = ap (λ (o : Option EntryId). unwrap_or o id) (sym e ∙ its) in
-        ap (λ (i : EntryId). record_of i lists) same ∙ record_of-at lists (Name name) rec apart f ∙ sym f
+    go (Some rec) f = let found = record_of-at lists (Name name) rec apart f in grind arith
 
 pub elements_found : (id : EntryId) (lists : Lists) (rec : Record) → pairwise ids_apart (all_records lists) ≡ true
     → record_of id lists ≡ Some rec
     → elements_in (all_records lists) ≡ elements_in (records_without id (all_records lists)) + elements_of rec.body
-elements_found id lists rec apart e =
-    elements_with rec (all_records (lists_without id lists)) (all_records lists) (taken id lists rec apart e)
-    ∙ ap (λ (l : List Record). elements_in l + elements_of rec.body) (all-without id lists)
+elements_found id lists rec apart e = elements_with rec (all_records (lists_without id lists)) (all_records lists)
+    (grind (arith, taken)) ∙ ap (λ (l : List Record). elements_in l + elements_of rec.body) (all-without id lists)
 
 pub elements_absent : (id : EntryId) (lists : Lists) → record_of id lists ≡ None
     → elements_in (records_without id (all_records lists)) ≡ elements_in (all_records lists)

@@ -1,5 +1,5 @@
 -- Where a record comes to stand among records in order.
-use Rattle.list_kept.proofs.Imports.{◌≡◌, ℕ, ◌≤◌, Bool, true, false, not, ◌||◌, Option, List, [], length, replicate, zero, suc, refl, sym, ap, ◌∙◌, arith, list_all, false≢true, get_or_past, Key16, EntryId, pairwise, pairwise_weaker, pairwise-filter, goes_first, list_of-get_or, Record, Lists, records_of, all_records, lists_without, all-replicate, key_up_to, may_precede, elements_in, key_up_to-trans, all-without, ordered_without, comes_behind, Named, AreNamed, IsOrderly}
+use Rattle.list_kept.proofs.Imports.{◌≡◌, ℕ, ◌≤◌, Bool, true, false, not, Option, List, [], length, replicate, zero, suc, refl, sym, ap, ◌∙◌, arith, list_all, false≢true, get_or_past, Key16, EntryId, pairwise, pairwise_weaker, pairwise-filter, goes_first, list_of-get_or, Record, Lists, records_of, all_records, lists_without, all-replicate, key_up_to, may_precede, elements_in, key_up_to-trans, all-without, ordered_without, comes_behind, Named, AreNamed, IsOrderly}
 use Rattle.list_kept.proofs.ReadLaws.{elements_fewer}
 
 behind_too : (head : Bool) (key : Option Key16) (x y : Record) → may_precede x y ≡ true
@@ -11,15 +11,10 @@ behind_too true key x y h e = go (key_up_to key x.key) refl
     go false k = ap not k
 behind_too false key x y h e = key_up_to-trans x.key y.key key h e
 
-first_behind : (head : Bool) (key : Option Key16) (x y : Record) → may_precede x y ≡ true
-    → goes_first (comes_behind head key) x y ≡ true
-first_behind head key x y h = grind (arith, behind_too)
-
 -- those that stand before one that comes are the first ones
 pub ordered_first : (head : Bool) (key : Option Key16) (recs : List Record) → pairwise may_precede recs ≡ true
     → pairwise (goes_first (comes_behind head key)) recs ≡ true
-ordered_first head key recs h =
-    pairwise_weaker may_precede (goes_first (comes_behind head key)) (first_behind head key) recs h
+ordered_first head key recs h = grind (arith, pairwise_weaker, behind_too)
 
 -- records stay in order without one of them
 pub orderly-without : (n : ℕ) (id : EntryId) (lists : Lists) → IsOrderly n lists
@@ -41,5 +36,4 @@ orderly-none elements n = grind (arith, no_order, all-replicate, no_elements)
 
 -- no header, no records
 pub none_past : (lists : Lists) (header : ℕ) → length lists ≤ header → records_of lists header ≡ []
-none_past lists header past =
-    list_of-get_or lists header ∙ get_or_past lists header [] past
+none_past lists header past = list_of-get_or lists header ∙ get_or_past lists header [] past

@@ -3,22 +3,22 @@ pub use Rattle.std.proofs.Common.{◌≡◌, ℕ, ◌+◌, ◌-◌, ◌<◌, ◌
 pub use Rattle.std.proofs.lemmas.Bool.{and_parts, and_from, not-true, false≢true, or_from, or_parts, eqb-true, or_right}
 pub use Rattle.std.proofs.lemmas.Bool.Decides.{nat_tests}
 pub use Rattle.std.proofs.lemmas.Cmp.{upto}
-pub use Rattle.std.proofs.lemmas.List.{length-map, length-replicate, take_all, take-take, take-map, map-append}
+pub use Rattle.std.proofs.lemmas.List.{get_or-set_other, take_more, get_or_append_left, append-nil, length-map, length-replicate, take_all, take-take, take-map, map-append}
 pub use Rattle.std.proofs.lemmas.List.Elements.{filter-append}
-pub use Rattle.std.proofs.lemmas.List.Folds.{list_all-map, list_all-append}
+pub use Rattle.std.proofs.lemmas.List.Folds.{list_any-append, find_at, list_all-map, list_all-append}
 pub use Rattle.std.proofs.lemmas.List.Sums.{sum_by-cons, sum_by-append, fold-append}
-pub use Rattle.std.proofs.lemmas.Option.{slice_get_within, slice_get-map}
+pub use Rattle.std.proofs.lemmas.Option.{slice_get-get_or, slice_get_within, slice_get-map}
 pub use Rattle.std.specs.Cmp.Lexicographic.{slice_cmp, nat_list_cmp_total}
-pub use Rattle.std.specs.List.{list_all, list_any, prefix_len}
+pub use Rattle.std.specs.List.{position_or_len, list_all, list_any, prefix_len}
 pub use Rattle.std.specs.Option.{option_or}
 pub use Rattle.std.specs.Ordering.{ordering_reverse}
-pub use Rattle.cf_lists.proofs.AllLaws.{none_behind, pairwise_back}
+pub use Rattle.cf_lists.proofs.AllLaws.{list_of-get_or, pairwise_middle, none_behind, pairwise_back}
 pub use Rattle.cf_lists.proofs.FilterLaws.{list_all-filter, list_all_weaker, list_all_always, list_all-filter_same, filter_all, length-filter-le, sum_by-filter-le, any_is_found, all_from_none, none_from_all}
 pub use Rattle.cf_lists.proofs.IdLaws.{once}
 pub use Rattle.cf_lists.proofs.InsertionLaws.{insert-prefix_len}
 pub use Rattle.cf_lists.proofs.KeyLaws.{any_is_placed}
 pub use Rattle.cf_lists.proofs.PairwiseLaws.{pairwise-filter, pairwise-map, pairwise_front, pairwise_push, FindsPlace, pairwise-insertion}
-pub use Rattle.cf_lists.proofs.TakeLaws.{take_next}
+pub use Rattle.cf_lists.proofs.TakeLaws.{split_next, take_next}
 pub use Rattle.cf_lists.specs.Insertions.{insertion}
 pub use Rattle.cf_lists.specs.Pairwise.{pairwise}
 pub use Rattle.cf_types.proofs.ResourceLaws.{same_name-eq, same_name-refl}

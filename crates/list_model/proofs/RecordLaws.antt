@@ -11,57 +11,47 @@ turned Greater = refl
 pub key_back : (a b : Key16) → key_before b a ≡ is_gt (slice_cmp nat_cmp a.0 b.0)
 key_back a b = ap is_lt (nat_list_cmp_total.antisymm b.0 a.0) ∙ turned (slice_cmp nat_cmp a.0 b.0)
 
-keys-trans : (a b c : Key16) → not (key_before b a) ≡ true → not (key_before c b) ≡ true
-    → not (key_before c a) ≡ true
-keys-trans a b c ab bc =
-    let first : is_gt (slice_cmp nat_cmp a.0 b.0) ≡ false = sym (key_back a b) ∙ not-true (key_before b a) ab in
-    let second : is_gt (slice_cmp nat_cmp b.0 c.0) ≡ false = sym (key_back b c) ∙ not-true (key_before c b) bc in
-    ap not (key_back a c ∙ upto nat_list_cmp_total a.0 b.0 c.0 first second)
+keys-trans : (a b c : Key16) → not (key_before b a) ≡ true → not (key_before c b) ≡ true → not (key_before c a) ≡ true
+keys-trans a b c ab bc = grind (arith, key_back, upto, nat_list_cmp_total)
 
 not_both : (o : Ordering) → is_lt o ≡ true → is_gt o ≡ false
 not_both Less h = refl
 not_both Equal h = refl
 not_both Greater h = absurd (false≢true h)
 
-keys-either : (a b : Key16) → not (key_before b a) ≡ false → not (key_before a b) ≡ true
-keys-either a b h = grind (arith, key_back, not_both, false≢true)
-
 pub key_up_to-trans : (a b c : Option Key16) → key_up_to a b ≡ true → key_up_to b c ≡ true → key_up_to a c ≡ true
 key_up_to-trans None b c ab bc = refl
-key_up_to-trans (Some a) None c ab bc = absurd (false≢true ab)
-key_up_to-trans (Some a) (Some b) None ab bc = absurd (false≢true bc)
 key_up_to-trans (Some a) (Some b) (Some c) ab bc = keys-trans a b c ab bc
+key_up_to-trans (Some a) None c ab bc = absurd (false≢true ab)
+key_up_to-trans (Some a) b None ab bc = grind (arith, false≢true)
 
 -- of two keys one isn't behind the other
 pub key_up_to-either : (a b : Option Key16) → key_up_to a b ≡ false → key_up_to b a ≡ true
 key_up_to-either None b h = absurd (false≢true (sym h))
 key_up_to-either (Some a) None h = refl
-key_up_to-either (Some a) (Some b) h = keys-either a b h
+key_up_to-either (Some a) (Some b) h = grind (arith, key_back, not_both, false≢true)
 
 pub not_false : (b : Bool) → not b ≡ false → b ≡ true
 not_false true h = refl
 not_false false h = absurd (false≢true (sym h))
 
 finds_place : (head : Bool) (rec : Record) → FindsPlace may_precede (stands_before head rec) (λ other. true) rec
-finds_place true rec =
-    record {
-      front = λ other h. key_up_to-either rec.key other.key (not-true (key_up_to rec.key other.key) h);
-      stop = λ other among h. not_false (key_up_to rec.key other.key) h;
-      follows = λ other last h k. key_up_to-trans rec.key other.key last.key h k;
-    }
-finds_place false rec =
-    record {
-      front = λ other h. h;
-      stop = λ other among h. key_up_to-either other.key rec.key h;
-      follows = λ other last h k. key_up_to-trans rec.key other.key last.key h k;
-    }
+finds_place true rec = record {
+  front = λ other h. key_up_to-either rec.key other.key (not-true (key_up_to rec.key other.key) h);
+  stop = λ other among h. not_false (key_up_to rec.key other.key) h;
+  follows = λ other last h k. key_up_to-trans rec.key other.key last.key h k;
+}
+finds_place false rec = record {
+  front = λ other h. h;
+  stop = λ other among h. key_up_to-either other.key rec.key h;
+  follows = λ other last h k. key_up_to-trans rec.key other.key last.key h k;
+}
 
 -- a record that comes to its place leaves the header ascending by key
 pub ordered-with : (head : Bool) (rec : Record) (records : List Record) → pairwise may_precede records ≡ true
     → pairwise may_precede (insertion (stands_before head rec) rec records) ≡ true
-ordered-with head rec records h =
-    pairwise-insertion may_precede (stands_before head rec) (λ other. true) rec records (finds_place head rec)
-    (list_all_always (λ other. true) (λ other. refl) records) h
+ordered-with head rec records h = pairwise-insertion may_precede (stands_before head rec)
+    (λ other. true) rec records (finds_place head rec) (list_all_always (λ other. true) (λ other. refl) records) h
 
 -- ---- ids and names apart
 
@@ -85,12 +75,5 @@ name_turned a b h = subst (λ (n : Name16). same_name n a ≡ true) (same_name-e
 pub same_name-sym : (a b : Name16) → same_name a b ≡ same_name b a
 same_name-sym a b = implied (same_name a b) (same_name b a) (name_turned a b) (name_turned b a)
 
-names_sym : (rec other : Record) (a b : Option Name16) → rec.name ≡ a → other.name ≡ b
-    → names_apart rec other ≡ names_apart other rec
-names_sym rec other None None e f = rw (e, f) refl
-names_sym rec other None (Some b) e f = rw (e, f) refl
-names_sym rec other (Some a) None e f = rw (e, f) refl
-names_sym rec other (Some a) (Some b) e f = rw (e, f) (ap not (same_name-sym b a))
-
 pub names_apart-sym : (rec other : Record) → names_apart rec other ≡ names_apart other rec
-names_apart-sym rec other = names_sym rec other rec.name other.name refl refl
+names_apart-sym rec other = grind (arith, same_name-sym)

@@ -1,15 +1,11 @@
 -- What proofs here name of other crates, and of this one's definitions. Declares nothing.
+pub use Rattle.cf_types.proofs.Imports.{eqb_tells, list_all-append, position-Some, sum_by-set, sum_by-cons, get_or_from_slice_get, slice_get-get_or, list_any, list_all, remove, vec_len, vec_capacity}
+pub use Rattle.cf_lists.proofs.Imports.{records_of, all_records, record_of, lists_with, lists_without, lists_replaced, replaced_by, ids_apart, IsLastFull, stands, pairwise}
+pub use Rattle.cf_pool.proofs.Imports.{need_of, IsChain, need_at, Chains, need_in, with_chain, without_chain}
 pub use Rattle.std.proofs.Common.{◌≡◌, ◌≢◌, ℕ, zero, suc, ◌+◌, List, [], ◌∷◌, ◌++◌, set, get_or, slice_get, sum_by, Option, None, Some, refl, sym, ap, ◌∙◌, subst, arith, get_or-set_other, true, false, option_map, position, ◌-◌, ◌<◌, not, map, replicate, length, is_some, Result, Ok, Err, Bor, IfSome, IfNone, IfOk, OnErr, nat_le, ◌≤◌, inl, inr, Bool, cond, ◌==◌, take, unwrap_or, IsSome, slice_index_or, ◌&&◌, drop}
 pub use Rattle.std.proofs.lemmas.Bool.{false≢true, and_from, and_parts, le-leb, leb-true, eq-eqb, eqb-true, ltb-true, lt-ltb}
-pub use Rattle.std.proofs.lemmas.Bool.Decides.{eqb_tells}
 pub use Rattle.std.proofs.lemmas.List.{length-map, drop_all, append-nil, get_or-map, map-set, set-get_or, take_more_set, drop_more, nil_from_length, length-replicate}
 pub use Rattle.std.proofs.lemmas.List.Edits.{length-remove}
-pub use Rattle.std.proofs.lemmas.List.Folds.{list_all-append}
-pub use Rattle.std.proofs.lemmas.List.Quantifiers.{position-Some}
-pub use Rattle.std.proofs.lemmas.List.Sums.{sum_by-set, sum_by-cons}
-pub use Rattle.std.proofs.lemmas.Option.{get_or_from_slice_get, slice_get-get_or}
-pub use Rattle.std.specs.List.{list_any, list_all, remove}
-pub use Rattle.std.specs.Vec.{vec_len, vec_capacity}
 pub use Rattle.std.specs.declared.alloc.Global.{Global}
 pub use Rattle.std.specs.declared.vec.Vec.{Vec}
 pub use Rattle.cf_lists.proofs.AllLaws.{list_of-get_or, any_all, all-filter, all-map, list_of}
@@ -21,11 +17,6 @@ pub use Rattle.cf_lists.proofs.RecordOrderLaws.{stands_new, stands_more, stands_
 pub use Rattle.cf_lists.proofs.RecordSpotLaws.{get_within, placed_at, spot_there, no_spot, header_within}
 pub use Rattle.cf_lists.proofs.SplitLaws.{Every, every_at, every_found, all_with, agree_all, IsSplit, split_found}
 pub use Rattle.cf_lists.proofs.TableLaws.{get-set_other}
-pub use Rattle.cf_lists.specs.Lists.{records_of, all_records, record_of, lists_with, lists_without, lists_replaced, replaced_by, ids_apart, IsLastFull}
-pub use Rattle.cf_lists.specs.Orders.{stands}
-pub use Rattle.cf_lists.specs.Pairwise.{pairwise}
-pub use Rattle.cf_pool.specs.Chains.{need_of}
-pub use Rattle.cf_pool.specs.Pools.{IsChain, need_at, Chains, need_in, with_chain, without_chain}
 pub use Rattle.cf_pool.specs.declared.chain.Chain.{Chain}
 pub use Rattle.cf_pool.specs.declared.no_elements.NoElements.{NoElements}
 pub use Rattle.cf_types.specs.declared.numbers.EntryId.{EntryId}

@@ -48,8 +48,7 @@ module _ (chains : List (Option (List ℕ))) (lists : List (List Rec)) (held : A
         × (loose_in chains (all_records (lists_with h p rec lists)) ≡ chains_less rec.body loose)
     added =
         let s = all_with h p rec lists lt in
-        let m = held_middle chains s.0 s.1 rec (subst (λ l. HasChain (loose_in chains l) rec.body) s.2 has)
-        (subst (λ l. AreHeld chains l) s.2 held) in (grind arith)
+        let m = held_middle chains s.0 s.1 rec (grind arith) (subst (λ l. AreHeld chains l) s.2 held) in (grind arith)
 
     pub added_held : AreHeld chains (all_records (lists_with h p rec lists))
     added_held = added.0
@@ -64,9 +63,8 @@ module _ (chains : List (Option (List ℕ))) (lists : List (List Rec)) (held : A
     split = split_found rec_id id (all_records lists) rec apart found
 
     middle : (HasChain (loose_in chains (split.front ++ split.back)) rec.body
-        × AreHeld chains (split.front ++ split.back))
-        × (loose_in chains (split.front ++ rec ∷ split.back)
-        ≡ chains_less rec.body (loose_in chains (split.front ++ split.back)))
+        × AreHeld chains (split.front ++ split.back)) × (loose_in
+        chains (split.front ++ rec ∷ split.back) ≡ chains_less rec.body (loose_in chains (split.front ++ split.back)))
     middle = loose_middle chains split.front split.back rec (subst (λ l. AreHeld chains l) split.whole held)
 
     rest : all_records (lists_without rec_id id lists) ≡ split.front ++ split.back
@@ -122,14 +120,12 @@ module _ (chains : List (Option (List ℕ))) (lists : List (List Rec)) (held : A
     replaced_was = grind (arith, was, less_swap, still, now, rec.body, old.body, into.1)
 
   -- ---- a record that was taken out, if it was there
-  pub taken_out : (id : ℕ) (new : List (List Rec)) (o : Option Rec)
-      → pairwise (ids_apart rec_id) (all_records lists) ≡ true
-      → o ≡ record_of rec_id id lists → new ≡ lists_without rec_id id lists → TakenOut chains lists new o
+  pub taken_out : (id : ℕ) (new : List (List Rec)) (o : Option Rec) → pairwise (ids_apart rec_id) (all_records lists)
+      ≡ true → o ≡ record_of rec_id id lists → new ≡ lists_without rec_id id lists → TakenOut chains lists new o
   taken_out id new (Some rec) apart found is = grind (arith, taken_held, taken_chain, was, taken_was)
   taken_out id new None apart found is =
-      let absent : list_any (has_id rec_id id) lists ≡ false =
-      sym (any_all (is_id rec_id id) lists) ∙ any_is_found (is_id rec_id id) (all_records lists)
-      ∙ ap is_some (sym found) in
+      let absent : list_any (has_id rec_id id) lists ≡ false = sym (any_all (is_id rec_id id) lists)
+      ∙ any_is_found (is_id rec_id id) (all_records lists) ∙ ap is_some (sym found) in
       let same : new ≡ lists = is ∙ without_absent rec_id id lists absent in
       record {
         held = subst (λ l. AreHeld chains (all_records l)) (sym same) held;
@@ -139,11 +135,10 @@ module _ (chains : List (Option (List ℕ))) (lists : List (List Rec)) (held : A
       }
 
   -- the last record
-  pub popped_out : (new : TableView) (o : Option (ℕ × Rec)) (old : TableView) → old.lists ≡ lists
-      → pairwise (ids_apart rec_id) (all_records lists) ≡ true
-      → IfSome o (λ out. record_of rec_id out.1.id.0 lists ≡ Some out.1)
-      → IfSome o (λ out. new.lists ≡ lists_without rec_id out.1.id.0 lists) → IfNone o (new ≡ old)
-      → PoppedOut chains lists new.lists o
+  pub popped_out : (new : TableView) (o : Option (ℕ × Rec)) (old : TableView) → old.lists ≡ lists → pairwise
+      (ids_apart rec_id) (all_records lists) ≡ true → IfSome o (λ out. record_of rec_id out.1.id.0 lists ≡ Some out.1)
+      → IfSome o (λ out. new.lists ≡ lists_without rec_id out.1.id.0 lists)
+      → IfNone o (new ≡ old) → PoppedOut chains lists new.lists o
   popped_out new (Some out) old is apart found without same =
       let r = taken_out out.1.id.0 new.lists (Some out.1) apart (sym found) without in
       record { held = r.held; chain = r.chain; was = r.was }
@@ -159,9 +154,8 @@ module _ (chains : List (Option (List ℕ))) (lists : List (List Rec)) (held : A
   pub chain_of : (id : ℕ) (o : Option (Bor Rec)) → option_map (λ rec. rec.now) o ≡ record_of rec_id id lists
       → IfSome o (λ rec. HasChain chains rec.now.body)
   chain_of id None e = tt
-  chain_of id (Some rec) e =
-      every_found (λ r. HasChain chains r.body) (is_id rec_id id) (all_records lists) rec.now
-      (each_chain chains (all_records lists) held) (sym e)
+  chain_of id (Some rec) e = every_found (λ r. HasChain chains r.body)
+      (is_id rec_id id) (all_records lists) rec.now (each_chain chains (all_records lists) held) (sym e)
 
   -- ---- a change at a place where no record's chain begins
   module _ (k : ℕ) (o : Option (List ℕ)) where
@@ -172,21 +166,18 @@ module _ (chains : List (Option (List ℕ))) (lists : List (List Rec)) (held : A
     fresh_loose e = loose_change chains (all_records lists) k o (elsewhere_fresh chains (all_records lists) k e held)
 
     pub fresh_shown : slice_get chains k ≡ Some None → shown (set chains k o) lists ≡ shown chains lists
-    fresh_shown e =
-        agree_all (record_in (set chains k o)) (record_in chains) lists
-        (record_change chains (all_records lists) k o (elsewhere_fresh chains (all_records lists) k e held))
+    fresh_shown e = agree_all (record_in (set chains k o)) (record_in chains)
+        lists (record_change chains (all_records lists) k o (elsewhere_fresh chains (all_records lists) k e held))
 
     pub loose_held : IsChain loose k → AreHeld (set chains k o) (all_records lists)
-    loose_held c =
-        held_change chains (all_records lists) k o (elsewhere_loose chains (all_records lists) k c.0 c.1) held
+    loose_held c = grind (arith, held_change, elsewhere_loose)
 
     pub loose_loose : IsChain loose k → loose_in (set chains k o) (all_records lists) ≡ set loose k o
     loose_loose c = loose_change chains (all_records lists) k o (elsewhere_loose chains (all_records lists) k c.0 c.1)
 
     pub loose_shown : IsChain loose k → shown (set chains k o) lists ≡ shown chains lists
-    loose_shown c =
-        agree_all (record_in (set chains k o)) (record_in chains) lists
-        (record_change chains (all_records lists) k o (elsewhere_loose chains (all_records lists) k c.0 c.1))
+    loose_shown c = agree_all (record_in (set chains k o)) (record_in chains)
+        lists (record_change chains (all_records lists) k o (elsewhere_loose chains (all_records lists) k c.0 c.1))
 
   pub loose_chain : (k : ℕ) → IsChain loose k → IsChain chains k
   loose_chain k c = (c.0, loose_sub chains (all_records lists) k c.0 c.1)
@@ -211,8 +202,7 @@ shown_none chains (suc n) = ap (λ (l : List (List Record)). [] ∷ l) (shown_no
 
 pub held_none : (chains : List (Option (List ℕ))) (lists : List (List Rec)) (n : ℕ) → lists ≡ replicate n []
     → AreHeld chains (all_records lists) × (loose_in chains (all_records lists) ≡ chains)
-held_none chains lists n e =
-    subst (λ l. AreHeld chains (all_records l) × (loose_in chains (all_records l) ≡ chains)) (sym e) (go n)
+held_none chains lists n e = grind (arith, go)
   where
     go : (m : ℕ) → AreHeld chains (all_records (replicate m []))
         × (loose_in chains (all_records (replicate m [])) ≡ chains)
@@ -244,55 +234,44 @@ module _ (table : TableView) (pool new : Chains) (held : AreHeld pool.chains (al
 
   -- put
   pub put_held : (bytes : List ℕ) (r : Result Chain NoElements)
-      → IfOk r (λ chain. slice_get pool.chains chain.head ≡ Some None)
-      → IfOk r (λ chain. new ≡ with_chain pool chain.head bytes) → OnErr r (new ≡ pool)
-      → AreHeld new.chains (all_records table.lists)
-  put_held bytes (Ok chain) fresh put same =
-      subst (λ (p : Chains). AreHeld p.chains (all_records table.lists)) (sym put)
-      (fresh_held pool.chains table.lists held chain.head (Some bytes) fresh)
-  put_held bytes (Err e) fresh put same =
-      subst (λ (p : Chains). AreHeld p.chains (all_records table.lists)) (sym same) held
+      → IfOk r (λ chain. slice_get pool.chains chain.head ≡ Some None) → IfOk r (λ chain. new ≡ with_chain
+      pool chain.head bytes) → OnErr r (new ≡ pool) → AreHeld new.chains (all_records table.lists)
+  put_held bytes (Ok chain) fresh put same = subst (λ (p : Chains). AreHeld p.chains (all_records table.lists))
+      (sym put) (fresh_held pool.chains table.lists held chain.head (Some bytes) fresh)
+  put_held bytes (Err e) fresh put same = grind arith
 
   pub put_view : (bytes : List ℕ) (r : Result Chain NoElements)
       → IfOk r (λ chain. slice_get pool.chains chain.head ≡ Some None)
-      → IfOk r (λ chain. new ≡ with_chain pool chain.head bytes)
-      → IfOk r (λ chain. view_with table new ≡ record {
+      → IfOk r (λ chain. new ≡ with_chain pool chain.head bytes) → IfOk r (λ chain. view_with table new ≡ record {
         lists = shown pool.chains table.lists;
         chains = set pool.chains chain.head (Some bytes);
         loose = set old_loose chain.head (Some bytes);
         free = pool.free - need_of (length bytes);
         room = table.room;
       })
-  put_view bytes (Ok chain) fresh put =
-      ap (view_with table) put
-      ∙ view_by _ _ _ _ _ _ _ (fresh_shown pool.chains table.lists held chain.head (Some bytes) fresh)
-      (fresh_loose pool.chains table.lists held chain.head (Some bytes) fresh)
+  put_view bytes (Ok chain) fresh put = ap (view_with table) put ∙ view_by _ _
+      _ _ _ _ _ (fresh_shown pool.chains table.lists held chain.head (Some bytes) fresh) (grind (arith, fresh_loose))
   put_view bytes (Err e) fresh put = tt
 
   -- give back
   pub given_held : (k : ℕ) → IsChain old_loose k → new ≡ without_chain pool k
       → AreHeld new.chains (all_records table.lists)
-  given_held k c given =
-      subst (λ (p : Chains). AreHeld p.chains (all_records table.lists)) (sym given)
-      (loose_held pool.chains table.lists held k None c)
+  given_held k c given = subst (λ (p : Chains). AreHeld p.chains (all_records table.lists))
+      (sym given) (loose_held pool.chains table.lists held k None c)
 
-  pub given_view : (k : ℕ) → IsChain old_loose k → new ≡ without_chain pool k
-      → view_with table new ≡ record {
-        lists = shown pool.chains table.lists;
-        chains = set pool.chains k None;
-        loose = set old_loose k None;
-        free = pool.free + need_in pool.chains k;
-        room = table.room;
-      }
-  given_view k c given =
-      ap (view_with table) given
-      ∙ view_by _ _ _ _ _ _ _ (loose_shown pool.chains table.lists held k None c)
-      (loose_loose pool.chains table.lists held k None c)
+  pub given_view : (k : ℕ) → IsChain old_loose k → new ≡ without_chain pool k → view_with table new ≡ record {
+    lists = shown pool.chains table.lists;
+    chains = set pool.chains k None;
+    loose = set old_loose k None;
+    free = pool.free + need_in pool.chains k;
+    room = table.room;
+  }
+  given_view k c given = ap (view_with table) given ∙ view_by _ _ _
+      _ _ _ _ (loose_shown pool.chains table.lists held k None c) (loose_loose pool.chains table.lists held k None c)
 
 -- a new chain is at a place where no loose one was
-pub new_fresh : {E : Type 0} (chains : List (Option (List ℕ))) (recs : List Rec) → AreHeld chains recs
-    → (r : Result Chain E)
-    → IfOk r (λ chain. slice_get chains chain.head ≡ Some None)
+pub new_fresh : {E : Type 0} (chains : List (Option (List ℕ))) (recs : List Rec)
+    → AreHeld chains recs → (r : Result Chain E) → IfOk r (λ chain. slice_get chains chain.head ≡ Some None)
     → IfOk r (λ chain. slice_get (loose_in chains recs) chain.head ≡ Some None)
 new_fresh chains recs held (Ok chain) e = loose_fresh chains recs chain.head e held
 new_fresh chains recs held (Err e) f = tt
@@ -303,20 +282,16 @@ module _ (table : TableView) (pool new : Chains) (held : AreHeld pool.chains (al
   between : AreHeld (set pool.chains k None) (all_records table.lists)
   between = loose_held pool.chains table.lists held k None c
 
-  pub replace_held : (r : Result Chain (Chain × NoElements))
-      → IfOk r (λ chain. slice_get (without_chain pool k).chains chain.head ≡ Some None)
-      → IfOk r (λ chain. new ≡ with_chain (without_chain pool k) chain.head bytes) → OnErr r (new ≡ pool)
-      → AreHeld new.chains (all_records table.lists)
-  replace_held (Ok chain) fresh put same =
-      subst (λ (p : Chains). AreHeld p.chains (all_records table.lists)) (sym put)
-      (fresh_held (set pool.chains k None) table.lists between chain.head (Some bytes) fresh)
-  replace_held (Err e) fresh put same =
-      subst (λ (p : Chains). AreHeld p.chains (all_records table.lists)) (sym same) held
+  pub replace_held : (r : Result Chain (Chain × NoElements)) → IfOk
+      r (λ chain. slice_get (without_chain pool k).chains chain.head ≡ Some None) → IfOk r (λ chain. new ≡ with_chain
+      (without_chain pool k) chain.head bytes) → OnErr r (new ≡ pool) → AreHeld new.chains (all_records table.lists)
+  replace_held (Ok chain) fresh put same = subst (λ (p : Chains). AreHeld p.chains (all_records table.lists))
+      (sym put) (fresh_held (set pool.chains k None) table.lists between chain.head (Some bytes) fresh)
+  replace_held (Err e) fresh put same = grind arith
 
-  pub replace_view : (r : Result Chain (Chain × NoElements))
-      → IfOk r (λ chain. slice_get (without_chain pool k).chains chain.head ≡ Some None)
-      → IfOk r (λ chain. new ≡ with_chain (without_chain pool k) chain.head bytes)
-      → IfOk r (λ chain. view_with table new ≡ record {
+  pub replace_view : (r : Result Chain (Chain × NoElements)) → IfOk
+      r (λ chain. slice_get (without_chain pool k).chains chain.head ≡ Some None) → IfOk r (λ chain. new ≡ with_chain
+      (without_chain pool k) chain.head bytes) → IfOk r (λ chain. view_with table new ≡ record {
         lists = shown pool.chains table.lists;
         chains = set (set pool.chains k None) chain.head (Some bytes);
         loose = set (set (loose_in pool.chains (all_records table.lists)) k None) chain.head (Some bytes);
@@ -325,12 +300,8 @@ module _ (table : TableView) (pool new : Chains) (held : AreHeld pool.chains (al
       })
   replace_view (Ok chain) fresh put =
       let gone = set pool.chains k None in
-      ap (view_with table) put
-      ∙ view_by _ _ _ _ _ _ _
-      (fresh_shown gone table.lists between chain.head (Some bytes) fresh
-      ∙ loose_shown pool.chains table.lists held k None c)
-      (fresh_loose gone table.lists between chain.head (Some bytes) fresh
-      ∙ ap (λ l. set l chain.head (Some bytes)) (loose_loose pool.chains table.lists held k None c))
+      ap (view_with table) put ∙ view_by _ _ _ _ _ _ _ (fresh_shown gone table.lists between chain.head (Some bytes)
+      fresh ∙ loose_shown pool.chains table.lists held k None c) (grind (arith, fresh_loose, between, loose_loose))
   replace_view (Err e) fresh put = tt
 
 -- ---- each chain has 1 to 4,096 bytes
@@ -354,16 +325,13 @@ module _ (pool new : Chains) (bytes : List ℕ) (some : 1 ≤ length bytes) (few
 
 pub given_whole : (pool new : Chains) (k : ℕ) → list_all is_data pool.chains ≡ true → new ≡ without_chain pool k
     → list_all is_data new.chains ≡ true
-given_whole pool new k whole given =
-    ap (λ (p : Chains). list_all is_data p.chains) given ∙ list_all-set is_data pool.chains k None whole refl
+given_whole pool new k whole given = grind (arith, list_all-set)
 
-pub replace_whole : (pool new : Chains) (k : ℕ) (bytes : List ℕ) → 1 ≤ length bytes → length bytes ≤ 4096
-    → list_all is_data pool.chains ≡ true → (r : Result Chain (Chain × NoElements))
-    → IfOk r (λ chain. new ≡ with_chain (without_chain pool k) chain.head bytes) → OnErr r (new ≡ pool)
-    → list_all is_data new.chains ≡ true
+pub replace_whole : (pool new : Chains) (k : ℕ) (bytes : List ℕ) → 1 ≤ length bytes → length bytes ≤ 4096 → list_all
+    is_data pool.chains ≡ true → (r : Result Chain (Chain × NoElements)) → IfOk r (λ chain. new ≡ with_chain
+    (without_chain pool k) chain.head bytes) → OnErr r (new ≡ pool) → list_all is_data new.chains ≡ true
 replace_whole pool new k bytes some few whole (Ok chain) put same = grind (arith, list_all-set, is_whole)
-replace_whole pool new k bytes some few whole (Err e) put same =
-    ap (λ (p : Chains). list_all is_data p.chains) same ∙ whole
+replace_whole pool new k bytes some few whole (Err e) put same = grind arith
 
 pub data_size : (chains : List (Option (List ℕ))) (k : ℕ) (bytes : List ℕ) → list_all is_data chains ≡ true
     → slice_get chains k ≡ Some (Some bytes) → (1 ≤ length bytes) × (length bytes ≤ 4096)

@@ -1,5 +1,5 @@
 -- A record more or less in the slab, the orders and the map at once.
-use Rattle.list_store.proofs.Imports.{◌≡◌, ◌≢◌, inl, inr, ℕ, ◌<◌, ◌≤◌, Bool, true, false, cond, ◌==◌, List, [], ◌∷◌, ◌++◌, ◌-◌, length, map, set, take, replicate, slice_get, zero, suc, Option, Some, None, is_some, option_map, unwrap_or, refl, sym, ap, ◌∙◌, subst, arith, IsSome, IfSome, IfNone, slice_index_or, list_all, list_any, remove, false≢true, eq-eqb, eqb-true, ltb-true, eqb_tells, length-map, drop_all, append-nil, Slab, get, Updates, pairwise, find_none, all_records, records_of, record_of, lists_with, lists_without, lists_replaced, replaced_by, ids_apart, stands, any_all, list_of-get_or, IsPlaced, record_there, taken_there, without_absent, apart-with, apart-without, apart-changed, gone, placed_at, spot_there, no_spot, header_within, records_of-map, get-map, with-map, removed-map, stands_new, stands_more, stands_either, stands_at, stands_still, stands_before, place_stands, agree, any_stands, any_key, twice, Rec, rec_id, no_rec, rec_at, lists_at, spot_for, Writes, IsHeld, IsFound, IsTied, is_few}
+use Rattle.list_store.proofs.Imports.{◌≡◌, ◌≢◌, inl, inr, ℕ, ◌<◌, ◌≤◌, Bool, true, false, cond, ◌==◌, List, [], ◌∷◌, ◌-◌, length, map, set, take, replicate, slice_get, zero, suc, Option, Some, None, is_some, option_map, unwrap_or, refl, sym, ap, ◌∙◌, subst, arith, IsSome, IfSome, IfNone, slice_index_or, list_all, list_any, remove, false≢true, eq-eqb, eqb-true, ltb-true, eqb_tells, length-map, drop_all, append-nil, Slab, get, Updates, pairwise, find_none, all_records, records_of, record_of, lists_with, lists_without, lists_replaced, replaced_by, ids_apart, stands, any_all, list_of-get_or, IsPlaced, record_there, taken_there, without_absent, apart-with, apart-without, apart-changed, gone, placed_at, spot_there, no_spot, header_within, records_of-map, get-map, with-map, removed-map, stands_new, stands_more, stands_either, stands_at, stands_still, stands_before, place_stands, agree, any_stands, any_key, twice, Rec, rec_id, no_rec, rec_at, lists_at, spot_for, Writes, IsHeld, IsFound, IsTied, is_few}
 use Rattle.cf_lists.specs.Lists.{is_id, spot_of}
 use Rattle.list_store.proofs.VecLaws.{list_all-get_or}
 
@@ -41,27 +41,21 @@ module _ (slab : Slab Rec) (orders : List (List ℕ)) (spots : List (ℕ × (ℕ
       record_there rec_id rec.id.0 (lists_at slab orders) h p (key_placed h p k rec at e) ∙ key_there h p k rec at e
 
   -- ---- a record more
-  module _ (slab' : Slab Rec) (spots' : List (ℕ × (ℕ × ℕ))) (h p key : ℕ) (rec : Rec) (lt : h < length orders)
-      (within : p ≤ length (records_of orders h))
-      (alone : list_any (is_id rec_id rec.id.0) (all_records (lists_at slab orders)) ≡ false)
-      (vacant : get slab key ≡ None) (u : Updates slab slab' key (Some rec))
-      (w : Writes spots rec.id.0 (Some (h, key)) spots') where
+  module _ (slab' : Slab Rec) (spots' : List (ℕ × (ℕ × ℕ)))
+      (h p key : ℕ) (rec : Rec) (lt : h < length orders) (within : p ≤ length (records_of orders h)) (alone : list_any
+      (is_id rec_id rec.id.0) (all_records (lists_at slab orders)) ≡ false) (vacant : get slab key ≡ None)
+      (u : Updates slab slab' key (Some rec)) (w : Writes spots rec.id.0 (Some (h, key)) spots') where
     another : (i k : ℕ) → stands orders i k ≡ true → k ≢ key
-    another i k st e =
-        let r = t.held i k st in no_record (get slab key) r.«record» vacant (ap (get slab) (sym e) ∙ r.there)
+    another i k st e = grind (arith, no_record)
 
     pub put_lists : lists_at slab' (lists_with h p key orders) ≡ lists_with h p rec (lists_at slab orders)
-    put_lists =
-        with-map (rec_at slab') h p key orders
-        ∙ ap (λ (r : Rec). lists_with h p r (lists_at slab' orders)) (at_is slab' key rec u.changed)
-        ∙ ap (λ (l : List (List Rec)). lists_with h p rec l)
-        (agree (rec_at slab') (rec_at slab) orders
-        (λ i k st. ap (λ (o : Option Rec). unwrap_or o no_rec) (u.others k (another i k st))))
+    put_lists = with-map (rec_at slab') h p key orders ∙ ap (λ (r : Rec). lists_with h p r (lists_at slab' orders))
+        (at_is slab' key rec u.changed) ∙ ap (λ (l : List (List Rec)). lists_with h p rec l) (agree (rec_at slab')
+        (rec_at slab) orders (λ i k st. ap (λ (o : Option Rec). unwrap_or o no_rec) (u.others k (another i k st))))
 
     other_id : (i k : ℕ) (r : Rec) → stands orders i k ≡ true → get slab k ≡ Some r → rec.id.0 ≢ r.id.0
-    other_id i k r st e same =
-        false≢true (sym alone ∙ any_stands (rec_at slab) (is_id rec_id rec.id.0) orders i k st
-        (eq-eqb (rec_at slab k).id.0 rec.id.0 (ap (λ (x : Rec). x.id.0) (at_is slab k r e) ∙ sym same)))
+    other_id i k r st e same = false≢true (sym alone ∙ any_stands (rec_at slab) (is_id rec_id rec.id.0)
+        orders i k st (eq-eqb (rec_at slab k).id.0 rec.id.0 (ap (λ (x : Rec). x.id.0) (at_is slab k r e) ∙ sym same)))
 
     put_held : (i k : ℕ) → stands (lists_with h p key orders) i k ≡ true → IsHeld slab' spots' i k
     put_held i k st = elim (stands_either orders h p key lt i k st) [
@@ -85,15 +79,13 @@ module _ (slab : Slab Rec) (orders : List (List ℕ)) (spots : List (ℕ × (ℕ
 
     pub put_tied : IsTied slab' (lists_with h p key orders) spots'
     put_tied = record {
-      apart = ap (λ (l : List (List Rec)). pairwise (ids_apart rec_id) (all_records l)) put_lists
-          ∙ apart-with rec_id (lists_at slab orders) h p rec (omega (arith, lt, length-map orders (map (rec_at slab))))
-          (omega (
+      apart = ap (λ (l : List (List Rec)). pairwise (ids_apart rec_id) (all_records l)) put_lists ∙ apart-with
+          rec_id (lists_at slab orders) h p rec (omega (arith, lt, length-map orders (map (rec_at slab)))) (omega (
             arith,
             within,
             ap (λ (l : List Rec). length l) (records_of-map (rec_at slab) orders h),
             length-map (records_of orders h) (rec_at slab),
-          ))
-          t.apart alone;
+          )) t.apart alone;
       held = put_held;
       found = put_found;
     }
@@ -106,27 +98,22 @@ module _ (slab : Slab Rec) (orders : List (List ℕ)) (spots : List (ℕ × (ℕ
     left = set orders h (remove (records_of orders h) p)
 
     pulled : lists_at slab left ≡ lists_without rec_id rec.id.0 (lists_at slab orders)
-    pulled =
-        removed-map (rec_at slab) h p orders
+    pulled = removed-map (rec_at slab) h p orders
         ∙ taken_there rec_id rec.id.0 (lists_at slab orders) h p (key_placed h p key rec at value) t.apart
 
     none_left : list_any (is_id rec_id rec.id.0) (all_records (lists_at slab left)) ≡ false
-    none_left =
-        ap (λ (l : List (List Rec)). list_any (is_id rec_id rec.id.0) (all_records l)) pulled
+    none_left = ap (λ (l : List (List Rec)). list_any (is_id rec_id rec.id.0) (all_records l)) pulled
         ∙ gone rec_id rec.id.0 (lists_at slab orders) rec (eq-eqb rec.id.0 rec.id.0 refl)
 
     id_gone : (i k : ℕ) (r : Rec) → stands left i k ≡ true → get slab k ≡ Some r → rec.id.0 ≢ r.id.0
-    id_gone i k r st e same =
-        false≢true (sym none_left ∙ any_stands (rec_at slab) (is_id rec_id rec.id.0) left i k st
-        (eq-eqb (rec_at slab k).id.0 rec.id.0 (ap (λ (x : Rec). x.id.0) (at_is slab k r e) ∙ sym same)))
+    id_gone i k r st e same = false≢true (sym none_left ∙ any_stands (rec_at slab) (is_id rec_id rec.id.0)
+        left i k st (eq-eqb (rec_at slab k).id.0 rec.id.0 (ap (λ (x : Rec). x.id.0) (at_is slab k r e) ∙ sym same)))
 
     key_gone : (i k : ℕ) → stands left i k ≡ true → k ≢ key
     key_gone i k st e = id_gone i k rec st (ap (get slab) e ∙ value) refl
 
     same_left : lists_at slab' left ≡ lists_at slab left
-    same_left =
-        agree (rec_at slab') (rec_at slab) left
-        (λ i k st. ap (λ (o : Option Rec). unwrap_or o no_rec) (u.others k (key_gone i k st)))
+    same_left = agree (rec_at slab') (rec_at slab) left (grind (arith, key_gone))
 
     pub pull_lists : lists_at slab' left ≡ lists_without rec_id rec.id.0 (lists_at slab orders)
     pull_lists = same_left ∙ pulled
@@ -146,8 +133,7 @@ module _ (slab : Slab Rec) (orders : List (List ℕ)) (spots : List (ℕ × (ℕ
 
     pull_found : (id i k : ℕ) → spot_for spots' id ≡ Some (i, k) → IsFound slab' left id i k
     pull_found id i k e = elim (eqb_tells rec.id.0 id) [
-      | inl f ↦ absurd (no_spot_left (spot_for spots' id) (i, k) (w id
-          ∙ ap (λ b. cond b None (spot_for spots id)) f.0) e)
+      | inl f ↦ absurd (grind (arith, no_spot_left))
       | inr f ↦
           let r = t.found id i k (sym (w id ∙ ap (λ b. cond b None (spot_for spots id)) f.0) ∙ e) in
           let ne : k ≢ key = grind (arith, one_record) in
@@ -185,10 +171,9 @@ module _ (slab : Slab Rec) (orders : List (List ℕ)) (spots : List (ℕ × (ℕ
   found_record id h k e =
       let r = t.found id h k e in
       let one = place_stands orders h k r.stands in
-      subst (λ (i : ℕ). get slab k ≡ record_of rec_id i (lists_at slab orders)) r.same
-      (r.there ∙ sym (record_there rec_id r.«record».id.0 (lists_at slab orders) h one.0
-      (key_placed h one.0 k r.«record» one.1 r.there)
-      ∙ key_there h one.0 k r.«record» one.1 r.there))
+      subst (λ (i : ℕ). get slab k ≡ record_of rec_id i (lists_at slab orders))
+      r.same (r.there ∙ sym (record_there rec_id r.«record».id.0 (lists_at slab orders) h
+      one.0 (key_placed h one.0 k r.«record» one.1 r.there) ∙ key_there h one.0 k r.«record» one.1 r.there))
 
   -- a key that stands in some place, where a record passes
   some_stands : (q : Rec → Bool) → list_any q (all_records (lists_at slab orders)) ≡ true
@@ -200,8 +185,7 @@ module _ (slab : Slab Rec) (orders : List (List ℕ)) (spots : List (ℕ × (ℕ
   none_there id e = grind (arith, some_stands, at_is, eqb-true, no_spot_left)
 
   pub unfound_spot : (id : ℕ) → spot_for spots id ≡ None → spot_of rec_id id (lists_at slab orders) ≡ None
-  unfound_spot id e = no_spot rec_id id (lists_at slab orders) (sym (any_all (is_id rec_id id) (lists_at slab orders))
-      ∙ none_there id e)
+  unfound_spot id e = no_spot rec_id id (lists_at slab orders) (sym (grind (arith, any_all)) ∙ none_there id e)
 
   pub unfound_record : (id : ℕ) → spot_for spots id ≡ None → record_of rec_id id (lists_at slab orders) ≡ None
   unfound_record id e = find_none (is_id rec_id id) (all_records (lists_at slab orders)) (none_there id e)
@@ -218,13 +202,11 @@ module _ (slab : Slab Rec) (orders : List (List ℕ)) (spots : List (ℕ × (ℕ
 
   -- what is at the place of the key that the map has for an id
   pub found_pulled : (id h k p : ℕ) (rec : Rec) → spot_for spots id ≡ Some (h, k)
-      → slice_get (records_of orders h) p ≡ Some k
-      → slice_get (records_of (lists_at slab orders) h) p ≡ Some rec
+      → slice_get (records_of orders h) p ≡ Some k → slice_get (records_of (lists_at slab orders) h) p ≡ Some rec
       → (rec.id.0 ≡ id) × (Some rec ≡ record_of rec_id id (lists_at slab orders))
   found_pulled id h k p rec e at got =
       let r = t.found id h k e in
-      let own : r.«record» ≡ rec = one_record (slice_get (records_of (lists_at slab orders) h) p) r.«record» rec
-      (key_there h p k r.«record» at r.there) got in (grind (arith, found_record))
+      let own : r.«record» ≡ rec = grind (arith, one_record, key_there) in (grind (arith, found_record))
 
   pub get_there : (h p k : ℕ) → slice_get (records_of orders h) p ≡ Some k
       → get slab k ≡ slice_get (records_of (lists_at slab orders) h) p
@@ -237,9 +219,8 @@ module _ (slab : Slab Rec) (orders : List (List ℕ)) (spots : List (ℕ × (ℕ
 
   pub without_unfound : (id : ℕ) → spot_for spots id ≡ None
       → lists_without rec_id id (lists_at slab orders) ≡ lists_at slab orders
-  without_unfound id e =
-      without_absent rec_id id (lists_at slab orders) (sym (any_all (is_id rec_id id) (lists_at slab orders))
-      ∙ none_there id e)
+  without_unfound id e = without_absent
+      rec_id id (lists_at slab orders) (sym (any_all (is_id rec_id id) (lists_at slab orders)) ∙ none_there id e)
 
   -- ---- a record in place of another
   module _ (slab' : Slab Rec) (h key : ℕ) (rec : Rec) (e : spot_for spots rec.id.0 ≡ Some (h, key))
@@ -257,13 +238,11 @@ module _ (slab : Slab Rec) (orders : List (List ℕ)) (spots : List (ℕ × (ℕ
           | inr f ↦
               let f0 = t.found rec.id.0 h key e in
               let ne : k ≢ key = grind (arith, one_record) in
-              at_is slab' k r.«record» (u.others k ne ∙ r.there)
-              ∙ sym (ap (λ (x : Rec). replaced_by rec_id rec x) own ∙ ap (λ b. cond b rec r.«record») f.0)
+              at_is slab' k r.«record» (u.others k ne ∙ r.there) ∙ sym (grind arith)
         ]
 
     pub set_lists : lists_at slab' orders ≡ lists_replaced rec_id rec (lists_at slab orders)
-    set_lists =
-        agree (rec_at slab') (λ k. replaced_by rec_id rec (rec_at slab k)) orders replaced_key
+    set_lists = agree (rec_at slab') (λ k. replaced_by rec_id rec (rec_at slab k)) orders replaced_key
         ∙ twice (rec_at slab) (replaced_by rec_id rec) orders
 
     set_held : (i k : ℕ) → stands orders i k ≡ true → IsHeld slab' spots i k
@@ -271,8 +250,7 @@ module _ (slab : Slab Rec) (orders : List (List ℕ)) (spots : List (ℕ × (ℕ
       | inl f ↦
           let r = t.held i k st in
           let f0 = t.found rec.id.0 h key e in
-          let own : r.«record» ≡ f0.«record» = one_record (get slab k) r.«record» f0.«record» r.there
-          (ap (get slab) f.1 ∙ f0.there) in
+          let own : r.«record» ≡ f0.«record» = grind (arith, one_record) in
           record {
             «record» = rec;
             there = ap (get slab') f.1 ∙ u.changed;
@@ -286,8 +264,7 @@ module _ (slab : Slab Rec) (orders : List (List ℕ)) (spots : List (ℕ × (ℕ
       | inl f ↦
           let r = t.found id i k g in
           let f0 = t.found rec.id.0 h key e in
-          let own : f0.«record» ≡ r.«record» = one_record (get slab k) f0.«record» r.«record» (ap (get slab) f.1
-          ∙ f0.there) r.there in
+          let own : f0.«record» ≡ r.«record» = grind (arith, one_record) in
           record {
             «record» = rec;
             there = ap (get slab') f.1 ∙ u.changed;
@@ -311,32 +288,23 @@ module _ (slab : Slab Rec) (orders : List (List ℕ)) (spots : List (ℕ × (ℕ
 
 pub length-at : (slab : Slab Rec) (orders : List (List ℕ)) (h : ℕ)
     → length (records_of orders h) ≡ length (records_of (lists_at slab orders) h)
-length-at slab orders h =
-    sym (ap (λ (l : List Rec). length l) (records_of-map (rec_at slab) orders h)
+length-at slab orders h = sym (ap (λ (l : List Rec). length l) (records_of-map (rec_at slab) orders h)
     ∙ length-map (records_of orders h) (rec_at slab))
 
 -- the same records, keys and spots
 same_get : (slab slab' : Slab Rec) (k : ℕ) → slab'.slots ≡ slab.slots → get slab' k ≡ get slab k
 same_get slab slab' k e = ap (λ (s : List (Option Rec)). slice_index_or s k None) e
 
-pub same_lists_at : (slab slab' : Slab Rec) (orders orders' : List (List ℕ)) → slab'.slots ≡ slab.slots
-    → orders' ≡ orders
-    → lists_at slab' orders' ≡ lists_at slab orders
-same_lists_at slab slab' orders orders' e o = grind (arith, agree, same_get)
-
 pub same_tied : (slab slab' : Slab Rec) (orders orders' : List (List ℕ)) (spots spots' : List (ℕ × (ℕ × ℕ)))
     → slab'.slots ≡ slab.slots → orders' ≡ orders → spots' ≡ spots → IsTied slab orders spots
     → IsTied slab' orders' spots'
-same_tied slab slab' orders orders' spots spots' e o s t =
-    subst (λ (l : List (List ℕ)). IsTied slab' l spots') (sym o)
-    (subst (λ (l : List (ℕ × (ℕ × ℕ))). IsTied slab' orders l) (sym s) (record {
-      apart = ap (λ (l : List (List Rec)). pairwise (ids_apart rec_id) (all_records l))
-          (same_lists_at slab slab' orders orders e refl) ∙ t.apart;
+same_tied slab slab' orders orders' spots spots' e o s t = subst (λ (l : List (List ℕ)). IsTied slab' l spots')
+    (sym o) (subst (λ (l : List (ℕ × (ℕ × ℕ))). IsTied slab' orders l) (sym s) (record {
+      apart = grind (arith, agree, same_get);
       held = grind (arith, same_get);
       found = λ id h k f. (let r = t.found id h k f in record {
         «record» = r.«record»;
-        there = same_get slab slab' k e
-            ∙ r.there;
+        there = same_get slab slab' k e ∙ r.there;
         same = r.same;
         stands = r.stands;
       });
@@ -357,10 +325,8 @@ no_all zero = refl
 no_all (suc n) = no_all n
 
 pub new_tied : (slab : Slab Rec) (orders : List (List ℕ)) (spots : List (ℕ × (ℕ × ℕ))) (n : ℕ)
-    → orders ≡ replicate n [] → spots ≡ []
-    → IsTied slab orders spots
-new_tied slab orders spots n o s =
-    subst (λ (l : List (List ℕ)). IsTied slab l spots) (sym o)
+    → orders ≡ replicate n [] → spots ≡ [] → IsTied slab orders spots
+new_tied slab orders spots n o s = subst (λ (l : List (List ℕ)). IsTied slab l spots) (sym o)
     (subst (λ (l : List (ℕ × (ℕ × ℕ))). IsTied slab (replicate n []) l) (sym s) (record {
       apart = ap (λ (l : List (List Rec)). pairwise (ids_apart rec_id) (all_records l)) (no_lists slab n)
           ∙ ap (λ (l : List Rec). pairwise (ids_apart rec_id) l) (no_all n);

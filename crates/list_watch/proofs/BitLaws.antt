@@ -1,5 +1,5 @@
 -- The bits that change when monitors come, turn and end.
-use Rattle.list_watch.proofs.Imports.{◌≡◌, ℕ, Bool, true, false, not, ◌&&◌, ◌||◌, ◌==◌, if◌then◌else◌, List, [], ◌∷◌, ◌++◌, filter, map, refl, sym, ap, ◌∙◌, inl, inr, ◌⊎◌, arith, list_any, list_all, and_parts, false≢true, eqb-true, eq-eqb, nat_tests, map-id, list_all-map, list_any-append, any-filter_same, ConnId, BitChange, Gains, bits_told, difference, gains_none, gains_one, gains_then, pairwise, none_from_all, list_all_weaker, Watched, is_at, is_for, places_apart, monitors_of, is_lit, bit_of, row_turned, change_to, differs, is_turned, turn_changes, rows_put}
+use Rattle.list_watch.proofs.Imports.{◌≡◌, ℕ, Bool, true, false, not, ◌&&◌, ◌||◌, ◌==◌, if◌then◌else◌, List, [], ◌∷◌, ◌++◌, filter, map, refl, sym, ap, ◌∙◌, inl, inr, ◌⊎◌, arith, list_any, list_all, and_parts, false≢true, eqb-true, nat_tests, list_all-map, list_any-append, any-filter_same, ConnId, BitChange, Gains, bits_told, difference, gains_none, gains_one, gains_then, pairwise, none_from_all, list_all_weaker, Watched, is_at, is_for, places_apart, monitors_of, is_lit, bit_of, row_turned, change_to, differs, turn_changes, rows_put}
 
 -- ---- one monitor at most at an index
 
@@ -12,8 +12,7 @@ same_place c i d j k n h e = grind (arith, nat_tests)
 
 -- where one stands at an index, no later one does
 none_later : (row : Watched) (rows : List Watched) (conn : ConnId) (index : ℕ) → pairwise places_apart
-    (monitors_of (row ∷ rows)) ≡ true
-    → stands_at conn index row ≡ true → list_any (stands_at conn index) rows ≡ false
+    (monitors_of (row ∷ rows)) ≡ true → stands_at conn index row ≡ true → list_any (stands_at conn index) rows ≡ false
 none_later row rows conn index apart here =
     grind (arith, none_from_all, list_all_weaker, same_place, list_all-map, and_parts)
 
@@ -28,56 +27,38 @@ dark : (conn : ConnId) (index : ℕ) (rows : List Watched) → list_any (stands_
 dark conn index [] e = refl
 dark conn index (row ∷ rows) e = grind (arith, false≢true, dark conn index rows)
 
-dark_filter : (p : Watched → Bool) (conn : ConnId) (index : ℕ) (rows : List Watched) → list_any (stands_at conn index)
-    rows ≡ false
-    → bit_of (filter p rows) conn index ≡ false
+dark_filter : (p : Watched → Bool) (conn : ConnId) (index : ℕ) (rows : List Watched)
+    → list_any (stands_at conn index) rows ≡ false → bit_of (filter p rows) conn index ≡ false
 dark_filter p conn index [] e = refl
 dark_filter p conn index (row ∷ rows) e = grind (arith, false≢true, dark_filter p conn index rows)
 
+stands_map : (f : Watched → Watched) → ((row : Watched) → (f row).monitor ≡ row.monitor) → (conn : ConnId) (index : ℕ)
+    (rows : List Watched) → list_any (stands_at conn index) (map f rows) ≡ list_any (stands_at conn index) rows
+stands_map f same conn index [] = refl
+stands_map f same conn index (row ∷ rows) = grind (arith, stands_map f same conn index rows)
+
 dark_map : (f : Watched → Watched) → ((row : Watched) → (f row).monitor ≡ row.monitor) → (conn : ConnId) (index : ℕ)
-    (rows : List Watched)
-    → list_any (stands_at conn index) rows ≡ false → bit_of (map f rows) conn index ≡ false
-dark_map f same conn index [] e = refl
-dark_map f same conn index (row ∷ rows) e = grind (arith, false≢true, dark_map f same conn index rows)
+    (rows : List Watched) → list_any (stands_at conn index) rows ≡ false → bit_of (map f rows) conn index ≡ false
+dark_map f same conn index rows e = grind (arith, dark, stands_map)
 
 quiet : (bit : Bool) (p : Watched → Bool) (conn : ConnId) (index : ℕ) (rows : List Watched)
-    → list_any (stands_at conn index) rows ≡ false
-    → bits_told (map (change_to bit) (filter p rows)) conn index ≡ []
+    → list_any (stands_at conn index) rows ≡ false → bits_told (map (change_to bit) (filter p rows)) conn index ≡ []
 quiet bit p conn index [] e = refl
 quiet bit p conn index (row ∷ rows) e = grind (arith, false≢true, quiet bit p conn index rows)
 
 -- ---- monitors end
 
-ended_step : (p : Watched → Bool) (conn : ConnId) (index : ℕ) (row : Watched) (rows : List Watched) (a b c : Bool)
-    → stands_at conn index row ≡ a → p row ≡ b → row.full ≡ c
-    → (a ≡ true → list_any (stands_at conn index) rows ≡ false)
-    → bits_told (map (change_to false) (filter (λ r. r.full && p r) rows)) conn index
-    ≡ difference (bit_of rows conn index) (bit_of (filter (λ r. not (p r)) rows) conn index)
-    → bits_told (map (change_to false) (filter (λ r. r.full && p r) (row ∷ rows))) conn index
-    ≡ difference (bit_of (row ∷ rows) conn index) (bit_of (filter (λ r. not (p r)) (row ∷ rows)) conn index)
-ended_step p conn index row rows true true true e f g none ih = grind (arith, quiet, dark_filter)
-ended_step p conn index row rows true true false e f g none ih = grind (arith, quiet, dark_filter, dark)
-ended_step p conn index row rows true false true e f g none ih =
-    rw (f, g, e, quiet false (λ r. r.full && p r) conn index rows (none refl)) refl
-ended_step p conn index row rows true false false e f g none ih = grind (arith, quiet, dark_filter, dark)
-ended_step p conn index row rows false true true e f g none ih = rw (f, g, e) ih
-ended_step p conn index row rows false true false e f g none ih = rw (f, g, e) ih
-ended_step p conn index row rows false false true e f g none ih = rw (f, g, e) ih
-ended_step p conn index row rows false false false e f g none ih = rw (f, g, e) ih
-
-ended_told : (p : Watched → Bool) (conn : ConnId) (index : ℕ) (rows : List Watched) → pairwise places_apart
-    (monitors_of rows) ≡ true
-    → bits_told (map (change_to false) (filter (λ r. r.full && p r) rows)) conn index
-    ≡ difference (bit_of rows conn index) (bit_of (filter (λ r. not (p r)) rows) conn index)
+ended_told : (p : Watched → Bool) (conn : ConnId) (index : ℕ) (rows : List Watched) → pairwise
+    places_apart (monitors_of rows) ≡ true → bits_told (map (change_to false) (filter (λ r. r.full && p r) rows))
+    conn index ≡ difference (bit_of rows conn index) (bit_of (filter (λ r. not (p r)) rows) conn index)
 ended_told p conn index [] apart = refl
 ended_told p conn index (row ∷ rows) apart =
-    grind (arith, ended_step, none_later, rest_apart, ended_told p conn index rows (rest_apart row rows apart))
+    grind (arith, quiet, dark_filter, dark, none_later, rest_apart, ended_told p conn index rows)
 
 -- each monitor that ends clears its bit
-pub gains_ended : (p : Watched → Bool) (rows : List Watched) (bits : List BitChange) → pairwise places_apart
-    (monitors_of rows) ≡ true
-    → Gains (bit_of rows) (bit_of (filter (λ row. not (p row)) rows)) bits (bits ++ map (change_to false)
-    (filter (λ row. row.full && p row) rows))
+pub gains_ended : (p : Watched → Bool) (rows : List Watched) (bits : List BitChange) → pairwise
+    places_apart (monitors_of rows) ≡ true → Gains (bit_of rows) (bit_of (filter (λ row. not (p row)) rows))
+    bits (bits ++ map (change_to false) (filter (λ row. row.full && p row) rows))
 gains_ended p rows bits apart = grind (arith, ended_told)
 
 -- ---- the monitors of a header turn
@@ -86,54 +67,22 @@ same_monitor : (header : ℕ) (full : Bool) (row : Watched) → (row_turned head
 same_monitor header full row = grind arith
 
 turned_step : (header : ℕ) (full : Bool) (conn : ConnId) (index : ℕ) (row : Watched) (rows : List Watched)
-    (a b c : Bool)
-    → stands_at conn index row ≡ a → (row.monitor.header == header) ≡ b → row.full ≡ c
-    → (a ≡ true → list_any (stands_at conn index) rows ≡ false)
-    → bits_told (turn_changes header full rows) conn index ≡ difference (bit_of rows conn index)
-    (bit_of (map (row_turned header full) rows) conn index)
-    → bits_told (turn_changes header full (row ∷ rows)) conn index
-    ≡ difference (bit_of (row ∷ rows) conn index) (bit_of (map (row_turned header full) (row ∷ rows)) conn index)
-turned_step header true conn index row rows true true true e f g none ih =
-    rw (f, g, e, quiet true (is_turned header true) conn index rows (none refl)) refl
-turned_step header true conn index row rows true true false e f g none ih = grind (arith, quiet, dark)
-turned_step header true conn index row rows true false true e f g none ih =
-    rw (f, g, e, quiet true (is_turned header true) conn index rows (none refl)) refl
-turned_step header true conn index row rows true false false e f g none ih =
-    grind (arith, quiet, dark, dark_map, same_monitor)
-turned_step header true conn index row rows false true true e f g none ih =
-    rw (f, g, e) ih
-turned_step header true conn index row rows false true false e f g none ih =
-    rw (f, g, e) ih
-turned_step header true conn index row rows false false true e f g none ih =
-    rw (f, g, e) ih
-turned_step header true conn index row rows false false false e f g none ih =
-    rw (f, g, e) ih
-turned_step header false conn index row rows true true true e f g none ih =
-    grind (arith, quiet, dark_map, same_monitor)
-turned_step header false conn index row rows true true false e f g none ih =
-    grind (arith, quiet, dark, dark_map, same_monitor)
-turned_step header false conn index row rows true false true e f g none ih =
-    rw (f, g, e, quiet false (is_turned header false) conn index rows (none refl)) refl
-turned_step header false conn index row rows true false false e f g none ih =
-    grind (arith, quiet, dark, dark_map, same_monitor)
-turned_step header false conn index row rows false true true e f g none ih =
-    rw (f, g, e) ih
-turned_step header false conn index row rows false true false e f g none ih =
-    rw (f, g, e) ih
-turned_step header false conn index row rows false false true e f g none ih =
-    rw (f, g, e) ih
-turned_step header false conn index row rows false false false e f g none ih =
-    rw (f, g, e) ih
+    (a b c : Bool) → stands_at conn index row ≡ a → (row.monitor.header == header) ≡ b → row.full ≡ c
+    → (a ≡ true → list_any (stands_at conn index) rows ≡ false) → bits_told (turn_changes header full rows)
+    conn index ≡ difference (bit_of rows conn index) (bit_of (map (row_turned header full) rows) conn index)
+    → bits_told (turn_changes header full (row ∷ rows)) conn index ≡ difference
+    (bit_of (row ∷ rows) conn index) (bit_of (map (row_turned header full) (row ∷ rows)) conn index)
+turned_step header full conn index row rows false b c e f g none ih = grind (arith, same_monitor)
+turned_step header true conn index row rows true b c e f g none ih = grind (arith, quiet, dark, dark_map, same_monitor)
+turned_step header false conn index row rows true b c e f g none ih = grind (arith, quiet, dark, dark_map, same_monitor)
 
-turned_told : (header : ℕ) (full : Bool) (conn : ConnId) (index : ℕ) (rows : List Watched) → pairwise places_apart
-    (monitors_of rows) ≡ true
-    → bits_told (turn_changes header full rows) conn index ≡ difference (bit_of rows conn index)
-    (bit_of (map (row_turned header full) rows) conn index)
+turned_told : (header : ℕ) (full : Bool) (conn : ConnId) (index : ℕ) (rows : List Watched)
+    → pairwise places_apart (monitors_of rows) ≡ true → bits_told (turn_changes header full rows)
+    conn index ≡ difference (bit_of rows conn index) (bit_of (map (row_turned header full) rows) conn index)
 turned_told header full conn index [] apart = refl
-turned_told header full conn index (row ∷ rows) apart =
-    turned_step header full conn index row rows (stands_at conn index row) (row.monitor.header == header) row.full
-    refl refl refl
-    (none_later row rows conn index apart) (turned_told header full conn index rows (rest_apart row rows apart))
+turned_told header full conn index (row ∷ rows) apart = turned_step header full conn index
+    row rows (stands_at conn index row) (row.monitor.header == header) row.full refl refl
+    refl (none_later row rows conn index apart) (turned_told header full conn index rows (rest_apart row rows apart))
 
 pub gains_turned : (header : ℕ) (full : Bool) (rows : List Watched) (bits : List BitChange) → pairwise places_apart
     (monitors_of rows) ≡ true
@@ -142,47 +91,25 @@ gains_turned header full rows bits apart = grind (arith, turned_told)
 
 -- the monitors stay
 pub monitors-turned : (header : ℕ) (full : Bool) (rows : List Watched)
-    → monitors_of (map (row_turned header full) rows) ≡
-    monitors_of rows
+    → monitors_of (map (row_turned header full) rows) ≡ monitors_of rows
 monitors-turned header full [] = refl
 monitors-turned header full (row ∷ rows) = grind (arith, same_monitor, monitors-turned header full rows)
 
 -- ---- a monitor comes
 
-same_test : (a b c d x y : ℕ) → (a == c) && (b == d) ≡ true → not ((a == x) && (b == y)) ≡ not ((x == c) && (y == d))
-same_test a b c d x y e = grind (arith, nat_tests)
-
-elsewhere_step : (conn : ConnId) (i : ℕ) (by : ConnId) (index : ℕ) (row : Watched) (rows : List Watched)
-    (a b d : Bool)
-    → stands_at conn i row ≡ a → not (is_at by index row.monitor) ≡ b → not ((by.0 == conn.0) && (index == i)) ≡ d
-    → (a ≡ true → b ≡ d)
-    → bit_of (filter (λ r. not (is_at by index r.monitor)) rows) conn i ≡ (d && bit_of rows conn i)
-    → bit_of (filter (λ r. not (is_at by index r.monitor)) (row ∷ rows)) conn i ≡ (d && bit_of (row ∷ rows) conn i)
-elsewhere_step conn i by index row rows a true true e f g h ih = rw f (ap (λ b. is_lit conn i row || b) ih)
-elsewhere_step conn i by index row rows a false false e f g h ih = rw f ih
-elsewhere_step conn i by index row rows true true false e f g h ih = absurd (false≢true (sym (h refl)))
-elsewhere_step conn i by index row rows true false true e f g h ih = absurd (false≢true (h refl))
-elsewhere_step conn i by index row rows false true false e f g h ih = rw (f, e) ih
-elsewhere_step conn i by index row rows false false true e f g h ih = rw (f, e) ih
-
 -- without what stood at an index
-lit_elsewhere : (rows : List Watched) (by conn : ConnId) (index i : ℕ)
-    → bit_of (filter (λ r. not (is_at by index r.monitor)) rows) conn i ≡ (not ((by.0 == conn.0) && (index == i))
-    && bit_of rows conn i)
+lit_elsewhere : (rows : List Watched) (by conn : ConnId) (index i : ℕ) → bit_of (filter (λ r. not (is_at
+    by index r.monitor)) rows) conn i ≡ (not ((by.0 == conn.0) && (index == i)) && bit_of rows conn i)
 lit_elsewhere [] by conn index i = grind arith
-lit_elsewhere (row ∷ rows) by conn index i =
-    grind (arith, elsewhere_step, same_test, lit_elsewhere rows by conn index i)
+lit_elsewhere (row ∷ rows) by conn index i = grind (arith, nat_tests, lit_elsewhere rows by conn index i)
 
 -- with the new one behind
-lit_put : (new : Watched) (rows : List Watched) (conn : ConnId) (i : ℕ)
-    → bit_of (rows_put new rows) conn i
-    ≡ (not ((new.monitor.conn.0 == conn.0) && (new.monitor.index == i)) && bit_of rows conn i)
+lit_put : (new : Watched) (rows : List Watched) (conn : ConnId) (i : ℕ) → bit_of (rows_put new rows)
+    conn i ≡ (not ((new.monitor.conn.0 == conn.0) && (new.monitor.index == i)) && bit_of rows conn i)
     || ((((new.monitor.conn.0 == conn.0) && (new.monitor.index == i)) && new.full) || false)
-lit_put new rows conn i =
-    list_any-append (is_lit conn i) (filter (λ r. not (is_at new.monitor.conn new.monitor.index r.monitor)) rows)
-    (new ∷ [])
-    ∙ ap (λ b. b || ((((new.monitor.conn.0 == conn.0) && (new.monitor.index == i)) && new.full) || false))
-    (lit_elsewhere rows new.monitor.conn conn new.monitor.index i)
+lit_put new rows conn i = list_any-append (is_lit conn i) (filter (λ r. not (is_at new.monitor.conn new.monitor.index
+    r.monitor)) rows) (new ∷ []) ∙ ap (λ b. b || ((((new.monitor.conn.0 == conn.0) && (new.monitor.index == i))
+    && new.full) || false)) (lit_elsewhere rows new.monitor.conn conn new.monitor.index i)
 
 other_bits : (a x y : Bool) → a ≡ false → (not a && x) || ((a && y) || false) ≡ x
 other_bits false true y e = refl
@@ -195,8 +122,7 @@ own_bit true x false e = refl
 own_bit false x y e = absurd (false≢true e)
 
 lit_put-other : (new : Watched) (rows : List Watched) (conn : ConnId) (i : ℕ) → (new.monitor.conn.0 == conn.0)
-    && (new.monitor.index == i) ≡ false
-    → bit_of (rows_put new rows) conn i ≡ bit_of rows conn i
+    && (new.monitor.index == i) ≡ false → bit_of (rows_put new rows) conn i ≡ bit_of rows conn i
 lit_put-other new rows conn i e = grind (arith, lit_put, other_bits)
 
 self : (a b : ℕ) → (a == a) && (b == b) ≡ true
@@ -212,35 +138,13 @@ same_pair : (new : Watched) (rows : List Watched) (conn : ConnId) (i : ℕ) (b :
 same_pair new rows conn i true e stood = grind (arith, and_parts, eqb-true, lit_put-here)
 same_pair new rows conn i false e stood = lit_put-other new rows conn i e
 
-unequal : (a b : Bool) → differs a b ≡ true → a ≡ b → ⊥
-unequal true true e f = false≢true e
-unequal true false e f = false≢true (sym f)
-unequal false true e f = false≢true f
-unequal false false e f = false≢true e
-
-equal : (a b : Bool) → differs a b ≡ false → a ≡ b
-equal true true e = refl
-equal true false e = absurd (false≢true (sym e))
-equal false true e = absurd (false≢true (sym e))
-equal false false e = refl
-
 -- its bit is told where it stood otherwise
-pub gains_put : (new : Watched) (rows : List Watched) (bits : List BitChange)
-    → Gains (bit_of rows) (bit_of (rows_put new rows)) bits
-    (if differs (bit_of rows new.monitor.conn new.monitor.index) new.full
-    then bits ++ record { conn = new.monitor.conn; index = new.monitor.index; bit = new.full } ∷ []
-    else bits)
-gains_put new rows bits = grind (arith, lit_put-here, gains_one, unequal, lit_put-other, gains_none, same_pair, equal)
+pub gains_put : (new : Watched) (rows : List Watched) (bits : List BitChange) → Gains (bit_of rows)
+    (bit_of (rows_put new rows)) bits (if differs (bit_of rows new.monitor.conn new.monitor.index) new.full
+    then bits ++ record { conn = new.monitor.conn; index = new.monitor.index; bit = new.full } ∷ [] else bits)
+gains_put new rows bits = grind (arith, lit_put-here, gains_one, lit_put-other, gains_none, same_pair)
 
 -- ---- first the connector's monitor of the header elsewhere ends, and then it comes
-
-spared : (f b : Bool) → b ≡ true → not (f && not b) ≡ true
-spared true true e = refl
-spared false b e = refl
-spared true false e = absurd (false≢true e)
-
-at_index : (f c full : Bool) (j i n : ℕ) → (c && (j == i)) && full ≡ true → n ≡ i → not (f && not (j == n)) ≡ true
-at_index f c full j i n h e = grind (arith, spared, eq-eqb, eqb-true, and_parts)
 
 abbrev pub is_elsewhere : Watched → Watched → Bool
 is_elsewhere new row = is_for new.monitor.conn new.monitor.header row.monitor
@@ -257,11 +161,8 @@ gains_with new rows xs ys zs first second = grind (arith, gains_then, once)
         ⊎ (bit_of (rows_put new (filter (λ row. not (is_elsewhere new row)) rows)) conn i ≡ bit_of
         (filter (λ row. not (is_elsewhere new row)) rows) conn i)
     once conn i true e =
-        inl (any-filter_same (is_lit conn i) (λ row. not (is_elsewhere new row)) true
-        (λ row h. at_index (is_for new.monitor.conn new.monitor.header row.monitor) (row.monitor.conn.0 == conn.0)
-        row.full row.monitor.index i new.monitor.index h
-        (eqb-true new.monitor.index i (and_parts (new.monitor.conn.0 == conn.0) (new.monitor.index == i) e).1)) rows)
-    once conn i false e = inr (lit_put-other new (filter (λ row. not (is_elsewhere new row)) rows) conn i e)
+        inl (any-filter_same (is_lit conn i) (λ row. not (is_elsewhere new row)) true (grind (arith, nat_tests)) rows)
+    once conn i false e = grind (arith, lit_put-other)
 
 -- ---- two headers turn
 
@@ -269,67 +170,34 @@ row_two : (a b : ℕ) (x y : Bool) → ((a == b) ≡ true → y ≡ x) → (row 
     → ((row_turned a x row).full ≡ row.full) ⊎ ((row_turned b y (row_turned a x row)).full ≡ (row_turned a x row).full)
 row_two a b x y same row = grind (arith, nat_tests)
 
-alone : (f : Watched → Watched) → ((row : Watched) → (f row).monitor ≡ row.monitor) → (conn : ConnId) (index : ℕ)
-    (row : Watched) (rows : List Watched)
-    → stands_at conn index row ≡ true → list_any (stands_at conn index) rows ≡ false → bit_of (map f (row ∷ rows)) conn
-    index ≡ (f row).full
-alone f same conn index row rows here none = grind (arith, dark_map)
-
-absent : (f : Watched → Watched) → ((row : Watched) → (f row).monitor ≡ row.monitor) → (conn : ConnId) (index : ℕ)
-    (row : Watched) (rows : List Watched)
-    → stands_at conn index row ≡ false → bit_of (map f (row ∷ rows)) conn index ≡ bit_of (map f rows) conn index
-absent f same conn index row rows apart = grind arith
-
-two_once : (a b : ℕ) (x y : Bool) → ((a == b) ≡ true → y ≡ x) → (conn : ConnId) (index : ℕ) (rows : List Watched)
-    → pairwise places_apart (monitors_of rows) ≡ true
-    → (bit_of (map (row_turned a x) rows) conn index ≡ bit_of (map (λ r. r) rows) conn index)
-    ⊎ (bit_of (map (λ r. row_turned b y (row_turned a x r)) rows) conn index
-    ≡ bit_of (map (row_turned a x) rows) conn index)
+two_once : (a b : ℕ) (x y : Bool) → ((a == b) ≡ true → y ≡ x)
+    → (conn : ConnId) (index : ℕ) (rows : List Watched) → pairwise places_apart (monitors_of rows) ≡ true
+    → (bit_of (map (row_turned a x) rows) conn index ≡ bit_of rows conn index) ⊎ (bit_of
+    (map (row_turned b y) (map (row_turned a x) rows)) conn index ≡ bit_of (map (row_turned a x) rows) conn index)
 two_once a b x y same conn index [] apart = inl refl
-two_once a b x y same conn index (row ∷ rows) apart =
-    go (stands_at conn index row) refl (none_later row rows conn index apart) (two_once a b x y same conn index rows
-    (rest_apart row rows apart))
-    (row_two a b x y same row)
+two_once a b x y same conn index (row ∷ rows) apart = go (stands_at conn index row) refl (none_later row rows
+    conn index apart) (two_once a b x y same conn index rows (rest_apart row rows apart)) (row_two a b x y same row)
   where
-    twice : (r : Watched) → (row_turned b y (row_turned a x r)).monitor ≡ r.monitor
-    twice r = same_monitor b y (row_turned a x r) ∙ same_monitor a x r
-
     go : (s : Bool) → stands_at conn index row ≡ s → (s ≡ true → list_any (stands_at conn index) rows ≡ false)
-        → (bit_of (map (row_turned a x) rows) conn index ≡ bit_of (map (λ r. r) rows) conn index)
-        ⊎ (bit_of (map (λ r. row_turned b y (row_turned a x r)) rows) conn index
-        ≡ bit_of (map (row_turned a x) rows) conn index)
-        → ((row_turned a x row).full ≡ row.full) ⊎ ((row_turned b y (row_turned a x row)).full
-        ≡ (row_turned a x row).full)
-        → (bit_of (map (row_turned a x) (row ∷ rows)) conn index ≡ bit_of (map (λ r. r) (row ∷ rows)) conn index)
-        ⊎ (bit_of (map (λ r. row_turned b y (row_turned a x r)) (row ∷ rows)) conn index
-        ≡ bit_of (map (row_turned a x) (row ∷ rows))
-        conn index)
-    go true e none rest (inl h) = grind (arith, alone, same_monitor)
+        → (bit_of (map (row_turned a x) rows) conn index ≡ bit_of rows conn index)
+        ⊎ (bit_of (map (row_turned b y) (map (row_turned a x) rows))
+        conn index ≡ bit_of (map (row_turned a x) rows) conn index) → ((row_turned a x row).full ≡ row.full)
+        ⊎ ((row_turned b y (row_turned a x row)).full ≡ (row_turned a x row).full) → (bit_of (map
+        (row_turned a x) (row ∷ rows)) conn index ≡ bit_of (row ∷ rows) conn index) ⊎ (bit_of (map (row_turned b y)
+        (map (row_turned a x) (row ∷ rows))) conn index ≡ bit_of (map (row_turned a x) (row ∷ rows)) conn index)
+    go true e none rest (inl h) =
+        let dark0 = dark conn index rows (none refl) in
+        let dark1 = dark_map (row_turned a x) (same_monitor a x) conn index rows (none refl) in inl (grind arith)
     go true e none rest (inr h) =
-        inr (alone (λ r. row_turned b y (row_turned a x r)) twice conn index row rows e (none refl) ∙ h
-        ∙ sym (alone (row_turned a x) (same_monitor a x) conn index row rows e (none refl)))
-    go false e none (inl h) own = grind (arith, absent, same_monitor)
-    go false e none (inr h) own = grind (arith, absent, twice, same_monitor)
-
-map-twice : (f g : Watched → Watched) (rows : List Watched) → map g (map f rows) ≡ map (λ r. g (f r)) rows
-map-twice f g [] = refl
-map-twice f g (row ∷ rows) = ap (λ (l : List Watched). g (f row) ∷ l) (map-twice f g rows)
+        let there = stands_map (row_turned a x) (same_monitor a x) conn index rows ∙ none refl in
+        let dark1 = dark conn index (map (row_turned a x) rows) there in
+        let dark2 = dark_map (row_turned b y) (same_monitor b y) conn index (map (row_turned a x) rows) there in
+        inr (grind (arith, same_monitor))
+    go false e none rest own = grind (arith, same_monitor)
 
 -- no bit changes twice, also where both are one header
 pub gains_two : (a b : ℕ) (x y : Bool) (rows : List Watched) (xs ys zs : List BitChange) → ((a == b) ≡ true → y ≡ x)
-    → pairwise places_apart (monitors_of rows) ≡ true
-    → Gains (bit_of rows) (bit_of (map (row_turned a x) rows)) xs ys
+    → pairwise places_apart (monitors_of rows) ≡ true → Gains (bit_of rows) (bit_of (map (row_turned a x) rows)) xs ys
     → Gains (bit_of (map (row_turned a x) rows)) (bit_of (map (row_turned b y) (map (row_turned a x) rows))) ys zs
     → Gains (bit_of rows) (bit_of (map (row_turned b y) (map (row_turned a x) rows))) xs zs
-gains_two a b x y rows xs ys zs same apart first second = grind (arith, gains_then, once, two_once)
-  where
-    once : (conn : ConnId) (index : ℕ)
-        → (bit_of (map (row_turned a x) rows) conn index ≡ bit_of (map (λ r. r) rows) conn index)
-        ⊎ (bit_of (map (λ r. row_turned b y (row_turned a x r)) rows) conn index
-        ≡ bit_of (map (row_turned a x) rows) conn index)
-        → (bit_of (map (row_turned a x) rows) conn index ≡ bit_of rows conn index)
-        ⊎ (bit_of (map (row_turned b y) (map (row_turned a x) rows)) conn index
-        ≡ bit_of (map (row_turned a x) rows) conn index)
-    once conn index (inl h) = inl (h ∙ ap (λ (l : List Watched). bit_of l conn index) (map-id rows))
-    once conn index (inr h) = inr (ap (λ (l : List Watched). bit_of l conn index)
-        (map-twice (row_turned a x) (row_turned b y) rows) ∙ h)
+gains_two a b x y rows xs ys zs same apart first second = grind (arith, gains_then, two_once)

@@ -14,33 +14,21 @@ length-waits w waiters is h =
 
 pub records-waits : (w : Waiter) (waiters : List Waiter) → IsQueue waiters → waiter_of w.r w.conn waiters ≡ Some w
     → records_waiting (waiters_without w.r w.conn waiters) + records_of w.rec ≡ records_waiting waiters
-records-waits w waiters is h =
-    keys.sum_by_without part_of same_part same_part-eq same_part-refl (λ (v : Waiter). records_of v.rec) (part_of w)
-    waiters w is.one_each h
+records-waits w waiters is h = keys.sum_by_without part_of same_part
+    same_part-eq same_part-refl (λ (v : Waiter). records_of v.rec) (part_of w) waiters w is.one_each h
 
 -- the first that passes, and the others that do
 pub record IsHead {X : Type 0} (x : X) (xs : List X) : Type 0 where
   pub rest : List X
   pub is : xs ≡ x ∷ rest
 
-head_step : {X : Type 0} (p : X → Bool) (b : Bool) (x y : X) (xs : List X)
-    → (find p xs ≡ Some y → IsHead y (filter p xs))
-    → cond b (Some x) (find p xs) ≡ Some y → IsHead y (cond b (x ∷ filter p xs) (filter p xs))
-head_step p true x y xs ih h = grind arith
-head_step p false x y xs ih h = ih h
-
 head_of : {X : Type 0} (p : X → Bool) (xs : List X) (y : X) → find p xs ≡ Some y → IsHead y (filter p xs)
 head_of p [] y h = absurd (cc)
-head_of p (x ∷ xs) y h = head_step p (p x) x y xs (head_of p xs y) h
-
-nil_step : {X : Type 0} (p : X → Bool) (b : Bool) (x : X) (xs : List X) → (find p xs ≡ None → filter p xs ≡ [])
-    → cond b (Some x) (find p xs) ≡ None → cond b (x ∷ filter p xs) (filter p xs) ≡ []
-nil_step p true x xs ih h = absurd (cc)
-nil_step p false x xs ih h = ih h
+head_of p (x ∷ xs) y h = grind (arith, head_of p xs y)
 
 nil_of : {X : Type 0} (p : X → Bool) (xs : List X) → find p xs ≡ None → filter p xs ≡ []
 nil_of p [] h = refl
-nil_of p (x ∷ xs) h = nil_step p (p x) x xs (nil_of p xs) h
+nil_of p (x ∷ xs) h = grind (arith, nil_of p xs)
 
 -- ---- the next one that is granted
 
@@ -48,37 +36,23 @@ pub record IsNext (r : Resource) (content : Content) (w : Waiter) : Type 0 where
   pub first : first_of r content.waiters ≡ Some w
   pub may : may_own (held_by w) content.interests ≡ true
 
-next_step : (content : Content) (r : Resource) (w : Waiter) (o : Option Waiter) (b : Bool)
-    → first_of r content.waiters ≡ o
-    → if_grantable content.interests o ≡ Some w → IsNext r content w
-next_step content r w None b e h = absurd (cc)
-next_step content r w (Some v) b e h = grind arith
-
 pub next-is : (content : Content) (r : Resource) (w : Waiter) → next_of r content ≡ Some w → IsNext r content w
-next-is content r w h = next_step content r w (first_of r content.waiters) true refl h
+next-is content r w h = grind arith
 
-pub next-waits : (content : Content) (r : Resource) (w : Waiter) → IsQueue content.waiters
-    → next_of r content ≡ Some w
-    → waiter_of w.r w.conn content.waiters ≡ Some w
+pub next-waits : (content : Content) (r : Resource) (w : Waiter)
+    → IsQueue content.waiters → next_of r content ≡ Some w → waiter_of w.r w.conn content.waiters ≡ Some w
 next-waits content r w is h =
     let head = head_of (is_on r) content.waiters w (next-is content r w h).first in
     (subst (λ (l : List Waiter). keys.AllFound part_of same_part same_part-eq same_part-refl l content.waiters)
-    head.is
-    (keys.found_filter part_of same_part same_part-eq same_part-refl (is_on r) content.waiters is.one_each)).0
-
-grants_step : (w : Waiter) (rest : List Waiter) (content : Content) → may_own (held_by w) content.interests ≡ true
-    → grants (w ∷ rest) content ≡ with_letters_before (granted_letter w ∷ []) (grants rest (content_granted w content))
-grants_step w rest content h = rw h refl
+    head.is (keys.found_filter part_of same_part same_part-eq same_part-refl (is_on r) content.waiters is.one_each)).0
 
 -- it is granted, and then the others are
-pub grant-next : (content : Content) (r : Resource) (w : Waiter) → IsQueue content.waiters
-    → next_of r content ≡ Some w
-    → grant r content ≡ with_letters_before (granted_letter w ∷ []) (grant r (content_granted w content))
+pub grant-next : (content : Content) (r : Resource) (w : Waiter) → IsQueue content.waiters → next_of r content ≡ Some
+    w → grant r content ≡ with_letters_before (granted_letter w ∷ []) (grant r (content_granted w content))
 grant-next content r w is h =
     let next = next-is content r w h in
     let head = head_of (is_on r) content.waiters w next.first in
-    ap (λ (l : List Waiter). grants l content) head.is
-    ∙ grants_step w head.rest content next.may
+    ap (λ (l : List Waiter). grants l content) head.is ∙ (grind arith)
     ∙ ap (λ (l : List Waiter). with_letters_before (granted_letter w ∷ []) (grants l (content_granted w content)))
     (sym (waiters_of-first r w content.waiters head.rest is head.is))
 
@@ -100,12 +74,6 @@ grant-none content r h = none_step content r (first_of r content.waiters) refl h
 
 -- ---- those that are left are no more
 
-pub fewer-without : (r : Resource) (conn : ConnId) (waiters : List Waiter)
-    → (length (waiters_without r conn waiters) ≤ length waiters)
-    × (records_waiting (waiters_without r conn waiters) ≤ records_waiting waiters)
-fewer-without r conn waiters = grind (arith, length-filter-le, sum_by-filter-le)
-
-pub fewer-left : (conn : ConnId) (waiters : List Waiter)
-    → (length (waiters_without_conn conn waiters) ≤ length waiters)
-    × (records_waiting (waiters_without_conn conn waiters) ≤ records_waiting waiters)
+pub fewer-left : (conn : ConnId) (waiters : List Waiter) → (length (waiters_without_conn conn waiters) ≤ length
+    waiters) × (records_waiting (waiters_without_conn conn waiters) ≤ records_waiting waiters)
 fewer-left conn waiters = grind (arith, length-filter-le, sum_by-filter-le)

@@ -1,5 +1,5 @@
 -- How many letters a command sends at most.
-use Rattle.lock_core.proofs.Imports.{◌+◌, ◌≤◌, Bool, true, false, if◌then◌else◌, ◌∷◌, [], List, Option, Some, None, length, arith, ConnId, Resource, Deny, filter_swap, length-filter-le, Waiter, is_on, waiters_of, waiters_without, manager_of, interests_without, Content, Settlement, settlement_of, with_letters_before, grants, grant, content_granted, granted_letter}
+use Rattle.lock_core.proofs.Imports.{◌+◌, ◌≤◌, Bool, true, false, if◌then◌else◌, ◌∷◌, [], List, length, arith, ConnId, Resource, Deny, filter_swap, length-filter-le, Waiter, is_on, waiters_of, waiters_without, interests_without, Content, settlement_of, grants, grant, content_granted}
 use Rattle.lock_model.specs.Requests as requests
 use Rattle.lock_model.specs.Commands.Alter as alter
 use Rattle.lock_model.specs.Commands.Release as release
@@ -8,16 +8,9 @@ use Rattle.lock_model.specs.Commands.RtDelete as rt_delete
 
 -- ---- those that are granted
 
-granted_step : (b : Bool) (w : Waiter) (ws : List Waiter) (content : Content) (left : Settlement)
-    → length left.letters ≤ length ws
-    → length (if b then with_letters_before (granted_letter w ∷ []) left else settlement_of content).letters
-    ≤ length (w ∷ ws)
-granted_step true w ws content left h = omega (arith, h)
-granted_step false w ws content left h = omega arith
-
 grants_few : (ws : List Waiter) (content : Content) → length (grants ws content).letters ≤ length ws
 grants_few [] content = omega arith
-grants_few (w ∷ ws) content = grind (arith, granted_step, grants_few ws (content_granted w content))
+grants_few (w ∷ ws) content = grind (arith, grants_few ws (content_granted w content))
 
 pub grant_few : (r : Resource) (content : Content)
     → length (grant r content).letters ≤ length (waiters_of r content.waiters)
@@ -33,15 +26,10 @@ fewer_without r conn waiters = grind (arith, filter_swap, length-filter-le)
 
 -- ---- those of a command
 
-pub contention_few : (w : Waiter) (manager : Option ConnId) → length (requests.contention w manager) ≤ 1
-contention_few w None = omega arith
-contention_few w (Some conn) = omega arith
-
-alter_step : (b : Bool) (w : Waiter) (content : Content)
-    → length (if b then grant w.r (requests.content_asked true w content)
-    else requests.wait_settlement w content).letters ≤ length (waiters_of w.r content.waiters) + 1
+alter_step : (b : Bool) (w : Waiter) (content : Content) → length (if b then grant w.r (requests.content_asked
+    true w content) else requests.wait_settlement w content).letters ≤ length (waiters_of w.r content.waiters) + 1
 alter_step true w content = omega (arith, grant_few w.r (requests.content_asked true w content))
-alter_step false w content = omega (arith, contention_few w (manager_of w.r content.interests))
+alter_step false w content = grind arith
 
 pub alter_few : (w : Waiter) (content : Content)
     → length (alter.after w content).letters ≤ length (waiters_of w.r content.waiters) + 1
@@ -53,23 +41,20 @@ release_few by r content = grant_few r (record content { interests = interests_w
 
 pub denied_few : (r : Resource) (conn : ConnId) (content : Content)
     → length (decide.after Deny r conn content).letters ≤ length (waiters_of r content.waiters) + 1
-denied_few r conn content =
-    omega (
-      arith,
-      grant_few r (decide.content_denied r conn content),
-      fewer_without r conn content.waiters,
-    )
+denied_few r conn content = omega (
+  arith,
+  grant_few r (decide.content_denied r conn content),
+  fewer_without r conn content.waiters,
+)
 
 delete_step : (b : Bool) (r : Resource) (conn : ConnId) (content : Content)
-    → length (if b then grant r (rt_delete.content_unowned r conn content)
-    else settlement_of (rt_delete.content_unrecorded r conn content)).letters
-    ≤ length (waiters_of r content.waiters)
-delete_step true r conn content =
-    omega (
-      arith,
-      grant_few r (rt_delete.content_unowned r conn content),
-      fewer_without r conn content.waiters,
-    )
+    → length (if b then grant r (rt_delete.content_unowned r conn content) else settlement_of
+    (rt_delete.content_unrecorded r conn content)).letters ≤ length (waiters_of r content.waiters)
+delete_step true r conn content = omega (
+  arith,
+  grant_few r (rt_delete.content_unowned r conn content),
+  fewer_without r conn content.waiters,
+)
 delete_step false r conn content = omega arith
 
 pub delete_few : (r : Resource) (conn : ConnId) (content : Content)

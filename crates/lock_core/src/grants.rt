@@ -28,6 +28,7 @@ pub(crate) fn grant(locks: &mut Locks, r: &Resource, out: &mut Effects)
 }
 
 /// The grant rule for several resources, one after another.
+#[tactic(auto, using(crate::proofs::LetterLaws::grant_within))]
 pub(crate) fn grant_each(locks: &mut Locks, resources: &[Resource], out: &mut Effects)
     requires room { HasRoom 0 locks.old }
     requires letters { length locks.old.content.waiters ≤ out.old.mail.room }

@@ -9,6 +9,7 @@ use cf_types::{ConnId, Decision, LockCmd, Resource};
 
 // How many letters a decision sends at most: with a denial one to the waiter, and one to each that
 // is granted.
+#[tactic(auto, using(crate::proofs::LetterLaws::denied_few))]
 fn most_decided(locks: &Locks, how: Decision, r: &Resource, conn: ConnId) -> usize
     ensures { length (decide.after how r.now conn locks.now.content).letters ≤ result }
 {
@@ -21,6 +22,7 @@ fn most_decided(locks: &Locks, how: Decision, r: &Resource, conn: ConnId) -> usi
 
 /// How many letters a command sends at most, whoever gives it. Who waits for its resource may be
 /// granted it; and one that asks for a resource may have its manager told instead.
+#[tactic(auto, using(crate::proofs::LetterLaws::release_few, crate::proofs::LetterLaws::delete_few))]
 pub(crate) fn most_letters(locks: &Locks, cmd: &LockCmd) -> usize
     ensures { (by : ConnId) → length (after locks.now.content by cmd.now).letters ≤ result }
 {

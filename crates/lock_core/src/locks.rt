@@ -123,6 +123,7 @@ fn records_brought(w: Option<&Waiter>) -> usize
 }
 
 // How many have record data once one more waits.
+#[tactic(auto, using(lock_interests::proofs::ReadLaws::records_of_within))]
 fn count_waiting_with(queue: &Queue, w: &Waiter) -> usize
     ensures count { result ≡ records_waiting (waiters_with w.now queue.now.waiters) }
     ensures few { result ≤ 4294967296 }

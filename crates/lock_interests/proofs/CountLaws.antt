@@ -5,17 +5,16 @@ use Rattle.lock_interests.proofs.JoinLaws.{joined-with, joined-changed}
 use Rattle.lock_interests.proofs.ReadLaws.{records-joined}
 
 -- whose an interest is, and whose record data are
-abbrev part_of : Held → Part
+abbrev pub part_of : Held → Part
 part_of held = (held.r, held.conn)
 
-abbrev datum_part : Record → Part
+abbrev pub datum_part : Record → Part
 datum_part recorded = (recorded.r, recorded.conn)
 
 -- ---- as many as those that have one
 
-either_step : {X : Type 0} (a b : Bool) (x : X) (us vs ws : List X) → (a ≡ true → b ≡ false)
-    → length us ≡ length vs + length ws
-    → length (cond (a || b) (x ∷ us) us) ≡ length (cond a (x ∷ vs) vs) + length (cond b (x ∷ ws) ws)
+either_step : {X : Type 0} (a b : Bool) (x : X) (us vs ws : List X) → (a ≡ true → b ≡ false) → length us ≡ length
+    vs + length ws → length (cond (a || b) (x ∷ us) us) ≡ length (cond a (x ∷ vs) vs) + length (cond b (x ∷ ws) ws)
 either_step true true x us vs ws h e = absurd (false≢true (sym (h refl)))
 either_step true false x us vs ws h e = omega (arith, e)
 either_step false true x us vs ws h e = omega (arith, e)
@@ -41,7 +40,7 @@ one_owner p owners are any =
     in
     omega (arith, fewer, both)
 
-some_mapped : {X Y : Type 0} (f : X → Y) (o : Option X) → is_some (option_map f o) ≡ is_some o
+pub some_mapped : {X Y : Type 0} (f : X → Y) (o : Option X) → is_some (option_map f o) ≡ is_some o
 some_mapped f None = refl
 some_mapped f (Some x) = refl
 
@@ -50,21 +49,17 @@ pub has_is_some : (records : List Record) (held : Held)
 has_is_some records held = grind (arith, some_mapped, any_is_found)
 
 counted_once : (owners : List Held) (records : List Record) → IsOwners owners → AreRecords records
-    → AreOwned owners records
-    → length (filter (λ held. has_record held.r held.conn records) owners) ≡ length records
+    → AreOwned owners records → length (filter (λ held. has_record held.r held.conn records) owners) ≡ length records
 counted_once owners [] are kept owned = ap length (filter_nothing owners)
 counted_once owners (x ∷ xs) are kept owned =
     let here = and_parts (has_interest x.r x.conn owners)
     (list_all (λ (y : Record). has_interest y.r y.conn owners) xs) owned in
-    let split = count_either (λ (held : Held). same_part (datum_part x) (part_of held))
-    (λ (held : Held). has_record held.r held.conn xs)
-    (λ held e. subst (λ (p : Part). has_record p.0 p.1 xs ≡ false)
-    (same_part-eq (datum_part x) (part_of held) e)
-    (none_later datum_part same_part same_part-eq same_part-refl x xs kept.one_each)) owners in
+    let split = count_either (λ (held : Held). same_part (datum_part x) (part_of held)) (λ (held : Held). has_record
+    held.r held.conn xs) (λ held e. subst (λ (p : Part). has_record p.0 p.1 xs ≡ false) (same_part-eq (datum_part x)
+    (part_of held) e) (none_later datum_part same_part same_part-eq same_part-refl x xs kept.one_each)) owners in
     let mine : length (filter (λ (held : Held). same_part (datum_part x) (part_of held)) owners) ≡ 1 =
     ap length (filter_agree (λ (held : Held). same_part (datum_part x) (part_of held)) (is_interest x.r x.conn)
-    (λ held. same_part_comm (datum_part x) (part_of held)) owners)
-    ∙ one_owner (datum_part x) owners are here.0 in
+    (λ held. same_part_comm (datum_part x) (part_of held)) owners) ∙ one_owner (datum_part x) owners are here.0 in
     let rest = counted_once owners xs are (later kept) here.1 in
     split ∙ finish (length (filter (λ (held : Held). same_part (datum_part x) (part_of held)) owners))
     (length (filter (λ (held : Held). has_record held.r held.conn xs) owners)) mine rest
@@ -77,11 +72,9 @@ counted_once owners (x ∷ xs) are kept owned =
 
 pub records_counted : (owners : List Held) (records : List Record) → IsOwners owners → AreRecords records
     → AreOwned owners records → length records ≡ records_owned (interests_of owners records)
-records_counted owners records are kept owned =
-    sym (counted_once owners records are kept owned)
-    ∙ ap length (filter_agree (λ (held : Held). has_record held.r held.conn records)
-    (λ (held : Held). is_some (record_of held.r held.conn records)) (λ held. sym (has_is_some records held)) owners)
-    ∙ records-joined owners records
+records_counted owners records are kept owned = sym (counted_once owners records are kept owned) ∙ ap length
+    (filter_agree (λ (held : Held). has_record held.r held.conn records) (λ (held : Held). is_some (record_of
+    held.r held.conn records)) (λ held. sym (has_is_some records held)) owners) ∙ records-joined owners records
 
 -- ---- each is of an owner, as owners and record data come, change and go
 
@@ -107,8 +100,7 @@ found_kept r conn q owners keeps has = grind (arith, any_is_found, find-filter)
 -- what is of another part than this one
 others_part : (r : Resource) (conn : ConnId) (x : Record) → not (is_record r conn x) ≡ true → (held : Held)
     → is_interest x.r x.conn held ≡ true → not (is_interest r conn held) ≡ true
-others_part r conn x other held same =
-    subst (λ (p : Part). not (same_part p (r, conn)) ≡ true)
+others_part r conn x other held same = subst (λ (p : Part). not (same_part p (r, conn)) ≡ true)
     (sym (same_part-eq (part_of held) (datum_part x) same)) other
 
 -- fewer record data
@@ -136,9 +128,8 @@ owned-added : (held : Held) (owners : List Held) (records : List Record)
 owned-added held owners records owned = grind (arith, list_all_weaker, list_any-insertion, or_right)
 
 -- record data more, of an owner
-owned-recorded : (new : Record) (owners : List Held) (records : List Record)
-    → has_interest new.r new.conn owners ≡ true → AreOwned owners (records_without new.r new.conn records)
-    → AreOwned owners (records_with new records)
+owned-recorded : (new : Record) (owners : List Held) (records : List Record) → has_interest new.r new.conn owners
+    ≡ true → AreOwned owners (records_without new.r new.conn records) → AreOwned owners (records_with new records)
 owned-recorded new owners records has owned = grind (arith, list_all-insertion, and_from)
 
 owned_put : (held : Held) (rec : Option (List ℕ)) (owners : List Held) (records : List Record)
@@ -146,21 +137,15 @@ owned_put : (held : Held) (rec : Option (List ℕ)) (owners : List Held) (record
     → AreOwned (owners_with held owners) (records_put held.r held.conn rec records)
 owned_put held None owners records owned = owned
 owned_put held (Some rec) owners records owned =
-    owned-recorded (record { r = held.r; conn = held.conn; rec = rec }) (owners_with held owners) records
-    (list_any-insertion (is_interest held.r held.conn) (λ (other : Held). resource_up_to other.r held.r) held
-    (owners_without held.r held.conn owners)
-    ∙ or_left (is_interest held.r held.conn held)
-    (list_any (is_interest held.r held.conn) (owners_without held.r held.conn owners))
-    (same_part-refl (part_of held)))
-    owned
+    owned-recorded (record { r = held.r; conn = held.conn; rec = rec }) (owners_with held owners)
+    records (list_any-insertion (is_interest held.r held.conn) (λ (other : Held). resource_up_to other.r held.r)
+    held (owners_without held.r held.conn owners) ∙ or_left (is_interest held.r held.conn held) (list_any
+    (is_interest held.r held.conn) (owners_without held.r held.conn owners)) (same_part-refl (part_of held))) owned
 
 pub owned-with : (held : Held) (rec : Option (List ℕ)) (owners : List Held) (records : List Record)
-    → AreOwned owners records
-    → AreOwned (owners_with held owners) (records_put held.r held.conn rec records)
-owned-with held rec owners records owned =
-    owned_put held rec owners records
-    (owned-added held owners (records_without held.r held.conn records)
-    (owned-without held.r held.conn owners records owned))
+    → AreOwned owners records → AreOwned (owners_with held owners) (records_put held.r held.conn rec records)
+owned-with held rec owners records owned = owned_put held rec owners records (owned-added
+    held owners (records_without held.r held.conn records) (owned-without held.r held.conn owners records owned))
 
 -- owners that change, and stay whose they are
 owned-changed : (f : Held → Held) → ((r : Resource) (conn : ConnId) (held : Held) → is_interest r conn (f held)
@@ -174,12 +159,10 @@ owned-retained conn retained owners records owned =
     owned-changed (in_retention_of conn retained) (λ r other held. refl) owners records owned
 
 owned_given : (r : Resource) (conn : ConnId) (rec : Option (List ℕ)) (owners : List Held) (records : List Record)
-    → has_interest r conn owners ≡ true → AreOwned owners records
-    → AreOwned owners (records_given r conn rec records)
+    → has_interest r conn owners ≡ true → AreOwned owners records → AreOwned owners (records_given r conn rec records)
 owned_given r conn None owners records has owned = owned
-owned_given r conn (Some rec) owners records has owned =
-    owned-recorded (record { r = r; conn = conn; rec = rec }) owners records has
-    (owned-unrecorded r conn owners records owned)
+owned_given r conn (Some rec) owners records has owned = owned-recorded
+    (record { r = r; conn = conn; rec = rec }) owners records has (owned-unrecorded r conn owners records owned)
 
 -- an interest takes a state, and record data where they are given
 pub owned-altered : (r : Resource) (conn : ConnId) (excl : Bool) (rec : Option (List ℕ)) (owners : List Held)
@@ -190,8 +173,7 @@ owned-altered r conn excl rec owners records has owned = grind (arith, owned-cha
 -- ---- a connector departs
 
 -- record data are there for whom they are
-all_have : (records : List Record)
-    → list_all (λ (x : Record). has_record x.r x.conn records) records ≡ true
+all_have : (records : List Record) → list_all (λ (x : Record). has_record x.r x.conn records) records ≡ true
 all_have [] = refl
 all_have (x ∷ xs) =
     and_from (has_record x.r x.conn (x ∷ xs)) (list_all (λ (y : Record). has_record y.r y.conn (x ∷ xs)) xs)
@@ -207,33 +189,27 @@ and_both p q r h (x ∷ xs) e f =
     let right = and_parts (q x) (list_all q xs) f in
     and_from (r x) (list_all r xs) (h x left.0 right.0) (and_both p q r h xs left.1 right.1)
 
-pub owned-kept : (conn : ConnId) (owners : List Held) (records : List Record) → AreOwned owners records
-    → AreOwned (map (in_retention_of conn true)
-    (filter (λ held. stays conn true (with_record records held)) owners)) records
+pub owned-kept : (conn : ConnId) (owners : List Held) (records : List Record) → AreOwned owners records → AreOwned
+    (map (in_retention_of conn true) (filter (λ held. stays conn true (with_record records held)) owners)) records
 owned-kept conn owners records owned =
     let left = filter (λ (held : Held). stays conn true (with_record records held)) owners in
-    owned-retained conn true left records
-    (and_both (λ (x : Record). has_record x.r x.conn records) (λ (x : Record). has_interest x.r x.conn owners)
-    (λ (x : Record). has_interest x.r x.conn left)
-    (λ x has owns. found_kept x.r x.conn (λ (held : Held). stays conn true (with_record records held)) owners
-    (λ held same. or_right (not (held.conn.0 == conn.0)) (is_some (record_of held.r held.conn records))
-    (has_is_some records held
-    ∙ subst (λ (p : Part). has_record p.0 p.1 records ≡ true)
-    (sym (same_part-eq (part_of held) (datum_part x) same)) has)) owns)
-    records (all_have records) owned)
+    owned-retained conn true left records (and_both (λ (x : Record). has_record x.r x.conn records)
+    (λ (x : Record). has_interest x.r x.conn owners) (λ (x : Record). has_interest x.r x.conn left)
+    (λ x has owns. found_kept x.r x.conn (λ (held : Held). stays conn true (with_record records held))
+    owners (λ held same. or_right (not (held.conn.0 == conn.0)) (is_some (record_of held.r held.conn records))
+    (has_is_some records held ∙ subst (λ (p : Part). has_record p.0 p.1 records ≡ true)
+    (sym (same_part-eq (part_of held) (datum_part x) same)) has)) owns) records (all_have records) owned)
 
 pub owned-gone : (conn : ConnId) (owners : List Held) (records : List Record) → AreOwned owners records
     → AreOwned (map (in_retention_of conn true)
     (filter (λ held. stays conn false (with_record records held)) owners)) (records_without_conn conn records)
 owned-gone conn owners records owned =
     let left = filter (λ (held : Held). stays conn false (with_record records held)) owners in
-    owned-retained conn true left (records_without_conn conn records)
-    (all_filtered (λ (x : Record). has_interest x.r x.conn owners) (λ (x : Record). has_interest x.r x.conn left)
-    (λ x. not (is_of conn x))
+    owned-retained conn true left (records_without_conn conn records) (all_filtered (λ (x : Record). has_interest x.r
+    x.conn owners) (λ (x : Record). has_interest x.r x.conn left) (λ x. not (is_of conn x))
     (λ x other owns. found_kept x.r x.conn (λ (held : Held). stays conn false (with_record records held)) owners
-    (λ held same. or_left (not (held.conn.0 == conn.0)) (false && is_some (record_of held.r held.conn records))
-    (subst (λ (p : Part). not (p.1.0 == conn.0) ≡ true)
-    (sym (same_part-eq (part_of held) (datum_part x) same)) other)) owns)
+    (λ held same. or_left (not (held.conn.0 == conn.0)) (false && is_some (record_of held.r held.conn records)) (subst
+    (λ (p : Part). not (p.1.0 == conn.0) ≡ true) (sym (same_part-eq (part_of held) (datum_part x) same)) other)) owns)
     records owned)
 
 -- ---- how many there are after a grant
@@ -246,35 +222,28 @@ length_put r conn (Some rec) records = grind (arith, length-insertion)
 records_put-kept : (r : Resource) (conn : ConnId) (rec : Option (List ℕ)) (records : List Record)
     → AreRecords records → AreRecords (records_put r conn rec records)
 records_put-kept r conn None records kept = records-filter (λ x. not (is_record r conn x)) records kept
-records_put-kept r conn (Some rec) records kept =
-    records-with (record { r = r; conn = conn; rec = rec }) records kept
+records_put-kept r conn (Some rec) records kept = records-with (record { r = r; conn = conn; rec = rec }) records kept
 
-pub counted-with : (held : Held) (rec : Option (List ℕ)) (owners : List Held) (records : List Record)
-    → IsOwners owners → AreRecords records → AreOwned owners records
-    → length (records_without held.r held.conn records) + records_of rec
-    ≡ records_owned (interests_with (record { held = held; rec = rec }) (interests_of owners records))
-counted-with held rec owners records are kept owned =
-    sym (length_put held.r held.conn rec records)
+pub counted-with : (held : Held) (rec : Option (List ℕ)) (owners : List Held) (records : List Record) → IsOwners
+    owners → AreRecords records → AreOwned owners records → length (records_without held.r held.conn records) +
+    records_of rec ≡ records_owned (interests_with (record { held = held; rec = rec }) (interests_of owners records))
+counted-with held rec owners records are kept owned = sym (length_put held.r held.conn rec records)
     ∙ records_counted (owners_with held owners) (records_put held.r held.conn rec records)
     (owners-with held owners are) (records_put-kept held.r held.conn rec records kept)
-    (owned-with held rec owners records owned)
-    ∙ ap records_owned (joined-with held rec owners records)
+    (owned-with held rec owners records owned) ∙ ap records_owned (joined-with held rec owners records)
 
 given_kept : (r : Resource) (conn : ConnId) (rec : Option (List ℕ)) (records : List Record)
     → AreRecords records → AreRecords (records_given r conn rec records)
 given_kept r conn None records kept = kept
-given_kept r conn (Some rec) records kept =
-    records-with (record { r = r; conn = conn; rec = rec }) records kept
+given_kept r conn (Some rec) records kept = records-with (record { r = r; conn = conn; rec = rec }) records kept
 
 -- where there is the interest
-pub counted-altered : (w : Waiter) (owners : List Held) (records : List Record)
-    → IsOwners owners → AreRecords records → AreOwned owners records → has_interest w.r w.conn owners ≡ true
-    → length (records_given w.r w.conn w.rec records)
-    ≡ records_owned (interests_changed w.r w.conn (with_alteration w) (interests_of owners records))
-counted-altered w owners records are kept owned has =
-    records_counted (map (in_state w.r w.conn w.excl) owners) (records_given w.r w.conn w.rec records)
-    (owners-in_state w.r w.conn w.excl owners are) (given_kept w.r w.conn w.rec records kept)
-    (owned-altered w.r w.conn w.excl w.rec owners records has owned)
+pub counted-altered : (w : Waiter) (owners : List Held) (records : List Record) → IsOwners owners → AreRecords records
+    → AreOwned owners records → has_interest w.r w.conn owners ≡ true → length (records_given w.r w.conn
+    w.rec records) ≡ records_owned (interests_changed w.r w.conn (with_alteration w) (interests_of owners records))
+counted-altered w owners records are kept owned has = records_counted (map (in_state w.r w.conn w.excl) owners)
+    (records_given w.r w.conn w.rec records) (owners-in_state w.r w.conn w.excl owners are)
+    (given_kept w.r w.conn w.rec records kept) (owned-altered w.r w.conn w.excl w.rec owners records has owned)
     ∙ ap records_owned (joined-changed w owners records)
 
 -- and where there is none
@@ -308,18 +277,16 @@ without_right true b none here = absurd (false≢true (sym none ∙ here))
 without_right false b none here = refl
 
 -- where an interest is given record data, and where it isn't
-pub counted-given : (w : Waiter) (owners : List Held) (records : List Record)
-    → IsOwners owners → AreRecords records → AreOwned owners records
-    → is_some w.rec && interests.has_interest w.r w.conn (interests_of owners records) ≡ true
-    → length (records_without w.r w.conn records) + 1
-    ≡ records_owned (interests_changed w.r w.conn (with_alteration w) (interests_of owners records))
+pub counted-given : (w : Waiter) (owners : List Held) (records : List Record) → IsOwners owners
+    → AreRecords records → AreOwned owners records → is_some w.rec && interests.has_interest
+    w.r w.conn (interests_of owners records) ≡ true → length (records_without w.r w.conn records)
+    + 1 ≡ records_owned (interests_changed w.r w.conn (with_alteration w) (interests_of owners records))
 counted-given w owners records are kept owned given =
     grind (arith, and_parts, length_given, counted-altered, has-joined)
 
 pub counted-ungiven : (w : Waiter) (owners : List Held) (records : List Record)
     → IsOwners owners → AreRecords records → AreOwned owners records
     → is_some w.rec && interests.has_interest w.r w.conn (interests_of owners records) ≡ false
-    → length records
-    ≡ records_owned (interests_changed w.r w.conn (with_alteration w) (interests_of owners records))
+    → length records ≡ records_owned (interests_changed w.r w.conn (with_alteration w) (interests_of owners records))
 counted-ungiven w owners records are kept owned ungiven =
     grind (arith, none_given, without_right, counted-altered, has-joined, records_counted, changed_none)

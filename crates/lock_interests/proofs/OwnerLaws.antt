@@ -5,14 +5,8 @@ use Rattle.lock_model.specs.Interests as interests
 use Rattle.lock_model.specs.Commands.Decide as decide
 use Rattle.lock_model.specs.Commands.RtRead as rt_read
 use Rattle.lock_model.specs.Commands.RtDelete as rt_delete
-use Rattle.lock_interests.proofs.CountLaws.{has_is_some}
+use Rattle.lock_interests.proofs.CountLaws.{has_is_some, some_mapped, part_of, datum_part}
 use Rattle.lock_interests.proofs.ReadLaws.{recorded-joined, any_recorded-joined, told-joined}
-
-abbrev part_of : Held → Part
-part_of held = (held.r, held.conn)
-
-abbrev datum_part : Record → Part
-datum_part recorded = (recorded.r, recorded.conn)
 
 -- ---- the interest of a connector among the owners of a resource
 
@@ -42,25 +36,20 @@ pub retained-found : (r : Resource) (conn : ConnId) (owners : List Held) → pai
     → is_held_retained (find (is_interest r conn) owners)
     ≡ list_any (λ held. is_interest r conn held && held.retained) owners
 retained-found r conn [] u = refl
-retained-found r conn (x ∷ xs) u =
-    sym (retained_step (is_interest r conn x) x.retained
-    (list_any (λ held. is_interest r conn held && held.retained) xs) (find (is_interest r conn) xs) x refl
-    (λ e. none_retained r conn xs (subst (λ (p : Part). list_any (λ held. same_part (part_of held) p) xs ≡ false)
+retained-found r conn (x ∷ xs) u = sym (retained_step (is_interest r conn x)
+    x.retained (list_any (λ held. is_interest r conn held && held.retained) xs) (find (is_interest r conn) xs) x
+    refl (λ e. none_retained r conn xs (subst (λ (p : Part). list_any (λ held. same_part (part_of held) p) xs ≡ false)
     (same_part-eq (part_of x) (r, conn) e) (none_later part_of same_part same_part-eq same_part-refl x xs u)))
     (sym (retained-found r conn xs (later_apart part_of same_part same_part-eq same_part-refl x xs u))))
-
-is_some-map : {X Y : Type 0} (f : X → Y) (o : Option X) → is_some (option_map f o) ≡ is_some o
-is_some-map f None = refl
-is_some-map f (Some x) = refl
 
 -- something passes where what was found of it is some
 pub found_any : {X Y : Type 0} (f : X → Y) (p : Y → Bool) (o : Option X) (ys : List Y) → option_map f o ≡ find p ys
     → is_some o ≡ list_any p ys
-found_any f p o ys e = sym (is_some-map f o) ∙ ap is_some e ∙ sym (any_is_found p ys)
+found_any f p o ys e = sym (some_mapped f o) ∙ ap is_some e ∙ sym (any_is_found p ys)
 
 pub record_some : {X : Type 0} (f : X → List ℕ) (o : Option X) (r : Resource) (conn : ConnId) (records : List Record)
     → option_map f o ≡ record_of r conn records → is_some o ≡ has_record r conn records
-record_some f o r conn records e = grind (arith, is_some-map, any_is_found)
+record_some f o r conn records e = grind (arith, some_mapped, any_is_found)
 
 -- ---- record data of a part, where each is of an owner
 
@@ -76,8 +65,7 @@ recorded_both : (r : Resource) (conn : ConnId) (owners : List Held) (records : L
     → list_any (λ held. is_interest r conn held && is_some (record_of held.r held.conn records)) owners
     ≡ has_interest r conn owners && has_record r conn records
 recorded_both r conn [] records = refl
-recorded_both r conn (x ∷ xs) records =
-    step (is_interest r conn x) refl (recorded_both r conn xs records)
+recorded_both r conn (x ∷ xs) records = step (is_interest r conn x) refl (recorded_both r conn xs records)
   where
     grouped : (a b : Bool) → a || (b && a) ≡ a
     grouped true b = refl
@@ -85,9 +73,8 @@ recorded_both r conn (x ∷ xs) records =
     grouped false false = refl
 
     step : (a : Bool) → is_interest r conn x ≡ a
-        → list_any (λ held. is_interest r conn held && is_some (record_of held.r held.conn records)) xs
-        ≡ has_interest r conn xs && has_record r conn records
-        → (a && is_some (record_of x.r x.conn records))
+        → list_any (λ held. is_interest r conn held && is_some (record_of held.r held.conn records))
+        xs ≡ has_interest r conn xs && has_record r conn records → (a && is_some (record_of x.r x.conn records))
         || list_any (λ held. is_interest r conn held && is_some (record_of held.r held.conn records)) xs
         ≡ (a || has_interest r conn xs) && has_record r conn records
     step false e ih = ih
@@ -106,9 +93,8 @@ owned_part r conn owners records owned has =
 
 pub record-found : (r : Resource) (conn : ConnId) (owners : List Held) (records : List Record) → AreOwned owners records
     → has_record r conn records ≡ list_any (rt_delete.is_recorded r conn) (interests_of owners records)
-record-found r conn owners records owned =
-    sym (sym (recorded-joined r conn owners records) ∙ recorded_both r conn owners records
-    ∙ go (has_record r conn records) refl)
+record-found r conn owners records owned = sym (sym (recorded-joined r conn owners records)
+    ∙ recorded_both r conn owners records ∙ go (has_record r conn records) refl)
   where
     go : (b : Bool) → has_record r conn records ≡ b → has_interest r conn owners && b ≡ b
     go true e = rw (owned_part r conn owners records owned e) refl
@@ -140,9 +126,8 @@ any_record-found conn owners records owned = grind (arith, both_ways, there, bac
         let same = same_part-eq (part_of owner.0) (datum_part datum.0)
         (found_passes (is_interest datum.0.r datum.0.conn) owners owner.0 owner.1) in
         let has : has_record owner.0.r owner.0.conn records ≡ true =
-        subst (λ (p : Part). has_record p.0 p.1 records ≡ true) (sym same)
-        (any_of (is_of conn) (is_record datum.0.r datum.0.conn) records datum.0 datum.1
-        (same_part-refl (datum_part datum.0))) in
+        subst (λ (p : Part). has_record p.0 p.1 records ≡ true) (sym same) (any_of (is_of conn)
+        (is_record datum.0.r datum.0.conn) records datum.0 datum.1 (same_part-refl (datum_part datum.0))) in
         any_of (is_interest datum.0.r datum.0.conn)
         (λ held. (held.conn.0 == conn.0) && is_some (record_of held.r held.conn records)) owners owner.0 owner.1
         (and_from (owner.0.conn.0 == conn.0) (is_some (record_of owner.0.r owner.0.conn records))
@@ -163,8 +148,7 @@ pub told_of : (r : Resource) (conn : ConnId) (owners : List Held)
 told_of r conn owners = grind (arith, filter_swap, filter_absorbed, told_on)
 
 pub told_left : (r : Resource) (conn : ConnId) (owners : List Held) (records : List Record) (xs : List Held)
-    → xs ≡ owners_of r owners
-    → letters_told r conn xs ≡ decide.notify_letters r conn (interests_of owners records)
+    → xs ≡ owners_of r owners → letters_told r conn xs ≡ decide.notify_letters r conn (interests_of owners records)
 told_left r conn owners records xs e =
     ap (letters_told r conn) e ∙ told_of r conn owners ∙ told-joined r conn owners records
 
@@ -182,9 +166,8 @@ keys_by-joined conn [] records = refl
 keys_by-joined conn (x ∷ xs) records = grind (arith, keys_by-joined conn xs records)
 
 read_own : (conn : ConnId) (records : List Record) (owners vs : List Held) → list_all (is_by conn) vs ≡ true
-    → AllFound part_of same_part same_part-eq same_part-refl vs owners
-    → filter_map (read_in conn records owners) (map resource_of vs)
-    ≡ filter_map (λ held. record_read held (record_of held.r held.conn records)) vs
+    → AllFound part_of same_part same_part-eq same_part-refl vs owners → filter_map (read_in conn records owners)
+    (map resource_of vs) ≡ filter_map (λ held. record_read held (record_of held.r held.conn records)) vs
 read_own conn records owners [] by h = refl
 read_own conn records owners (v ∷ vs) by h =
     let parts = and_parts (is_by conn v) (list_all (is_by conn) vs) by in
@@ -202,9 +185,8 @@ all_by conn (x ∷ xs) = grind (arith, and_from, all_by conn xs)
 pub read_each : (conn : ConnId) (records : List Record) (owners : List Held) → pairwise are_apart owners ≡ true
     → filter_map (read_in conn records owners) (map resource_of (filter (is_by conn) owners))
     ≡ records_read conn records owners
-read_each conn records owners u =
-    read_own conn records owners (filter (is_by conn) owners) (all_by conn owners)
-    (found_filter part_of same_part same_part-eq same_part-refl (is_by conn) owners u)
+read_each conn records owners u = read_own conn records owners (filter (is_by conn) owners)
+    (all_by conn owners) (found_filter part_of same_part same_part-eq same_part-refl (is_by conn) owners u)
 
 -- ---- a departure: what has record data is retained, and what isn't retained goes
 
@@ -220,9 +202,8 @@ left_step conn s true true x xs ys e f ih =
 left_step conn s true false x xs ys e f ih = rw (e, f) ih
 left_step conn s false t x xs ys e f ih = rw e (ap (λ l. x ∷ l) ih)
 
-left_marked : (conn : ConnId) (s : Held → Bool) (owners : List Held)
-    → owners_without_active conn (map (marked conn s) owners)
-    ≡ map (in_retention_of conn true) (filter (λ held. not (is_by conn held) || s held) owners)
+left_marked : (conn : ConnId) (s : Held → Bool) (owners : List Held) → owners_without_active conn (map (marked conn s)
+    owners) ≡ map (in_retention_of conn true) (filter (λ held. not (is_by conn held) || s held) owners)
 left_marked conn s [] = refl
 left_marked conn s (x ∷ xs) = grind (arith, left_step, left_marked conn s xs)
 
@@ -235,9 +216,8 @@ left_all conn owners records = left_marked conn (λ held. false) owners
 abbrev is_listed : List Record → Held → Bool
 is_listed records held = list_any (is_record held.r held.conn) records
 
-mark_bits : (b c s l m : Bool)
-    → (if b then (if s && c then true else (if c then l else m)) else (if c then l else m))
-    ≡ (if c then (s && b) || l else m)
+mark_bits : (b c s l m : Bool) → (if b then (if s && c then true else (if c then l else m))
+    else (if c then l else m)) ≡ (if c then (s && b) || l else m)
 mark_bits true true true l m = refl
 mark_bits true true false l m = refl
 mark_bits true false true l m = refl
@@ -264,10 +244,8 @@ mark_one conn x p held b e = grind (arith, split, mark_bits, mark_retained)
   where
     split : (b : Bool) → (if b then in_retention x.r conn true (marked conn p held) else marked conn p held)
         ≡ record held {
-          retained =
-              if b then (if same_resource held.r x.r && is_by conn held then true
-              else (if is_by conn held then p held else held.retained))
-              else (if is_by conn held then p held else held.retained);
+          retained = if b then (if same_resource held.r x.r && is_by conn held then true else (if is_by
+              conn held then p held else held.retained)) else (if is_by conn held then p held else held.retained);
         }
     split true = refl
     split false = refl
@@ -277,9 +255,8 @@ one_marked : (conn : ConnId) (x : Record) (p : Held → Bool) (owners : List Hel
     ≡ map (marked conn (λ h. is_record h.r h.conn x || p h)) owners
 one_marked conn x p [] true e = refl
 one_marked conn x p [] false e = refl
-one_marked conn x p (y ∷ ys) true e =
-    ap (λ l. in_retention x.r conn true (marked conn p y) ∷ l) (one_marked conn x p ys true e)
-    ∙ ap (λ h. h ∷ map (marked conn (λ h. is_record h.r h.conn x || p h)) ys) (mark_one conn x p y true e)
+one_marked conn x p (y ∷ ys) true e = ap (λ l. in_retention x.r conn true (marked conn p y) ∷ l) (one_marked conn x p
+    ys true e) ∙ ap (λ h. h ∷ map (marked conn (λ h. is_record h.r h.conn x || p h)) ys) (mark_one conn x p y true e)
 one_marked conn x p (y ∷ ys) false e = grind (arith, mark_one, one_marked conn x p ys false e)
 
 marked_same : (conn : ConnId) (p q : Held → Bool) → ((h : Held) → p h ≡ q h) → (owners : List Held)
@@ -293,15 +270,13 @@ moved true false c = refl
 moved false true c = refl
 moved false false c = refl
 
-all_marked : (conn : ConnId) (records : List Record) (p : Held → Bool) (owners : List Held)
-    → retained_all conn records (map (marked conn p) owners)
-    ≡ map (marked conn (λ h. is_listed records h || p h)) owners
+all_marked : (conn : ConnId) (records : List Record) (p : Held → Bool) (owners : List Held) → retained_all
+    conn records (map (marked conn p) owners) ≡ map (marked conn (λ h. is_listed records h || p h)) owners
 all_marked conn [] p owners = refl
-all_marked conn (x ∷ xs) p owners =
-    ap (retained_all conn xs) (one_marked conn x p owners (is_of conn x) refl)
+all_marked conn (x ∷ xs) p owners = ap (retained_all conn xs) (one_marked conn x p owners (is_of conn x) refl)
     ∙ all_marked conn xs (λ h. is_record h.r h.conn x || p h) owners
-    ∙ marked_same conn (λ h. is_listed xs h || (is_record h.r h.conn x || p h)) (λ h. is_listed (x ∷ xs) h || p h)
-    (λ h. moved (is_listed xs h) (is_record h.r h.conn x) (p h)) owners
+    ∙ marked_same conn (λ h. is_listed xs h || (is_record h.r h.conn x || p h))
+    (λ h. is_listed (x ∷ xs) h || p h) (λ h. moved (is_listed xs h) (is_record h.r h.conn x) (p h)) owners
 
 or_false : (a : Bool) → a || false ≡ a
 or_false true = refl
@@ -312,14 +287,11 @@ pub left_recorded : (conn : ConnId) (owners : List Held) (records entries : List
     → ((p : Record → Bool) → list_any p entries ≡ list_any p records)
     → owners_without_active conn (retained_all conn entries (map (in_retention_of conn false) owners))
     ≡ map (in_retention_of conn true) (filter (λ held. stays conn true (with_record records held)) owners)
-left_recorded conn owners records entries alike =
-    ap (owners_without_active conn) (all_marked conn entries (λ h. false) owners)
-    ∙ left_marked conn (λ h. is_listed entries h || false) owners
-    ∙ ap (map (in_retention_of conn true))
-    (filter_agree (λ h. not (is_by conn h) || (is_listed entries h || false))
-    (λ h. stays conn true (with_record records h))
-    (λ h. ap (λ t. not (is_by conn h) || t) (or_false (is_listed entries h) ∙ alike (is_record h.r h.conn)
-    ∙ sym (has_is_some records h))) owners)
+left_recorded conn owners records entries alike = ap (owners_without_active conn)
+    (all_marked conn entries (λ h. false) owners) ∙ left_marked conn (λ h. is_listed entries h || false) owners
+    ∙ ap (map (in_retention_of conn true)) (filter_agree (λ h. not (is_by conn h) || (is_listed entries h || false))
+    (λ h. stays conn true (with_record records h)) (λ h. ap (λ t. not (is_by conn h) || t)
+    (or_false (is_listed entries h) ∙ alike (is_record h.r h.conn) ∙ sym (has_is_some records h))) owners)
 
 -- one entry after another
 pub retained_next : (conn : ConnId) (entries : List Record) (k : ℕ) (owners : List Held) → k < length entries
@@ -332,17 +304,14 @@ retained_next conn (x ∷ xs) (suc k) owners less = grind (arith, retained_next 
 -- ---- a resource after another is read
 
 next_read : (f : Resource → Option (Resource × Bool × List ℕ)) (rs : List Resource) (i : ℕ) (d : Resource)
-    → i < length rs
-    → filter_map f (drop i rs) ≡ option_to_list (f (get_or rs i d)) ++ filter_map f (drop (i + 1) rs)
+    → i < length rs → filter_map f (drop i rs) ≡ option_to_list (f (get_or rs i d)) ++ filter_map f (drop (i + 1) rs)
 next_read f [] i d h = absurd (omega (arith, h))
 next_read f (r ∷ rs) zero d h = grind arith
 next_read f (r ∷ rs) (suc i) d h = grind (arith, next_read f rs i d (omega (arith, h)))
 
-pub read_more : (f : Resource → Option (Resource × Bool × List ℕ)) (rs : List Resource) (i : ℕ) (d : Resource)
-    (list new all : List (Resource × Bool × List ℕ)) → i < length rs
-    → new ≡ list ++ option_to_list (f (get_or rs i d)) → list ++ filter_map f (drop i rs) ≡ all
-    → new ++ filter_map f (drop (i + 1) rs) ≡ all
-read_more f rs i d list new all within put h =
-    ap (λ l. l ++ filter_map f (drop (i + 1) rs)) put
+pub read_more : (f : Resource → Option (Resource × Bool × List ℕ)) (rs : List Resource) (i : ℕ)
+    (d : Resource) (list new all : List (Resource × Bool × List ℕ)) → i < length rs → new ≡ list ++ option_to_list
+    (f (get_or rs i d)) → list ++ filter_map f (drop i rs) ≡ all → new ++ filter_map f (drop (i + 1) rs) ≡ all
+read_more f rs i d list new all within put h = ap (λ l. l ++ filter_map f (drop (i + 1) rs)) put
     ∙ append_assoc list (option_to_list (f (get_or rs i d))) (filter_map f (drop (i + 1) rs))
     ∙ ap (λ l. list ++ l) (sym (next_read f rs i d within)) ∙ h

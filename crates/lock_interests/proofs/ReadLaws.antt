@@ -21,17 +21,13 @@ may_own-joined held (x ∷ xs) records = grind (arith, all_step, same_resource_c
 -- and with those that are left to ask of what is seen of all
 pub may_own_beside : (held : Held) (i : Inside) (view : InterestsView) (left : List Held) (all : Bool)
     → interests_view i ≡ view → left ≡ owners_of held.r i.owners.owners
-    → all ≡ list_all (are_compatible held) left
-    → all ≡ may_own held view.interests
+    → all ≡ list_all (are_compatible held) left → all ≡ may_own held view.interests
 may_own_beside held i view left all seen is each = grind (arith, may_own-joined)
 
-manager_step : (a b : Bool) (x : Held) (xs : List Held) (o : Option ConnId) (i : Interest) (is : Option Interest)
-    → x.retained ≡ b
-    → i.held.conn ≡ x.conn
-    → option_map (λ (h : Held). h.conn) (find (λ (h : Held). not h.retained) xs) ≡ option_map
-    (λ (j : Interest). j.held.conn) is
-    → option_map (λ (h : Held). h.conn) (find (λ (h : Held). not h.retained) (cond a (x ∷ xs) xs))
-    ≡ option_map (λ (j : Interest). j.held.conn) (cond (a && not b) (Some i) is)
+manager_step : (a b : Bool) (x : Held) (xs : List Held) (o : Option ConnId) (i : Interest) (is : Option Interest) →
+    x.retained ≡ b → i.held.conn ≡ x.conn → option_map (λ (h : Held). h.conn) (find (λ (h : Held). not h.retained) xs)
+    ≡ option_map (λ (j : Interest). j.held.conn) is → option_map (λ (h : Held). h.conn) (find (λ (h : Held). not
+    h.retained) (cond a (x ∷ xs) xs)) ≡ option_map (λ (j : Interest). j.held.conn) (cond (a && not b) (Some i) is)
 manager_step true true x xs o i is h c e = rw h e
 manager_step true false x xs o i is h c e = rw h (ap (λ (k : ConnId). Some k) (sym c))
 manager_step false b x xs o i is h c e = e
@@ -73,9 +69,8 @@ retained-joined r conn owners records =
 
 -- ---- how many have record data
 
-pub one_step : {X : Type 0} (b : Bool) (o : Option (List ℕ)) (x : X) (xs : List X) (n : ℕ) → b ≡ is_some o
-    → length xs ≡ n
-    → length (cond b (x ∷ xs) xs) ≡ records_of o + n
+pub one_step : {X : Type 0} (b : Bool) (o : Option (List ℕ)) (x : X) (xs : List X) (n : ℕ)
+    → b ≡ is_some o → length xs ≡ n → length (cond b (x ∷ xs) xs) ≡ records_of o + n
 one_step true None x xs n h e = absurd (false≢true (sym h))
 one_step true (Some rec) x xs n h e = omega (arith, e)
 one_step false None x xs n h e = omega (arith, e)
@@ -95,9 +90,8 @@ counted f g h (x ∷ xs) =
       same,
     )
 
-pub records-joined : (owners : List Held) (records : List Record)
-    → length (filter (λ held. is_some (record_of held.r held.conn records)) owners) ≡ records_owned
-    (interests_of owners records)
+pub records-joined : (owners : List Held) (records : List Record) → length (filter
+    (λ held. is_some (record_of held.r held.conn records)) owners) ≡ records_owned (interests_of owners records)
 records-joined owners records =
     counted (λ held. record_of held.r held.conn records) (with_record records) (λ x. refl) owners
 
@@ -111,10 +105,8 @@ abbrev told : Resource → ConnId → Held → Letter
 told r conn held = record { to = held.conn; event = events.Notify r conn }
 
 told_step : (r : Resource) (conn : ConnId) (b : Bool) (x : Held) (rec : Option (List ℕ)) (xs : List Held)
-    (is : List Interest)
-    → map (told r conn) xs ≡ map (decide.notify_letter r conn) is
-    → map (told r conn) (cond b (x ∷ xs) xs) ≡ map (decide.notify_letter r conn)
-    (cond b (record { held = x; rec = rec } ∷ is) is)
+    (is : List Interest) → map (told r conn) xs ≡ map (decide.notify_letter r conn) is → map (told r conn)
+    (cond b (x ∷ xs) xs) ≡ map (decide.notify_letter r conn) (cond b (record { held = x; rec = rec } ∷ is) is)
 told_step r conn true x rec xs is e = ap (λ l. told r conn x ∷ l) e
 told_step r conn false x rec xs is e = e
 
@@ -130,17 +122,15 @@ read_step : (records : List Record) (b : Bool) (x : Held) (xs : List Held) (is :
 read_step records true x xs is e = ap (λ l. cons_option (record_read x (record_of x.r x.conn records)) l) e
 read_step records false x xs is e = e
 
-pub read-joined : (conn : ConnId) (records : List Record) (owners : List Held)
-    → records_read conn records owners ≡ filter_map rt_read.record_in
-    (filter (is_by conn) (interests_of owners records))
+pub read-joined : (conn : ConnId) (records : List Record) (owners : List Held) → records_read
+    conn records owners ≡ filter_map rt_read.record_in (filter (is_by conn) (interests_of owners records))
 read-joined conn records [] = refl
 read-joined conn records (x ∷ xs) = grind (arith, read_step, read-joined conn records xs)
 
 -- the last interest is that of the last owner
 pub last-joined : (owners : List Held) (records : List Record) (last : Held)
-    → slice_get owners (length owners - 1) ≡ Some last
-    → slice_get (interests_of owners records) (length (interests_of owners records) - 1)
-    ≡ Some (with_record records last)
+    → slice_get owners (length owners - 1) ≡ Some last → slice_get
+    (interests_of owners records) (length (interests_of owners records) - 1) ≡ Some (with_record records last)
 last-joined owners records last h = grind (arith, length-map, slice_get-map)
 
 pub last_there : (owners : List Held) → 0 < length owners → slice_get owners (length owners - 1) ≡ None → ⊥

@@ -7,8 +7,7 @@ pub content-nothing : (caps : Caps) → IsContent caps no_content
 content-nothing caps = grind arith
 
 pub leave-content : (shape : Shape) (caps : Caps) (content : Content) (conn : ConnId) (keep : Bool)
-    → IsContent caps content
-    → IsContent caps (lock_meaning.leave shape content conn keep).state
+    → IsContent caps content → IsContent caps (lock_meaning.leave shape content conn keep).state
 leave-content shape caps content conn keep is = (departures.led_departed caps conn keep content is).content
 
 pub back-content : (caps : Caps) (content : Content) (conn : ConnId) → IsContent caps content
@@ -19,8 +18,7 @@ back-content caps content conn is = departures.content-returned caps conn conten
 
 made-interests : (content : Content) (interests : List Interest)
     → fold content_with content (map owner interests) ≡ record content { interests = content.interests ++ interests }
-made-interests content [] = ap (λ (l : List Interest). record content { interests = l })
-    (sym (append-nil content.interests))
+made-interests content [] = grind (arith, append-nil)
 made-interests content (x ∷ xs) = grind (arith, append_assoc, made-interests (content_with content (owner x)) xs)
 
 made-waiters : (content : Content) (waiters : List Waiter)
@@ -63,39 +61,28 @@ no_owner : (waiters : List Waiter) → list_any is_owner (map Waits waiters) ≡
 no_owner [] = refl
 no_owner (w ∷ ws) = no_owner ws
 
-some_owner : (x : Interest) (ys zs : List LockItem) → list_any is_owner (ys ++ owner x ∷ zs) ≡ true
-some_owner x ys zs = list_any-append is_owner ys (owner x ∷ zs)
-    ∙ or_right (list_any is_owner ys) (list_any is_owner (owner x ∷ zs)) refl
-
 -- so nobody waits yet where the next item is an owner
 pub nobody : (whole : Content) (interests : List Interest) (waiters : List Waiter) (x : Interest)
     (others : List LockItem)
     → items whole ≡ (map owner interests ++ map Waits waiters) ++ owner x ∷ others → waiters ≡ []
 nobody whole interests [] x others e = refl
-nobody whole interests (w ∷ ws) x others e =
-    absurd (false≢true (sym (no_owner whole.waiters)
-    ∙ ap (λ (l : List LockItem). list_any is_owner l)
-    (sym (behind_items whole.interests whole.waiters) ∙ ap behind_owners e
-    ∙ behind_more interests w (map Waits ws) (owner x ∷ others))
-    ∙ some_owner x (Waits w ∷ map Waits ws) others))
+nobody whole interests (w ∷ ws) x others e = absurd (false≢true (sym (no_owner whole.waiters) ∙ ap
+    (λ (l : List LockItem). list_any is_owner l) (sym (behind_items whole.interests whole.waiters) ∙ ap behind_owners
+    e ∙ behind_more interests w (map Waits ws) (owner x ∷ others)) ∙ (grind (arith, list_any-append, or_right))))
 
-owner_placed : (interests : List Interest) (waiters : List Waiter) (x : Interest) → waiters ≡ []
-    → map owner (interests ++ x ∷ []) ++ map Waits waiters ≡ (map owner interests ++ map Waits waiters) ++ owner x
-    ∷ []
+owner_placed : (interests : List Interest) (waiters : List Waiter) (x : Interest) → waiters ≡ [] → map
+    owner (interests ++ x ∷ []) ++ map Waits waiters ≡ (map owner interests ++ map Waits waiters) ++ owner x ∷ []
 owner_placed interests waiters x e = grind (arith, append-nil, map-append)
 
-waiter_placed : (interests : List Interest) (waiters : List Waiter) (w : Waiter)
-    → map owner interests ++ map Waits (waiters ++ w ∷ []) ≡ (map owner interests ++ map Waits waiters) ++ Waits w
-    ∷ []
+waiter_placed : (interests : List Interest) (waiters : List Waiter) (w : Waiter) → map owner
+    interests ++ map Waits (waiters ++ w ∷ []) ≡ (map owner interests ++ map Waits waiters) ++ Waits w ∷ []
 waiter_placed interests waiters w = grind (arith, map-append, append_assoc)
 
 pub items-place : (content whole : Content) (item : LockItem) (others : List LockItem)
-    → items whole ≡ items content ++ item ∷ others
-    → items (content_with content item) ≡ items content ++ item ∷ []
+    → items whole ≡ items content ++ item ∷ others → items (content_with content item) ≡ items content ++ item ∷ []
 items-place content whole (Owner held rec) others first =
     let x : Interest = record { held = held; rec = rec } in
-    owner_placed content.interests content.waiters x
-    (nobody whole content.interests content.waiters x others first)
+    owner_placed content.interests content.waiters x (nobody whole content.interests content.waiters x others first)
 items-place content whole (Waits w) others first = waiter_placed content.interests content.waiters w
 
 -- ---- without the last item
@@ -103,27 +90,21 @@ items-place content whole (Waits w) others first = waiter_placed content.interes
 last-away : {X : Type 0} (xs : List X) (x : X) → without_last (xs ++ x ∷ []) ≡ xs
 last-away xs x = take_at xs (x ∷ []) (length (xs ++ x ∷ []) - 1) (omega (arith, length-append xs (x ∷ [])))
 
-waiter_away : (interests : List Interest) (waiters : List Waiter) (w : Waiter)
-    → content_without_last (record { interests = interests; waiters = waiters ++ w ∷ [] }) ≡ record
-    { interests = interests; waiters = waiters }
+waiter_away : (interests : List Interest) (waiters : List Waiter) (w : Waiter) → content_without_last (record
+    { interests = interests; waiters = waiters ++ w ∷ [] }) ≡ record { interests = interests; waiters = waiters }
 waiter_away interests [] w = refl
-waiter_away interests (v ∷ vs) w = ap (λ (l : List Waiter). record { interests = interests; waiters = l })
-    (last-away (v ∷ vs) w)
+waiter_away interests (v ∷ vs) w = ap (λ l. record { interests = interests; waiters = l }) (last-away _ w)
 
 owner_away : (interests : List Interest) (waiters : List Waiter) (x : Interest) → waiters ≡ []
     → content_without_last (record { interests = interests ++ x ∷ []; waiters = waiters }) ≡ record
     { interests = interests; waiters = waiters }
-owner_away interests [] x e = ap (λ (l : List Interest). record { interests = l; waiters = [] })
-    (last-away interests x)
-owner_away interests (w ∷ ws) x e = absurd (cc)
+owner_away interests waiters x e = grind (arith, last-away)
 
 pub unplace-place : (content whole : Content) (item : LockItem) (others : List LockItem)
-    → items whole ≡ items content ++ item ∷ others
-    → content_without_last (content_with content item) ≡ content
+    → items whole ≡ items content ++ item ∷ others → content_without_last (content_with content item) ≡ content
 unplace-place content whole (Owner held rec) others first =
     let x : Interest = record { held = held; rec = rec } in
-    owner_away content.interests content.waiters x
-    (nobody whole content.interests content.waiters x others first)
+    owner_away content.interests content.waiters x (nobody whole content.interests content.waiters x others first)
 unplace-place content whole (Waits w) others first = waiter_away content.interests content.waiters w
 
 -- ---- what items need
@@ -134,37 +115,30 @@ need-front xs others = grind (arith, sum_by-append)
 records_owners : (interests : List Interest)
     → sum_by records_of_item (map owner interests) ≡ sum_by (λ (x : Interest). records_of x.rec) interests
 records_owners [] = refl
-records_owners (x ∷ xs) =
-    omega (
-      arith,
-      records_owners xs,
-      sum_by-cons records_of_item (owner x) (map owner xs),
-      sum_by-cons
-          (λ (y : Interest). records_of y.rec) x xs,
-    )
+records_owners (x ∷ xs) = omega (
+  arith,
+  records_owners xs,
+  sum_by-cons records_of_item (owner x) (map owner xs),
+  sum_by-cons (λ (y : Interest). records_of y.rec) x xs,
+)
 
 records_waiters : (waiters : List Waiter)
     → sum_by records_of_item (map Waits waiters) ≡ sum_by (λ (w : Waiter). records_of w.rec) waiters
 records_waiters [] = refl
-records_waiters (w ∷ ws) =
-    omega (
-      arith,
-      records_waiters ws,
-      sum_by-cons records_of_item (Waits w) (map Waits ws),
-      sum_by-cons
-          (λ (v : Waiter). records_of v.rec) w ws,
-    )
+records_waiters (w ∷ ws) = omega (
+  arith,
+  records_waiters ws,
+  sum_by-cons records_of_item (Waits w) (map Waits ws),
+  sum_by-cons (λ (v : Waiter). records_of v.rec) w ws,
+)
 
-entries_owners : (interests : List Interest)
-    → sum_by entries_of_item (map owner interests) ≡ length interests
+entries_owners : (interests : List Interest) → sum_by entries_of_item (map owner interests) ≡ length interests
 entries_owners [] = refl
-entries_owners (x ∷ xs) =
-    omega (arith, entries_owners xs, sum_by-cons entries_of_item (owner x) (map owner xs))
+entries_owners (x ∷ xs) = omega (arith, entries_owners xs, sum_by-cons entries_of_item (owner x) (map owner xs))
 
 entries_waiters : (waiters : List Waiter) → sum_by entries_of_item (map Waits waiters) ≡ 0
 entries_waiters [] = refl
-entries_waiters (w ∷ ws) =
-    omega (arith, entries_waiters ws, sum_by-cons entries_of_item (Waits w) (map Waits ws))
+entries_waiters (w ∷ ws) = omega (arith, entries_waiters ws, sum_by-cons entries_of_item (Waits w) (map Waits ws))
 
 -- the record data of the items are those of the content, and the entries are its interests
 pub elements-items : (content : Content) → (need_of (items content)).elements ≡ records_in content
@@ -181,21 +155,13 @@ no_more_of (kind.List headers locks refs) need other h less = absurd (false≢tr
 no_more_of kind.Lock need other h less = less
 
 pub need-leave : (shape : Shape) (caps : Caps) (content : Content) (conn : ConnId) (keep : Bool)
-    → is_lock shape.kind ≡ true → IsContent caps content
-    → IsNoMoreOf shape.kind (need_of (items (lock_meaning.leave shape content conn keep).state))
-    (need_of (items content))
+    → is_lock shape.kind ≡ true → IsContent caps content → IsNoMoreOf
+    shape.kind (need_of (items (lock_meaning.leave shape content conn keep).state)) (need_of (items content))
 need-leave shape caps content conn keep lock is =
     let left = (lock_meaning.leave shape content conn keep).state in
     let led = departures.led_departed caps conn keep content is in
-    no_more_of shape.kind (need_of (items left)) (need_of (items content)) lock
-    (omega (arith, led.records, elements-items left, elements-items content))
-
--- a content whose items fit another capacity is one there
-fits_records : (kind : Kind) (need caps : Caps) → Fits kind need caps → need.elements ≤ caps.elements
-fits_records kind.Cache need caps fits = fits.1
-fits_records (kind.List headers locks refs) need caps fits = fits.1
-fits_records kind.Lock need caps fits = fits
+    no_more_of _ _ _ lock (omega (arith, led.records, elements-items left, elements-items content))
 
 pub content-moved : (shape : Shape) (caps other : Caps) (content : Content) → IsContent caps content
     → Fits shape.kind (need_of (items content)) other → IsContent other content
-content-moved shape caps other content is fits = grind (arith, fits_records, elements-items)
+content-moved shape caps other content is fits = grind (arith, elements-items)

@@ -10,17 +10,11 @@ part_of interest = (interest.held.r, interest.held.conn)
 pub turned : (a b : ℕ) → (a == b) ≡ (b == a)
 turned a b = grind (arith, nat_tests)
 
-swapped : (a b : Bool) → a && b ≡ b && a
-swapped true true = refl
-swapped true false = refl
-swapped false true = refl
-swapped false false = refl
-
-agree_parts : (p q x y m n : Bool) → p ≡ q → x ≡ y → m ≡ n → not p || (x || m) ≡ not q || (y || n)
+pub agree_parts : (p q x y m n : Bool) → p ≡ q → x ≡ y → m ≡ n → not p || (x || m) ≡ not q || (y || n)
 agree_parts p q x y m n e f g = rw (e, f, g) refl
 
 pub agree_sym : (a b : Held) → may_coexist a b ≡ may_coexist b a
-agree_sym a b = grind (arith, agree_parts, same_resource_comm, swapped, turned)
+agree_sym a b = grind (arith, agree_parts, same_resource_comm, turned)
 
 apart_sym : (x y : Interest) → parts_apart x y ≡ parts_apart y x
 apart_sym x y = ap not (same_part_comm (part_of x) (part_of y))
@@ -39,9 +33,8 @@ interests-filter q interests are = grind (arith, pairwise-filter)
 finds : (x : Interest) → FindsPlace stands_up_to (λ other. stands_up_to other x) (λ y. true) x
 finds x = grind (arith, resource_up_to-either, resource_up_to-trans)
 
-pub interests-with : (x : Interest) (interests : List Interest) → AreInterests interests
-    → may_own x.held interests ≡ true
-    → AreInterests (interests_with x interests)
+pub interests-with : (x : Interest) (interests : List Interest)
+    → AreInterests interests → may_own x.held interests ≡ true → AreInterests (interests_with x interests)
 interests-with x interests are may =
     let rest = interests_without x.held.r x.held.conn interests in
     let before : Interest → Bool = λ other. stands_up_to other x in
@@ -51,29 +44,24 @@ interests-with x interests are may =
           (list_all_always (λ y. true) (λ y. refl) rest) few.ordered;
       one_each = pairwise-insertion_any parts_apart before x rest few.one_each
           (list_all_weaker (λ y. not (is_of x.held.r x.held.conn y)) (λ y. parts_apart x y && parts_apart y x)
-          (λ y h. and_from (parts_apart x y) (parts_apart y x) (apart_sym x y ∙ h) h) rest
-          (list_all-filter_same (λ other. not (is_of x.held.r x.held.conn other)) interests));
-      compatible = pairwise-insertion_any owners_agree before x rest few.compatible
-          (list_all_weaker (λ y. may_coexist x.held y.held) (λ y. owners_agree x y && owners_agree y x)
-          (λ y h. both (owners_agree x y) (owners_agree y x) h (agree_sym y.held x.held)) rest
-          (list_all-filter (λ y. may_coexist x.held y.held) (λ other. not (is_of x.held.r x.held.conn other)) interests
-          may));
+          (grind (arith, and_from, apart_sym)) rest (grind (arith, list_all-filter_same)));
+      compatible = pairwise-insertion_any owners_agree before x rest few.compatible (list_all_weaker
+          (λ y. may_coexist x.held y.held) (λ y. owners_agree x y && owners_agree y x) (λ y h. both (owners_agree x y)
+          (owners_agree y x) h (agree_sym y.held x.held)) rest (grind (arith, list_all-filter)));
     }
 
-pub has-filter : (r : Resource) (conn : ConnId) (q : Interest → Bool)
-    → ((x : Interest) → is_of r conn x ≡ true → q x ≡ true) → (interests : List Interest)
-    → has_interest r conn (filter q interests) ≡ has_interest r conn interests
+pub has-filter : (r : Resource) (conn : ConnId) (q : Interest → Bool) → ((x : Interest) → is_of r conn x ≡ true → q
+    x ≡ true) → (interests : List Interest) → has_interest r conn (filter q interests) ≡ has_interest r conn interests
 has-filter r conn q h interests = any-filter_same (is_of r conn) q true h interests
 
 -- what is of one part isn't of another
-other_part : (x y : Interest) (r : Resource) (conn : ConnId) → is_of r conn x ≡ false → is_of r conn y ≡ true
+pub other_part : (x y : Interest) (r : Resource) (conn : ConnId) → is_of r conn x ≡ false → is_of r conn y ≡ true
     → not (is_of x.held.r x.held.conn y) ≡ true
 other_part x y r conn out is =
     let named : Part = (r, conn) in
     let it : part_of y ≡ named = same_part-eq (part_of y) named is in
     ap not (subst (λ (p : Part). same_part p (part_of x) ≡ false) (sym it) (same_part_comm named (part_of x) ∙ out))
 
--- the others are there as before
 pub has-with : (r : Resource) (conn : ConnId) (x : Interest) (interests : List Interest) → is_of r conn x ≡ false
     → has_interest r conn (interests_with x interests) ≡ has_interest r conn interests
 has-with r conn x interests out = grind (arith, list_any-insertion, has-filter, other_part)
@@ -84,17 +72,8 @@ pub has-without : (r : Resource) (conn : ConnId) (s : Resource) (other : ConnId)
 has-without r conn s other interests out =
     let named : Part = (r, conn) in
     let gone : Part = (s, other) in
-    has-filter r conn (λ x. not (is_of s other x))
-    (λ x h. ap not (subst (λ (p : Part). same_part p gone ≡ false) (sym (same_part-eq (part_of x) named h)) out))
-    interests
-
-pub records-with : (x : Interest) (interests : List Interest)
-    → records_owned (interests_with x interests) ≤ records_owned interests + records_of x.rec
-records-with x interests = grind (arith, sum_by-insertion, sum_by-filter-le)
-
-pub length-with : (x : Interest) (interests : List Interest)
-    → length (interests_with x interests) ≤ length interests + 1
-length-with x interests = grind (arith, length-insertion, length-filter-le)
+    has-filter r conn (λ x. not (is_of s other x)) (λ x h. ap not
+    (subst (λ (p : Part). same_part p gone ≡ false) (sym (same_part-eq (part_of x) named h)) out)) interests
 
 -- ---- changes that leave each interest with its resource and its connector
 
@@ -102,16 +81,13 @@ pub record KeepsPart (f : Interest → Interest) : Type 0 where
   pub r : (x : Interest) → (f x).held.r ≡ x.held.r
   pub conn : (x : Interest) → (f x).held.conn ≡ x.held.conn
 
-part_same : (f : Interest → Interest) → KeepsPart f → (x : Interest) → part_of (f x) ≡ part_of x
-part_same f keeps x = grind arith
-
 or_same : (a b c d : Bool) → a ≡ b → c ≡ d → a || c ≡ b || d
 or_same a b c d e f = rw (e, f) refl
 
 pub has-map : (f : Interest → Interest) → KeepsPart f → (r : Resource) (conn : ConnId) (interests : List Interest)
     → has_interest r conn (map f interests) ≡ has_interest r conn interests
 has-map f keeps r conn [] = refl
-has-map f keeps r conn (x ∷ xs) = grind (arith, or_same, part_same, has-map f keeps r conn xs)
+has-map f keeps r conn (x ∷ xs) = grind (arith, or_same, has-map f keeps r conn xs)
 
 -- a relation that a map keeps between elements that pass a test
 map_keeps : {X : Type 0} (relation : X → X → Bool) (f : X → X) (good : X → Bool)
@@ -121,48 +97,38 @@ map_keeps relation f good h [] g p = refl
 map_keeps relation f good h (x ∷ xs) g p =
     let goods = and_parts (good x) (list_all good xs) g in
     let parts = and_parts (list_all (relation x) xs) (pairwise relation xs) p in
-    and_from (list_all (relation (f x)) (map f xs)) (pairwise relation (map f xs))
-    (list_all-map (relation (f x)) f xs
-    ∙ list_all_weaker (λ y. good y && relation x y) (λ y. relation (f x) (f y))
-    (λ y k. let both = and_parts (good y) (relation x y) k in h x y goods.0 both.0 both.1) xs
-    (list_all_both good (relation x) xs goods.1 parts.0))
-    (map_keeps relation f good h xs goods.1 parts.1)
+    and_from (list_all (relation (f x)) (map f xs)) (pairwise relation (map f xs)) (list_all-map (relation (f x)) f xs
+    ∙ list_all_weaker (λ y. good y && relation x y) (λ y. relation (f x) (f y)) (grind (arith, both, and_parts))
+    xs (list_all_both good (relation x) xs goods.1 parts.0)) (map_keeps relation f good h xs goods.1 parts.1)
 
 up_to_same : (a b c d : Resource) → a ≡ c → b ≡ d → resource_up_to a b ≡ resource_up_to c d
 up_to_same a b c d e f = ap (λ (x : Resource). resource_up_to x b) e ∙ ap (λ (y : Resource). resource_up_to c y) f
 
-pub interests-map : (f : Interest → Interest) → KeepsPart f → (good : Interest → Bool)
-    → ((x y : Interest) → good x ≡ true → good y ≡ true → owners_agree x y ≡ true → owners_agree (f x) (f y) ≡ true)
-    → (interests : List Interest) → list_all good interests ≡ true → AreInterests interests
-    → AreInterests (map f interests)
-interests-map f keeps good h interests g are = grind (arith, pairwise-map, up_to_same, part_same, map_keeps)
-
--- who agrees goes by the resource, the connector and the state alone
-pub agree_same : (a b c : Held) → a.r ≡ b.r → a.conn ≡ b.conn → a.excl ≡ b.excl → may_coexist a c ≡ may_coexist b c
-agree_same a b c e f g = grind (arith, agree_parts)
+pub interests-map : (f : Interest → Interest) → KeepsPart f → (good : Interest → Bool) → ((x y : Interest) → good x
+    ≡ true → good y ≡ true → owners_agree x y ≡ true → owners_agree (f x) (f y) ≡ true) → (interests : List Interest)
+    → list_all good interests ≡ true → AreInterests interests → AreInterests (map f interests)
+interests-map f keeps good h interests g are = grind (arith, pairwise-map, up_to_same, map_keeps)
 
 pub record KeepsState (f : Interest → Interest) : Type 0 where
   pub part : KeepsPart f
   pub excl : (x : Interest) → (f x).held.excl ≡ x.held.excl
 
-state_same : (f : Interest → Interest) → KeepsState f → (x y : Interest) → owners_agree (f x) (f y) ≡ owners_agree x y
-state_same f keeps x y = grind (arith, agree_same, agree_sym)
+pub state_same : (f : Interest → Interest)
+    → KeepsState f → (x y : Interest) → owners_agree (f x) (f y) ≡ owners_agree x y
+state_same f keeps x y = grind (arith, agree_sym)
 
 pub interests-same : (f : Interest → Interest) → KeepsState f → (interests : List Interest) → AreInterests interests
     → AreInterests (map f interests)
-interests-same f keeps interests are =
-    interests-map f keeps.part (λ x. true) (λ x y g h e. state_same f keeps x y ∙ e) interests
-    (list_all_always (λ x. true) (λ x. refl) interests) are
+interests-same f keeps interests are = interests-map f keeps.part (λ x. true) (λ x y g h e. state_same f keeps x y
+    ∙ e) interests (list_all_always (λ x. true) (λ x. refl) interests) are
 
 pub records-map : (f : Interest → Interest) → ((x : Interest) → records_of (f x).rec ≤ records_of x.rec)
-    → (interests : List Interest)
-    → records_owned (map f interests) ≤ records_owned interests
+    → (interests : List Interest) → records_owned (map f interests) ≤ records_owned interests
 records-map f h [] = omega arith
-records-map f h (x ∷ xs) =
-    omega (
-      arith,
-      h x,
-      records-map f h xs,
-      sum_by-cons (λ (i : Interest). records_of i.rec) (f x) (map f xs),
-      sum_by-cons (λ (i : Interest). records_of i.rec) x xs,
-    )
+records-map f h (x ∷ xs) = omega (
+  arith,
+  h x,
+  records-map f h xs,
+  sum_by-cons (λ (i : Interest). records_of i.rec) (f x) (map f xs),
+  sum_by-cons (λ (i : Interest). records_of i.rec) x xs,
+)

@@ -75,25 +75,20 @@ waiters_of_items [] ws = all_waiters ws
 waiters_of_items (x ∷ xs) ws = waiters_of_items xs ws
 
 -- what comes first among them comes first in the content
-front_owners : (whole : Content) (interests : List Interest) (waiters : List Waiter) (others : List LockItem)
-    → items whole ≡ (map owner interests ++ map Waits waiters) ++ others
-    → whole.interests ≡ interests ++ owners_among others
-front_owners whole interests waiters others e =
-    sym (owners_of_items whole.interests whole.waiters) ∙ ap owners_among e
-    ∙ owners_among-append (map owner interests ++ map Waits waiters) others
+front_owners : (whole : Content) (interests : List Interest) (waiters : List Waiter) (others : List LockItem) → items
+    whole ≡ (map owner interests ++ map Waits waiters) ++ others → whole.interests ≡ interests ++ owners_among others
+front_owners whole interests waiters others e = sym (owners_of_items whole.interests whole.waiters)
+    ∙ ap owners_among e ∙ owners_among-append (map owner interests ++ map Waits waiters) others
     ∙ ap (λ (l : List Interest). l ++ owners_among others) (owners_of_items interests waiters)
 
-front_waiters : (whole : Content) (interests : List Interest) (waiters : List Waiter) (others : List LockItem)
-    → items whole ≡ (map owner interests ++ map Waits waiters) ++ others
-    → whole.waiters ≡ waiters ++ waiters_among others
-front_waiters whole interests waiters others e =
-    sym (waiters_of_items whole.interests whole.waiters) ∙ ap waiters_among e
-    ∙ waiters_among-append (map owner interests ++ map Waits waiters) others
+front_waiters : (whole : Content) (interests : List Interest) (waiters : List Waiter) (others : List LockItem) → items
+    whole ≡ (map owner interests ++ map Waits waiters) ++ others → whole.waiters ≡ waiters ++ waiters_among others
+front_waiters whole interests waiters others e = sym (waiters_of_items whole.interests whole.waiters)
+    ∙ ap waiters_among e ∙ waiters_among-append (map owner interests ++ map Waits waiters) others
     ∙ ap (λ (l : List Waiter). l ++ waiters_among others) (waiters_of_items interests waiters)
 
-behind_at : (interests : List Interest) (waiters : List Waiter) (w : Waiter) (others : List LockItem)
-    → behind_owners ((map owner interests ++ map Waits waiters) ++ Waits w ∷ others) ≡ map Waits waiters ++ Waits w
-    ∷ others
+behind_at : (interests : List Interest) (waiters : List Waiter) (w : Waiter) (others : List LockItem) → behind_owners
+    ((map owner interests ++ map Waits waiters) ++ Waits w ∷ others) ≡ map Waits waiters ++ Waits w ∷ others
 behind_at [] [] w others = refl
 behind_at [] (v ∷ vs) w others = refl
 behind_at (x ∷ xs) ws w others = behind_at xs ws w others
@@ -101,26 +96,22 @@ behind_at (x ∷ xs) ws w others = behind_at xs ws w others
 no_more_owners : (whole : Content) (interests : List Interest) (waiters : List Waiter) (w : Waiter)
     (others : List LockItem)
     → items whole ≡ (map owner interests ++ map Waits waiters) ++ Waits w ∷ others → owners_among others ≡ []
-no_more_owners whole interests waiters w others e =
-    ap (λ (l : List Interest). l ++ owners_among others) (sym (no_owners waiters))
-    ∙ sym (owners_among-append (map Waits waiters) (Waits w ∷ others))
-    ∙ ap owners_among (sym (behind_at interests waiters w others) ∙ sym (ap behind_owners e)
-    ∙ behind_items whole.interests whole.waiters)
-    ∙ no_owners whole.waiters
+no_more_owners whole interests waiters w others e = ap (λ (l : List Interest). l ++ owners_among others)
+    (sym (no_owners waiters)) ∙ sym (owners_among-append (map Waits waiters) (Waits w ∷ others))
+    ∙ ap owners_among (sym (behind_at interests waiters w others)
+    ∙ sym (ap behind_owners e) ∙ behind_items whole.interests whole.waiters) ∙ no_owners whole.waiters
 
 -- ---- one item more
 
 next_owner : (caps : Caps) (whole : Content) (interests : List Interest) (waiters : List Waiter) (x : Interest)
-    (more : List Interest)
-    → IsContent caps whole → waiters ≡ [] → whole.interests ≡ interests ++ x ∷ more
+    (more : List Interest) → IsContent caps whole → waiters ≡ [] → whole.interests ≡ interests ++ x ∷ more
     → IsContent caps (record { interests = interests ++ x ∷ []; waiters = waiters })
 next_owner caps whole interests [] x more is none e =
     front-interests caps whole (interests ++ x ∷ []) more is (e ∙ sym (append_assoc interests (x ∷ []) more))
 next_owner caps whole interests (w ∷ ws) x more is none e = absurd (cc)
 
 next_waiter : (caps : Caps) (whole : Content) (interests : List Interest) (waiters : List Waiter) (w : Waiter)
-    (more : List Waiter)
-    → IsContent caps whole → whole.interests ≡ interests → whole.waiters ≡ waiters ++ w ∷ more
+    (more : List Waiter) → IsContent caps whole → whole.interests ≡ interests → whole.waiters ≡ waiters ++ w ∷ more
     → IsContent caps (record { interests = interests; waiters = waiters ++ w ∷ [] })
 next_waiter caps whole interests waiters w more is same e =
     subst (λ (l : List Interest). IsContent caps (record { interests = l; waiters = waiters ++ w ∷ [] })) same
@@ -128,36 +119,29 @@ next_waiter caps whole interests waiters w more is same e =
 
 -- one more of the items of a content
 pub content-next : (caps : Caps) (content whole : Content) (item : LockItem) (others : List LockItem)
-    → IsContent caps whole
-    → items whole ≡ items content ++ item ∷ others → IsContent caps (content_with content item)
+    → IsContent caps whole → items whole ≡ items content ++ item ∷ others → IsContent caps (content_with content item)
 content-next caps content whole (Owner held rec) others is e =
     let x : Interest = record { held = held; rec = rec } in
-    next_owner caps whole content.interests content.waiters x (owners_among others) is
-    (nobody whole content.interests content.waiters x others e)
-    (front_owners whole content.interests content.waiters (owner x ∷ others) e)
-content-next caps content whole (Waits w) others is e =
-    next_waiter caps whole content.interests content.waiters w (waiters_among others) is
-    (front_owners whole content.interests content.waiters (Waits w ∷ others) e
-    ∙ ap (λ (l : List Interest). content.interests ++ l)
-    (no_more_owners whole content.interests content.waiters w others e)
-    ∙ append-nil content.interests)
-    (front_waiters whole content.interests content.waiters (Waits w ∷ others) e)
+    next_owner caps whole content.interests content.waiters x (owners_among others) is (nobody whole content.interests
+    content.waiters x others e) (front_owners whole content.interests content.waiters (owner x ∷ others) e)
+content-next caps content whole (Waits w) others is e = next_waiter caps whole content.interests content.waiters
+    w (waiters_among others) is (front_owners whole content.interests content.waiters (Waits w ∷ others) e ∙ ap
+    (λ (l : List Interest). content.interests ++ l) (no_more_owners whole content.interests content.waiters w others
+    e) ∙ append-nil content.interests) (front_waiters whole content.interests content.waiters (Waits w ∷ others) e)
 
 -- ---- what the first items make
 
 pub lock-fronts : FrontLaws lock_meaning is_lock (λ shape caps content. IsContent caps content)
-lock-fronts =
-    fronts lock_meaning is_lock (λ shape caps content. IsContent caps content)
-    (record {
-      content_empty = λ shape caps. content-nothing caps;
-      items_empty = λ shape. refl;
-      made_again = λ shape caps content is. made-items content;
-      content_moved = λ shape caps other content kind is fits. content-moved shape caps other content is fits;
-      content_place = λ shape caps content item is next.
-          content-next caps content next.whole item next.others next.content next.first;
-      items_place = λ shape caps content item is next. items-place content next.whole item next.others next.first;
-      unplace_place = λ shape caps content item is next. unplace-place content next.whole item next.others next.first;
-    })
+lock-fronts = fronts lock_meaning is_lock (λ shape caps content. IsContent caps content) (record {
+  content_empty = λ shape caps. content-nothing caps;
+  items_empty = λ shape. refl;
+  made_again = λ shape caps content is. made-items content;
+  content_moved = λ shape caps other content kind is fits. content-moved shape caps other content is fits;
+  content_place = λ shape caps content item is next.
+      content-next caps content next.whole item next.others next.content next.first;
+  items_place = λ shape caps content item is next. items-place content next.whole item next.others next.first;
+  unplace_place = λ shape caps content item is next. unplace-place content next.whole item next.others next.first;
+})
 
 -- ---- where items stand
 
@@ -176,27 +160,23 @@ insertion_last {X} before x (y ∷ ys) h =
 
 -- each of the first ones is related to the next one
 before_next : {X : Type 0} (relation : X → X → Bool) (xs more : List X) (x : X)
-    → pairwise relation (xs ++ x ∷ more) ≡ true
-    → list_all (λ y. relation y x) xs ≡ true
+    → pairwise relation (xs ++ x ∷ more) ≡ true → list_all (λ y. relation y x) xs ≡ true
 before_next relation [] more x h = refl
 before_next relation (y ∷ ys) more x h =
     let parts = and_parts (list_all (relation y) (ys ++ x ∷ more)) (pairwise relation (ys ++ x ∷ more)) h in
     let split = and_parts (list_all (relation y) ys) (list_all (relation y) (x ∷ more))
     (sym (list_all-append (relation y) ys (x ∷ more)) ∙ parts.0) in
     and_from (relation y x) (list_all (λ z. relation z x) ys)
-    (and_parts (relation y x) (list_all (relation y) more) split.1).0
-    (before_next relation ys more x parts.1)
+    (and_parts (relation y x) (list_all (relation y) more) split.1).0 (before_next relation ys more x parts.1)
 
 -- the next interest of a content is the last of its resource, and the next waiter too
 pub interests_with-next : (interests more : List Interest) (x : Interest) → AreInterests (interests ++ x ∷ more)
     → interests_with x interests ≡ interests ++ x ∷ []
 interests_with-next interests more x are =
-    let same : interests_without x.held.r x.held.conn interests ≡ interests =
-    filter_all (λ y. not (is_of x.held.r x.held.conn y)) interests
-    (before_next parts_apart interests more x are.one_each) in
-    ap (λ (l : List Interest). insertion (λ other. stands_up_to other x) x l) same
-    ∙ insertion_last (λ other. stands_up_to other x) x interests
-    (before_next stands_up_to interests more x are.ordered)
+    let same : interests_without x.held.r x.held.conn interests ≡ interests = filter_all
+    (λ y. not (is_of x.held.r x.held.conn y)) interests (before_next parts_apart interests more x are.one_each) in
+    ap (λ (l : List Interest). insertion (λ other. stands_up_to other x) x l) same ∙ insertion_last
+    (λ other. stands_up_to other x) x interests (before_next stands_up_to interests more x are.ordered)
 
 pub waiters_with-next : (waiters more : List Waiter) (w : Waiter) → IsQueue (waiters ++ w ∷ more)
     → waiters_with w waiters ≡ waiters ++ w ∷ []
@@ -208,8 +188,7 @@ waiters_with-next waiters more w is =
 
 -- what a content with the next item is, by the commands' own words
 pub owner-next : (caps : Caps) (content whole : Content) (x : Interest) (others : List LockItem)
-    → IsContent caps whole
-    → items whole ≡ items content ++ owner x ∷ others
+    → IsContent caps whole → items whole ≡ items content ++ owner x ∷ others
     → content_with content (owner x) ≡ record content { interests = interests_with x content.interests }
 owner-next caps content whole x others is e =
     let first = front_owners whole content.interests content.waiters (owner x ∷ others) e in
@@ -241,14 +220,12 @@ last_behind {X} (y ∷ ys) x h =
 
 -- those of other keys are all but the last
 without_keyed_last : {X K : Type 0} (key : X → K) (same : K → K → Bool) → ((k : K) → same k k ≡ true)
-    → (xs : List X) (x : X)
-    → pairwise (λ y z. not (same (key y) (key z))) (xs ++ x ∷ []) ≡ true
+    → (xs : List X) (x : X) → pairwise (λ y z. not (same (key y) (key z))) (xs ++ x ∷ []) ≡ true
     → filter (λ y. not (same (key y) (key x))) (xs ++ x ∷ []) ≡ xs
 without_keyed_last {X} key same same-refl xs x u = grind (arith, filter_all, before_next, filter-append, append-nil)
 
 pub waiters_without-last : (waiters : List Waiter) (w : Waiter) → IsQueue waiters
-    → slice_get waiters (length waiters - 1) ≡ Some w
-    → waiters_without w.r w.conn waiters ≡ without_last waiters
+    → slice_get waiters (length waiters - 1) ≡ Some w → waiters_without w.r w.conn waiters ≡ without_last waiters
 waiters_without-last waiters w is h =
     let e = last_behind waiters w h in
     let u : pairwise are_apart (without_last waiters ++ w ∷ []) ≡ true = subst
@@ -256,9 +233,8 @@ waiters_without-last waiters w is h =
     ap (λ (l : List Waiter). waiters_without w.r w.conn l) e
     ∙ without_keyed_last waiter_part same_part same_part-refl (without_last waiters) w u
 
-pub interests_without-last : (interests : List Interest) (x : Interest) → AreInterests interests
-    → slice_get interests (length interests - 1) ≡ Some x
-    → interests_without x.held.r x.held.conn interests ≡ without_last interests
+pub interests_without-last : (interests : List Interest) (x : Interest) → AreInterests interests → slice_get interests
+    (length interests - 1) ≡ Some x → interests_without x.held.r x.held.conn interests ≡ without_last interests
 interests_without-last interests x are h =
     let e = last_behind interests x h in
     let u : pairwise parts_apart (without_last interests ++ x ∷ []) ≡ true =
@@ -269,13 +245,11 @@ interests_without-last interests x are h =
 -- ---- the first waiter of a resource goes
 
 pub waiters_of-first : (r : Resource) (w : Waiter) (waiters rest : List Waiter) → IsQueue waiters
-    → waiters_of r waiters ≡ w ∷ rest
-    → waiters_of r (waiters_without w.r w.conn waiters) ≡ rest
+    → waiters_of r waiters ≡ w ∷ rest → waiters_of r (waiters_without w.r w.conn waiters) ≡ rest
 waiters_of-first r w waiters rest is e =
     let q : Waiter → Bool = λ v. not (is_waiter w.r w.conn v) in
-    let u : pairwise are_apart (w ∷ rest) ≡ true =
-    subst (λ (l : List Waiter). pairwise are_apart l ≡ true) e
-    (pairwise-filter are_apart (is_on r) waiters is.one_each) in
+    let u : pairwise are_apart (w ∷ rest) ≡ true = subst (λ (l : List Waiter). pairwise are_apart l ≡ true)
+    e (pairwise-filter are_apart (is_on r) waiters is.one_each) in
     let none = keys.none_later waiter_part same_part same_part-eq same_part-refl w rest u in
     filter_swap (is_on r) q waiters ∙ ap (λ (l : List Waiter). filter q l) e
     ∙ ap (λ (b : Bool). cond (not b) (w ∷ filter q rest) (filter q rest)) (same_part-refl (waiter_part w))

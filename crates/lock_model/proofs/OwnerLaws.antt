@@ -10,10 +10,8 @@ each_with_each relation turn own [] h = refl
 each_with_each relation turn own (x ∷ xs) h =
     let parts = and_parts (list_all (relation x) xs) (pairwise relation xs) h in
     and_from (relation x x && list_all (relation x) xs) (list_all (λ y. relation y x && list_all (relation y) xs) xs)
-    (and_from (relation x x) (list_all (relation x) xs) (own x) parts.0)
-    (list_all_both (λ y. relation y x) (λ y. list_all (relation y) xs) xs
-    (list_all_weaker (relation x) (λ y. relation y x) (turn x) xs parts.0)
-    (each_with_each relation turn own xs parts.1))
+    (grind (arith, and_from)) (list_all_both (λ y. relation y x) (λ y. list_all (relation y) xs) xs (list_all_weaker
+    (relation x) (λ y. relation y x) (turn x) xs parts.0) (each_with_each relation turn own xs parts.1))
 
 agrees_itself : (x : Interest) → owners_agree x x ≡ true
 agrees_itself x = grind (arith, or_right, eq-eqb)
@@ -22,13 +20,11 @@ all_contained : {X : Type 0} (p : X → Bool) (xs : List X) (x : X) → list_all
 all_contained p xs x h there = All-contains (λ y. p y ≡ true) xs x (AllPass-from_list_all p xs h) there
 
 same_then : (a b : Bool) → not a || b ≡ true → a ≡ true → b ≡ true
-same_then true b h e = h
-same_then false b h e = absurd (false≢true e)
+same_then a b h e = grind (arith, false≢true)
 
 pub compatible-interests : (caps : Caps) (content : Content) → IsContent caps content → OwnersAreCompatible content
 compatible-interests caps content is x y left right same =
     let each = each_with_each owners_agree (λ a b h. agree_sym b.held a.held ∙ h) agrees_itself content.interests
     is.owners.compatible in
     let all = all_contained (λ a. list_all (owners_agree a) content.interests) content.interests x each left in
-    same_then (same_resource x.held.r y.held.r) (are_compatible x.held y.held)
-    (all_contained (owners_agree x) content.interests y all right) same
+    same_then _ _ (all_contained (owners_agree x) content.interests y all right) same

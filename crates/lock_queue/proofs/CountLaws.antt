@@ -1,13 +1,12 @@
 -- How many interests there are.
-use Rattle.lock_queue.proofs.Imports.{◌≡◌, ℕ, zero, suc, ◌+◌, ◌<◌, ◌≤◌, Bool, true, false, not, if◌then◌else◌, Option, Some, None, is_some, sum_by, List, [], ◌∷◌, ◌++◌, map, filter, drop, get_or, length, refl, sym, ap, ◌∙◌, arith, append_assoc, append-nil, map-append, drop_all, filter-append, arranged, joined, ConnId, Resource, insertion, pairwise, length-insertion, sum_by-insertion, sum_by_without, any_is_found, length-filter-le, list_any, sum_by-append, sum_by-cons, same_part, resource_before, same_part-eq, same_part-refl, one_less, none_out, Waiter, is_waiter, waits, waiter_of, waiters_without, waiters_with, are_apart, recorded_by, recorded_of, recorded_in, part_of, resource_of, waiters_in, one_where}
+use Rattle.lock_queue.proofs.Imports.{◌≡◌, ℕ, ◌+◌, ◌<◌, ◌≤◌, Bool, true, false, not, Option, Some, None, is_some, sum_by, List, [], ◌∷◌, ◌++◌, map, filter, drop, get_or, length, refl, sym, ap, ◌∙◌, arith, append_assoc, append-nil, map-append, drop_all, filter-append, arranged, joined, joined_next, ConnId, Resource, insertion, pairwise, length-insertion, sum_by-insertion, sum_by_without, any_is_found, length-filter-le, list_any, sum_by-append, sum_by-cons, same_part, resource_before, same_part-eq, same_part-refl, one_less, none_out, Waiter, is_waiter, waits, waiter_of, waiters_without, waiters_with, are_apart, recorded_by, recorded_of, recorded_in, part_of, resource_of, waiters_in, one_where}
 
 pub less_one : (r : Resource) (conn : ConnId) (waiters : List Waiter) (b : Bool) → b ≡ waits r conn waiters
     → pairwise are_apart waiters ≡ true → length (waiters_without r conn waiters) + one_where b ≡ length waiters
 less_one r conn waiters true h u = one_less part_of (r, conn) waiters u (sym h)
 less_one r conn waiters false h u =
     let same : length waiters ≡ length (waiters_without r conn waiters) =
-    ap length (none_out part_of (r, conn) waiters (sym h))
-    in
+    ap length (none_out part_of (r, conn) waiters (sym h)) in
     let none : length (waiters_without r conn waiters) + 0 ≡ length waiters = omega (arith, same) in none
 
 pub one_more : (before : Waiter → Bool) (waiter : Waiter) (waiters : List Waiter) (n : ℕ) (b : Bool)
@@ -17,23 +16,14 @@ one_more before waiter waiters n false h = grind (arith, length-insertion)
 
 -- ---- the resources of all entries
 
-joined_next : (entries : List (List Waiter)) (i : ℕ) (d : List Waiter) → i < length entries
-    → joined (drop i entries) ≡ get_or entries i d ++ joined (drop (i + 1) entries)
-unfolding joined
-joined_next [] i d h = absurd (omega (arith, h))
-joined_next (x ∷ xs) zero d h = refl
-joined_next (x ∷ xs) (suc i) d h = grind (arith, joined_next xs i d (omega (arith, h)))
-
-pub keys_more : (entries : List (List Waiter)) (keys new : List Resource) (i : ℕ) (entry : List Waiter)
-    (all : List Resource)
-    → i < length entries → entry ≡ get_or entries i entry → new ≡ keys ++ map resource_of entry
-    → keys ++ map resource_of (joined (drop i entries)) ≡ all
+pub keys_more : (entries : List (List Waiter)) (keys new : List Resource)
+    (i : ℕ) (entry : List Waiter) (all : List Resource) → i < length entries → entry ≡ get_or entries i entry
+    → new ≡ keys ++ map resource_of entry → keys ++ map resource_of (joined (drop i entries)) ≡ all
     → new ++ map resource_of (joined (drop (i + 1) entries)) ≡ all
 keys_more entries keys new i entry all within is put h =
-    ap (λ l. l ++ map resource_of (joined (drop (i + 1) entries))) put
-    ∙ append_assoc keys (map resource_of entry) (map resource_of (joined (drop (i + 1) entries)))
-    ∙ ap (λ l. keys ++ l) (sym (map-append resource_of entry (joined (drop (i + 1) entries))))
-    ∙ ap (λ l. keys ++ map resource_of (l ++ joined (drop (i + 1) entries))) is
+    ap (λ l. l ++ map resource_of (joined (drop (i + 1) entries))) put ∙ append_assoc keys (map resource_of entry)
+    (map resource_of (joined (drop (i + 1) entries))) ∙ ap (λ l. keys ++ l) (sym (map-append resource_of entry
+    (joined (drop (i + 1) entries)))) ∙ ap (λ l. keys ++ map resource_of (l ++ joined (drop (i + 1) entries))) is
     ∙ ap (λ l. keys ++ map resource_of l) (sym (joined_next entries i entry within)) ∙ h
 
 pub keys_end : (entries : List (List Waiter)) (keys : List Resource) (i : ℕ) (all : List Resource) → length entries ≤ i
@@ -44,18 +34,15 @@ keys_end entries keys i all past h =
 
 -- ---- the resources of a connector's waiters
 
-pub keys_more_by : (q : Waiter → Bool) (entries : List (List Waiter)) (keys new : List Resource) (i : ℕ)
-    (entry : List Waiter)
-    (all : List Resource) → i < length entries → entry ≡ get_or entries i entry
-    → new ≡ keys ++ map resource_of (filter q entry)
-    → keys ++ map resource_of (filter q (joined (drop i entries))) ≡ all
-    → new ++ map resource_of (filter q (joined (drop (i + 1) entries))) ≡ all
-keys_more_by q entries keys new i entry all within is put h =
-    ap (λ l. l ++ map resource_of (filter q (joined (drop (i + 1) entries)))) put
-    ∙ append_assoc keys (map resource_of (filter q entry)) (map resource_of (filter q (joined (drop (i + 1) entries))))
-    ∙ ap (λ l. keys ++ l) (sym (map-append resource_of (filter q entry) (filter q (joined (drop (i + 1) entries)))))
-    ∙ ap (λ l. keys ++ map resource_of l) (sym (filter-append q entry (joined (drop (i + 1) entries))))
-    ∙ ap (λ l. keys ++ map resource_of (filter q (l ++ joined (drop (i + 1) entries)))) is
+pub keys_more_by : (q : Waiter → Bool) (entries : List (List Waiter)) (keys new : List Resource)
+    (i : ℕ) (entry : List Waiter) (all : List Resource) → i < length entries → entry ≡ get_or entries i entry
+    → new ≡ keys ++ map resource_of (filter q entry) → keys ++ map resource_of (filter
+    q (joined (drop i entries))) ≡ all → new ++ map resource_of (filter q (joined (drop (i + 1) entries))) ≡ all
+keys_more_by q entries keys new i entry all within is put h = ap (λ l. l ++ map resource_of (filter q (joined
+    (drop (i + 1) entries)))) put ∙ append_assoc keys (map resource_of (filter q entry)) (map resource_of (filter
+    q (joined (drop (i + 1) entries)))) ∙ ap (λ l. keys ++ l) (sym (map-append resource_of (filter q entry) (filter
+    q (joined (drop (i + 1) entries))))) ∙ ap (λ l. keys ++ map resource_of l) (sym (filter-append q entry (joined
+    (drop (i + 1) entries)))) ∙ ap (λ l. keys ++ map resource_of (filter q (l ++ joined (drop (i + 1) entries)))) is
     ∙ ap (λ l. keys ++ map resource_of (filter q l)) (sym (joined_next entries i entry within)) ∙ h
 
 pub keys_end_by : (q : Waiter → Bool) (entries : List (List Waiter)) (keys : List Resource) (i : ℕ)
@@ -88,13 +75,12 @@ recorded_seen entries = go (joined entries)
   where
     go : (xs : List Waiter) → recorded_in xs ≡ recorded_in (arranged resource_of resource_before xs)
     go [] = refl
-    go (x ∷ xs) =
-        omega (
-          arith,
-          sum_by-cons recorded_by x xs,
-          go xs,
-          counted_more recorded_by (λ y. resource_before y.r x.r) x (arranged resource_of resource_before xs),
-        )
+    go (x ∷ xs) = omega (
+      arith,
+      sum_by-cons recorded_by x xs,
+      go xs,
+      counted_more recorded_by (λ y. resource_before y.r x.r) x (arranged resource_of resource_before xs),
+    )
 
 -- a waiter goes, and one comes
 pub recorded_less : (r : Resource) (conn : ConnId) (waiters : List Waiter) → pairwise are_apart waiters ≡ true
@@ -112,9 +98,8 @@ recorded_less r conn waiters u = go (waiter_of r conn waiters) refl
     go (Some w) e =
         omega (arith, sum_by_without part_of same_part same_part-eq same_part-refl recorded_by (r, conn) waiters w u e)
 
-pub recorded_more : (w : Waiter) (waiters : List Waiter) → pairwise are_apart waiters ≡ true
-    → recorded_in (waiters_with w waiters) + recorded_of (waiter_of w.r w.conn waiters)
-    ≡ recorded_in waiters + recorded_by w
+pub recorded_more : (w : Waiter) (waiters : List Waiter) → pairwise are_apart waiters ≡ true → recorded_in
+    (waiters_with w waiters) + recorded_of (waiter_of w.r w.conn waiters) ≡ recorded_in waiters + recorded_by w
 recorded_more w waiters u = grind (arith, counted_more, recorded_less)
 
 pub few_with : (w : Waiter) (waiters : List Waiter) → length (waiters_with w waiters) ≤ length waiters + 1

@@ -19,10 +19,8 @@ ranked_step Equal a b = refl
 ranked_step Greater a b = refl
 
 before_ranked : (x y : Waiter) → stands_before x y ≡ ranked (resource_cmp x.r y.r) x.alter y.alter
-before_ranked x y =
-    ap (λ o. not (is_lt o) && (is_lt (resource_cmp x.r y.r) || x.alter || not y.alter))
-    (resource_cmp_total.antisymm y.r x.r)
-    ∙ ranked_step (resource_cmp x.r y.r) x.alter y.alter
+before_ranked x y = ap (λ o. not (is_lt o) && (is_lt (resource_cmp x.r y.r) || x.alter || not y.alter))
+    (resource_cmp_total.antisymm y.r x.r) ∙ ranked_step (resource_cmp x.r y.r) x.alter y.alter
 
 turned : (o : Ordering) (a b : Bool) → ranked o a b ≡ false → ranked (ordering_reverse o) b a ≡ true
 turned Less a b h = absurd (false≢true (sym h))
@@ -44,9 +42,8 @@ chained : (x y z : Resource) (o p : Ordering) (a b c : Bool) → resource_cmp x 
 chained x y z Less Less a b c e f h k = rw (resource_cmp_total.trans x y z e f) refl
 chained x y z Less Equal a b c e f h k =
     let back : resource_cmp z y ≡ Equal = resource_cmp_total.antisymm z y ∙ ap ordering_reverse f in
-    let same : resource_cmp x z ≡ Less =
-    resource_cmp_total.antisymm x z ∙ ap ordering_reverse (resource_cmp_total.congr z y x back)
-    ∙ sym (resource_cmp_total.antisymm x y) ∙ e in
+    let same : resource_cmp x z ≡ Less = resource_cmp_total.antisymm x z
+    ∙ ap ordering_reverse (resource_cmp_total.congr z y x back) ∙ sym (resource_cmp_total.antisymm x y) ∙ e in
     rw same refl
 chained x y z Less Greater a b c e f h k = absurd (false≢true k)
 chained x y z Equal Less a b c e f h k = rw (resource_cmp_total.congr x y z e, f) refl
@@ -55,10 +52,8 @@ chained x y z Equal Greater a b c e f h k = absurd (false≢true k)
 chained x y z Greater p a b c e f h k = absurd (false≢true h)
 
 follows : (x y z : Waiter) → stands_before x y ≡ true → stands_before y z ≡ true → stands_before x z ≡ true
-follows x y z h k =
-    before_ranked x z
-    ∙ chained x.r y.r z.r (resource_cmp x.r y.r) (resource_cmp y.r z.r) x.alter y.alter z.alter refl refl
-    (sym (before_ranked x y) ∙ h) (sym (before_ranked y z) ∙ k)
+follows x y z h k = before_ranked x z ∙ chained x.r y.r z.r (resource_cmp x.r y.r) (resource_cmp y.r z.r)
+    x.alter y.alter z.alter refl refl (sym (before_ranked x y) ∙ h) (sym (before_ranked y z) ∙ k)
 
 finds_place : (waiter : Waiter) → FindsPlace stands_before (λ other. stands_before other waiter) (λ other. true)
     waiter
@@ -66,25 +61,20 @@ finds_place waiter = grind (arith, stops, follows)
 
 apart_both : (waiter other : Waiter) → not (is_waiter waiter.r waiter.conn other) ≡ true
     → are_apart waiter other && are_apart other waiter ≡ true
-apart_both waiter other h =
-    and_from (are_apart waiter other) (are_apart other waiter)
-    (ap not (same_part_comm (waiter.r, waiter.conn) (other.r, other.conn)) ∙ h) h
+apart_both waiter other h = and_from (are_apart waiter other)
+    (are_apart other waiter) (ap not (same_part_comm (waiter.r, waiter.conn) (other.r, other.conn)) ∙ h) h
 
 pub queue-with : (waiter : Waiter) (waiters : List Waiter) → IsQueue waiters → IsQueue (waiters_with waiter waiters)
 queue-with waiter waiters is =
     let others = waiters_without waiter.r waiter.conn waiters in
     let kept = queue-filter (λ other. not (is_waiter waiter.r waiter.conn other)) waiters is in
     record {
-      ordered =
-          pairwise-insertion stands_before (λ other. stands_before other waiter) (λ other. true) waiter others
-          (finds_place waiter)
-          (list_all_always (λ (other : Waiter). true) (λ other. refl) others) kept.ordered;
-      one_each =
-          pairwise-insertion_any are_apart (λ other. stands_before other waiter) waiter others kept.one_each
-          (list_all_weaker (λ other. not (is_waiter waiter.r waiter.conn other)) (λ other. are_apart waiter other
-          && are_apart other waiter)
-          (apart_both waiter) others (list_all-filter_same (λ other. not (is_waiter waiter.r waiter.conn other))
-          waiters));
+      ordered = pairwise-insertion stands_before (λ other. stands_before other waiter) (λ other. true) waiter others
+          (finds_place waiter) (list_all_always (λ (other : Waiter). true) (λ other. refl) others) kept.ordered;
+      one_each = pairwise-insertion_any are_apart (λ other. stands_before other waiter) waiter
+          others kept.one_each (list_all_weaker (λ other. not (is_waiter waiter.r waiter.conn other))
+          (λ other. are_apart waiter other && are_apart other waiter) (apart_both waiter)
+          others (list_all-filter_same (λ other. not (is_waiter waiter.r waiter.conn other)) waiters));
     }
 
 -- ---- where a waiter is put, among all and in its entry
@@ -101,8 +91,7 @@ ahead_stop waiter y h = go (resource_before y.r waiter.r) refl
         let up_to : resource_up_to y.r waiter.r ≡ true = ap not (resource_order.asym y.r waiter.r e) in
         absurd (false≢true (sym h ∙ rw (up_to, e) refl))
 
-ahead_step : (u b s a w : Bool) → u ≡ true → b ≡ false → s ≡ true
-    → u && (b || a || not w) ≡ not ((w && not a) && s)
+ahead_step : (u b s a w : Bool) → u ≡ true → b ≡ false → s ≡ true → u && (b || a || not w) ≡ not ((w && not a) && s)
 ahead_step true false true true true e f g = refl
 ahead_step true false true true false e f g = refl
 ahead_step true false true false true e f g = refl

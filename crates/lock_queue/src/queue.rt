@@ -134,6 +134,7 @@ fn put_in(waiters: &mut Waiting, spare: &mut Waiting, waiter: Waiter) -> usize
 }
 
 // A connector waits for a resource no more; answers whether it did.
+#[tactic(auto, using(cf_lists::proofs::EntrySpotLaws::some_place, cf_lists::proofs::KeyLaws::none_placed))]
 fn take_from(waiters: &mut Waiting, spare: &mut Waiting, r: &Resource, conn: ConnId) -> bool
     requires { IsTrue (pairwise are_apart waiters.old) }
     ensures there { result ≡ waits r.now conn waiters.old }
@@ -318,6 +319,7 @@ fn recorded_all(entries: &[Waiting]) -> usize
 
 // A connector waits for nothing more; answers how many wait then, and how many record data they
 // bring.
+#[tactic(auto, using(cf_lists::proofs::PassLaws::left_seen, cf_lists::proofs::RankLaws::length_seen, crate::proofs::CountLaws::recorded_seen))]
 fn end_conn(entries: &mut [Waiting], spare: &mut Waiting, conn: ConnId) -> (usize, usize)
     requires kept { AreEntries entries.old }
     requires queue { IsQueue (waiters_in entries.old) }
@@ -367,6 +369,7 @@ fn at_on<'a>(entries: &'a [Waiting], r: &Resource, k: usize) -> Option<&'a Waite
 }
 
 // The waiter at a place, where it waits for a resource of this entry.
+#[tactic(auto, using(cf_lists::proofs::RankLaws::placed_here, cf_lists::proofs::EntryTableLaws::in_order))]
 fn at_in<'a>(entries: &'a [Waiting], waiters: &'a Waiting, k: usize) -> Option<&'a Waiter>
     requires entries { AreEntries entries.now }
     requires few { length (joined entries.now) < 4294967296 }
@@ -384,6 +387,7 @@ fn at_in<'a>(entries: &'a [Waiting], waiters: &'a Waiting, k: usize) -> Option<&
 }
 
 // The waiter at a place, found without the order of all.
+#[tactic(auto, using(cf_lists::proofs::PassLaws::all_next, cf_lists::proofs::RankLaws::none_placed_on, cf_lists::proofs::PassLaws::joined_past))]
 fn search_at<'a>(entries: &'a [Waiting], k: usize) -> Option<&'a Waiter>
     requires entries { AreEntries entries.now }
     requires few { length (joined entries.now) < 4294967296 }
@@ -398,6 +402,7 @@ fn search_at<'a>(entries: &'a [Waiting], k: usize) -> Option<&'a Waiter>
 }
 
 // The last waiter by resource and then in order.
+#[tactic(auto, using(cf_lists::proofs::RankLaws::last_next, cf_lists::proofs::RankLaws::last_past))]
 fn last_in<'a>(entries: &'a [Waiting]) -> Option<&'a Waiter>
     ensures { option_map (λ waiter. waiter.now) result ≡ last_of part_of (joined entries.now) }
 {
@@ -417,6 +422,7 @@ fn key_at(order: &[Resource], k: usize) -> Option<Resource>
 
 // The waiter at a place: its resource stands at that place of the order, and how many of these
 // stand before it there is its place among the waiters.
+#[tactic(auto, using(cf_lists::proofs::EntryTableLaws::ordered, cf_lists::proofs::EntryTableLaws::none_past))]
 fn at_place<'a>(entries: &'a [Waiting], order: &[Resource], k: usize) -> Option<&'a Waiter>
     requires entries { AreEntries entries.now }
     requires order { order.now ≡ map resource_of (waiters_in entries.now) }
@@ -685,6 +691,7 @@ impl Queue {
 
     /// The waiter at a place, from 0, by resource and then in order. None past the end. It is
     /// searched for among all, which is slow: what needs many goes by `order` and `at_in`.
+    #[tactic(auto, using(cf_lists::proofs::RankLaws::length_seen))]
     pub fn at(&self, k: u32) -> Option<&Waiter>
         ensures { option_map (λ waiter. waiter.now) result ≡ slice_get self.now.waiters k }
     {
@@ -693,6 +700,7 @@ impl Queue {
     }
 
     /// The last waiter, by resource and then in order. None where nobody waits.
+    #[tactic(auto, using(cf_lists::proofs::RankLaws::last_seen))]
     pub fn last(&self) -> Option<&Waiter>
         ensures { option_map (λ waiter. waiter.now) result
             ≡ slice_get self.now.waiters (length self.now.waiters - 1) }

@@ -1,17 +1,12 @@
 -- What proofs here name of other crates, and of this one's definitions. Declares nothing.
+pub use Rattle.cf_types.proofs.Imports.{nat_tests, length-map, append_assoc, none_past_head, IsEquivalence, nat_eq_equiv, and_equiv, on_equiv, nat_list_eq_equiv, pointwise, list_any, list_all, IsPermutation, keys_of, lookup, Part, same_part, resource_before, same_resource}
+unfoldable pub use Rattle.cf_types.proofs.Imports.{IsDistinct}
+pub use Rattle.cf_lists.proofs.Imports.{in_turn, IsKeyOrder, insertion, pairwise}
+unfoldable pub use Rattle.cf_lists.proofs.Imports.{arranged}
 pub use Rattle.std.proofs.Common.{◌≡◌, ℕ, ◌+◌, Bool, true, false, not, ◌&&◌, cond, List, [], ◌∷◌, Option, Some, None, is_some, option_map, length, filter, find, map, refl, sym, ap, ◌∙◌, subst, nat_eq, option_to_list, ◌||◌, ◌==◌, nat_lt, arith, zero, suc, ◌<◌, ◌++◌, slice_get, drop, if◌then◌else◌}
 pub use Rattle.std.proofs.lemmas.Bool.{false≢true, and_from, not-true, and_parts}
-pub use Rattle.std.proofs.lemmas.Bool.Decides.{nat_tests}
-pub use Rattle.std.proofs.lemmas.List.{length-map, append_assoc}
 pub use Rattle.std.proofs.lemmas.List.Elements.{same_from_all_zip}
 pub use Rattle.std.proofs.lemmas.Map.{lookup-none}
-pub use Rattle.std.proofs.lemmas.Map.Entries.{none_past_head}
-pub use Rattle.std.specs.Cmp.{IsEquivalence, nat_eq_equiv, and_equiv, on_equiv}
-pub use Rattle.std.specs.Cmp.Lexicographic.{nat_list_eq_equiv, pointwise}
-pub use Rattle.std.specs.List.{list_any, list_all}
-unfoldable pub use Rattle.std.specs.List.{IsDistinct}
-pub use Rattle.std.specs.List.Sorted.{IsPermutation}
-pub use Rattle.std.specs.Map.{keys_of, lookup}
 pub use Rattle.cf_lists.proofs.BinLaws.{arranged_in_turn, keyed-arranged}
 pub use Rattle.cf_lists.proofs.EntryKeyLaws.{resource_order}
 pub use Rattle.cf_lists.proofs.EntryPlaceLaws.{insertion_agree}
@@ -23,12 +18,7 @@ pub use Rattle.cf_lists.proofs.PairwiseLaws.{pairwise-filter, pairwise-insertion
 pub use Rattle.cf_lists.proofs.SortLaws.{arranged-filter, sorted_is, neighbours}
 pub use Rattle.cf_lists.proofs.TieLaws.{ordered_filters}
 pub use Rattle.cf_lists.proofs.ViewLaws.{length_arranged}
-pub use Rattle.cf_lists.specs.Bins.{in_turn, IsKeyOrder}
-unfoldable pub use Rattle.cf_lists.specs.Bins.{arranged}
-pub use Rattle.cf_lists.specs.Insertions.{insertion}
-pub use Rattle.cf_lists.specs.Pairwise.{pairwise}
 pub use Rattle.cf_types.proofs.ResourceLaws.{same_part-eq, same_part-refl, same_resource-eq, same_resource-refl, same_part_comm}
-pub use Rattle.cf_types.specs.Resources.{Part, same_part, resource_before, same_resource}
 pub use Rattle.cf_types.specs.declared.numbers.ConnId.{ConnId}
 pub use Rattle.cf_types.specs.declared.resources.Resource.{Resource}
 pub use Rattle.indexmap.proofs.CallerLemmas.{filter-RetainsPairs}

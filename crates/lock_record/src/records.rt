@@ -134,6 +134,7 @@ fn push_own(list: &mut Vec<Resource>, r: Resource, own: bool) -> Result<(), NoMe
 
 impl Records {
     /// No record data, for a structure that may have so many. It takes no memory yet.
+    #[tactic(auto, using(crate::proofs::MapLaws::records_none))]
     pub fn new(alloc: Global, limit: u32) -> Result<Records, NoMemory>
         ensures records { IfOk result (λ book. book.records ≡ []) }
         ensures limit { IfOk result (λ book. book.limit ≡ limit) }
@@ -145,6 +146,7 @@ impl Records {
     }
 
     /// The same record data once more.
+    #[tactic(auto, using(std::proofs::lemmas::List::Elements::same_from_all_zip))]
     pub fn copy(&self, alloc: Global) -> Result<Records, NoMemory>
         ensures records { IfOk result (λ copy. copy.records ≡ self.now.records) }
         ensures limit { IfOk result (λ copy. copy.limit ≡ self.now.limit) }
@@ -157,6 +159,7 @@ impl Records {
     }
 
     /// How many record data there are.
+    #[tactic(auto, using(crate::proofs::MapLaws::length_in, crate::proofs::MapLaws::records_are, crate::proofs::WalkLaws::any_in))]
     pub fn count(&self) -> u32
         ensures count { result ≡ length self.now.records }
         ensures entries { result ≡ length self.now.entries }
@@ -198,6 +201,7 @@ impl Records {
     }
 
     /// Whether a connector has record data, for whatever resource.
+    #[tactic(auto, using(crate::proofs::WalkLaws::there_at, crate::proofs::WalkLaws::skipped))]
     pub fn has_of(&self, conn: ConnId) -> bool
         ensures { result ≡ list_any (is_of conn) self.now.records }
     {
@@ -210,6 +214,7 @@ impl Records {
     }
 
     // The resources for which a connector has record data, as they lie in the map.
+    #[tactic(auto, using(std::proofs::lemmas::List::append_assoc, crate::proofs::WalkLaws::listed_next))]
     fn unsorted(&self, alloc: Global, conn: ConnId) -> Result<Vec<Resource>, NoMemory>
         ensures { IfOk result (λ list. list.items ≡ resources_by conn self.now.entries) }
     {
@@ -221,6 +226,7 @@ impl Records {
     }
 
     /// The resources for which a connector has record data, in resource order.
+    #[tactic(auto, using(crate::proofs::WalkLaws::sorted_resources, cf_lists::proofs::SortLaws::neighbours, cf_lists::proofs::EntryKeyLaws::resource_order))]
     pub fn of(&self, alloc: Global, conn: ConnId) -> Result<Vec<Resource>, NoMemory>
         ensures { IfOk result (λ list. list.items ≡ map (λ (recorded : Record). recorded.r)
             (records_of conn self.now.records)) }

@@ -24,12 +24,10 @@ pub masked_more : (mask : List ConnId) (owners : List Held) (held : Held) → Is
     → IsMasked (if nat_lt held.conn.0 SET_NUMBERS then with_member held.conn mask else mask) (owners ++ held ∷ [])
 masked_more mask owners held h c within = grind (arith, go, list_any-append)
   where
-    go : (s t : Bool) → (held.conn.0 == c.0) ≡ s → nat_lt held.conn.0 SET_NUMBERS ≡ t
-        → is_member c (cond t (with_member held.conn mask) mask)
-        ≡ list_any (is_by c) owners || ((held.conn.0 == c.0) || false)
-    go true true e f =
-        subst (λ a. is_member c (with_member a mask) ≡ true) (sym (same_conn held.conn c (eqb-true held.conn.0 c.0 e)))
-        (is_member-with_member_same c mask)
+    go : (s t : Bool) → (held.conn.0 == c.0) ≡ s → nat_lt held.conn.0 SET_NUMBERS ≡ t → is_member
+        c (cond t (with_member held.conn mask) mask) ≡ list_any (is_by c) owners || ((held.conn.0 == c.0) || false)
+    go true true e f = subst (λ a. is_member c (with_member a mask) ≡ true)
+        (sym (same_conn held.conn c (eqb-true held.conn.0 c.0 e))) (is_member-with_member_same c mask)
         ∙ or_true (list_any (is_by c) owners) (held.conn.0 == c.0) e
     go true false e f = grind (arith, eqb-true, false≢true, lt-ltb)
     go false true e f = grind (arith, is_member-with_member_other, apart_from, or_none)
@@ -43,9 +41,8 @@ by_other conn c x false e f g = refl
 
 -- interests of a connector go
 pub masked_left : (mask : List ConnId) (owners : List Held) (q : Held → Bool) (conn : ConnId)
-    → ((x : Held) → is_by conn x ≡ false → q x ≡ true) → IsMasked mask owners
-    → IsMasked (if nat_lt conn.0 SET_NUMBERS && not (list_any (is_by conn) (filter q owners))
-    then without_member conn mask else mask) (filter q owners)
+    → ((x : Held) → is_by conn x ≡ false → q x ≡ true) → IsMasked mask owners → IsMasked (if nat_lt conn.0 SET_NUMBERS
+    && not (list_any (is_by conn) (filter q owners)) then without_member conn mask else mask) (filter q owners)
 masked_left mask owners q conn stays h c within =
     go (conn.0 == c.0) (nat_lt conn.0 SET_NUMBERS) (list_any (is_by conn) (filter q owners)) refl refl refl
   where
@@ -126,17 +123,14 @@ state_here r conn excl x e = rw e refl
 pub state_put : (r : Resource) (conn : ConnId) (excl : Bool) (owners new : List Held) (i : ℕ) (d : Held)
     → pairwise are_apart owners ≡ true → position (is_interest r conn) owners ≡ Some i
     → new ≡ set owners i (record (get_or owners i d) { excl = excl }) → new ≡ map (in_state r conn excl) owners
-state_put r conn excl owners new i d u h e =
-    e
-    ∙ ap (set owners i) (state_here r conn excl (get_or owners i d) (position-Some (is_interest r conn) owners i d h).1)
-    ∙ set_placed part_of same_part same_part-eq same_part-refl (r, conn) (in_state r conn excl) d owners i u
-    (state_else r conn excl) h
+state_put r conn excl owners new i d u h e = e ∙ ap (set owners i) (state_here r conn excl
+    (get_or owners i d) (position-Some (is_interest r conn) owners i d h).1) ∙ set_placed part_of
+    same_part same_part-eq same_part-refl (r, conn) (in_state r conn excl) d owners i u (state_else r conn excl) h
 
 pub state_none : (r : Resource) (conn : ConnId) (excl : Bool) (owners : List Held)
     → list_any (is_interest r conn) owners ≡ false → owners ≡ map (in_state r conn excl) owners
-state_none r conn excl owners h =
-    map_placed part_of same_part same_part-eq same_part-refl (r, conn) (in_state r conn excl) owners
-    (state_else r conn excl) h
+state_none r conn excl owners h = map_placed part_of same_part
+    same_part-eq same_part-refl (r, conn) (in_state r conn excl) owners (state_else r conn excl) h
 
 pub retention_else : (r : Resource) (conn : ConnId) (retained : Bool) (x : Held) → is_interest r conn x ≡ false
     → in_retention r conn retained x ≡ x
@@ -147,21 +141,17 @@ retention_here : (r : Resource) (conn : ConnId) (retained : Bool) (x : Held) →
 retention_here r conn retained x e = rw e refl
 
 pub retention_put : (r : Resource) (conn : ConnId) (retained : Bool) (owners new : List Held) (i : ℕ) (d : Held)
-    → pairwise are_apart owners ≡ true → position (is_interest r conn) owners ≡ Some i
-    → new ≡ set owners i (record (get_or owners i d) { retained = retained })
-    → new ≡ map (in_retention r conn retained) owners
-retention_put r conn retained owners new i d u h e =
-    e
-    ∙ ap (set owners i) (retention_here r conn retained (get_or owners i d)
-    (position-Some (is_interest r conn) owners i d h).1)
-    ∙ set_placed part_of same_part same_part-eq same_part-refl (r, conn) (in_retention r conn retained) d owners i u
-    (retention_else r conn retained) h
+    → pairwise are_apart owners ≡ true → position (is_interest r conn) owners ≡ Some i → new ≡ set
+    owners i (record (get_or owners i d) { retained = retained }) → new ≡ map (in_retention r conn retained) owners
+retention_put r conn retained owners new i d u h e = e ∙ ap (set owners i)
+    (retention_here r conn retained (get_or owners i d) (position-Some (is_interest r conn) owners i d h).1)
+    ∙ set_placed part_of same_part same_part-eq same_part-refl
+    (r, conn) (in_retention r conn retained) d owners i u (retention_else r conn retained) h
 
 pub retention_none : (r : Resource) (conn : ConnId) (retained : Bool) (owners : List Held)
     → list_any (is_interest r conn) owners ≡ false → owners ≡ map (in_retention r conn retained) owners
-retention_none r conn retained owners h =
-    map_placed part_of same_part same_part-eq same_part-refl (r, conn) (in_retention r conn retained) owners
-    (retention_else r conn retained) h
+retention_none r conn retained owners h = map_placed part_of same_part
+    same_part-eq same_part-refl (r, conn) (in_retention r conn retained) owners (retention_else r conn retained) h
 
 pub none_by : (mask : List ConnId) (owners : List Held) (conn : ConnId) → IsMasked mask owners
     → nat_lt conn.0 SET_NUMBERS && not (is_member conn mask) ≡ true → filter (is_by conn) owners ≡ []
@@ -191,7 +181,6 @@ none_retained mask owners conn retained h e =
 pub none_active : (mask : List ConnId) (owners : List Held) (conn : ConnId) → IsMasked mask owners
     → nat_lt conn.0 SET_NUMBERS && not (is_member conn mask) ≡ true → owners ≡ owners_without_active conn owners
 none_active mask owners conn h e =
-    sym (filter_all (λ held. not (is_by conn held && not held.retained)) owners
-    (list_all_weaker (λ x. not (is_by conn x)) (λ x. not (is_by conn x && not x.retained))
-    (λ x f. not_active (is_by conn x) x.retained (not-true (is_by conn x) f)) owners
-    (all_from_none (is_by conn) owners (not_by mask owners conn h e))))
+    sym (filter_all (λ held. not (is_by conn held && not held.retained)) owners (list_all_weaker
+    (λ x. not (is_by conn x)) (λ x. not (is_by conn x && not x.retained)) (λ x f. not_active (is_by conn x)
+    x.retained (not-true (is_by conn x) f)) owners (all_from_none (is_by conn) owners (not_by mask owners conn h e))))

@@ -10,24 +10,20 @@ finds_place held = grind (arith, resource_up_to-either, resource_up_to-trans)
 
 apart_both : (held other : Held) → not (is_interest held.r held.conn other) ≡ true → are_apart held other
     && are_apart other held ≡ true
-apart_both held other h =
-    and_from (are_apart held other) (are_apart other held)
-    (ap not (same_part_comm (held.r, held.conn) (other.r, other.conn)) ∙ h) h
+apart_both held other h = and_from (are_apart held other)
+    (are_apart other held) (ap not (same_part_comm (held.r, held.conn) (other.r, other.conn)) ∙ h) h
 
 pub owners-with : (held : Held) (owners : List Held) → IsOwners owners → IsOwners (owners_with held owners)
 owners-with held owners is =
     let others = owners_without held.r held.conn owners in
     let kept = owners-filter (λ other. not (is_interest held.r held.conn other)) owners is in
     record {
-      ordered =
-          pairwise-insertion in_order (λ other. resource_up_to other.r held.r) (λ other. true) held others
-          (finds_place held)
-          (list_all_always (λ (other : Held). true) (λ other. refl) others) kept.ordered;
-      one_each =
-          pairwise-insertion_any are_apart (λ other. resource_up_to other.r held.r) held others kept.one_each
-          (list_all_weaker (λ other. not (is_interest held.r held.conn other)) (λ other. are_apart held other
-          && are_apart other held)
-          (apart_both held) others (list_all-filter_same (λ other. not (is_interest held.r held.conn other)) owners));
+      ordered = pairwise-insertion in_order (λ other. resource_up_to other.r held.r) (λ other. true) held
+          others (finds_place held) (list_all_always (λ (other : Held). true) (λ other. refl) others) kept.ordered;
+      one_each = pairwise-insertion_any are_apart (λ other. resource_up_to other.r held.r)
+          held others kept.one_each (list_all_weaker (λ other. not (is_interest held.r held.conn other))
+          (λ other. are_apart held other && are_apart other held) (apart_both held) others
+          (list_all-filter_same (λ other. not (is_interest held.r held.conn other)) owners));
     }
 
 pub owners-in_state : (r : Resource) (conn : ConnId) (excl : Bool) (owners : List Held) → IsOwners owners

@@ -1,5 +1,5 @@
 -- Members of a set of connectors with one more, or one less.
-use Rattle.lock_table.proofs.Imports.{arith, ◌≡◌, ◌≢◌, true, false, ◌||◌, List, [], ◌∷◌, refl, sym, ◌∙◌, eqb-true, eq-eqb, ne_eqb, is_member, with_member, without_member, ConnId}
+use Rattle.lock_table.proofs.Imports.{arith, ◌≡◌, ◌≢◌, true, false, List, [], ◌∷◌, refl, sym, eqb-true, eq-eqb, ne_eqb, is_member, with_member, without_member, ConnId}
 
 pub is_member-with_member_same : (conn : ConnId) (set : List ConnId) → is_member conn (with_member conn set) ≡ true
 is_member-with_member_same conn [] = rw (eq-eqb conn.0 conn.0 refl) refl

@@ -101,6 +101,7 @@ fn search(owners: &LinkedList<Held>, r: &Resource, conn: ConnId) -> Option<usize
 
 // Where a connector's interest in a resource stands; where the mask has no such connector, none is
 // looked at.
+#[tactic(auto, using(crate::proofs::EntryLaws::absent))]
 fn place_of(mask: &ConnSet, owners: &LinkedList<Held>, r: &Resource, conn: ConnId) -> Option<usize>
     requires { IsMasked mask.now owners.now }
     ensures { result ≡ position (is_interest r.now conn) owners.now }
@@ -142,6 +143,7 @@ fn unmarked(mask: ConnSet, owners: &LinkedList<Held>, conn: ConnId) -> ConnSet
 }
 
 // A connector's interest in a resource goes; answers whether there was one.
+#[tactic(auto, using(crate::proofs::EntryLaws::cut_out, cf_lists::proofs::EntrySpotLaws::some_place, cf_lists::proofs::KeyLaws::none_placed, crate::proofs::EntryLaws::none_out))]
 fn take_from(
     mask: &mut ConnSet,
     owners: &mut LinkedList<Held>,
@@ -204,6 +206,7 @@ fn turn_one(owners: &mut LinkedList<Held>, conn: ConnId, retained: bool)
 }
 
 // All interests of a connector are retained or not.
+#[tactic(auto, using(cf_lists::proofs::PassLaws::pass_begins, cf_lists::proofs::PassLaws::mapped_step, cf_lists::proofs::PassLaws::pass_ends))]
 fn put_retentions(owners: &mut LinkedList<Held>, conn: ConnId, retained: bool)
     ensures { owners.new ≡ owners_retained_of conn retained owners.old }
 {
@@ -231,6 +234,7 @@ fn sift_one(owners: &mut LinkedList<Held>, spare: &mut Spare, conn: ConnId)
 }
 
 // A connector's interests that aren't retained go.
+#[tactic(auto, using(cf_lists::proofs::PassLaws::pass_begins, cf_lists::proofs::PassLaws::filtered_step, cf_lists::proofs::PassLaws::pass_ends))]
 fn take_all_active(owners: &mut LinkedList<Held>, spare: &mut Spare, conn: ConnId)
     ensures owners { owners.new ≡ owners_without_active conn owners.old }
     ensures spare { linked_list_len spare.old ≤ linked_list_len spare.new }
@@ -241,6 +245,7 @@ fn take_all_active(owners: &mut LinkedList<Held>, spare: &mut Spare, conn: ConnI
 }
 
 // The same, and the mask with it.
+#[tactic(auto, using(crate::proofs::EntryLaws::none_active, crate::proofs::EntryLaws::masked_active))]
 fn take_active_from(
     mask: &mut ConnSet,
     owners: &mut LinkedList<Held>,
@@ -305,6 +310,7 @@ impl Entry {
     }
 
     /// Whether its mask tells that a connector has no interest here.
+    #[tactic(auto, using(crate::proofs::EntryLaws::none_by))]
     pub(crate) fn lacks(&self, conn: ConnId) -> bool
         ensures { IsTrue result → filter (is_by conn) self.now ≡ [] }
     {
@@ -329,6 +335,7 @@ impl Entry {
     }
 
     /// One interest more, behind all others, in a spare node.
+    #[tactic(auto, using(cf_lists::proofs::NodeLaws::insert_last, crate::proofs::EntryLaws::masked_more))]
     pub(crate) fn put(&mut self, spare: &mut Spare, held: Held)
         requires few { length self.old + 1 < 2 ^ 63 }
         requires spare { 1 ≤ linked_list_len spare.old }
@@ -372,6 +379,7 @@ impl Entry {
     }
 
     /// All interests of a connector are retained from now on, or are so no more.
+    #[tactic(auto, using(crate::proofs::EntryLaws::masked_same, crate::proofs::EntryLaws::none_retained))]
     pub(crate) fn set_retained_of(&mut self, conn: ConnId, retained: bool)
         ensures { self.new ≡ owners_retained_of conn retained self.old }
     {

@@ -174,6 +174,7 @@ fn count_all(entries: &[Entry]) -> usize
 }
 
 // A connector's interests that aren't retained go; answers how many there are then.
+#[tactic(auto, using(cf_lists::proofs::PassLaws::left_seen, cf_lists::proofs::RankLaws::length_seen))]
 fn end_active(entries: &mut [Entry], spare: &mut Spare, conn: ConnId) -> usize
     requires kept { AreEntries entries.old }
     requires few { length (owners_in entries.old) < 4294967296 }
@@ -215,6 +216,7 @@ fn at_on<'a>(entries: &'a [Entry], r: &Resource, k: usize) -> Option<&'a Held>
 }
 
 // The interest at a place, where it is in a resource of this entry.
+#[tactic(auto, using(cf_lists::proofs::RankLaws::placed_here, cf_lists::proofs::EntryTableLaws::in_order))]
 fn at_in<'a>(entries: &'a [Entry], entry: &'a Entry, k: usize) -> Option<&'a Held>
     requires entries { AreEntries entries.now }
     requires few { length (joined entries.now) < 4294967296 }
@@ -232,6 +234,7 @@ fn at_in<'a>(entries: &'a [Entry], entry: &'a Entry, k: usize) -> Option<&'a Hel
 }
 
 // The interest at a place, found without the order of all.
+#[tactic(auto, using(cf_lists::proofs::PassLaws::all_next, cf_lists::proofs::RankLaws::none_placed_on, cf_lists::proofs::PassLaws::joined_past))]
 fn search_at<'a>(entries: &'a [Entry], k: usize) -> Option<&'a Held>
     requires entries { AreEntries entries.now }
     requires few { length (joined entries.now) < 4294967296 }
@@ -246,6 +249,7 @@ fn search_at<'a>(entries: &'a [Entry], k: usize) -> Option<&'a Held>
 }
 
 // The last interest by resource and then in standing order.
+#[tactic(auto, using(cf_lists::proofs::RankLaws::last_next, cf_lists::proofs::RankLaws::last_past))]
 fn last_in<'a>(entries: &'a [Entry]) -> Option<&'a Held>
     ensures { option_map (λ held. held.now) result ≡ last_of part_of (joined entries.now) }
 {
@@ -265,6 +269,7 @@ fn key_at(order: &[Resource], k: usize) -> Option<Resource>
 
 // The interest at a place: its resource stands at that place of the order, and how many of these
 // stand before it there is its place among the owners.
+#[tactic(auto, using(cf_lists::proofs::EntryTableLaws::ordered, cf_lists::proofs::EntryTableLaws::none_past))]
 fn at_place<'a>(entries: &'a [Entry], order: &[Resource], k: usize) -> Option<&'a Held>
     requires entries { AreEntries entries.now }
     requires order { order.now ≡ map resource_of (owners_in entries.now) }
@@ -450,6 +455,7 @@ impl Table {
 
     /// The interest at a place, from 0, by resource and then in standing order. None past the end.
     /// It is searched for among all, which is slow: what needs many goes by `order` and `at_in`.
+    #[tactic(auto, using(cf_lists::proofs::RankLaws::length_seen))]
     pub fn at(&self, k: u32) -> Option<&Held>
         ensures { option_map (λ held. held.now) result ≡ slice_get self.now.owners k }
     {
@@ -458,6 +464,7 @@ impl Table {
     }
 
     /// The last interest, by resource and then in standing order. None where there is none.
+    #[tactic(auto, using(cf_lists::proofs::RankLaws::last_seen))]
     pub fn last(&self) -> Option<&Held>
         ensures { option_map (λ held. held.now) result
             ≡ slice_get self.now.owners (length self.now.owners - 1) }

@@ -16,7 +16,7 @@ pub use Rattle.atomic_table.proofs.Lists.{at_set, set_here, set_else, at_longer}
 pub use Rattle.atomic_table.specs.Seated.{TableId}
 pub use Rattle.atomic_table.specs.Table.{Me, Allows, Splits, Joins, State, keeps}
 pub use Rattle.atomic_table.specs.declared.shared.Seat.{Seat}
-pub use Rattle.lock_words.specs.Hands.{HandSeen, LocksSeen, hand_seen, IsHand, IsGathered, IsLast, AreAll, IsOthers, HasValue, all_held, IsLocks, new_hand}
+pub use Rattle.lock_words.specs.Hands.{HandSeen, LocksSeen, hand_seen, IsHand, IsGathered, IsLast, AreAll, IsOthers, HasValue, all_held, IsLocks, new_hand, hand_released}
 pub use Rattle.lock_words.specs.Rule.{total, IsSpent, IsOwn, IsAnswered, IsLive, AllFit, Kept}
 pub use Rattle.lock_words.specs.Values.{tally, AreCompatible, says_excl, held_as, noted, IsValue, Admits, Adds, is_hold}
 pub use Rattle.lock_words.specs.View.{grant, spent_view, joined, hold, reading, looked, granted, tried, released, Becomes, without_right, next_view, fresh_view}

@@ -33,9 +33,8 @@ module _ (notes : List (Option Bool)) (table : TableId) (me : Me ℕ View) (hand
   share-is word said share is e = e ∙ (λ i. noted false (is i) + noted true (is i) * 9223372036854775808)
       ∙ sym (λ i. hand.notes_are word false i + hand.notes_are word true i * 9223372036854775808)
 
-  pub hand-looked : (here : TableId) (after : Me ℕ View) (word value : ℕ) → here ≡ table
-      → Becomes me (looked me.0 word value) after
-      → IsHand notes here after
+  pub hand-looked : (here : TableId) (after : Me ℕ View) (word value : ℕ)
+      → here ≡ table → Becomes me (looked me.0 word value) after → IsHand notes here after
   hand-looked here after word value t b =
       subst (λ (x : TableId × Me ℕ View). IsHand notes x.0 x.1) (λ i. (sym t i, (sym b.0 i, sym b.1 i))) record {
         live = hand.live;
@@ -51,9 +50,8 @@ module _ (notes : List (Option Bool)) (table : TableId) (me : Me ℕ View) (hand
   pub hand-granted : (here : TableId) (after : Me ℕ View) (word value : ℕ) (excl : Bool) → word < length notes
       → held_as me.0.held word ≡ None → here ≡ table → Becomes me (granted (looked me.0 word value) word excl) after
       → IsHand (set notes word (Some excl)) here after
-  hand-granted here after word value excl below none t b =
-      subst (λ (x : TableId × Me ℕ View). IsHand (set notes word (Some excl)) x.0 x.1)
-      (λ i. (sym t i, (sym b.0 i, sym b.1 i))) record {
+  hand-granted here after word value excl below none t b = subst (λ (x : TableId × Me ℕ View). IsHand (set
+      notes word (Some excl)) x.0 x.1) (λ i. (sym t i, (sym b.0 i, sym b.1 i))) record {
         live = hand.live;
         alone = hand.alone;
         no_slot = hand.no_slot;
@@ -72,17 +70,14 @@ module _ (notes : List (Option Bool)) (table : TableId) (me : Me ℕ View) (hand
 
       counts : (k : ℕ) (e : Bool)
           → tally k e (me.0.held ++ hold word excl ∷ []) ≡ noted e (get_or (set notes word (Some excl)) k None)
-      counts k e = tally-push k e me.0.held (hold word excl) ∙ dite (ℕ_discrete k word)
-          (λ (same : k ≡ word). subst
-          (λ j. tally j e me.0.held + one j e (hold word excl)
-          ≡ noted e (get_or (set notes word (Some excl)) j None)) (sym same)
-          (omega (
+      counts k e = tally-push k e me.0.held (hold word excl)
+          ∙ dite (ℕ_discrete k word) (λ (same : k ≡ word). subst (λ j. tally j e me.0.held
+          + one j e (hold word excl) ≡ noted e (get_or (set notes word (Some excl)) j None)) (sym same) (omega (
             arith,
             counts-none word e none,
             noted-here e excl,
             ap (noted e) (get_or-set_same notes word (Some excl) None below),
-          )))
-          (λ (ne : k ≢ word). omega (
+          ))) (λ (ne : k ≢ word). omega (
             arith,
             hand.notes_are k e,
             one-other word k e excl (λ q. ne (sym q)),
@@ -99,23 +94,18 @@ module _ (notes : List (Option Bool)) (table : TableId) (me : Me ℕ View) (hand
 
       counts : (k : ℕ) (e : Bool) → tally k e (filter (λ (x : Hold). not (x.word == word)) me.0.held)
           ≡ noted e (get_or (set notes word None) k None)
-      counts k e = dite (ℕ_discrete k word)
-          (λ (same : k ≡ word). subst
-          (λ j. tally j e (filter (λ (x : Hold). not (x.word == word)) me.0.held)
-          ≡ noted e (get_or (set notes word None) j None)) (sym same)
-          (tally-released word e me.0.held
-          ∙ sym (ap (noted e) (get_or-set_same notes word None None below) ∙ nothing e)))
-          (λ (ne : k ≢ word). tally-spared word k e me.0.held ne ∙ hand.notes_are k e
-          ∙ sym (ap (noted e) (get_or-set_other notes word k None None ne)))
+      counts k e = dite (ℕ_discrete k word) (λ (same : k ≡ word). subst (λ j. tally j
+          e (filter (λ (x : Hold). not (x.word == word)) me.0.held) ≡ noted e (get_or (set notes word None) j None))
+          (sym same) (tally-released word e me.0.held ∙ sym (ap (noted e) (get_or-set_same notes word None None below)
+          ∙ nothing e))) (λ (ne : k ≢ word). tally-spared word k e me.0.held ne
+          ∙ hand.notes_are k e ∙ sym (ap (noted e) (get_or-set_other notes word k None None ne)))
 
 -- a hand at the locks' table, as a call begins
-pub at-locks : (notes : List (Option Bool)) (table : TableId) (me : Me ℕ View) (size : Size) (place : TableId)
-    (room : List ℕ)
-    (word : ℕ) (seen : HandSeen) (locks : LocksSeen) → IsHand notes table me → IsLocks size place room
-    → hand_seen table (length notes) me.0 ≡ seen
+pub at-locks : (notes : List (Option Bool)) (table : TableId)
+    (me : Me ℕ View) (size : Size) (place : TableId) (room : List ℕ) (word : ℕ) (seen : HandSeen) (locks : LocksSeen)
+    → IsHand notes table me → IsLocks size place room → hand_seen table (length notes) me.0 ≡ seen
     → record { table = place; words = size.words; hands = size.hands } ≡ locks → seen.table ≡ locks.table
-    → word < locks.words
-    → (table ≡ place) × (word < size.words) × (word < place.words) × (word < length notes)
+    → word < locks.words → (table ≡ place) × (word < size.words) × (word < place.words) × (word < length notes)
 at-locks notes table me size place room word seen locks hand its mine ours same below = grind arith
 
 -- an exchange that found the value which it expected, or another

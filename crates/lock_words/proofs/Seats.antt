@@ -43,13 +43,10 @@ splits size id v pos has room s kept at = grind (arith, live, length-set, one-mo
     fit count number seat u e =
         let views = set s.views id (without_right v) in
         let views' = set s.views id (without_right v) ++ next_view v ∷ [] in
-        ⊎_elim
-        (λ (t : get_elem? views seat ≡ some u). ⊎_elim (λ (z : u ≡ spent_view). inl z)
+        ⊎_elim (λ (t : get_elem? views seat ≡ some u). ⊎_elim (λ (z : u ≡ spent_view). inl z)
         (λ (f : IsLive views seat u). inr (moved views views' seat u spent answered
-        (λ r q. absurd (true≢false (sym r ∙ ap (λ (x : View). x.right)
-        (same-at views seat id u (without_right v) (omega arith) t
-        (set_here s.views id (without_right v) (within s.views id v at)))))) f))
-        (before seat u t))
+        (λ r q. absurd (true≢false (sym r ∙ ap (λ (x : View). x.right) (same-at views seat id u (without_right v)
+        (omega arith) t (set_here s.views id (without_right v) (within s.views id v at)))))) f)) (before seat u t))
         (λ (t : (seat ≡ length views) × (next_view v ≡ u)).
         let place : seat ≡ length views = t.0 in
         let next_number : v.number + 1 ≡ suc seat = omega (arith, count, number) in
@@ -61,8 +58,7 @@ splits size id v pos has room s kept at = grind (arith, live, length-set, one-mo
           ever = All-nil (λ (g : Grant). IsOwn views' seat g.hand);
           held = All-nil (λ (x : Hold). (hand : ℕ) × Contains [] (grant hand x.word x.excl));
           read = All-nil (IsAnswered views');
-        }))
-        (at-end views (next_view v) u seat e)
+        })) (at-end views (next_view v) u seat e)
 
 -- a hand takes in another
 pub joins : (size : Size) (id : ℕ) (v : View) (other : ℕ) (w : View) → 0 < v.number → 0 < w.number
@@ -122,29 +118,23 @@ joins size id v other w pos pos' s kept at apart there = grind (arith, lengths, 
       number = f.number;
       own = Contains-append_left v.gathered w.gathered v.number f.own;
       right = λ r. f.right r ∙ sym lengths;
-      gathered = All-append (IsOwn (set (set s.views id (joined v w)) other spent_view) id) v.gathered w.gathered
-          (All-weaker (IsOwn s.views id) (IsOwn (set (set s.views id (joined v w)) other spent_view) id) own v.gathered
-          f.gathered)
-          (All-weaker (IsOwn s.views other) (IsOwn (set (set s.views id (joined v w)) other spent_view) id)
-          (λ k o. inr (gone k o)) w.gathered h.gathered);
-      ever = All-append (λ (g : Grant). IsOwn (set (set s.views id (joined v w)) other spent_view) id g.hand) v.ever
-          w.ever
-          (All-weaker (λ (g : Grant). IsOwn s.views id g.hand)
+      gathered = All-append (IsOwn (set (set s.views id (joined v w)) other spent_view) id) v.gathered
+          w.gathered (All-weaker (IsOwn s.views id) (IsOwn (set (set s.views id (joined v w)) other spent_view) id)
+          own v.gathered f.gathered) (All-weaker (IsOwn s.views other) (IsOwn
+          (set (set s.views id (joined v w)) other spent_view) id) (λ k o. inr (gone k o)) w.gathered h.gathered);
+      ever = All-append (λ (g : Grant). IsOwn (set (set s.views id (joined v w)) other spent_view) id g.hand)
+          v.ever w.ever (All-weaker (λ (g : Grant). IsOwn s.views id g.hand)
           (λ (g : Grant). IsOwn (set (set s.views id (joined v w)) other spent_view) id g.hand) (λ g. own g.hand)
-          v.ever f.ever)
-          (All-weaker (λ (g : Grant). IsOwn s.views other g.hand)
-          (λ (g : Grant). IsOwn (set (set s.views id (joined v w)) other spent_view) id g.hand)
-          (λ g o. inr (gone g.hand o)) w.ever h.ever);
-      held = All-append Has v.held w.held
-          (All-weaker (λ (x : Hold). (hand : ℕ) × Contains v.ever (grant hand x.word x.excl)) Has
-          (λ x t. (t.0, Contains-append_left v.ever w.ever (grant t.0 x.word x.excl) t.1)) v.held f.held)
-          (All-weaker (λ (x : Hold). (hand : ℕ) × Contains w.ever (grant hand x.word x.excl)) Has
-          (λ x t. (t.0, Contains-append_right v.ever w.ever (grant t.0 x.word x.excl) t.1)) w.held h.held);
-      read = All-append (IsAnswered (set (set s.views id (joined v w)) other spent_view)) v.read w.read
-          (All-weaker (IsAnswered s.views) (IsAnswered (set (set s.views id (joined v w)) other spent_view)) answered
-          v.read f.read)
-          (All-weaker (IsAnswered s.views) (IsAnswered (set (set s.views id (joined v w)) other spent_view)) answered
-          w.read h.read);
+          v.ever f.ever) (All-weaker (λ (g : Grant). IsOwn s.views other g.hand) (λ (g : Grant). IsOwn (set
+          (set s.views id (joined v w)) other spent_view) id g.hand) (λ g o. inr (gone g.hand o)) w.ever h.ever);
+      held = All-append Has v.held w.held (All-weaker (λ (x : Hold). (hand : ℕ) × Contains v.ever (grant hand x.word
+          x.excl)) Has (λ x t. (t.0, Contains-append_left v.ever w.ever (grant t.0 x.word x.excl) t.1)) v.held f.held)
+          (All-weaker (λ (x : Hold). (hand : ℕ) × Contains w.ever (grant hand x.word x.excl))
+          Has (λ x t. (t.0, Contains-append_right v.ever w.ever (grant t.0 x.word x.excl) t.1)) w.held h.held);
+      read = All-append (IsAnswered (set (set s.views id (joined v w)) other spent_view)) v.read
+          w.read (All-weaker (IsAnswered s.views) (IsAnswered (set (set s.views id (joined v w)) other spent_view))
+          answered v.read f.read) (All-weaker (IsAnswered s.views)
+          (IsAnswered (set (set s.views id (joined v w)) other spent_view)) answered w.read h.read);
     }
 
     fit : AllFit (set (set s.views id (joined v w)) other spent_view)
@@ -153,20 +143,18 @@ joins size id v other w pos pos' s kept at apart there = grind (arith, lengths, 
         let views' = set (set s.views id (joined v w)) other spent_view in
         ⊎_elim (λ (t : (seat ≡ other) × (spent_view ≡ u)). inl (sym t.1))
         (λ (t : (seat ≢ other) × (get_elem? views seat ≡ some u)). ⊎_elim
-        (λ (x : (seat ≡ id) × (joined v w ≡ u)). inr
-        (subst (λ (p : ℕ × View). IsLive views' p.0 p.1) (λ i. (sym x.0 i, x.1 i))
-        (both (live (kept.fit id v at)) (⊎_elim (λ (z : w ≡ spent_view). absurd (not-spent w pos' (sym z)))
+        (λ (x : (seat ≡ id) × (joined v w ≡ u)). inr (subst (λ (p : ℕ × View). IsLive views' p.0 p.1) (λ i. (
+          sym x.0 i,
+          x.1 i,
+        )) (both (live (kept.fit id v at)) (⊎_elim (λ (z : w ≡ spent_view). absurd (not-spent w pos' (sym z)))
         (λ (f : IsLive s.views other w). f) (kept.fit other w was)))))
         (λ (x : (seat ≢ id) × (get_elem? s.views seat ≡ some u)). ⊎_elim (λ (z : u ≡ spent_view). inl z)
         (λ (f : IsLive s.views seat u). inr (moved s.views views' seat u spent answered (λ r q. q ∙ sym lengths) f))
-        (kept.fit seat u x.1))
-        (at_set s.views id seat (joined v w) u t.1))
-        (at_set views other seat spent_view u e)
+        (kept.fit seat u x.1)) (at_set s.views id seat (joined v w) u t.1)) (at_set views other seat spent_view u e)
 
 -- no hand has two items of one word, of which one is EXCL
 pub never : (size : Size) (slots id i : ℕ) (me : Me ℕ View) → 0 < tally i true me.0.held
-    → 1 < tally i false me.0.held + tally i true me.0.held
-    → Allows (Kept size) slots id me 0 (λ n. n) (λ _ _. ⊥)
+    → 1 < tally i false me.0.held + tally i true me.0.held → Allows (Kept size) slots id me 0 (λ n. n) (λ _ _. ⊥)
 never size slots id i me excl two s kept width at small =
     let t = value-sum (total i false s.views) (total i true s.views) (get_or s.words i 0) (kept.words i) in
     let shares = sum-set (λ u. tally i false u.held) s.views id me.0 spent_view at in

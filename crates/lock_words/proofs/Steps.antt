@@ -18,9 +18,8 @@ not-spent v pos e = let z : 0 ≡ v.number = ap (λ (u : View). u.number) e in o
 
 -- the same hand in a change of the seats
 pub moved : (views views' : List View) (seat : ℕ) (v : View) → ((k : ℕ) → IsSpent views k → IsSpent views' k)
-    → ((r : Reading) → IsAnswered views r → IsAnswered views' r)
-    → (v.right ≡ true → suc seat ≡ length views → suc seat ≡ length views') → IsLive views seat v
-    → IsLive views' seat v
+    → ((r : Reading) → IsAnswered views r → IsAnswered views' r) → (v.right ≡ true
+    → suc seat ≡ length views → suc seat ≡ length views') → IsLive views seat v → IsLive views' seat v
 moved views views' seat v spent answered right f = grind (arith, All-weaker, ⊎_elim)
 
 module _ (views : List View) (id : ℕ) (v w : View) (at : get_elem? views id ≡ some v) (pos : 0 < v.number) where
@@ -30,30 +29,24 @@ module _ (views : List View) (id : ℕ) (v w : View) (at : get_elem? views id �
   pub answered-set : ((g : Grant) → Contains v.ever g → Contains w.ever g) → (r : Reading) → IsAnswered views r
       → IsAnswered (set views id w) r
   answered-set more r answer some_value =
-      let a = answer some_value in dite (ℕ_discrete a.0 id)
-      (λ (e : a.0 ≡ id). (
+      let a = answer some_value in dite (ℕ_discrete a.0 id) (λ (e : a.0 ≡ id). (
         id,
         w,
         a.2,
         set_here views id w (within views id v at),
         a.4,
-        more (grant a.2 r.word (says_excl r.value))
-            (subst (λ (u : View). Contains u.ever (grant a.2 r.word (says_excl r.value)))
-            (same-at views a.0 id a.1 v e a.3 at) a.5),
-      ))
-      (λ (ne : a.0 ≢ id). (a.0, a.1, a.2, set_else views id a.0 w ne ∙ a.3, a.4, a.5))
+        more (grant a.2 r.word (says_excl r.value)) (subst (λ (u : View). Contains u.ever
+            (grant a.2 r.word (says_excl r.value))) (same-at views a.0 id a.1 v e a.3 at) a.5),
+      )) (λ (ne : a.0 ≢ id). (a.0, a.1, a.2, set_else views id a.0 w ne ∙ a.3, a.4, a.5))
 
   -- one hand's step
   pub fit-set : AllFit views → ((g : Grant) → Contains v.ever g → Contains w.ever g)
       → (IsLive (set views id w) id v → IsLive (set views id w) id w) → AllFit (set views id w)
-  fit-set fit more mine seat u e = ⊎_elim
-      (λ (t : (seat ≡ id) × (w ≡ u)). inr
-      (subst (λ (p : ℕ × View). IsLive (set views id w) p.0 p.1) (λ i. (sym t.0 i, t.1 i))
-      (⊎_elim (λ (z : v ≡ spent_view). absurd (not-spent v pos (sym z))) (λ (f : IsLive views id v). mine (here id v f))
-      (fit id v at))))
-      (λ (t : (seat ≢ id) × (get_elem? views seat ≡ some u)). ⊎_elim (λ (z : u ≡ spent_view). inl z)
-      (λ (f : IsLive views seat u). inr (here seat u f)) (fit seat u t.1))
-      (at_set views id seat w u e)
+  fit-set fit more mine seat u e = ⊎_elim (λ (t : (seat ≡ id) × (w ≡ u)). inr (subst
+      (λ (p : ℕ × View). IsLive (set views id w) p.0 p.1) (λ i. (sym t.0 i, t.1 i)) (⊎_elim
+      (λ (z : v ≡ spent_view). absurd (not-spent v pos (sym z))) (λ (f : IsLive views id v). mine (here id v f))
+      (fit id v at)))) (λ (t : (seat ≢ id) × (get_elem? views seat ≡ some u)). ⊎_elim (λ (z : u ≡ spent_view). inl z)
+      (λ (f : IsLive views seat u). inr (here seat u f)) (fit seat u t.1)) (at_set views id seat w u e)
     where
       here : (seat : ℕ) (u : View) → IsLive views seat u → IsLive (set views id w) seat u
       here seat u f = moved views (set views id w) seat u spent-set (answered-set more)
@@ -66,9 +59,8 @@ pub answers : (size : Size) (s : State ℕ View) (id word : ℕ) (v : View) → 
 answers size s id word v kept at pos no_share no_excl some_value =
     let n = get_or s.words word 0 in
     let b = says_excl n in
-    let there = somewhere (λ u. tally word b u.held) s.views
-    (some_of b (value-state (total word false s.views) (total word true s.views) n (kept.words word) some_value b refl))
-    in
+    let there = somewhere (λ u. tally word b u.held) s.views (some_of
+    b (value-state (total word false s.views) (total word true s.views) n (kept.words word) some_value b refl)) in
     go there.0 there.1 b there.2 there.3 (kept.fit there.0 there.1 there.2)
   where
     some_of : (b : Bool) → 0 < cond b (total word true s.views) (total word false s.views) → 0 < total word b s.views
@@ -83,10 +75,9 @@ answers size s id word v kept at pos no_share no_excl some_value =
         → IsOwn s.views seat hand → hand ≢ v.number
     apart seat u hand b there has own same = grind (arith, ⊎_elim, not-spent, same-at, nothing)
 
-    go : (seat : ℕ) (u : View) (b : Bool) → get_elem? s.views seat ≡ some u → 0 < tally word b u.held
-        → (u ≡ spent_view) ⊎ IsLive s.views seat u
-        → (j : ℕ) × (x : View) × (hand : ℕ) × (get_elem? s.views j ≡ some x) × (hand ≢ v.number)
-        × Contains x.ever (grant hand word b)
+    go : (seat : ℕ) (u : View) (b : Bool) → get_elem? s.views seat ≡ some u
+        → 0 < tally word b u.held → (u ≡ spent_view) ⊎ IsLive s.views seat u → (j : ℕ) × (x : View)
+        × (hand : ℕ) × (get_elem? s.views j ≡ some x) × (hand ≢ v.number) × Contains x.ever (grant hand word b)
     go seat u b there has (inl z) =
         let e : tally word b u.held ≡ 0 = ap (λ (x : View). tally word b x.held) z in absurd (omega arith)
     go seat u b there has (inr f) =
@@ -101,20 +92,16 @@ answers size s id word v kept at pos no_share no_excl some_value =
         )
 
 -- a step on one word, by a hand
-pub stepped-kept : (size : Size) (s : State ℕ View) (id i n : ℕ) (v w : View) → Kept size s
-    → get_elem? s.views id ≡ some v
-    → 0 < v.number → i < suc size.words
-    → ((g : Grant) → Contains v.ever g → Contains w.ever g)
-    → (IsLive (set s.views id w) id v → IsLive (set s.views id w) id w)
-    → ((k : ℕ) (e : Bool) → k ≢ i → tally k e w.held ≡ tally k e v.held)
-    → IsValue (total i false (set s.views id w)) (total i true (set s.views id w)) n
+pub stepped-kept : (size : Size) (s : State ℕ View) (id i n : ℕ) (v w : View) → Kept size s → get_elem?
+    s.views id ≡ some v → 0 < v.number → i < suc size.words → ((g : Grant) → Contains v.ever g → Contains w.ever g)
+    → (IsLive (set s.views id w) id v → IsLive (set s.views id w) id w) → ((k : ℕ) (e : Bool) → k ≢ i → tally
+    k e w.held ≡ tally k e v.held) → IsValue (total i false (set s.views id w)) (total i true (set s.views id w)) n
     → Kept size (record { words = set s.words i n; homes = s.homes; views = set s.views id w })
 stepped-kept size s id i n v w kept at pos below more mine same here = grind (arith, length-set, values-set, fit-set)
 
 -- a reading more
 pub live-looked : (views : List View) (seat : ℕ) (v : View) (word value : ℕ)
-    → IsAnswered views (reading v.number word value)
-    → IsLive views seat v → IsLive views seat (looked v word value)
+    → IsAnswered views (reading v.number word value) → IsLive views seat v → IsLive views seat (looked v word value)
 live-looked views seat v word value answer f = record {
   number = f.number;
   own = f.own;
@@ -135,10 +122,9 @@ live-granted views seat v word excl f =
       right = f.right;
       gathered = f.gathered;
       ever = All-push (λ (g : Grant). IsOwn views seat g.hand) v.ever g f.ever (inl f.number);
-      held = All-push Has v.held (hold word excl)
-          (All-weaker (λ (x : Hold). (hand : ℕ) × Contains v.ever (grant hand x.word x.excl)) Has
-          (λ x h. (h.0, Contains-append_left v.ever (g ∷ []) (grant h.0 x.word x.excl) h.1)) v.held f.held)
-          (v.number, Contains-push v.ever g);
+      held = All-push Has v.held (hold word excl) (All-weaker (λ (x : Hold). (hand : ℕ) × Contains v.ever (grant
+          hand x.word x.excl)) Has (λ x h. (h.0, Contains-append_left v.ever (g ∷ []) (grant h.0 x.word x.excl) h.1))
+          v.held f.held) (v.number, Contains-push v.ever g);
       read = f.read;
     }
   where
@@ -170,13 +156,10 @@ looks size slots id i me below pos no_share no_excl s kept width at small =
       w,
       keeps,
       tt,
-      stepped-kept size s id i n v w kept at pos (omega arith) (λ g h. h)
-          (live-looked (set s.views id w) id v i n
-          (answered-set s.views id v w at pos (λ g h. h) (reading v.number i n)
-          (answers size s id i v kept at pos no_share no_excl)))
-          (λ k e ne. refl)
-          (value-same (total i false s.views) (total i true s.views) n _ _ _ (sums n false) (sums n true) refl
-          (kept.words i)),
+      stepped-kept size s id i n v w kept at pos (omega arith) (λ g h. h) (live-looked
+          (set s.views id w) id v i n (answered-set s.views id v w at pos (λ g h. h) (reading v.number i n)
+          (answers size s id i v kept at pos no_share no_excl))) (λ k e ne. refl) (value-same
+          (total i false s.views) (total i true s.views) n _ _ _ (sums n false) (sums n true) refl (kept.words i)),
       (refl, refl),
     )
   where
@@ -185,9 +168,8 @@ looks size slots id i me below pos no_share no_excl s kept width at small =
 
 -- a hand exchanges a word that it doesn't hold, from a value that admits it
 pub tries : (size : Size) (slots id i old new : ℕ) (excl : Bool) (me : Me ℕ View) → i < size.words → 0 < me.0.number
-    → tally i false me.0.held ≡ 0 → tally i true me.0.held ≡ 0 → Admits old excl → Adds old excl new
-    → Allows (Kept size) slots id me i (λ n. either (n == old) new n)
-    (λ n after. Becomes me (tried me.0 i old new n) after)
+    → tally i false me.0.held ≡ 0 → tally i true me.0.held ≡ 0 → Admits old excl → Adds old excl new → Allows
+    (Kept size) slots id me i (λ n. either (n == old) new n) (λ n after. Becomes me (tried me.0 i old new n) after)
 tries size slots id i old new excl me below pos no_share no_excl admits adds s kept width at small =
     go (get_or s.words i 0 == old) refl
   where
@@ -229,33 +211,32 @@ tries size slots id i old new excl me below pos no_share no_excl admits adds s k
       got n,
       keeps,
       tt,
-      stepped-kept size s id i new me.0 (got n) kept at pos (omega arith) (more n)
-          (λ f. live-granted (set s.views id (got n)) id (looked me.0 i n) i excl
-          (live-looked (set s.views id (got n)) id me.0 i n
-          (answered-set s.views id me.0 (got n) at pos (more n) (reading me.0.number i n) answer) f))
-          (λ k e ne. omega (arith, tally-push k e me.0.held (hold i excl), one-other i k e excl (λ q. ne (sym q))))
-          (value-same _ _ new _ _ _ (sym (sums n false)) (sym (sums n true)) refl
-          (value excl refl admits adds.1 n (eqb-true n old is) (kept.words i))),
+      stepped-kept size s id i new me.0 (got n) kept at pos
+          (omega arith) (more n) (λ f. live-granted (set s.views id (got n)) id (looked me.0 i n)
+          i excl (live-looked (set s.views id (got n)) id me.0 i n (answered-set s.views id me.0 (got n)
+          at pos (more n) (reading me.0.number i n) answer) f)) (λ k e ne. omega (
+            arith,
+            tally-push k e me.0.held (hold i excl),
+            one-other i k e excl (λ q. ne (sym q)),
+          )) (value-same _ _ new _ _ _ (sym (sums n false))
+          (sym (sums n true)) refl (value excl refl admits adds.1 n (eqb-true n old is) (kept.words i))),
       (ap (λ e. granted (looked me.0 i n) i e) (sym adds.0), refl),
     ))
     go false is = subst Goal (sym is) (let n = get_or s.words i 0 in let w = looked me.0 i n in (
       w,
       keeps,
       tt,
-      stepped-kept size s id i n me.0 w kept at pos (omega arith) (λ g h. h)
-          (live-looked (set s.views id w) id me.0 i n
-          (answered-set s.views id me.0 w at pos (λ g h. h) (reading me.0.number i n) answer))
-          (λ k e ne. refl)
-          (value-same _ _ n _ _ _ (same n false) (same n true) refl (kept.words i)),
+      stepped-kept size s id i n me.0 w kept at pos (omega arith) (λ g h. h) (live-looked (set s.views id w)
+          id me.0 i n (answered-set s.views id me.0 w at pos (λ g h. h) (reading me.0.number i n) answer))
+          (λ k e ne. refl) (value-same _ _ n _ _ _ (same n false) (same n true) refl (kept.words i)),
       (refl, refl),
     ))
 
 -- a hand takes itself off a word that it holds
-pub frees : (size : Size) (slots id i share : ℕ) (me : Me ℕ View) → i < size.words → 0 < me.0.number
-    → tally i false me.0.held + tally i true me.0.held ≡ 1
-    → share ≡ tally i false me.0.held + tally i true me.0.held * 9223372036854775808
-    → Allows (Kept size) slots id me i (λ n. (n + (2 ^ 64 - share)) % 2 ^ 64)
-    (λ n after. Becomes me (released me.0 i) after)
+pub frees : (size : Size) (slots id i share : ℕ) (me : Me ℕ View)
+    → i < size.words → 0 < me.0.number → tally i false me.0.held + tally i true me.0.held ≡ 1
+    → share ≡ tally i false me.0.held + tally i true me.0.held * 9223372036854775808 → Allows
+    (Kept size) slots id me i (λ n. (n + (2 ^ 64 - share)) % 2 ^ 64) (λ n after. Becomes me (released me.0 i) after)
 frees size slots id i share me below pos holds is s kept width at small =
     let n = get_or s.words i 0 in
     let w = released me.0 i in
@@ -265,10 +246,9 @@ frees size slots id i share me below pos holds is s kept width at small =
       w,
       keeps,
       tt,
-      stepped-kept size s id i ((n + (2 ^ 64 - share)) % 2 ^ 64) me.0 w kept at pos (omega arith) (λ g h. h)
-          (live-released (set s.views id w) id me.0 i)
-          (λ k e ne. tally-spared i k e me.0.held ne)
-          (value-is _ _ _ (omega (
+      stepped-kept size s id i ((n + (2 ^ 64 - share)) % 2 ^ 64)
+          me.0 w kept at pos (omega arith) (λ g h. h) (live-released (set s.views id w) id me.0 i)
+          (λ k e ne. tally-spared i k e me.0.held ne) (value-is _ _ _ (omega (
             arith,
             sums false,
             sums true,
@@ -279,8 +259,7 @@ frees size slots id i share me below pos holds is s kept width at small =
             lower,
             is,
             holds,
-          ))
-          (omega (
+          )) (omega (
             arith,
             sums false,
             sums true,
@@ -297,15 +276,14 @@ frees size slots id i share me below pos holds is s kept width at small =
 
     at_least : (n : ℕ) → n ≡ total i false s.views + total i true s.views * 9223372036854775808
         → total i false s.views + total i true s.views * 65535 ≤ 65535 → share ≤ n
-    at_least n sum most =
-        omega (
-          arith,
-          sums false,
-          sums true,
-          tally-released i false me.0.held,
-          tally-released i true me.0.held,
-          is,
-          holds,
-          sum,
-          most,
-        )
+    at_least n sum most = omega (
+      arith,
+      sums false,
+      sums true,
+      tally-released i false me.0.held,
+      tally-released i true me.0.held,
+      is,
+      holds,
+      sum,
+      most,
+    )

@@ -54,9 +54,8 @@ counted P w e (x ∷ xs) all pos =
     grind (arith, All-tail, All-head, tally-cons, eqb-true, counted P w e xs (All-tail P x xs all))
 
 -- the first hold of a word tells how it is held, where there is at most one
-pub held-as : (w : ℕ) (o : Option Bool) (xs : List Hold) → tally w false xs ≡ noted false o
-    → tally w true xs ≡ noted true o
-    → held_as xs w ≡ o
+pub held-as : (w : ℕ) (o : Option Bool) (xs : List Hold)
+    → tally w false xs ≡ noted false o → tally w true xs ≡ noted true o → held_as xs w ≡ o
 held-as w None [] p q = refl
 held-as w (Some true) [] p q = absurd (omega arith)
 held-as w (Some false) [] p q = absurd (omega arith)
@@ -85,8 +84,7 @@ held-as w o (x ∷ xs) p q = go (λ o f t. held-as w o xs f t) (x.word == w) x.e
 pub sum-set : (f : View → ℕ) (vs : List View) (i : ℕ) (v w : View) → get_elem? vs i ≡ some v
     → sum_by f (set vs i w) + f v ≡ sum_by f vs + f w
 sum-set f [] i v w e = absurd (some-ne-none v (sym e))
-sum-set f (x ∷ xs) zero v w e =
-    omega (arith, sum_by-cons f x xs, sum_by-cons f w xs, ap f (some-injective x v e))
+sum-set f (x ∷ xs) zero v w e = omega (arith, sum_by-cons f x xs, sum_by-cons f w xs, ap f (some-injective x v e))
 sum-set f (x ∷ xs) (suc i) v w e =
     omega (arith, sum_by-cons f x xs, sum_by-cons f x (set xs i w), sum-set f xs i v w e)
 
@@ -94,9 +92,8 @@ sum-set f (x ∷ xs) (suc i) v w e =
 pub somewhere : (f : View → ℕ) (vs : List View) → 0 < sum_by f vs
     → (i : ℕ) × (v : View) × (get_elem? vs i ≡ some v) × (0 < f v)
 somewhere f [] pos = absurd (omega arith)
-somewhere f (x ∷ xs) pos = ⊎_elim
-    (λ (z : f x ≡ 0). let t = somewhere f xs (omega (arith, sum_by-cons f x xs, z, pos)) in (suc t.0, t.1, t.2, t.3))
-    (λ (p : 0 < f x). (zero, x, refl, p)) (eq-zero-or-pos (f x))
+somewhere f (x ∷ xs) pos = ⊎_elim (λ (z : f x ≡ 0). let t = somewhere f xs (omega (arith, sum_by-cons f x xs, z, pos))
+    in (suc t.0, t.1, t.2, t.3)) (λ (p : 0 < f x). (zero, x, refl, p)) (eq-zero-or-pos (f x))
 
 -- where no other seat has a part, the sum is one seat's
 pub alone : (f : View → ℕ) (vs : List View) (i : ℕ) (v : View) → get_elem? vs i ≡ some v
@@ -138,11 +135,10 @@ value-state s x n v pos false is = grind (arith, value-sum, eqb-false, ⊎_elim)
 
 -- one seat's change, seen from the words
 pub values-set : (ws : List ℕ) (views : List View) (id i n : ℕ) (v w : View) → get_elem? views id ≡ some v
-    → i < length ws
-    → ((k : ℕ) → IsValue (total k false views) (total k true views) (get_or ws k 0))
+    → i < length ws → ((k : ℕ) → IsValue (total k false views) (total k true views) (get_or ws k 0))
     → ((k : ℕ) (e : Bool) → k ≢ i → tally k e w.held ≡ tally k e v.held)
-    → IsValue (total i false (set views id w)) (total i true (set views id w)) n
-    → (k : ℕ) → IsValue (total k false (set views id w)) (total k true (set views id w)) (get_or (set ws i n) k 0)
+    → IsValue (total i false (set views id w)) (total i true (set views id w)) n → (k : ℕ)
+    → IsValue (total k false (set views id w)) (total k true (set views id w)) (get_or (set ws i n) k 0)
 values-set ws views id i n v w at within all same here k =
     grind (arith, dite, ℕ_discrete, get_or-set_same, value-same, sums, get_or-set_other)
   where
@@ -172,9 +168,8 @@ compatible-in xs values i j d lt within same =
     go x y x.excl y.excl same refl refl (pair-le (one y.word false) xs i j d lt within)
     (pair-le (one y.word true) xs i j d lt within) t.1
   where
-    go : (x y : Hold) (b c : Bool) → x.word ≡ y.word → x.excl ≡ b → y.excl ≡ c
-        → one y.word false x + one y.word false y ≤ tally y.word false xs
-        → one y.word true x + one y.word true y ≤ tally y.word true xs
+    go : (x y : Hold) (b c : Bool) → x.word ≡ y.word → x.excl ≡ b → y.excl ≡ c → one y.word false
+        x + one y.word false y ≤ tally y.word false xs → one y.word true x + one y.word true y ≤ tally y.word true xs
         → tally y.word false xs + tally y.word true xs * 65535 ≤ 65535 → (x.excl ≡ false) × (y.excl ≡ false)
     go x y false false same p q f t most = (p, q)
     go x y true true same p q f t most =

@@ -30,9 +30,8 @@ module _ {L : Type 0} (calls : L → Option ℕ) (downs : L → Option (List ℕ
   asked_up down old new asked = go down told
     where
       told : ¬ (down ≡ true)
-      told =
-          subst (λ (count : Option ℕ). AnswersAsTold count (Some []) (down ≡ true)) (uncounted old)
-          (subst (λ (some : Option (List ℕ)). AnswersAsTold (calls old) some (down ≡ true)) (never old) asked.1.as_told)
+      told = subst (λ (count : Option ℕ). AnswersAsTold count (Some []) (down ≡ true)) (uncounted old) (subst
+          (λ (some : Option (List ℕ)). AnswersAsTold (calls old) some (down ≡ true)) (never old) asked.1.as_told)
 
       go : (b : Bool) → ¬ (b ≡ true) → b ≡ false
       go true up = absurd (up refl)
@@ -44,8 +43,7 @@ module _ {L : Type 0} (calls : L → Option ℕ) (downs : L → Option (List ℕ
     answered cf there = rw there refl
 
     facility_up : (cf : CfId) → has (reached_in down asks) cf ≡ true → IsFacility cf → down cf ≡ false
-    facility_up cf there is =
-        asked_up (down cf) (link_at old cf) (link_at new cf)
+    facility_up cf there is = asked_up (down cf) (link_at old cf) (link_at new cf)
         (subst (λ (answers : List Bool). IsAskedAll calls downs faults answers (link_at old cf) (link_at new cf))
         (answered cf there) (asked.asked cf is))
 
@@ -68,19 +66,18 @@ module _ {L : Type 0} (calls : L → Option ℕ) (downs : L → Option (List ℕ
 
   -- a call is done as the machine's next step
   pub turn_steps : {C R I S : Type 0} (meaning : Meaning C R I S) (old new : StructureView S L) (by : ConnId)
-      (call : Ask C) (marks : List Mark) (reply : Reply R)
-      → IsTurn calls downs faults meaning old new by call marks reply
-      → record { reply = reply; machine = new.machine } ≡ step meaning old.form old.machine by call
+      (call : Ask C) (marks : List Mark) (reply : Reply R) → IsTurn calls downs faults meaning old new by
+      call marks reply → record { reply = reply; machine = new.machine } ≡ step meaning old.form old.machine by call
   turn_steps meaning old new by call marks reply turn =
       let none = no_marks turn.down (links_asked meaning old.form old.machine by call) old.links new.links turn.asked in
-      turn.done ∙ ap (λ (cfs : List CfId). step meaning old.form (behind_marks meaning old.form old.machine cfs) by call) none
+      turn.done ∙ ap (λ (cfs : List CfId). step meaning old.form
+      (behind_marks meaning old.form old.machine cfs) by call) none
 
 -- Whoever asks over steady links is answered by the next step, if at all.
 pub steady_steps : {C R I S E : Type 0} (meaning : Meaning C R I S) (old new : StructureView S Steady) (by : ConnId)
     (call : Ask C) (marks : List Mark) (result : Result (Reply R) E)
     → IfOk result (λ reply. IsTurn (λ link. None) (λ link. Some []) (λ link. 0) meaning old new by call marks reply)
     → IfOk result (λ reply. record { reply = reply; machine = new.machine } ≡ step meaning old.form old.machine by call)
-steady_steps meaning old new by call marks (Ok reply) turn =
-    turn_steps (λ link. None) (λ link. Some []) (λ link. 0) (λ link. refl) (λ link. refl) meaning old new by call marks
-    reply turn
+steady_steps meaning old new by call marks (Ok reply) turn = turn_steps (λ link. None) (λ link. Some [])
+    (λ link. 0) (λ link. refl) (λ link. refl) meaning old new by call marks reply turn
 steady_steps meaning old new by call marks (Err fault) turn = tt

@@ -20,8 +20,7 @@ first_of : (xs : List CfId) (cf : CfId) (rest : List CfId) → cf ∷ rest ≡ x
 first_of xs cf rest same = ap (λ (it : List CfId). get_or it 0 cf) same
 
 stands_first : (cause : Option Refusal) (primary secondary : Option CfId) (cf : CfId) (rest : List CfId) (b : Bool)
-    → cf ∷ rest ≡ (asked_of cause primary secondary).links
-    → is_at cf primary || (is_at cf secondary || b) ≡ true
+    → cf ∷ rest ≡ (asked_of cause primary secondary).links → is_at cf primary || (is_at cf secondary || b) ≡ true
 stands_first (Some refusal) primary secondary cf rest b same = absurd (cc)
 stands_first None (Some x) secondary cf rest b same =
     there x cf (is_at cf secondary || b) (first_of (apart (x ∷ listed secondary)) cf rest same)
@@ -30,14 +29,11 @@ stands_first None None None cf rest b same = absurd (cc)
 
 -- the first of two that are asked is one of the instances' places
 pub asked_stands : (cause : Option Refusal) (primary secondary first second : Option CfId) (stops : Bool) (cf : CfId)
-    (b : Bool) → first ≡ Some cf
-    → Path Asks (record { links = listed first ++ listed second; stops = stops })
-    (asked_of cause primary secondary)
-    → is_at cf primary || (is_at cf secondary || b) ≡ true
+    (b : Bool) → first ≡ Some cf → Path Asks (record { links = listed first ++ listed second; stops = stops })
+    (asked_of cause primary secondary) → is_at cf primary || (is_at cf secondary || b) ≡ true
 asked_stands cause primary secondary first second stops cf b at asks =
-    stands_first cause primary secondary cf (listed second) b
-    (subst (λ (it : Option CfId). listed it ++ listed second ≡ (asked_of cause primary secondary).links) at
-    (ap (λ (it : Asks). it.links) asks))
+    stands_first cause primary secondary cf (listed second) b (subst (λ (it : Option CfId). listed it ++ listed
+    second ≡ (asked_of cause primary secondary).links) at (ap (λ (it : Asks). it.links) asks))
 
 pub asked_facility : (first second : Option CfId) (cf : CfId) → first ≡ Some cf
     → All IsFacility (listed first ++ listed second) → IsFacility cf

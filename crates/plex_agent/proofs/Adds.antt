@@ -2,8 +2,10 @@
 use Rattle.plex_agent.proofs.Imports.{◌≡◌, ℕ, ◌+◌, ◌*◌, ◌^◌, ◌≤◌, ◌<◌, ◌==◌, ◌&&◌, nat_lt, Bool, true, false, List, [], ◌∷◌, ◌++◌, map, Some, None, refl, sym, ◌∙◌, arith, append-nil, slice_get, cond, All, bit_at, ltb-false, map-append, All-head, All-tail, StrForm, ConnId, StrNo, Entry, Told, Meaning, Tells, cache_meaning, list_meaning, lock_meaning, AnyAsk, AnyHistory, Shown, AnyCall, surest_on, seen_on, TellsBit, TellsWord, place_of, Sight, bit_in, sight, indices_of, IsTold, AnyReply, PassShown, IsLater, with_call, IsAnyTold, told_past, each_sight, bit_in_word, AnyTells, all_bits}
 use Rattle.plex_board.specs.PlexScript.declared.asks.AnyHistory.TheVariants as history
 use Rattle.plex_board.specs.PlexScript.declared.transcripts.Shown.TheVariants as shown
-use Rattle.plex_agent.proofs.Fronts.{itself, front_same, front_more}
+use Rattle.plex_agent.proofs.Fronts.{front_same, front_more}
 use Rattle.plex_agent.proofs.Passes.{Caller, IsOf, IsShown, IsWithin, Adds}
+use Rattle.plex_agent.proofs.Spots.{is_same}
+use Rattle.plex_agent.proofs.Lookups.{all_behind}
 
 -- ---- readings
 
@@ -22,13 +24,7 @@ of_item (shown.Took place sure) =
 
 -- a number that is read of an item of this structure is the one that the item shows
 number_read : (place number n most : ℕ) → cond (place == place) (Some number) None ≡ Some n → number ≤ most → n ≤ most
-number_read place number n most read small = grind (arith, itself)
-
--- ---- the end of a list
-
-all_behind : {X : Type 0} (P : X → Type 0) (xs ys : List X) → All P (xs ++ ys) → All P ys
-all_behind P [] ys all = all
-all_behind P (x ∷ xs) ys all = all_behind P xs ys (All-tail P x (xs ++ ys) all)
+number_read place number n most read small = grind (arith, is_same)
 
 -- ---- tests
 
@@ -49,9 +45,8 @@ told_tells form (history.Lock entries) conn test sure = tells_less lock_meaning 
 -- ---- words
 
 module _ (form : StrForm) (entries : AnyHistory) (conn : ConnId) (on : StrNo) (before : List Shown)
-    (word bits at sure : ℕ)
-    (told : All (IsAnyTold form entries conn) (map (sight bits at sure) (indices_of word))) (small : bits < 2 ^ 32)
-    (seen : seen_on on before ≤ at) (less : surest_on on before ≤ sure) where
+    (word bits at sure : ℕ) (told : All (IsAnyTold form entries conn) (map (sight bits at sure) (indices_of word)))
+    (small : bits < 2 ^ 32) (seen : seen_on on before ≤ at) (less : surest_on on before ≤ sure) where
   bit_told : (k : ℕ) → k < 32 → IsAnyTold form entries conn (sight bits at sure (32 * word + k))
   bit_told k within = each_sight (IsAnyTold form entries conn) word bits at sure k told within
 
@@ -62,70 +57,60 @@ module _ (form : StrForm) (entries : AnyHistory) (conn : ConnId) (on : StrNo) (b
       by_place : (b : Bool) → nat_lt (32 * word + k) form.vector ≡ b
           → (nat_lt (32 * word + k) form.vector && bit_in bits (32 * word + k)) ≡ (bit_at bits k == 1)
       by_place true inside = rw inside (bit_in_word bits word k within)
-      by_place false past =
-          rw past (sym (told_past form entries conn (sight bits at sure (32 * word + k)) (bit_told k within)
-          (ltb-false (32 * word + k) form.vector past)) ∙ bit_in_word bits word k within)
+      by_place false past = rw past (sym (told_past form entries conn (sight bits at sure (32 * word + k))
+          (bit_told k within) (ltb-false (32 * word + k) form.vector past)) ∙ bit_in_word bits word k within)
 
   -- the tests of a word's indices tell what the word shows
   word_tells : TellsWord form entries conn on before at word bits
-  word_tells =
-      record {
-        bits = λ k. bit_in bits (32 * word + k);
-        made = sym
-            (all_bits bits 32 (λ k. nat_lt (32 * word + k) form.vector && bit_in bits (32 * word + k)) small
-            bit_shown);
-        each = λ k within inside. record {
-          seen = seen;
-          tells = told_tells form entries conn (sight bits at sure (32 * word + k)) (surest_on on before)
-              (bit_told k within) inside less;
-        };
-      }
+  word_tells = record {
+    bits = λ k. bit_in bits (32 * word + k);
+    made = sym
+        (all_bits _ _ (λ k. nat_lt (32 * word + k) form.vector && bit_in bits (32 * word + k)) small bit_shown);
+    each = λ k within inside. record {
+      seen = seen;
+      tells = told_tells _ _ _ _ _ (bit_told k within) inside less;
+    };
+  }
 
 -- ---- items
 
 module _ (me : Caller) (on : StrNo) (pass : PassShown) where
   pub call_adds : (asked : AnyAsk) (told : Told) (reply : AnyReply) → pass.known < told.no
       → Adds me on pass (with_call asked told reply pass) (shown.Call on told.no)
-  call_adds asked told reply above = grind (arith, itself, of_item, front_more, front_same, map-append, number_read)
+  call_adds asked told reply above = grind (arith, is_same, of_item, front_more, front_same, map-append, number_read)
 
   abbrev pub with_test : ℕ → Bool → ℕ → PassShown
-  with_test index bit at =
-      record pass {
-        known = at;
-        tests = pass.tests ++ record { index = index; bit = bit; at = at; sure = pass.sure } ∷ [];
-      }
+  with_test index bit at = record pass {
+    known = at;
+    tests = pass.tests ++ record { index = index; bit = bit; at = at; sure = pass.sure } ∷ [];
+  }
 
-  pub test_adds : (index : ℕ) (bit : Bool) (at : ℕ) → pass.known ≤ at
-      → ((form : StrForm) → slice_get me.forms on.0 ≡ Some form → index < form.vector)
-      → Adds me on pass (with_test index bit at) (shown.Test on index bit at)
-  test_adds index bit at later inside =
-      record {
-        of = of_item (shown.Test on index bit at);
-        owner = refl;
-        calls = front_same pass.calls;
-        tests = front_more pass.tests _;
-        numbers = sym (append-nil (map (λ (call : AnyCall). call.no) pass.calls));
-        known = later;
-        sure = λ n less small. less;
-        seen_now = λ n read. number_read on.0 at n at read (omega arith);
-        sure_now = λ n read. absurd (cc read);
-        reached_now = λ n read. absurd (cc read);
-        good = λ within before is. (tt, λ form entries known there. tells within before is form entries known there);
-      }
+  pub test_adds : (index : ℕ) (bit : Bool) (at : ℕ) → pass.known ≤ at → ((form : StrForm) → slice_get me.forms
+      on.0 ≡ Some form → index < form.vector) → Adds me on pass (with_test index bit at) (shown.Test on index bit at)
+  test_adds index bit at later inside = record {
+    of = of_item _;
+    owner = refl;
+    calls = front_same _;
+    tests = front_more _ _;
+    numbers = sym (append-nil (map (λ call. call.no) pass.calls));
+    known = later;
+    sure = λ n less small. less;
+    seen_now = λ n read. number_read _ at n at read (omega arith);
+    sure_now = λ n read. absurd (cc read);
+    reached_now = λ n read. absurd (cc read);
+    good = λ within before is. (tt, λ form entries known there. tells within before is form entries known there);
+  }
     where
       tells : IsWithin me on (with_test index bit at) → (before : List Shown) → IsShown on pass before
           → (form : StrForm) (entries : AnyHistory) → slice_get me.forms on.0 ≡ Some form
-          → slice_get me.histories on.0 ≡ Some entries
-          → TellsBit form entries me.conn on before at index bit
+          → slice_get me.histories on.0 ≡ Some entries → TellsBit form entries me.conn on before at index bit
       tells within before is form entries known there =
           let test : Sight = record { index = index; bit = bit; at = at; sure = pass.sure } in
-          let told : IsAnyTold form entries me.conn test =
-          All-head (IsAnyTold form entries me.conn) test []
-          (all_behind (IsAnyTold form entries me.conn) pass.tests (test ∷ [])
-          (within.tests form entries known there)) in
+          let told = All-head (IsAnyTold form entries me.conn) test [] (all_behind
+          (IsAnyTold form entries me.conn) pass.tests (test ∷ []) (within.tests form entries known there)) in
           record {
             seen = omega (arith, is.seen, later);
-            tells = told_tells form entries me.conn test (surest_on on before) told (inside form known) is.sure;
+            tells = told_tells _ _ _ _ _ told (inside form known) is.sure;
           }
 
   abbrev pub with_word : ℕ → ℕ → ℕ → PassShown
@@ -134,27 +119,24 @@ module _ (me : Caller) (on : StrNo) (pass : PassShown) where
 
   pub word_adds : (word bits at : ℕ) → bits < 2 ^ 32 → pass.known ≤ at
       → Adds me on pass (with_word word bits at) (shown.Word on word bits at)
-  word_adds word bits at small later =
-      record {
-        of = of_item (shown.Word on word bits at);
-        owner = refl;
-        calls = front_same pass.calls;
-        tests = front_more pass.tests _;
-        numbers = sym (append-nil (map (λ (call : AnyCall). call.no) pass.calls));
-        known = later;
-        sure = λ n less small. less;
-        seen_now = λ n read. number_read on.0 at n at read (omega arith);
-        sure_now = λ n read. absurd (cc read);
-        reached_now = λ n read. absurd (cc read);
-        good = λ within before is. (
-          tt,
-          λ form entries known there. word_tells form entries me.conn on before word bits at pass.sure
-              (all_behind (IsAnyTold form entries me.conn) pass.tests (map (sight bits at pass.sure)
-              (indices_of word))
-              (within.tests form entries known there))
-              small (omega (arith, is.seen, later)) is.sure,
-        );
-      }
+  word_adds word bits at small later = record {
+    of = of_item (shown.Word on word bits at);
+    owner = refl;
+    calls = front_same pass.calls;
+    tests = front_more pass.tests _;
+    numbers = sym (append-nil (map (λ (call : AnyCall). call.no) pass.calls));
+    known = later;
+    sure = λ n less small. less;
+    seen_now = λ n read. number_read on.0 at n at read (omega arith);
+    sure_now = λ n read. absurd (cc read);
+    reached_now = λ n read. absurd (cc read);
+    good = λ within before is. (
+      tt,
+      λ form entries known there. word_tells form entries me.conn on before word bits at pass.sure (all_behind
+          (IsAnyTold form entries me.conn) pass.tests (map (sight bits at pass.sure) (indices_of word))
+          (within.tests form entries known there)) small (omega (arith, is.seen, later)) is.sure,
+    );
+  }
 
   pub bad_adds : (index : ℕ) (word : Bool) (len : ℕ) → Adds me on pass pass (shown.BadIndex on index word len)
   bad_adds index word len = grind (arith, of_item, front_same, append-nil)

@@ -17,10 +17,8 @@ module _ (limit : ℕ) (kind : Kind) (line : Option AnyAsk) (on : StrNo) where
       → Asks limit kind line on now before after
   asks_more now next before between after there one rest =
       let told = one.told in
-      let passes : pass_at between.desk on ≡ with_call one.asked told one.reply (pass_at before.desk on) =
-      ap (λ (d : DeskShown). pass_at d on) one.desk ∙ pass_at-with_pass_same before.desk on _ there in
-      let twice : with_pass on rest.pass between.desk ≡ with_pass on rest.pass before.desk =
-      ap (with_pass on rest.pass) one.desk ∙ with_pass_twice on _ rest.pass before.desk in
+      let passes = ap (λ d. pass_at d on) one.desk ∙ pass_at-with_pass_same before.desk on _ there in
+      let twice = ap (with_pass on rest.pass) one.desk ∙ with_pass_twice on _ rest.pass before.desk in
       record {
         tolds = told ∷ rest.tolds;
         last = rest.last;
@@ -30,46 +28,39 @@ module _ (limit : ℕ) (kind : Kind) (line : Option AnyAsk) (on : StrNo) where
           one.asks,
           one.later,
           one.reply,
-          subst (λ (pass : PassShown). Steps kind line (step_after now told) pass rest.tolds rest.last rest.pass)
-              passes
-              (subst (λ (at : Step). Steps kind line at (pass_at between.desk on) rest.tolds rest.last rest.pass)
+          subst (λ pass. Steps kind line (step_after now told) pass rest.tolds rest.last rest.pass)
+              passes (subst (λ at. Steps kind line at (pass_at between.desk on) rest.tolds rest.last rest.pass)
               one.next_is rest.steps),
         );
-        items = rest.items ∙ ap (λ (items : List Shown). items ++ map (call_item on) rest.tolds) one.items
+        items = rest.items ∙ ap (λ items. items ++ map (call_item on) rest.tolds) one.items
             ∙ append_assoc before.shown.items (call_item on told ∷ []) (map (call_item on) rest.tolds);
-        ends = subst (λ (d : DeskShown). EndsAt limit kind line on rest.last d after.desk after.shown.end)
-            twice rest.ends;
+        ends = subst (λ d. EndsAt limit kind line on rest.last d after.desk after.shown.end) twice rest.ends;
       }
 
   -- no step was made
-  pub asks_end : (now : Step) (before after : AtWork)
-      → EndsAt limit kind line on now before.desk after.desk after.shown.end
-      → after.shown.items ≡ before.shown.items → Asks limit kind line on now before after
+  pub asks_end : (now : Step) (before after : AtWork) → EndsAt limit kind line on now before.desk
+      after.desk after.shown.end → after.shown.items ≡ before.shown.items → Asks limit kind line on now before after
   asks_end now before after ends same = grind (arith, append-nil, with_pass-pass_at)
 
   -- the call wasn't made
-  pub asks_refused : (now : Step) (refusal : CallRefused) (end : AgentEnd) (before : AtWork) (after : DeskShown)
-      (items : List Shown) → IsReady line now → now ≢ step.Rest → IsLaterOn on before.desk after
-      → (pass_at after on).sure ≤ (pass_at after on).known
-      → (refusal ≢ refused.NoMemory → limit ≤ (pass_at after on).known)
-      → (refusal ≡ refused.NoMemory → after ≡ before.desk) → items ≡ before.shown.items
-      → end ≡ end_of on refusal
-      → Asks limit kind line on now before (at_work after items end)
+  pub asks_refused : (now : Step) (refusal : CallRefused) (end : AgentEnd) (before : AtWork)
+      (after : DeskShown) (items : List Shown) → IsReady line now → now ≢ step.Rest → IsLaterOn on before.desk after
+      → (pass_at after on).sure ≤ (pass_at after on).known → (refusal ≢ refused.NoMemory → limit
+      ≤ (pass_at after on).known) → (refusal ≡ refused.NoMemory → after ≡ before.desk) → items ≡ before.shown.items
+      → end ≡ end_of on refusal → Asks limit kind line on now before (at_work after items end)
   asks_refused now refusal end before after items ready goes later ordered full still same ends =
       grind (arith, by_refusal)
     where
       halts : Halts kind line on now before.desk after
       halts =
-          let some = asks_some kind line now ready goes in
+          let some = asks_some _ _ _ ready goes in
           record { asked = some.0; next = some.1; later = later; ordered = ordered }
 
       by_refusal : (refusal : CallRefused) → (refusal ≢ refused.NoMemory → limit ≤ (pass_at after on).known)
           → (refusal ≡ refused.NoMemory → after ≡ before.desk)
           → Asks limit kind line on now before (at_work after items (end_of on refusal))
-      by_refusal (refused.JournalFull most) full still =
-          asks_end now before (at_work after items (ended.JournalFull on)) (refl, halts, full (λ is. cc)) same
-      by_refusal refused.NoMemory full still =
-          asks_end now before (at_work after items ended.NoMemory) (halts, still refl) same
+      by_refusal (refused.JournalFull most) full still = asks_end _ _ _ (refl, halts, full (λ is. cc)) same
+      by_refusal refused.NoMemory full still = asks_end _ _ _ (halts, still refl) same
 
 -- ---- a step of a line at a board's structure
 

@@ -22,14 +22,12 @@ crew_is_idle board crew new few =
 -- a line that a caller may play is a line for the board
 pub lines_fit : {L : Type 0} (board : BoardShown L) (lines played : List Line) → lines ≡ played
     → All (IsPlayable board) played → All (IsLineFor board) lines
-lines_fit board lines played same playable =
-    All-same (IsLineFor board) lines played same
+lines_fit board lines played same playable = All-same (IsLineFor board) lines played same
     (All-weaker (IsPlayable board) (IsLineFor board) (λ line playable. playable.right) played playable)
 
 -- the callers that came to the board worked
-pub work_each : {L : Type 0} (board : BoardShown L) (lines all : List Line) (crew workers : List AtWork)
-    → lines ≡ all → crew ≡ crew_of board → WorkEach board lines crew workers
-    → WorkEach board all (crew_of board) workers
+pub work_each : {L : Type 0} (board : BoardShown L) (lines all : List Line) (crew workers : List AtWork) → lines ≡ all
+    → crew ≡ crew_of board → WorkEach board lines crew workers → WorkEach board all (crew_of board) workers
 work_each board lines all crew workers lines_are new worked = grind arith
 
 module _ {L : Type 0} (board : BoardShown L) (lines : List Line) (workers : List AtWork)
@@ -44,15 +42,13 @@ module _ {L : Type 0} (board : BoardShown L) (lines : List Line) (workers : List
 
 -- whatever the schedule was, what the callers were shown goes with the histories of the closed board
 pub served_shows : {L : Type 0} (limit : ℕ) (script : Script) (board : BoardShown L) (histories : List AnyHistory)
-    (desks : List DeskShown) (shown : List Transcript) → IsBoardOf limit script board
-    → IsServed board script.lines desks shown → AreClosed board desks histories → HadMemory shown
-    → ShowsHistories limit script histories shown
+    (desks : List DeskShown) (shown : List Transcript) → IsBoardOf limit script board → IsServed board script.lines
+    desks shown → AreClosed board desks histories → HadMemory shown → ShowsHistories limit script histories shown
 served_shows limit script board histories desks shown is served closed had =
     let lines = script.lines in
-    subst (ShowsHistories limit script histories) (sym served.shown_are)
-    (serves_right limit script board histories served.workers is.forms is.cells
-    ((worked-callers board lines served.workers served.work).callers ∙ ap (λ n. n + 1) is.callers)
-    (λ c worker there. alone_serves board lines (record { desk = new_desk board c; shown = no_items }) worker
-    (serves board lines served.workers served.work c worker there))
-    (had_memory served.workers (subst HadMemory served.shown_are had))
-    (subst (λ (desks : List DeskShown). AreClosed board desks histories) served.desks_are closed))
+    subst (ShowsHistories limit script histories) (sym served.shown_are) (serves_right limit script board
+    histories served.workers is.forms is.cells (subst (λ (desks : List DeskShown). AreClosed board desks histories)
+    served.desks_are closed) ((worked-callers board lines served.workers served.work).callers ∙ ap (λ n. n + 1)
+    is.callers) (λ c worker there. alone_serves board lines (record { desk = new_desk board c; shown = no_items })
+    worker (serves board lines served.workers served.work c worker there))
+    (had_memory served.workers (subst HadMemory served.shown_are had)))

@@ -1,5 +1,5 @@
 -- What the histories that are left at the end have to do with what was done at a structure so far.
-use Rattle.plex_agent.proofs.Imports.{◌≡◌, ℕ, ◌≤◌, ◌<◌, ◌==◌, List, [], ◌∷◌, ◌++◌, fold, Option, None, Some, sym, ap, subst, ◌∙◌, arith, append_assoc, All, if◌then◌else◌, StrForm, ConnId, CfId, Telling, Told, AnyAsk, AnyHistory, AnyCall, any_calls, any_length, IsAnyLegal, AreAnyAsTold, any_take, any_next, any_told, any_numbers, end_of, last_number, IsNextOf, next_call, IsFrontOf, front_of, numbers_of, numbers_any, IsBefore, AreMadeBelow, AnyReply, PassShown, with_call, note_of, IsAnyTold, with_note}
+use Rattle.plex_agent.proofs.Imports.{◌≡◌, ℕ, ◌≤◌, ◌<◌, ◌==◌, List, [], ◌∷◌, ◌++◌, fold, Option, None, Some, sym, ap, subst, ◌∙◌, arith, append_assoc, All, if◌then◌else◌, StrForm, ConnId, CfId, Telling, Told, AnyAsk, AnyHistory, AnyCall, any_calls, any_length, IsAnyLegal, AreAnyAsTold, any_take, any_next, any_told, any_numbers, end_of, last_number, IsNextOf, next_call, IsFrontOf, front_of, numbers_of, numbers_any, IsBefore, AreMadeBelow, AnyReply, PassShown, with_call, note_of, IsAnyTold, with_note, NoteShown}
 use Rattle.plex_agent.proofs.Spots.{conn, put, same_number, Spot, IsKnown, LastKnows, event, called}
 
 pub put_back : {X : Type 0} (P : ℕ → X → Type 0) (at : ℕ) (x : X) (xs : ℕ → X) → (P at x → P at (xs at))
@@ -25,37 +25,33 @@ before_less low high (call ∷ more) least before = omega (arith, before)
 
 -- a pass changed, and the front didn't fall
 pub fits_put : (form : StrForm) (entries : AnyHistory) (callers by : ℕ) (spot : Spot) (pass : PassShown)
-    (last : Option ConnId)
-    (front : ℕ) → spot.front ≤ front
-    → (All (IsAnyTold form entries (conn by)) pass.tests
-    → All (IsAnyTold form entries (conn by)) (spot.passes by).tests)
-    → FitsAt form entries callers
-    (record { passes = put by pass spot.passes; note = spot.note; last = last; events = spot.events; front = front })
-    → FitsAt form entries callers spot
-fits_put form entries callers by spot pass last front later tests fits =
-    record {
-      more = fits.more;
-      calls = fits.calls;
-      before = before_less spot.front front fits.more later fits.before;
-      tests = λ c within.
-          put_back (λ c pass. All (IsAnyTold form entries (conn c)) pass.tests) by pass spot.passes tests c
-          (fits.tests c within);
-    }
+    (note : Option NoteShown) (last : Option ConnId) (front : ℕ) → spot.front ≤ front → (All
+    (IsAnyTold form entries (conn by)) pass.tests → All (IsAnyTold form entries (conn by)) (spot.passes by).tests)
+    → FitsAt form entries callers (record {
+      passes = put by pass spot.passes;
+      note = note;
+      last = last;
+      events = spot.events;
+      front = front;
+    }) → FitsAt form entries callers spot
+fits_put form entries callers by spot pass note last front later tests fits = record {
+  more = fits.more;
+  calls = fits.calls;
+  before = before_less spot.front front fits.more later fits.before;
+  tests = λ c within. put_back (λ c pass. All (IsAnyTold form entries (conn c)) pass.tests)
+      by pass spot.passes tests c (fits.tests c within);
+}
 
-pub fits_called : (form : StrForm) (entries : AnyHistory) (callers by : ℕ) (spot : Spot) (asked : AnyAsk)
-    (told : Told) (reply : AnyReply)
-    → spot.front < told.no → FitsAt form entries callers (called by asked told reply spot)
-    → FitsAt form entries callers spot
-fits_called form entries callers by spot asked told reply above fits =
-    record {
-      more = event by asked told ∷ fits.more;
-      calls = fits.calls ∙ append_assoc spot.events (event by asked told ∷ []) fits.more;
-      before = above;
-      tests = λ c within.
-          put_back (λ c pass. All (IsAnyTold form entries (conn c)) pass.tests) by
-          (with_call asked told reply (spot.passes by))
-          spot.passes (λ is. is) c (fits.tests c within);
-    }
+pub fits_called : (form : StrForm) (entries : AnyHistory) (callers by : ℕ)
+    (spot : Spot) (asked : AnyAsk) (told : Told) (reply : AnyReply) → spot.front < told.no
+    → FitsAt form entries callers (called by asked told reply spot) → FitsAt form entries callers spot
+fits_called form entries callers by spot asked told reply above fits = record {
+  more = event by asked told ∷ fits.more;
+  calls = fits.calls ∙ append_assoc spot.events (event by asked told ∷ []) fits.more;
+  before = above;
+  tests = λ c within. put_back (λ c pass. All (IsAnyTold form entries (conn c)) pass.tests)
+      by (with_call asked told reply (spot.passes by)) spot.passes (λ is. is) c (fits.tests c within);
+}
 
 -- a call came to a journal with room
 made_at : (limit last : ℕ) (front : List AnyCall) (call : AnyCall) (more : List AnyCall)
@@ -72,24 +68,18 @@ pub record IsNextCall (limit : ℕ) (form : StrForm) (tells : CfId → Telling) 
   pub number : told.no ≡ any_length (any_next form tells (any_take n entries) (conn by) asked)
   pub answer : told ≡ any_told form tells (any_take n entries) (conn by) asked
 
-pub is_next_call : (limit : ℕ) (form : StrForm) (tells : CfId → Telling) (entries : AnyHistory) (callers by : ℕ)
-    (spot : Spot) (asked : AnyAsk) (told : Told) (reply : AnyReply)
-    → IsAnyLegal form entries → AreAnyAsTold form tells entries → AreMadeBelow limit 0 (any_numbers entries)
-    → FitsAt form entries callers (called by asked told reply spot)
-    → IsNextCall limit form tells entries by (end_of spot.events) asked told
+pub is_next_call : (limit : ℕ) (form : StrForm) (tells : CfId → Telling) (entries : AnyHistory)
+    (callers by : ℕ) (spot : Spot) (asked : AnyAsk) (told : Told) (reply : AnyReply) → IsAnyLegal form entries
+    → AreAnyAsTold form tells entries → AreMadeBelow limit 0 (any_numbers entries) → FitsAt form entries
+    callers (called by asked told reply spot) → IsNextCall limit form tells entries by (end_of spot.events) asked told
 is_next_call limit form tells entries callers by spot asked told reply legal as_told made fits =
-    let calls : any_calls entries ≡ spot.events ++ event by asked told ∷ fits.more =
-    fits.calls ∙ append_assoc spot.events (event by asked told ∷ []) fits.more in
-    let next : IsNextOf form tells entries (any_take (end_of spot.events) entries) (event by asked told) =
-    next_call form tells entries legal as_told spot.events (event by asked told) fits.more calls in
-    let numbers : any_numbers entries ≡ numbers_of (spot.events ++ event by asked told ∷ fits.more) =
-    sym (numbers_any entries) ∙ ap numbers_of calls in
-    let front : IsFrontOf entries spot.events =
-    front_of form entries legal spot.events (event by asked told ∷ fits.more) calls in
+    let calls = fits.calls ∙ append_assoc spot.events (event by asked told ∷ []) fits.more in
+    let next = next_call form tells entries legal as_told spot.events (event by asked told) fits.more calls in
+    let numbers = sym (numbers_any entries) ∙ ap numbers_of calls in
+    let front = front_of form entries legal spot.events (event by asked told ∷ fits.more) calls in
     record {
       size = front.size;
-      room = made_at limit 0 spot.events (event by asked told) fits.more
-          (subst (AreMadeBelow limit 0) numbers made);
+      room = made_at limit 0 spot.events (event by asked told) fits.more (subst (AreMadeBelow limit 0) numbers made);
       next = next.next;
       number = next.number;
       answer = next.answer;
@@ -119,7 +109,6 @@ pub heard_is : (callers by : ℕ) (spot : Spot) → by ≤ callers → IsKnown c
 heard_is callers by spot caller known = grind (arith, same_number, LastKnows)
 
 -- who hears of complete calls alone has seen all of them complete
-pub heard_complete : (callers by : ℕ) (spot : Spot) → by ≤ callers → IsKnown callers spot
-    → ((c : ConnId) → spot.last ≡ Some c → (spot.passes c.0).sure ≡ spot.front)
-    → (heard_pass by spot).sure ≡ (heard_pass by spot).known
+pub heard_complete : (callers by : ℕ) (spot : Spot) → by ≤ callers → IsKnown callers spot → ((c : ConnId) →
+    spot.last ≡ Some c → (spot.passes c.0).sure ≡ spot.front) → (heard_pass by spot).sure ≡ (heard_pass by spot).known
 heard_complete callers by spot caller known complete = grind (arith, same_number, LastKnows)

@@ -1,8 +1,13 @@
 -- A floor of a board: as it begins, as one caller changes or hears, and as who acted last changes.
-use Rattle.plex_agent.proofs.Imports.{◌≡◌, ◌≢◌, ℕ, ◌+◌, ◌<◌, ◌≤◌, ◌==◌, Bool, true, false, if◌then◌else◌, List, ◌∷◌, ◌++◌, [], append_assoc, append-nil, drop, replicate, length, length-append, Option, Some, None, get_or, set, refl, sym, ◌∙◌, ap, subst, arith, drop-cons, set-append_seam, map-set_same, get_or-append_seam, add-one, eqb-true, get_or_read, get_or_append_left, set-append_left, set-get_or, length-replicate, replicate_more, All-replicate, All-get_or, slice_get_within, slice_get-get_or, get_or_from_slice_get, CONNECTORS, ConnId, StrNo, Transcript, NoteShown, note_of, with_note, DeskShown, no_pass, fixed_of, pass_at, with_pass, BoardShown, IsDeskOf, IsTrayOf, no_notes, AtWork, Floor, no_worker, new_floor, worker_of, with_worker, heard_from_last, heard_from, told_by, IsFloorOf, crew_of}
-use Rattle.std.proofs.Common.{unwrap_or}
+use Rattle.plex_agent.proofs.Imports.{◌≡◌, ◌≢◌, ℕ, ◌+◌, ◌<◌, ◌≤◌, ◌==◌, Bool, true, false, if◌then◌else◌, List, ◌∷◌, ◌++◌, [], append_assoc, append-nil, drop, replicate, length, length-append, Option, Some, None, get_or, set, refl, sym, ◌∙◌, ap, subst, arith, drop-cons, set-append_seam, map-set_same, get_or-append_seam, add-one, eqb-true, get_or_read, get_or_append_left, set-append_left, set-get_or, length-replicate, replicate_more, slice_get_within, slice_get-get_or, get_or_from_slice_get, CONNECTORS, ConnId, StrNo, Transcript, NoteShown, note_of, with_note, DeskShown, no_pass, fixed_of, pass_at, with_pass, BoardShown, IsDeskOf, IsTrayOf, no_notes, AtWork, Floor, no_worker, new_floor, worker_of, with_worker, heard_from_last, heard_from, told_by, IsFloorOf, crew_of, get_or-replicate, slice_get}
 use Rattle.std.proofs.Math.ListN.{length-set}
+use Rattle.std.proofs.lemmas.List.{drop_all}
 use Rattle.plex_agent.proofs.SeatedLaws.{own_desk, callers-set, slice_get-set, new_callers}
+use Rattle.plex_agent.proofs.Lookups.{some_same}
+
+replicate_is : {X : Type 0} (n x : ℕ) (y z : X) → slice_get (replicate n y) x ≡ Some z → z ≡ y
+replicate_is n x y z there = sym (get_or_from_slice_get (replicate n y) x z z there)
+    ∙ get_or-replicate n x y z (omega (arith, slice_get_within (replicate n y) x z there, length-replicate n y))
 
 -- a caller's work that is put where it stands
 pub same_worker : (floor : Floor) (by : ConnId) → with_worker by (worker_of floor by) floor ≡ floor
@@ -45,15 +50,7 @@ module _ {L : Type 0} (board : BoardShown L) (floor : Floor) (fits : IsFloorOf b
     few = fits.few;
     tray = fits.tray;
     places = length-replicate (length floor.last) (Some by) ∙ fits.places;
-    actors = λ x conn at.
-        let all = All-replicate (λ (o : Option ConnId). o ≡ Some by) (length floor.last) (Some by) refl in
-        let many = replicate (length floor.last) (Some by) in
-        let here : get_or many x (Some conn) ≡ Some by =
-        All-get_or (λ (o : Option ConnId). o ≡ Some by) many x (Some conn)
-        (slice_get_within many x (Some conn) at) all in
-        let same : Some conn ≡ Some by = sym (get_or_from_slice_get many x (Some conn) (Some conn) at) ∙ here in
-        let it : conn ≡ by = ap (λ (o : Option ConnId). unwrap_or o by) same in
-        subst (λ (c : ConnId). c.0 ≤ board.callers) (sym it) within;
+    actors = λ x conn at. subst (λ c. c.0 ≤ board.callers) (sym (some_same _ _ (replicate_is _ x _ _ at))) within;
   }
 
   -- ---- hearings
@@ -63,14 +60,14 @@ module _ {L : Type 0} (board : BoardShown L) (floor : Floor) (fits : IsFloorOf b
       → IsFloorOf board (with_worker by (told_by floor on other (worker_of floor by)) floor)
   told_fits by other on within =
       let own = own_desk board floor.workers fits.workers by within in
-      worker_fits by (told_by floor on other (worker_of floor by))
-      (map-set_same fixed_of (worker_of floor by).desk.passes on.0 _ no_pass refl ∙ own.0) own.1
+      worker_fits _ _ (map-set_same fixed_of (worker_of floor by).desk.passes on.0 _ no_pass refl ∙ own.0) own.1
 
   pub heard_fits : (by : ConnId) (on : StrNo) → by.0 ≤ board.callers
       → IsFloorOf board (with_worker by (heard_from_last floor by (worker_of floor by) on) floor)
   heard_fits by on within = from (get_or floor.last on.0 None)
     where
-      from : (o : Option ConnId) → IsFloorOf board (with_worker by (heard_from floor by on o (worker_of floor by)) floor)
+      from : (o : Option ConnId)
+          → IsFloorOf board (with_worker by (heard_from floor by on o (worker_of floor by)) floor)
       from None = subst (IsFloorOf board) (sym (same_worker floor by)) fits
       from (Some other) = go (other.0 == by.0)
         where
@@ -89,13 +86,7 @@ new_floor_fits board few tray_is_of = record {
   tray = tray_is_of;
   places = length-replicate (length board.cells) None;
   actors = λ x conn there.
-      let many : List (Option ConnId) = replicate (length board.cells) None in
-      let all = All-replicate (λ (o : Option ConnId). o ≡ None) (length board.cells) None refl in
-      let here : get_or many x (Some conn) ≡ None =
-      All-get_or (λ (o : Option ConnId). o ≡ None) many x (Some conn)
-      (slice_get_within many x (Some conn) there) all in
-      let same : Some conn ≡ None = sym (get_or_from_slice_get many x (Some conn) (Some conn) there) ∙ here in
-      cc;
+      let same : Some conn ≡ None = replicate_is (length board.cells) x None (Some conn) there in cc;
 }
 
 -- ---- two elements of a list that was cut in two between them
@@ -121,18 +112,15 @@ module _ {X : Type 0} (xs low : List X) (d x y x' : X) where
 
 -- ---- a list that is written from its front on
 
-pub filled_more : {X : Type 0} (xs : List X) (old : List X) (n : ℕ) (y : X) → xs ≡ replicate n y ++ drop n old
-    → n < length old
-    → set xs n y ≡ replicate (n + 1) y ++ drop (n + 1) old
+pub filled_more : {X : Type 0} (xs : List X) (old : List X) (n : ℕ) (y : X)
+    → xs ≡ replicate n y ++ drop n old → n < length old → set xs n y ≡ replicate (n + 1) y ++ drop (n + 1) old
 filled_more xs old n y is below =
     let at_end : drop n old ≡ get_or old n y ∷ drop (n + 1) old = rw add-one (drop-cons old n y below) in
     let front = replicate n y in
     let rest = drop (n + 1) old in
-    ap (λ (l : List _). set l n y) (is ∙ ap (λ (l : List _). front ++ l) at_end)
-    ∙ ap (λ (k : ℕ). set (front ++ get_or old n y ∷ rest) k y) (sym (length-replicate n y))
-    ∙ set-append_seam front (get_or old n y) rest y
-    ∙ sym (append_assoc front (y ∷ []) rest)
-    ∙ ap (λ (l : List _). l ++ rest) (replicate_more n y)
+    ap (λ (l : List _). set l n y) (is ∙ ap (λ (l : List _). front ++ l) at_end) ∙ ap (λ (k : ℕ). set (front ++ get_or
+    old n y ∷ rest) k y) (sym (length-replicate n y)) ∙ set-append_seam front (get_or old n y) rest y
+    ∙ sym (append_assoc front (y ∷ []) rest) ∙ ap (λ (l : List _). l ++ rest) (replicate_more n y)
 
 -- ---- one caller within a floor
 
@@ -143,83 +131,88 @@ pub record HasDesk {L : Type 0} (board : BoardShown L) (floor : Floor) (by : Con
   pub fits : IsDeskOf board desk
   pub own : desk.owner ≡ by
 
+-- what one caller knows of a structure, told to another
+abbrev pub told : StrNo → AtWork → AtWork → AtWork
+told on from worker = record worker
+    { desk = with_pass on (with_note (note_of (pass_at from.desk on)) (pass_at worker.desk on)) worker.desk }
+
 module _ (workers : List AtWork) (tray : List (Option NoteShown)) (last : List (Option ConnId)) (floor : Floor)
     (is : (let it : Floor = record { workers = workers; tray = tray; last = last } in it) ≡ floor) (by : ConnId)
     (at : ℕ) (at_is : at ≡ by.0) where
   -- as the caller is found
   pub has_desk : {L : Type 0} (board : BoardShown L) (desk : DeskShown) (shown : Transcript) (worker : AtWork)
-      → IsFloorOf board floor → by.0 ≤ board.callers
-      → (let it : AtWork = record { desk = desk; shown = shown } in it) ≡ worker → worker ≡ get_or workers at worker
-      → HasDesk board floor by desk shown
+      → IsFloorOf board floor → by.0 ≤ board.callers → (let it : AtWork = record { desk = desk; shown = shown }
+      in it) ≡ worker → worker ≡ get_or workers at worker → HasDesk board floor by desk shown
   has_desk board desk shown worker fits within view found =
       let counted = fits.workers.callers in
       let inside : by.0 < length floor.workers = omega arith in
-      let there : worker ≡ get_or floor.workers by.0 worker =
-      found ∙ ap (λ (f : Floor). get_or f.workers at worker) is
-      ∙ ap (λ (n : ℕ). get_or floor.workers n worker) at_is in
+      let there = found ∙ ap (λ f. get_or f.workers at worker) is ∙ ap (λ n. get_or floor.workers n worker) at_is in
       let same : worker_of floor by ≡ (let it : AtWork = record { desk = desk; shown = shown } in it) =
       sym (get_or_read floor.workers by.0 worker inside there no_worker) ∙ sym view in
       let own = own_desk board floor.workers fits.workers by within in
       record {
         is = same;
-        fits = subst (λ (w : AtWork). IsDeskOf board w.desk) same own.0;
-        own = ap (λ (w : AtWork). w.desk.owner) (sym same) ∙ own.1;
+        fits = subst (λ w. IsDeskOf board w.desk) same own.0;
+        own = ap (λ w. w.desk.owner) (sym same) ∙ own.1;
       }
 
   -- as the caller is changed, and the tray
-  pub changed : (worker : AtWork) (tray' : List (Option NoteShown))
-      → (let it : Floor = record { workers = set workers at worker; tray = tray'; last = last } in it)
-      ≡ record (with_worker by worker floor) { tray = tray' }
+  pub changed : (worker : AtWork) (tray' : List (Option NoteShown)) → (let it : Floor = record {
+    workers = set
+        workers at worker;
+    tray = tray';
+    last = last;
+  } in it) ≡ record (with_worker by worker floor) { tray = tray' }
   changed worker tray' = grind arith
 
   -- and nothing else
-  pub changed_only : (worker : AtWork)
-      → (let it : Floor = record { workers = set workers at worker; tray = tray; last = last } in it)
-      ≡ with_worker by worker floor
+  pub changed_only : (worker : AtWork) → (let it : Floor =
+      record { workers = set workers at worker; tray = tray; last = last } in it) ≡ with_worker by worker floor
   changed_only worker = grind (arith, changed)
+
+  -- the one who acted on the structure last told what it knows
+  pub hears : (workers' : List AtWork) (other : ConnId) (on : StrNo) (x y : AtWork) (from : ℕ) → from ≡ other.0
+      → workers' ≡ set workers at (told on y x) → get_or workers at no_worker ≡ x → get_or workers from no_worker ≡ y
+      → get_or floor.last on.0 None ≡ Some other → other.0 ≢ by.0 → (let it : Floor = record {
+        workers = workers';
+        tray = tray;
+        last = last;
+      } in it) ≡ with_worker by (heard_from_last floor by (worker_of floor by) on) floor
+  hears workers' other on x y from from_is changes x_is y_is read apart = grind (arith, changed_only, eqb-true)
+
+  -- the caller changed, and has acted on every structure
+  pub changed_all : (worker : AtWork) (last' items old : List (Option ConnId)) (n : ℕ)
+      → last' ≡ items → items ≡ replicate n (Some by) ++ drop n old → length old ≤ n → n ≤ length old → old ≡ last
+      → (let it : Floor = record { workers = set workers at worker; tray = tray; last = last' } in it)
+      ≡ record (with_worker by worker floor) { last = replicate (length floor.last) (Some by) }
+  changed_all worker last' items old n last_is items_are over under old_is =
+      grind (arith, drop_all, append-nil, changed_only)
 
 -- the caller's desk changed, and is its own still
 pub changed_fits : {L : Type 0} (board : BoardShown L) (floor after : Floor) (by : ConnId) (desk : DeskShown)
-    (shown : Transcript) (worker : AtWork) → IsFloorOf board floor → HasDesk board floor by desk shown
-    → after ≡ with_worker by worker floor → IsDeskOf board worker.desk → worker.desk.owner ≡ desk.owner
-    → IsFloorOf board after
+    (shown : Transcript) (worker : AtWork) → IsFloorOf board floor → HasDesk board floor by desk shown → after ≡
+    with_worker by worker floor → IsDeskOf board worker.desk → worker.desk.owner ≡ desk.owner → IsFloorOf board after
 changed_fits board floor after by desk shown worker fits has after_is right own =
     subst (IsFloorOf board) (sym after_is) (worker_fits board floor fits by worker right (own ∙ has.own))
 
 -- the caller of a line has acted on its structure
 pub acted : (workers : List AtWork) (tray : List (Option NoteShown)) (last : List (Option ConnId)) (floor : Floor)
     → (let it : Floor = record { workers = workers; tray = tray; last = last } in it) ≡ floor
-    → (by : ConnId) (on : StrNo) (at : ℕ) → at ≡ on.0
-    → (let it : Floor = record { workers = workers; tray = tray; last = set last at (Some by) } in it)
-    ≡ record floor { last = set floor.last on.0 (Some by) }
+    → (by : ConnId) (on : StrNo) (at : ℕ) → at ≡ on.0 → (let it : Floor = record {
+      workers = workers;
+      tray = tray;
+      last = set last at (Some by);
+    } in it) ≡ record floor { last = set floor.last on.0 (Some by) }
 acted workers tray last floor is by on at at_is = grind arith
 
--- what one caller knows of a structure, told to another
-abbrev pub told : StrNo → AtWork → AtWork → AtWork
-told on from worker =
-    record worker { desk = with_pass on (with_note (note_of (pass_at from.desk on)) (pass_at worker.desk on)) worker.desk }
-
--- the one who acted on the structure last told what it knows
-pub hears : (workers workers' : List AtWork) (tray : List (Option NoteShown)) (last : List (Option ConnId))
+module _ {L : Type 0} (board : BoardShown L)
+    (workers workers' low high : List AtWork) (tray : List (Option NoteShown)) (last : List (Option ConnId))
     (floor : Floor) (is : (let it : Floor = record { workers = workers; tray = tray; last = last } in it) ≡ floor)
-    (by other : ConnId) (on : StrNo) (x y : AtWork) (at from : ℕ) → at ≡ by.0 → from ≡ other.0
-    → workers' ≡ set workers at (told on y x)
-    → get_or workers at no_worker ≡ x → get_or workers from no_worker ≡ y
-    → get_or floor.last on.0 None ≡ Some other → other.0 ≢ by.0
-    → (let it : Floor = record { workers = workers'; tray = tray; last = last } in it)
-    ≡ with_worker by (heard_from_last floor by (worker_of floor by) on) floor
-hears workers workers' tray last floor is by other on x y at from at_is from_is changes x_is y_is read apart =
-    grind (arith, changed_only, eqb-true)
-
-module _ {L : Type 0} (board : BoardShown L) (workers workers' low high : List AtWork) (tray : List (Option NoteShown))
-    (last : List (Option ConnId)) (floor : Floor)
-    (is : (let it : Floor = record { workers = workers; tray = tray; last = last } in it) ≡ floor)
     (fits : IsFloorOf board floor) (by other : ConnId) (on : StrNo) (o : Option ConnId) (n to from : ℕ)
     (x y r s : AtWork) (desk desk' : DeskShown) (place : on.0 < length board.cells) (n_is : n ≡ on.0)
     (o_found : o ≡ get_or last n o) (o_is : o ≡ Some other) (within : by.0 ≤ board.callers) (to_is : to ≡ by.0)
-    (from_is : from ≡ other.0) (whole : workers ≡ low ++ high) (x_is : x ≡ r) (y_is : y ≡ s)
-    (tells : desk ≡ with_pass on (with_note (note_of (pass_at y.desk on)) (pass_at x.desk on)) x.desk)
-    (kept : desk' ≡ y.desk) where
+    (from_is : from ≡ other.0) (whole : workers ≡ low ++ high) (x_is : x ≡ r) (y_is : y ≡ s) (tells : desk ≡ with_pass
+    on (with_note (note_of (pass_at y.desk on)) (pass_at x.desk on)) x.desk) (kept : desk' ≡ y.desk) where
   read_last : get_or floor.last on.0 None ≡ Some other
   read_last = grind (arith, get_or_read)
 
@@ -266,17 +259,3 @@ pub new_floor_is : {L : Type 0} (board : BoardShown L) (workers : List AtWork) (
     → n ≡ length board.cells
     → (let it : Floor = record { workers = workers; tray = tray; last = last } in it) ≡ new_floor board
 new_floor_is board workers tray last n workers_are tray_is last_is n_is = grind arith
-
-drop_all : {X : Type 0} (xs : List X) → drop (length xs) xs ≡ []
-drop_all [] = refl
-drop_all (x ∷ xs) = drop_all xs
-
--- one caller changed, and has acted on every structure
-pub changed_all : (workers : List AtWork) (tray : List (Option NoteShown)) (last : List (Option ConnId)) (floor : Floor)
-    → (let it : Floor = record { workers = workers; tray = tray; last = last } in it) ≡ floor
-    → (by : ConnId) (at : ℕ) → at ≡ by.0 → (worker : AtWork) (last' items old : List (Option ConnId)) (n : ℕ)
-    → last' ≡ items → items ≡ replicate n (Some by) ++ drop n old → length old ≤ n → n ≤ length old → old ≡ last
-    → (let it : Floor = record { workers = set workers at worker; tray = tray; last = last' } in it)
-    ≡ record (with_worker by worker floor) { last = replicate (length floor.last) (Some by) }
-changed_all workers tray last floor is by at at_is worker last' items old n last_is items_are over under old_is =
-    grind (arith, drop_all, append-nil, changed_only)

@@ -8,7 +8,8 @@ pub later_then : (first second third : PassShown) → IsLater first second → I
 later_then first second third one two = grind arith
 
 pub hears_none : (worker : AtWork) → Hears worker worker
-hears_none worker = record { owner = refl; passes = refl; later = λ on. later_same (pass_at worker.desk on); shown = refl }
+hears_none worker =
+    record { owner = refl; passes = refl; later = λ on. later_same (pass_at worker.desk on); shown = refl }
 
 pub hears_then : (first second third : AtWork) → Hears first second → Hears second third → Hears first third
 hears_then first second third one two = grind (arith, later_then)

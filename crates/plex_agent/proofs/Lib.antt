@@ -1,6 +1,5 @@
 pub use Rattle.plex_board.proofs.CfLists as CfLists
 pub mod Imports
-pub mod StepLaws
 pub mod CellLaws
 pub mod AskLaws
 pub mod CallerLaws
@@ -9,7 +8,6 @@ pub mod CrewLaws
 pub mod FloorLaws
 pub mod PlayLaws
 pub mod RunLaws
-pub mod TestLaws
 pub mod Spots
 pub mod Fits
 pub mod Agreements
@@ -22,7 +20,6 @@ pub mod Turned
 pub mod LineTurns
 pub mod LineRuns
 pub mod ExactClosings
-pub mod ExactBeginnings
 pub mod ExactLaw
 pub mod LinkRuns
 pub mod Fronts

@@ -2,11 +2,9 @@
 use Rattle.plex_agent.proofs.Imports.{◌≡◌, ℕ, zero, suc, ◌+◌, ◌*◌, ◌-◌, ◌≤◌, ◌<◌, List, [], ◌∷◌, ◌++◌, length, map, slice_get, Option, Some, refl, sym, ap, subst, ◌∙◌, arith, append_assoc, unwrap_or, flat_map, length-map, slice_get_within, IsFacility, StrForm, CfId, Links, Telling, AreAsked, IsAskedAll, link_at, TellsEnough, asked_faults, asked_calls, asked_told, trues, marks_counted, cache_meaning, list_meaning, lock_meaning, AnyHistory, IsAnyLegal, AreAnyAsTold, any_answers, any_marks_at, links_told, link_place, AreTelling, IsLinkOf, AreRunLinks, CellShown, BoardShown, AreEachAsked, AreLinksAsked, four_of, links_of}
 use Rattle.plex_board.specs.CfLink.Links.{Tells}
 use Rattle.plex_board.specs.PlexScript.declared.asks.AnyHistory.TheVariants as history
+use Rattle.plex_agent.proofs.Lookups.{some_same, get_mapped}
 
 -- ---- places
-
-some_is : {X : Type 0} (x y : X) → Some x ≡ Some y → x ≡ y
-some_is x y e = ap (λ (o : Option _). unwrap_or o x) e
 
 module _ {L : Type 0} where
   place_here : (links : Links L) (others : List L) (n : ℕ) → 1 ≤ n → n ≤ 4
@@ -37,25 +35,15 @@ module _ {L : Type 0} where
 
   links_split : (cell : CellShown L) (cells : List (CellShown L)) (spare : List L)
       → all_links (cell ∷ cells) spare ≡ four_of cell.links ++ all_links cells spare
-  links_split cell cells spare =
-      append_assoc (four_of cell.links) (flat_map (λ (cell : CellShown L). four_of cell.links) cells) spare
+  links_split cell cells spare = append_assoc (four_of cell.links) (flat_map (λ cell. four_of cell.links) cells) spare
 
   cell_link : (cells : List (CellShown L)) (spare : List L) (x : ℕ) (cell : CellShown L) (cf : CfId)
       → slice_get cells x ≡ Some cell → IsFacility cf
       → slice_get (all_links cells spare) (link_place x cf) ≡ Some (link_at cell.links cf)
-  cell_link [] spare zero cell cf e is = absurd cc
-  cell_link [] spare (suc x) cell cf e is = absurd cc
-  cell_link (first ∷ cells) spare zero cell cf e is = grind (arith, some_is, links_split, place_first)
+  cell_link [] spare x cell cf e is = absurd (omega (arith, slice_get_within [] x cell e))
+  cell_link (first ∷ cells) spare zero cell cf e is = grind (arith, some_same, links_split, place_first)
   cell_link (first ∷ cells) spare (suc x) cell cf e is =
       grind (arith, links_split, place_later, cell_link cells spare x cell cf e is)
-
-  cell_of : (cells : List (CellShown L)) (x : ℕ) (form : StrForm)
-      → slice_get (map (λ (cell : CellShown L). cell.form) cells) x ≡ Some form
-      → (cell : CellShown L) × (slice_get cells x ≡ Some cell) × (cell.form ≡ form)
-  cell_of [] zero form e = absurd cc
-  cell_of [] (suc x) form e = absurd cc
-  cell_of (cell ∷ cells) zero form e = (cell, refl, some_is cell.form form e)
-  cell_of (cell ∷ cells) (suc x) form e = cell_of cells x form e
 
   module _ (calls : L → Option ℕ) (downs : L → Option (List ℕ)) (faults : L → ℕ) where
     -- the links of a structure once its cell was closed
@@ -64,31 +52,27 @@ module _ {L : Type 0} where
       pub are : AreAsked calls downs faults (any_answers cell.form entries) cell.links asked
       pub at : (cf : CfId) → IsFacility cf → slice_get new (link_place x cf) ≡ Some (link_at asked cf)
 
-    asked_at : (cells : List (CellShown L)) (histories : List AnyHistory) (spare new : List L)
-        → AreEachAsked calls downs faults cells histories spare new → (x : ℕ) (cell : CellShown L) (entries : AnyHistory)
+    asked_at : (cells : List (CellShown L)) (histories : List AnyHistory) (spare new : List L) → AreEachAsked
+        calls downs faults cells histories spare new → (x : ℕ) (cell : CellShown L) (entries : AnyHistory)
         → slice_get cells x ≡ Some cell → slice_get histories x ≡ Some entries → IsAskedAt cell entries x new
-    asked_at [] histories spare new each zero cell entries there kept = absurd cc
-    asked_at [] histories spare new each (suc x) cell entries there kept = absurd cc
+    asked_at [] histories spare new each x cell entries there kept =
+        absurd (omega (arith, slice_get_within [] x cell there))
     asked_at (first ∷ cells) [] spare new each x cell entries there kept = absurd each
     asked_at (first ∷ cells) (one ∷ histories) spare new each zero cell entries there kept =
-        let same : first ≡ cell = some_is first cell there in
-        let same' : one ≡ entries = some_is one entries kept in
-        subst (λ (c : CellShown L). IsAskedAt c entries 0 new) same
-        (subst (λ (h : AnyHistory). IsAskedAt first h 0 new) same' (record {
+        let same = some_same _ _ there in
+        let same' = some_same _ _ kept in
+        subst (λ c. IsAskedAt c entries 0 new) same (subst (λ h. IsAskedAt first h 0 new) same' (record {
           asked = each.0;
           are = each.3;
-          at = λ cf is.
-              ap (λ (links : List L). slice_get links (link_place 0 cf)) each.2 ∙ place_first each.0 each.1 cf is;
+          at = λ cf is. ap (λ links. slice_get links (link_place 0 cf)) each.2 ∙ place_first _ _ _ is;
         }))
     asked_at (first ∷ cells) (one ∷ histories) spare new each (suc x) cell entries there kept =
-        let rest : IsAskedAt cell entries x each.1 =
-        asked_at cells histories spare each.1 each.4 x cell entries there kept in
+        let rest = asked_at cells histories spare each.1 each.4 x cell entries there kept in
         record {
           asked = rest.asked;
           are = rest.are;
-          at = λ cf is.
-              ap (λ (links : List L). slice_get links (link_place (suc x) cf)) each.2
-              ∙ place_later each.0 each.1 x cf ∙ rest.at cf is;
+          at = λ cf is. ap (λ links. slice_get links (link_place (suc x) cf)) each.2 ∙ place_later _ _ x _
+              ∙ rest.at cf is;
         }
 
     each_size : (cells : List (CellShown L)) (histories : List AnyHistory) (spare new : List L)
@@ -106,11 +90,9 @@ module _ {L : Type 0} where
     each_spare (cell ∷ cells) (one ∷ histories) spare new each i past =
         let many : 4 + 4 * length cells ≤ i = omega (arith, past) in
         let e : i ≡ suc (suc (suc (suc (i - 4)))) = omega (arith, many) in
-        let rest : slice_get each.1 (i - 4) ≡ slice_get (all_links cells spare) (i - 4) =
-        each_spare cells histories spare each.1 each.4 (i - 4) (omega (arith, many)) in
-        ap (λ (links : List L). slice_get links i) each.2 ∙ behind_four each.0 each.1 i (i - 4) e ∙ rest
-        ∙ sym (behind_four cell.links (all_links cells spare) i (i - 4) e)
-        ∙ sym (ap (λ (links : List L). slice_get links i) (links_split cell cells spare))
+        let rest = each_spare cells histories spare each.1 each.4 (i - 4) (omega (arith, many)) in
+        ap (λ links. slice_get links i) each.2 ∙ behind_four _ _ i _ e
+        ∙ rest ∙ sym (behind_four _ _ i _ e) ∙ sym (ap (λ links. slice_get links i) (links_split cell cells spare))
 
 -- a history of whatever kind has as many marks of a facility as its link answered Down
 any_marks_counted : (form : StrForm) (entries : AnyHistory) → IsAnyLegal form entries → (cf : CfId)
@@ -121,9 +103,8 @@ any_marks_counted form (history.Lock entries) legal cf = marks_counted lock_mean
 
 module _ {L : Type 0} (calls : L → Option ℕ) (downs : L → Option (List ℕ)) (faults : L → ℕ)
     (enough : (link : L) → TellsEnough (calls link) (downs link)) where
-  link_of : (form : StrForm) (entries : AnyHistory) (cf : CfId) (old new : L) → IsAnyLegal form entries
-      → IsAskedAll calls downs faults (any_answers form entries cf) old new
-      → IsLinkOf calls downs faults form entries cf old new
+  link_of : (form : StrForm) (entries : AnyHistory) (cf : CfId) (old new : L) → IsAnyLegal form entries → IsAskedAll
+      calls downs faults (any_answers form entries cf) old new → IsLinkOf calls downs faults form entries cf old new
   link_of form entries cf old new legal asked =
       grind (arith, any_marks_counted, asked_faults, asked_calls, asked_told)
 
@@ -149,12 +130,11 @@ module _ {L : Type 0} (calls : L → Option ℕ) (downs : L → Option (List ℕ
 
     cell_at : (x : ℕ) (form : StrForm) → slice_get forms x ≡ Some form
         → (cell : CellShown L) × (slice_get board.cells x ≡ Some cell) × (cell.form ≡ form)
-    cell_at x form e = cell_of board.cells x form (ap (λ (fs : List StrForm). slice_get fs x) forms_are ∙ e)
+    cell_at x form e = get_mapped (λ cell. cell.form) _ x _ (ap (λ fs. slice_get fs x) forms_are ∙ e)
 
     old_at : (x : ℕ) (cell : CellShown L) (cf : CfId) → slice_get board.cells x ≡ Some cell → IsFacility cf
         → slice_get old (link_place x cf) ≡ Some (link_at cell.links cf)
-    old_at x cell cf there is =
-        ap (λ (links : List L). slice_get links (link_place x cf)) (sym old_are)
+    old_at x cell cf there is = ap (λ (links : List L). slice_get links (link_place x cf)) (sym old_are)
         ∙ cell_link board.cells board.spare x cell cf there is
 
     -- as many as there were
@@ -165,36 +145,32 @@ module _ {L : Type 0} (calls : L → Option ℕ) (downs : L → Option (List ℕ
     pub run_links : ((x : ℕ) (cell : CellShown L) (entries : AnyHistory) → slice_get board.cells x ≡ Some cell
         → slice_get histories x ≡ Some entries → IsAnyLegal cell.form entries)
         → AreRunLinks calls downs faults forms histories old new
-    run_links legal =
-        record {
-          size = links_size;
-          each = λ x form entries cf one other formed kept is before after.
-              let cell = cell_at x form formed in
-              let here : IsAskedAt calls downs faults cell.0 entries x new = asked_here x cell.0 entries cell.1 kept in
-              let one_is : link_at cell.0.links cf ≡ one = some_is _ _ (sym (old_at x cell.0 cf cell.1 is) ∙ before) in
-              let other_is : link_at here.asked cf ≡ other = some_is _ _ (sym (here.at cf is) ∙ after) in
-              subst (λ (f : StrForm). IsLinkOf calls downs faults f entries cf one other) cell.2
-              (subst (λ (l : L). IsLinkOf calls downs faults cell.0.form entries cf l other) one_is
-              (subst (λ (l : L). IsLinkOf calls downs faults cell.0.form entries cf (link_at cell.0.links cf) l) other_is
-              (link_of cell.0.form entries cf (link_at cell.0.links cf) (link_at here.asked cf)
-              (legal x cell.0 entries cell.1 kept) (here.are.asked cf is))));
-          others = λ x form entries cf formed kept other.
-              let cell = cell_at x form formed in
-              let here : IsAskedAt calls downs faults cell.0 entries x new = asked_here x cell.0 entries cell.1 kept in
-              subst (λ (f : StrForm). any_answers f entries cf ≡ []) cell.2 (here.are.others cf other);
-          spare = λ i past.
-              each_spare calls downs faults board.cells histories board.spare new asked i
-              (let few : 4 * length board.cells ≤ i = subst (λ (n : ℕ). 4 * n ≤ i) forms_length past in few)
-              ∙ ap (λ (links : List L). slice_get links i) old_are;
-        }
+    run_links legal = record {
+      size = links_size;
+      each = λ x form entries cf one other formed kept is before after.
+          let cell = cell_at x form formed in
+          let here = asked_here x cell.0 entries cell.1 kept in
+          let one_is = some_same _ _ (sym (old_at x cell.0 cf cell.1 is) ∙ before) in
+          let other_is = some_same _ _ (sym (here.at cf is) ∙ after) in
+          subst (λ f. IsLinkOf calls downs faults f entries cf one other) cell.2
+          (subst (λ l. IsLinkOf calls downs faults cell.0.form entries cf l other) one_is
+          (subst (λ l. IsLinkOf calls downs faults cell.0.form entries cf (link_at cell.0.links cf) l) other_is
+          (link_of cell.0.form entries cf (link_at cell.0.links cf) (link_at here.asked cf)
+          (legal x cell.0 entries cell.1 kept) (here.are.asked cf is))));
+      others = λ x form entries cf formed kept other.
+          let cell = cell_at x form formed in
+          let here = asked_here x cell.0 entries cell.1 kept in
+          subst (λ f. any_answers f entries cf ≡ []) cell.2 (here.are.others cf other);
+      spare = λ i past. each_spare calls downs faults board.cells histories board.spare new asked
+          i (let few = subst (λ n. 4 * n ≤ i) forms_length past in few) ∙ ap (λ links. slice_get links i) old_are;
+    }
 
     -- where they tell which calls are down, the histories are those of such links
     pub run_told : (told : ℕ → CfId → Telling) → AreTelling calls downs faults told (length forms) old
         → (x : ℕ) (cell : CellShown L) (entries : AnyHistory) → slice_get board.cells x ≡ Some cell
         → slice_get histories x ≡ Some entries → AreAnyAsTold cell.form (told x) entries
     run_told told telling x cell entries there kept =
-        let within : x < length forms =
-        omega (arith, slice_get_within board.cells x cell there, forms_length) in
+        let within : x < length forms = omega (arith, slice_get_within board.cells x cell there, forms_length) in
         let here : IsAskedAt calls downs faults cell entries x new = asked_here x cell entries there kept in
         any_links_told cell.form (told x) entries cell.links here.asked
         (λ cf is. telling x cf (link_at cell.links cf) within is (old_at x cell cf there is)) here.are

@@ -1,23 +1,15 @@
 -- What the steps of a line and of a closing come to.
-use Rattle.plex_agent.proofs.Imports.{◌≡◌, ◌≢◌, ℕ, zero, suc, ◌+◌, ◌-◌, ◌<◌, ◌≤◌, ◌==◌, Bool, true, false, if◌then◌else◌, MatchBool, List, [], ◌∷◌, ◌++◌, length, fold, drop, replicate, Option, Some, IfSome, Result, Ok, Err, OnOk, get_or, set, slice_set, refl, sym, ◌∙◌, ap, subst, arith, range_with_len, drop-cons, add-one, eqb-false, eqb-true, get_or-set_same, get_or-set_other, slice_get_within, StrForm, ConnId, StrNo, Act, Line, Shown, Transcript, PassShown, note_of, with_any_note, DeskShown, pass_at, with_pass, CellShown, BoardShown, cell_on, note_in, AtWork, Turns, Posts, with_item, IsLineFor, Floor, no_worker, worker_of, with_worker, heard_from_last, heard_all, worker_after_take, is_counted, is_working, PlaysAct, PlaysLine, PlaysLines, ClosesOne, ClosesAll, desk-length, pass_at-with_pass_same, IsTurn, TakesTurn, PlaysActOn, conns_from}
+use Rattle.plex_agent.proofs.Imports.{◌≡◌, ◌≢◌, ℕ, zero, suc, ◌+◌, ◌-◌, ◌<◌, ◌≤◌, ◌==◌, Bool, true, false, if◌then◌else◌, MatchBool, List, [], ◌∷◌, ◌++◌, length, fold, drop, replicate, Option, Some, IfSome, Result, Ok, Err, OnOk, get_or, set, slice_set, refl, sym, ◌∙◌, ap, subst, arith, range_with_len, drop-cons, add-one, eqb-false, eqb-true, get_or-set_same, get_or-set_other, slice_get_within, StrForm, ConnId, StrNo, Act, Line, Shown, Transcript, PassShown, note_of, with_any_note, DeskShown, pass_at, with_pass, CellShown, BoardShown, cell_on, note_in, AtWork, Turns, Posts, with_item, IsLineFor, Floor, no_worker, worker_of, with_worker, heard_from_last, heard_all, worker_after_take, is_counted, is_working, PlaysAct, PlaysLine, PlaysLines, ClosesOne, ClosesAll, desk-length, pass_at-with_pass_same, IsTurn, TakesTurn, PlaysActOn, conns_from, set-set}
 use Rattle.plex_board.specs.PlexScript.declared.scripts.Act.TheVariants as act
 use Rattle.plex_board.specs.PlexScript.declared.transcripts.Shown.TheVariants as shown
 use Rattle.plex_board.specs.Callers.{DepartsEach, Closes}
 use Rattle.plex_agent.proofs.FloorLaws.{HasDesk}
-
--- a fact of what is there
-pub if_there : {T : Type 0} (P : T → Type 0) (o : Option T) (x : T) → o ≡ Some x → IfSome o P → P x
-if_there P o x is fact = subst (λ (it : Option _). IfSome it P) is fact
+use Rattle.plex_agent.proofs.CellLaws.{some_is}
 
 -- a fact of an answer that came
 pub on_ok : {T E : Type 0} {P Q : Type 0} (r : Result T E) → (P → Q) → OnOk r P → OnOk r Q
 on_ok (Ok v) f p = f p
 on_ok (Err e) f p = p
-
-set-set : {X : Type 0} (xs : List X) (i : ℕ) (x y : X) → set (set xs i x) i y ≡ set xs i y
-set-set [] i x y = refl
-set-set (z ∷ xs) zero x y = refl
-set-set (z ∷ xs) (suc i) x y = ap (λ (rest : List _). z ∷ rest) (set-set xs i x y)
 
 -- of a caller's work the last that is put stands
 pub put_twice : (floor : Floor) (by : ConnId) (first second : AtWork)
@@ -31,21 +23,20 @@ worker_put floor by worker inside = get_or-set_same floor.workers by.0 worker no
 -- ---- lines
 
 -- what a caller does in its turn, where its line is counted or not
-turn_played : {L : Type 0} (cell : CellShown L) (line : Line) (counted : Bool) (before after : Floor) (worker : AtWork)
-    → IsTurn line.act → counted ≡ is_counted cell.form line.act
-    → Turns cell.limit cell.form line (if counted then heard_from_last before line.by (worker_of before line.by) line.on
-    else worker_of before line.by) worker
-    → after ≡ record (with_worker line.by worker before)
-    { last = if counted then slice_set before.last line.on.0 (Some line.by) else before.last }
-    → PlaysAct cell line line.act before after
+turn_played : {L : Type 0} (cell : CellShown L) (line : Line) (counted : Bool) (before after : Floor)
+    (worker : AtWork) → IsTurn line.act → counted ≡ is_counted cell.form line.act → Turns cell.limit cell.form line
+    (if counted then heard_from_last before line.by (worker_of before line.by) line.on else worker_of before line.by)
+    worker → after ≡ record (with_worker line.by worker before) {
+      last = if counted then slice_set
+          before.last line.on.0 (Some line.by) else before.last;
+    } → PlaysAct cell line line.act before after
 turn_played {L} cell line counted before after worker is_turn counted_is turned after_is = grind arith
 
-module _ {L : Type 0} (board : BoardShown L) (line : Line) (bits : ℕ)
-    (bits_are : IfSome (cell_on board line.on) (λ cell. bits ≡ cell.form.vector)) (counted : Bool)
-    (counted_is : (form : StrForm) → form.vector ≡ bits → counted ≡ is_counted form line.act)
-    (is_turn : IsTurn line.act) where
+module _ {L : Type 0} (board : BoardShown L) (line : Line) (bits : ℕ) (bits_are : IfSome
+    (cell_on board line.on) (λ cell. bits ≡ cell.form.vector)) (counted : Bool) (counted_is : (form : StrForm)
+    → form.vector ≡ bits → counted ≡ is_counted form line.act) (is_turn : IsTurn line.act) where
   is_counted_at : (cell : CellShown L) → cell_on board line.on ≡ Some cell → counted ≡ is_counted cell.form line.act
-  is_counted_at cell there = grind (arith, if_there)
+  is_counted_at cell there = grind (arith, some_is)
 
   -- a line that isn't counted is the caller's turn alone
   pub plays_uncounted : (before after : Floor) → counted ≡ false → TakesTurn board line before after
@@ -60,33 +51,27 @@ module _ {L : Type 0} (board : BoardShown L) (line : Line) (bits : ℕ)
   -- one that is counted comes behind what the caller hears, and the caller has then acted last
   pub plays_counted : (before told worked after : Floor) → counted ≡ true → line.by.0 < length before.workers
       → told ≡ with_worker line.by (heard_from_last before line.by (worker_of before line.by) line.on) before
-      → TakesTurn board line told worked
-      → after ≡ record worked { last = slice_set worked.last line.on.0 (Some line.by) }
-      → PlaysActOn board line line.act before after
+      → TakesTurn board line told worked → after ≡ record worked
+      { last = slice_set worked.last line.on.0 (Some line.by) } → PlaysActOn board line line.act before after
   plays_counted before told worked after is inside told_is took after_is =
       let heard = heard_from_last before line.by (worker_of before line.by) line.on in
-      let worked_is : worked ≡ with_worker line.by took.worker before =
-      took.others ∙ ap (λ (f : Floor). with_worker line.by took.worker f) told_is
-      ∙ put_twice before line.by heard took.worker in
+      let worked_is = took.others
+      ∙ ap (λ f. with_worker line.by took.worker f) told_is ∙ put_twice before line.by heard took.worker in
       record {
         cell = took.cell;
         there = took.there;
-        played = turn_played took.cell line true before after took.worker is_turn
-            (sym is ∙ is_counted_at took.cell took.there)
-            (subst (λ (w : AtWork). Turns took.cell.limit took.cell.form line w took.worker)
-            (ap (λ (f : Floor). worker_of f line.by) told_is ∙ worker_put before line.by heard inside) took.turned)
-            (after_is ∙ ap (λ (f : Floor). (let it : Floor = record f
-            { last = slice_set f.last line.on.0 (Some line.by) } in it)) worked_is);
+        played = turn_played took.cell line true before after took.worker is_turn (sym is ∙ is_counted_at
+            took.cell took.there) (subst (λ w. Turns took.cell.limit took.cell.form line w took.worker)
+            (ap (λ f. worker_of f line.by) told_is ∙ worker_put before line.by heard inside) took.turned) (after_is
+            ∙ ap (λ f. (let it = record f { last = slice_set f.last line.on.0 (Some line.by) } in it)) worked_is);
       }
 
 module _ {L : Type 0} (board : BoardShown L) (line : Line) (before after : Floor) (desk desk' : DeskShown)
     (seen : Transcript) (right : IsLineFor board line) (has : HasDesk board before line.by desk seen) where
   -- the caller of a line took its turn
-  pub takes_turn : (seen' : Transcript)
-      → IfSome (cell_on board line.on) (λ cell. Turns cell.limit cell.form line (record { desk = desk; shown = seen })
-      (record { desk = desk'; shown = seen' }))
-      → after ≡ with_worker line.by (record { desk = desk'; shown = seen' }) before
-      → TakesTurn board line before after
+  pub takes_turn : (seen' : Transcript) → IfSome (cell_on board line.on) (λ cell. Turns cell.limit cell.form
+      line (record { desk = desk; shown = seen }) (record { desk = desk'; shown = seen' })) → after ≡ with_worker
+      line.by (record { desk = desk'; shown = seen' }) before → TakesTurn board line before after
   takes_turn seen' turned after_is =
       let worker : AtWork = record { desk = desk'; shown = seen' } in
       record {
@@ -94,17 +79,18 @@ module _ {L : Type 0} (board : BoardShown L) (line : Line) (before after : Floor
         there = right.there;
         worker = worker;
         turned = subst (λ (w : AtWork). Turns right.cell.limit right.cell.form line w worker) (sym has.is)
-            (if_there (λ (cell : CellShown L). Turns cell.limit cell.form line (record { desk = desk; shown = seen })
+            (some_is (λ (cell : CellShown L). Turns cell.limit cell.form line (record { desk = desk; shown = seen })
             worker) (cell_on board line.on) right.cell right.there turned);
         others = after_is;
       }
 
   -- it posted a note
   pub posts : (items : List Shown) (sure : ℕ) → desk' ≡ desk → sure ≡ (pass_at desk line.on).sure
-      → sure ≤ (pass_at desk line.on).known → items ≡ seen.items ++ shown.Posted line.on sure ∷ []
-      → after ≡ record (with_worker line.by (record { desk = desk'; shown = record seen { items = items } }) before)
-      { tray = slice_set before.tray line.on.0 (Some (note_of (pass_at desk line.on))) }
-      → PlaysActOn board line act.Post before after
+      → sure ≤ (pass_at desk line.on).known → items ≡ seen.items ++ shown.Posted line.on sure ∷ [] → after ≡ record
+      (with_worker line.by (record { desk = desk'; shown = record seen { items = items } }) before) {
+        tray = slice_set
+            before.tray line.on.0 (Some (note_of (pass_at desk line.on)));
+      } → PlaysActOn board line act.Post before after
   posts items sure desk_is sure_is known items_are after_is =
       let worker : AtWork = record { desk = desk'; shown = record seen { items = items } } in
       let shows : record seen { items = items } ≡ with_item (shown.Posted line.on (pass_at desk line.on).sure) seen =
@@ -126,31 +112,28 @@ module _ {L : Type 0} (board : BoardShown L) (line : Line) (before after : Floor
       }
 
   -- it was told the note in the tray
-  pub takes : (items : List Shown) (sure : ℕ)
-      → desk' ≡ with_pass line.on (with_any_note (note_in before.tray line.on) (pass_at desk line.on)) desk
-      → sure ≡ (pass_at desk' line.on).sure → items ≡ seen.items ++ shown.Took line.on sure ∷ []
-      → after ≡ with_worker line.by (record { desk = desk'; shown = record seen { items = items } }) before
-      → PlaysActOn board line act.Take before after
+  pub takes : (items : List Shown) (sure : ℕ) → desk' ≡ with_pass line.on
+      (with_any_note (note_in before.tray line.on) (pass_at desk line.on)) desk → sure ≡ (pass_at desk' line.on).sure
+      → items ≡ seen.items ++ shown.Took line.on sure ∷ [] → after ≡ with_worker line.by (record
+      { desk = desk'; shown = record seen { items = items } }) before → PlaysActOn board line act.Take before after
   takes items sure desk_is sure_is items_are after_is =
       let on = line.on in
-      let pass : PassShown = with_any_note (note_in before.tray on) (pass_at desk on) in
+      let pass = with_any_note (note_in before.tray on) (pass_at desk on) in
       let cells = desk-length board desk has.fits in
       let within = slice_get_within board.cells on.0 right.cell right.there in
       let inside : on.0 < length desk.passes = omega arith in
-      let knows : sure ≡ pass.sure =
-      sure_is ∙ ap (λ (d : DeskShown). (pass_at d on).sure) desk_is
-      ∙ ap (λ (p : PassShown). p.sure) (pass_at-with_pass_same desk on pass inside) in
+      let knows = sure_is ∙ ap (λ d. (pass_at d on).sure) desk_is
+      ∙ ap (λ p. p.sure) (pass_at-with_pass_same desk on pass inside) in
       record {
         cell = right.cell;
         there = right.there;
-        played = after_is
-            ∙ ap (λ (d : DeskShown). with_worker line.by (record { desk = d; shown = record seen { items = items } })
-            before) desk_is
-            ∙ ap (λ (its : List Shown). with_worker line.by
-            (record { desk = with_pass on pass desk; shown = record seen { items = its } }) before)
-            (items_are ∙ ap (λ (n : ℕ). seen.items ++ shown.Took on n ∷ []) knows)
-            ∙ ap (λ (w : AtWork). with_worker line.by (worker_after_take on (note_in before.tray on) w) before)
-            (sym has.is);
+        played = after_is ∙ ap (λ d. with_worker line.by (record { desk = d; shown = record seen { items = items } })
+            before) desk_is ∙ ap (λ its. with_worker line.by (record {
+              desk = with_pass on pass desk;
+              shown =
+                  record seen { items = its };
+            }) before) (items_are ∙ ap (λ n. seen.items ++ shown.Took on n ∷ []) knows)
+            ∙ ap (λ w. with_worker line.by (worker_after_take on (note_in before.tray on) w) before) (sym has.is);
       }
 
 -- a line that was played, since its caller's work goes on
@@ -160,20 +143,13 @@ pub plays_line : {L : Type 0} (board : BoardShown L) (line : Line) (does : Act) 
 plays_line board line does before after works act_is acted = (
   acted.cell,
   acted.there,
-  subst (λ (b : Bool). MatchBool b (PlaysAct acted.cell line line.act before after)
-      (after ≡ before)) (sym works)
-      (subst (λ (a : Act). PlaysAct acted.cell line a before after) (sym act_is) acted.played),
+  rw works (subst (λ (a : Act). PlaysAct acted.cell line a before after) (sym act_is) acted.played),
 )
 
 -- a line that wasn't, since its caller's work has ended
 pub plays_nothing : {L : Type 0} (board : BoardShown L) (line : Line) (floor : Floor)
     → is_working floor line.by ≡ false → IsLineFor board line → PlaysLine board line floor floor
-plays_nothing board line floor ended right = (
-  right.cell,
-  right.there,
-  subst (λ (b : Bool). MatchBool b (PlaysAct right.cell line line.act floor floor)
-      (floor ≡ floor)) (sym ended) refl,
-)
+plays_nothing board line floor ended right = (right.cell, right.there, rw ended refl)
 
 -- ---- hearings
 
@@ -186,40 +162,31 @@ same_hearing floor by changed worker on = grind (arith, eqb-false, get_or-set_ot
 pub range_more : (k n : ℕ) → k < n → range_with_len k (n - k) ≡ k ∷ range_with_len (k + 1) (n - (k + 1))
 range_more k n below = let e : n - k ≡ suc (n - (k + 1)) = omega arith in ap (range_with_len k) e
 
--- one structure more at which the caller heard
-pub hears_more : (start now next : Floor) (by : ConnId) (k n : ℕ) (whole : AtWork) → k < n
-    → by.0 < length start.workers
-    → now ≡ with_worker by (worker_of now by) start
-    → fold (λ worker place. heard_from_last start by worker (record { 0 = place })) (worker_of now by)
-    (range_with_len k (n - k)) ≡ whole
-    → next ≡ with_worker by (heard_from_last now by (worker_of now by) (record { 0 = k })) now
-    → (next ≡ with_worker by (worker_of next by) start)
-    × (fold (λ worker place. heard_from_last start by worker (record { 0 = place })) (worker_of next by)
-    (range_with_len (k + 1) (n - (k + 1))) ≡ whole)
-hears_more start now next by k n whole below inside now_is rest next_is =
-    let on : StrNo = record { 0 = k } in
-    let step : AtWork → ℕ → AtWork = λ worker place. heard_from_last start by worker (record { 0 = place }) in
-    let mine : AtWork = heard_from_last start by (worker_of now by) on in
-    let same : heard_from_last now by (worker_of now by) on ≡ mine =
-    ap (λ (f : Floor). heard_from_last f by (worker_of now by) on) now_is
-    ∙ same_hearing start by (worker_of now by) (worker_of now by) on in
-    let next_from : next ≡ with_worker by mine start =
-    next_is ∙ ap (λ (w : AtWork). with_worker by w now) same ∙ ap (λ (f : Floor). with_worker by mine f) now_is
-    ∙ put_twice start by (worker_of now by) mine in
-    let mine_is : worker_of next by ≡ mine =
-    ap (λ (f : Floor). worker_of f by) next_from ∙ worker_put start by mine inside in (
-      next_from ∙ ap (λ (w : AtWork). with_worker by w start) (sym mine_is),
-      ap (λ (w : AtWork). fold step w (range_with_len (k + 1) (n - (k + 1)))) mine_is
-          ∙ sym (ap (λ (places : List ℕ). fold step (worker_of now by) places) (range_more k n below)) ∙ rest,
-    )
+module _ (start now : Floor) (by : ConnId) (k n : ℕ) (whole : AtWork) (now_is : now ≡ with_worker
+    by (worker_of now by) start) (rest : fold (λ worker place. heard_from_last start by worker (record { 0 = place }))
+    (worker_of now by) (range_with_len k (n - k)) ≡ whole) where
+  -- one structure more at which the caller heard
+  pub hears_more : (next : Floor) → k < n → by.0 < length start.workers
+      → next ≡ with_worker by (heard_from_last now by (worker_of now by) (record { 0 = k })) now
+      → (next ≡ with_worker by (worker_of next by) start) × (fold (λ worker place. heard_from_last start
+      by worker (record { 0 = place })) (worker_of next by) (range_with_len (k + 1) (n - (k + 1))) ≡ whole)
+  hears_more next below inside next_is =
+      let on : StrNo = record { 0 = k } in
+      let step : AtWork → ℕ → AtWork = λ worker place. heard_from_last start by worker (record { 0 = place }) in
+      let mine = heard_from_last start by (worker_of now by) on in
+      let same = ap (λ f. heard_from_last f by (worker_of now by) on) now_is
+      ∙ same_hearing start by (worker_of now by) (worker_of now by) on in
+      let next_from = next_is ∙ ap (λ w. with_worker by w now) same
+      ∙ ap (λ f. with_worker by mine f) now_is ∙ put_twice start by (worker_of now by) mine in
+      let mine_is = ap (λ f. worker_of f by) next_from ∙ worker_put start by mine inside in (
+        next_from ∙ ap (λ w. with_worker by w start) (sym mine_is),
+        ap (λ w. fold step w (range_with_len (k + 1) (n - (k + 1)))) mine_is
+            ∙ sym (ap (λ places. fold step (worker_of now by) places) (range_more k n below)) ∙ rest,
+      )
 
--- no structure is left at which the caller didn't hear
-pub heard_everywhere : (start now : Floor) (by : ConnId) (k n : ℕ) (whole : AtWork) → n ≤ k
-    → now ≡ with_worker by (worker_of now by) start
-    → fold (λ worker place. heard_from_last start by worker (record { 0 = place })) (worker_of now by)
-    (range_with_len k (n - k)) ≡ whole
-    → now ≡ with_worker by whole start
-heard_everywhere start now by k n whole over now_is rest = grind arith
+  -- no structure is left at which the caller didn't hear
+  pub heard_everywhere : n ≤ k → now ≡ with_worker by whole start
+  heard_everywhere over = grind arith
 
 -- ---- closings
 
@@ -229,12 +196,10 @@ departs : {L : Type 0} (board : BoardShown L) (before after : AtWork) → 1 ≤ 
 departs board before after connector closed = grind (arith, eqb-true)
 
 pub closes_one : {L : Type 0} (board : BoardShown L) (by : ConnId) (before told after : Floor) (desk : DeskShown)
-    (seen : Transcript) (worker : AtWork)
-    → is_working before by ≡ true → by.0 < length before.workers → length before.last ≡ length board.cells
-    → told ≡ with_worker by (heard_all board before by) before
-    → HasDesk board told by desk seen → 1 ≤ by.0 → Closes board (record { desk = desk; shown = seen }) worker
-    → after ≡ record (with_worker by worker told) { last = replicate (length told.last) (Some by) }
-    → ClosesOne board by before after
+    (seen : Transcript) (worker : AtWork) → is_working before by ≡ true → by.0 < length before.workers → length
+    before.last ≡ length board.cells → told ≡ with_worker by (heard_all board before by) before → HasDesk board told
+    by desk seen → 1 ≤ by.0 → Closes board (record { desk = desk; shown = seen }) worker → after ≡ record (with_worker
+    by worker told) { last = replicate (length told.last) (Some by) } → ClosesOne board by before after
 closes_one board by before told after desk seen worker works inside places told_is has connector closed after_is =
     grind (arith, worker_put, departs, put_twice)
 
@@ -247,10 +212,8 @@ closes_nothing board by floor ended = grind arith
 
 -- one line more
 pub lines_more : {L : Type 0} (board : BoardShown L) (lines : List Line) (line : Line) (i : ℕ)
-    (start now next : Floor)
-    → i < length lines → line ≡ get_or lines i line
-    → ((after : Floor) → PlaysLines board (drop i lines) now after → PlaysLines board lines start after)
-    → PlaysLine board line now next
+    (start now next : Floor) → i < length lines → line ≡ get_or lines i line → ((after : Floor)
+    → PlaysLines board (drop i lines) now after → PlaysLines board lines start after) → PlaysLine board line now next
     → (after : Floor) → PlaysLines board (drop (i + 1) lines) next after → PlaysLines board lines start after
 lines_more board lines line i start now next below line_is rest played after more =
     let front : drop i lines ≡ line ∷ drop (i + 1) lines =

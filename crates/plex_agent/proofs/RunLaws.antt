@@ -7,64 +7,36 @@ use Rattle.plex_board.specs.PlexScript.declared.scripts.Act.TheVariants as act
 use Rattle.plex_board.specs.PlexScript.declared.transcripts.AgentEnd.TheVariants as ended
 use Rattle.plex_board.specs.Kinds.{IsAskOf}
 use Rattle.plex_agent.proofs.ExactLaw.{exact}
-use Rattle.plex_agent.proofs.LinkRuns.{run_links, run_told, links_size}
+use Rattle.plex_agent.proofs.LinkRuns.{run_links, run_told}
 use Rattle.plex_agent.proofs.Schedules.{serial_shows}
+use Rattle.plex_agent.proofs.Lookups.{get_mapped, all_get}
 
 -- ---- lines
 
 -- an ask of a kind is one of that kind's type
 ask_type : (kind : Kind) (asked : AnyAsk) → IsAskOf kind asked → type_of_ask asked ≡ type_of_kind kind
 ask_type kind.Cache (ask.Cache asked) is = refl
-ask_type kind.Cache (ask.List asked) is = absurd is
-ask_type kind.Cache (ask.Lock asked) is = absurd is
-ask_type (kind.List headers locks refs) (ask.Cache asked) is = absurd is
 ask_type (kind.List headers locks refs) (ask.List asked) is = refl
-ask_type (kind.List headers locks refs) (ask.Lock asked) is = absurd is
-ask_type kind.Lock (ask.Cache asked) is = absurd is
-ask_type kind.Lock (ask.List asked) is = absurd is
 ask_type kind.Lock (ask.Lock asked) is = refl
+ask_type kind asked is = absurd is
 
 -- what a script's line does, its caller may do at the structure that was started for it
 may_act : {L : Type 0} (cell : CellShown L) (form : StrForm) (by : ConnId) (a : Act) → cell.form ≡ form
     → cell.str_type ≡ type_of_kind cell.form.kind → IsRunnableAct form by a → MayAct cell by a
 may_act cell form by (act.Call asked) form_is type_is may =
     (ask_type form.kind asked may.0 ∙ ap (λ (f : StrForm). type_of_kind f.kind) (sym form_is) ∙ sym type_is, may.1)
-may_act cell form by act.Events form_is type_is may = tt
 may_act cell form by (act.Test index) form_is type_is may = may.0
 may_act cell form by (act.TestWord word) form_is type_is may = may.0
-may_act cell form by act.Post form_is type_is may = tt
-may_act cell form by act.Take form_is type_is may = tt
-
--- the cell of a structure of the script
-cell_there : {L : Type 0} (cells : List (CellShown L)) (forms : List StrForm) (x : ℕ) (form : StrForm)
-    → map (λ cell. cell.form) cells ≡ forms → slice_get forms x ≡ Some form
-    → (cell : CellShown L) × (slice_get cells x ≡ Some cell) × (cell.form ≡ form)
-cell_there {L} cells forms x form are at = go (slice_get cells x) refl
-  where
-    read : option_map (λ (cell : CellShown L). cell.form) (slice_get cells x) ≡ Some form
-    read = sym (slice_get-map (λ (cell : CellShown L). cell.form) cells x) ∙ ap (λ (l : List StrForm). slice_get l x)
-        are ∙ at
-
-    go : (o : Option (CellShown L)) → slice_get cells x ≡ o
-        → (cell : CellShown L) × (slice_get cells x ≡ Some cell) × (cell.form ≡ form)
-    go None is = let none : None ≡ Some form = ap (option_map (λ (cell : CellShown L). cell.form)) (sym is)
-        ∙ read in cc
-    go (Some cell) is =
-        let some : Some cell.form ≡ Some form = ap (option_map (λ (cell : CellShown L). cell.form)) (sym is) ∙ read in
-        let same : cell.form ≡ form = cc in
-        (cell, is, same)
+may_act cell form by done form_is type_is may = tt
 
 -- a line of the script can be played at the board that was started for it
 line_playable : {L : Type 0} (limit : ℕ) (script : Script) (board : BoardShown L) (line : Line)
-    → IsBoardOf limit script board
-    → IsRunnableLine script line → IsPlayable board line
-line_playable limit script board line is may =
-    let found = cell_there board.cells script.structures line.on.0 may.form is.forms may.known in
+    → IsBoardOf limit script board → IsRunnableLine script line → IsPlayable board line
+line_playable {L} limit script board line is may =
+    let found = get_mapped (λ (cell : CellShown L). cell.form) board.cells line.on.0 may.form
+    (ap (λ (l : List StrForm). slice_get l line.on.0) is.forms ∙ may.known) in
     let started : IsStarted (length script.connectors) limit found.0 =
-    subst (λ (cell : CellShown _). IsStarted (length script.connectors) limit cell)
-    (get_or_from_slice_get board.cells line.on.0 found.0 found.0 found.1)
-    (All-get_or (IsStarted (length script.connectors) limit) board.cells line.on.0 found.0
-    (slice_get_within board.cells line.on.0 found.0 found.1) is.cells) in
+    all_get (IsStarted (length script.connectors) limit) board.cells line.on.0 found.0 is.cells found.1 in
     record {
       right = record {
         cell = found.0;
@@ -87,21 +59,17 @@ HadMemory transcripts = All (λ (transcript : Transcript). transcript.end ≢ en
 -- what holds of the histories, and of what was shown where nobody lacked memory, holds of a run that is left
 pub finished_is : (finished : Result Finished NoMemory) (shown : Result (Vec Transcript Global) NoMemory)
     (histories : List AnyHistory) (Shows : List Transcript → Type 0)
-    (Holds : List AnyHistory → List Transcript → Type 0)
-    → IfOk finished (λ it. it.histories ≡ histories)
-    → IfOk finished (λ it. IsOkAnd shown (λ some. it.transcripts ≡ some.items))
-    → IfOk finished (λ it. HadMemory it.transcripts)
-    → IfOk shown (λ some. Shows some.items)
-    → ((transcripts : List Transcript) → Shows transcripts → HadMemory transcripts → Holds histories transcripts)
-    → IfOk finished (λ it. Holds it.histories it.transcripts)
+    (Holds : List AnyHistory → List Transcript → Type 0) → IfOk finished (λ it. it.histories ≡ histories)
+    → IfOk finished (λ it. IsOkAnd shown (λ some. it.transcripts ≡ some.items)) → IfOk finished (λ it. HadMemory
+    it.transcripts) → IfOk shown (λ some. Shows some.items) → ((transcripts : List Transcript) → Shows transcripts
+    → HadMemory transcripts → Holds histories transcripts) → IfOk finished (λ it. Holds it.histories it.transcripts)
 finished_is (Ok it) (Ok some) histories Shows Holds same items had shows law = grind arith
 finished_is (Ok it) (Err e) histories Shows Holds same items had shows law = absurd items
 finished_is (Err e) shown histories Shows Holds same items had shows law = tt
 
 pub had_memory : (workers : List AtWork) → HadMemory (map (λ worker. worker.shown) workers)
     → All (λ (worker : AtWork). worker.shown.end ≢ ended.NoMemory) workers
-had_memory workers had k d below =
-    subst (λ (transcript : Transcript). transcript.end ≢ ended.NoMemory)
+had_memory workers had k d below = subst (λ (transcript : Transcript). transcript.end ≢ ended.NoMemory)
     (get_or-map (λ (worker : AtWork). worker.shown) workers k d d.shown below)
     (had k d.shown (omega (arith, below, length-map workers (λ (worker : AtWork). worker.shown))))
 
@@ -113,38 +81,28 @@ module _ {L : Type 0} (limit : ℕ) (script : Script) (board : BoardShown L) (hi
     -- the links of the script's structures were asked as the histories tell
     pub links_asked : (desks : List DeskShown) → AreClosed board desks histories
         → AreRunLinks calls downs faults script.structures histories old new
-    links_asked desks closed =
-        run_links calls downs faults enough board script.structures histories old new old_are is.forms asked
-        (λ x cell entries there kept.
-        (let its = (closed.closed (record { 0 = x }) cell entries there kept).0 in its.legal))
-
-    -- there are as many as there were
-    pub links_count : length new ≡ length old
-    links_count =
-        links_size calls downs faults enough board script.structures histories old new old_are is.forms asked
+    links_asked desks closed = run_links calls downs faults enough board script.structures
+        histories old new old_are is.forms asked (λ x cell entries there kept. (let its =
+        (closed.closed (record { 0 = x }) cell entries there kept).0 in its.legal))
 
     -- where they tell which calls are down, what was played is the script's run over such links
     pub played_exact : (desks : List DeskShown) (shown : List Transcript) → IsRunnable script
         → IsPlayed board script desks shown → AreClosed board desks histories → HadMemory shown
-        → (told : ℕ → CfId → Telling) → AreTelling calls downs faults told (length script.structures) old
-        → (histories ≡ (serial_run limit told script).histories)
-        × (shown ≡ (serial_run limit told script).transcripts)
+        → (told : ℕ → CfId → Telling) → AreTelling calls downs faults told (length script.structures) old →
+        (histories ≡ (serial_run limit told script).histories) × (shown ≡ (serial_run limit told script).transcripts)
     played_exact desks shown may played closed had told telling =
-        let law = exact limit told script board played.floor histories may is.forms is.cells is.callers played.plays
-        (had_memory played.floor.workers (subst HadMemory played.shown_are had))
-        (subst (λ (ds : List DeskShown). AreClosed board ds histories) played.desks_are closed)
-        (run_told calls downs faults enough board script.structures histories old new old_are is.forms asked told
-        telling) in
+        let law = exact limit told script board played.floor histories may is.forms is.cells
+        is.callers played.plays (had_memory played.floor.workers (subst HadMemory played.shown_are had))
+        (subst (λ (ds : List DeskShown). AreClosed board ds histories) played.desks_are closed) (run_told
+        calls downs faults enough board script.structures histories old new old_are is.forms asked told telling) in
         (law.0, played.shown_are ∙ law.1)
 
   -- what it shows, with the histories of the closed board
-  pub played_shows : (desks : List DeskShown) (shown : List Transcript) → IsRunnable script
-      → IsPlayed board script desks shown → AreClosed board desks histories → HadMemory shown
-      → ShowsHistories limit script histories shown
+  pub played_shows : (desks : List DeskShown) (shown : List Transcript) → IsRunnable script → IsPlayed board script
+      desks shown → AreClosed board desks histories → HadMemory shown → ShowsHistories limit script histories shown
   played_shows desks shown may played closed had =
       let playable : All (IsPlayable board) script.lines = lines_playable limit script board is may in
       subst (λ (ts : List Transcript). ShowsHistories limit script histories ts) (sym played.shown_are)
       (serial_shows limit script board played.floor histories is.forms is.cells is.callers
-      (λ k d below. (playable k d below).caller) played.plays
-      (had_memory played.floor.workers (subst HadMemory played.shown_are had))
-      (subst (λ (ds : List DeskShown). AreClosed board ds histories) played.desks_are closed))
+      (λ k d below. (playable k d below).caller) played.plays (had_memory played.floor.workers (subst HadMemory
+      played.shown_are had)) (subst (λ (ds : List DeskShown). AreClosed board ds histories) played.desks_are closed))

@@ -1,23 +1,24 @@
 -- A script's work on one thread is one schedule: each caller's lines and departures are a chain of turns, before each of
 -- which it hears of others.
-use Rattle.plex_agent.proofs.Imports.{◌≡◌, ◌≢◌, ℕ, zero, suc, ◌+◌, ◌≤◌, ◌<◌, ◌==◌, inl, Bool, true, false, MatchBool, List, [], ◌∷◌, length, map, fold, replicate, Option, None, Some, get_or, set, refl, sym, ap, subst, ◌∙◌, arith, All, range_with_len, nat_tests, length-map, get_or-set_same, get_or-set_other, All-head, All-tail, length-map-range_with_len, get_or-map-range_with_len, slice_get_within, get_or_from_slice_get, StrForm, ConnId, StrNo, Act, Line, Script, AnyHistory, numbers_from, connectors, ShowsHistories, PassShown, NoteShown, IsLater, note_of, unused_pass, CellShown, with_note, with_any_note, no_pass, pass_at, with_pass, BoardShown, IsStarted, AreClosed, cell_on, new_desk, note_in, AtWork, Takes, Acts, Turns, is_done_as, with_item, lines_by, no_items, Floor, Plays, PlaysLines, PlaysLine, PlaysAct, ClosesOne, ClosesAll, new_floor, no_worker, worker_of, told_by, heard_from, heard_from_last, heard_all, is_working, with_worker, last_after, worker_ready, worker_after_take, Hears, HearsThen, DoesLines, DepartsEach, Serves}
+use Rattle.plex_agent.proofs.Imports.{◌≡◌, ◌≢◌, ℕ, zero, suc, ◌+◌, ◌≤◌, ◌<◌, ◌==◌, inl, Bool, true, false, MatchBool, List, [], ◌∷◌, length, map, fold, replicate, Option, None, Some, get_or, set, refl, sym, ap, subst, ◌∙◌, arith, All, range_with_len, nat_tests, length-map, get_or-set_same, get_or-set_other, All-head, All-tail, length-map-range_with_len, get_or-map-range_with_len, slice_get_within, get_or_from_slice_get, StrForm, ConnId, StrNo, Act, Line, Script, AnyHistory, numbers_from, connectors, ShowsHistories, PassShown, NoteShown, IsLater, note_of, unused_pass, CellShown, with_note, with_any_note, no_pass, pass_at, with_pass, BoardShown, IsStarted, AreClosed, cell_on, new_desk, note_in, AtWork, Takes, Acts, Turns, is_done_as, with_item, lines_by, no_items, Floor, Plays, PlaysLines, PlaysLine, PlaysAct, ClosesOne, ClosesAll, new_floor, no_worker, worker_of, told_by, heard_from, heard_from_last, heard_all, is_working, with_worker, last_after, worker_ready, worker_after_take, Hears, HearsThen, DoesLines, DepartsEach, Serves, cases_lt, inr}
 use Rattle.std.proofs.lemmas.List.{length-set}
 use Rattle.plex_board.specs.PlexScript.declared.scripts.Act.TheVariants as act
 use Rattle.plex_board.specs.PlexScript.declared.transcripts.AgentEnd.TheVariants as ended
 use Rattle.plex_board.specs.PlexScript.declared.transcripts.Shown.TheVariants as shown
 use Rattle.plex_board.specs.Callers as alone
-use Rattle.plex_agent.proofs.Hearings.{hears_none, hears_then}
-use Rattle.plex_agent.proofs.Moves.{same_number, other_number}
-use Rattle.plex_agent.proofs.Keeping.{conn, str, any_set, IsInOrder, IsOrdered, IsNoteOrdered, Keeps, turns_keep, departs_each_keep}
+use Rattle.plex_agent.proofs.Hearings.{hears_none, hears_then, later_same}
+use Rattle.plex_agent.proofs.Moves.{other_number}
+use Rattle.plex_agent.proofs.Keeping.{any_set, IsInOrder, IsOrdered, IsNoteOrdered, Keeps, turns_keep, departs_each_keep}
 use Rattle.plex_agent.proofs.Alone.{departs_heard}
 use Rattle.plex_agent.proofs.ServeLaw.{serves_right}
+use Rattle.plex_agent.proofs.Spots.{same_number, conn, str}
 
 later_set : (xs : List PassShown) (i : ℕ) (pass : PassShown) → IsLater (get_or xs i no_pass) pass → (j : ℕ)
     → IsLater (get_or xs j no_pass) (get_or (set xs i pass) j no_pass)
-later_set [] i pass later j = record { known = omega arith; sure = omega arith; same = refl }
+later_set [] i pass later j = later_same (get_or [] j no_pass)
 later_set (x ∷ xs) zero pass later zero = later
-later_set (x ∷ xs) zero pass later (suc j) = record { known = omega arith; sure = omega arith; same = refl }
-later_set (x ∷ xs) (suc i) pass later zero = record { known = omega arith; sure = omega arith; same = refl }
+later_set (x ∷ xs) zero pass later (suc j) = later_same (get_or xs j no_pass)
+later_set (x ∷ xs) (suc i) pass later zero = later_same x
 later_set (x ∷ xs) (suc i) pass later (suc j) = later_set xs i pass later j
 
 -- ---- the floor
@@ -52,9 +53,8 @@ module _ (floor : Floor) (ordered : (c : ℕ) → IsOrdered (worker_of floor (co
           later = λ place. later_set worker.desk.passes on.0 pass (note_later note (pass_at worker.desk on)) place.0;
           shown = refl;
         },
-        λ mine.
-            any_set IsInOrder no_pass worker.desk.passes on.0 pass
-            (let here = mine on.0 in let there = ordered other.0 on.0 in omega (arith, here, there)) mine,
+        λ mine. any_set IsInOrder no_pass worker.desk.passes
+            on.0 pass (let here = mine on.0 in let there = ordered other.0 on.0 in omega (arith, here, there)) mine,
       )
 
   hears_from : (by : ConnId) (on : StrNo) (last : Option ConnId) (worker : AtWork)
@@ -100,17 +100,16 @@ pub record Worked (by : ConnId) (act : AtWork → AtWork → Type 0) (before aft
 module _ (by : ConnId) (act : AtWork → AtWork → Type 0) (before after : Floor) (worked : Worked by act before after)
   where
     worker_here : by.0 < length before.workers → worker_of after by ≡ worked.worker
-    worker_here within =
-        ap (λ (t : List AtWork). get_or t by.0 no_worker) worked.workers
+    worker_here within = ap (λ (t : List AtWork). get_or t by.0 no_worker) worked.workers
         ∙ get_or-set_same before.workers by.0 worked.worker no_worker within
 
     worker_there : (c : ℕ) → by.0 == c ≡ false → worker_of after (conn c) ≡ worker_of before (conn c)
-    worker_there c apart =
-        ap (λ (t : List AtWork). get_or t c no_worker) worked.workers
+    worker_there c apart = ap (λ (t : List AtWork). get_or t c no_worker) worked.workers
         ∙ get_or-set_other before.workers by.0 c worked.worker no_worker (other_number by.0 c apart)
 
     worked_mine : by.0 < length before.workers → HearsThen act (worker_of before by) (worker_of after by)
-    worked_mine within = (worked.ready, worked.hears.0, subst (act worked.ready) (sym (worker_here within)) worked.acted)
+    worked_mine within =
+        (worked.ready, worked.hears.0, subst (act worked.ready) (sym (worker_here within)) worked.acted)
 
     module _ {L : Type 0} (board : BoardShown L) (orderly : IsOrderly board before) where
       worked_size : (c : ℕ) → c ≤ board.callers → (b : Bool) → by.0 == c ≡ b
@@ -125,15 +124,14 @@ module _ (by : ConnId) (act : AtWork → AtWork → Type 0) (before after : Floo
           ap (λ (w : AtWork). length w.desk.passes) (worker_there c apart) ∙ orderly.sizes c inside
 
       worked_orderly : IsOrderly board after
-      worked_orderly =
-          record {
-            workers = ap length worked.workers ∙ length-set before.workers by.0 worked.worker ∙ orderly.workers;
-            sizes = λ c inside. worked_size c inside (by.0 == c) refl;
-            ordered = λ c. subst (λ (t : List AtWork). IsOrdered (get_or t c no_worker).desk) (sym worked.workers)
-                (any_set (λ (w : AtWork). IsOrdered w.desk) no_worker before.workers by.0 worked.worker
-                (worked.keeps.ordered (worked.hears.1 (orderly.ordered by.0))) orderly.ordered c);
-            notes = worked.notes;
-          }
+      worked_orderly = record {
+        workers = ap length worked.workers ∙ length-set before.workers by.0 worked.worker ∙ orderly.workers;
+        sizes = λ c inside. worked_size c inside (by.0 == c) refl;
+        ordered = λ c. subst (λ (t : List AtWork). IsOrdered (get_or t c no_worker).desk) (sym worked.workers)
+            (any_set (λ (w : AtWork). IsOrdered w.desk) no_worker before.workers by.0 worked.worker
+            (worked.keeps.ordered (worked.hears.1 (orderly.ordered by.0))) orderly.ordered c);
+        notes = worked.notes;
+      }
 
 -- ---- lines
 
@@ -144,29 +142,36 @@ module _ {L : Type 0} (board : BoardShown L) where
       → Worked line.by (Turns cell.limit cell.form line) before after
   turn_worked cell line before after orderly worker turns same = grind (arith, hears_ready, turns_keep, IsNoteOrdered)
 
-  -- what a line's caller does, where its work goes on
-  act_worked : (cell : CellShown L) (line : Line) (done : Act) (before after : Floor) → line.act ≡ done
-      → is_working before line.by ≡ true
-      → length (worker_of before line.by).desk.passes ≡ length board.cells → line.on.0 < length board.cells
-      → IsOrderly board before → PlaysAct cell line done before after
-      → Worked line.by (Turns cell.limit cell.form line) before after
-  act_worked cell line act.Post before after is working size within orderly (worker, posts, same) =
+  -- a note that is posted or taken, before which nothing is heard
+  note_worked : (cell : CellShown L) (line : Line) (done : Act) (before after : Floor) (worker : AtWork)
+      → line.act ≡ done → is_working before line.by ≡ true → Acts cell.limit cell.form line.on line.retry
+      done (worker_of before line.by) worker → after.workers ≡ set before.workers line.by.0 worker → ((x : ℕ)
+      → IsNoteOrdered (note_in after.tray (str x))) → Worked line.by (Turns cell.limit cell.form line) before after
+  note_worked cell line done before after worker is working acts workers notes =
       let was : AtWork = worker_of before line.by in
-      let acts : Acts cell.limit cell.form line.on line.retry line.act was worker =
-      subst (λ (a : Act). Acts cell.limit cell.form line.on line.retry a was worker) (sym is) (inl posts) in
-      let turns : Turns cell.limit cell.form line was worker = rw working acts in
+      let here : Acts cell.limit cell.form line.on line.retry line.act was worker =
+      subst (λ (a : Act). Acts cell.limit cell.form line.on line.retry a was worker) (sym is) acts in
+      let turns : Turns cell.limit cell.form line was worker = rw working here in
       record {
         ready = was;
         worker = worker;
         hears = well_none was;
         acted = turns;
         keeps = turns_keep cell.limit cell.form line was worker turns;
-        workers = ap (λ (f : Floor). f.workers) same;
-        notes = λ x. subst (λ (t : List (Option NoteShown)). IsNoteOrdered (get_or t x None))
-            (sym (ap (λ (f : Floor). f.tray) same))
-            (any_set IsNoteOrdered None before.tray line.on.0 (Some (note_of (pass_at was.desk line.on)))
-            (orderly.ordered line.by.0 line.on.0) orderly.notes x);
+        workers = workers;
+        notes = notes;
       }
+
+  -- what a line's caller does, where its work goes on
+  act_worked : (cell : CellShown L) (line : Line) (done : Act) (before after : Floor) → line.act ≡ done
+      → is_working before line.by ≡ true → length (worker_of before line.by).desk.passes ≡ length board.cells
+      → line.on.0 < length board.cells → IsOrderly board before
+      → PlaysAct cell line done before after → Worked line.by (Turns cell.limit cell.form line) before after
+  act_worked cell line act.Post before after is working size within orderly (worker, posts, same) =
+      note_worked cell line act.Post before after worker is working (inl posts) (ap (λ (f : Floor). f.workers) same)
+      (λ x. subst (λ (t : List (Option NoteShown)). IsNoteOrdered (get_or t x None))
+      (sym (ap (λ (f : Floor). f.tray) same)) (any_set IsNoteOrdered None before.tray line.on.0 (Some (note_of
+      (pass_at (worker_of before line.by).desk line.on))) (orderly.ordered line.by.0 line.on.0) orderly.notes x))
   act_worked cell line act.Take before after is working size within orderly same =
       let was : AtWork = worker_of before line.by in
       let note : Option NoteShown = note_in before.tray line.on in
@@ -180,39 +185,23 @@ module _ {L : Type 0} (board : BoardShown L) where
               (any_note_later note (pass_at was.desk line.on));
           rest = ap (λ (p : PassShown). with_pass line.on p was.desk) (sym here);
         };
-        known = subst IsInOrder (sym here)
-            (any_note_order note (pass_at was.desk line.on) (orderly.notes line.on.0) (orderly.ordered line.by.0 line.on.0));
+        known = subst IsInOrder (sym here) (any_note_order note
+            (pass_at was.desk line.on) (orderly.notes line.on.0) (orderly.ordered line.by.0 line.on.0));
         shown = ap (λ (p : PassShown). with_item (shown.Took line.on p.sure) was.shown) (sym here);
       } in
-      let acts : Acts cell.limit cell.form line.on line.retry line.act was worker =
-      subst (λ (a : Act). Acts cell.limit cell.form line.on line.retry a was worker) (sym is) (inl takes) in
-      let turns : Turns cell.limit cell.form line was worker = rw working acts in
-      record {
-        ready = was;
-        worker = worker;
-        hears = well_none was;
-        acted = turns;
-        keeps = turns_keep cell.limit cell.form line was worker turns;
-        workers = ap (λ (f : Floor). f.workers) same;
-        notes = λ x. subst (λ (t : List (Option NoteShown)). IsNoteOrdered (get_or t x None))
-            (sym (ap (λ (f : Floor). f.tray) same)) (orderly.notes x);
-      }
+      note_worked cell line act.Take before after worker is working (inl takes) (ap (λ (f : Floor). f.workers) same)
+      (λ x. subst (λ (t : List (Option NoteShown)). IsNoteOrdered (get_or t x None))
+      (sym (ap (λ (f : Floor). f.tray) same)) (orderly.notes x))
     where
       any_note_later : (note : Option NoteShown) (pass : PassShown) → IsLater pass (with_any_note note pass)
-      any_note_later None pass = record { known = omega arith; sure = omega arith; same = refl }
+      any_note_later None pass = later_same pass
       any_note_later (Some note) pass = note_later note pass
 
       any_note_order : (note : Option NoteShown) (pass : PassShown) → IsNoteOrdered note → IsInOrder pass
           → IsInOrder (with_any_note note pass)
       any_note_order None pass noted order = order
       any_note_order (Some note) pass noted order = omega (arith, noted, order)
-  act_worked cell line (act.Call asked) before after is working size within orderly (worker, turns, same) =
-      turn_worked cell line before after orderly worker turns same
-  act_worked cell line act.Events before after is working size within orderly (worker, turns, same) =
-      turn_worked cell line before after orderly worker turns same
-  act_worked cell line (act.Test index) before after is working size within orderly (worker, turns, same) =
-      turn_worked cell line before after orderly worker turns same
-  act_worked cell line (act.TestWord word) before after is working size within orderly (worker, turns, same) =
+  act_worked cell line done before after is working size within orderly (worker, turns, same) =
       turn_worked cell line before after orderly worker turns same
 
   -- a line of a caller is a turn of it, before which it may hear; the others do nothing
@@ -229,21 +218,19 @@ module _ {L : Type 0} (board : BoardShown L) where
   line_goes line c before after caller orderly (cell, there, plays) = by_end (is_working before line.by) refl plays
     where
       stopped : is_working before line.by ≡ false → after ≡ before → LineGoes line c before after
-      stopped rests same =
-          record {
-            orderly = subst (IsOrderly board) (sym same) orderly;
-            cell = cell;
-            there = there;
-            mine = λ is.
-                (let here : line.by.0 ≡ c = same_number line.by.0 c is in
-                let ended : is_done_as (worker_of before (conn c)).shown.end ≡ false =
-                ap (λ (n : ℕ). is_done_as (worker_of before (conn n)).shown.end) (sym here) ∙ rests in (
-                  worker_of before (conn c),
-                  hears_none (worker_of before (conn c)),
-                  rw ended (ap (λ (f : Floor). worker_of f (conn c)) same),
-                ));
-            other = λ apart. ap (λ (f : Floor). worker_of f (conn c)) same;
-          }
+      stopped rests same = record {
+        orderly = subst (IsOrderly board) (sym same) orderly;
+        cell = cell;
+        there = there;
+        mine = λ is. (let here : line.by.0 ≡ c = same_number line.by.0 c is in
+            let ended : is_done_as (worker_of before (conn c)).shown.end ≡ false =
+            ap (λ (n : ℕ). is_done_as (worker_of before (conn n)).shown.end) (sym here) ∙ rests in (
+              worker_of before (conn c),
+              hears_none (worker_of before (conn c)),
+              rw ended (ap (λ (f : Floor). worker_of f (conn c)) same),
+            ));
+        other = λ apart. ap (λ (f : Floor). worker_of f (conn c)) same;
+      }
 
       goes : Worked line.by (Turns cell.limit cell.form line) before after → LineGoes line c before after
       goes worked =
@@ -252,50 +239,41 @@ module _ {L : Type 0} (board : BoardShown L) where
             orderly = worked_orderly line.by (Turns cell.limit cell.form line) before after worked board orderly;
             cell = cell;
             there = there;
-            mine = λ is.
-                subst (λ (n : ℕ). HearsThen (Turns cell.limit cell.form line) (worker_of before (conn n))
-                (worker_of after (conn n))) (same_number line.by.0 c is)
+            mine = λ is. subst (λ (n : ℕ). HearsThen (Turns cell.limit cell.form line)
+                (worker_of before (conn n)) (worker_of after (conn n))) (same_number line.by.0 c is)
                 (worked_mine line.by (Turns cell.limit cell.form line) before after worked within);
             other = λ apart. worker_there line.by (Turns cell.limit cell.form line) before after worked c apart;
           }
 
       by_end : (b : Bool) → is_working before line.by ≡ b
           → MatchBool b (PlaysAct cell line line.act before after) (after ≡ before) → LineGoes line c before after
-      by_end true working acts =
-          goes
-          (act_worked cell line line.act before after refl working (orderly.sizes line.by.0 caller)
-          (slice_get_within board.cells line.on.0 cell there) orderly acts)
+      by_end true working acts = goes (act_worked cell line line.act before after refl working
+          (orderly.sizes line.by.0 caller) (slice_get_within board.cells line.on.0 cell there) orderly acts)
       by_end false rests same = stopped rests same
 
   abbrev AreCallers : List Line → Type 0
   AreCallers lines = All (λ line. line.by.0 ≤ board.callers) lines
 
-  lines_serve : (lines : List Line) (c : ℕ) (before after : Floor) → AreCallers lines → IsOrderly board before
-      → PlaysLines board lines before after
-      → IsOrderly board after
+  lines_serve : (lines : List Line) (c : ℕ) (before after : Floor)
+      → AreCallers lines → IsOrderly board before → PlaysLines board lines before after → IsOrderly board after
       × DoesLines board (lines_by (conn c) lines) (worker_of before (conn c)) (worker_of after (conn c))
   lines_serve [] c before after callers orderly same = grind (arith, conn, hears_none)
   lines_serve (line ∷ lines) c before after callers orderly (between, first, rest) =
-      by_test (line.by.0 == c) refl
-      (lines_serve lines c between after (All-tail (λ (l : Line). l.by.0 ≤ board.callers) line lines callers) goes.orderly
-      rest)
+      by_test (line.by.0 == c) refl (lines_serve lines c between
+      after (All-tail (λ (l : Line). l.by.0 ≤ board.callers) line lines callers) goes.orderly rest)
     where
       goes : LineGoes line c before between
-      goes =
-          line_goes line c before between (All-head (λ (l : Line). l.by.0 ≤ board.callers) line lines callers) orderly
-          first
+      goes = line_goes line c
+          before between (All-head (λ (l : Line). l.by.0 ≤ board.callers) line lines callers) orderly first
 
-      by_test : (b : Bool) → line.by.0 == c ≡ b
-          → IsOrderly board after
-          × DoesLines board (lines_by (conn c) lines) (worker_of between (conn c)) (worker_of after (conn c))
-          → IsOrderly board after
+      by_test : (b : Bool) → line.by.0 == c ≡ b → IsOrderly board after × DoesLines board
+          (lines_by (conn c) lines) (worker_of between (conn c)) (worker_of after (conn c)) → IsOrderly board after
           × DoesLines board (lines_by (conn c) (line ∷ lines)) (worker_of before (conn c)) (worker_of after (conn c))
       by_test true is (right, others) =
           (right, rw is (goes.cell, goes.there, (worker_of between (conn c), goes.mine is, others)))
       by_test false apart (right, others) = (
         right,
-        rw apart
-            (subst (λ (w : AtWork). DoesLines board (lines_by (conn c) lines) w (worker_of after (conn c)))
+        rw apart (subst (λ (w : AtWork). DoesLines board (lines_by (conn c) lines) w (worker_of after (conn c)))
             (goes.other apart) others),
       )
 
@@ -312,9 +290,8 @@ module _ {L : Type 0} (board : BoardShown L) where
   Departures = alone.DepartsEach 0 board.cells
 
   close_worked : (by : ConnId) (before after : Floor) → IsOrderly board before → (worker : AtWork)
-      → Departures (heard_all board before by) worker
-      → after ≡ record (with_worker by worker before) { last = replicate (length board.cells) (Some by) }
-      → Worked by Departures before after
+      → Departures (heard_all board before by) worker → after ≡ record (with_worker by worker before)
+      { last = replicate (length board.cells) (Some by) } → Worked by Departures before after
   close_worked by before after orderly worker departs same =
       grind (arith, hears_all, departs_each_keep, IsNoteOrdered)
 
@@ -337,21 +314,16 @@ module _ {L : Type 0} (board : BoardShown L) where
           worked_mine (conn by) Departures before after worked within in
           record {
             orderly = worked_orderly (conn by) Departures before after worked board orderly;
-            mine = λ is.
-                subst (λ (n : ℕ). DepartsEach 0 board.cells (worker_of before (conn n)) (worker_of after (conn n)))
-                (same_number by c is)
-                (departs_heard 0 board.cells (worker_of before (conn by)) done.0 (worker_of after (conn by)) done.1
-                done.2);
+            mine = λ is. subst (λ (n : ℕ). DepartsEach 0 board.cells (worker_of before (conn n))
+                (worker_of after (conn n))) (same_number by c is) (departs_heard 0 board.cells
+                (worker_of before (conn by)) done.0 (worker_of after (conn by)) done.1 done.2);
             other = λ apart. worker_there (conn by) Departures before after worked c apart;
           }
 
-      by_end : (b : Bool) → is_working before (conn by) ≡ b
-          → MatchBool b ((worker : AtWork) × Departures (heard_all board before (conn by)) worker
-          × (after ≡ record (with_worker (conn by) worker before) {
-            last = replicate (length board.cells)
-                (Some (conn by));
-          })) (after ≡ before)
-          → CloseGoes by c before after
+      by_end : (b : Bool) → is_working before (conn by) ≡ b → MatchBool b ((worker : AtWork) × Departures
+          (heard_all board before (conn by)) worker × (after ≡ record (with_worker (conn by) worker before) {
+            last = replicate (length board.cells) (Some (conn by));
+          })) (after ≡ before) → CloseGoes by c before after
       by_end true working (worker, departs, same) =
           goes (close_worked (conn by) before after orderly worker departs same)
       by_end false rests same = stopped rests same
@@ -359,42 +331,29 @@ module _ {L : Type 0} (board : BoardShown L) where
   abbrev conns : ℕ → ℕ → List ConnId
   conns first n = map conn (numbers_from first n)
 
-  -- behind its own closing a caller does nothing more
-  closed_before : (first n c : ℕ) (before after : Floor) → c < first → first + n ≤ board.callers + 1
-      → IsOrderly board before → ClosesAll board (conns first n) before after
-      → worker_of after (conn c) ≡ worker_of before (conn c)
-  closed_before first zero c before after past most orderly same = ap (λ (f : Floor). worker_of f (conn c)) same
-  closed_before first (suc n) c before after past most orderly (between, one, rest) =
+  -- before its own closing and behind it a caller does nothing
+  closes_run : (first n c : ℕ) (before after : Floor) → first + n ≤ board.callers + 1 → IsOrderly board before
+      → ClosesAll board (conns first n) before after
+      → IsOrderly board after × (c < first → worker_of after (conn c) ≡ worker_of before (conn c))
+      × (first ≤ c → c < first + n → DepartsEach 0 board.cells (worker_of before (conn c)) (worker_of after (conn c)))
+  closes_run first zero c before after most orderly same = (
+    subst (IsOrderly board) (sym same) orderly,
+    λ past. ap (λ (f : Floor). worker_of f (conn c)) same,
+    λ above below. absurd (omega (arith, above, below)),
+  )
+  closes_run first (suc n) c before after most orderly (between, one, rest) =
       let goes : CloseGoes first c before between =
       close_goes first c before between (omega (arith, most)) orderly one in
-      let apart : first == c ≡ false = grind (arith, nat_tests) in
-      closed_before (first + 1) n c between after (omega (arith, past)) (omega (arith, most)) goes.orderly rest
-      ∙ goes.other apart
-
-  closes_serve : (first n c : ℕ) (before after : Floor) → first ≤ c → c < first + n
-      → first + n ≤ board.callers + 1 → IsOrderly board before → ClosesAll board (conns first n) before after
-      → DepartsEach 0 board.cells (worker_of before (conn c)) (worker_of after (conn c))
-  closes_serve first zero c before after above below most orderly same = absurd (omega (arith, above, below))
-  closes_serve first (suc n) c before after above below most orderly (between, one, rest) =
-      by_test (first == c) refl
-      (λ apart. closes_serve (first + 1) n c between after apart (omega (arith, below)) (omega (arith, most))
-      goes.orderly rest)
-    where
-      goes : CloseGoes first c before between
-      goes = close_goes first c before between (omega (arith, most)) orderly one
-
-      by_test : (b : Bool) → first == c ≡ b
-          → (first + 1 ≤ c → DepartsEach 0 board.cells (worker_of between (conn c)) (worker_of after (conn c)))
-          → DepartsEach 0 board.cells (worker_of before (conn c)) (worker_of after (conn c))
-      by_test true is later =
-          let here : first ≡ c = same_number first c is in
-          subst (DepartsEach 0 board.cells (worker_of before (conn c)))
-          (sym (closed_before (first + 1) n c between after (omega (arith, here)) (omega (arith, most)) goes.orderly rest))
-          (goes.mine is)
-      by_test false apart later =
-          let higher : first + 1 ≤ c = grind (arith, nat_tests) in
-          subst (λ (w : AtWork). DepartsEach 0 board.cells w (worker_of after (conn c))) (goes.other apart)
-          (later higher)
+      let behind = closes_run (first + 1) n c between after (omega (arith, most)) goes.orderly rest in (
+        behind.0,
+        λ past. behind.1 (omega (arith, past)) ∙ goes.other (grind (arith, nat_tests)),
+        λ above below. elim (cases_lt first c) [
+          | inl higher ↦ subst (λ (w : AtWork). DepartsEach 0 board.cells w (worker_of after (conn c)))
+              (goes.other (grind (arith, nat_tests))) (behind.2 (omega (arith, higher)) (omega (arith, below)))
+          | inr least ↦ subst (DepartsEach 0 board.cells (worker_of before (conn c)))
+              (sym (behind.1 (omega (arith, least)))) (goes.mine (grind (arith, nat_tests)))
+        ],
+      )
 
   -- ---- as the floor begins
 
@@ -425,28 +384,18 @@ module _ {L : Type 0} (board : BoardShown L) where
       get_or-map-range_with_len idle 0 (board.callers + 1) c c no_worker (omega (arith, inside)) (omega arith)
 
   begins_orderly : IsOrderly board (new_floor board)
-  begins_orderly =
-      record {
-        workers = length-map-range_with_len idle 0 (board.callers + 1);
-        sizes = λ c inside. ap (λ (w : AtWork). length w.desk.passes) (begins_as c inside)
-            ∙ length-map board.cells (λ (cell : CellShown L). unused_pass cell.str_type cell.words c);
-        ordered = λ c. idle_ordered 0 (board.callers + 1) c;
-        notes = λ x. no_notes_ordered (length board.cells) x;
-      }
-
-  closes_orderly : (first n : ℕ) (before after : Floor) → first + n ≤ board.callers + 1 → IsOrderly board before
-      → ClosesAll board (conns first n) before after → IsOrderly board after
-  closes_orderly first zero before after most orderly same = subst (IsOrderly board) (sym same) orderly
-  closes_orderly first (suc n) before after most orderly (between, one, rest) =
-      let goes : CloseGoes first 0 before between =
-      close_goes first 0 before between (omega (arith, most)) orderly one in
-      closes_orderly (first + 1) n between after (omega (arith, most)) goes.orderly rest
+  begins_orderly = record {
+    workers = length-map-range_with_len idle 0 (board.callers + 1);
+    sizes = λ c inside. ap (λ (w : AtWork). length w.desk.passes) (begins_as c inside)
+        ∙ length-map board.cells (λ (cell : CellShown L). unused_pass cell.str_type cell.words c);
+    ordered = λ c. idle_ordered 0 (board.callers + 1) c;
+    notes = λ x. no_notes_ordered (length board.cells) x;
+  }
 
   plays_orderly : (script : Script) (floor : Floor) → board.callers ≡ length script.connectors
       → AreCallers script.lines → Plays board script.lines (connectors script) floor → IsOrderly board floor
-  plays_orderly script floor callers lines plays =
-      closes_orderly 1 (length script.connectors) plays.between floor (omega (arith, callers))
-      (lines_serve script.lines 0 (new_floor board) plays.between lines begins_orderly plays.during).0 plays.closing
+  plays_orderly script floor callers lines plays = (closes_run
+      1 _ 0 _ _ (omega (arith, callers)) (lines_serve _ 0 _ _ lines begins_orderly plays.during).0 plays.closing).0
 
   -- a caller's part of a script's work on one thread is that caller's whole work
   pub plays_serve : (script : Script) (floor : Floor) (c : ℕ) → board.callers ≡ length script.connectors
@@ -454,43 +403,39 @@ module _ {L : Type 0} (board : BoardShown L) where
       → Serves board script.lines (idle c) (worker_of floor (conn c))
   plays_serve script floor c callers lines plays inside = grind (arith, conn, during, begins_as, by_owner)
     where
-      during : IsOrderly board plays.between
-          × DoesLines board (lines_by (conn c) script.lines) (worker_of (new_floor board) (conn c))
-          (worker_of plays.between (conn c))
+      during : IsOrderly board plays.between × DoesLines board
+          (lines_by (conn c) script.lines) (worker_of (new_floor board) (conn c)) (worker_of plays.between (conn c))
       during = lines_serve script.lines c (new_floor board) plays.between lines begins_orderly plays.during
 
-      by_owner : (b : Bool) → c == 0 ≡ b
-          → MatchBool b (Hears (worker_of plays.between (conn c)) (worker_of floor (conn c)))
-          (DepartsEach 0 board.cells (worker_of plays.between (conn c)) (worker_of floor (conn c)))
+      closing : IsOrderly board floor × (c < 1 → worker_of floor (conn c) ≡ worker_of plays.between (conn c))
+          × (1 ≤ c → c < 1 + length script.connectors
+          → DepartsEach 0 board.cells (worker_of plays.between (conn c)) (worker_of floor (conn c)))
+      closing = closes_run 1 (length script.connectors) c plays.between floor (omega (arith, callers)) during.0
+          plays.closing
+
+      by_owner : (b : Bool) → c == 0 ≡ b → MatchBool b (Hears (worker_of plays.between (conn c)) (worker_of
+          floor (conn c))) (DepartsEach 0 board.cells (worker_of plays.between (conn c)) (worker_of floor (conn c)))
       by_owner true is =
           let none : c ≡ 0 = same_number c 0 is in
-          subst (Hears (worker_of plays.between (conn c)))
-          (sym (closed_before 1 (length script.connectors) c plays.between floor (omega (arith, none))
-          (omega (arith, callers)) during.0 plays.closing)) (hears_none (worker_of plays.between (conn c)))
+          subst (Hears (worker_of plays.between (conn c))) (sym (closing.1 (omega (arith, none))))
+          (hears_none (worker_of plays.between (conn c)))
       by_owner false apart =
-          let some : 1 ≤ c = grind (arith, nat_tests) in
-          closes_serve 1 (length script.connectors) c plays.between floor some (omega (arith, inside, callers))
-          (omega (arith, callers)) during.0 plays.closing
+          let some : 1 ≤ c = grind (arith, nat_tests) in closing.2 some (omega (arith, inside, callers))
 
 -- What a script's work on one thread shows, by the law of callers at work whatever the schedule was.
 pub serial_shows : {L : Type 0} (limit : ℕ) (script : Script) (board : BoardShown L) (floor : Floor)
-    (histories : List AnyHistory)
-    → map (λ cell. cell.form) board.cells ≡ script.structures
-    → All (IsStarted (length script.connectors) limit) board.cells
-    → board.callers ≡ length script.connectors
-    → All (λ line. line.by.0 ≤ board.callers) script.lines
-    → Plays board script.lines (connectors script) floor
-    → All (λ worker. worker.shown.end ≢ ended.NoMemory) floor.workers
-    → AreClosed board (map (λ worker. worker.desk) floor.workers) histories
-    → ShowsHistories limit script histories (map (λ worker. worker.shown) floor.workers)
+    (histories : List AnyHistory) → map (λ cell. cell.form) board.cells ≡ script.structures
+    → All (IsStarted (length script.connectors) limit) board.cells → board.callers ≡ length script.connectors
+    → All (λ line. line.by.0 ≤ board.callers) script.lines → Plays board script.lines (connectors script) floor
+    → All (λ worker. worker.shown.end ≢ ended.NoMemory) floor.workers → AreClosed board (map (λ worker. worker.desk)
+    floor.workers) histories → ShowsHistories limit script histories (map (λ worker. worker.shown) floor.workers)
 serial_shows limit script board floor histories forms started callers lines plays memory closed =
     let right : IsOrderly board floor = ends_orderly in
-    serves_right limit script board histories floor.workers forms started (right.workers ∙ ap (λ n. n + 1) callers)
-    (λ c worker there.
+    serves_right limit script
+    board histories floor.workers forms started closed (right.workers ∙ ap (λ n. n + 1) callers) (λ c worker there.
     let inside : c ≤ board.callers = omega (arith, slice_get_within floor.workers c worker there, right.workers) in
-    subst (Serves board script.lines (record { desk = new_desk board c; shown = no_items }))
-    (get_or_from_slice_get floor.workers c worker no_worker there)
-    (plays_serve board script floor c callers lines plays inside)) memory closed
+    subst (Serves board script.lines (record { desk = new_desk board c; shown = no_items })) (get_or_from_slice_get
+    floor.workers c worker no_worker there) (plays_serve board script floor c callers lines plays inside)) memory
   where
     ends_orderly : IsOrderly board floor
     ends_orderly = plays_orderly board script floor callers lines plays

@@ -28,8 +28,7 @@ owners_from first (suc n) (worker ∷ workers) long own =
     let here : worker.desk.owner.0 ≡ first = omega (arith, own 0 worker refl) in
     let rest =
     owners_from (first + 1) n workers (omega (arith, long)) (λ c some there. omega (arith, own (suc c) some there)) in
-    ap (λ owner. owner ∷ map owner_of (map desk_of workers)) here
-    ∙ ap (λ owners. first ∷ owners) rest
+    ap (λ owner. owner ∷ map owner_of (map desk_of workers)) here ∙ ap (λ owners. first ∷ owners) rest
 
 module _ {L : Type 0} (board : BoardShown L) (workers : List AtWork) (are : AreCallersOf board workers) where
   -- a caller is at its own desk
@@ -58,12 +57,10 @@ module _ {L : Type 0} (board : BoardShown L) (workers : List AtWork) (are : AreC
   -- the desks that they leave
   pub callers-desks : (desks : List DeskShown) → desks ≡ map (λ worker. worker.desk) workers → AreDesksOf board desks
   callers-desks desks theirs = record {
-    fit = All-same (IsDeskOf board) desks (map desk_of workers) theirs
-        (All-map (IsDeskOf board) desk_of workers
-        (λ k d lt. (are.each k (get_or workers k d) (slice_get-get_or workers k d lt)).0));
-    owners = ap (map owner_of) theirs
-        ∙ owners_from 0 (board.callers + 1) workers are.callers
-        (λ c worker there. omega (arith, (are.each c worker there).1));
+    fit = All-same (IsDeskOf board) desks (map desk_of workers) theirs (All-map (IsDeskOf board)
+        desk_of workers (λ k d lt. (are.each k (get_or workers k d) (slice_get-get_or workers k d lt)).0));
+    owners = ap (map owner_of) theirs ∙ owners_from 0 (board.callers + 1)
+        workers are.callers (λ c worker there. omega (arith, (are.each c worker there).1));
   }
 
 -- ---- as the board begins
@@ -74,10 +71,9 @@ module _ {L : Type 0} (board : BoardShown L) where
 
   pub crew_at : (c : ℕ) (worker : AtWork) → slice_get (crew_of board) c ≡ Some worker
       → worker ≡ idle_worker (new_desk board c)
-  crew_at c worker there =
-      sym (get_or_from_slice_get (crew_of board) c worker worker there)
-      ∙ get_or-map-range_with_len (λ owner. idle_worker (new_desk board owner)) 0 (board.callers + 1) c c worker
-      (omega (arith, slice_get_within (crew_of board) c worker there, length-crew_of)) (omega arith)
+  crew_at c worker there = sym (get_or_from_slice_get (crew_of board) c worker worker there)
+      ∙ get_or-map-range_with_len (λ owner. idle_worker (new_desk board owner)) 0 (board.callers + 1)
+      c c worker (omega (arith, slice_get_within (crew_of board) c worker there, length-crew_of)) (omega arith)
 
   pub new_callers : AreCallersOf board (crew_of board)
   new_callers = grind (arith, length-crew_of, crew_at, new_desk-of_board)
@@ -89,7 +85,5 @@ module _ {L : Type 0} (board : BoardShown L) where
 
     -- the desks of a board where nobody has done anything
     pub new_desks-are : (back : List DeskShown) → back ≡ desks → AreDesksOf board back
-    new_desks-are back same =
-        callers-desks board (crew_of board) new_callers back
-        (same ∙ new ∙ sym (map-map desk_of (λ owner. idle_worker (new_desk board owner))
-        (range_with_len 0 (board.callers + 1))))
+    new_desks-are back same = callers-desks board (crew_of board) new_callers back (same ∙ new
+        ∙ sym (map-map desk_of (λ owner. idle_worker (new_desk board owner)) (range_with_len 0 (board.callers + 1))))

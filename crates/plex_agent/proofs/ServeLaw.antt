@@ -9,8 +9,7 @@ use Rattle.plex_agent.proofs.Lookups.{get_map, get_mapped, all_get, kind_of_type
 use Rattle.plex_agent.proofs.Work.{caller_of, begins_long, begins_owning, begins_shown, Finished, finishes}
 
 module _ {L : Type 0} (limit : ℕ) (script : Script) (board : BoardShown L) (histories : List AnyHistory)
-    (workers : List AtWork)
-    (forms_are : map (λ cell. cell.form) board.cells ≡ script.structures)
+    (workers : List AtWork) (forms_are : map (λ cell. cell.form) board.cells ≡ script.structures)
     (started : All (IsStarted (length script.connectors) limit) board.cells)
     (closed : AreClosed board (map (λ worker. worker.desk) workers) histories) where
   abbrev desk_of : AtWork → DeskShown
@@ -53,9 +52,7 @@ module _ {L : Type 0} (limit : ℕ) (script : Script) (board : BoardShown L) (hi
       rise on None none = rw none tt
       rise on (Some entries) kept =
           let cell = cell_within on.0 entries kept in
-          rw kept
-          (calls_rise cell.0.form entries
-          (closed_at on cell.0 entries cell.1 kept).legal)
+          rw kept (calls_rise cell.0.form entries (closed_at on cell.0 entries cell.1 kept).legal)
 
   -- ---- one caller
 
@@ -77,9 +74,8 @@ module _ {L : Type 0} (limit : ℕ) (script : Script) (board : BoardShown L) (hi
     owns on within =
         finished.goes.owners on ∙ begins_owning board conn on (omega (arith, within, begins_long board conn))
 
-    calls_mine : (on : StrNo) (entries : AnyHistory) → on.0 < length board.cells
-        → slice_get histories on.0 ≡ Some entries
-        → (pass_at worker.desk on).calls ≡ own_calls (calls_on histories on) conn
+    calls_mine : (on : StrNo) (entries : AnyHistory) → on.0 < length board.cells → slice_get
+        histories on.0 ≡ Some entries → (pass_at worker.desk on).calls ≡ own_calls (calls_on histories on) conn
     calls_mine on entries within kept =
         let cell = cell_there on.0 within in
         (account on cell.0 entries cell.1 kept).mine ∙ ap (own_calls (any_calls entries)) (owns on within)
@@ -97,9 +93,8 @@ module _ {L : Type 0} (limit : ℕ) (script : Script) (board : BoardShown L) (hi
             behind = sym (calls_mine on kept.0 within kept.1) ∙ sym (append-nil (pass_at worker.desk on).calls);
           };
           known = omega (arith, known.known, reached);
-          tests = λ form entries found kept'. by_names form entries cell.0 kept.0
-              (sym (form_there on.0 cell.0 cell.1) ∙ found) (sym kept.1 ∙ kept')
-              known.tests;
+          tests = λ form entries found kept'. by_names form
+              entries cell.0 kept.0 (sym (form_there on.0 cell.0 cell.1) ∙ found) (sym kept.1 ∙ kept') known.tests;
         }
       where
         by_names : (form : StrForm) (entries : AnyHistory) (cell : CellShown L) (entries' : AnyHistory)
@@ -116,27 +111,23 @@ module _ {L : Type 0} (limit : ℕ) (script : Script) (board : BoardShown L) (hi
         elim (cases_lt on.0 (length board.cells)) [ inl within ↦ within_board on within | inr past ↦ outside past ]
       where
         outside : length board.cells ≤ on.0 → IsWithin me on (pass_at worker.desk on)
-        outside past =
-            subst (IsWithin me on) (sym (no_such_pass on past))
-            (record {
-              calls = record { more = own_calls (calls_on histories on) conn; behind = refl };
-              known = omega arith;
-              tests = λ form entries found kept. All-nil (IsAnyTold form entries conn);
-            })
+        outside past = subst (IsWithin me on) (sym (no_such_pass on past)) (record {
+          calls = record { more = own_calls (calls_on histories on) conn; behind = refl };
+          known = omega arith;
+          tests = λ form entries found kept. All-nil (IsAnyTold form entries conn);
+        })
 
     goes_with : IsTranscript me worker
     goes_with = finished.goes.forth are_within (begins_shown board me)
 
     agrees : AgreesWith histories conn worker.shown.items
-    agrees =
-        record {
-          numbers = λ on small. numbers on small;
-          notes = λ k item found. (goes_with.each k item found).0;
-        }
+    agrees = record {
+      numbers = λ on small. numbers on small;
+      notes = λ k item found. (goes_with.each k item found).0;
+    }
       where
-        numbers : (on : StrNo) → on.0 < length histories
-            → numbers_on on worker.shown.items
-            ≡ map (λ (call : AnyCall). call.no) (own_calls (calls_on histories on) conn)
+        numbers : (on : StrNo) → on.0 < length histories → numbers_on
+            on worker.shown.items ≡ map (λ (call : AnyCall). call.no) (own_calls (calls_on histories on) conn)
         numbers on small =
             let within : on.0 < length board.cells = omega (arith, small, closed.structures) in
             let kept = history_there on.0 within in
@@ -146,14 +137,12 @@ module _ {L : Type 0} (limit : ℕ) (script : Script) (board : BoardShown L) (hi
     tests k item form entries found known kept = (goes_with.each k item found).1 form entries known kept
 
     work : ShowsWork limit script histories conn worker.shown
-    work =
-        record {
-          ends = subst
-              (λ (items : List Shown). WorkEnds limit script histories conn items worker.shown.end)
-              (sym finished.goes.items)
-              (finished.ends are_within (subst (AgreesWith histories conn) finished.goes.items agrees));
-          tests = tests;
-        }
+    work = record {
+      ends = subst (λ (items : List Shown). WorkEnds limit script histories conn items worker.shown.end)
+          (sym finished.goes.items)
+          (finished.shows tt are_within (subst (AgreesWith histories conn) finished.goes.items agrees));
+      tests = tests;
+    }
 
   -- where memory was found, the items follow the script, or stop at a full journal
   ends_right : (conn : ConnId) (shown : Transcript) → shown.end ≢ ended.NoMemory
@@ -163,85 +152,44 @@ module _ {L : Type 0} (limit : ℕ) (script : Script) (board : BoardShown L) (hi
   -- ---- all callers
 
   history_of : (x : ℕ) (form : StrForm) (entries : AnyHistory) → slice_get script.structures x ≡ Some form
-      → slice_get histories x ≡ Some entries
-      → IsHistoryOf script form entries
+      → slice_get histories x ≡ Some entries → IsHistoryOf script form entries
   history_of x form entries known kept =
       let cell = cell_within x entries kept in
       let is : IsClosed cell.0 entries = closed_at (record { 0 = x }) cell.0 entries cell.1 kept in
       let start : IsStarted (length script.connectors) limit cell.0 = starts x cell.0 cell.1 in
       let both : Some cell.0.form ≡ Some form = sym (form_there x cell.0 cell.1) ∙ known in
       let same : cell.0.form ≡ form = cc in
-      subst (λ (f : StrForm). IsHistoryOf script f entries) same
-      (record {
+      subst (λ (f : StrForm). IsHistoryOf script f entries) same (record {
         kind = kind_of_type cell.0.form.kind entries (is.history_type ∙ start.type_is);
         legal = is.legal;
         callers = subst (λ (n : ℕ). All (λ (call : AnyCall). call.by.0 ≤ n) (any_calls entries)) start.callers_is
             is.callers;
       })
 
-  -- each caller, at its own desk
-  work_of : (c : ℕ) (worker : AtWork) → slice_get workers c ≡ Some worker
+  -- However a caller's work ended, and whatever the others did: what it was shown are the caller's calls, each once and
+  -- in their order, as far as its work came, and tests that tell what stood.
+  pub serve_right : (c : ℕ) (worker : AtWork) → slice_get workers c ≡ Some worker
       → Serves board script.lines (record { desk = new_desk board c; shown = no_items }) worker
       → ShowsWork limit script histories (record { 0 = c }) worker.shown
-  work_of c worker there serves =
-      work (record { 0 = c }) worker there
-      (finishes limit board script histories (record { 0 = c }) setting forms_are worker serves)
+  serve_right c worker there serves = work (record { 0 = c })
+      worker there (finishes limit board script histories (record { 0 = c }) setting forms_are worker serves)
 
-  shows_all : length workers ≡ length script.connectors + 1
-      → ((c : ℕ) (worker : AtWork) → slice_get workers c ≡ Some worker
-      → Serves board script.lines (record { desk = new_desk board c; shown = no_items }) worker)
+  -- Whatever the schedule was, what the callers were shown goes with the histories: these are legal, and hold each
+  -- caller's calls once and in its order; each transcript follows the script, or stops at a full journal; and each test
+  -- tells what stood.
+  pub serves_right : length workers ≡ length script.connectors + 1 → ((c : ℕ) (worker : AtWork) → slice_get workers
+      c ≡ Some worker → Serves board script.lines (record { desk = new_desk board c; shown = no_items }) worker)
       → All (λ worker. worker.shown.end ≢ ended.NoMemory) workers
       → ShowsHistories limit script histories (map (λ worker. worker.shown) workers)
-  shows_all as_workers serve found =
-      record {
-        structures = closed.structures ∙ as_many;
-        histories_right = history_of;
-        callers = length-map workers shown_of ∙ as_workers;
-        ends = λ c transcript shown'. ends_of c transcript (get_mapped shown_of workers c transcript shown');
-        tests = λ c transcript shown'. tests_of c transcript (get_mapped shown_of workers c transcript shown');
-      }
-    where
-      ends_of : (c : ℕ) (transcript : Transcript)
-          → (worker : AtWork) × (slice_get workers c ≡ Some worker) × (worker.shown ≡ transcript)
-          → EndsRight limit script histories (record { 0 = c }) transcript.items transcript.end
-      ends_of c transcript (worker, there, is) =
-          subst (λ (t : Transcript). EndsRight limit script histories (record { 0 = c }) t.items t.end) is
-          (ends_right (record { 0 = c }) worker.shown
-          (all_get (λ (worker : AtWork). worker.shown.end ≢ ended.NoMemory) workers c worker found there)
-          (work_of c worker there (serve c worker there)))
-
-      tests_of : (c : ℕ) (transcript : Transcript)
-          → (worker : AtWork) × (slice_get workers c ≡ Some worker) × (worker.shown ≡ transcript)
-          → TestsTell script.structures histories (record { 0 = c }) transcript.items
-      tests_of c transcript (worker, there, is) =
-          subst (λ (t : Transcript). TestsTell script.structures histories (record { 0 = c }) t.items) is
-          (work_of c worker there (serve c worker there)).tests
-
--- However a caller's work ended, and whatever the others did: what it was shown are the caller's calls, each once and
--- in their order, as far as its work came, and tests that tell what stood.
-pub serve_right : {L : Type 0} (limit : ℕ) (script : Script) (board : BoardShown L) (histories : List AnyHistory)
-    (workers : List AtWork) (c : ℕ) (worker : AtWork)
-    → map (λ cell. cell.form) board.cells ≡ script.structures
-    → All (IsStarted (length script.connectors) limit) board.cells
-    → AreClosed board (map (λ worker. worker.desk) workers) histories
-    → slice_get workers c ≡ Some worker
-    → Serves board script.lines (record { desk = new_desk board c; shown = no_items }) worker
-    → ShowsWork limit script histories (record { 0 = c }) worker.shown
-serve_right limit script board histories workers c worker forms_are started closed there serves =
-    work_of limit script board histories workers forms_are started closed c worker there serves
-
--- Whatever the schedule was, what the callers were shown goes with the histories: these are legal, and hold each
--- caller's calls once and in its order; each transcript follows the script, or stops at a full journal; and each test
--- tells what stood.
-pub serves_right : {L : Type 0} (limit : ℕ) (script : Script) (board : BoardShown L) (histories : List AnyHistory)
-    (workers : List AtWork)
-    → map (λ cell. cell.form) board.cells ≡ script.structures
-    → All (IsStarted (length script.connectors) limit) board.cells
-    → length workers ≡ length script.connectors + 1
-    → ((c : ℕ) (worker : AtWork) → slice_get workers c ≡ Some worker
-    → Serves board script.lines (record { desk = new_desk board c; shown = no_items }) worker)
-    → All (λ worker. worker.shown.end ≢ ended.NoMemory) workers
-    → AreClosed board (map (λ worker. worker.desk) workers) histories
-    → ShowsHistories limit script histories (map (λ worker. worker.shown) workers)
-serves_right limit script board histories workers forms_are started as_workers serve found closed =
-    shows_all limit script board histories workers forms_are started closed as_workers serve found
+  serves_right as_workers serve found = record {
+    structures = closed.structures ∙ as_many;
+    histories_right = history_of;
+    callers = length-map workers shown_of ∙ as_workers;
+    ends = λ c transcript shown'. (let it = get_mapped shown_of workers c transcript shown' in
+        subst (λ (t : Transcript). EndsRight limit script histories (record { 0 = c }) t.items t.end)
+        it.2 (ends_right (record { 0 = c }) it.0.shown (all_get (λ (worker : AtWork). worker.shown.end ≢
+        ended.NoMemory) workers c it.0 found it.1) (serve_right c it.0 it.1 (serve c it.0 it.1))));
+    tests = λ c transcript shown'. (let it = get_mapped shown_of workers c transcript shown' in
+        subst (λ (t : Transcript). TestsTell script.structures histories (record { 0 = c }) t.items) it.2
+        (serve_right c it.0 it.1 (serve c it.0 it.1)).tests);
+  }

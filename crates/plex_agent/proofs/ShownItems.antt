@@ -19,13 +19,11 @@ each_push {X} P xs y each here k x e = grind (arith, pushed_cases, take-append-l
 abbrev pub greatest : {X : Type 0} → (X → Option ℕ) → List X → ℕ
 greatest reading xs = fold max 0 (filter_map reading xs)
 
-pub greatest_push : {X : Type 0} (reading : X → Option ℕ) (xs : List X) (y : X) (most most' : ℕ)
-    → greatest reading xs ≤ most → most ≤ most'
-    → ((n : ℕ) → reading y ≡ Some n → n ≤ most') → greatest reading (xs ++ y ∷ []) ≤ most'
+pub greatest_push : {X : Type 0} (reading : X → Option ℕ) (xs : List X) (y : X) (most most' : ℕ) → greatest reading
+    xs ≤ most → most ≤ most' → ((n : ℕ) → reading y ≡ Some n → n ≤ most') → greatest reading (xs ++ y ∷ []) ≤ most'
 greatest_push {X} reading xs y most most' before grows here = grind (arith, filter_map-append, fold-append)
 
 -- an item that a reading doesn't read
 pub unread_push : {X : Type 0} {Y : Type 0} (reading : X → Option Y) (xs : List X) (y : X) → reading y ≡ None
     → filter_map reading (xs ++ y ∷ []) ≡ filter_map reading xs
-unread_push reading xs y none =
-    filter_map-append reading xs (y ∷ []) ∙ rw none (append-nil (filter_map reading xs))
+unread_push reading xs y none = filter_map-append reading xs (y ∷ []) ∙ rw none (append-nil (filter_map reading xs))

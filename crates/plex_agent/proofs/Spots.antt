@@ -132,9 +132,8 @@ below_later : (front front' : ℕ) (calls : List AnyCall) → front ≤ front' �
     → AreBelow front' calls
 below_later front front' calls later below = grind (arith, All-weaker)
 
-pass_later : (events : List AnyCall) (front front' c : ℕ) (pass : PassShown) → front ≤ front'
-    → IsKnownPass events front c pass
-    → IsKnownPass events front' c pass
+pass_later : (events : List AnyCall) (front front' c : ℕ) (pass : PassShown)
+    → front ≤ front' → IsKnownPass events front c pass → IsKnownPass events front' c pass
 pass_later events front front' c pass later is =
     record { owner = is.owner; sure = is.sure; within = omega (arith, is.within); calls = is.calls }
 
@@ -145,9 +144,8 @@ known_moved callers by spot pass caller known later sure owner calls =
     grind (arith, put_all, pass_later, below_later, put_same, note_later)
 
 pub known_noticed : (callers by : ℕ) (spot : Spot) (pass : PassShown) → by ≤ callers → IsKnown callers spot
-    → (spot.passes by).known ≤ pass.known → pass.known ≤ spot.front → pass.sure ≤ pass.known
-    → pass.owner ≡ (spot.passes by).owner → pass.calls ≡ (spot.passes by).calls
-    → IsKnown callers (noticed by pass spot)
+    → (spot.passes by).known ≤ pass.known → pass.known ≤ spot.front → pass.sure ≤ pass.known →
+    pass.owner ≡ (spot.passes by).owner → pass.calls ≡ (spot.passes by).calls → IsKnown callers (noticed by pass spot)
 known_noticed callers by spot pass caller known later within sure owner calls = grind (arith, put_all)
 
 pub known_posted : (callers : ℕ) (spot : Spot) (note : NoteShown) → IsKnown callers spot → note.sure ≤ note.known
@@ -158,37 +156,31 @@ pub known_called : (callers by : ℕ) (spot : Spot) (asked : AnyAsk) (told : Tol
     → IsKnown callers spot
     → spot.last ≡ Some (conn by) → spot.front < told.no → IsKnown callers (called by asked told reply spot)
 known_called callers by spot asked told reply caller known last above =
-    let call : AnyCall = event by asked told in
-    let before : PassShown = spot.passes by in
-    let mine : IsKnownPass spot.events spot.front by before = known.pass by caller in
-    let named : before.calls ++ record { no = told.no; by = before.owner; ask = asked; told = told } ∷ []
-    ≡ before.calls ++ call ∷ [] =
-    ap (λ (o : ConnId). before.calls ++ record { no = told.no; by = o; ask = asked; told = told } ∷ []) mine.owner in
+    let call = event by asked told in
+    let before = spot.passes by in
+    let mine = known.pass by caller in
+    let named =
+    ap (λ o. before.calls ++ record { no = told.no; by = o; ask = asked; told = told } ∷ []) mine.owner in
     record {
-      pass = put_all (λ c pass'. c ≤ callers → IsKnownPass (spot.events ++ call ∷ []) told.no c pass') by
-          (with_call asked told reply before) spot.passes
-          (λ within. record {
+      pass = put_all (λ c pass'. c ≤ callers → IsKnownPass (spot.events ++ call ∷ []) told.no c pass')
+          _ _ _ (λ within. record {
             owner = mine.owner;
             sure = omega arith;
             within = omega arith;
-            calls = named ∙ ap (λ (t : List AnyCall). t ++ call ∷ []) mine.calls
-                ∙ sym (own_push spot.events call by refl);
-          })
-          (λ other apart within. record {
+            calls = named ∙ ap (λ t. t ++ call ∷ []) mine.calls ∙ sym (own_push spot.events call by refl);
+          }) (λ other apart within. record {
             owner = (known.pass other within).owner;
             sure = (known.pass other within).sure;
             within = omega (arith, (known.pass other within).within);
-            calls = (known.pass other within).calls ∙ sym (own_push_other spot.events call other
-                (λ e. apart (sym e)));
+            calls = (known.pass other within).calls ∙ sym (own_push_other _ _ _ (λ e. apart (sym e)));
           });
-      rising = rising_push 0 spot.events call spot.front (omega arith) known.rising known.below above;
-      below = All-push (λ (call : AnyCall). call.no ≤ told.no) spot.events call
-          (below_later spot.front told.no spot.events (omega arith) known.below) (omega arith);
-      by = All-push (λ (call : AnyCall). call.by.0 ≤ callers) spot.events call known.by caller;
+      rising = rising_push 0 _ _ _ (omega arith) known.rising known.below above;
+      below = All-push (λ call. call.no ≤ told.no) spot.events call
+          (below_later _ _ _ (omega arith) known.below) (omega arith);
+      by = All-push (λ call. call.by.0 ≤ callers) spot.events call known.by caller;
       lasts = rw last (
         caller,
-        ap (λ (p : PassShown). p.known) (put_same by (with_call asked told reply before)
-            spot.passes),
+        ap (λ p. p.known) (put_same by (with_call asked told reply before) spot.passes),
       );
-      noted = note_later spot.front told.no spot.note (omega arith) known.noted;
+      noted = note_later _ _ _ (omega arith) known.noted;
     }

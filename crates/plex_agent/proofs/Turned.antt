@@ -4,24 +4,13 @@ use Rattle.plex_board.specs.PlexScript.declared.transcripts.AgentEnd.TheVariants
 use Rattle.plex_agent.proofs.Spots.{conn, str, put, put_same, put_other, Spot, LastKnows, noticed, known_noticed}
 use Rattle.plex_agent.proofs.Fits.{fits_put, heard_as, heard_pass}
 use Rattle.plex_agent.proofs.Stages.{Stage, State, Known, Shows, Goes, acted, known_acted, fits_acted}
-use Rattle.plex_agent.proofs.ExactMoves.{heard_state}
+use Rattle.plex_agent.proofs.ExactMoves.{heard_state, changed}
 use Rattle.plex_agent.proofs.Workers.{pass_same, pass_other, IsWorker, OthersSame, by_place, IsFloor, floor_after}
 
 -- ---- a step at one structure, as workers see it
 
--- the caller's pass became this, and what else is told of the structure
-abbrev pub changed : ℕ → PassShown → Option NoteShown → Option ConnId → ℕ → Spot → Spot
-changed by pass note last front spot = record {
-  passes = put by pass spot.passes;
-  note = note;
-  last = last;
-  events = spot.events;
-  front = front;
-}
-
-module _ (on by : ℕ) (pass : PassShown) (note : Option NoteShown) (last : Option ConnId) (front : ℕ)
-    (transcript : Transcript)
-    (before : State) where
+module _ (on by : ℕ) (pass : PassShown)
+    (note : Option NoteShown) (last : Option ConnId) (front : ℕ) (transcript : Transcript) (before : State) where
   abbrev pub turned : State
   turned = acted on by (changed by pass note last front (before.spots on)) transcript before
 
@@ -55,68 +44,50 @@ module _ (on by : ℕ) (pass : PassShown) (note : Option NoteShown) (last : Opti
   -- the floor that such a turn leaves
   pub turned_floor : (stage : Stage) (worker : AtWork) (floor floor' : Floor) → on < stage.cells → by ≤ stage.callers
       → IsFloor stage floor before → IsWorker stage.cells by worker turned
-      → floor' ≡ record {
-        workers = set floor.workers by worker;
-        tray = set floor.tray on note;
-        last = set floor.last on last;
-      }
-      → IsFloor stage floor' turned
-  turned_floor stage worker floor floor' within caller is mine floor_is =
-      floor_after stage by worker floor floor' before turned caller is (ap (λ (f : Floor). f.workers) floor_is)
-      (ap (λ (f : Floor). length f.tray) floor_is ∙ length-set floor.tray on note ∙ is.tray)
-      (ap (λ (f : Floor). length f.last) floor_is ∙ length-set floor.last on last ∙ is.lasts)
-      (λ x inside. ap (λ (f : Floor). note_in f.tray (str x)) floor_is
-      ∙ turned_note stage.cells floor.tray is.tray is.note x inside)
-      (λ x inside. ap (λ (f : Floor). slice_index_or f.last x None) floor_is
-      ∙ turned_last stage.cells floor.last is.lasts is.last x inside)
-      mine turned_others
+      → floor'.workers ≡ set floor.workers by worker → floor'.tray ≡ set floor.tray on note
+      → floor'.last ≡ set floor.last on last → IsFloor stage floor' turned
+  turned_floor stage worker floor floor' within caller is mine workers_are tray_is last_is =
+      floor_after _ _ _ _ _ _ _ caller is workers_are (ap length tray_is ∙ length-set floor.tray on note ∙ is.tray)
+      (ap length last_is ∙ length-set floor.last on last ∙ is.lasts) (λ x inside. ap (λ t. note_in t (str x)) tray_is
+      ∙ turned_note _ _ is.tray is.note x inside) (λ x inside. ap (λ t. slice_index_or t x None) last_is
+      ∙ turned_last _ _ is.lasts is.last x inside) mine turned_others
 
 -- what stands there, put there again
-pub tray_again : (stage : Stage) (on : ℕ) (floor : Floor) (state : State) → on < stage.cells
-    → IsFloor stage floor state
-    → set floor.tray on (state.spots on).note ≡ floor.tray
+pub tray_again : (stage : Stage) (on : ℕ) (floor : Floor) (state : State)
+    → on < stage.cells → IsFloor stage floor state → set floor.tray on (state.spots on).note ≡ floor.tray
 tray_again stage on floor state within is =
     ap (λ (n : Option NoteShown). set floor.tray on n) (sym (is.note on within)) ∙ set-get_or floor.tray on None
 
-pub last_again : (stage : Stage) (on : ℕ) (floor : Floor) (state : State) → on < stage.cells
-    → IsFloor stage floor state
-    → set floor.last on (state.spots on).last ≡ floor.last
+pub last_again : (stage : Stage) (on : ℕ) (floor : Floor) (state : State)
+    → on < stage.cells → IsFloor stage floor state → set floor.last on (state.spots on).last ≡ floor.last
 last_again stage on floor state within is =
     ap (λ (l : Option ConnId). set floor.last on l) (sym (is.last on within)) ∙ set-get_or floor.last on None
 
 -- ---- hearings
 
 -- the worker is told what the caller is told
-pub heard_desk : (stage : Stage) (on by : ℕ) (worker : AtWork) (floor : Floor) (state : State) → on < stage.cells
-    → IsFloor stage floor state → Known stage state → length worker.desk.passes ≡ stage.cells
-    → pass_at worker.desk (str on) ≡ (state.spots on).passes by
-    → heard_from_last floor (conn by) worker (str on)
-    ≡ record worker { desk = with_pass (str on) (heard_pass by (state.spots on)) worker.desk }
+pub heard_desk : (stage : Stage) (on by : ℕ) (worker : AtWork) (floor : Floor) (state : State)
+    → on < stage.cells → IsFloor stage floor state → Known stage state → length worker.desk.passes ≡ stage.cells
+    → pass_at worker.desk (str on) ≡ (state.spots on).passes by → heard_from_last floor (conn by)
+    worker (str on) ≡ record worker { desk = with_pass (str on) (heard_pass by (state.spots on)) worker.desk }
 heard_desk stage on by worker floor state within is known size pass_is =
     grind (arith, conn, str, set-get_or, LastKnows, heard_as)
 
 -- the caller that heard
-pub heard_worker : (stage : Stage) (on by : ℕ) (floor : Floor) (state : State) → on < stage.cells → by ≤ stage.callers
-    → IsFloor stage floor state → Known stage state
-    → IsWorker stage.cells by (heard_from_last floor (conn by) (worker_of floor (conn by)) (str on))
-    (heard_state on by state)
+pub heard_worker : (stage : Stage) (on by : ℕ) (floor : Floor) (state : State) → on < stage.cells
+    → by ≤ stage.callers → IsFloor stage floor state → Known stage state → IsWorker stage.cells
+    by (heard_from_last floor (conn by) (worker_of floor (conn by)) (str on)) (heard_state on by state)
 heard_worker stage on by floor state within caller is known =
-    let worker : AtWork = worker_of floor (conn by) in
-    let at : IsWorker stage.cells by worker state = is.worker by caller in
-    let pass : PassShown = heard_pass by (state.spots on) in
-    let heard_is : heard_from_last floor (conn by) worker (str on) ≡ record worker
-    { desk = with_pass (str on) pass worker.desk } =
-    heard_desk stage on by worker floor state within is known at.size (at.passes on within) in
-    turned_worker on by pass (state.spots on).note (Some (conn by)) pass.known (state.shown by) state stage.cells
-    worker
-    (heard_from_last floor (conn by) worker (str on)) within at (ap (λ (w : AtWork). w.desk) heard_is)
-    (ap (λ (w : AtWork). w.shown) heard_is ∙ at.shown)
+    let worker = worker_of floor (conn by) in
+    let at = is.worker by caller in
+    let pass = heard_pass by (state.spots on) in
+    let heard_is = heard_desk _ _ _ _ _ _ within is known at.size (at.passes on within) in
+    turned_worker _ _ _ _ _ _ _ _ _ _ _ within at (ap (λ w. w.desk) heard_is) (ap (λ w. w.shown) heard_is ∙ at.shown)
 
 -- ---- out of memory
 
 abbrev pub out_state : ℕ → ℕ → State → State
-out_state on by state =
-    acted on by (noticed by ((state.spots on).passes by) (state.spots on))
+out_state on by state = acted on by (noticed by ((state.spots on).passes by) (state.spots on))
     (record (state.shown by) { end = ended.NoMemory }) state
 
 pub goes_out : (stage : Stage) (shows shows' : Shows) (on by : ℕ) (goes : Run → Run) (state : State)

@@ -1,39 +1,34 @@
 -- A caller's turn at a structure: what it does to desk and transcript, and what its items show by the histories.
-use Rattle.plex_agent.proofs.Imports.{◌≡◌, ℕ, ◌≤◌, ◌<◌, List, [], ◌∷◌, ◌++◌, length, map, Some, Option, refl, sym, ap, subst, ◌∙◌, arith, append-nil, append_assoc, Kind, ConnId, StrNo, Told, Step, AnyAsk, AgentEnd, Shown, step_after, asked_by, AnyCall, call_numbered, calls_on, length_on, IsHeard, Runs, RunsUpTo, AnyReply, PassShown, with_call, Rising, DeskShown, pass_at, with_pass, AtWork, call_item, Steps, Halts, EndsAt, Asks}
+use Rattle.plex_agent.proofs.Imports.{◌≡◌, ℕ, ◌≤◌, ◌<◌, List, [], ◌∷◌, ◌++◌, length, map, Some, Option, refl, sym, ap, subst, ◌∙◌, arith, append-nil, append_assoc, Kind, ConnId, StrNo, Told, Step, AnyAsk, AgentEnd, Shown, step_after, asked_by, AnyCall, call_numbered, calls_on, length_on, IsHeard, Runs, RunsUpTo, AnyReply, PassShown, with_call, Rising, DeskShown, pass_at, with_pass, AtWork, call_item, Steps, Halts, EndsAt, Asks, pass_at-with_pass_same}
 use Rattle.std.proofs.lemmas.List.{length-set}
 use Rattle.plex_board.specs.PlexScript.declared.agents.Step.TheVariants as step
 use Rattle.plex_board.specs.PlexScript.declared.transcripts.AgentEnd.TheVariants as ended
 use Rattle.plex_agent.proofs.Fronts.{own_heard}
 use Rattle.plex_agent.proofs.Passes.{Caller, IsWithin, Advances, advances_none, advances_then, advances_one, advances_later}
 use Rattle.plex_agent.proofs.Adds.{call_adds}
-use Rattle.plex_agent.proofs.Moves.{Moves, moves_by, pass_here, pass_elsewhere}
+use Rattle.plex_agent.proofs.Moves.{Moves, moves_by, pass_elsewhere}
 
 module _ (me : Caller) where
   -- ---- steps
 
-  steps_advance : (kind : Kind) (line : Option AnyAsk) (on : StrNo) (now : Step) (pass : PassShown)
-      (tolds : List Told) (last : Step)
-      (pass' : PassShown) → Steps kind line now pass tolds last pass'
-      → Advances me on pass pass' (map (call_item on) tolds)
+  steps_advance : (kind : Kind) (line : Option AnyAsk) (on : StrNo)
+      (now : Step) (pass : PassShown) (tolds : List Told) (last : Step) (pass' : PassShown)
+      → Steps kind line now pass tolds last pass' → Advances me on pass pass' (map (call_item on) tolds)
   steps_advance kind line on now pass [] last pass' steps =
       subst (λ (p : PassShown). Advances me on pass p []) (sym steps.1) (advances_none me on pass)
   steps_advance kind line on now pass (told ∷ tolds) last pass' (asked, next, above, reply, rest) =
-      advances_then me on pass (with_call asked told reply pass) pass' (call_item on told ∷ []) (map (call_item on) tolds)
-      (advances_one me on pass (with_call asked told reply pass) (call_item on told)
-      (call_adds me on pass asked told reply above))
+      advances_then _ _ _ _ _ _ _ (advances_one _ _ _ _ _ (call_adds _ _ _ _ _ _ above))
       (steps_advance kind line on (step_after now told) (with_call asked told reply pass) tolds last pass' rest)
 
   -- a call of a pass that is in the histories is heard there
   call_heard : (on : StrNo) (by : ConnId) (asked : AnyAsk) (told : Told) (reply : AnyReply) (pass : PassShown)
-      → Rising 0 (calls_on me.histories on) → pass.owner ≡ by
-      → IsWithin me on (with_call asked told reply pass)
-      → call_numbered told.no (calls_on me.histories on)
-      ≡ Some (record { no = told.no; by = by; ask = asked; told = told })
+      → Rising 0 (calls_on me.histories on)
+      → pass.owner ≡ by → IsWithin me on (with_call asked told reply pass) → call_numbered
+      told.no (calls_on me.histories on) ≡ Some (record { no = told.no; by = by; ask = asked; told = told })
   call_heard on by asked told reply pass rise owner within =
       let call : AnyCall = record { no = told.no; by = pass.owner; ask = asked; told = told } in
       let found : call_numbered told.no (calls_on me.histories on) ≡ Some call =
-      own_heard 0 (calls_on me.histories on) me.conn pass.calls call within.calls.more rise
-      (within.calls.behind ∙ append_assoc pass.calls (call ∷ []) within.calls.more) in
+      own_heard 0 _ _ _ _ _ rise (within.calls.behind ∙ append_assoc pass.calls (call ∷ []) within.calls.more) in
       let by_other : ConnId → Option AnyCall =
       λ (b : ConnId). Some (record { no = told.no; by = b; ask = asked; told = told }) in
       found ∙ ap by_other owner
@@ -43,25 +38,20 @@ module _ (me : Caller) where
     abbrev AreHeard : Step → Told → Type 0
     AreHeard now told = IsHeard (calls_on me.histories on) by (asked_by kind line now) told.no told
 
-    step_heard : (now : Step) (asked : AnyAsk) (told : Told) (reply : AnyReply) (pass : PassShown)
-        → asked_by kind line now ≡ Some asked
-        → pass.owner ≡ by
-        → IsWithin me on (with_call asked told reply pass) → AreHeard now told
-    step_heard now asked told reply pass next owner within =
-        subst (λ (o : Option AnyAsk). IsHeard (calls_on me.histories on) by o told.no told) (sym next)
-        (call_heard on by asked told reply pass rise owner within)
+    step_heard : (now : Step) (asked : AnyAsk) (told : Told) (reply : AnyReply) (pass : PassShown) → asked_by kind
+        line now ≡ Some asked → pass.owner ≡ by → IsWithin me on (with_call asked told reply pass) → AreHeard now told
+    step_heard now asked told reply pass next owner within = subst (λ o. IsHeard (calls_on me.histories on)
+        by o told.no told) (sym next) (call_heard on by asked told reply pass rise owner within)
 
     steps_run : (now : Step) (pass : PassShown) (tolds : List Told) (last : Step) (pass' : PassShown)
-        → Steps kind line now pass tolds last pass'
-        → pass.owner ≡ by → IsWithin me on pass' → last ≡ step.Rest
-        → Runs kind line (calls_on me.histories on) by on now (map (call_item on) tolds)
+        → Steps kind line now pass tolds last pass' → pass.owner ≡ by → IsWithin me on pass'
+        → last ≡ step.Rest → Runs kind line (calls_on me.histories on) by on now (map (call_item on) tolds)
     steps_run now pass [] last pass' steps owner within rests = sym steps.0 ∙ rests
     steps_run now pass (told ∷ tolds) last pass' (asked, next, above, reply, rest) owner within rests = (
       told,
       refl,
-      step_heard now asked told reply pass next owner
-          ((steps_advance kind line on (step_after now told) (with_call asked told reply pass) tolds last pass' rest).back
-          within),
+      step_heard now asked told reply pass next owner ((steps_advance
+          kind line on (step_after now told) (with_call asked told reply pass) tolds last pass' rest).back within),
       steps_run (step_after now told) (with_call asked told reply pass) tolds last pass' rest owner within rests,
     )
 
@@ -74,10 +64,10 @@ module _ (me : Caller) where
     steps_run_up_to now pass (told ∷ tolds) last pass' (asked, next, above, reply, rest) owner within ask asks = (
       told,
       refl,
-      step_heard now asked told reply pass next owner
-          ((steps_advance kind line on (step_after now told) (with_call asked told reply pass) tolds last pass' rest).back
-          within),
-      steps_run_up_to (step_after now told) (with_call asked told reply pass) tolds last pass' rest owner within ask asks,
+      step_heard now asked told reply pass next owner ((steps_advance
+          kind line on (step_after now told) (with_call asked told reply pass) tolds last pass' rest).back within),
+      steps_run_up_to (step_after now told) (with_call asked told reply pass) tolds last pass'
+          rest owner within ask asks,
     )
 
   -- ---- turns
@@ -100,8 +90,7 @@ module _ (me : Caller) where
   -- ---- calls
 
   module _ (limit : ℕ) (kind : Kind) (line : Option AnyAsk) (on : StrNo) (by : ConnId) (first : Step)
-      (before : AtWork)
-      (rise : Rising 0 (calls_on me.histories on)) (inside : on.0 < length before.desk.passes) where
+      (before : AtWork) (rise : Rising 0 (calls_on me.histories on)) (inside : on.0 < length before.desk.passes) where
     abbrev pub RunsAll : List Shown → Type 0
     RunsAll part = Runs kind line (calls_on me.histories on) by on first part
 
@@ -117,21 +106,18 @@ module _ (me : Caller) where
     module _ (tolds : List Told) (last : Step) (pass : PassShown)
         (steps : Steps kind line first (pass_at before.desk on) tolds last pass)
         (desk : DeskShown) (items : List Shown) (shows : items ≡ before.shown.items ++ map (call_item on) tolds) where
-      halts : (end : AgentEnd) → Halts kind line on last (with_pass on pass before.desk) desk
-          → Moves me on before (at_work desk items end) (map (call_item on) tolds)
-          × ((pass_at before.desk on).owner ≡ by → IsWithin me on (pass_at desk on)
-          → RunsPart (map (call_item on) tolds))
+      halts : (end : AgentEnd) → Halts kind line on last (with_pass on pass before.desk) desk → Moves
+          me on before (at_work desk items end) (map (call_item on) tolds) × ((pass_at before.desk on).owner ≡ by
+          → IsWithin me on (pass_at desk on) → RunsPart (map (call_item on) tolds))
       halts end stop = (
         record {
           items = shows;
-          owner = ap (λ (d : DeskShown). d.owner) stop.later.rest;
-          passes = ap (λ (d : DeskShown). length d.passes) stop.later.rest ∙ set_twice;
-          here = subst (Advances me on was (pass_at desk on)) (append-nil (map (call_item on) tolds))
-              (advances_then me on was pass (pass_at desk on) (map (call_item on) tolds) []
-              (steps_advance kind line on first was tolds last pass steps) later);
-          rest = λ other apart. ap (λ (d : DeskShown). pass_at d other) stop.later.rest
-              ∙ pass_elsewhere on other (pass_at desk on) (with_pass on pass before.desk) apart
-              ∙ pass_elsewhere on other pass before.desk apart;
+          owner = ap (λ d. d.owner) stop.later.rest;
+          passes = ap (λ d. length d.passes) stop.later.rest ∙ set_twice;
+          here = subst (Advances me on was _) (append-nil (map (call_item on) tolds))
+              (advances_then _ _ _ _ _ _ _ (steps_advance kind line on first was tolds last pass steps) later);
+          rest = λ other apart. ap (λ d. pass_at d other) stop.later.rest ∙ pass_elsewhere on other (pass_at desk on)
+              (with_pass on pass before.desk) apart ∙ pass_elsewhere on other pass before.desk apart;
         },
         λ owner within. steps_run_up_to kind line on by rise first was tolds last pass steps owner (later.back within)
             stop.asked stop.next,
@@ -142,22 +128,19 @@ module _ (me : Caller) where
           set_twice = simp (length-set)
 
           later : Advances me on pass (pass_at desk on) []
-          later =
-              subst (λ (p : PassShown). Advances me on p (pass_at desk on) []) (pass_here on pass before.desk inside)
-              (advances_later me on (pass_at (with_pass on pass before.desk) on) (pass_at desk on) stop.later.later)
+          later = subst (λ p. Advances me on p (pass_at desk on) [])
+              (pass_at-with_pass_same before.desk on pass inside) (advances_later _ _ _ _ stop.later.later)
 
       ends : (end : AgentEnd) → EndsAt limit kind line on last (with_pass on pass before.desk) desk end
           → Turned limit by on RunsAll RunsPart RunsPart before (at_work desk items end)
-      ends ended.Done (rests, same) =
-          record {
-            part = map (call_item on) tolds;
-            moves = moves_by me on before (at_work desk items ended.Done) pass (map (call_item on) tolds) inside same
-                shows
-                (steps_advance kind line on first was tolds last pass steps);
-            shows = λ owner within. steps_run kind line on by rise first was tolds last pass steps owner
-                (subst (IsWithin me on)
-                (ap (λ (d : DeskShown). pass_at d on) same ∙ pass_here on pass before.desk inside) within) rests;
-          }
+      ends ended.Done (rests, same) = record {
+        part = map (call_item on) tolds;
+        moves = moves_by me on before (at_work desk items ended.Done) pass (map (call_item on) tolds)
+            inside same shows (steps_advance kind line on first was tolds last pass steps);
+        shows = λ owner within. steps_run kind line on by rise first was tolds last pass
+            steps owner (subst (IsWithin me on) (ap (λ (d : DeskShown). pass_at d on) same
+            ∙ pass_at-with_pass_same before.desk on pass inside) within) rests;
+      }
       ends (ended.JournalFull place) (here, stop, full) =
           let both = halts (ended.JournalFull place) stop in
           record {
@@ -171,6 +154,5 @@ module _ (me : Caller) where
 
     pub asks_turned : (after : AtWork) → Asks limit kind line on first before after
         → Turned limit by on RunsAll RunsPart RunsPart before after
-    asks_turned after asks =
-        ends asks.tolds asks.last asks.pass asks.steps after.desk after.shown.items asks.items after.shown.end
-        asks.ends
+    asks_turned after asks = ends
+        asks.tolds asks.last asks.pass asks.steps after.desk after.shown.items asks.items after.shown.end asks.ends

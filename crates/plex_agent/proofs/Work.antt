@@ -1,11 +1,11 @@
 -- The whole work of a caller: its lines, and then its closing.
-use Rattle.plex_agent.proofs.Imports.{◌≡◌, ◌≢◌, ℕ, zero, suc, ◌+◌, ◌<◌, ◌==◌, Bool, true, false, List, [], ◌∷◌, ◌++◌, length, map, get_or, refl, sym, ap, subst, ◌∙◌, arith, append-nil, slice_get, MatchBool, length-map, nat_tests, ConnId, AnyHistory, Script, AgentEnd, Shown, Transcript, AnyCall, own_calls, is_linked, calls_on, AgreesWith, ShowsLines, lines_of, numbers_on, PassShown, unused_pass, CellShown, no_pass, pass_at, BoardShown, AtWork, is_done_as, Serves, DepartsEach, Hears, WorkEnds, beginner}
+use Rattle.plex_agent.proofs.Imports.{◌≡◌, ◌≢◌, ℕ, zero, suc, ◌+◌, ◌<◌, ◌==◌, Bool, true, false, List, [], ◌∷◌, ◌++◌, length, map, get_or, refl, sym, ap, subst, ◌∙◌, arith, append-nil, slice_get, MatchBool, length-map, nat_tests, ConnId, AnyHistory, Script, AgentEnd, Shown, Transcript, AnyCall, own_calls, is_linked, calls_on, AgreesWith, ShowsLines, lines_of, numbers_on, PassShown, unused_pass, CellShown, no_pass, pass_at, BoardShown, AtWork, is_done_as, Serves, DepartsEach, Hears, WorkEnds, beginner, take, StrForm, ShowsClosings, inr}
 use Rattle.plex_board.specs.PlexScript.declared.transcripts.AgentEnd.TheVariants as ended
 use Rattle.plex_agent.proofs.Fronts.{take_front}
 use Rattle.plex_agent.proofs.ShownItems.{each_none}
 use Rattle.plex_agent.proofs.Passes.{Caller, IsGood, IsShown}
 use Rattle.plex_agent.proofs.Moves.{AreWithin, IsTranscript, Goes, goes_then, hears_go}
-use Rattle.plex_agent.proofs.Lines.{IsSetting, Owns, owns_still, Played, LinesEnd, own_lines, lines_play}
+use Rattle.plex_agent.proofs.Lines.{IsSetting, Owns, owns_still, Played, LinesEnd, own_lines, lines_play, Comes, comes_still}
 use Rattle.plex_agent.proofs.Closings.{ClosingEnd, Departed, AreLinked, departs_rest, departs_play}
 
 -- ---- how a caller begins
@@ -25,41 +25,36 @@ module _ {L : Type 0} (conn : ConnId) where
 
 pub begins_long : {L : Type 0} (board : BoardShown L) (conn : ConnId)
     → length (beginner board conn).desk.passes ≡ length board.cells
-begins_long {L} board conn =
-    length-map board.cells (λ (cell : CellShown L). unused_pass cell.str_type cell.words conn.0)
+begins_long {L} board conn = length-map board.cells (λ cell. unused_pass cell.str_type cell.words conn.0)
 
 pub begins_owning : {L : Type 0} (board : BoardShown L) (conn : ConnId) → Owns conn (beginner board conn).desk
 begins_owning board conn on within = new_owner conn board.cells on.0 (omega (arith, within, begins_long board conn))
 
 pub begins_shown : {L : Type 0} (board : BoardShown L) (me : Caller) → IsTranscript me (beginner board me.conn)
-begins_shown board me =
-    record {
-      shows = λ on. record {
-        numbers = sym (ap (map (λ (call : AnyCall). call.no)) (no_calls_yet me.conn board.cells on.0));
-        seen = omega arith;
-        sure = omega arith;
-        reached = omega arith;
-      };
-      each = each_none (IsGood me);
-    }
+begins_shown board me = record {
+  shows = λ on. record {
+    numbers = sym (ap (map (λ (call : AnyCall). call.no)) (no_calls_yet me.conn board.cells on.0));
+    seen = omega arith;
+    sure = omega arith;
+    reached = omega arith;
+  };
+  each = each_none (IsGood me);
+}
 
 -- ---- how it ends
 
 abbrev pub caller_of : Script → List AnyHistory → ConnId → Caller
 caller_of script histories conn = record { forms = script.structures; histories = histories; conn = conn }
 
-module _ {L : Type 0} (limit : ℕ) (board : BoardShown L) (script : Script) (histories : List AnyHistory)
-    (conn : ConnId)
-    (setting : IsSetting limit board script.structures histories)
+module _ {L : Type 0} (limit : ℕ) (board : BoardShown L) (script : Script)
+    (histories : List AnyHistory) (conn : ConnId) (setting : IsSetting limit board script.structures histories)
     (forms_are : map (λ cell. cell.form) board.cells ≡ script.structures) where
   abbrev me : Caller
   me = caller_of script histories conn
 
-  pub record Finished (worker : AtWork) : Type 0 where
-    pub part : List Shown
-    pub goes : Goes me (beginner board conn) worker part
-    pub ends : AreWithin me worker.desk → AgreesWith histories conn part
-        → WorkEnds limit script histories conn part worker.shown.end
+  abbrev pub Finished : AtWork → Type 0
+  Finished worker = Comes me (λ part end. AgreesWith histories conn part
+      → WorkEnds limit script histories conn part end) (Unit {0}) (beginner board conn) worker
 
   module _ (between worker : AtWork)
       (played : Played limit board me setting (lines_of script conn) (beginner board conn) between) where
@@ -69,37 +64,21 @@ module _ {L : Type 0} (limit : ℕ) (board : BoardShown L) (script : Script) (hi
     lines_shown going within = grind (arith, LinesEnd, begins_owning)
 
     operator_ends : between.shown.end ≡ ended.Done → Hears between worker → conn.0 == 0 ≡ true → Finished worker
-    operator_ends going later operator =
-        let same : worker.shown.end ≡ ended.Done = ap (λ (t : Transcript). t.end) later.shown ∙ going in
-        let goes : Goes me between worker [] = hears_go me between worker later in
-        record {
-          part = played.part;
-          goes = subst (Goes me (beginner board conn) worker) (append-nil played.part)
-              (goes_then me (beginner board conn) between worker played.part [] played.goes goes);
-          ends = λ within agrees. subst (WorkEnds limit script histories conn played.part) (sym same) (record {
-            during = played.part;
-            after = [];
-            shows = sym (append-nil played.part);
-            lines = lines_shown going (goes.back within);
-            closings = rw operator refl;
-            agrees = agrees;
-          });
-        }
+    operator_ends going later operator = comes_still me _ _ (beginner board conn) between
+        worker played.part played.goes ended.Done going later (λ given within agrees. record {
+          during = played.part;
+          after = [];
+          shows = sym (append-nil played.part);
+          lines = lines_shown going within;
+          closings = rw operator refl;
+          agrees = agrees;
+        })
 
     stopped_ends : (end : AgentEnd) → between.shown.end ≡ end → is_done_as end ≡ false → Hears between worker
         → Finished worker
-    stopped_ends end is stopped later =
-        let same : worker.shown.end ≡ end = ap (λ (t : Transcript). t.end) later.shown ∙ is in
-        let goes : Goes me between worker [] = hears_go me between worker later in
-        record {
-          part = played.part;
-          goes = subst (Goes me (beginner board conn) worker) (append-nil played.part)
-              (goes_then me (beginner board conn) between worker played.part [] played.goes goes);
-          ends = λ within agrees. subst (WorkEnds limit script histories conn played.part) (sym same)
-              (by_end end stopped agrees
-              (subst (LinesEnd limit board me setting (lines_of script conn) played.part) is
-              (played.shows (begins_owning board conn) (goes.back within))));
-        }
+    stopped_ends end is stopped later = comes_still me _ _ (beginner board conn) between worker
+        played.part played.goes end is later (λ given within agrees. by_end end stopped agrees (subst (LinesEnd limit
+        board me setting (lines_of script conn) played.part) is (played.shows (begins_owning board conn) within)))
       where
         by_end : (end : AgentEnd) → is_done_as end ≡ false → AgreesWith histories conn played.part
             → LinesEnd limit board me setting (lines_of script conn) played.part end
@@ -111,45 +90,57 @@ module _ {L : Type 0} (limit : ℕ) (board : BoardShown L) (script : Script) (hi
     -- a connector's departures
     module _ (going : between.shown.end ≡ ended.Done) (connector : conn.0 == 0 ≡ false)
         (departed : Departed limit board me setting played.part 0 board.cells between worker) where
-      links : AreWithin me between.desk
-          → AreLinked limit board me setting played.part 0 between.desk
+      links : AreWithin me between.desk → AreLinked limit board me setting played.part 0 between.desk
       links within on past =
-          let is : IsTranscript me between =
-          played.goes.forth within (begins_shown board me) in
+          let is : IsTranscript me between = played.goes.forth within (begins_shown board me) in
           let pass : PassShown = pass_at between.desk on in
           let here : IsShown on pass between.shown.items = is.shows on in
           let numbers : numbers_on on played.part ≡ map (λ (call : AnyCall). call.no) pass.calls =
           ap (numbers_on on) (sym played.goes.items) ∙ here.numbers in
           let count : length (numbers_on on played.part) ≡ length pass.calls =
           ap length numbers ∙ length-map pass.calls (λ (call : AnyCall). call.no) in
-          ap is_linked
-          (take_front (length (numbers_on on played.part)) pass.calls (own_calls (calls_on histories on) conn) count
-          (within on).calls)
+          ap is_linked (take_front (length (numbers_on on played.part))
+          pass.calls (own_calls (calls_on histories on) conn) count (within on).calls)
 
       not_operator : conn.0 ≢ 0
       not_operator = grind (arith, nat_tests)
 
       by_end : (end : AgentEnd) → ShowsLines script.structures histories (lines_of script conn) played.part
-          → ClosingEnd limit board me setting played.part 0 board.cells departed.part end
-          → AgreesWith histories conn (played.part ++ departed.part)
-          → WorkEnds limit script histories conn (played.part ++ departed.part) end
+          → ClosingEnd limit board me setting played.part 0 board.cells departed.part end → AgreesWith histories conn
+          (played.part ++ departed.part) → WorkEnds limit script histories conn (played.part ++ departed.part) end
       by_end ended.Done lines closing agrees = grind arith
-      by_end (ended.JournalFull on) lines closing agrees = grind (arith, length-map, not_operator)
-      by_end ended.NoMemory lines closing agrees = grind (arith, length-map, not_operator)
+      by_end (ended.JournalFull on) lines (closing, full) agrees = grind (arith, length-map, not_operator)
+      by_end ended.NoMemory lines (on, closing) agrees =
+          let past : closing.past ≡ on.0 = omega (arith, closing.at) in
+          let size = length-map board.cells (λ (cell : CellShown L). cell.form) in
+          record {
+            at = inr (record {
+              during = played.part;
+              after = departed.part;
+              shows = refl;
+              lines = lines;
+              connector = not_operator;
+              on = on;
+              within = omega (arith, past, closing.within, size, ap length forms_are);
+              closings = subst (λ (n : ℕ). ShowsClosings histories conn 0 (take n script.structures)
+                  played.part departed.part) past (subst (λ (forms : List StrForm). ShowsClosings histories
+                  conn 0 (take closing.past forms) played.part departed.part) forms_are closing.closings);
+              linked = closing.linked;
+            });
+            agrees = agrees;
+          }
 
       connector_ends : Finished worker
-      connector_ends =
-          record {
-            part = played.part ++ departed.part;
-            goes = goes_then me (beginner board conn) between worker played.part departed.part played.goes
-                departed.goes;
-            ends = λ within agrees. by_end worker.shown.end (lines_shown going (departed.goes.back within))
-                (departed.shows
-                (owns_still me (beginner board conn) between played.part played.goes (begins_owning board conn))
-                within
-                (links (departed.goes.back within)))
-                agrees;
-          }
+      connector_ends = record {
+        part = played.part ++ departed.part;
+        goes = goes_then me (beginner board conn) between worker played.part departed.part played.goes
+            departed.goes;
+        shows = λ given within agrees. by_end worker.shown.end (lines_shown going (departed.goes.back within))
+            (departed.shows (
+              owns_still me (beginner board conn) between played.part played.goes (begins_owning board conn),
+              links (departed.goes.back within),
+            ) within) agrees;
+      }
 
     closes : MatchBool (conn.0 == 0) (Hears between worker) (DepartsEach 0 board.cells between worker) → Finished worker
     closes closing = by_end between.shown.end refl
@@ -157,15 +148,12 @@ module _ {L : Type 0} (limit : ℕ) (board : BoardShown L) (script : Script) (hi
         by_owner : (b : Bool) → conn.0 == 0 ≡ b → between.shown.end ≡ ended.Done
             → MatchBool b (Hears between worker) (DepartsEach 0 board.cells between worker) → Finished worker
         by_owner true operator going hears = operator_ends going hears operator
-        by_owner false connector going departs =
-            connector_ends going connector
-            (departs_play limit board me setting played.part 0 board.cells between worker
-            (λ j. (let same : j ≡ 0 + j = omega arith in ap (slice_get board.cells) same)) going
-            (played.goes.passes ∙ begins_long board conn) departs)
+        by_owner false connector going departs = connector_ends going connector (departs_play
+            limit board me setting played.part 0 board.cells between worker (λ j. (let same : j ≡ 0 + j = omega arith
+            in ap (slice_get board.cells) same)) going (played.goes.passes ∙ begins_long board conn) departs)
 
         still : (b : Bool) → MatchBool b (Hears between worker) (DepartsEach 0 board.cells between worker)
-            → is_done_as between.shown.end ≡ false
-            → Hears between worker
+            → is_done_as between.shown.end ≡ false → Hears between worker
         still true hears stopped = hears
         still false departs stopped =
             departs_rest limit board me setting played.part 0 board.cells between worker stopped departs

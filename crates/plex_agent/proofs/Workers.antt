@@ -1,11 +1,11 @@
 -- The callers at work at a board, and what has been done at its structures.
-use Rattle.plex_agent.proofs.Imports.{◌≡◌, ◌≢◌, ℕ, ◌+◌, ◌≤◌, ◌<◌, ◌==◌, List, ◌++◌, length, map, set, Option, None, Some, ap, subst, ◌∙◌, arith, length-set, slice_index_or, get_or-set_same, get_or-set_other, set-set, Kind, Step, AnyAsk, AgentEnd, Shown, Transcript, most_asks, all_steps_made, PassShown, DeskShown, pass_at, with_pass, no_pass, note_in, AtWork, Asks, EndsAt, Halts, Steps, call_item, Floor, worker_of}
+use Rattle.plex_agent.proofs.Imports.{◌≡◌, ◌≢◌, ℕ, ◌+◌, ◌≤◌, ◌<◌, ◌==◌, List, ◌++◌, length, map, set, Option, None, Some, ap, subst, ◌∙◌, arith, length-set, slice_index_or, get_or-set_same, get_or-set_other, set-set, Kind, Step, AnyAsk, AgentEnd, Shown, Transcript, most_asks, all_steps_made, PassShown, DeskShown, pass_at, with_pass, no_pass, note_in, AtWork, Asks, EndsAt, Halts, Steps, call_item, Floor, worker_of, Run}
 use Rattle.plex_board.specs.PlexScript.declared.agents.Step.TheVariants as step
 use Rattle.plex_board.specs.PlexScript.declared.transcripts.AgentEnd.TheVariants as ended
 use Rattle.plex_agent.proofs.Spots.{conn, str, same_number, other_number, Spot}
 use Rattle.plex_agent.proofs.Stages.{Stage, IsStage, State, Shows, Goes}
 use Rattle.plex_agent.proofs.ExactMoves.{SaysLess}
-use Rattle.plex_agent.proofs.ExactCalls.{IsMoved, IsHalted, IsEnded, StepsGo, steps_first}
+use Rattle.plex_agent.proofs.ExactCalls.{IsMoved, IsHalted, IsEnded, StepsGo, steps_go}
 
 -- ---- desks
 
@@ -69,23 +69,19 @@ module _ (on by : ℕ) (pass : PassShown) (transcript : Transcript) (before afte
 -- ---- the calls of a line
 
 -- how the calls end, by the pass that they leave
-pub record EndsSo (limit : ℕ) (kind : Kind) (line : Option AnyAsk) (on : ℕ) (last : Step) (pass : PassShown)
-    (desk after : DeskShown)
-    (end : AgentEnd) : Type 0 where
+pub record EndsSo (limit : ℕ) (kind : Kind) (line : Option AnyAsk)
+    (on : ℕ) (last : Step) (pass : PassShown) (desk after : DeskShown) (end : AgentEnd) : Type 0 where
   pub ends : IsEnded limit kind line on last pass (pass_at after (str on)) end
   pub desk_is : after ≡ with_pass (str on) (pass_at after (str on)) desk
 
 halts_so : (kind : Kind) (line : Option AnyAsk) (on : ℕ) (last : Step) (pass : PassShown) (desk after : DeskShown)
-    → on < length desk.passes → Halts kind line (str on) last (with_pass (str on) pass desk) after
-    → IsHalted kind line last pass (pass_at after (str on))
-    × (after ≡ with_pass (str on) (pass_at after (str on)) desk)
+    → on < length desk.passes → Halts kind line (str on) last (with_pass (str on) pass desk) after → IsHalted
+    kind line last pass (pass_at after (str on)) × (after ≡ with_pass (str on) (pass_at after (str on)) desk)
 halts_so kind line on last pass desk after within halts = grind (arith, str, pass_same, pass_again)
 
 ends_so : (limit : ℕ) (kind : Kind) (line : Option AnyAsk) (on : ℕ) (last : Step) (pass : PassShown)
-    (desk after : DeskShown)
-    (end : AgentEnd) → on < length desk.passes
-    → EndsAt limit kind line (str on) last (with_pass (str on) pass desk) after end
-    → EndsSo limit kind line on last pass desk after end
+    (desk after : DeskShown) (end : AgentEnd) → on < length desk.passes → EndsAt limit kind
+    line (str on) last (with_pass (str on) pass desk) after end → EndsSo limit kind line on last pass desk after end
 ends_so limit kind line on last pass desk after ended.Done within ends = grind (arith, str, pass_same)
 ends_so limit kind line on last pass desk after (ended.JournalFull place) within ends =
     let halts = halts_so kind line on last pass desk after within ends.1 in
@@ -95,37 +91,31 @@ ends_so limit kind line on last pass desk after ended.NoMemory within ends =
     record { ends = halts.0; desk_is = halts.1 }
 
 -- where the calls lead
-pub record AsksGo (stage : Stage) (shows shows' : Shows) (line : Option AnyAsk) (on by : ℕ) (first : Step)
-    (worker : AtWork) (before : State) : Type 1 where
+pub record WorkerGoes (stage : Stage) (shows shows' : Shows) (by : ℕ) (worker : AtWork) (before : State)
+    (goes : Run → Run) : Type 1 where
   pub after : State
   pub is_worker : IsWorker stage.cells by worker after
   pub others : OthersSame by before after
   pub notes : NotesSame before after
   pub lasts : LastsSame before after
-  pub goes : Goes stage shows shows' before after
-      (all_steps_made stage.limit stage.told (stage.form on) line (conn by) (str on) first)
+  pub goes_on : Goes stage shows shows' before after goes
 
-pub asks_go : (stage : Stage) (is : IsStage stage) (shows shows' : Shows) (line : Option AnyAsk) (on by : ℕ)
-    (first : Step)
-    (worker worker' : AtWork) (before : State) → on < stage.cells → by ≤ stage.callers
-    → first ≢ step.Rest → SaysLess shows shows' on by → IsWorker stage.cells by worker before
+pub asks_go : (stage : Stage) (is : IsStage stage) (shows shows' : Shows) (line : Option AnyAsk)
+    (on by : ℕ) (first : Step) (worker worker' : AtWork) (before : State) → on < stage.cells
+    → by ≤ stage.callers → first ≢ step.Rest → SaysLess shows shows' on by → IsWorker stage.cells by worker before
     → (before.shown by).end ≡ ended.Done → (before.spots on).last ≡ Some (conn by)
-    → Asks stage.limit (stage.form on).kind line (str on) first worker worker'
-    → AsksGo stage shows shows' line on by first worker' before
+    → Asks stage.limit (stage.form on).kind line (str on) first worker worker' → WorkerGoes stage shows
+    shows' by worker' before (all_steps_made stage.limit stage.told (stage.form on) line (conn by) (str on) first)
 asks_go stage is shows shows' line on by first worker worker' before within caller goes says at works last asks =
-    let kind : Kind = (stage.form on).kind in
-    let ends : EndsSo stage.limit kind line on asks.last asks.pass worker.desk worker'.desk worker'.shown.end =
-    ends_so stage.limit kind line on asks.last asks.pass worker.desk worker'.desk worker'.shown.end
-    (omega (arith, at.size)) asks.ends in
-    let pass' : PassShown = pass_at worker'.desk (str on) in
+    let kind = (stage.form on).kind in
+    let ends = ends_so _ _ _ _ _ _ _ _ _ (omega (arith, at.size)) asks.ends in
+    let pass' = pass_at worker'.desk (str on) in
     let transcript : Transcript =
     record { items = (before.shown by).items ++ map (call_item (str on)) asks.tolds; end = worker'.shown.end } in
     let go : StepsGo stage is line on by within caller shows shows' (most_asks first) first pass' transcript before =
-    steps_first stage is line on by within caller shows shows' asks.tolds (most_asks first) first asks.last asks.pass
-    pass'
-    worker'.shown.end before goes says works last (omega arith)
-    (subst (λ (p : PassShown). Steps kind line first p asks.tolds asks.last asks.pass) (at.passes on within)
-    asks.steps) ends.ends in
+    steps_go _ _ _ _ _ _ _ _ _ _ _ _ _ _ _ _ _ says (λ rests. absurd (goes rests)) works last
+    (omega arith) (subst (λ (p : PassShown). Steps kind line first p asks.tolds asks.last asks.pass)
+    (at.passes on within) asks.steps) ends.ends in
     let shown_is : worker'.shown ≡ transcript =
     ap (λ (t : List Shown). (let it : Transcript = record { items = t; end = worker'.shown.end } in it))
     (asks.items ∙ ap (λ (t : Transcript). t.items ++ map (call_item (str on)) asks.tolds) at.shown) in
@@ -136,7 +126,7 @@ asks_go stage is shows shows' line on by first worker worker' before within call
       others = moved_others on by pass' transcript before go.after go.is_moved;
       notes = moved_notes on by pass' transcript before go.after go.is_moved;
       lasts = moved_lasts on by pass' transcript before go.after go.is_moved;
-      goes = go.goes;
+      goes_on = go.goes;
     }
 
 -- ---- the floor
@@ -150,12 +140,10 @@ pub record IsFloor (stage : Stage) (floor : Floor) (state : State) : Type 0 wher
   pub last : (x : ℕ) → x < stage.cells → slice_index_or floor.last x None ≡ (state.spots x).last
 
 -- one worker's turn
-pub floor_after : (stage : Stage) (by : ℕ) (worker : AtWork) (floor floor' : Floor) (before after : State)
-    → by ≤ stage.callers
-    → IsFloor stage floor before → floor'.workers ≡ set floor.workers by worker → length floor'.tray ≡ stage.cells
-    → length floor'.last ≡ stage.cells
-    → ((x : ℕ) → x < stage.cells → note_in floor'.tray (str x) ≡ (after.spots x).note)
-    → ((x : ℕ) → x < stage.cells → slice_index_or floor'.last x None ≡ (after.spots x).last)
+pub floor_after : (stage : Stage) (by : ℕ) (worker : AtWork) (floor floor' : Floor) (before after : State) → by
+    ≤ stage.callers → IsFloor stage floor before → floor'.workers ≡ set floor.workers by worker → length floor'.tray
+    ≡ stage.cells → length floor'.last ≡ stage.cells → ((x : ℕ) → x < stage.cells → note_in floor'.tray (str x)
+    ≡ (after.spots x).note) → ((x : ℕ) → x < stage.cells → slice_index_or floor'.last x None ≡ (after.spots x).last)
     → IsWorker stage.cells by worker after → OthersSame by before after → IsFloor stage floor' after
 floor_after stage by worker floor floor' before after caller is workers tray lasts note last mine others =
     grind (arith, length-set, by_place, conn, get_or-set_same, get_or-set_other)

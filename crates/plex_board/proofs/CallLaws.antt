@@ -13,7 +13,8 @@ module _ {C R : Type 0} (str_type : StrType) (of : Ask C → AnyAsk) (told : Rep
         ≡ heard_by of owner seen.mine ++ record { no = it.no; by = owner; ask = of asked; told = it } ∷ []
     gained = grind (arith, map-append)
 
-    called : shown_as str_type of told later ≡ with_call (of asked) it (told made.reply) (shown_as str_type of told seen)
+    called : shown_as str_type
+        of told later ≡ with_call (of asked) it (told made.reply) (shown_as str_type of told seen)
     called = grind (arith, gained, map-append)
 
   pub told_answered : (answer : Result Told CallRefused) (asked : Ask C) (any : AnyAsk) (before after : PassShown)

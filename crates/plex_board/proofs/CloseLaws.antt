@@ -4,9 +4,8 @@ use Rattle.plex_board.proofs.HomeLaws.{desks-fit, homes-gathered, accounts-at, c
 use Rattle.plex_board.proofs.OpenLaws.{homes-fewer}
 
 module _ {L : Type 0} (board : BoardShown L) (desks : List DeskShown) (homes : List HomeShown)
-    (of : All (IsDeskOf board) desks)
-    (owners : map (λ (desk : DeskShown). desk.owner.0) desks ≡ range_with_len 0 (board.callers + 1))
-    (are : AreHomes (board.callers + 1) board.cells homes) where
+    (of : All (IsDeskOf board) desks) (owners : map (λ (desk : DeskShown). desk.owner.0) desks ≡ range_with_len
+    0 (board.callers + 1)) (are : AreHomes (board.callers + 1) board.cells homes) where
   roomy : AreHomes (length desks) board.cells homes
   roomy = grind (arith, length-map, length-range_with_len, homes-fewer)
 
@@ -17,13 +16,11 @@ module _ {L : Type 0} (board : BoardShown L) (desks : List DeskShown) (homes : L
   close-homes = homes-gathered board.cells desks homes roomy of
 
   pub close-says : AreEmpty homes → (histories : List AnyHistory)
-      → AreEnded board.cells (homes_gathered desks homes) histories
-      → AreClosed board desks histories
+      → AreEnded board.cells (homes_gathered desks homes) histories → AreClosed board desks histories
   close-says empty histories ended = record {
     structures = count-of-histories board.cells (homes_gathered desks homes) histories ended;
-    closed = λ on cell entries at its.
-        accounts-at board.cells desks homes histories on.0 cell entries no_pass
-        (count-of-homes (board.callers + 1) board.cells homes are) empty of ended at its;
+    closed = λ on cell entries at its. accounts-at board.cells desks homes histories on.0
+        cell entries no_pass (count-of-homes (board.callers + 1) board.cells homes are) empty of ended at its;
   }
 
 -- ---- what was ready under the lock
@@ -46,8 +43,7 @@ pub ended-seen : {L : Type 0} (board seen : BoardShown L) (homes after : List Ho
 ended-seen {L} board seen homes after histories same is are = grind arith
 
 pub links-seen : {L : Type 0} (asks : L → Option ℕ) (downs : L → Option (List ℕ)) (faults : L → ℕ)
-    (board seen : BoardShown L) (rest key : Rest L) (histories : List AnyHistory) (links : List L) → board ≡ seen
-    → rest ≡ key → seen.spare ≡ key.spare.items
-    → AreEachAsked asks downs faults seen.cells histories rest.spare.items links
-    → AreLinksAsked asks downs faults board histories links
+    (board seen : BoardShown L) (rest key : Rest L) (histories : List AnyHistory) (links : List L)
+    → board ≡ seen → rest ≡ key → seen.spare ≡ key.spare.items → AreEachAsked asks downs faults
+    seen.cells histories rest.spare.items links → AreLinksAsked asks downs faults board histories links
 links-seen {L} asks downs faults board seen rest key histories links same kept spare are = grind arith

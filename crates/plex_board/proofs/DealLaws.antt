@@ -18,13 +18,11 @@ module _ (all front : List PassShown) (pass : PassShown) (owner : ℕ) (all_is :
       → each_with desk_with front (set desks (owner - 1) after) ≡ each_with desk_with all desks
   deal-desks desks desk after few is after_is =
       let below : length front < length desks = omega (arith, counted, few) in
-      let here : get_or desks (length front) desk ≡ desk =
-      sym (is ∙ ap (λ (n : ℕ). get_or desks n desk) deal-next) in
-      ap (λ (n : ℕ). each_with desk_with front (set desks n after)) deal-next
-      ∙ ap (λ (d : DeskShown). each_with desk_with front (set desks (length front) d)) after_is
-      ∙ ap (λ (d : DeskShown). each_with desk_with front (set desks (length front) (desk_with pass d))) (sym here)
-      ∙ sym (each_with-last desk_with front pass desks desk below)
-      ∙ ap (λ (ps : List PassShown). each_with desk_with ps desks) (sym all_is)
+      let here : get_or desks (length front) desk ≡ desk = sym (is ∙ ap (λ (n : ℕ). get_or desks n desk) deal-next) in
+      ap (λ (n : ℕ). each_with desk_with front (set desks n after)) deal-next ∙ ap (λ (d : DeskShown). each_with
+      desk_with front (set desks (length front) d)) after_is ∙ ap (λ (d : DeskShown). each_with desk_with
+      front (set desks (length front) (desk_with pass d))) (sym here) ∙ sym (each_with-last
+      desk_with front pass desks desk below) ∙ ap (λ (ps : List PassShown). each_with desk_with ps desks) (sym all_is)
 
   pub deal-unused : All (λ (p : PassShown). p.calls ≡ []) all
       → All (λ (p : PassShown). p.calls ≡ []) front × (pass.calls ≡ [])
@@ -37,10 +35,8 @@ pub few-left : (desks : List DeskShown) (owner most : ℕ) (after : DeskShown)
 few-left desks owner most after few k d below = grind (arith, get_or-set_other)
 
 -- one desk more
-pub desk-more : (before after : List DeskShown) (n : ℕ) (desk : DeskShown) → after ≡ before ++ desk ∷ []
-    → before ≡ map bare_desk (range_with_len 0 n) → desk ≡ bare_desk n
-    → after ≡ map bare_desk (range_with_len 0 (n + 1))
-desk-more before after n desk more are is =
-    more ∙ ap (λ (desks : List DeskShown). desks ++ desk ∷ []) are
+pub desk-more : (before after : List DeskShown) (n : ℕ) (desk : DeskShown) → after ≡ before ++ desk ∷ [] → before
+    ≡ map bare_desk (range_with_len 0 n) → desk ≡ bare_desk n → after ≡ map bare_desk (range_with_len 0 (n + 1))
+desk-more before after n desk more are is = more ∙ ap (λ (desks : List DeskShown). desks ++ desk ∷ []) are
     ∙ ap (λ (d : DeskShown). map bare_desk (range_with_len 0 n) ++ d ∷ []) is
     ∙ sym (map-range_with_len_more bare_desk 0 n n (omega arith))

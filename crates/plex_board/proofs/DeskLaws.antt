@@ -29,8 +29,7 @@ module _ {L : Type 0} (board : BoardShown L) where
       let here : get_or board.cells on.0 cell ≡ cell = get_or_from_slice_get board.cells on.0 cell cell at in
       sym (get_or-map fixed_of desk.passes on.0 no_pass (f cell) lower)
       ∙ ap (λ (fixed : List Fixed). get_or fixed on.0 (f cell)) of
-      ∙ get_or-map f board.cells on.0 cell (f cell) below
-      ∙ ap f here
+      ∙ get_or-map f board.cells on.0 cell (f cell) below ∙ ap f here
 
   pub desk-pass_is : (desk : DeskShown) (on : StrNo) (cell : CellShown L) → IsDeskOf board desk
       → cell_on board on ≡ Some cell → IsPassOf cell (pass_at desk on)

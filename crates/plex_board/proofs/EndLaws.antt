@@ -14,11 +14,10 @@ none-left (x ∷ xs) none = absurd (omega (arith, none))
 module _ {L : Type 0} where
   -- what a history says of all passes
   pub all-accounts : (cell : CellShown L) (entries : AnyHistory) (passes : List PassShown)
-      → All (λ (pass : PassShown). pass.calls ≡ own_calls (any_calls entries) pass.owner) passes
-      → All (λ (pass : PassShown). pass.replies ≡ own_replies entries pass.owner) passes
-      → All (λ (pass : PassShown). All (IsAnyTold cell.form entries pass.owner) pass.tests) passes
-      → All (λ (pass : PassShown). IsAnyPoint entries pass.known × (pass.known ≤ any_length entries)) passes
-      → All (IsAccount cell entries) passes
+      → All (λ (pass : PassShown). pass.calls ≡ own_calls (any_calls entries) pass.owner) passes → All
+      (λ (pass : PassShown). pass.replies ≡ own_replies entries pass.owner) passes → All (λ (pass : PassShown). All
+      (IsAnyTold cell.form entries pass.owner) pass.tests) passes → All (λ (pass : PassShown). IsAnyPoint entries
+      pass.known × (pass.known ≤ any_length entries)) passes → All (IsAccount cell entries) passes
   all-accounts cell entries passes mine replies tests known k d below = grind arith
 
   module _ (left rest : List (CellShown L)) (station : CellShown L) (at later : List AnyPasses) (home : AnyPasses)
@@ -37,22 +36,19 @@ module _ {L : Type 0} where
     end-ended cells homes histories after entries after_is so closed account r are =
         let so' : (q : List AnyHistory) → AreEnded (station ∷ rest) (homes_shown (home ∷ later)) q
         → AreEnded cells homes (histories ++ q) = grind arith in
-        subst (λ (hs : List AnyHistory). AreEnded cells homes (hs ++ r)) (sym after_is)
-        (ended-step cells rest homes (homes_shown later) histories station (home_shown home) entries
-        so' closed account r are)
+        subst (λ (hs : List AnyHistory). AreEnded cells homes (hs ++ r)) (sym after_is) (ended-step
+        cells rest homes (homes_shown later) histories station (home_shown home) entries so' closed account r are)
 
     -- its links come behind those of the stations before it
-    pub end-asked : (asks : L → Option ℕ) (downs : L → Option (List ℕ)) (faults : L → ℕ)
-        (cells : List (CellShown L)) (histories after : List AnyHistory) (entries : AnyHistory) (links more spare : List L)
-        (four : Links L)
-        → after ≡ histories ++ entries ∷ [] → more ≡ links ++ four_of four
-        → AreAsked asks downs faults (any_answers station.form entries) station.links four
-        → ((r : List AnyHistory) (others : List L) → AreEachAsked asks downs faults left r spare others
-        → AreEachAsked asks downs faults cells (histories ++ r) spare (links ++ others))
+    pub end-asked : (asks : L → Option ℕ) (downs : L → Option (List ℕ)) (faults : L → ℕ) (cells : List (CellShown L))
+        (histories after : List AnyHistory) (entries : AnyHistory) (links more spare : List L) (four : Links L)
+        → after ≡ histories ++ entries ∷ [] → more ≡ links ++ four_of four → AreAsked asks downs faults (any_answers
+        station.form entries) station.links four → ((r : List AnyHistory) (others : List L) → AreEachAsked asks downs
+        faults left r spare others → AreEachAsked asks downs faults cells (histories ++ r) spare (links ++ others))
         → (r : List AnyHistory) (others : List L) → AreEachAsked asks downs faults rest r spare others
         → AreEachAsked asks downs faults cells (after ++ r) spare (more ++ others)
-    end-asked asks downs faults cells histories after entries links more spare four after_is more_is asked so r others
-        are =
+    end-asked asks downs faults
+        cells histories after entries links more spare four after_is more_is asked so r others are =
         let step : AreEachAsked asks downs faults left (entries ∷ r) spare (four_of four ++ others) =
         subst (λ (cs : List (CellShown L)). AreEachAsked asks downs faults cs (entries ∷ r) spare
         (four_of four ++ others)) (sym left_is) (four, others, refl, asked, are) in
@@ -69,11 +65,9 @@ module _ {L : Type 0} where
 
   -- where no station is left, all histories are there
   pub end-done : (cells left : List (CellShown L)) (homes : List HomeShown) (at : List AnyPasses)
-      (histories : List AnyHistory) → left ≡ [] → AreHomes 0 left (homes_shown at)
-      → ((r : List AnyHistory) → AreEnded left (homes_shown at) r → AreEnded cells homes (histories ++ r))
-      → AreEnded cells homes histories
-  end-done cells left homes at histories none are so =
-      subst (AreEnded cells homes) (append-nil histories)
+      (histories : List AnyHistory) → left ≡ [] → AreHomes 0 left (homes_shown at) → ((r : List AnyHistory)
+      → AreEnded left (homes_shown at) r → AreEnded cells homes (histories ++ r)) → AreEnded cells homes histories
+  end-done cells left homes at histories none are so = subst (AreEnded cells homes) (append-nil histories)
       (so [] (subst (λ (cs : List (CellShown L)). AreEnded cs (homes_shown at) []) (sym none)
       (no-home (homes_shown at) (subst (λ (cs : List (CellShown L)). AreHomes 0 cs (homes_shown at)) none are))))
     where

@@ -31,15 +31,12 @@ length_calls form (history.List entries) legal = few_heard list_meaning ask.List
 length_calls form (history.Lock entries) legal = few_heard lock_meaning ask.Lock form entries legal
 
 pub calls_rise : (form : StrForm) (h : AnyHistory) → IsAnyLegal form h → Rising 0 (any_calls h)
-calls_rise form (history.Cache entries) legal =
-    rise_heard cache_meaning ask.Cache form 0 (calls entries) (length entries)
-    (numbers_rise cache_meaning form entries legal)
-calls_rise form (history.List entries) legal =
-    rise_heard list_meaning ask.List form 0 (calls entries) (length entries)
-    (numbers_rise list_meaning form entries legal)
-calls_rise form (history.Lock entries) legal =
-    rise_heard lock_meaning ask.Lock form 0 (calls entries) (length entries)
-    (numbers_rise lock_meaning form entries legal)
+calls_rise form (history.Cache entries) legal = rise_heard cache_meaning
+    ask.Cache form 0 (calls entries) (length entries) (numbers_rise cache_meaning form entries legal)
+calls_rise form (history.List entries) legal = rise_heard list_meaning
+    ask.List form 0 (calls entries) (length entries) (numbers_rise list_meaning form entries legal)
+calls_rise form (history.Lock entries) legal = rise_heard lock_meaning
+    ask.Lock form 0 (calls entries) (length entries) (numbers_rise lock_meaning form entries legal)
 
 -- ---- the front of a history
 
@@ -50,14 +47,9 @@ take_all (history.Lock entries) = ap history.Lock (lists.take_all (length entrie
 
 none_taken : (kind : Kind) (h : AnyHistory) → IsOfKind kind h → any_take 0 h ≡ no_calls kind
 none_taken kind.Cache (history.Cache entries) of_kind = refl
-none_taken kind.Cache (history.List entries) of_kind = absurd of_kind
-none_taken kind.Cache (history.Lock entries) of_kind = absurd of_kind
-none_taken (kind.List headers locks refs) (history.Cache entries) of_kind = absurd of_kind
 none_taken (kind.List headers locks refs) (history.List entries) of_kind = refl
-none_taken (kind.List headers locks refs) (history.Lock entries) of_kind = absurd of_kind
-none_taken kind.Lock (history.Cache entries) of_kind = absurd of_kind
-none_taken kind.Lock (history.List entries) of_kind = absurd of_kind
 none_taken kind.Lock (history.Lock entries) of_kind = refl
+none_taken _ _ of_kind = absurd of_kind
 
 pub take_none : (form : StrForm) (h : AnyHistory) → IsOfKind form.kind h → any_take 0 h ≡ no_calls form.kind
 take_none form h of_kind = none_taken form.kind h of_kind
@@ -77,8 +69,7 @@ own_other call calls conn other = rw other refl
 
 -- the first of a caller's calls is above what the numbers rise from
 first_above : (low : ℕ) (calls : List AnyCall) (conn : ConnId) (first : AnyCall) (more : List AnyCall)
-    → Rising low calls
-    → own_calls calls conn ≡ first ∷ more → low < first.no
+    → Rising low calls → own_calls calls conn ≡ first ∷ more → low < first.no
 first_above low [] conn first more rise e = absurd cc
 first_above low (call ∷ calls) conn first more rise e =
     by_caller (call.by.0 == conn.0) refl (λ rest. first_above call.no calls conn first more rise.1 rest)
@@ -106,10 +97,9 @@ first_same first other calls others rise rise' mine its =
 abbrev AreBy : ℕ → List AnyCall → Type 0
 AreBy callers calls = All (λ call. call.by.0 ≤ callers) calls
 
-same_from : (callers low low' : ℕ) (calls others : List AnyCall) → Rising low calls → Rising low' others
-    → AreBy callers calls
-    → AreBy callers others → ((conn : ConnId) → conn.0 ≤ callers → own_calls calls conn ≡ own_calls others conn)
-    → calls ≡ others
+same_from : (callers low low' : ℕ) (calls others : List AnyCall)
+    → Rising low calls → Rising low' others → AreBy callers calls → AreBy callers others
+    → ((conn : ConnId) → conn.0 ≤ callers → own_calls calls conn ≡ own_calls others conn) → calls ≡ others
 same_from callers low low' [] [] rise rise' by by' same = refl
 same_from callers low low' [] (other ∷ others) rise rise' by by' same =
     let within : other.by.0 ≤ callers = by' 0 other (zero-lt-suc (length others)) in
@@ -122,15 +112,11 @@ same_from callers low low' (first ∷ calls) [] rise rise' by by' same =
     sym (same first.by within) ∙ own_same first calls first.by (eq-eqb first.by.0 first.by.0 refl) in
     absurd cc
 same_from callers low low' (first ∷ calls) (other ∷ others) rise rise' by by' same =
-    let is : first ≡ other =
-    first_same first other calls others rise.1 rise'.1
-    (same first.by (by 0 first (zero-lt-suc (length calls))))
-    (same other.by (by' 0 other (zero-lt-suc (length others)))) in
-    let rest : calls ≡ others =
-    same_from callers first.no other.no calls others rise.1 rise'.1
-    (λ k d k<. by (suc k) d (suc-le-suc k<)) (λ k d k<. by' (suc k) d (suc-le-suc k<))
-    (λ conn within. rest_same first calls others conn
-    (same conn within ∙ ap (λ (it : AnyCall). own_calls (it ∷ others) conn) (sym is))) in
+    let is : first ≡ other = first_same first other calls others rise.1 rise'.1 (same first.by
+    (by 0 first (zero-lt-suc (length calls)))) (same other.by (by' 0 other (zero-lt-suc (length others)))) in
+    let rest : calls ≡ others = same_from callers first.no other.no calls others rise.1 rise'.1
+    (λ k d k<. by (suc k) d (suc-le-suc k<)) (λ k d k<. by' (suc k) d (suc-le-suc k<)) (λ conn within. rest_same first
+    calls others conn (same conn within ∙ ap (λ (it : AnyCall). own_calls (it ∷ others) conn) (sym is))) in
     ap (λ (it : AnyCall). it ∷ calls) is ∙ ap (λ (some : List AnyCall). other ∷ some) rest
 
 -- two lists of calls whose numbers rise, and that have the same calls of each caller, are the same

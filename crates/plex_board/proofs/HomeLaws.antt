@@ -23,12 +23,11 @@ module _ {L : Type 0} where
   pub desk-passes : (cells : List (CellShown L)) (passes : List PassShown) (owner : ConnId)
       → map fixed_of passes ≡ map (λ cell. fixed_at cell owner) cells → ArePasses cells passes
   desk-passes [] [] owner same = tt
-  desk-passes [] (pass ∷ passes) owner same = absurd (cc)
-  desk-passes (cell ∷ cells) [] owner same = absurd (cc)
   desk-passes (cell ∷ cells) (pass ∷ passes) owner same =
       let one : fixed_of pass ≡ fixed_at cell owner = cc in
       let rest : map fixed_of passes ≡ map (λ (c : CellShown L). fixed_at c owner) cells = cc in
       ((ap (λ f. f.str_type) one, ap (λ f. f.words) one), desk-passes cells passes owner rest)
+  desk-passes _ _ owner same = absurd cc
 
   -- ---- a pass more in each home
 
@@ -44,88 +43,70 @@ module _ {L : Type 0} where
       → AreHomes (suc more) cells homes → ArePasses cells passes
       → AreHomes more cells (each_with home_with passes homes)
   homes-row more [] [] [] are of = tt
-  homes-row more [] [] (pass ∷ passes) are of = absurd of
-  homes-row more [] (home ∷ homes) passes are of = absurd are
-  homes-row more (cell ∷ cells) [] passes are of = absurd are
-  homes-row more (cell ∷ cells) (home ∷ homes) [] are of = absurd of
   homes-row more (cell ∷ cells) (home ∷ homes) (pass ∷ passes) are of =
       (one_home more cell home pass are.0 of.0, homes-row more cells homes passes are.1 of.1)
+  homes-row more _ _ _ are of = grind arith
 
   pub row-fits : (more : ℕ) (cells : List (CellShown L)) (homes : List HomeShown) (passes : List PassShown)
       → AreHomes (suc more) cells homes → ArePasses cells passes → Fits passes homes
   row-fits more [] [] [] are of = tt
-  row-fits more [] [] (pass ∷ passes) are of = absurd of
-  row-fits more [] (home ∷ homes) passes are of = absurd are
-  row-fits more (cell ∷ cells) [] passes are of = absurd are
-  row-fits more (cell ∷ cells) (home ∷ homes) [] are of = absurd of
   row-fits more (cell ∷ cells) (home ∷ homes) (pass ∷ passes) are of =
       grind (arith, row-fits more cells homes passes are.1 of.1)
+  row-fits more _ _ _ are of = grind arith
 
   pub count-of-homes : (more : ℕ) (cells : List (CellShown L)) (homes : List HomeShown) → AreHomes more cells homes
       → length homes ≡ length cells
   count-of-homes more [] [] are = refl
-  count-of-homes more [] (home ∷ homes) are = absurd are
-  count-of-homes more (cell ∷ cells) [] are = absurd are
   count-of-homes more (cell ∷ cells) (home ∷ homes) are = ap (λ n. suc n) (count-of-homes more cells homes are.1)
+  count-of-homes more _ _ are = absurd are
 
   pub count-of-passes : (cells : List (CellShown L)) (passes : List PassShown) → ArePasses cells passes
       → length passes ≡ length cells
   count-of-passes [] [] are = refl
-  count-of-passes [] (pass ∷ passes) are = absurd are
-  count-of-passes (cell ∷ cells) [] are = absurd are
   count-of-passes (cell ∷ cells) (pass ∷ passes) are = ap (λ n. suc n) (count-of-passes cells passes are.1)
+  count-of-passes _ _ are = absurd are
 
   -- ---- the passes of all desks come home
 
+  abbrev HasPasses : List (CellShown L) → DeskShown → Type 0
+  HasPasses cells desk = map fixed_of desk.passes ≡ map (λ (cell : CellShown L). fixed_at cell desk.owner) cells
+
   pub desks-fit : (cells : List (CellShown L)) (desks : List DeskShown) (homes : List HomeShown)
-      → AreHomes (length desks) cells homes
-      → All (λ (desk : DeskShown). map fixed_of desk.passes ≡ map (λ cell. fixed_at cell desk.owner) cells) desks
-      → AllFit desks homes
+      → AreHomes (length desks) cells homes → All (HasPasses cells) desks → AllFit desks homes
   desks-fit cells [] homes are of = tt
   desks-fit cells (desk ∷ desks) homes are of =
-      let P : DeskShown → Type 0 =
-      λ desk. map fixed_of desk.passes ≡ map (λ (cell : CellShown L). fixed_at cell desk.owner) cells in
       let passes : ArePasses cells desk.passes =
-      desk-passes cells desk.passes desk.owner (All-head P desk desks of) in (
+      desk-passes cells desk.passes desk.owner (All-head (HasPasses cells) desk desks of) in (
         row-fits (length desks) cells homes desk.passes are passes,
         desks-fit cells desks (each_with home_with desk.passes homes)
-            (homes-row (length desks) cells homes desk.passes are passes) (All-tail P desk desks of),
+            (homes-row (length desks) cells homes desk.passes are passes) (All-tail (HasPasses cells) desk desks of),
       )
 
-  pub homes-gathered : (cells : List (CellShown L)) (desks : List DeskShown) (homes : List HomeShown)
-      → AreHomes (length desks) cells homes
-      → All (λ (desk : DeskShown). map fixed_of desk.passes ≡ map (λ cell. fixed_at cell desk.owner) cells) desks
-      → AreHomes 0 cells (homes_gathered desks homes)
+  pub homes-gathered : (cells : List (CellShown L)) (desks : List DeskShown) (homes : List HomeShown) → AreHomes
+      (length desks) cells homes → All (HasPasses cells) desks → AreHomes 0 cells (homes_gathered desks homes)
   homes-gathered cells [] homes are of = are
   homes-gathered cells (desk ∷ desks) homes are of =
-      let P : DeskShown → Type 0 =
-      λ desk. map fixed_of desk.passes ≡ map (λ (cell : CellShown L). fixed_at cell desk.owner) cells in
       let passes : ArePasses cells desk.passes =
-      desk-passes cells desk.passes desk.owner (All-head P desk desks of) in
+      desk-passes cells desk.passes desk.owner (All-head (HasPasses cells) desk desks of) in
       homes-gathered cells desks (each_with home_with desk.passes homes)
-      (homes-row (length desks) cells homes desk.passes are passes) (All-tail P desk desks of)
+      (homes-row (length desks) cells homes desk.passes are passes) (All-tail (HasPasses cells) desk desks of)
 
   gathered-at : (cells : List (CellShown L)) (desks : List DeskShown) (homes : List HomeShown) (x : ℕ)
-      (p : PassShown) (d : HomeShown)
-      → x < length cells → length homes ≡ length cells
-      → All (λ (desk : DeskShown). map fixed_of desk.passes ≡ map (λ cell. fixed_at cell desk.owner) cells) desks
-      → (get_or (homes_gathered desks homes) x d).passes
-      ≡ (get_or homes x d).passes ++ map (λ (desk : DeskShown). get_or desk.passes x p) desks
+      (p : PassShown) (d : HomeShown) → x < length cells → length homes ≡ length cells → All (HasPasses cells) desks
+      → (get_or (homes_gathered desks homes) x d).passes ≡ (get_or homes x d).passes ++ map
+      (λ (desk : DeskShown). get_or desk.passes x p) desks
   gathered-at cells [] homes x p d below same of = sym (append-nil _)
   gathered-at cells (desk ∷ desks) homes x p d below same of =
-      let P : DeskShown → Type 0 =
-      λ desk. map fixed_of desk.passes ≡ map (λ (cell : CellShown L). fixed_at cell desk.owner) cells in
-      let count : length desk.passes ≡ length cells =
-      count-of-passes cells desk.passes (desk-passes cells desk.passes desk.owner (All-head P desk desks of)) in
+      let count : length desk.passes ≡ length cells = count-of-passes
+      cells desk.passes (desk-passes cells desk.passes desk.owner (All-head (HasPasses cells) desk desks of)) in
       let row : List HomeShown = each_with home_with desk.passes homes in
       let size : length row ≡ length cells = each_with-length home_with desk.passes homes (count ∙ sym same) ∙ same in
       let low : x < length desk.passes = omega (arith, count, below) in
       let high : x < length homes = omega (arith, same, below) in
-      gathered-at cells desks row x p d below size (All-tail P desk desks of)
+      gathered-at cells desks row x p d below size (All-tail (HasPasses cells) desk desks of)
       ∙ ap (λ front. front ++ map (λ (desk : DeskShown). get_or desk.passes x p) desks)
-      (row-at desk.passes homes x p d low high)
-      ∙ append_assoc (get_or homes x d).passes (get_or desk.passes x p ∷ [])
-      (map (λ (desk : DeskShown). get_or desk.passes x p) desks)
+      (row-at desk.passes homes x p d low high) ∙ append_assoc (get_or homes x d).passes
+      (get_or desk.passes x p ∷ []) (map (λ (desk : DeskShown). get_or desk.passes x p) desks)
 
   -- ---- what the histories say
 
@@ -133,39 +114,33 @@ module _ {L : Type 0} where
       (cell : CellShown L) (entries : AnyHistory) (d : HomeShown)
       → AreEnded cells homes histories → slice_get cells x ≡ Some cell → slice_get histories x ≡ Some entries
       → IsClosed cell entries × All (IsAccount cell entries) (get_or homes x d).passes
-  ended-at [] homes histories x cell entries d are at its = absurd (cc)
-  ended-at (one ∷ cells) [] histories x cell entries d are at its = absurd are
-  ended-at (one ∷ cells) (home ∷ homes) [] x cell entries d are at its = absurd are
   ended-at (one ∷ cells) (home ∷ homes) (first ∷ histories) zero cell entries d are at its = grind arith
   ended-at (one ∷ cells) (home ∷ homes) (first ∷ histories) (suc x) cell entries d are at its =
       ended-at cells homes histories x cell entries d are.2 at its
+  ended-at [] homes histories x cell entries d are at its = absurd (cc)
+  ended-at _ _ _ x cell entries d are at its = absurd are
 
   pub count-of-histories : (cells : List (CellShown L)) (homes : List HomeShown) (histories : List AnyHistory)
       → AreEnded cells homes histories → length histories ≡ length cells
   count-of-histories [] [] [] are = refl
-  count-of-histories [] [] (first ∷ histories) are = absurd are
-  count-of-histories [] (home ∷ homes) histories are = absurd are
-  count-of-histories (cell ∷ cells) [] histories are = absurd are
-  count-of-histories (cell ∷ cells) (home ∷ homes) [] are = absurd are
   count-of-histories (cell ∷ cells) (home ∷ homes) (first ∷ histories) are =
       ap (λ n. suc n) (count-of-histories cells homes histories are.2)
+  count-of-histories _ _ _ are = absurd are
 
   -- what is said of the passes that came home is said of the desks
   pub accounts-at : (cells : List (CellShown L)) (desks : List DeskShown) (homes : List HomeShown)
       (histories : List AnyHistory) (x : ℕ) (cell : CellShown L) (entries : AnyHistory) (p : PassShown)
       → length homes ≡ length cells → All (λ (home : HomeShown). home.passes ≡ []) homes
-      → All (λ (desk : DeskShown). map fixed_of desk.passes ≡ map (λ cell. fixed_at cell desk.owner) cells) desks
-      → AreEnded cells (homes_gathered desks homes) histories
-      → slice_get cells x ≡ Some cell → slice_get histories x ≡ Some entries
-      → IsClosed cell entries × All (λ (desk : DeskShown). IsAccount cell entries (get_or desk.passes x p)) desks
+      → All (HasPasses cells) desks → AreEnded cells (homes_gathered desks homes) histories
+      → slice_get cells x ≡ Some cell → slice_get histories x ≡ Some entries → IsClosed cell entries
+      × All (λ (desk : DeskShown). IsAccount cell entries (get_or desk.passes x p)) desks
   accounts-at cells desks homes histories x cell entries p same empty of are at its =
       let d : HomeShown = record { str_type = OfCache; passes = []; room = 0 } in
       let below : x < length cells = slice_get_within cells x cell at in
       let lower : x < length homes = omega (arith, same, below) in
       let none : (get_or homes x d).passes ≡ [] = empty x d lower in
       let here : (get_or (homes_gathered desks homes) x d).passes
-      ≡ map (λ (desk : DeskShown). get_or desk.passes x p) desks =
-      gathered-at cells desks homes x p d below same of
+      ≡ map (λ (desk : DeskShown). get_or desk.passes x p) desks = gathered-at cells desks homes x p d below same of
       ∙ ap (λ front. front ++ map (λ (desk : DeskShown). get_or desk.passes x p) desks) none in
       let said : IsClosed cell entries × All (IsAccount cell entries) (get_or (homes_gathered desks homes) x d).passes =
       ended-at cells (homes_gathered desks homes) histories x cell entries d are at its in (

@@ -4,8 +4,7 @@ use Rattle.plex_board.proofs.Imports.{◌≡◌, ℕ, ◌≤◌, List, [], ◌�
 -- a caller that has seen nothing hasn't called
 pub unused-calls : (str_type : StrType) (words : WordTable) (passes : List PassShown) (owners : List ℕ)
     → passes ≡ map (unused_pass str_type words) owners → All (λ (pass : PassShown). pass.calls ≡ []) passes
-unused-calls str_type words passes owners are =
-    subst (All (λ (pass : PassShown). pass.calls ≡ [])) (sym are)
+unused-calls str_type words passes owners are = subst (All (λ (pass : PassShown). pass.calls ≡ [])) (sym are)
     (All-map (λ (pass : PassShown). pass.calls ≡ []) (unused_pass str_type words) owners (λ k d below. refl))
 
 module _ {L : Type 0} where
@@ -20,30 +19,27 @@ module _ {L : Type 0} where
       (home : HomeShown) → AreHomes more cells homes → IsHomeOf more cell home → AreHomes more (cells ++ cell ∷ [])
       (homes ++ home ∷ [])
   homes-push more [] cell [] home are is = (is, tt)
-  homes-push more [] cell (first ∷ homes) home are is = absurd are
-  homes-push more (one ∷ cells) cell [] home are is = absurd are
   homes-push more (one ∷ cells) cell (first ∷ homes) home are is =
       (are.0, homes-push more cells cell homes home are.1 is)
+  homes-push more _ cell _ home are is = absurd are
 
   -- the homes have room for fewer too
   pub homes-fewer : (more fewer : ℕ) (cells : List (CellShown L)) (homes : List HomeShown) → fewer ≤ more
       → AreHomes more cells homes → AreHomes fewer cells homes
   homes-fewer more fewer [] [] less are = tt
-  homes-fewer more fewer [] (home ∷ homes) less are = absurd are
-  homes-fewer more fewer (cell ∷ cells) [] less are = absurd are
   homes-fewer more fewer (cell ∷ cells) (home ∷ homes) less are =
       grind (arith, homes-fewer more fewer cells homes less are.1)
+  homes-fewer more fewer _ _ less are = absurd are
 
   -- the cell of a new station
-  pub started-cell : (cell : CellShown L) (form : StrForm) (callers limit : ℕ) (links : Links L)
-      → cell ≡ record {
-        str_type = type_of_kind form.kind;
-        form = form;
-        callers = callers;
-        limit = limit;
-        words = cell.words;
-        links = links;
-      } → (cell.words.conns ≡ callers) × (cell.words.len ≡ form.vector) → IsStarted callers limit cell
+  pub started-cell : (cell : CellShown L) (form : StrForm) (callers limit : ℕ) (links : Links L) → cell ≡ record {
+    str_type = type_of_kind form.kind;
+    form = form;
+    callers = callers;
+    limit = limit;
+    words = cell.words;
+    links = links;
+  } → (cell.words.conns ≡ callers) × (cell.words.len ≡ form.vector) → IsStarted callers limit cell
   started-cell cell form callers limit links is words = grind arith
 
   -- ---- one structure more
@@ -68,8 +64,7 @@ module _ {L : Type 0} where
       more-homes n are is = grind (arith, shown-push, homes-push)
 
       pub more-empty : AreEmpty (homes_shown homes) → passes_shown home ≡ [] → AreEmpty (homes_shown after)
-      more-empty all none =
-          subst AreEmpty (sym shown-push)
+      more-empty all none = subst AreEmpty (sym shown-push)
           (All-push (λ (h : HomeShown). h.passes ≡ []) (homes_shown homes) (home_shown home) all none)
 
   -- a home without passes
@@ -79,9 +74,8 @@ module _ {L : Type 0} where
 
   -- a history more, whatever the rest will be
   pub ended-step : (cells left : List (CellShown L)) (homes at : List HomeShown) (histories : List AnyHistory)
-      (cell : CellShown L) (home : HomeShown) (entries : AnyHistory)
-      → ((rest : List AnyHistory) → AreEnded (cell ∷ left) (home ∷ at) rest → AreEnded cells homes (histories
-      ++ rest))
-      → IsClosed cell entries → All (IsAccount cell entries) home.passes
-      → (rest : List AnyHistory) → AreEnded left at rest → AreEnded cells homes ((histories ++ entries ∷ []) ++ rest)
+      (cell : CellShown L) (home : HomeShown) (entries : AnyHistory) → ((rest : List AnyHistory)
+      → AreEnded (cell ∷ left) (home ∷ at) rest → AreEnded cells homes (histories ++ rest))
+      → IsClosed cell entries → All (IsAccount cell entries) home.passes → (rest : List AnyHistory)
+      → AreEnded left at rest → AreEnded cells homes ((histories ++ entries ∷ []) ++ rest)
   ended-step cells left homes at histories cell home entries so closed account rest are = grind (arith, append_assoc)

@@ -12,30 +12,35 @@ pub record IsPlace {L : Type 0} (board : BoardShown L) (desk : DeskShown) (on : 
   pub owner_is : place.owner ≡ desk.owner
 
 module _ {L : Type 0} where
-  pub cell-is : (board seen : BoardShown L) (on : StrNo) (k : ℕ) (station : CellShown L)
-      → board ≡ seen → on.0 < length board.cells → k ≡ on.0 → station ≡ get_or seen.cells k station
-      → cell_on board on ≡ Some station
+  pub cell-is : (board seen : BoardShown L) (on : StrNo) (k : ℕ) (station : CellShown L) → board ≡ seen
+      → on.0 < length board.cells → k ≡ on.0 → station ≡ get_or seen.cells k station → cell_on board on ≡ Some station
   cell-is board seen on k station same below at is = grind (arith, slice_get_read)
 
-  pub place-is : (board seen : BoardShown L) (desk has : DeskShown) (on : StrNo) (k j : ℕ)
-      (station : CellShown L) (place : PassShown)
-      → board ≡ seen → desk ≡ has → IsDeskOf board desk → on.0 < length board.cells → k ≡ on.0 → j ≡ on.0
-      → station ≡ get_or seen.cells k station → place ≡ get_or has.passes j place
-      → IsPlace board desk on station place
-  place-is board seen desk has on k j station place same same' of below at at' is is' =
-      let cell : cell_on board on ≡ Some station = cell-is board seen on k station same below at is in
-      let here : place ≡ get_or desk.passes on.0 place = grind arith in
-      let lower : on.0 < length desk.passes = omega (arith, desk-length board desk of, below) in
-      let there : slice_get desk.passes on.0 ≡ Some place =
-      slice_get_read desk.passes (length desk.passes) on.0 place refl lower here in
-      let pass : pass_at desk on ≡ place = get_or_from_slice_get desk.passes on.0 place no_pass there in
-      record {
-        cell_is = cell;
-        pass_is = pass;
-        of_cell = subst (IsPassOf station) pass (desk-pass_is board desk on station of cell);
-        owner_is = subst (λ (p : PassShown). p.owner ≡ desk.owner) pass (desk-pass_owner board desk on station of
-            cell);
-      }
+  module _ (board seen : BoardShown L) (desk has : DeskShown) (on : StrNo) (k j : ℕ) (station : CellShown L)
+      (place : PassShown) (same : board ≡ seen) (same' : desk ≡ has) (of : IsDeskOf board desk)
+      (below : on.0 < length board.cells) (at : k ≡ on.0) (at' : j ≡ on.0) (is : station ≡ get_or seen.cells k station)
+      (is' : place ≡ get_or has.passes j place) where
+    pub place-is : IsPlace board desk on station place
+    place-is =
+        let cell : cell_on board on ≡ Some station = cell-is board seen on k station same below at is in
+        let here : place ≡ get_or desk.passes on.0 place = grind arith in
+        let lower : on.0 < length desk.passes = omega (arith, desk-length board desk of, below) in
+        let there : slice_get desk.passes on.0 ≡ Some place =
+        slice_get_read desk.passes (length desk.passes) on.0 place refl lower here in
+        let pass : pass_at desk on ≡ place = get_or_from_slice_get desk.passes on.0 place no_pass there in
+        record {
+          cell_is = cell;
+          pass_is = pass;
+          of_cell = subst (IsPassOf station) pass (desk-pass_is board desk on station of cell);
+          owner_is =
+              subst (λ (p : PassShown). p.owner ≡ desk.owner) pass (desk-pass_owner board desk on station of cell);
+        }
+
+    pub place_passes : IsPassOf station place
+    place_passes = place-is.of_cell
+
+    pub place_owner : place.owner ≡ desk.owner
+    place_owner = place-is.owner_is
 
   -- what is known of the cell is known on the structure
   pub some-cell : (P : CellShown L → Type 0) (board : BoardShown L) (on : StrNo) (station : CellShown L)
@@ -60,48 +65,46 @@ module _ {L : Type 0} where
 
   -- why a call isn't made, as the board tells it
   pub full-on : (board : BoardShown L) (on : StrNo) (station : CellShown L) (after : DeskShown) (place : PassShown)
-      (answer : Result Told CallRefused)
-      → cell_on board on ≡ Some station → pass_at after on ≡ place
-      → IfErr answer (λ refusal. refusal ≢ refused.NoMemory
-      → (refusal ≡ refused.JournalFull station.limit) × (station.limit ≤ place.known))
-      → IfErr answer (λ refusal. refusal ≢ refused.NoMemory
-      → IfSome (cell_on board on) (λ cell. (refusal ≡ refused.JournalFull cell.limit)
-      × (cell.limit ≤ (pass_at after on).known)))
+      (answer : Result Told CallRefused) → cell_on board on ≡ Some station → pass_at after on ≡ place
+      → IfErr answer (λ refusal. refusal ≢ refused.NoMemory → (refusal ≡ refused.JournalFull station.limit) ×
+      (station.limit ≤ place.known)) → IfErr answer (λ refusal. refusal ≢ refused.NoMemory → IfSome (cell_on board on)
+      (λ cell. (refusal ≡ refused.JournalFull cell.limit) × (cell.limit ≤ (pass_at after on).known)))
   full-on board on station after place (Ok told) is at full = full
   full-on board on station after place (Err refusal) is at full = grind (arith, some-cell)
 
--- a desk in which a place was put back as it was
-put_again : (desk has : DeskShown) (j : ℕ) (place after : PassShown) → desk ≡ has
-    → place ≡ get_or has.passes j place → after ≡ place
-    → (let changed : DeskShown = record { owner = has.owner; passes = set has.passes j after } in changed) ≡ desk
-put_again desk has j place after same is still = grind (arith, set-get_or)
+-- the desk with another pass at a place
+abbrev changed : DeskShown → ℕ → PassShown → DeskShown
+changed has j after = record { owner = has.owner; passes = set has.passes j after }
 
--- where memory was lacking the desk is as it was
-pub still-on : (desk has : DeskShown) (j : ℕ) (place after : PassShown) (answer : Result Told CallRefused)
-    → desk ≡ has → place ≡ get_or has.passes j place
-    → IfErr answer (λ refusal. refusal ≡ refused.NoMemory → after ≡ place)
-    → IfErr answer (λ refusal. refusal ≡ refused.NoMemory
-    → (let changed : DeskShown = record { owner = has.owner; passes = set has.passes j after } in changed) ≡ desk)
-still-on desk has j place after (Ok told) same is still = still
-still-on desk has j place after (Err refusal) same is still =
-    λ none. put_again desk has j place after same is (still none)
+module _ (desk has : DeskShown) (j : ℕ) (place after : PassShown) (same : desk ≡ has)
+    (is : place ≡ get_or has.passes j place) where
+  -- a desk in which a place was put back as it was
+  put_again : after ≡ place → changed has j after ≡ desk
+  put_again still = grind (arith, set-get_or)
 
--- and so it is where a reply found no memory
-pub unread-on : {X E : Type 0} (desk has : DeskShown) (j : ℕ) (place after : PassShown) (answer : Result X E)
-    → desk ≡ has → place ≡ get_or has.passes j place → IfErr answer (λ _. after ≡ place)
-    → IfErr answer (λ _. (let changed : DeskShown = record { owner = has.owner; passes = set has.passes j after } in
-    changed) ≡ desk)
-unread-on desk has j place after (Ok read) same is still = tt
-unread-on desk has j place after (Err refusal) same is still = put_again desk has j place after same is still
+  -- where memory was lacking the desk is as it was
+  pub still-on : (answer : Result Told CallRefused) → IfErr answer (λ refusal. refusal ≡ refused.NoMemory
+      → after ≡ place) → IfErr answer (λ refusal. refusal ≡ refused.NoMemory → changed has j after ≡ desk)
+  still-on (Ok told) still = still
+  still-on (Err refusal) still = λ none. put_again (still none)
+
+  -- and so it is where a reply found no memory
+  pub unread-on : {X E : Type 0} (answer : Result X E) → IfErr answer (λ _. after ≡ place)
+      → IfErr answer (λ _. changed has j after ≡ desk)
+  unread-on (Ok read) still = tt
+  unread-on (Err refusal) still = put_again still
 
 -- a call that was answered to the place was answered to the desk
 pub answered-on : (desk has : DeskShown) (on : StrNo) (j : ℕ) (place after : PassShown) (asked : AnyAsk)
     (answer : Result Told CallRefused) → desk ≡ has → j ≡ on.0 → pass_at desk on ≡ place
     → IfOk answer (λ told. IsAnswered asked told place after)
-    → IfOk answer (λ told. IsAnsweredOn on asked told desk
-    (record { owner = has.owner; passes = set has.passes j after }))
+    → IfOk answer (λ told. IsAnsweredOn on asked told desk (changed has j after))
 answered-on desk has on j place after asked (Ok told) same at is made = grind arith
 answered-on desk has on j place after asked (Err refusal) same at is made = tt
+
+-- what is later keeps what is fixed
+pub later_fixed : (before after : PassShown) → IsLater before after → fixed_of after ≡ fixed_of before
+later_fixed before after later = ap fixed_of later.same
 
 -- a call keeps what is fixed, made or not
 pub call-fixed : (answer : Result Told CallRefused) (asked : AnyAsk) (before after : PassShown)

@@ -3,17 +3,19 @@ use Rattle.plex_board.proofs.Imports.{◌≡◌, ℕ, ◌<◌, List, [], ◌∷�
 use Rattle.plex_board.proofs.RowLaws.{each_with-last, FitsLast, fits-last}
 
 same-home : (str_type other : StrType) (passes others : List PassShown) (room most : ℕ) → str_type ≡ other
-    → passes ≡ others → room ≡ most
-    → (let h : HomeShown = record { str_type = str_type; passes = passes; room = room } in h)
-    ≡ record { str_type = other; passes = others; room = most }
+    → passes ≡ others → room ≡ most → (let h : HomeShown = record {
+      str_type = str_type;
+      passes =
+          passes;
+      room = room;
+    } in h) ≡ record { str_type = other; passes = others; room = most }
 same-home str_type other passes others room most e f g = cc
 
 module _ (homes : List AnyPasses) (all front : List PassShown) (pass : PassShown) (k : ℕ)
     (fits : Fits all (homes_shown homes)) (all_is : all ≡ front ++ pass ∷ []) (k_is : k ≡ length front) where
   last : (d : HomeShown) → FitsLast front pass (homes_shown homes) d
-  last d =
-      fits-last front pass (homes_shown homes) d
-      (subst (λ (ps : List PassShown). Fits ps (homes_shown homes)) all_is fits)
+  last d = fits-last front pass
+      (homes_shown homes) d (subst (λ (ps : List PassShown). Fits ps (homes_shown homes)) all_is fits)
 
   pub put-there : k < length homes
   put-there =
@@ -38,15 +40,13 @@ module _ (homes : List AnyPasses) (all front : List PassShown) (pass : PassShown
 
       pub put-fits : Fits front (homes_shown (set homes k after))
       put-fits =
-          subst (Fits front) (sym shown-after)
-          ((last (home_shown home)).rest (home_with pass (home_shown home)))
+          subst (Fits front) (sym shown-after) ((last (home_shown home)).rest (home_with pass (home_shown home)))
 
       pub put-row : each_with home_with front (homes_shown (set homes k after))
           ≡ each_with home_with all (homes_shown homes)
       put-row =
           let below : length front < length (homes_shown homes) = (last (home_shown home)).there in
-          ap (each_with home_with front) shown-after
-          ∙ ap (λ (h : HomeShown). each_with home_with front
-          (set (homes_shown homes) (length front) (home_with pass h))) (sym shown-at)
+          ap (each_with home_with front) shown-after ∙ ap (λ (h : HomeShown). each_with home_with
+          front (set (homes_shown homes) (length front) (home_with pass h))) (sym shown-at)
           ∙ sym (each_with-last home_with front pass (homes_shown homes) (home_shown home) below)
           ∙ ap (λ (ps : List PassShown). each_with home_with ps (homes_shown homes)) (sym all_is)

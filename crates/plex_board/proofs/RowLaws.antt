@@ -3,9 +3,8 @@ use Rattle.plex_board.proofs.Imports.{◌≡◌, suc, ◌<◌, List, [], ◌∷�
 
 -- ---- the last partner first
 
-pub each_with-last : {A B : Type 0} (f : A → B → B) (xs : List A) (a : A) (ys : List B) (d : B)
-    → length xs < length ys
-    → each_with f (xs ++ a ∷ []) ys ≡ each_with f xs (set ys (length xs) (f a (get_or ys (length xs) d)))
+pub each_with-last : {A B : Type 0} (f : A → B → B) (xs : List A) (a : A) (ys : List B) (d : B) → length xs < length
+    ys → each_with f (xs ++ a ∷ []) ys ≡ each_with f xs (set ys (length xs) (f a (get_or ys (length xs) d)))
 each_with-last f [] a [] d below = absurd (omega (arith, below))
 each_with-last f [] a (b ∷ ys) d below = refl
 each_with-last f (x ∷ xs) a [] d below = absurd (omega (arith, below))
@@ -17,8 +16,7 @@ pub each_with-length : {A B : Type 0} (f : A → B → B) (xs : List A) (ys : Li
     → length (each_with f xs ys) ≡ length ys
 each_with-length f [] ys same = refl
 each_with-length f (a ∷ xs) [] same = refl
-each_with-length f (a ∷ xs) (b ∷ ys) same =
-    ap (λ n. suc n) (each_with-length f xs ys (omega (arith, same)))
+each_with-length f (a ∷ xs) (b ∷ ys) same = ap (λ n. suc n) (each_with-length f xs ys (omega (arith, same)))
 
 -- what may be done with the last of the passes
 pub record FitsLast (passes : List PassShown) (pass : PassShown) (homes : List HomeShown) (d : HomeShown) : Type 0

@@ -44,7 +44,8 @@ module _ {C R I S : Type 0} (meaning : Meaning C R I S) (of : Ask C → AnyAsk) 
         here = it.here;
         behind = it.behind;
         cut = ap (λ (some : List (Call C R)). one ∷ some) it.cut;
-        before_is = ap (λ (x : AnyCall). x ∷ heard_of it.before) same ∙ ap (λ (xs : List AnyCall). first ∷ xs) it.before_is;
+        before_is =
+            ap (λ (x : AnyCall). x ∷ heard_of it.before) same ∙ ap (λ (xs : List AnyCall). first ∷ xs) it.before_is;
         here_is = it.here_is;
       }
 
@@ -66,7 +67,8 @@ module _ {C R I S : Type 0} (meaning : Meaning C R I S) (of : Ask C → AnyAsk) 
         before = one ∷ it.before;
         behind = it.behind;
         cut = ap (λ (some : List (Call C R)). one ∷ some) it.cut;
-        before_is = ap (λ (x : AnyCall). x ∷ heard_of it.before) same ∙ ap (λ (xs : List AnyCall). first ∷ xs) it.before_is;
+        before_is =
+            ap (λ (x : AnyCall). x ∷ heard_of it.before) same ∙ ap (λ (xs : List AnyCall). first ∷ xs) it.before_is;
       }
 
   -- the number of the last of some calls
@@ -106,8 +108,7 @@ module _ {C R I S : Type 0} (meaning : Meaning C R I S) (of : Ask C → AnyAsk) 
 
   -- a legal history ends with its last call
   ends_with : (entries : List (Entry C R)) → IsLegal meaning form entries → ended (calls entries) ≡ length entries
-  ends_with entries legal =
-      by_turns meaning form (λ h. ended (calls h) ≡ length h) refl (
+  ends_with entries legal = by_turns meaning form (λ h. ended (calls h) ≡ length h) refl (
       grind (arith, calls-turn, fold_push, call_added, length-turn)) entries legal
 
   module _ (told : CfId → Telling) where
@@ -116,7 +117,8 @@ module _ {C R I S : Type 0} (meaning : Meaning C R I S) (of : Ask C → AnyAsk) 
         → (front more : List (Call C R)) → calls entries ≡ front ++ more
         → take (ended front) entries ≡ run_of meaning form told front
     is_run entries legal all front more e = elim (last_cases front) [
-      | inl none ↦ subst (λ (xs : List (Call C R)). take (ended xs) entries ≡ run_of meaning form told xs) (sym none) refl
+      | inl none
+          ↦ subst (λ (xs : List (Call C R)). take (ended xs) entries ≡ run_of meaning form told xs) (sym none) refl
       | inr it ↦
           let xs : List (Call C R) = it.0 in
           let call : Call C R = it.1 in
@@ -143,13 +145,38 @@ module _ {C R I S : Type 0} (meaning : Meaning C R I S) (of : Ask C → AnyAsk) 
         let run : List (Entry C R) = run_of meaning form told front in
         let turn : Turn C = record { by = call.by; ask = call.ask; down = down_of meaning form told run } in
         let added : Call C R = call_added meaning form run turn in
-        let both : front ++ added ∷ [] ≡ front ++ call ∷ [] =
-        ap (λ (some : List (Call C R)). some ++ added ∷ []) (sym at.before) ∙ sym (calls-turn meaning form run turn)
-        ∙ at.last in
+        let both : front ++ added ∷ [] ≡ front ++ call ∷ [] = ap (λ (some : List (Call C R)). some ++ added ∷ [])
+        (sym at.before) ∙ sym (calls-turn meaning form run turn) ∙ at.last in
         let one : added ∷ [] ≡ call ∷ [] = append_cancel_left front (added ∷ []) (call ∷ []) both in
         let is : added ≡ call = cc in
-        subst (λ (h : List (Entry C R)). IsNextOne entries h call) (sym (is_run entries legal all front (call ∷ more) e))
-        (grind arith)
+        subst (λ (h : List (Entry C R)). IsNextOne entries h call)
+        (sym (is_run entries legal all front (call ∷ more) e)) (grind arith)
+
+  -- ---- as their callers hear of them
+
+  -- the entries up to the last of some calls that a legal history begins with
+  front_on : (entries : List (Entry C R)) → IsLegal meaning form entries → (front more : List AnyCall)
+      → heard_of (calls entries) ≡ front ++ more
+      → (length (take (end_of front) entries) ≡ end_of front) × (heard_of (calls (take (end_of front) entries)) ≡ front)
+  front_on entries legal front more e =
+      let at : IsHeardFront (calls entries) front = heard_front (calls entries) front more e in
+      let ends : end_of front ≡ ended at.before = ap end_of (sym at.before_is) ∙ ended_from 0 at.before in
+      let is : IsFront entries at.before = is_front entries legal at.before at.behind at.cut in
+      (ap (λ (n : ℕ). length (take n entries)) ends ∙ is.size ∙ sym ends, (grind arith))
+
+  -- a call of a legal history, and that it is the next one of the entries up to the call before it
+  next_on : (told : CfId → Telling) (entries : List (Entry C R)) → IsLegal meaning form entries
+      → AreAsTold meaning form told entries → (front : List AnyCall) (call : AnyCall) (more : List AnyCall)
+      → heard_of (calls entries) ≡ front ++ call ∷ more
+      → (here : Call C R) × (any_call of here ≡ call) × IsNextOne told entries (take (end_of front) entries) here
+  next_on told entries legal all front call more e =
+      let at : IsHeardAt (calls entries) front call = heard_at (calls entries) front call more e in
+      let ends : end_of front ≡ ended at.before = ap end_of (sym at.before_is) ∙ ended_from 0 at.before in (
+        at.here,
+        at.here_is,
+        subst (λ (n : ℕ). IsNextOne told entries (take n entries) at.here) (sym ends)
+            (next_one told entries legal all at.before at.here at.behind at.cut),
+      )
 
 -- ---- histories of whatever kind
 
@@ -164,34 +191,17 @@ pub next_call : (form : StrForm) (told : CfId → Telling) (h : AnyHistory) → 
     → (front : List AnyCall) (call : AnyCall) (more : List AnyCall) → any_calls h ≡ front ++ call ∷ more
     → IsNextOf form told h (any_take (end_of front) h) call
 next_call form told (history.Cache entries) legal all front call more e =
-    let at : IsHeardAt cache_meaning ask.Cache form (calls entries) front call =
-    heard_at cache_meaning ask.Cache form (calls entries) front call more e in
-    let ends : end_of front ≡ ended cache_meaning ask.Cache form at.before =
-    ap end_of (sym at.before_is) ∙ ended_from cache_meaning ask.Cache form 0 at.before in
-    let one : IsNextOne cache_meaning ask.Cache form told entries (take (ended cache_meaning ask.Cache form at.before) entries)
-    at.here = next_one cache_meaning ask.Cache form told entries legal all at.before at.here at.behind at.cut in
-    subst (λ (n : ℕ). IsNextOf form told (history.Cache entries) (any_take n (history.Cache entries)) call) (sym ends)
-    (subst (λ (c : AnyCall). IsNextOf form told (history.Cache entries)
-    (any_take (ended cache_meaning ask.Cache form at.before) (history.Cache entries)) c) at.here_is
-    (record { next = ap history.Cache one.next; number = one.number; answer = one.answer }))
+    let it = next_on cache_meaning ask.Cache form told entries legal all front call more e in
+    subst (IsNextOf form told (history.Cache entries) (any_take (end_of front) (history.Cache entries))) it.1
+    (record { next = ap history.Cache it.2.next; number = it.2.number; answer = it.2.answer })
 next_call form told (history.List entries) legal all front call more e =
-    let at : IsHeardAt list_meaning ask.List form (calls entries) front call =
-    heard_at list_meaning ask.List form (calls entries) front call more e in
-    let ends : end_of front ≡ ended list_meaning ask.List form at.before =
-    ap end_of (sym at.before_is) ∙ ended_from list_meaning ask.List form 0 at.before in
-    let one : IsNextOne list_meaning ask.List form told entries (take (ended list_meaning ask.List form at.before) entries)
-    at.here = next_one list_meaning ask.List form told entries legal all at.before at.here at.behind at.cut in
-    subst (λ (n : ℕ). IsNextOf form told (history.List entries) (any_take n (history.List entries)) call) (sym ends)
-    (grind arith)
+    let it = next_on list_meaning ask.List form told entries legal all front call more e in
+    subst (IsNextOf form told (history.List entries) (any_take (end_of front) (history.List entries))) it.1
+    (record { next = ap history.List it.2.next; number = it.2.number; answer = it.2.answer })
 next_call form told (history.Lock entries) legal all front call more e =
-    let at : IsHeardAt lock_meaning ask.Lock form (calls entries) front call =
-    heard_at lock_meaning ask.Lock form (calls entries) front call more e in
-    let ends : end_of front ≡ ended lock_meaning ask.Lock form at.before =
-    ap end_of (sym at.before_is) ∙ ended_from lock_meaning ask.Lock form 0 at.before in
-    let one : IsNextOne lock_meaning ask.Lock form told entries (take (ended lock_meaning ask.Lock form at.before) entries)
-    at.here = next_one lock_meaning ask.Lock form told entries legal all at.before at.here at.behind at.cut in
-    subst (λ (n : ℕ). IsNextOf form told (history.Lock entries) (any_take n (history.Lock entries)) call) (sym ends)
-    (grind arith)
+    let it = next_on lock_meaning ask.Lock form told entries legal all front call more e in
+    subst (IsNextOf form told (history.Lock entries) (any_take (end_of front) (history.Lock entries))) it.1
+    (record { next = ap history.Lock it.2.next; number = it.2.number; answer = it.2.answer })
 
 -- the entries up to the last of some calls that a history begins with
 pub record IsFrontOf (h : AnyHistory) (front : List AnyCall) : Type 0 where
@@ -201,38 +211,12 @@ pub record IsFrontOf (h : AnyHistory) (front : List AnyCall) : Type 0 where
 pub front_of : (form : StrForm) (h : AnyHistory) → IsAnyLegal form h → (front more : List AnyCall)
     → any_calls h ≡ front ++ more → IsFrontOf h front
 front_of form (history.Cache entries) legal front more e =
-    let at : IsHeardFront cache_meaning ask.Cache form (calls entries) front =
-    heard_front cache_meaning ask.Cache form (calls entries) front more e in
-    let ends : end_of front ≡ ended cache_meaning ask.Cache form at.before =
-    ap end_of (sym at.before_is) ∙ ended_from cache_meaning ask.Cache form 0 at.before in
-    let is : IsFront cache_meaning ask.Cache form entries at.before =
-    is_front cache_meaning ask.Cache form entries legal at.before at.behind at.cut in
-    record {
-      size = ap (λ (n : ℕ). length (take n entries)) ends ∙ is.size ∙ sym ends;
-      calls_are = grind arith;
-    }
+    let is =
+    front_on cache_meaning ask.Cache form entries legal front more e in record { size = is.0; calls_are = is.1 }
 front_of form (history.List entries) legal front more e =
-    let at : IsHeardFront list_meaning ask.List form (calls entries) front =
-    heard_front list_meaning ask.List form (calls entries) front more e in
-    let ends : end_of front ≡ ended list_meaning ask.List form at.before =
-    ap end_of (sym at.before_is) ∙ ended_from list_meaning ask.List form 0 at.before in
-    let is : IsFront list_meaning ask.List form entries at.before =
-    is_front list_meaning ask.List form entries legal at.before at.behind at.cut in
-    record {
-      size = ap (λ (n : ℕ). length (take n entries)) ends ∙ is.size ∙ sym ends;
-      calls_are = grind arith;
-    }
+    let is = front_on list_meaning ask.List form entries legal front more e in record { size = is.0; calls_are = is.1 }
 front_of form (history.Lock entries) legal front more e =
-    let at : IsHeardFront lock_meaning ask.Lock form (calls entries) front =
-    heard_front lock_meaning ask.Lock form (calls entries) front more e in
-    let ends : end_of front ≡ ended lock_meaning ask.Lock form at.before =
-    ap end_of (sym at.before_is) ∙ ended_from lock_meaning ask.Lock form 0 at.before in
-    let is : IsFront lock_meaning ask.Lock form entries at.before =
-    is_front lock_meaning ask.Lock form entries legal at.before at.behind at.cut in
-    record {
-      size = ap (λ (n : ℕ). length (take n entries)) ends ∙ is.size ∙ sym ends;
-      calls_are = grind arith;
-    }
+    let is = front_on lock_meaning ask.Lock form entries legal front more e in record { size = is.0; calls_are = is.1 }
 
 -- a legal history ends with its last call
 pub end_length : (form : StrForm) (h : AnyHistory) → IsAnyLegal form h → end_of (any_calls h) ≡ any_length h
@@ -304,9 +288,8 @@ end_above : (low : ℕ) (front more : List AnyCall) → Rising low (front ++ mor
 end_above low [] more rise = omega arith
 end_above low (call ∷ front) more rise = grind (arith, end_above call.no front more rise.1)
 
-at_end : (low n : ℕ) (front more : List AnyCall) → Rising low (front ++ more)
-    → (n ≡ low) ⊎ Contains (numbers_of (front ++ more)) n → fold last_number low front ≤ n → IsBefore n more
-    → n ≡ fold last_number low front
+at_end : (low n : ℕ) (front more : List AnyCall) → Rising low (front ++ more) → (n ≡ low) ⊎ Contains
+    (numbers_of (front ++ more)) n → fold last_number low front ≤ n → IsBefore n more → n ≡ fold last_number low front
 at_end low n [] more rise (inl same) least before = same
 at_end low n [] more rise (inr there) least before = absurd (above_first n more low rise there before)
 at_end low n (call ∷ front) more rise (inl same) least before = grind (arith, end_above)

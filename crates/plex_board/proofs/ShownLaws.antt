@@ -1,5 +1,5 @@
 -- What holds of passes and calls by the type of their structure holds of them as they are shown.
-use Rattle.plex_board.proofs.Imports.{◌≡◌, ℕ, ◌<◌, ◌≤◌, ◌==◌, Bool, true, List, [], ◌∷◌, length, map, get_or, All, refl, sym, subst, ◌∙◌, arith, Option, is_some, option_map, nat_tests, map-map, length-map, get_or-map, range_with_len, length-range_with_len, All-map, All-weaker, Links, AreAsked, StrForm, CfId, ConnId, Ask, Reply, Entry, Meaning, Call, calls, own, map-filtered, AnyAsk, AnyCall, any_call, call_numbered, own_calls, Sight, WordTable, PassSeen, new_pass, CellKey, reply_to, About, own_call_of, AreMadeBelow, IsTold, StrType, AnyReply, PassShown, call_by, heard_by, replies_by, reply_by, reply_numbered, shown_as, unused_pass, CellShown, keyed_as, replied, IsPassOf}
+use Rattle.plex_board.proofs.Imports.{◌≡◌, ℕ, ◌<◌, ◌≤◌, ◌==◌, Bool, true, List, [], ◌∷◌, length, map, get_or, All, refl, sym, subst, ◌∙◌, arith, Option, is_some, option_map, nat_tests, map-map, length-map, get_or-map, range_with_len, length-range_with_len, All-map, All-weaker, Links, AreAsked, StrForm, CfId, ConnId, Ask, Reply, Entry, Meaning, Call, calls, own, map-filtered, AnyAsk, AnyCall, any_call, call_numbered, own_calls, Sight, WordTable, PassSeen, new_pass, CellKey, reply_to, About, own_call_of, AreMadeBelow, IsPoint, IsTold, StrType, AnyReply, PassShown, call_by, heard_by, replies_by, reply_by, reply_numbered, shown_as, unused_pass, CellShown, keyed_as, replied, IsPassOf}
 
 -- a vector of so many has room for so many
 pub room_for : {X : Type 0} (of : ℕ → X) (n : ℕ) (items : List X) (len cap : ℕ) → (len ≡ length items) × (len ≤ cap)
@@ -32,9 +32,8 @@ module _ {C R : Type 0} (str_type : StrType) (of : Ask C → AnyAsk) (told : Rep
       (passes : List (PassSeen (About C R))) (shown_is : shown ≡ keyed_as str_type key)
       (list_is : list ≡ map (shown_as str_type of told) passes) where
     -- all of them, where each of them as it is seen
-    each_shown : (P : PassShown → Type 0) → All (λ (pass : PassSeen (About C R)). P (shown_as str_type of told pass))
-        passes
-        → All P list
+    each_shown : (P : PassShown → Type 0)
+        → All (λ (pass : PassSeen (About C R)). P (shown_as str_type of told pass)) passes → All P list
     each_shown P all = subst (All P) (sym list_is) (All-map P (shown_as str_type of told) passes all)
 
     pub shown_tables : All (IsPassOf shown) list → All (λ (pass : PassSeen (About C R)). pass.table ≡ key.words)
@@ -51,48 +50,40 @@ module _ {C R : Type 0} (str_type : StrType) (of : Ask C → AnyAsk) (told : Rep
         all' k (shown_as str_type of told d) below' in
         (subst P (get_or-map (shown_as str_type of told) passes k d (shown_as str_type of told d) below) each).1
 
-    pub shown_callers : (all : List (Call C R)) → All (λ (call : Call C R). call.by.0 ≤ key.callers) all
-        → All (λ (call : AnyCall). call.by.0 ≤ shown.callers) (map (any_call of) all)
-    shown_callers all callers =
-        subst (λ (s : CellShown L). All (λ (call : AnyCall). call.by.0 ≤ s.callers) (map (any_call of) all))
-        (sym shown_is) (All-map (λ (call : AnyCall). call.by.0 ≤ key.callers) (any_call of) all callers)
+    -- what a history says of its calls and of the passes, as they are shown
+    pub record AreShown {I S : Type 0} (meaning : Meaning C R I S) (history : List (Entry C R)) : Type 0 where
+      pub callers : All (λ (call : AnyCall). call.by.0 ≤ shown.callers) (map (any_call of) (calls history))
+      pub mine : All (λ (pass : PassShown). pass.calls ≡ own_calls (map (any_call of) (calls history)) pass.owner) list
+      pub replies : All (λ (pass : PassShown). pass.replies ≡ map (replied told) (own history pass.owner)) list
+      pub tests : All (λ (pass : PassShown). All (λ (test : Sight). IsTold meaning shown.form history pass.owner.0 test)
+          pass.tests) list
+      pub known : All (λ (pass : PassShown). IsPoint history pass.known × (pass.known ≤ length history)) list
 
-    pub shown_mine : (history : List (Entry C R))
+    pub are_shown : {I S : Type 0} (meaning : Meaning C R I S) (history : List (Entry C R))
+        → All (λ (call : Call C R). call.by.0 ≤ key.callers) (calls history)
         → All (λ (pass : PassSeen (About C R)). pass.mine ≡ map own_call_of (own history (record { 0 = pass.owner })))
-        passes
-        → All (λ (pass : PassShown). pass.calls ≡ own_calls (map (any_call of) (calls history)) pass.owner) list
-    shown_mine history mine =
-        each_shown (λ (pass : PassShown). pass.calls ≡ own_calls (map (any_call of) (calls history)) pass.owner)
-        (grind (arith, All-weaker, heard_own))
-
-    pub shown_replies : (history : List (Entry C R))
-        → All (λ (pass : PassSeen (About C R)). pass.mine ≡ map own_call_of (own history (record { 0 = pass.owner })))
-        passes
-        → All (λ (pass : PassShown). pass.replies ≡ map (replied told) (own history pass.owner)) list
-    shown_replies history mine =
-        each_shown (λ (pass : PassShown). pass.replies ≡ map (replied told) (own history pass.owner))
-        (grind (arith, All-weaker, replied_own))
-
-    pub shown_tests : {I S : Type 0} (meaning : Meaning C R I S) (history : List (Entry C R))
-        → All (λ (pass : PassSeen (About C R)). All (IsTold meaning key.form history pass.owner) pass.tests) passes
-        → All (λ (pass : PassShown). All
-        (λ (test : Sight). IsTold meaning shown.form history pass.owner.0 test) pass.tests) list
-    shown_tests meaning history tells =
-        each_shown
-        (λ (pass : PassShown). All (λ (test : Sight). IsTold meaning shown.form history pass.owner.0 test) pass.tests)
-        (grind arith)
-
-    pub shown_known : (P : ℕ → Type 0) → All (λ (pass : PassSeen (About C R)). P pass.known) passes
-        → All (λ (pass : PassShown). P pass.known) list
-    shown_known P known = each_shown (λ (pass : PassShown). P pass.known) known
+        passes → All (λ (pass : PassSeen (About C R)). All (IsTold meaning key.form history pass.owner) pass.tests)
+        passes → All (λ (pass : PassSeen (About C R)). IsPoint history pass.known × (pass.known ≤ length history))
+        passes → AreShown meaning history
+    are_shown meaning history called mine tells known = record {
+      callers = subst (λ (s : CellShown L). All (λ (call : AnyCall). call.by.0 ≤ s.callers)
+          (map (any_call of) (calls history)))
+          (sym shown_is) (All-map (λ (call : AnyCall). call.by.0 ≤ key.callers) (any_call of) (calls history) called);
+      mine = each_shown (λ (pass : PassShown). pass.calls ≡ own_calls (map (any_call of) (calls history)) pass.owner)
+          (grind (arith, All-weaker, heard_own));
+      replies = each_shown (λ (pass : PassShown). pass.replies ≡ map (replied told) (own history pass.owner))
+          (grind (arith, All-weaker, replied_own));
+      tests = each_shown (λ (pass : PassShown).
+          All (λ (test : Sight). IsTold meaning shown.form history pass.owner.0 test) pass.tests) (grind arith);
+      known = each_shown (λ (pass : PassShown). IsPoint history pass.known × (pass.known ≤ length history)) known;
+    }
 
     pub shown_room : (numbers : List ℕ) → AreMadeBelow key.limit 0 numbers → AreMadeBelow shown.limit 0 numbers
     shown_room numbers made = subst (λ (s : CellShown L). AreMadeBelow s.limit 0 numbers) (sym shown_is) made
 
     pub shown_links : (asks : L → Option ℕ) (downs : L → Option (List ℕ)) (faults : L → ℕ)
-        (answered : StrForm → CfId → List Bool) (handed : Links L)
-        → AreAsked asks downs faults (answered key.form) key.links handed
-        → AreAsked asks downs faults (answered shown.form) shown.links handed
+        (answered : StrForm → CfId → List Bool) (handed : Links L) → AreAsked asks downs faults
+        (answered key.form) key.links handed → AreAsked asks downs faults (answered shown.form) shown.links handed
     shown_links asks downs faults answered handed are =
         subst (λ (s : CellShown L). AreAsked asks downs faults (answered s.form) s.links handed) (sym shown_is) are
 
@@ -105,9 +96,8 @@ module _ {C R : Type 0} (str_type : StrType) (of : Ask C → AnyAsk) (told : Rep
   reply_shown number (it ∷ mine) = grind (arith, reply_shown number mine)
 
   -- there is one exactly where a call has the number
-  pub reply_exists : (number : ℕ) (owner : ConnId) (mine : List (ℕ × About C R))
-      → is_some (reply_numbered number (replies_by told mine))
-      ≡ is_some (call_numbered number (heard_by of owner mine))
+  pub reply_exists : (number : ℕ) (owner : ConnId) (mine : List (ℕ × About C R)) → is_some
+      (reply_numbered number (replies_by told mine)) ≡ is_some (call_numbered number (heard_by of owner mine))
   reply_exists number owner [] = refl
   reply_exists number owner (it ∷ mine) = grind (arith, reply_exists number owner mine)
 
@@ -115,8 +105,9 @@ module _ {C R : Type 0} (str_type : StrType) (of : Ask C → AnyAsk) (told : Rep
   module _ (number : ℕ) (reply : Option (Reply R)) (answer : Option AnyReply) (pass : PassShown)
       (seen : PassSeen (About C R)) (pass_is : pass ≡ shown_as str_type of told seen)
       (reply_is : reply ≡ reply_to number seen.mine) (answer_is : answer ≡ option_map told reply) where
-    pub told_reply : answer ≡ reply_numbered number pass.replies
+    told_reply : answer ≡ reply_numbered number pass.replies
     told_reply = grind (arith, reply_shown)
 
-    pub told_own : is_some answer ≡ is_some (call_numbered number pass.calls)
-    told_own = grind (arith, told_reply, reply_exists)
+    pub told_both : (answer ≡ reply_numbered number pass.replies)
+        × (is_some answer ≡ is_some (call_numbered number pass.calls))
+    told_both = (told_reply, grind (arith, told_reply, reply_exists))

@@ -27,9 +27,8 @@ pub each_sight : (P : Sight → Type 0) (word bits at sure k : ℕ) → All P (m
 each_sight P word bits at sure k all within = by_count 32 refl within
   where
     by_count : (n : ℕ) → n ≡ 32 → k < n → P (sight bits at sure (32 * word + k))
-    by_count n is within =
-        each_of P (sight bits at sure) (32 * word) n k
-        (subst (λ (indices : List ℕ). All P (map (sight bits at sure) indices)) (indices_are word n is) all) within
+    by_count n is within = each_of P (sight bits at sure) (32 * word) n
+        k (subst (λ (indices : List ℕ). All P (map (sight bits at sure) indices)) (indices_are word n is) all) within
 
 -- the bit of an index is the word's at the index's place
 pub bit_in_word : (bits word k : ℕ) → k < 32 → bit_in bits (32 * word + k) ≡ (bit_at bits k == 1)

@@ -14,9 +14,8 @@ forms-more {X} forms i form made after below is are more = grind (arith, take_mo
 
 -- the new desks are those of the board
 pub desks-opened : {L : Type 0} (board : BoardShown L) (cells : List (CellShown L)) (callers : ℕ) (spare : List L)
-    (owners : List ℕ) (desks : List DeskShown)
-    → board ≡ record { cells = cells; callers = callers; spare = spare } → desks ≡ map (desk_at cells) owners
-    → desks ≡ map (new_desk board) owners
+    (owners : List ℕ) (desks : List DeskShown) → board ≡ record { cells = cells; callers = callers; spare = spare }
+    → desks ≡ map (desk_at cells) owners → desks ≡ map (new_desk board) owners
 desks-opened {L} board cells callers spare owners desks is are =
     subst (λ (b : BoardShown L). desks ≡ map (new_desk b) owners) (sym is) are
 
@@ -70,9 +69,11 @@ module _ {L : Type 0} where
     opened-links (Err e) all are is = tt
 
   pub opened-desks : {E Z : Type 0} (cells : List (CellShown L)) (callers : ℕ) (spare : List L)
-      (answer : Result (BoardShown L × Vec DeskShown Z) E) (n : ℕ) → callers ≡ n
-      → IfOk answer (λ r. r.0 ≡ record { cells = cells; callers = callers; spare = spare })
-      → IfOk answer (λ r. r.1.items ≡ map (desk_at cells) (range_with_len 0 (callers + 1)))
-      → IfOk answer (λ r. r.1.items ≡ map (new_desk r.0) (range_with_len 0 (n + 1)))
+      (answer : Result (BoardShown L × Vec DeskShown Z) E) (n : ℕ) → callers ≡ n → IfOk answer (λ r. r.0 ≡ record {
+        cells = cells;
+        callers = callers;
+        spare = spare;
+      }) → IfOk answer (λ r. r.1.items ≡ map (desk_at cells)
+      (range_with_len 0 (callers + 1))) → IfOk answer (λ r. r.1.items ≡ map (new_desk r.0) (range_with_len 0 (n + 1)))
   opened-desks cells callers spare (Ok r) n same is are = grind (arith, desks-opened)
   opened-desks cells callers spare (Err e) n same is are = tt

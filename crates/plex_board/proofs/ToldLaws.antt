@@ -39,16 +39,17 @@ module _ {C R I S : Type 0} (meaning : Meaning C R I S) (form : StrForm) (told :
         (λ cf. subst (IsAsTold (told cf)) (answers-turn meaning form history turn cf run.0) (all cf)) in
         let before : AreAsTold history =
         (λ cf. told_front (told cf) (answers meaning form history cf) (answers_to turn.down asks cf) (grown cf)) in
-        let agree : Agree (reached_in turn.down asks) turn.down d =
-        (λ cf h. told_last (told cf) (answers meaning form history cf) (turn.down cf)
-        (subst (λ (b : Bool). IsAsTold (told cf) (answers meaning form history cf ++ (if b then turn.down cf ∷ [] else []))) h
-        (grown cf))) in
+        let agree : Agree (reached_in turn.down asks) turn.down d = (λ cf h. told_last (told cf)
+        (answers meaning form history cf) (turn.down cf) (subst (λ (b : Bool). IsAsTold (told cf)
+        (answers meaning form history cf ++ (if b then turn.down cf ∷ [] else []))) h (grown cf))) in
         let same : marks_of turn.down asks ≡ marks_of d asks = marks_agree asks turn.down d agree in
         let next : after_turn meaning form history turn ≡ next_by meaning form told history turn.by turn.ask =
-        ap (λ (marks : List CfId). with_call meaning form (with_marks meaning form history marks) turn.by turn.ask) same in
+        ap (λ (marks : List CfId). with_call meaning form (with_marks meaning form history marks) turn.by turn.ask)
+        same in
         let added : Call C R = call_added meaning form history turn in
-        let whole : run_of (calls (after_turn meaning form history turn)) ≡ after_call meaning form told (run_of (calls history)) added =
-        ap run_of (calls-turn meaning form history turn) ∙ fold_push (after_call meaning form told) [] (calls history) added in
+        let whole : run_of (calls (after_turn meaning form history turn)) ≡ after_call meaning
+        form told (run_of (calls history)) added = ap run_of (calls-turn meaning form history turn)
+        ∙ fold_push (after_call meaning form told) [] (calls history) added in
         next ∙ ap (λ (h : List (Entry C R)). after_call meaning form told h added) (run.1 before) ∙ sym whole,
   )
 
@@ -77,8 +78,8 @@ module _ {C R I S : Type 0} (meaning : Meaning C R I S) (form : StrForm) (told :
       let turn : Turn C = made.turn in
       let since : (cf : CfId) → IsAsTold (told cf) (answers meaning form (began ++ made.behind) cf) =
       (λ cf. subst (λ (h : List (Entry C R)). IsAsTold (told cf) (answers meaning form h cf)) made.starts (all cf)) in
-      let early : AreAsTold began =
-      (λ cf. told_front (told cf) (answers meaning form began cf) (answers_from meaning form (read_all meaning form began) made.behind cf)
+      let early : AreAsTold began = (λ cf. told_front (told cf)
+      (answers meaning form began cf) (answers_from meaning form (read_all meaning form began) made.behind cf)
       (subst (IsAsTold (told cf)) (answers-append meaning form began made.behind cf) (since cf))) in
       let run : began ≡ run_of front = legal_exact began made.legal early ∙ ap run_of made.before in
       let asker : call.by ≡ turn.by = ap (λ (it : Call C R). it.by) made.is in
@@ -87,17 +88,17 @@ module _ {C R I S : Type 0} (meaning : Meaning C R I S) (form : StrForm) (told :
       subst (IsLegal meaning form) (sym made.up_to) (legal_turn meaning form began turn made.legal) in
       let cut : take call.no history ++ drop call.no history ≡ history = take-append-drop call.no history in
       let told_here : AreAsTold (take call.no history) =
-      (λ cf. told_front (told cf) (answers meaning form (take call.no history) cf) (answers_from meaning form (read_all meaning form
-      (take call.no history)) (drop call.no history) cf)
+      (λ cf. told_front (told cf) (answers meaning form (take call.no history) cf)
+      (answers_from meaning form (read_all meaning form (take call.no history)) (drop call.no history) cf)
       (subst (IsAsTold (told cf)) (answers-append meaning form (take call.no history) (drop call.no history) cf)
       (subst (λ (h : List (Entry C R)). IsAsTold (told cf) (answers meaning form h cf)) (sym cut) (all cf)))) in
       let here : calls (take call.no history) ≡ front ++ call ∷ [] =
       ap calls made.up_to ∙ calls-turn meaning form began turn
-      ∙ (let one : calls began ≡ front = made.before in let two : call ≡ call_added meaning form began turn = made.is in cc)
-      in
+      ∙ (let one : calls began ≡ front =
+      made.before in let two : call ≡ call_added meaning form began turn = made.is in cc) in
       let whole : take call.no history ≡ next_by meaning form told (run_of front) call.by call.ask =
-      legal_exact (take call.no history) fine told_here ∙ ap run_of here ∙ fold_push (after_call meaning form told) [] front call
-      in
+      legal_exact (take call.no history) fine told_here ∙ ap run_of here
+      ∙ fold_push (after_call meaning form told) [] front call in
       record {
         before = ap calls (sym run) ∙ made.before;
         up_to = whole;
@@ -115,13 +116,11 @@ module _ {C R I S : Type 0} (meaning : Meaning C R I S) (form : StrForm) (told :
   nothing_told told (first ∷ front) answer more e = absurd cc
 
   pub links_told : {L : Type 0} (calls' : L → Option ℕ) (downs : L → Option (List ℕ)) (faults : L → ℕ)
-      (history : List (Entry C R)) (old new : Links L)
-      → ((link : L) → TellsEnough (calls' link) (downs link))
+      (history : List (Entry C R)) (old new : Links L) → ((link : L) → TellsEnough (calls' link) (downs link))
       → ((cf : CfId) → IsFacility cf → Tells calls' downs faults (told cf) (link_at old cf))
       → AreAsked calls' downs faults (answers meaning form history) old new → AreAsTold history
-  links_told calls' downs faults history old new enough tells asked cf =
-      elim (facility_or cf) [
-        | inl here ↦ asked_told calls' downs faults (told cf) (answers meaning form history cf) (link_at old cf)
-            (link_at new cf) (enough (link_at old cf)) (tells cf here) (asked.asked cf here)
-        | inr other ↦ rw (asked.others cf other) (nothing_told (told cf))
-      ]
+  links_told calls' downs faults history old new enough tells asked cf = elim (facility_or cf) [
+    | inl here ↦ asked_told calls' downs faults (told cf) (answers meaning form history cf) (link_at old cf)
+        (link_at new cf) (enough (link_at old cf)) (tells cf here) (asked.asked cf here)
+    | inr other ↦ rw (asked.others cf other) (nothing_told (told cf))
+  ]

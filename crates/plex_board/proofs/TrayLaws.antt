@@ -40,8 +40,7 @@ module _ (slots : List (Option AnyNote)) (tray : List (Option NoteShown)) (on : 
       → map (option_map note_shown) (set slots j slot) ≡ set tray on.0 (Some note)
   tray-after slot note is = grind (arith, map-set)
 
-  pub tray-same : (slot after : Option AnyNote) → slot ≡ get_or slots j slot
-      → option_map note_shown after ≡ option_map note_shown slot
-      → map (option_map note_shown) (set slots j after) ≡ tray
+  pub tray-same : (slot after : Option AnyNote) → slot ≡ get_or slots j slot → option_map
+      note_shown after ≡ option_map note_shown slot → map (option_map note_shown) (set slots j after) ≡ tray
   tray-same slot after is same =
       map-set_same (option_map note_shown) slots j after slot (same ∙ ap (option_map note_shown) is) ∙ sym tray_is

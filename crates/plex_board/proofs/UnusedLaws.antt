@@ -9,9 +9,8 @@ module _ {L : Type 0} (asks : L → Option ℕ) (downs : L → Option (List ℕ)
   each-same : (cells : List (CellShown L)) (histories : List AnyHistory) (spare links : List L)
       → AreEachAsked asks downs faults cells histories spare links
       → ((x : ℕ) (cell : CellShown L) (entries : AnyHistory) (handed : Links L) → slice_get cells x ≡ Some cell
-      → slice_get histories x ≡ Some entries
-      → AreAsked asks downs faults (any_answers cell.form entries) cell.links handed → handed ≡ cell.links)
-      → links ≡ flat_map (λ (cell : CellShown L). four_of cell.links) cells ++ spare
+      → slice_get histories x ≡ Some entries → AreAsked asks downs faults (any_answers cell.form entries) cell.links
+      handed → handed ≡ cell.links) → links ≡ flat_map (λ (cell : CellShown L). four_of cell.links) cells ++ spare
   each-same [] histories spare links are same = are
   each-same (cell ∷ cells) [] spare links are same = absurd are
   each-same (cell ∷ cells) (entries ∷ histories) spare links are same =
@@ -19,10 +18,8 @@ module _ {L : Type 0} (asks : L → Option ℕ) (downs : L → Option (List ℕ)
       let here : are.0 ≡ cell.links = same 0 cell entries are.0 refl refl are.3 in
       let rest : are.1 ≡ flat_map f cells ++ spare =
       each-same cells histories spare are.1 are.4 (λ x c e h at its. same (suc x) c e h at its) in
-      are.2
-      ∙ ap (λ (four : Links L). four_of four ++ are.1) here
-      ∙ ap (λ (others : List L). four_of cell.links ++ others) rest
-      ∙ sym (append_assoc (four_of cell.links) (flat_map f cells) spare)
+      are.2 ∙ ap (λ (four : Links L). four_of four ++ are.1) here ∙ ap (λ (others : List L). four_of cell.links
+      ++ others) rest ∙ sym (append_assoc (four_of cell.links) (flat_map f cells) spare)
 
 module _ {L : Type 0} (cells : List (CellShown L)) (homes : List HomeShown) (desks : List DeskShown)
     (is : IsUnused cells homes desks) where
@@ -30,9 +27,9 @@ module _ {L : Type 0} (cells : List (CellShown L)) (homes : List HomeShown) (des
   new-desks =
       let P : DeskShown → Type 0 =
       λ desk. map fixed_of desk.passes ≡ map (λ (cell : CellShown L). fixed_at cell desk.owner) cells in
-      subst (All P) (sym is.desks_are)
-      (All-map P (desk_at cells) (range_with_len 0 (length desks)) (λ k d below.
-      new_desk-of_board (record { cells = cells; callers = 0; spare = [] }) (get_or (range_with_len 0 (length desks)) k d)))
+      subst (All P) (sym is.desks_are) (All-map P (desk_at cells) (range_with_len 0 (length desks)) (λ k d below.
+      new_desk-of_board
+      (record { cells = cells; callers = 0; spare = [] }) (get_or (range_with_len 0 (length desks)) k d)))
 
   pub unused-fits : AllFit desks homes
   unused-fits = desks-fit cells desks homes is.homes_are new-desks
@@ -42,15 +39,14 @@ module _ {L : Type 0} (cells : List (CellShown L)) (homes : List HomeShown) (des
       subst (AreHomes 0 cells) (sym gathered) (homes-gathered cells desks homes is.homes_are new-desks)
 
   -- no caller has a call in a structure's history
-  no-calls : (histories : List AnyHistory) (x : ℕ) (cell : CellShown L) (entries : AnyHistory)
-      → slice_get cells x ≡ Some cell → All (λ (desk : DeskShown). IsAccount cell entries (get_or desk.passes x no_pass)) desks
+  no-calls : (histories : List AnyHistory) (x : ℕ) (cell : CellShown L) (entries : AnyHistory) → slice_get
+      cells x ≡ Some cell → All (λ (desk : DeskShown). IsAccount cell entries (get_or desk.passes x no_pass)) desks
       → (owner : ConnId) → owner.0 ≤ cell.callers → own_calls (any_calls entries) owner ≡ []
   no-calls histories x cell entries at accounts owner few =
       let within : x < length cells = slice_get_within cells x cell at in
       let here : get_or cells x cell ≡ cell = get_or_from_slice_get cells x cell cell at in
       let all : (get_or cells x cell).callers < length desks = is.callers x cell within in
-      let callers : cell.callers < length desks =
-      subst (λ (c : CellShown L). c.callers < length desks) here all in
+      let callers : cell.callers < length desks = subst (λ (c : CellShown L). c.callers < length desks) here all in
       let below : owner.0 < length desks = omega (arith, few, callers) in
       let new : DeskShown = desk_at cells owner.0 in
       let desk : get_or desks owner.0 new ≡ new = grind (arith, get_or-map-range_with_len) in

@@ -22,9 +22,8 @@ none_called callers (call ∷ all) within none =
 module _ {C R I S : Type 0} (meaning : Meaning C R I S) (form : StrForm) where
   -- a legal history without calls has no entries
   no_entries : (entries : List (Entry C R)) → IsLegal meaning form entries → calls entries ≡ [] → entries ≡ []
-  no_entries entries legal =
-      by_turns meaning form (λ (h : List (Entry C R)). calls h ≡ [] → h ≡ []) (λ none. refl)
-      (λ h turn fine so none. absurd (
+  no_entries entries legal = by_turns
+      meaning form (λ (h : List (Entry C R)). calls h ≡ [] → h ≡ []) (λ none. refl) (λ h turn fine so none. absurd (
       let more : length (calls h ++ call_added meaning form h turn ∷ []) ≡ 0 =
       sym (ap length (calls-turn meaning form h turn)) ∙ ap length none in
       let count : length (calls h ++ call_added meaning form h turn ∷ []) ≡ length (calls h) + 1 =
@@ -38,14 +37,11 @@ none_mapped f (x ∷ xs) none = absurd cc
 -- no link answered
 none_answered : (form : StrForm) (entries : AnyHistory) → IsAnyLegal form entries → any_calls entries ≡ []
     → (cf : CfId) → any_answers form entries cf ≡ []
-none_answered form (history.Cache entries) legal none cf =
-    ap (λ es. any_answers form (history.Cache es) cf)
+none_answered form (history.Cache entries) legal none cf = ap (λ es. any_answers form (history.Cache es) cf)
     (no_entries cache_meaning form entries legal (none_mapped (any_call ask.Cache) (calls entries) none))
-none_answered form (history.List entries) legal none cf =
-    ap (λ es. any_answers form (history.List es) cf)
+none_answered form (history.List entries) legal none cf = ap (λ es. any_answers form (history.List es) cf)
     (no_entries list_meaning form entries legal (none_mapped (any_call ask.List) (calls entries) none))
-none_answered form (history.Lock entries) legal none cf =
-    ap (λ es. any_answers form (history.Lock es) cf)
+none_answered form (history.Lock entries) legal none cf = ap (λ es. any_answers form (history.Lock es) cf)
     (no_entries lock_meaning form entries legal (none_mapped (any_call ask.Lock) (calls entries) none))
 
 -- ---- links
@@ -60,14 +56,7 @@ module _ {L : Type 0} (asks : L → Option ℕ) (downs : L → Option (List ℕ)
       let two : new.two ≡ old.two = all.asked (record { 0 = 2 }) (omega arith, omega arith) in
       let three : new.three ≡ old.three = all.asked (record { 0 = 3 }) (omega arith, omega arith) in
       let four : new.four ≡ old.four = all.asked (record { 0 = 4 }) (omega arith, omega arith) in
-      ap (λ (l : L). (let links : Links L = record { one = l; two = new.two; three = new.three; four = new.four } in
-      links)) one
-      ∙ ap (λ (l : L). (let links : Links L = record { one = old.one; two = l; three = new.three; four = new.four } in
-      links)) two
-      ∙ ap (λ (l : L). (let links : Links L = record { one = old.one; two = old.two; three = l; four = new.four } in
-      links)) three
-      ∙ ap (λ (l : L). (let links : Links L = record { one = old.one; two = old.two; three = old.three; four = l } in
-      links)) four
+      grind arith
 
   -- the links of a structure that nobody has called
   pub unused_links : (cell : CellShown L) (entries : AnyHistory) (handed : Links L)
@@ -80,9 +69,8 @@ module _ {L : Type 0} (asks : L → Option ℕ) (downs : L → Option (List ℕ)
 
 -- what a history says of an owner's calls, where all its callers have such passes
 pub unused_none : (str_type : StrType) (words : WordTable) (count : ℕ) (passes : List PassShown) (all : List AnyCall)
-    → passes ≡ map (unused_pass str_type words) (range_with_len 0 count)
-    → All (λ (pass : PassShown). pass.calls ≡ own_calls all pass.owner) passes
-    → (owner : ConnId) → owner.0 < count → own_calls all owner ≡ []
+    → passes ≡ map (unused_pass str_type words) (range_with_len 0 count) → All (λ (pass : PassShown). pass.calls ≡
+    own_calls all pass.owner) passes → (owner : ConnId) → owner.0 < count → own_calls all owner ≡ []
 unused_none str_type words count passes all are mine owner below =
     let new : ℕ → PassShown = unused_pass str_type words in
     let long : length (map new (range_with_len 0 count)) ≡ count = length-map-range_with_len new 0 count in

@@ -7,14 +7,9 @@ module _ {C R : Type 0} (of : Ask C → AnyAsk) (conn : ConnId) where
   abbrev own_of : List (Call C R) → ℕ
   own_of told = length (own_calls (map (any_call of) told) conn)
 
-  one_call : (call : Call C R) (told : List (Call C R))
-      → own_of (call ∷ told) ≡ cond (call.by.0 == conn.0 && true) 1 0 + own_of told
-  one_call call told = grind arith
-
   pub counted : (entries : List (Entry C R)) → count_by (is_call_by conn) entries ≡ own_of (calls entries)
   counted [] = refl
-  counted (entry ∷ entries) =
-      sum_by-cons (λ (x : Entry C R). cond (is_call_by conn x) 1 0) entry entries
+  counted (entry ∷ entries) = sum_by-cons (λ (x : Entry C R). cond (is_call_by conn x) 1 0) entry entries
       ∙ at_what entry.what (counted entries)
     where
       none : (b : Bool) {n m : ℕ} → n ≡ m → cond (b && false) 1 0 + n ≡ m
@@ -24,7 +19,7 @@ module _ {C R : Type 0} (of : Ask C → AnyAsk) (conn : ConnId) where
       at_what : (w : What C) → count_by (is_call_by {C = C} {R = R} conn) entries ≡ own_of (calls entries)
           → cond (entry.by.0 == conn.0 && is_call w) 1 0 + count_by (is_call_by {C = C} {R = R} conn) entries
           ≡ own_of (cons_option (call_told entry.no entry.by entry.reply w) (calls entries))
-      at_what (what.Call asked) rest = grind (arith, one_call)
+      at_what (what.Call asked) rest = grind arith
       at_what (what.Lost cf) rest = none (entry.by.0 == conn.0) rest
 
 -- of each kind

@@ -24,26 +24,16 @@ module _ (P : Line → Type 0) where
   each_work c x count each = All-map P (work_line c x) (range_with_len 1 count) (λ k d low.
       let within : k < count = omega (arith, low, length-range_with_len 1 count) in
       let is : get_or (range_with_len 1 count) k d ≡ 1 + k = get_or-range_with_len 1 count k d within in
-      subst (λ (i : ℕ). P (work_line c x i)) (sym is)
-      (each (1 + k) (number_after (1 + k) x) (omega arith) (omega arith)))
-
-  each_of_connector : (c x : ℕ) → P (connect_line c)
-      → ((i number : ℕ) → 1 ≤ i → i ≤ 1000 → P (own_line c i (work c i (index_of number))))
-      → All P (connector_lines c x)
-  each_of_connector c x connect each = grind (arith, All-cons, each_work, each-is)
+      subst (λ (i : ℕ). P (work_line c x i)) (sym is) (grind arith))
 
   -- what holds of each CONNECT, and of each line behind one, holds of each line
-  pub each_line : ((c : ℕ) → c < 4 → P (connect_line c))
-      → ((c i number : ℕ) → c < 4 → 1 ≤ i → i ≤ 1000 → P (own_line c i (work c i (index_of number))))
-      → (n : ℕ) → All P (lines_of_first n 4)
+  pub each_line : ((c : ℕ) → c < 4 → P (connect_line c)) → ((c i number : ℕ) → c < 4 → 1 ≤ i
+      → i ≤ 1000 → P (own_line c i (work c i (index_of number)))) → (n : ℕ) → All P (lines_of_first n 4)
   each_line connect each n =
-      let one : (c : ℕ) → c < 4 → All P (own_lines n c) =
-      λ c low. each_of_connector c (first_number n c) (connect c low) (λ i number. each c i number low) in
+      let one : (c : ℕ) → c < 4 → All P (own_lines n c) = grind (arith, All-cons, each_work, each-is) in
       let third = own_lines n 3 ++ [] in
       let second = own_lines n 2 ++ third in
       let first = own_lines n 1 ++ second in
-      subst (All P) (sym (four_parts n))
-      (All-append P (own_lines n 0) first (one 0 (omega arith))
-      (All-append P (own_lines n 1) second (one 1 (omega arith))
-      (All-append P (own_lines n 2) third (one 2 (omega arith))
-      (All-append P (own_lines n 3) [] (one 3 (omega arith)) (All-nil P)))))
+      subst (All P) (sym (four_parts n)) (All-append P (own_lines n 0) first (one 0 (omega arith))
+      (All-append P (own_lines n 1) second (one 1 (omega arith)) (All-append P (own_lines n 2)
+      third (one 2 (omega arith)) (All-append P (own_lines n 3) [] (one 3 (omega arith)) (All-nil P)))))

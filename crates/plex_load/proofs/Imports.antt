@@ -1,23 +1,12 @@
 -- What proofs here name of other crates, and of this one's definitions. Declares nothing.
+pub use Rattle.plex_script.proofs.Imports.{nat_tests, All-nil, All-cons, All-append, All-map, length-range_with_len, length-map-range_with_len, get_or-range_with_len, sum_by-map-range_with_len_more, get_or-map-range_with_len, map-range_with_len_more, sum_by-cons, sum_by-append, is_ascii_digit, cons_option, range_with_len, flat_map, list_all, words-within, own, no_fault, first_step, most_asks, IsForm, IsPref, IsPadded, IsTerm, term_byte, any_call, own_calls, any_length, MayDo, IsNamed, AreNames, AreWithin, Declared, is_term, is_name, Term, line_text, script_text, class_in, line_tokens, numbered_behind, with_line_numbers, IsScript, line_number, IsWellFormed}
 pub use Rattle.std.proofs.Common.{◌≡◌, ℕ, ◌+◌, ◌==◌, ◌&&◌, Bool, true, false, cond, List, [], ◌∷◌, length, map, refl, sym, ap, ◌∙◌, arith, count_by, ◌≤◌, ◌<◌, ◌++◌, get_or, subst, length-append, All, ◌*◌, ◌%◌, zero, suc, sum_by, not, codes, add-zero, add-suc, add-one, append_assoc, ◌^◌, take}
-pub use Rattle.std.proofs.lemmas.Bool.Decides.{nat_tests}
 pub use Rattle.std.proofs.lemmas.Fmt.{length-decimal-le, decimal_nonempty, digits_decimal}
 pub use Rattle.std.proofs.lemmas.List.{flat_map_more, map-id, append-nil}
-pub use Rattle.std.proofs.lemmas.List.Elements.{All-nil, All-cons, All-append, All-map}
-pub use Rattle.std.proofs.lemmas.List.FromFn.{length-range_with_len, length-map-range_with_len, get_or-range_with_len, sum_by-map-range_with_len_more, get_or-map-range_with_len, map-range_with_len_more}
-pub use Rattle.std.proofs.lemmas.List.Sums.{sum_by-cons, sum_by-append}
-pub use Rattle.std.specs.Char.{is_ascii_digit}
 pub use Rattle.std.specs.Fmt.{decimal}
-pub use Rattle.std.specs.List.{cons_option, range_with_len, flat_map, list_all}
 pub use Rattle.plex_script.proofs.FormedLines.{script-formed}
 pub use Rattle.plex_script.proofs.PlexPlain.Tests.{all-append, all-weaker}
-pub use Rattle.plex_script.proofs.PlexPlain.Within.{words-within}
-pub use Rattle.plex_script.proofs.PlexSpell.NumberLaws.{own}
-pub use Rattle.plex_script.proofs.PlexSpell.TextLaws.{no_fault}
 pub use Rattle.plex_script.proofs.ReadBack.{script-reads}
-pub use Rattle.plex_script.specs.Agent.{first_step, most_asks}
-pub use Rattle.plex_script.specs.CfTypes.Forms.{IsForm, IsPref}
-pub use Rattle.plex_script.specs.CfTypes.Term.{IsPadded, IsTerm, term_byte}
 pub use Rattle.plex_script.specs.CfTypes.declared.cache_commands.CacheCmd.{CacheCmd}
 pub use Rattle.plex_script.specs.CfTypes.declared.cache_commands.CacheReply.{CacheReply}
 pub use Rattle.plex_script.specs.CfTypes.declared.forms.Pref.{Pref}
@@ -32,16 +21,7 @@ pub use Rattle.plex_script.specs.EngineApi.History.{Call, call_told, calls}
 pub use Rattle.plex_script.specs.EngineApi.declared.asks.Ask.{Ask}
 pub use Rattle.plex_script.specs.EngineApi.declared.asks.What.{What}
 pub use Rattle.plex_script.specs.EngineApi.declared.histories.Entry.{Entry}
-pub use Rattle.plex_script.specs.Heard.{any_call, own_calls, any_length}
 pub use Rattle.plex_script.specs.Limits.{AreFacilities, HasRoom, IsStructureIn, IsLineIn, KeepsLimits}
-pub use Rattle.plex_script.specs.LineWords.{MayDo}
-pub use Rattle.plex_script.specs.PlexPlain.Ranges.{IsNamed, AreNames, AreWithin}
-pub use Rattle.plex_script.specs.PlexSpell.Tokens.{Declared, is_term, is_name}
-pub use Rattle.plex_script.specs.PlexSpell.Tokens.Token.{Term}
-pub use Rattle.plex_script.specs.PlexSpell.Words.{line_text}
-pub use Rattle.plex_script.specs.Printed.{script_text, class_in, line_tokens, numbered_behind, with_line_numbers}
-pub use Rattle.plex_script.specs.Scripts.{IsScript, line_number}
-pub use Rattle.plex_script.specs.WellFormed.{IsWellFormed}
 pub use Rattle.plex_script.specs.declared.asks.AnyHistory.{AnyHistory}
 pub use Rattle.plex_script.specs.declared.scripts.Act.{Act}
 pub use Rattle.plex_script.specs.declared.scripts.AnyAsk.{AnyAsk}

@@ -18,47 +18,34 @@ nothing true = refl
 nothing false = refl
 
 module _ (on : StrNo) where
-  -- what a line asks of the structure, if it is this one
-  asks_line : (c x i : ℕ) (tests : Bool) → (i % 4 == 0) ≡ tests
-      → asks_on on (work_line c x i) ≡ cond (0 == on.0) (cond tests 0 1) 0
-  asks_line c x i tests e = grind (arith, asks_work)
-
   asks_more : (c x n i : ℕ) (tests : Bool) → 1 + n ≡ i → (i % 4 == 0) ≡ tests
       → sum_by (asks_on on) (map (work_line c x) (range_with_len 1 (n + 1)))
       ≡ sum_by (asks_on on) (map (work_line c x) (range_with_len 1 n)) + cond (0 == on.0) (cond tests 0 1) 0
-  asks_more c x n i tests at e = grind (arith, sum_by-map-range_with_len_more, asks_line)
+  asks_more c x n i tests at e = grind (arith, sum_by-map-range_with_len_more, asks_work)
 
   -- three of each four lines ask once
   asks_works : (c x k n : ℕ) → n ≡ 4 * k
       → sum_by (asks_on on) (map (work_line c x) (range_with_len 1 n)) ≡ cond (0 == on.0) (3 * k) 0
-  asks_works c x zero n is =
-      ap (λ (m : ℕ). sum_by (asks_on on) (map (work_line c x) (range_with_len 1 m))) is ∙ nothing (0 == on.0)
+  asks_works c x zero n is = grind (arith, nothing)
   asks_works c x (suc k) n is =
       let total = λ (m : ℕ). sum_by (asks_on on) (map (work_line c x) (range_with_len 1 m)) in
       let m = 4 * k in
       let same : n ≡ m + 1 + 1 + 1 + 1 = omega (arith, is) in
-      ap total same
-      ∙ three_more (0 == on.0) k (suc k) (total m) (total (m + 1)) (total (m + 1 + 1)) (total (m + 1 + 1 + 1))
-      (total (m + 1 + 1 + 1 + 1)) (omega arith) (asks_works c x k m refl)
-      (asks_more c x m (m + 1) false (omega arith) (grind (arith, nat_tests)))
-      (asks_more c x (m + 1) (m + 2) false (omega arith) (grind (arith, nat_tests)))
-      (asks_more c x (m + 1 + 1) (m + 3) false (omega arith) (grind (arith, nat_tests)))
+      ap total same ∙ three_more (0 == on.0) k (suc k) (total m) (total (m + 1)) (total (m + 1 + 1))
+      (total (m + 1 + 1 + 1)) (total (m + 1 + 1 + 1 + 1)) (omega arith) (asks_works c x k m refl) (asks_more
+      c x m (m + 1) false (omega arith) (grind (arith, nat_tests))) (asks_more c x (m + 1) (m + 2) false (omega arith)
+      (grind (arith, nat_tests))) (asks_more c x (m + 1 + 1) (m + 3) false (omega arith) (grind (arith, nat_tests)))
       (asks_more c x (m + 1 + 1 + 1) (m + 4) true (omega arith) (grind (arith, nat_tests)))
-
-  asks_connector : (c x : ℕ) → sum_by (asks_on on) (connector_lines c x) ≡ cond (0 == on.0) 751 0
-  asks_connector c x = grind (arith, asks_works, each-is, sum_by-cons)
 
   asks_lines : (n : ℕ) → sum_by (asks_on on) (lines_of_first n 4) ≡ cond (0 == on.0) 3004 0
   asks_lines n =
       let g = asks_on on in
       let one : (c : ℕ) → sum_by g (own_lines n c) ≡ cond (0 == on.0) 751 0 =
-      λ c. asks_connector c (first_number n c) in
-      ap (sum_by g) (four_parts n)
-      ∙ at_test (0 == on.0)
-      (sum_by-append g (own_lines n 0) (own_lines n 1 ++ (own_lines n 2 ++ (own_lines n 3 ++ []))))
-      (sum_by-append g (own_lines n 1) (own_lines n 2 ++ (own_lines n 3 ++ [])))
-      (sum_by-append g (own_lines n 2) (own_lines n 3 ++ [])) (sum_by-append g (own_lines n 3) [])
-      (one 0) (one 1) (one 2) (one 3)
+      grind (arith, asks_works, each-is, sum_by-cons) in
+      ap (sum_by g) (four_parts n) ∙ at_test
+      (0 == on.0) (sum_by-append g (own_lines n 0) (own_lines n 1 ++ (own_lines n 2 ++ (own_lines n 3 ++ []))))
+      (sum_by-append g (own_lines n 1) (own_lines n 2 ++ (own_lines n 3 ++ []))) (sum_by-append
+      g (own_lines n 2) (own_lines n 3 ++ [])) (sum_by-append g (own_lines n 3) []) (one 0) (one 1) (one 2) (one 3)
     where
       at_test : (b : Bool) {all behind second last a0 a1 a2 a3 : ℕ} → all ≡ a0 + behind → behind ≡ a1 + second
           → second ≡ a2 + last → last ≡ a3 + 0 → a0 ≡ cond b 751 0 → a1 ≡ cond b 751 0 → a2 ≡ cond b 751 0

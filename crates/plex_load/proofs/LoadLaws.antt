@@ -1,5 +1,5 @@
 -- What holds of each load.
-use Rattle.plex_load.proofs.Imports.{◌≡◌, ℕ, ◌%◌, ◌==◌, sym, subst, Script, script_text, IsScript, IsWellFormed, script-formed, script-reads, load_script, IsLoad}
+use Rattle.plex_load.proofs.Imports.{arith, ◌≡◌, ℕ, ◌%◌, ◌==◌, sym, subst, Script, script_text, IsScript, IsWellFormed, script-formed, script-reads, load_script, IsLoad}
 use Rattle.plex_load.proofs.EachLine.{length-load}
 use Rattle.plex_load.proofs.LoadCalls.{load_calls}
 use Rattle.plex_load.proofs.LoadLimits.{load-keeps}
@@ -7,8 +7,7 @@ use Rattle.plex_load.proofs.Numbering.{load_numbered}
 
 -- its printed text says the load, with the same numbers of lines
 pub load-says : (n : ℕ) → IsScript (script_text (load_script n)) (load_script n)
-load-says n =
-    subst (IsScript (script_text (load_script n))) (load_numbered n) (script-reads (load_script n) (load-keeps n))
+load-says n = grind (arith, load_numbered, script-reads, load-keeps)
 
 pub load-formed : (n : ℕ) → IsWellFormed (load_script n)
 load-formed n = script-formed (script_text (load_script n)) (load_script n) (load-says n)

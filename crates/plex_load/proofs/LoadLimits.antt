@@ -11,13 +11,9 @@ nobody : Declared
 nobody = record { facilities = []; structures = []; connectors = [] }
 
 padded_named : (word : List ℕ) → is_term word ≡ true → length word ≤ 16 → IsPadded (named word).0
-padded_named word term short =
-    (words-within nobody (Term (named word).0 ∷ []) (word ∷ []) [] ((term, (short, refl)), refl)).0
+padded_named word term short = (words-within nobody (Term (named word).0 ∷ []) (word ∷ []) [] (grind arith)).0
 
 -- ---- the policy
-
-cache_named : IsNamed load_form.name
-cache_named = grind (arith, words-within, nobody)
 
 one_set : (pref : Pref) → IsPref pref → All IsPref (pref ∷ [])
 one_set pref is = All-cons IsPref pref [] is (All-nil IsPref)
@@ -28,15 +24,11 @@ facilities_kept = grind (arith, one_set)
 form_is : IsForm load_form
 form_is = grind (arith, one_set)
 
-form_kept : IsStructureIn (load_facility ∷ []) load_form
-form_kept = grind (arith, form_is, All-cons, All-nil)
-
 structures_kept : All (IsStructureIn (load_facility ∷ [])) (load_form ∷ [])
-structures_kept =
-    let kept = IsStructureIn (load_facility ∷ []) in All-cons kept load_form [] form_kept (All-nil kept)
+structures_kept = grind (arith, All-cons, All-nil, form_is)
 
 structure_names_kept : AreNames (load_form.name ∷ [])
-structure_names_kept = grind (arith, All-cons, cache_named, All-nil)
+structure_names_kept = grind (arith, All-cons, All-nil, words-within, nobody)
 
 letter_is_name : (c : ℕ) → c < 4 → is_name (letter c) ≡ true
 letter_is_name zero low = refl
@@ -45,19 +37,11 @@ letter_is_name (suc (suc zero)) low = refl
 letter_is_name (suc (suc (suc zero))) low = refl
 letter_is_name (suc (suc (suc (suc c)))) low = absurd (omega arith)
 
-letter_named : (c : ℕ) → c < 4 → IsNamed (named (letter c))
-letter_named c low = grind (arith, words-within, nobody, letter_is_name)
-
 connector_at : (k : ℕ) (d : Name16) → k < 4 → get_or load_connectors k d ≡ named (letter k)
 connector_at k d low = get_or-map-range_with_len (λ (c : ℕ). named (letter c)) 0 4 k k d low (omega arith)
 
 connectors_kept : AreNames load_connectors
-connectors_kept = grind (arith, connector_at, letter_named)
-
--- the structure takes 512 of the facility's 1,000 units
-room_kept : (n : ℕ) → HasRoom (load_script n)
-unfolding load_script
-room_kept n cf = grind arith
+connectors_kept = grind (arith, connector_at, words-within, nobody, letter_is_name)
 
 -- ---- lines
 
@@ -95,16 +79,7 @@ write_allowed c i j few short low =
     )
 
 read_allowed : (c j : ℕ) → j < 64 → MayAct c (read j)
-read_allowed c j low =
-    ((refl, (not_operator c, refl)), (tt, (page_padded j low, ((omega arith, omega arith), tt))))
-
-work_allowed : (c i j : ℕ) → c < 4 → i ≤ 1000 → j < 64 → MayAct c (work c i j)
-work_allowed c i j few short low = at_test (i % 4 == 0) (i % 4 == 1)
-  where
-    at_test : (a b : Bool) → MayAct c (cond a (act.Test j) (cond b (write c i j) (read j)))
-    at_test true b = test_allowed c j low
-    at_test false true = write_allowed c i j few short low
-    at_test false false = read_allowed c j low
+read_allowed c j low = ((refl, (not_operator c, refl)), (tt, (page_padded j low, ((omega arith, omega arith), tt))))
 
 line_kept : (n c i : ℕ) (done : Act) → c < 4 → MayAct c done → IsLineIn (load_script n) (own_line c i done)
 unfolding load_script
@@ -116,13 +91,19 @@ line_kept n c i done few may = record {
   within = may.1;
 }
 
+work_allowed : (c i j : ℕ) → c < 4 → i ≤ 1000 → j < 64 → MayAct c (work c i j)
+work_allowed c i j few short low = at_test (i % 4 == 0) (i % 4 == 1)
+  where
+    at_test : (a b : Bool) → MayAct c (cond a (act.Test j) (cond b (write c i j) (read j)))
+    at_test true b = test_allowed c j low
+    at_test false true = write_allowed c i j few short low
+    at_test false false = read_allowed c j low
+
 lines_kept : (n : ℕ) → All (IsLineIn (load_script n)) (lines_of_first n 4)
-lines_kept n =
-    each_line (IsLineIn (load_script n)) (λ c few. line_kept n c 0 connect few (connect_allowed c))
-    (λ c i number few some short. line_kept n c i (work c i (index_of number)) few
-    (work_allowed c i (index_of number) few short (omega arith))) n
+lines_kept n = each_line (IsLineIn (load_script n))
+    (λ c few. line_kept n c 0 connect few (connect_allowed c)) (λ c i number few some short. line_kept n
+    c i (work c i (index_of number)) few (work_allowed c i (index_of number) few short (omega arith))) n
 
 pub load-keeps : (n : ℕ) → KeepsLimits (load_script n)
 unfolding load_script
-load-keeps n =
-    grind (arith, facilities_kept, structures_kept, structure_names_kept, connectors_kept, room_kept, lines_kept)
+load-keeps n = grind (arith, facilities_kept, structures_kept, structure_names_kept, connectors_kept, lines_kept)

@@ -29,21 +29,17 @@ first_more n c number next here goes = grind (arith, after-add)
 
 -- one line more of a connector
 pub lines_more : (c x k last : ℕ) (line : Line) (lines start : List Line) → last ≡ number_after k x
-    → lines ≡ start ++ map (work_line c x) (range_with_len 1 k)
-    → line ≡ own_line c (k + 1) (work c (k + 1) (index_of (next_number last)))
-    → lines ++ line ∷ [] ≡ start ++ map (work_line c x) (range_with_len 1 (k + 1))
+    → lines ≡ start ++ map (work_line c x) (range_with_len 1 k) → line ≡ own_line c (k + 1) (work c (k + 1)
+    (index_of (next_number last))) → lines ++ line ∷ [] ≡ start ++ map (work_line c x) (range_with_len 1 (k + 1))
 lines_more c x k last line lines start number before is =
     let next : next_number last ≡ number_after (k + 1) x = ap next_number number ∙ sym (after_more k x) in
-    let same : line ≡ work_line c x (k + 1) =
-    is ∙ ap (λ (m : ℕ). own_line c (k + 1) (work c (k + 1) (index_of m))) next in
-    ap (λ (ls : List Line). ls ++ line ∷ []) before
-    ∙ append_assoc start (map (work_line c x) (range_with_len 1 k)) (line ∷ [])
-    ∙ ap (λ (l : Line). start ++ (map (work_line c x) (range_with_len 1 k) ++ l ∷ [])) same
+    let same : line ≡ work_line c x (k + 1) = grind arith in
+    ap (λ (ls : List Line). ls ++ line ∷ []) before ∙ append_assoc start (map (work_line c x) (range_with_len 1 k))
+    (line ∷ []) ∙ ap (λ (l : Line). start ++ (map (work_line c x) (range_with_len 1 k) ++ l ∷ [])) same
     ∙ sym (ap (λ (ls : List Line). start ++ ls) (map-range_with_len_more (work_line c x) 1 k (k + 1) (omega arith)))
 
 range_more : (a n j : ℕ) → a + n ≡ j → range_with_len a (n + 1) ≡ range_with_len a n ++ j ∷ []
-range_more a n j is =
-    sym (map-id (range_with_len a (n + 1))) ∙ map-range_with_len_more (λ (k : ℕ). k) a n j is
+range_more a n j is = sym (map-id (range_with_len a (n + 1))) ∙ map-range_with_len_more (λ (k : ℕ). k) a n j is
     ∙ ap (λ (ks : List ℕ). ks ++ j ∷ []) (map-id (range_with_len a n))
 
 -- what one number more makes
@@ -59,6 +55,5 @@ callers_none n lines is = is
 pub callers_more : (n c number : ℕ) (lines after : List Line) → number ≡ first_number n c → lines ≡ lines_of_first n c
     → after ≡ lines ++ connector_lines c number → after ≡ lines_of_first n (c + 1)
 unfolding lines_of_first
-callers_more n c number lines after here before adds =
-    parts_more (λ (k : ℕ). connector_lines k (first_number n k)) [] lines after c
-    (adds ∙ ap (λ (m : ℕ). lines ++ connector_lines c m) here) before
+callers_more n c number lines after here before adds = parts_more (λ (k : ℕ). connector_lines k (first_number n k))
+    [] lines after c (adds ∙ ap (λ (m : ℕ). lines ++ connector_lines c m) here) before

@@ -22,22 +22,16 @@ numbered_works c x first zero before low short at = tt
 numbered_works c x first (suc count) before low short at =
     grind (arith, numbered_works c x (first + 1) count (before + 1) low (omega arith) (omega arith))
 
-numbered_connector : (c x : ℕ) → c < 4 → AreNumbered (7 + 1001 * c) (connector_lines c x)
-numbered_connector c x low = grind (arith, numbered_works, each-is)
-
 numbered_all : (n : ℕ) → AreNumbered 7 (lines_of_first n 4)
 numbered_all n =
     let long : (c : ℕ) → length (own_lines n c) ≡ 1001 = λ c. length-connector c (first_number n c) in
-    let one : (c : ℕ) → c < 4 → AreNumbered (7 + 1001 * c) (own_lines n c) =
-    λ c low. numbered_connector c (first_number n c) low in
+    let one : (c : ℕ) → c < 4 → AreNumbered (7 + 1001 * c) (own_lines n c) = grind (arith, numbered_works, each-is) in
     let last = numbered-append 3010 4011 (own_lines n 3) [] (omega (arith, long 3)) (one 3 (omega arith)) tt in
     let third = own_lines n 3 ++ [] in
     let second = own_lines n 2 ++ third in
     let first = own_lines n 1 ++ second in
-    subst (AreNumbered 7) (sym (four_parts n))
-    (numbered-append 7 1008 (own_lines n 0) first (omega (arith, long 0)) (one 0 (omega arith))
-    (numbered-append 1008 2009 (own_lines n 1) second (omega (arith, long 1)) (one 1 (omega arith))
-    (numbered-append 2009 3010 (own_lines n 2) third (omega (arith, long 2)) (one 2 (omega arith)) last)))
+    subst (AreNumbered 7) (sym (four_parts n)) (numbered-append
+    7 1008 (own_lines n 0) first (omega (arith, long 0)) (grind arith) (grind (arith, numbered-append)))
 
 pub load_numbered : (n : ℕ) → with_line_numbers (load_script n) ≡ load_script n
 unfolding load_script

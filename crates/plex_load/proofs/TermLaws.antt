@@ -1,11 +1,8 @@
 -- Names and data that are made of a text and a number.
 use Rattle.plex_load.proofs.Imports.{◌≡◌, ℕ, ◌+◌, ◌≤◌, ◌<◌, ◌^◌, zero, suc, true, List, ◌++◌, length, codes, refl, arith, length-append, is_ascii_digit, decimal, list_all, nat_tests, length-decimal-le, decimal_nonempty, digits_decimal, IsTerm, term_byte, own, all-append, all-weaker, letter}
 
-digit-term : (b : ℕ) → is_ascii_digit b ≡ true → term_byte b ≡ true
-digit-term b h = grind (arith, nat_tests)
-
 pub decimal-term : (n : ℕ) → n < 2 ^ 64 → list_all term_byte (decimal n) ≡ true
-decimal-term n small = all-weaker is_ascii_digit term_byte digit-term (decimal n) (digits_decimal own n small)
+decimal-term n small = grind (arith, all-weaker, digits_decimal, own, nat_tests)
 
 pub letter-term : (c : ℕ) → c < 4 → list_all term_byte (letter c) ≡ true
 letter-term zero low = refl
@@ -17,17 +14,15 @@ letter-term (suc (suc (suc (suc c)))) low = absurd (omega arith)
 -- a text with a number of 32 bits behind it
 pub numbered-term : (limit : ℕ) (text : List ℕ) (n : ℕ) → n < 2 ^ 32 → list_all term_byte text ≡ true
     → length text + 10 ≤ limit → IsTerm limit (text ++ decimal n)
-numbered-term limit text n small all short =
-    record {
-      nonempty = omega (arith, length-append text (decimal n), decimal_nonempty n (omega arith));
-      short = omega (
-        arith,
-        length-append text (decimal n),
-        length-decimal-le 10 n (omega arith) (omega arith) (omega
-            arith),
-      );
-      characters = all-append term_byte text (decimal n) all (decimal-term n (omega arith));
-    }
+numbered-term limit text n small all short = record {
+  nonempty = omega (arith, length-append text (decimal n), decimal_nonempty n (omega arith));
+  short = omega (
+    arith,
+    length-append text (decimal n),
+    length-decimal-le 10 n (omega arith) (omega arith) (omega arith),
+  );
+  characters = all-append term_byte text (decimal n) all (decimal-term n (omega arith));
+}
 
 pub page_term : (j : ℕ) → j < 2 ^ 32 → IsTerm 16 (codes "N" ++ decimal j)
 page_term j small = numbered-term 16 (codes "N") j small refl (omega arith)

@@ -22,8 +22,7 @@ mapped-more f old more w is = ap (map f) is ∙ map-append f old (w ∷ [])
 
 left-more : {X : Type 0} (f : AtLocks → X) (old more : List AtLocks) (w : AtLocks) (left rest all : List X)
     → more ≡ old ++ w ∷ [] → left ≡ f w ∷ rest → map f old ++ left ≡ all → map f more ++ rest ≡ all
-left-more f old more w left rest all is cut whole =
-    ap (λ l. l ++ rest) (mapped-more f old more w is)
+left-more f old more w left rest all is cut whole = ap (λ l. l ++ rest) (mapped-more f old more w is)
     ∙ (append_assoc (map f old) (f w ∷ []) rest ∙ (ap (λ l. map f old ++ l) (sym cut) ∙ whole))
 
 pub dealt-more : (connectors : List Name16) (lines : List Line) (dealt : List HandSeen) (place : ℕ)
@@ -33,9 +32,8 @@ pub dealt-more : (connectors : List Name16) (lines : List Line) (dealt : List Ha
     → IsDealt connectors lines dealt place left old → IsDealt connectors lines dealt (place + 1) rest more
 dealt-more connectors lines dealt place left rest old more w name hand by made is names hands number before = record {
   count = omega (arith, ap length is, length-append old (w ∷ []), before.count);
-  names =
-      left-more name_of old more w (drop place connectors)
-      (drop (place + 1) connectors) connectors is names before.names;
+  names = left-more name_of old
+      more w (drop place connectors) (drop (place + 1) connectors) connectors is names before.names;
   hands = left-more hand_of old more w left rest dealt is
       (hands ∙ ap (λ h. h ∷ rest) (sym (ap hand_of made))) before.hands;
   numbers = mapped-more by_of old more w is
@@ -120,8 +118,7 @@ all-left n (w ∷ ws) own = let rest = all-left n ws (λ c x there. own (suc c) 
 -- ---- connectors that have worked
 
 module _ (script : Script) (locks : LocksSeen) (callers : ℕ) (idle : List AtLocks) (dealt : List HandSeen)
-    (count : callers ≡ length script.connectors)
-    (fresh : dealt ≡ map (new_hand locks) (range_with_len 1 callers))
+    (count : callers ≡ length script.connectors) (fresh : dealt ≡ map (new_hand locks) (range_with_len 1 callers))
     (idles : AreIdle script.connectors script.lines dealt idle) where
   pub length-idle : length idle ≡ callers
   length-idle = omega (arith, ap length idles.names, length-map idle name_of, count)
@@ -161,8 +158,7 @@ module _ (script : Script) (locks : LocksSeen) (callers : ℕ) (idle workers : L
       let t = worked.each c w there in
       let tasks = at (λ (w : AtLocks). w.tasks ≡ tasks_by w.by script.lines) idle c t.0 idles.tasks t.1 in
       let numbered = mapped-at by_of idle (range_with_len 1 (length idle)) c t.0 idles.numbers t.1 in
-      let by : t.0.by.0 ≡ 1 + c =
-      sym (get_or_from_slice_get (range_with_len 1 (length idle)) c t.0.by.0 0 numbered)
+      let by : t.0.by.0 ≡ 1 + c = sym (get_or_from_slice_get (range_with_len 1 (length idle)) c t.0.by.0 0 numbered)
       ∙ get_or-range_with_len 1 (length idle) c 0 (slice_get_within idle c t.0 t.1) in
       t.2.asked ∙ (ap asked_in tasks ∙ ap (λ n. asked_in (tasks_by (record { 0 = n }) script.lines)) by)
 
@@ -172,11 +168,10 @@ module _ (script : Script) (locks : LocksSeen) (callers : ℕ) (idle workers : L
     tables = tables-of locks workers (λ c w there. (ready-at c w there).table);
   }
 
-  module _ (words : List ℕ) (counted : length words ≡ locks.words)
-      (values : (word : ℕ) → word < locks.words
-      → HasValue (all_held (map hand_of workers)) word (slice_index words word))
-      (compatible : AllPairs AreCompatible (all_held (map hand_of workers)))
-      (read : All (λ (h : HandSeen). All (IsOthers (map hand_of workers) h.number) h.read) (map hand_of workers)) where
+  module _ (words : List ℕ) (counted : length words ≡ locks.words) (values : (word : ℕ)
+      → word < locks.words → HasValue (all_held (map hand_of workers)) word (slice_index words word))
+      (compatible : AllPairs AreCompatible (all_held (map hand_of workers))) (read : All
+      (λ (h : HandSeen). All (IsOthers (map hand_of workers) h.number) h.read) (map hand_of workers)) where
     abbrev n : ℕ
     n = entries_of script.structures
 
@@ -188,9 +183,8 @@ module _ (script : Script) (locks : LocksSeen) (callers : ℕ) (idle workers : L
         → Contains w.hand.read (reading w.hand.number word value) → HasOther n dones c word (says_excl value)
     other c w word value there some_value has =
         let all = map hand_of workers in
-        let reads =
-        at (λ (h : HandSeen). All (IsOthers all h.number) h.read) all c w.hand read
-        (mapped-at hand_of workers all c w refl there) in
+        let reads = at (λ (h : HandSeen). All (IsOthers all h.number) h.read) all c w.hand
+        read (mapped-at hand_of workers all c w refl there) in
         let r = reading w.hand.number word value in
         let o = All-contains (IsOthers all w.hand.number) w.hand.read r reads has some_value in
         let h = o.0 in
@@ -216,25 +210,17 @@ module _ (script : Script) (locks : LocksSeen) (callers : ℕ) (idle workers : L
         → All (λ (d : Done). IsOfOthers n dones c (word_of n (resource_of d.request)) d.outcome) w.done
     others c w there k e lt =
         let d = get_or w.done k e in
-        go d (subst (λ m. HasRead w.hand (word_of m (resource_of d.request)) d.outcome) (words-at c w there)
-        ((ready-at c w there).worked.read k e lt))
+        of (word_of n (resource_of d.request)) d.outcome (subst (λ m. HasRead w.hand
+        (word_of m (resource_of d.request)) d.outcome) (words-at c w there) ((ready-at c w there).worked.read k e lt))
       where
         of : (word : ℕ) (o : Outcome) → HasRead w.hand word o → IsOfOthers n dones c word o
-        of word Granted r = tt
-        of word (Held excl) r = tt
         of word (Contended value) r = other c w word value there r.0 r.1
         of word Raced r = (says_excl r.0, other c w word r.0 there r.1 r.2)
-        of word Freed r = tt
-        of word NotHeld r = tt
-
-        go : (d : Done) → HasRead w.hand (word_of n (resource_of d.request)) d.outcome
-            → IsOfOthers n dones c (word_of n (resource_of d.request)) d.outcome
-        go d r = of (word_of n (resource_of d.request)) d.outcome r
+        of word o r = tt
 
     left : all_held (map hand_of workers) ≡ all_left n dones
-    left =
-        all-left n workers (λ c w there. (ready-at c w there).worked.held
-        ∙ ap (λ m. left_by m [] w.done) (words-at c w there))
+    left = all-left n workers
+        (λ c w there. (ready-at c w there).worked.held ∙ ap (λ m. left_by m [] w.done) (words-at c w there))
 
     told-at : (place : ℕ) (told : HandTold) → slice_get (map told_of workers) place ≡ Some told
         → IsHandTold script dones place told
@@ -265,10 +251,9 @@ none-left : (n : ℕ) (connectors : List Name16) → all_left n (dones_of (map n
 none-left n [] = refl
 none-left n (x ∷ xs) = none-left n xs
 
-pub none-right : (script : Script) (told : Locked) (entries : ℕ) → IsWellFormed script
-    → entries ≡ entries_of script.structures
-    → (script.connectors ≡ []) ⊎ (entries ≡ 0) → told.hands ≡ map none_told script.connectors
-    → told.words ≡ replicate entries 0 → IsLocked script told
+pub none-right : (script : Script) (told : Locked) (entries : ℕ)
+    → IsWellFormed script → entries ≡ entries_of script.structures → (script.connectors ≡ []) ⊎ (entries ≡ 0)
+    → told.hands ≡ map none_told script.connectors → told.words ≡ replicate entries 0 → IsLocked script told
 none-right script told entries formed same nobody hands words =
     subst (IsLocked script) (λ i. record { hands = sym hands i; words = sym words i }) record {
       callers = length-map script.connectors none_told;
@@ -282,8 +267,7 @@ none-right script told entries formed same nobody hands words =
           };
       count = length-replicate {A = ℕ} entries 0 ∙ same;
       words = λ word below. subst (λ l. HasValue l word (slice_index (replicate entries 0) word))
-          (sym (none-left n script.connectors))
-          (inl (
+          (sym (none-left n script.connectors)) (inl (
             refl,
             All-replicate (λ v. v ≡ 0) entries 0 refl word 0
                 (omega (arith, below, same, length-replicate {A = ℕ} entries 0)),

@@ -29,23 +29,18 @@ module _ (hand : HandSeen) (dones : List Done) (worked : IsWorked hand dones) wh
   -- what was read stays read
   still-read : (held : List Hold) (ever : List Grant) (more : List Reading) (word : ℕ) (o : Outcome)
       → HasRead hand word o → HasRead (held_in hand held ever (hand.read ++ more)) word o
-  still-read held ever more word Granted r = tt
-  still-read held ever more word (Held e) r = tt
   still-read held ever more word (Contended value) r =
       (r.0, Contains-append_left hand.read more (reading hand.number word value) r.1)
   still-read held ever more word Raced r =
       (r.0, r.1, Contains-append_left hand.read more (reading hand.number word r.0) r.2)
-  still-read held ever more word Freed r = tt
-  still-read held ever more word NotHeld r = tt
+  still-read held ever more word o r = tt
 
-  worked-more : (request : Request) (outcome : Outcome) (more : List Reading)
-      → IsOutcome hand.words hand.held request outcome
-      → HasRead (held_in hand (then_holds hand.words hand.held request outcome)
+  worked-more : (request : Request) (outcome : Outcome) (more : List Reading) → IsOutcome
+      hand.words hand.held request outcome → HasRead (held_in hand (then_holds hand.words hand.held request outcome)
       (hand.ever ++ grants hand.number (grant_in hand.words request outcome)) (hand.read ++ more))
       (word_of hand.words (resource_of request)) outcome
-      → IsWorked (held_in hand (then_holds hand.words hand.held request outcome)
-      (hand.ever ++ grants hand.number (grant_in hand.words request outcome)) (hand.read ++ more))
-      (dones ++ done_as request outcome ∷ [])
+      → IsWorked (held_in hand (then_holds hand.words hand.held request outcome) (hand.ever ++ grants
+      hand.number (grant_in hand.words request outcome)) (hand.read ++ more)) (dones ++ done_as request outcome ∷ [])
   worked-more request outcome more is reads =
       let n = hand.words in
       let d = done_as request outcome in
@@ -55,26 +50,20 @@ module _ (hand : HandSeen) (dones : List Done) (worked : IsWorked hand dones) wh
         held = ap (λ h. then_holds n h request outcome) worked.held ∙ sym (left-more n [] dones d);
         ever = ap (λ l. l ++ grants hand.number (grant_in n request outcome)) worked.ever
             ∙ (sym (map-append (λ (x : Hold). grant hand.number x.word x.excl) (granted_by n dones)
-            (grant_in n request outcome))
-            ∙ ap (grants hand.number) (sym (granted-more n dones d)));
-        read = All-push (ReadsDone after) dones d
-            (All-weaker (ReadsDone hand) (ReadsDone after)
-            (λ (x : Done). still-read after.held after.ever more (word_of n (resource_of x.request)) x.outcome) dones
-            worked.read)
-            reads;
+            (grant_in n request outcome)) ∙ ap (grants hand.number) (sym (granted-more n dones d)));
+        read = All-push (ReadsDone after) dones d (All-weaker (ReadsDone hand) (ReadsDone after)
+            (λ (x : Done). still-read after.held after.ever more (word_of n (resource_of x.request)) x.outcome)
+            dones worked.read) reads;
       }
 
   -- nothing but what was read
-  looked-more : (request : Request) (outcome : Outcome) (more : List Reading)
-      → IsOutcome hand.words hand.held request outcome
-      → then_holds hand.words hand.held request outcome ≡ hand.held → grant_in hand.words request outcome ≡ []
+  looked-more : (request : Request) (outcome : Outcome) (more : List Reading) → IsOutcome hand.words hand.held request
+      outcome → then_holds hand.words hand.held request outcome ≡ hand.held → grant_in hand.words request outcome ≡ []
       → HasRead (record hand { read = hand.read ++ more }) (word_of hand.words (resource_of request)) outcome
       → IsWorked (record hand { read = hand.read ++ more }) (dones ++ done_as request outcome ∷ [])
-  looked-more request outcome more is held none reads =
-      subst (λ (h : HandSeen). IsWorked h (dones ++ done_as request outcome ∷ []))
-      (λ i. held_in hand (held i) (only i) (hand.read ++ more))
-      (worked-more request outcome more is
-      (subst (λ (h : HandSeen). HasRead h (word_of hand.words (resource_of request)) outcome)
+  looked-more request outcome more is held none reads = subst (λ (h : HandSeen). IsWorked h
+      (dones ++ done_as request outcome ∷ [])) (λ i. held_in hand (held i) (only i) (hand.read ++ more)) (worked-more
+      request outcome more is (subst (λ (h : HandSeen). HasRead h (word_of hand.words (resource_of request)) outcome)
       (λ i. held_in hand (sym held i) (sym only i) (hand.read ++ more)) reads))
     where
       only : hand.ever ++ grants hand.number (grant_in hand.words request outcome) ≡ hand.ever
@@ -85,10 +74,8 @@ module _ (hand : HandSeen) (dones : List Done) (worked : IsWorked hand dones) wh
       → then_holds hand.words hand.held request outcome ≡ hand.held → grant_in hand.words request outcome ≡ []
       → HasRead (record hand { read = hand.read ++ [] }) (word_of hand.words (resource_of request)) outcome
       → IsWorked hand (dones ++ done_as request outcome ∷ [])
-  same-hand request outcome is held none reads =
-      subst (λ (h : HandSeen). IsWorked h (dones ++ done_as request outcome ∷ []))
-      (λ i. record hand { read = append-nil hand.read i })
-      (looked-more request outcome [] is held none reads)
+  same-hand request outcome is held none reads = subst (λ (h : HandSeen). IsWorked h (dones ++ done_as request outcome
+      ∷ [])) (λ i. record hand { read = append-nil hand.read i }) (looked-more request outcome [] is held none reads)
 
   module _ (after : HandSeen) (r : Resource) where
     abbrev word : ℕ
@@ -97,26 +84,18 @@ module _ (hand : HandSeen) (dones : List Done) (worked : IsWorked hand dones) wh
     abbrev Next : Request → Outcome → Type 0
     Next request outcome = IsWorked after (dones ++ done_as request outcome ∷ [])
 
-    some-outcome : (request : Request) (o : Option Bool) (A : Type 0) (B : Bool → Type 0)
-        → held_as hand.held word ≡ o → MatchOption o A B → MatchOption (held_as hand.held word) A B
-    some-outcome request o A B is = subst (λ (o : Option Bool). MatchOption o A B) (sym is)
-
     tried-more : (excl : Bool) → held_as hand.held word ≡ None → (o : Outcome) → IsTried word excl hand after o
         → Next (Obtain r excl) o
     tried-more excl none Granted t =
         let a = reading hand.number word t.0 in
-        subst (λ (h : HandSeen). IsWorked h (dones ++ done_as (Obtain r excl) Granted ∷ []))
-        ((λ i. held_in hand (hand.held ++ hold word excl ∷ []) (hand.ever ++ grant hand.number word excl ∷ [])
-        (sym (append_assoc hand.read (a ∷ []) (a ∷ [])) i)) ∙ sym t.2)
-        (worked-more (Obtain r excl) Granted (a ∷ a ∷ [])
-        (some-outcome (Obtain r excl) None (IsTry excl Granted) (λ e. Granted ≡ Held e) none tt) tt)
-    tried-more excl none (Held e) t = absurd t
+        subst (λ (h : HandSeen). IsWorked h (dones ++ done_as (Obtain r excl) Granted ∷ [])) ((λ i. held_in hand
+        (hand.held ++ hold word excl ∷ []) (hand.ever ++ grant hand.number word excl ∷ []) (sym (append_assoc
+        hand.read (a ∷ []) (a ∷ [])) i)) ∙ sym t.2) (worked-more (Obtain r excl) Granted (a ∷ a ∷ []) (rw none tt) tt)
     tried-more excl none (Contended value) t =
         let a = reading hand.number word value in
-        subst (λ (h : HandSeen). IsWorked h (dones ++ done_as (Obtain r excl) (Contended value) ∷ [])) (sym t.1)
-        (looked-more (Obtain r excl) (Contended value) (a ∷ [])
-        (some-outcome (Obtain r excl) None (IsTry excl (Contended value)) (λ e. Contended value ≡ Held e) none t.0)
-        refl refl (some_value excl value t.0, Contains-push hand.read a))
+        subst (λ (h : HandSeen). IsWorked h (dones ++ done_as (Obtain r excl) (Contended value) ∷ []))
+        (sym t.1) (looked-more (Obtain r excl) (Contended value)
+        (a ∷ []) (rw none t.0) refl refl (some_value excl value t.0, Contains-push hand.read a))
       where
         some_value : (excl : Bool) (value : ℕ) → ¬ Admits value excl → 0 < value
         some_value true value full =
@@ -130,26 +109,19 @@ module _ (hand : HandSeen) (dones : List Done) (worked : IsWorked hand dones) wh
         let b = reading hand.number word found in
         subst (λ (h : HandSeen). IsWorked h (dones ++ done_as (Obtain r excl) Raced ∷ []))
         ((λ i. record hand { read = sym (append_assoc hand.read (a ∷ []) (b ∷ [])) i }) ∙ sym t.2.2)
-        (looked-more (Obtain r excl) Raced (a ∷ b ∷ [])
-        (some-outcome (Obtain r excl) None (IsTry excl Raced) (λ e. Raced ≡ Held e) none tt)
-        refl refl
-        (⊎_elim
-        (λ (z : seen ≡ 0). ⊎_elim (λ (y : found ≡ 0). absurd (t.2.1 (z ∙ sym y)))
-        (λ (p : 0 < found). (
+        (looked-more (Obtain r excl) Raced (a ∷ b ∷ []) (rw none tt) refl
+        refl (⊎_elim (λ (z : seen ≡ 0). ⊎_elim (λ (y : found ≡ 0). absurd (t.2.1 (z ∙ sym y))) (λ (p : 0 < found). (
           found,
           p,
           subst (λ l. Contains l b) (append_assoc hand.read (a ∷ []) (b ∷ []))
               (Contains-push (hand.read ++ a ∷ []) b),
-        )) (eq-zero-or-pos found))
-        (λ (p : 0 < seen). (
+        )) (eq-zero-or-pos found)) (λ (p : 0 < seen). (
           seen,
           p,
           subst (λ l. Contains l a) (append_assoc hand.read (a ∷ []) (b ∷ []))
               (Contains-append_left (hand.read ++ a ∷ []) (b ∷ []) a (Contains-push hand.read a)),
-        ))
-        (eq-zero-or-pos seen)))
-    tried-more excl none Freed t = absurd t
-    tried-more excl none NotHeld t = absurd t
+        )) (eq-zero-or-pos seen)))
+    tried-more excl none o t = absurd t
 
     obtained-here : (excl : Bool) (outcome : Outcome)
         → ((e : Bool) → held_as hand.held word ≡ Some e → (outcome ≡ Held e) × (after ≡ hand))
@@ -160,9 +132,7 @@ module _ (hand : HandSeen) (dones : List Done) (worked : IsWorked hand dones) wh
         go (Some e) is =
             let t = held e is in
             subst (λ (x : HandSeen × Outcome). IsWorked x.0 (dones ++ done_as (Obtain r excl) x.1 ∷ []))
-            (λ i. (sym t.1 i, sym t.0 i))
-            (same-hand (Obtain r excl) (Held e)
-            (some-outcome (Obtain r excl) (Some e) (IsTry excl (Held e)) (λ d. Held e ≡ Held d) is refl) refl refl tt)
+            (λ i. (sym t.1 i, sym t.0 i)) (same-hand (Obtain r excl) (Held e) (rw is refl) refl refl tt)
         go None is = tried-more excl is outcome (tried is)
 
     released-here : (outcome : Outcome)
@@ -173,35 +143,27 @@ module _ (hand : HandSeen) (dones : List Done) (worked : IsWorked hand dones) wh
         go : (o : Option Bool) → held_as hand.held word ≡ o → Next (Release r) outcome
         go (Some e) is =
             let t = held e is in
-            subst (λ (x : HandSeen × Outcome). IsWorked x.0 (dones ++ done_as (Release r) x.1 ∷ []))
-            (λ i. (
+            subst (λ (x : HandSeen × Outcome). IsWorked x.0 (dones ++ done_as (Release r) x.1 ∷ [])) (λ i. (
               ((λ j. held_in hand (filter (λ (x : Hold). not (x.word == word)) hand.held) (append-nil hand.ever j)
                   (append-nil hand.read j)) ∙ sym t.1) i,
               sym t.0 i,
-            ))
-            (worked-more (Release r) Freed []
-            (some-outcome (Release r) (Some e) (Freed ≡ NotHeld) (λ d. Freed ≡ Freed) is refl) tt)
+            )) (worked-more (Release r) Freed [] (rw is refl) tt)
         go None is =
             let t = free is in
             subst (λ (x : HandSeen × Outcome). IsWorked x.0 (dones ++ done_as (Release r) x.1 ∷ []))
-            (λ i. (sym t.1 i, sym t.0 i))
-            (same-hand (Release r) NotHeld
-            (some-outcome (Release r) None (NotHeld ≡ NotHeld) (λ d. NotHeld ≡ Freed) is refl) refl refl tt)
+            (λ i. (sym t.1 i, sym t.0 i)) (same-hand (Release r) NotHeld (rw is refl) refl refl tt)
 
     -- at the word that the resource has
     module _ (place : ℕ) (is : place ≡ word_of hand.words r) (outcome : Outcome) where
       pub obtained : (excl : Bool)
           → ((e : Bool) → held_as hand.held place ≡ Some e → (outcome ≡ Held e) × (after ≡ hand))
           → (held_as hand.held place ≡ None → IsTried place excl hand after outcome) → Next (Obtain r excl) outcome
-      obtained excl =
-          subst (λ w. ((e : Bool) → held_as hand.held w ≡ Some e → (outcome ≡ Held e) × (after ≡ hand))
+      obtained excl = subst (λ w. ((e : Bool) → held_as hand.held w ≡ Some e → (outcome ≡ Held e) × (after ≡ hand))
           → (held_as hand.held w ≡ None → IsTried w excl hand after outcome) → Next (Obtain r excl) outcome)
           (sym is) (obtained-here excl outcome)
 
-      pub released : ((e : Bool) → held_as hand.held place ≡ Some e
-          → (outcome ≡ Freed) × (after ≡ hand_released hand place))
-          → (held_as hand.held place ≡ None → (outcome ≡ NotHeld) × (after ≡ hand)) → Next (Release r) outcome
-      released =
-          subst (λ w. ((e : Bool) → held_as hand.held w ≡ Some e → (outcome ≡ Freed) × (after ≡ hand_released hand w))
-          → (held_as hand.held w ≡ None → (outcome ≡ NotHeld) × (after ≡ hand)) → Next (Release r) outcome)
-          (sym is) (released-here outcome)
+      pub released : ((e : Bool) → held_as hand.held place ≡ Some e → (outcome ≡ Freed) × (after ≡ hand_released hand
+          place)) → (held_as hand.held place ≡ None → (outcome ≡ NotHeld) × (after ≡ hand)) → Next (Release r) outcome
+      released = subst (λ w. ((e : Bool) → held_as hand.held w ≡ Some e → (outcome ≡ Freed)
+          × (after ≡ hand_released hand w)) → (held_as hand.held w ≡ None → (outcome ≡ NotHeld) × (after ≡ hand))
+          → Next (Release r) outcome) (sym is) (released-here outcome)

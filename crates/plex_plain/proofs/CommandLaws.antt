@@ -34,42 +34,33 @@ word_keep connectors false = refl
 
 word_refs : (connectors : List Name16) (refs : Refs) → plain_word [] connectors (references refs) ≡ refs_word refs
 word_refs connectors refs.Names = refl
-word_refs connectors refs.Keys = refl
-word_refs connectors refs.Nothing = refl
+word_refs connectors how = refl
 
-pub words_read : (connectors : List Name16) (name : Name16) (index : ℕ) (old : Option Name16) (stg : ℕ)
-    → cache_in connectors (cache.Read name index old stg)
-    ≡ codes "READ" ∷ name_word name ∷ decimal index
-    ∷ (told_words (codes "OLD") name_words old ++ (told_words (codes "STG") number_words (class_told stg) ++ []))
+pub words_read : (connectors : List Name16) (name : Name16) (index : ℕ) (old : Option Name16) (stg : ℕ) → cache_in
+    connectors (cache.Read name index old stg) ≡ codes "READ" ∷ name_word name ∷ decimal index ∷ (told_words
+    (codes "OLD") name_words old ++ (told_words (codes "STG") number_words (class_told stg) ++ []))
 words_read connectors name index old stg = grind (arith, words_joined, words_option)
 
 pub words_write : (connectors : List Name16) (name : Name16) (index : ℕ) (body : List ℕ) (class : Option ℕ)
-    (adj : Option (List ℕ))
-    (old : Option Name16) (stg : ℕ) (when_reg : Bool)
-    → cache_in connectors (cache.Write name index body class adj old stg when_reg)
-    ≡ codes "WRITE" ∷ name_word name ∷ decimal index ∷ body
-    ∷ (castout_words class ++ (told_words (codes "ADJ") text_words adj
-    ++ (told_words (codes "OLD") name_words old ++ (told_words (codes "STG") number_words (class_told stg)
-    ++ ((if when_reg then codes "WHENREG" ∷ [] else []) ++ [])))))
+    (adj : Option (List ℕ)) (old : Option Name16) (stg : ℕ) (when_reg : Bool) → cache_in connectors (cache.Write name
+    index body class adj old stg when_reg) ≡ codes "WRITE" ∷ name_word name ∷ decimal index ∷ body ∷ (castout_words
+    class ++ (told_words (codes "ADJ") text_words adj ++ (told_words (codes "OLD") name_words old ++ (told_words
+    (codes "STG") number_words (class_told stg) ++ ((if when_reg then codes "WHENREG" ∷ [] else []) ++ [])))))
 words_write connectors name index body class adj old stg when_reg =
     grind (arith, words_joined, words_class, words_option, words_flag)
 
-pub words_make : (connectors : List Name16) (header : ℕ) (head : Bool) (name : Option Name16) (key : Option Key16)
-    (body adj : Option (List ℕ)) (cond : Option Cond)
-    → list_in connectors (list.Write header head name key body adj cond)
-    ≡ codes "WRITE" ∷ decimal header ∷ end_word head
-    ∷ (told_words (codes "NAME") name_words name ++ (told_words (codes "KEY") key_words key
-    ++ (told_words (codes "DATA") text_words body ++ (told_words
-    (codes "ADJ") text_words adj ++ (plain_words [] connectors (cond_tokens cond) ++ [])))))
+pub words_make : (connectors : List Name16) (header : ℕ) (head : Bool) (name : Option Name16)
+    (key : Option Key16) (body adj : Option (List ℕ)) (cond : Option Cond) → list_in connectors
+    (list.Write header head name key body adj cond) ≡ codes "WRITE" ∷ decimal header ∷ end_word head ∷ (told_words
+    (codes "NAME") name_words name ++ (told_words (codes "KEY") key_words key ++ (told_words (codes "DATA") text_words
+    body ++ (told_words (codes "ADJ") text_words adj ++ (plain_words [] connectors (cond_tokens cond) ++ [])))))
 words_make connectors header head name key body adj cond = grind (arith, words_joined, words_option, word_end)
 
-pub words_update : (connectors : List Name16) (at : At) (body adj : Option (List ℕ)) (version : Option ℕ)
-    (cond : Option Cond)
-    → list_in connectors (list.Update at body adj version cond)
-    ≡ codes "UPDATE" ∷ (plain_words [] connectors (at_tokens at)
-    ++ (told_words (codes "DATA") text_words body ++ (told_words
-    (codes "ADJ") text_words adj ++ (told_words (codes "VERSION") number_words version ++ (plain_words [] connectors
-    (cond_tokens cond) ++ [])))))
+pub words_update
+    : (connectors : List Name16) (at : At) (body adj : Option (List ℕ)) (version : Option ℕ) (cond : Option Cond)
+    → list_in connectors (list.Update at body adj version cond) ≡ codes "UPDATE" ∷ (plain_words [] connectors
+    (at_tokens at) ++ (told_words (codes "DATA") text_words body ++ (told_words (codes "ADJ") text_words adj
+    ++ (told_words (codes "VERSION") number_words version ++ (plain_words [] connectors (cond_tokens cond) ++ [])))))
 words_update connectors at body adj version cond = grind (arith, words_joined, words_option)
 
 pub words_at : (connectors : List Name16) (verb : List ℕ) (at : At) (cond : Option Cond)
@@ -78,18 +69,16 @@ pub words_at : (connectors : List Name16) (verb : List ℕ) (at : At) (cond : Op
 words_at connectors verb at cond =
     ap (λ words. verb ∷ words) (words_joined connectors (at_tokens at ∷ cond_tokens cond ∷ []))
 
-pub words_move : (connectors : List Name16) (at : At) (header : ℕ) (head : Bool) (key : Option Key16)
-    (version : Option ℕ) (cond : Option Cond)
-    → list_in connectors (list.Move at header head key version cond)
-    ≡ codes "MOVE" ∷ (plain_words [] connectors (at_tokens at) ++ ((decimal header ∷ end_word head ∷ [])
-    ++ (told_words (codes "KEY") key_words key ++ (told_words (codes "VERSION") number_words version
-    ++ (plain_words [] connectors (cond_tokens cond) ++ [])))))
+pub words_move : (connectors : List Name16)
+    (at : At) (header : ℕ) (head : Bool) (key : Option Key16) (version : Option ℕ) (cond : Option Cond)
+    → list_in connectors (list.Move at header head key version cond) ≡ codes "MOVE" ∷ (plain_words
+    [] connectors (at_tokens at) ++ ((decimal header ∷ end_word head ∷ []) ++ (told_words (codes "KEY") key_words key
+    ++ (told_words (codes "VERSION") number_words version ++ (plain_words [] connectors (cond_tokens cond) ++ [])))))
 words_move connectors at header head key version cond = grind (arith, words_joined, word_end, words_option)
 
 pub words_delete : (connectors : List Name16) (at : At) (version : Option ℕ) (cond : Option Cond)
-    → list_in connectors (list.Delete at version cond)
-    ≡ codes "DELETE" ∷ (plain_words [] connectors (at_tokens at) ++ (told_words (codes "VERSION") number_words version
-    ++ (plain_words [] connectors (cond_tokens cond) ++ [])))
+    → list_in connectors (list.Delete at version cond) ≡ codes "DELETE" ∷ (plain_words [] connectors (at_tokens at)
+    ++ (told_words (codes "VERSION") number_words version ++ (plain_words [] connectors (cond_tokens cond) ++ [])))
 words_delete connectors at version cond = grind (arith, words_joined, words_option)
 
 -- a request for a resource: the command's word, the resource, the state, and record data
@@ -104,22 +93,18 @@ words_request connectors verb r excl rec = grind (arith, word_state, words_joine
 abbrev pub caps_words : List ℕ → StrForm → List (List ℕ)
 caps_words kind form = kind ∷ decimal form.caps.entries ∷ decimal form.caps.elements ∷ decimal form.conns ∷ []
 
-pub words_cache_form : (connectors : List Name16) (form : StrForm)
-    → plain_words [] connectors (form_tokens kind.Cache form)
-    ≡ caps_words (codes "CACHE") form ++ (decimal form.vector ∷ keep_word form.keep ∷ [])
+pub words_cache_form : (connectors : List Name16) (form : StrForm) → plain_words [] connectors (form_tokens
+    kind.Cache form) ≡ caps_words (codes "CACHE") form ++ (decimal form.vector ∷ keep_word form.keep ∷ [])
 words_cache_form connectors form =
     ap (λ word. caps_words (codes "CACHE") form ++ (decimal form.vector ∷ word ∷ [])) (word_keep connectors form.keep)
 
 pub words_list_form : (connectors : List Name16) (form : StrForm) (headers locks : ℕ) (refs : Refs)
-    → plain_words [] connectors (form_tokens (kind.List headers locks refs) form)
-    ≡ caps_words
-    (codes "LIST") form ++ ((decimal form.vector ∷ keep_word form.keep ∷ []) ++ (decimal headers ∷ decimal
-    locks ∷ refs_word refs ∷ []))
+    → plain_words [] connectors (form_tokens (kind.List headers locks refs) form) ≡ caps_words (codes "LIST") form
+    ++ ((decimal form.vector ∷ keep_word form.keep ∷ []) ++ (decimal headers ∷ decimal locks ∷ refs_word refs ∷ []))
 words_list_form connectors form headers locks refs = grind (arith, word_keep, word_refs)
 
-pub words_lock_form : (connectors : List Name16) (form : StrForm)
-    → plain_words [] connectors (form_tokens kind.Lock form) ≡ caps_words (codes "LOCK") form ++
-    (keep_word form.keep ∷ [])
+pub words_lock_form : (connectors : List Name16) (form : StrForm) → plain_words [] connectors
+    (form_tokens kind.Lock form) ≡ caps_words (codes "LOCK") form ++ (keep_word form.keep ∷ [])
 words_lock_form connectors form =
     ap (λ word. caps_words (codes "LOCK") form ++ (word ∷ [])) (word_keep connectors form.keep)
 

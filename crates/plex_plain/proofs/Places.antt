@@ -13,8 +13,7 @@ first_place p (x ∷ xs) (suc i) d low here before =
     rw no (omega (arith, rest))
 
 pub position-first : {X : Type 0} (p : X → Bool) (xs : List X) (i : ℕ) (d : X) → i < length xs
-    → p (get_or xs i d) ≡ true
-    → ((k : ℕ) → k < i → p (get_or xs k d) ≡ false) → position p xs ≡ Some i
+    → p (get_or xs i d) ≡ true → ((k : ℕ) → k < i → p (get_or xs k d) ≡ false) → position p xs ≡ Some i
 position-first p xs i d low here before = grind (arith, first_place, nat_tests)
 
 -- ---- names
@@ -33,12 +32,9 @@ pub record HaveNames {X : Type 0} (name : X → Name16) (xs : List X) : Type 0 w
 -- a name stands where it stands, and not before
 pub name-place : {X : Type 0} (name : X → Name16) (xs : List X) (i : ℕ) (d : X) → HaveNames name xs → i < length xs
     → position (λ x. same_word (name_word (name x)) (name_word (name (get_or xs i d)))) xs ≡ Some i
-name-place name xs i d h low =
-    position-first (λ x. same_word (name_word (name x)) (name_word (name (get_or xs i d)))) xs i d low
-    (same_word-refl (name_word (name (get_or xs i d))))
-    (λ k before. apart_words (name (get_or xs k d)) (name (get_or xs i d)) (h.named k d (omega arith))
-    (h.named i d low)
-    (h.apart k i d before low))
+name-place name xs i d h low = position-first (λ x. same_word (name_word (name x)) (name_word (name (get_or xs i d))))
+    xs i d low (same_word-refl (name_word (name (get_or xs i d)))) (λ k before. apart_words (name (get_or xs k d))
+    (name (get_or xs i d)) (h.named k d (omega arith)) (h.named i d low) (h.apart k i d before low))
 
 -- a connector by its name
 pub caller-word : (connectors : List Name16) (n : ℕ) (d : Name16) → 1 ≤ n → n ≤ length connectors
@@ -46,9 +42,8 @@ pub caller-word : (connectors : List Name16) (n : ℕ) (d : Name16) → 1 ≤ n 
 caller-word connectors n d some most = grind (arith, nat_tests, slice_get-get_or)
 
 -- behind things at which a test fails
-seam_place : {X : Type 0} (p : X → Bool) (front : List X) (x : X) (back : List X) → list_any p front ≡ false
-    → p x ≡ true
-    → position_or_len p (front ++ x ∷ back) ≡ length front
+seam_place : {X : Type 0} (p : X → Bool) (front : List X) (x : X) (back : List X)
+    → list_any p front ≡ false → p x ≡ true → position_or_len p (front ++ x ∷ back) ≡ length front
 seam_place p [] x back before here = rw here refl
 seam_place p (y ∷ front) x back before here =
     let parts = or_false (p y) (list_any p front) before in

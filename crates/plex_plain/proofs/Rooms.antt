@@ -33,12 +33,11 @@ number-good n small = grind (arith, nonempty, decimal_nonempty, digits-solid, le
 led-good : (front : List ℕ) (n most : ℕ) → n < 2 ^ 64 → is_nonempty front ≡ true → list_all solid front ≡ true
     → length front + 20 ≤ most → IsGood most (front ++ decimal n)
 led-good [] n most small some all short = absurd (cc)
-led-good (b ∷ front) n most small some all short =
-    record {
-      some = refl;
-      solid_all = all-append solid (b ∷ front) (decimal n) all (digits-solid n small);
-      short = omega (arith, (number-good n small).short, length-append front (decimal n));
-    }
+led-good (b ∷ front) n most small some all short = record {
+  some = refl;
+  solid_all = all-append solid (b ∷ front) (decimal n) all (digits-solid n small);
+  short = omega (arith, (number-good n small).short, length-append front (decimal n));
+}
 
 pub wider : (few most : ℕ) (word : List ℕ) → few ≤ most → IsGood few word → IsGood most word
 wider few most word less h = record { some = h.some; solid_all = h.solid_all; short = omega (arith, h.short) }
@@ -49,18 +48,16 @@ facility-good cf low = led-good (codes "CF") cf.0 64 (omega arith) refl refl (om
 resource-good : (r : Resource) → IsPadded r.name.0 → r.hash ≤ 4294967295 → IsGood 64 (resource_word r)
 resource-good r named least =
     let name = name-good r.name named in
-    led-good (name_word r.name ++ codes "@") r.hash 64 (omega arith)
-    (nonempty (name_word r.name ++ codes "@") (omega (arith, length-append (name_word r.name) (codes "@"))))
-    (all-append solid (name_word r.name) (codes "@") name.solid_all refl)
-    (omega (arith, named.0.short, length-append (name_word r.name) (codes "@")))
+    led-good (name_word r.name ++ codes "@") r.hash 64 (omega arith) (nonempty (name_word r.name ++ codes "@")
+    (omega (arith, length-append (name_word r.name) (codes "@")))) (all-append solid (name_word r.name)
+    (codes "@") name.solid_all refl) (omega (arith, named.0.short, length-append (name_word r.name) (codes "@")))
 
 some_name : Name16
 some_name = record { 0 = [] }
 
 connector-good : (connectors : List Name16) (n : ℕ) → AreNames connectors → 1 ≤ n → n ≤ length connectors
     → IsGood 64 (caller_name connectors n)
-connector-good connectors n h some most =
-    rw (caller-word connectors n some_name some most)
+connector-good connectors n h some most = rw (caller-word connectors n some_name some most)
     (name-good (get_or connectors (n - 1) some_name) (h.0 (n - 1) some_name (omega arith)).0)
 
 -- the operator too
@@ -75,18 +72,8 @@ short-good (b ∷ bs) h = grind (arith, and_parts, solid, nat_tests)
 
 -- how many bytes the word of a token takes at most
 abbrev pub room_of : Token → ℕ
-room_of (Literal text) = 64
-room_of (Number low high n) = 64
-room_of (Term bytes) = 64
-room_of (Short text) = 64
 room_of (Data text) = 4096
-room_of (OnResource r) = 64
-room_of (Record id) = 64
-room_of (OfFacility cf) = 64
-room_of (OfConnector conn) = 64
-room_of (OfStructure on) = 64
-room_of (NewFacility cf) = 64
-room_of (NewName name) = 64
+room_of token = 64
 
 token-good : (declared : Declared) (token : Token) → AreNames declared.connectors → is_plain token ≡ true
     → IsWithin declared token → IsGood (room_of token) (plain_word [] declared.connectors token)
@@ -101,9 +88,9 @@ token-good declared (Record id) names plain h =
     led-good (codes "#") id.0 64 (omega (arith, h.1)) refl refl (omega arith)
 token-good declared (OfFacility cf) names plain h = facility-good cf h.0.1
 token-good declared (OfConnector conn) names plain h = connector-good declared.connectors conn.0 names h.0 h.1
-token-good declared (OfStructure on) names plain h = absurd (cc)
 token-good declared (NewFacility cf) names plain h = facility-good cf h.1
 token-good declared (NewName name) names plain h = name-good name h.0
+token-good declared token names plain h = absurd (cc)
 
 -- ---- rows of tokens
 
@@ -112,9 +99,8 @@ abbrev pub rooms : List Token → ℕ
 rooms [] = 0
 rooms (token ∷ tokens) = room_of token + 1 + rooms tokens
 
-pub words-good : (declared : Declared) (tokens : List Token) → AreNames declared.connectors
-    → list_all is_plain tokens ≡ true → AreWithin declared tokens
-    → AreGood (plain_words [] declared.connectors tokens)
+pub words-good : (declared : Declared) (tokens : List Token) → AreNames declared.connectors → list_all
+    is_plain tokens ≡ true → AreWithin declared tokens → AreGood (plain_words [] declared.connectors tokens)
     × (length (tail_of (plain_words [] declared.connectors tokens)) ≤ rooms tokens)
 words-good declared [] names plain h = (tt, omega arith)
 words-good declared (token ∷ tokens) names plain h =

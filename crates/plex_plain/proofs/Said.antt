@@ -46,10 +46,9 @@ connectors-named connectors h = record { named = h.0; apart = h.1 }
 no_name : Name16
 no_name = record { 0 = [] }
 
-pub connector-said : (connectors : List Name16) (conn : ConnId) → AreNames connectors → 1 ≤ conn.0
-    → conn.0 ≤ length connectors
-    → IsName Names (caller_name connectors conn.0) ×
-    (connector_of connectors (caller_name connectors conn.0) ≡ Some conn)
+pub connector-said : (connectors : List Name16) (conn : ConnId)
+    → AreNames connectors → 1 ≤ conn.0 → conn.0 ≤ length connectors → IsName Names (caller_name connectors conn.0)
+    × (connector_of connectors (caller_name connectors conn.0) ≡ Some conn)
 connector-said connectors conn h some most =
     let low : conn.0 - 1 < length connectors = omega arith in
     let place = name-place (λ (name : Name16). name) connectors (conn.0 - 1) no_name
@@ -75,16 +74,8 @@ is_short_word (b ∷ bs) = nat_le (length (b ∷ bs)) 64 && list_all solid (b �
 abbrev pub is_plain : Token → Bool
 is_plain (Literal text) = is_short_word text
 is_plain (Number low high n) = nat_le high 4294967295
-is_plain (Term bytes) = true
-is_plain (Short text) = true
-is_plain (Data text) = true
-is_plain (OnResource r) = true
-is_plain (Record id) = true
-is_plain (OfFacility cf) = true
-is_plain (OfConnector conn) = true
 is_plain (OfStructure on) = false
-is_plain (NewFacility cf) = true
-is_plain (NewName name) = true
+is_plain token = true
 
 pub small_high : (high : ℕ) → nat_le high 4294967295 ≡ true → high < 2 ^ 64
 small_high high h = let least : high ≤ 4294967295 = grind (arith, nat_tests) in omega (arith, least)
@@ -104,9 +95,8 @@ token-said declared (OfStructure on) names plain h = absurd (cc)
 token-said declared (NewFacility cf) names plain h = facility-said cf h
 token-said declared (NewName name) names plain h = (name-said name h, h.0.1)
 
-pub words-said : (declared : Declared) (tokens : List Token) → AreNames declared.connectors
-    → list_all is_plain tokens ≡ true → AreWithin declared tokens
-    → Spells Names declared tokens (plain_words [] declared.connectors tokens) []
+pub words-said : (declared : Declared) (tokens : List Token) → AreNames declared.connectors → list_all is_plain tokens
+    ≡ true → AreWithin declared tokens → Spells Names declared tokens (plain_words [] declared.connectors tokens) []
 words-said declared [] names plain h = refl
 words-said declared (token ∷ tokens) names plain h =
     let parts = and_parts (is_plain token) (list_all is_plain tokens) plain in

@@ -49,8 +49,8 @@ words-back (word ∷ next ∷ words) h =
 
 spaced-clear : (words : List (List ℕ)) → AreGood words → list_all clear (tail_of words) ≡ true
 spaced-clear [] h = refl
-spaced-clear (word ∷ words) h =
-    all-append clear (32 ∷ word) (tail_of words) (all-weaker solid clear solid_clear word h.1) (spaced-clear words h.2)
+spaced-clear (word ∷ words) h = all-append clear (32 ∷ word)
+    (tail_of words) (all-weaker solid clear solid_clear word h.1) (spaced-clear words h.2)
 
 pub line-clear : (words : List (List ℕ)) → AreGood words → list_all clear (line_of words) ≡ true
 line-clear [] h = refl

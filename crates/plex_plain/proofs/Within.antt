@@ -98,8 +98,7 @@ pub within-back : (declared : Declared) (front back : List Token) → AreWithin 
 within-back declared [] back h = h
 within-back declared (token ∷ front) back h = within-back declared front back h.1
 
-pub within-append : (declared : Declared) (front back : List Token) → AreWithin declared front
-    → AreWithin declared back
-    → AreWithin declared (front ++ back)
+pub within-append : (declared : Declared) (front back : List Token)
+    → AreWithin declared front → AreWithin declared back → AreWithin declared (front ++ back)
 within-append declared [] back h k = k
 within-append declared (token ∷ front) back h k = (h.0, within-append declared front back h.1 k)

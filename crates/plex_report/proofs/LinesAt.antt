@@ -34,9 +34,8 @@ module _ {X : Type 0} (lines : ℕ → X → List (List ℕ)) (size : X → ℕ)
       sum_by-cons (λ x. size x + 1) x (take i xs) in
       let at : first + 1 + i ≡ first + suc i = omega arith in
       ap (λ l. slice_get l k) (append_assoc (lines first x) (lines_each lines (first + 1) xs) rest)
-      ∙ get_right (lines first x) (lines_each lines (first + 1) xs ++ rest) k n (omega arith)
-      ∙ get_within (first + 1) xs rest i n j d (omega arith) refl within
-      ∙ ap (λ m. slice_get (lines m (get_or xs i d)) j) at
+      ∙ get_right (lines first x) (lines_each lines (first + 1) xs ++ rest) k n (omega arith) ∙ get_within
+      (first + 1) xs rest i n j d (omega arith) refl within ∙ ap (λ m. slice_get (lines m (get_or xs i d)) j) at
 
   -- a line behind all sections
   pub get_after : (first : ℕ) (xs : List X) (rest : List (List ℕ)) (k n : ℕ)
@@ -52,37 +51,34 @@ module _ {X : Type 0} (lines : ℕ → X → List (List ℕ)) (size : X → ℕ)
       ∙ get_after (first + 1) xs rest m n refl
 
   -- a line of the section at a place
-  pub get_spot : (xs : List X) (rest : List (List ℕ)) (i k j : ℕ) (x : X)
-      → i < length xs → x ≡ get_or xs i x → k ≡ sum_by (λ x. size x + 1) (take i xs) + j
-      → j ≤ option_map_or size (slice_get xs i) 0
+  pub get_spot : (xs : List X) (rest : List (List ℕ)) (i k j : ℕ) (x : X) → i < length xs
+      → x ≡ get_or xs i x → k ≡ sum_by (λ x. size x + 1) (take i xs) + j → j ≤ option_map_or size (slice_get xs i) 0
       → slice_get (lines_each lines 0 xs ++ rest) k ≡ slice_get (lines i x) j
   get_spot xs rest i k j x h is e within =
       let at : 0 + i ≡ i = omega arith in
       let here : option_map_or size (slice_get xs i) 0 ≡ size (get_or xs i x) =
       ap (λ o. option_map_or size o 0) (slice_get-get_or xs i x h) in
       get_within 0 xs rest i k j x h e (omega (arith, here, within))
-      ∙ ap (λ m. slice_get (lines m (get_or xs i x)) j) at
-      ∙ ap (λ y. slice_get (lines i y) j) (sym is)
+      ∙ ap (λ m. slice_get (lines m (get_or xs i x)) j) at ∙ ap (λ y. slice_get (lines i y) j) (sym is)
 
 -- ---- headings
 
--- the line of an element stands behind the heading
-pub get_under : {X : Type 0} (f : X → List ℕ) (head : List ℕ) (xs : List X) (k n : ℕ) (o : Option X)
-    → k ≡ n + 1 → slice_get xs n ≡ o → slice_get (head ∷ map f xs) k ≡ option_map f o
-get_under f head xs k n o e at =
-    get_behind head (map f xs) k n e ∙ slice_get-map f xs n ∙ ap (λ o. option_map f o) at
+module _ {X : Type 0} (f : X → List ℕ) (head : List ℕ) (xs : List X) where
+  -- the line of an element stands behind the heading
+  get_under : (k n : ℕ) (o : Option X)
+      → k ≡ n + 1 → slice_get xs n ≡ o → slice_get (head ∷ map f xs) k ≡ option_map f o
+  get_under k n o e at = get_behind head (map f xs) k n e ∙ slice_get-map f xs n ∙ ap (λ o. option_map f o) at
 
-pub get_read : {X : Type 0} (f : X → List ℕ) (head : List ℕ) (xs : List X) (k n : ℕ) (x : X)
-    → k ≡ n + 1 → n < length xs → x ≡ get_or xs n x → slice_get (head ∷ map f xs) k ≡ Some (f x)
-get_read f head xs k n x e h is = get_under f head xs k n (Some x) e (slice_get_read xs (length xs) n x refl h is)
+  pub get_read : (k n : ℕ) (x : X) → k ≡ n + 1 → n < length xs → x ≡ get_or xs n x
+      → slice_get (head ∷ map f xs) k ≡ Some (f x)
+  get_read k n x e h is = get_under k n (Some x) e (slice_get_read xs (length xs) n x refl h is)
 
-pub get_item : {X : Type 0} (f : X → List ℕ) (head : List ℕ) (xs : List X) (k n : ℕ) (d : X)
-    → k ≡ n + 1 → n < length xs → slice_get (head ∷ map f xs) k ≡ Some (f (get_or xs n d))
-get_item f head xs k n d e h = get_under f head xs k n (Some (get_or xs n d)) e (slice_get-get_or xs n d h)
+  pub get_item : (k n : ℕ) (d : X)
+      → k ≡ n + 1 → n < length xs → slice_get (head ∷ map f xs) k ≡ Some (f (get_or xs n d))
+  get_item k n d e h = get_under k n (Some (get_or xs n d)) e (slice_get-get_or xs n d h)
 
-pub length-under : {X : Type 0} (f : X → List ℕ) (head : List ℕ) (xs : List X)
-    → length (head ∷ map f xs) ≡ length xs + 1
-length-under f head xs = let len : length (map f xs) ≡ length xs = length-map xs f in omega arith
+  pub length-under : length (head ∷ map f xs) ≡ length xs + 1
+  length-under = let len : length (map f xs) ≡ length xs = length-map xs f in omega arith
 
 -- ---- the text
 
@@ -94,6 +90,5 @@ text_more lines k line h = rw add-one (one_more lines k line h)
         → flat_map line_text (take (suc k) lines) ≡ flat_map line_text (take k lines) ++ line
     one_more [] k line h = cc
     one_more (l ∷ ls) zero line h = append-nil (line_text l) ∙ ap (λ o. unwrap_or o []) h
-    one_more (l ∷ ls) (suc k) line h =
-        ap (λ t. line_text l ++ t) (one_more ls k line h) ∙ sym
-        (append_assoc (line_text l) (flat_map line_text (take k ls)) line)
+    one_more (l ∷ ls) (suc k) line h = ap (λ t. line_text l ++ t) (one_more ls k line h)
+        ∙ sym (append_assoc (line_text l) (flat_map line_text (take k ls)) line)

@@ -10,69 +10,52 @@ past_end line (suc n) h = refl
 structure-sized : (i : ℕ) (form : StrForm) → length (structure_lines form) ≡ length form.prefs + 1
 structure-sized i form = length-under (pref_line form) (form_line form) form.prefs
 
-history-sized : (script : Script) (i : ℕ) (history : AnyHistory)
-    → length (history_lines script i history) ≡ any_length history + 1
-history-sized script i (any.Cache entries) =
-    length-under (entry_line cache_words cache_reply_words script)
-    (heading (codes "HISTORY") (structure_name script i) (length entries)) entries
-history-sized script i (any.List entries) =
-    length-under (entry_line list_words list_reply_words script)
-    (heading (codes "HISTORY") (structure_name script i) (length entries)) entries
-history-sized script i (any.Lock entries) =
-    length-under (entry_line lock_words lock_reply_words script)
-    (heading (codes "HISTORY") (structure_name script i) (length entries)) entries
+module _ (script : Script) where
+  history-sized : (i : ℕ) (history : AnyHistory) → length (history_lines script i history) ≡ any_length history + 1
+  history-sized i (any.Cache entries) = length-under (entry_line cache_words cache_reply_words script)
+      (heading (codes "HISTORY") (structure_name script i) (length entries)) entries
+  history-sized i (any.List entries) = length-under (entry_line list_words list_reply_words script)
+      (heading (codes "HISTORY") (structure_name script i) (length entries)) entries
+  history-sized i (any.Lock entries) = length-under (entry_line lock_words lock_reply_words script)
+      (heading (codes "HISTORY") (structure_name script i) (length entries)) entries
 
-transcript-sized : (script : Script) (i : ℕ) (transcript : Transcript)
-    → length (transcript_lines script i transcript) ≡ length transcript.items + 1
-transcript-sized script i transcript =
-    length-under (shown_line script) (heading (codes "TRANSCRIPT") (caller_name script i) (length transcript.items))
-    transcript.items
+  transcript-sized : (i : ℕ) (transcript : Transcript)
+      → length (transcript_lines script i transcript) ≡ length transcript.items + 1
+  transcript-sized i transcript = length-under (shown_line script)
+      (heading (codes "TRANSCRIPT") (caller_name script i) (length transcript.items)) transcript.items
 
-pub structure_spot : (script : Script) (rest : List (List ℕ)) (i k j : ℕ) (form : StrForm)
-    → i < length script.structures → form ≡ get_or script.structures i form
-    → k ≡ sum_by (λ (x : StrForm). length x.prefs + 1) (take i script.structures) + j
-    → j ≤ option_map_or (λ (x : StrForm). length x.prefs) (slice_get script.structures i) 0
-    → slice_get (structures_lines script ++ rest) k ≡ slice_get (structure_lines form) j
-structure_spot script rest i k j form =
-    get_spot (λ i form. structure_lines form) (λ (x : StrForm). length x.prefs)
-    structure-sized script.structures rest i k j form
+  pub structure_spot : (rest : List (List ℕ)) (i k j : ℕ) (form : StrForm) → i < length script.structures
+      → form ≡ get_or script.structures i form → k ≡ sum_by (λ (x : StrForm). length x.prefs + 1)
+      (take i script.structures) + j → j ≤ option_map_or (λ (x : StrForm). length x.prefs) (slice_get
+      script.structures i) 0 → slice_get (structures_lines script ++ rest) k ≡ slice_get (structure_lines form) j
+  structure_spot =
+      get_spot (λ i form. structure_lines form) (λ (x : StrForm). length x.prefs) structure-sized script.structures
 
-pub structures_after : (script : Script) (rest : List (List ℕ)) (k n : ℕ)
-    → k ≡ sum_by (λ (x : StrForm). length x.prefs + 1) script.structures + n
-    → slice_get (structures_lines script ++ rest) k ≡ slice_get rest n
-structures_after script rest k n =
-    get_after (λ i form. structure_lines form) (λ (x : StrForm). length x.prefs)
-    structure-sized 0 script.structures rest k n
+  pub structures_after : (rest : List (List ℕ)) (k n : ℕ) → k ≡ sum_by (λ (x : StrForm). length x.prefs + 1)
+      script.structures + n → slice_get (structures_lines script ++ rest) k ≡ slice_get rest n
+  structures_after =
+      get_after (λ i form. structure_lines form) (λ (x : StrForm). length x.prefs) structure-sized 0 script.structures
 
-pub history_spot : (script : Script) (histories : List AnyHistory) (rest : List (List ℕ)) (i k j : ℕ)
-    (history : AnyHistory)
-    → i < length histories → history ≡ get_or histories i history
-    → k ≡ sum_by (λ x. any_length x + 1) (take i histories) + j → j ≤ option_map_or any_length (slice_get histories i)
-    0
-    → slice_get (histories_lines script histories ++ rest) k ≡ slice_get (history_lines script i history) j
-history_spot script histories rest i k j history =
-    get_spot (λ i history. history_lines script i history) any_length
-    (history-sized script) histories rest i k j history
+  pub history_spot : (histories : List AnyHistory) (rest : List (List ℕ)) (i k j : ℕ) (history : AnyHistory)
+      → i < length histories → history ≡ get_or histories i history → k ≡ sum_by
+      (λ x. any_length x + 1) (take i histories) + j → j ≤ option_map_or any_length (slice_get histories i) 0
+      → slice_get (histories_lines script histories ++ rest) k ≡ slice_get (history_lines script i history) j
+  history_spot = get_spot (λ i history. history_lines script i history) any_length history-sized
 
-pub histories_after : (script : Script) (histories : List AnyHistory) (rest : List (List ℕ)) (k n : ℕ)
-    → k ≡ sum_by (λ x. any_length x + 1) histories + n
-    → slice_get (histories_lines script histories ++ rest) k ≡ slice_get rest n
-histories_after script histories rest k n =
-    get_after (λ i history. history_lines script i history) any_length (history-sized script) 0 histories rest k n
+  pub histories_after : (histories : List AnyHistory) (rest : List (List ℕ)) (k n : ℕ) → k ≡ sum_by (λ x. any_length x
+      + 1) histories + n → slice_get (histories_lines script histories ++ rest) k ≡ slice_get rest n
+  histories_after = get_after (λ i history. history_lines script i history) any_length history-sized 0
 
-pub transcript_spot : (script : Script) (transcripts : List Transcript) (rest : List (List ℕ)) (i k j : ℕ)
-    (transcript : Transcript)
-    → i < length transcripts → transcript ≡ get_or transcripts i transcript
-    → k ≡ sum_by (λ (x : Transcript). length x.items + 1) (take i transcripts) + j
-    → j ≤ option_map_or (λ (x : Transcript). length x.items) (slice_get transcripts i) 0
-    → slice_get (transcripts_lines script transcripts ++ rest) k ≡ slice_get (transcript_lines script i transcript) j
-transcript_spot script transcripts rest i k j transcript =
-    get_spot (λ i transcript. transcript_lines script i transcript) (λ (x : Transcript). length x.items)
-    (transcript-sized script) transcripts rest i k j transcript
+  pub transcript_spot : (transcripts : List Transcript) (rest : List (List ℕ)) (i k j : ℕ) (transcript : Transcript)
+      → i < length transcripts → transcript ≡ get_or transcripts i transcript
+      → k ≡ sum_by (λ (x : Transcript). length x.items + 1) (take i transcripts) + j
+      → j ≤ option_map_or (λ (x : Transcript). length x.items) (slice_get transcripts i) 0 → slice_get
+      (transcripts_lines script transcripts ++ rest) k ≡ slice_get (transcript_lines script i transcript) j
+  transcript_spot = get_spot (λ i transcript. transcript_lines script i transcript)
+      (λ (x : Transcript). length x.items) transcript-sized
 
-pub transcripts_after : (script : Script) (transcripts : List Transcript) (rest : List (List ℕ)) (k n : ℕ)
-    → k ≡ sum_by (λ (x : Transcript). length x.items + 1) transcripts + n
-    → slice_get (transcripts_lines script transcripts ++ rest) k ≡ slice_get rest n
-transcripts_after script transcripts rest k n =
-    get_after (λ i transcript. transcript_lines script i transcript) (λ (x : Transcript). length x.items)
-    (transcript-sized script) 0 transcripts rest k n
+  pub transcripts_after : (transcripts : List Transcript) (rest : List (List ℕ)) (k n : ℕ)
+      → k ≡ sum_by (λ (x : Transcript). length x.items + 1) transcripts + n
+      → slice_get (transcripts_lines script transcripts ++ rest) k ≡ slice_get rest n
+  transcripts_after = get_after
+      (λ i transcript. transcript_lines script i transcript) (λ (x : Transcript). length x.items) transcript-sized 0

@@ -44,6 +44,7 @@ fn by_number(alloc: Global, facilities: &[Pref]) -> Result<Vec<Pref>, NoMemory>
 }
 
 // The k-th line of a structure: its own, and then those of its facilities.
+#[tactic(auto, using(crate::proofs::LinesAt::get_item))]
 fn structure_line(alloc: Global, form: &StrForm, k: usize) -> Result<Option<Vec<u8>>, NoMemory>
     ensures { IfOk result (λ line. option_map (λ v. v.items) line
         ≡ slice_get (structure_lines form.now) k) }
@@ -59,6 +60,7 @@ fn structure_line(alloc: Global, form: &StrForm, k: usize) -> Result<Option<Vec<
 }
 
 // The k-th line of entries under their heading.
+#[tactic(auto, using(crate::proofs::LinesAt::get_read))]
 fn told_line<C: Spelled, R: Spelled>(
     alloc: Global,
     script: &Script,
@@ -97,6 +99,7 @@ fn history_line(
 }
 
 // The k-th line of the transcript of the caller with this number.
+#[tactic(auto, using(crate::proofs::LinesAt::get_item))]
 fn transcript_line(
     alloc: Global,
     script: &Script,

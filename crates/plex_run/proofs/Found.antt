@@ -12,6 +12,5 @@ later_from p m (suc n) (x ∷ xs) lt h = later_from p m n xs (omega arith) h
 pub find_later : {X : Type 0} (p : ℕ → Bool) (n : ℕ) (xs : List X) → n < length xs → p n ≡ false
     → find (λ (place : ℕ × X). p place.0) (enumerate_from n (drop n xs)) ≡ find (λ (place : ℕ × X). p place.0)
     (enumerate_from (n + 1) (drop (n + 1) xs))
-find_later p n xs lt h =
-    later_from p n n xs lt h ∙ ap (λ k. find (λ place. p place.0) (enumerate_from (n + 1) (drop k xs)))
-    (sym (add-one n))
+find_later p n xs lt h = later_from p n n xs lt h
+    ∙ ap (λ k. find (λ place. p place.0) (enumerate_from (n + 1) (drop k xs))) (sym (add-one n))

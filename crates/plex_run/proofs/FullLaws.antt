@@ -4,14 +4,12 @@ use Rattle.plex_load.specs.PlexScript.declared.transcripts.AgentEnd.TheVariants 
 
 -- whatever a run shows, no history is longer than the script can make it
 abbrev pub AreWithin : Type 0
-AreWithin =
-    (limit : ℕ) (script : Script) (histories : List AnyHistory) (transcripts : List Transcript)
+AreWithin = (limit : ℕ) (script : Script) (histories : List AnyHistory) (transcripts : List Transcript)
     → ShowsHistories limit script histories transcripts → IsWithinScript script histories
 
 -- what is found among elements that stand with their places passes, and is the element at its place
-found_place : {X : Type 0} (p : ℕ → Bool) (xs : List X) (place : ℕ × X)
-    → find (λ (it : ℕ × X). p it.0) (enumerate_from 0 xs) ≡ Some place
-    → (slice_get xs place.0 ≡ Some place.1) × (p place.0 ≡ true)
+found_place : {X : Type 0} (p : ℕ → Bool) (xs : List X) (place : ℕ × X) → find (λ (it : ℕ × X). p it.0)
+    (enumerate_from 0 xs) ≡ Some place → (slice_get xs place.0 ≡ Some place.1) × (p place.0 ≡ true)
 found_place {X} p xs place found =
     let test : ℕ × X → Bool = λ (it : ℕ × X). p it.0 in
     let places : List (ℕ × X) = enumerate_from 0 xs in
@@ -40,8 +38,7 @@ full_there limit script histories transcripts shows place full =
     by_end (record { 0 = it.0 }) it.1.items it.1.end it.4 (shows.ends it.0 it.1 there)
   where
     by_end : (conn : ConnId) (items : List Shown) (end : AgentEnd) → ends_full_at place end ≡ true
-        → EndsRight limit script histories conn items end
-        → limit ≤ length_on histories (record { 0 = place })
+        → EndsRight limit script histories conn items end → limit ≤ length_on histories (record { 0 = place })
     by_end conn items ended.Done there right = absurd cc
     by_end conn items ended.NoMemory there right = absurd cc
     by_end conn items (ended.JournalFull on) there right =
@@ -51,13 +48,11 @@ full_there limit script histories transcripts shows place full =
 -- the script can fill the journal that is told
 pub can_fill : (script : Script) (reading : Reading) → AreWithin → ShowsRun script reading
     → CanFill script (full_of script reading)
-can_fill script reading within shows =
-    by_place (find (λ (place : ℕ × StrForm). is_full_at reading.transcripts place.0)
-    (enumerate_from 0 script.structures)) refl
+can_fill script reading within shows = by_place
+    (find (λ (place : ℕ × StrForm). is_full_at reading.transcripts place.0) (enumerate_from 0 script.structures)) refl
   where
-    by_place : (found : Option (ℕ × StrForm))
-        → find (λ (place : ℕ × StrForm). is_full_at reading.transcripts place.0)
-        (enumerate_from 0 script.structures) ≡ found
+    by_place : (found : Option (ℕ × StrForm)) → find
+        (λ (place : ℕ × StrForm). is_full_at reading.transcripts place.0) (enumerate_from 0 script.structures) ≡ found
         → CanFill script (option_map (λ (place : ℕ × StrForm). place.1.name) found)
     by_place None none = tt
     by_place (Some place) found =

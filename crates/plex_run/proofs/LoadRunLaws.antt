@@ -35,8 +35,8 @@ run_of_load links script reading fresh within load run = (
   none_fills script (full_of script reading) load (can_fill script reading within run.shows),
 )
 
-pub load_run : (links : Wires) (n : ℕ) (script : Script) (reading : Reading) → AreFresh → AreWithin → script ≡ load_script n
-    → IsLoad script → IsRunOf links ways.OnThreads script reading → IsLoadRun links n reading
+pub load_run : (links : Wires) (n : ℕ) (script : Script) (reading : Reading) → AreFresh → AreWithin
+    → script ≡ load_script n → IsLoad script → IsRunOf links ways.OnThreads script reading → IsLoadRun links n reading
 load_run links n script reading fresh within is load run =
     subst (λ (s : Script). IsRun links ways.OnThreads (script_text s) s reading × (full_of s reading ≡ None)) is
     (run_of_load links script reading fresh within load run)
@@ -58,9 +58,3 @@ load_ends links n reading out status run whole front memory statuses = record {
   task = task_told (loading links n) out status reading run refl tt whole front memory statuses;
   statuses = statuses;
 }
-
--- what follows of a value that is there
-pub IfOk-so : {T E : Type 0} (result : Result T E) (P Q : T → Type 0) → ((x : T) → P x → Q x) → IfOk result P
-    → IfOk result Q
-IfOk-so (Ok x) P Q so p = so x p
-IfOk-so (Err e) P Q so p = tt

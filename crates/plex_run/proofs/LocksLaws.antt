@@ -35,23 +35,17 @@ locks_fair one never text line told taken un = taken_untaken text taken.0 line t
 -- ---- ends
 
 -- the locks of a script that the text says were done
-pub locks_end : (text : List ℕ) (script : Script) (told : Locked) (out : Output) (status : ℕ) → SaysOne → IsExclusive
-    → length text ≤ script_limit → IsTaken text script → IsLocked script told
-    → (status ≡ 0 → Writes out (locks_text script told))
-    → (status ≡ 5 → HasFailed out × WritesFront out (locks_text script told)) → (status ≡ 6 → Gains out memory_line)
-    → (status ≡ 0) ⊎ ((status ≡ 5) ⊎ (status ≡ 6)) → EndsLocks text out status
-locks_end text script told out status one never short taken true wrote front memory statuses =
-    done_ends locks_word text out status (locks_fair one never) (fits text short) (script, taken)
-    (task_told (locking text) out status (script, told) (taken, true) refl tt wrote front memory statuses)
-    (other 3 statuses (omega arith) (omega arith) (omega arith))
-    (other 7 statuses (omega arith) (omega arith) (omega arith)) (λ found. settled statuses found)
+pub locks_end : (text : List ℕ) (script : Script) (told : Locked) (out : Output) (status : ℕ)
+    → SaysOne → IsExclusive → length text ≤ script_limit → IsTaken text script → IsLocked script told → (status ≡ 0
+    → Writes out (locks_text script told)) → (status ≡ 5 → HasFailed out × WritesFront out (locks_text script told))
+    → (status ≡ 6 → Gains out memory_line) → (status ≡ 0) ⊎ ((status ≡ 5) ⊎ (status ≡ 6)) → EndsLocks text out status
+locks_end text script told out status one never short taken true wrote front memory statuses = done_ends locks_word
+    text out status (locks_fair one never) (fits text short) (script, taken) (task_told (locking text) out status
+    (script, told) (taken, true) refl tt wrote front memory statuses) (other 3 statuses (omega arith) (omega arith)
+    (omega arith)) (other 7 statuses (omega arith) (omega arith) (omega arith)) (λ found. settled statuses found)
   where
     other : (n : ℕ) → (status ≡ 0) ⊎ ((status ≡ 5) ⊎ (status ≡ 6)) → n ≢ 0 → n ≢ 5 → n ≢ 6 → status ≢ n
-    other n (inl e) no0 no5 no6 = λ is. no0 (sym is ∙ e)
-    other n (inr (inl e)) no0 no5 no6 = λ is. no5 (sym is ∙ e)
-    other n (inr (inr e)) no0 no5 no6 = λ is. no6 (sym is ∙ e)
+    other n statuses no0 no5 no6 is = grind arith
 
     settled : (status ≡ 0) ⊎ ((status ≡ 5) ⊎ (status ≡ 6)) → status ≢ 6 → (status ≡ 0) ⊎ (status ≡ 5)
-    settled (inl zero) found = inl zero
-    settled (inr (inl five)) found = inr five
-    settled (inr (inr six)) found = absurd (found six)
+    settled statuses found = grind arith

@@ -9,8 +9,7 @@ use Rattle.plex_run.proofs.TextLaws.{IsFair, memory_ends, done_ends}
 
 -- whatever a run shows, tests that tell VALID tell fresh copies
 abbrev pub AreFresh : Type 0
-AreFresh =
-    (limit : ℕ) (script : Script) (histories : List AnyHistory) (transcripts : List Transcript)
+AreFresh = (limit : ℕ) (script : Script) (histories : List AnyHistory) (transcripts : List Transcript)
     → ShowsHistories limit script histories transcripts → ShowsFresh script histories transcripts
 
 -- ---- texts that are no scripts
@@ -36,10 +35,7 @@ none_of None e = refl
 none_of (Some x) e = absurd (cc)
 
 above_seven : (status : ℕ) → (status ≡ 0) ⊎ ((status ≡ 8) ⊎ ((status ≡ 5) ⊎ (status ≡ 6))) → 7 < status → status ≡ 8
-above_seven status (inl e) above = absurd (omega (arith, e, above))
-above_seven status (inr (inl eight)) above = eight
-above_seven status (inr (inr (inl e))) above = absurd (omega (arith, e, above))
-above_seven status (inr (inr (inr e))) above = absurd (omega (arith, e, above))
+above_seven status statuses above = grind arith
 
 -- a run in which no journal got full has the status 0
 none_with : (script : Script) (reading : Reading) → full_of script reading ≡ None → run_status script reading ≡ 0
@@ -95,23 +91,14 @@ module _ (links : Wires) (by : Way) (text : List ℕ) (script : Script) (reading
 
 whole_status : (status : ℕ) → (status ≡ 0) ⊎ ((status ≡ 8) ⊎ ((status ≡ 5) ⊎ (status ≡ 6))) → status ≢ 6
     → (status ≡ 0) ⊎ ((status ≡ 5) ⊎ (status ≡ 8))
-whole_status status (inl zero) memory = inl zero
-whole_status status (inr (inl eight)) memory = inr (inr eight)
-whole_status status (inr (inr (inl five))) memory = inr (inl five)
-whole_status status (inr (inr (inr six))) memory = absurd (memory six)
+whole_status status statuses memory = grind arith
 
 -- no run has another status
 not_three : (status : ℕ) → (status ≡ 0) ⊎ ((status ≡ 8) ⊎ ((status ≡ 5) ⊎ (status ≡ 6))) → status ≡ 3 → ⊥
-not_three status (inl e) is = omega (arith, e, is)
-not_three status (inr (inl e)) is = omega (arith, e, is)
-not_three status (inr (inr (inl e))) is = omega (arith, e, is)
-not_three status (inr (inr (inr e))) is = omega (arith, e, is)
+not_three status statuses is = grind arith
 
 not_seven : (status : ℕ) → (status ≡ 0) ⊎ ((status ≡ 8) ⊎ ((status ≡ 5) ⊎ (status ≡ 6))) → status ≡ 7 → ⊥
-not_seven status (inl e) is = omega (arith, e, is)
-not_seven status (inr (inl e)) is = omega (arith, e, is)
-not_seven status (inr (inr (inl e))) is = omega (arith, e, is)
-not_seven status (inr (inr (inr e))) is = omega (arith, e, is)
+not_seven status statuses is = grind arith
 
 -- the run of a script that the text says ends right
 pub run_ends : (links : Wires) (by : Way) (text : List ℕ) (script : Script) (out : Output) (status : ℕ) → SaysOne
@@ -120,14 +107,12 @@ pub run_ends : (links : Wires) (by : Way) (text : List ℕ) (script : Script) (o
     → EndsRight links by text out status
 run_ends links by text script out status one never fresh within only short says (inl (six, gains)) statuses =
     memory_ends (script_word links by) text out status six gains
-run_ends links by text script out status one never fresh within only short says (inr (reading, run_of, wrote)) statuses =
-    done_ends (script_word links by) text out status (runs_fair links by never) (fits text short) (script, says)
-    (run_told links by text script reading out status run wrote only statuses) (not_three status statuses)
-    (not_seven status statuses)
-    (λ memory. (
+run_ends links by text script out status one never fresh within only short says (inr (reading, run_of, wrote))
+    statuses = done_ends (script_word links by) text out status (runs_fair links by never)
+    (fits text short) (script, says) (run_told links by text script reading out status run wrote only statuses)
+    (not_three status statuses) (not_seven status statuses) (λ memory. (
       whole_status status statuses memory,
-      λ turn other again told telling.
-          (let same : script ≡ other = one text script other says again in
+      λ turn other again told telling. (let same : script ≡ other = one text script other says again in
           subst (λ (s : Script). IsSerialStatus told s status) same
           (serial_right links by text script reading out status run wrote turn told
           (subst (λ (s : Script). links.telling told (length s.structures)) (sym same) telling) statuses memory)),

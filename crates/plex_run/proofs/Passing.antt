@@ -12,18 +12,17 @@ passes-flushed old mid new before after text first then = record {
 }
 
 -- one text, and then another
-pub passes-both : (old mid new : Option (List ℕ)) (before between after first second : List ℕ)
-    → PassesOn old mid before between first → PassesOn mid new between after second
-    → PassesOn old new before after (first ++ second)
+pub passes-both : (old mid new : Option (List ℕ)) (before between after first second : List ℕ) → PassesOn old
+    mid before between first → PassesOn mid new between after second → PassesOn old new before after (first ++ second)
 passes-both old mid new before between after first second p q = record {
   written = p.written ++ q.written;
   gained = Appends-trans old mid new p.written q.written p.gained q.gained;
   rest = append_assoc p.written q.written after ∙ ap (λ l. p.written ++ l) q.rest
-      ∙ sym (append_assoc p.written between second) ∙ ap (λ l. l ++ second) p.rest
-      ∙ append_assoc before first second;
+      ∙ sym (append_assoc p.written between second) ∙ ap (λ l. l ++ second) p.rest ∙ append_assoc before first second;
 }
 
-module _ (old mid new : Option (List ℕ)) (before after text more : List ℕ) (p : PassesOn old mid before after text) where
+module
+    _ (old mid new : Option (List ℕ)) (before after text more : List ℕ) (p : PassesOn old mid before after text) where
   same : p.written ++ (after ++ more) ≡ before ++ (text ++ more)
   same = sym (append_assoc p.written after more) ∙ ap (λ l. l ++ more) p.rest ∙ append_assoc before text more
 
@@ -35,10 +34,8 @@ module _ (old mid new : Option (List ℕ)) (before after text more : List ℕ) (
 module _ (old mid new : Option (List ℕ)) (before after text : List ℕ) (p : PassesOn old mid before after text) where
   -- and then what stands in the piece was written
   pub passed-all : Appends mid new after → Appends old new (before ++ text)
-  passed-all gained =
-      subst (Appends old new) p.rest (Appends-trans old mid new p.written after p.gained gained)
+  passed-all gained = subst (Appends old new) p.rest (Appends-trans old mid new p.written after p.gained gained)
 
   -- and then a front of it
   pub passed-part : GainsPrefix mid new after → GainsPrefix old new (before ++ text)
-  passed-part part =
-      subst (GainsPrefix old new) p.rest (GainsPrefix-after old mid new p.written after p.gained part)
+  passed-part part = subst (GainsPrefix old new) p.rest (GainsPrefix-after old mid new p.written after p.gained part)

@@ -13,12 +13,9 @@ found_within p first n (form ∷ forms) within passes none =
     later : List (ℕ × StrForm)
     later = enumerate_from (first + 1) forms
 
-    by_test : (b : Bool) → p first ≡ b
-        → (if b then Some (first, form) else find (λ (place : ℕ × StrForm). p place.0) later) ≡ None
-        → (n : ℕ) → n < length (form ∷ forms) → p (first + n) ≡ true
-        → ((m : ℕ) → m < length forms → p ((first + 1) + m) ≡ true → find (λ (place : ℕ × StrForm). p place.0) later ≡
-        None → ⊥)
-        → ⊥
+    by_test : (b : Bool) → p first ≡ b → (if b then Some (first, form) else find (λ (place : ℕ × StrForm). p place.0)
+        later) ≡ None → (n : ℕ) → n < length (form ∷ forms) → p (first + n) ≡ true → ((m : ℕ) → m < length forms
+        → p ((first + 1) + m) ≡ true → find (λ (place : ℕ × StrForm). p place.0) later ≡ None → ⊥) → ⊥
     by_test true here k m low found behind = cc
     by_test false past k zero low found behind =
         let same : first + 0 ≡ first = omega arith in
@@ -45,9 +42,8 @@ all_done limit script histories transcripts some shows none c transcript there =
         None
     nowhere = none_mapped (λ (place : ℕ × StrForm). place.1.name) _ none
 
-    by_end : (end : AgentEnd) → transcript.end ≡ end → EndsRight limit script histories (record { 0 = c })
-        transcript.items end
-        → transcript.end ≡ ended.Done
+    by_end : (end : AgentEnd) → transcript.end ≡ end
+        → EndsRight limit script histories (record { 0 = c }) transcript.items end → transcript.end ≡ ended.Done
     by_end ended.Done is right = is
     by_end ended.NoMemory is right = absurd right
     by_end (ended.JournalFull on) is right =
@@ -58,18 +54,16 @@ all_done limit script histories transcripts some shows none c transcript there =
         let stopped : ends_full_at on.0 transcript.end ≡ true = rw is itself in
         let here : get_or transcripts c transcript ≡ transcript = get_or_from_slice_get transcripts c transcript
         transcript there in
-        let found : is_full_at transcripts on.0 ≡ true =
-        list_any_at (λ (t : Transcript). ends_full_at on.0 t.end) transcripts c transcript
-        (slice_get_within transcripts c transcript there)
-        (rw here stopped) in
+        let found : is_full_at transcripts on.0 ≡ true = list_any_at (λ (t : Transcript). ends_full_at on.0 t.end)
+        transcripts c transcript (slice_get_within transcripts c transcript there) (rw here stopped) in
         let place : on.0 ≡ 0 + on.0 = omega arith in
         absurd (found_within (is_full_at transcripts) 0 on.0 script.structures within
         (ap (is_full_at transcripts) (sym place) ∙ found) nowhere)
 
 -- the report of a run can be read in one way
-pub one_reading : (text : List ℕ) (script : Script) (reading : Reading) → IsScript text script → IsOnlyReading
-    → ShowsRun script reading → AreMarked reading → full_of script reading ≡ None → length (report_of script reading) < 2 ^ 64
-    → IsReading script reading × IsTheReading script reading
+pub one_reading : (text : List ℕ) (script : Script) (reading : Reading) → IsScript text script
+    → IsOnlyReading → ShowsRun script reading → AreMarked reading → full_of script reading ≡ None
+    → length (report_of script reading) < 2 ^ 64 → IsReading script reading × IsTheReading script reading
 one_reading text script reading says only shows marks none short =
     let done = all_done journal_limit script reading.histories reading.transcripts (omega arith) shows none in
     let is : IsReading script reading = is_reading journal_limit script reading shows done short marks in

@@ -37,17 +37,14 @@ module _ (old mid new : Option (List ℕ)) (before after : List ℕ) (lines : Li
     (passed : PassesOn old mid before after (text_of k lines)) where
   -- past the last line, and what stood in the piece was written
   pub all_written : slice_get lines k ≡ None → Appends mid new after → Appends old new (before ++ concat lines)
-  all_written past gained =
-      subst (λ text. Appends old new (before ++ text)) (text_whole lines k past)
-      (passed-all old mid new before after (text_of k lines) passed gained)
+  all_written past gained = subst (λ text. Appends old new (before ++ text))
+      (text_whole lines k past) (passed-all old mid new before after (text_of k lines) passed gained)
 
   -- a front of what stood in the piece was written
   pub text_front : GainsPrefix mid new after → GainsPrefix old new (before ++ concat lines)
-  text_front part =
-      subst (GainsPrefix old new)
-      (append_assoc before (text_of k lines) (concat (drop k lines)) ∙ ap (λ l. before ++ l) (sym (cut_at lines k)))
-      (GainsPrefix-before old new (before ++ text_of k lines) (concat (drop k lines))
-      (passed-part old mid new before after (text_of k lines) passed part))
+  text_front part = subst (GainsPrefix old new) (append_assoc before (text_of k lines) (concat (drop k lines))
+      ∙ ap (λ l. before ++ l) (sym (cut_at lines k))) (GainsPrefix-before old new (before ++ text_of k lines)
+      (concat (drop k lines)) (passed-part old mid new before after (text_of k lines) passed part))
 
   -- and so it is with a front of the next line
   pub text_front_more : (line : List ℕ) → slice_get lines k ≡ Some line → GainsPrefix mid new (after ++ line)
@@ -56,16 +53,14 @@ module _ (old mid new : Option (List ℕ)) (before after : List ℕ) (lines : Li
       let front : GainsPrefix old new (before ++ text_of (k + 1) lines) =
       subst (λ text. GainsPrefix old new (before ++ text)) (sym (text_more lines k line next))
       (passed-front old mid new before after (text_of k lines) line passed part) in
-      subst (GainsPrefix old new)
-      (append_assoc before (text_of (k + 1) lines) (concat (drop (k + 1) lines))
+      subst (GainsPrefix old new) (append_assoc before (text_of (k + 1) lines) (concat (drop (k + 1) lines))
       ∙ ap (λ l. before ++ l) (sym (cut_at lines (k + 1))))
       (GainsPrefix-before old new (before ++ text_of (k + 1) lines) (concat (drop (k + 1) lines)) front)
 
   -- one more line
   pub text_longer : (line more : List ℕ) → slice_get lines k ≡ Some line → PassesOn mid new after more line
       → PassesOn old new before more (text_of (k + 1) lines)
-  text_longer line more next passes =
-      subst (PassesOn old new before more) (sym (text_more lines k line next))
+  text_longer line more next passes = subst (PassesOn old new before more) (sym (text_more lines k line next))
       (passes-both old mid new before after more (text_of k lines) line passed passes)
 
 pub all_short : (lines : List (List ℕ)) (k n m : ℕ) → n ≡ length (text_of k lines) → n < m

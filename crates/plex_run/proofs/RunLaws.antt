@@ -20,23 +20,21 @@ module _ {L : Type 0} (calls : L → Option ℕ) (downs : L → Option (List ℕ
       ∙ ap (λ (ts : List Transcript). (let it : Reading = record { histories = other; transcripts = ts } in it)) e'
 
   -- on one thread
-  pub serial_run_is : (result : Result Finished NoMemory) (by : Way)
-      → ((told : ℕ → CfId → Telling) → AreTelling calls downs faults told (length script.structures) old
-      → IfOk result (λ it. (it.histories ≡ (serial_run journal_limit told script).histories)
-      × (it.transcripts ≡ (serial_run journal_limit told script).transcripts)))
+  pub serial_run_is : (result : Result Finished NoMemory) (by : Way) → ((told : ℕ → CfId → Telling) → AreTelling
+      calls downs faults told (length script.structures) old → IfOk result (λ it. (it.histories ≡ (serial_run
+      journal_limit told script).histories) × (it.transcripts ≡ (serial_run journal_limit told script).transcripts)))
       → IfOk result (λ it. ShowsHistories journal_limit script it.histories it.transcripts)
       → IfOk result (λ it. AreRunLinks calls downs faults script.structures it.histories old new)
       → IfOk result (λ it. IsRunOf (wires calls downs faults old new) by script (reading_of it))
-  serial_run_is (Ok it) by exact shows asked =
-      record {
-        shows = shows;
-        asked = asked;
-        marks = marked it shows asked;
-        in_turn = λ turn told telling.
-            let both = exact told telling in
-            reading_same it.histories (serial_run journal_limit told script).histories it.transcripts
-            (serial_run journal_limit told script).transcripts both.0 both.1;
-      }
+  serial_run_is (Ok it) by exact shows asked = record {
+    shows = shows;
+    asked = asked;
+    marks = marked it shows asked;
+    in_turn = λ turn told telling.
+        let both = exact told telling in
+        reading_same it.histories (serial_run journal_limit told script).histories it.transcripts
+        (serial_run journal_limit told script).transcripts both.0 both.1;
+  }
   serial_run_is (Err e) by exact shows asked = tt
 
   -- on threads
@@ -44,11 +42,10 @@ module _ {L : Type 0} (calls : L → Option ℕ) (downs : L → Option (List ℕ
       → IfOk result (λ it. ShowsHistories journal_limit script it.histories it.transcripts)
       → IfOk result (λ it. AreRunLinks calls downs faults script.structures it.histories old new)
       → IfOk result (λ it. IsRunOf (wires calls downs faults old new) by script (reading_of it))
-  threads_run_is (Ok it) by on_threads shows asked =
-      record {
-        shows = shows;
-        asked = asked;
-        marks = marked it shows asked;
-        in_turn = λ turn. absurd (let wrong : ways.InTurn ≡ ways.OnThreads = sym turn ∙ on_threads in cc);
-      }
+  threads_run_is (Ok it) by on_threads shows asked = record {
+    shows = shows;
+    asked = asked;
+    marks = marked it shows asked;
+    in_turn = λ turn. absurd (let wrong : ways.InTurn ≡ ways.OnThreads = sym turn ∙ on_threads in cc);
+  }
   threads_run_is (Err e) by on_threads shows asked = tt

@@ -20,41 +20,31 @@ may_ask by (any.Lock asked) may = may
 
 ask_of : (k : Kind) (asked : AnyAsk) → IsTrue (is_ask_of k asked) → IsAskOf k asked
 ask_of kind.Cache (any.Cache asked) h = tt
-ask_of kind.Cache (any.List asked) h = absurd (cc)
-ask_of kind.Cache (any.Lock asked) h = absurd (cc)
-ask_of (kind.List headers locks refs) (any.Cache asked) h = absurd (cc)
 ask_of (kind.List headers locks refs) (any.List asked) h = tt
-ask_of (kind.List headers locks refs) (any.Lock asked) h = absurd (cc)
-ask_of kind.Lock (any.Cache asked) h = absurd (cc)
-ask_of kind.Lock (any.List asked) h = absurd (cc)
 ask_of kind.Lock (any.Lock asked) h = tt
+ask_of _ _ h = absurd cc
 
-runnable_act : (form : StrForm) (by : ConnId) (a : Act) → IsActOf form.kind by a
-    → IsRunnableAct form by a
+runnable_act : (form : StrForm) (by : ConnId) (a : Act) → IsActOf form.kind by a → IsRunnableAct form by a
 runnable_act form by (act.Call asked) may = (ask_of form.kind asked may.0, may_ask by asked may.1)
 runnable_act form by act.Events may = tt
-runnable_act form by (act.Test index) may = may
-runnable_act form by (act.TestWord word) may = may
 runnable_act form by act.Post may = tt
 runnable_act form by act.Take may = tt
+runnable_act form by _ may = may
 
-runnable_line : (script : Script) (line : Line) → IsLineOf script line
-    → IsRunnableLine script line
-runnable_line script line of =
-    record {
-      form = of.form;
-      known = of.known;
-      caller = of.caller;
-      act = runnable_act of.form line.by line.act of.act;
-    }
+runnable_line : (script : Script) (line : Line) → IsLineOf script line → IsRunnableLine script line
+runnable_line script line of = record {
+  form = of.form;
+  known = of.known;
+  caller = of.caller;
+  act = runnable_act of.form line.by line.act of.act;
+}
 
 -- ---- the whole
 
 pub runnable : (script : Script) → IsWellFormed script → IsRunnable script
-runnable script well =
-    record {
-      structures = well.structures;
-      connectors = well.connectors;
-      forms = well.forms;
-      lines = λ k d lt. runnable_line script _ (well.lines k d lt);
-    }
+runnable script well = record {
+  structures = well.structures;
+  connectors = well.connectors;
+  forms = well.forms;
+  lines = λ k d lt. runnable_line script _ (well.lines k d lt);
+}

@@ -14,14 +14,10 @@ task_untold task out status statuses = record {
 }
   where
     none : (n : ℕ) → status ≡ n → (status ≡ 3) ⊎ ((status ≡ 4) ⊎ (status ≡ 7)) → n ≢ 3 → n ≢ 4 → n ≢ 7 → ⊥
-    none n is (inl e) no3 no4 no7 = no3 (omega (arith, is, e))
-    none n is (inr (inl e)) no3 no4 no7 = no4 (omega (arith, is, e))
-    none n is (inr (inr e)) no3 no4 no7 = no7 (omega (arith, is, e))
+    none n is statuses no3 no4 no7 = grind arith
 
     low : (status ≡ 3) ⊎ ((status ≡ 4) ⊎ (status ≡ 7)) → 7 < status → ⊥
-    low (inl e) above = omega (arith, e, above)
-    low (inr (inl e)) above = omega (arith, e, above)
-    low (inr (inr e)) above = omega (arith, e, above)
+    low statuses above = grind arith
 
 -- there was no memory for it
 pub task_without_memory : (task : Task) (out : Output) (status : ℕ) → status ≡ 6 → Gains out memory_line
@@ -46,9 +42,7 @@ task_told task out status it comes zero seals whole front memory statuses = reco
 }
   where
     low : (status ≡ 0) ⊎ ((status ≡ 5) ⊎ (status ≡ 6)) → 7 < status → ⊥
-    low (inl e) above = omega (arith, e, above)
-    low (inr (inl e)) above = omega (arith, e, above)
-    low (inr (inr e)) above = omega (arith, e, above)
+    low statuses above = grind arith
 
 -- ---- words that read a text
 
@@ -87,20 +81,18 @@ unread word text out status (inr (inr seven)) long memory = record {
 }
 
 -- no text came: it ends so over what is left, and where that isn't told, over some text that is too long
-pub unread_ends : (word : Word) (left : Option (List ℕ)) (out : Output) (status : ℕ)
-    → (status ≡ 4) ⊎ ((status ≡ 6) ⊎ (status ≡ 7)) → (some : (text : List ℕ) × word.IsTooLong text)
-    → (status ≡ 7 → IfSome left word.IsTooLong) → (status ≡ 6 → Gains out memory_line)
-    → OfText left (λ text. EndsText word text out status)
+pub unread_ends : (word : Word) (left : Option (List ℕ)) (out : Output) (status : ℕ) → (status ≡ 4) ⊎ ((status ≡ 6)
+    ⊎ (status ≡ 7)) → (some : (text : List ℕ) × word.IsTooLong text) → (status ≡ 7 → IfSome left word.IsTooLong)
+    → (status ≡ 6 → Gains out memory_line) → OfText left (λ text. EndsText word text out status)
 unread_ends word None out status statuses some long memory =
     (some.0, tt, unread word some.0 out status statuses (λ is. some.1) memory)
 unread_ends word (Some text) out status statuses some long memory =
     (text, refl, unread word text out status statuses long memory)
 
 -- the text is refused
-pub refused_ends : (word : Word) (text : List ℕ) (line : ℕ) (told : List ℕ) (out : Output) (status : ℕ)
-    → IsFair word → (word.IsTooLong text → ⊥) → word.Refuses text line told
-    → (status ≡ 3 → Gains out (script_line line told)) → (status ≡ 6 → Gains out memory_line)
-    → (status ≡ 3) ⊎ (status ≡ 6) → EndsText word text out status
+pub refused_ends : (word : Word) (text : List ℕ) (line : ℕ) (told : List ℕ) (out : Output) (status : ℕ) → IsFair word
+    → (word.IsTooLong text → ⊥) → word.Refuses text line told → (status ≡ 3 → Gains out (script_line line told))
+    → (status ≡ 6 → Gains out memory_line) → (status ≡ 3) ⊎ (status ≡ 6) → EndsText word text out status
 refused_ends word text line told out status fair short refuses wrote memory (inr six) =
     memory_ends word text out status six (memory six)
 refused_ends word text line told out status fair short refuses wrote memory (inl three) = record {

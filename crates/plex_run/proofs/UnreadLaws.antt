@@ -3,9 +3,8 @@ use Rattle.plex_run.proofs.Imports.{◌≡◌, ℕ, ◌+◌, List, length, Optio
 use Rattle.plex_agent.specs.CfIo.declared.read_end.ReadEnd.TheVariants as ends
 
 -- more bytes were left than the limit allows
-pub unread_long : (limit : ℕ) (left : Option (List ℕ)) (before after : ℕ) (end : ReadEnd) (status : ℕ)
-    → HasCause limit left before after end → status ≡ read_status end → status ≡ 7
-    → IfSome left (λ bytes. limit < length bytes)
+pub unread_long : (limit : ℕ) (left : Option (List ℕ)) (before after : ℕ) (end : ReadEnd) (status : ℕ) → HasCause
+    limit left before after end → status ≡ read_status end → status ≡ 7 → IfSome left (λ bytes. limit < length bytes)
 unread_long limit left before after ends.ReadFault status cause is seven = absurd (omega (arith, is, seven))
 unread_long limit left before after (ends.TooLong l) status cause is seven = cause.1
 unread_long limit left before after ends.NoMemory status cause is seven = absurd (omega (arith, is, seven))

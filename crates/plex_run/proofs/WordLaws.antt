@@ -13,7 +13,8 @@ two_of (x ∷ y ∷ z ∷ more) a b two first second = absurd (omega (arith, two
 module _ {A : Type 0} (words : List (String A)) (word numeral : String A) (n : ℕ) (two : length words ≡ 2)
     (first : word ≡ get_or words 0 word) (second : numeral ≡ get_or words 1 numeral) where
   -- what both have to be
-  pub asks_load : string_bytes word ≡ codes "load" → number_said (string_bytes numeral) ≡ Some n → Say words (works.Load n)
+  pub asks_load : string_bytes word ≡ codes "load" → number_said (string_bytes numeral) ≡ Some n
+      → Say words (works.Load n)
   asks_load load said = (
     string_bytes numeral,
     ap (λ (ws : List (String A)). map string_bytes ws) (two_of words word numeral two first second)
@@ -25,9 +26,8 @@ module _ {A : Type 0} (words : List (String A)) (word numeral : String A) (n : �
   pub is_asked : Say words (works.Load n)
       → (string_bytes word ≡ codes "load") × (number_said (string_bytes numeral) ≡ Some n)
   is_asked loading =
-      let same : string_bytes word ∷ string_bytes numeral ∷ [] ≡ codes "load" ∷ loading.0 ∷ [] =
-      sym (ap (λ (ws : List (String A)). map string_bytes ws) (two_of words word numeral two first second))
-      ∙ loading.1 in (
+      let same : string_bytes word ∷ string_bytes numeral ∷ [] ≡ codes "load" ∷ loading.0 ∷ [] = sym (ap
+      (λ (ws : List (String A)). map string_bytes ws) (two_of words word numeral two first second)) ∙ loading.1 in (
         ap (λ (ws : List (List ℕ)). get_or ws 0 []) same,
         subst (λ (w : List ℕ). number_said w ≡ Some n) (sym (ap (λ (ws : List (List ℕ)). get_or ws 1 []) same))
             loading.2,

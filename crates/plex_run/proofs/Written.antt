@@ -11,20 +11,17 @@ GainsPrefix-part old new part rest text e gains =
 -- a whole text, and then a prefix of another
 pub GainsPrefix-after : (old mid new : Option (List ℕ)) (first second : List ℕ)
     → Appends old mid first → GainsPrefix mid new second → GainsPrefix old new (first ++ second)
-GainsPrefix-after old mid new first second whole more =
-    GainsPrefix-part old new (first ++ take more.count second) (drop more.count second) (first ++ second)
-    (sym (append_assoc first (take more.count second) (drop more.count second) ∙ ap (λ l. first ++ l)
-    (take-append-drop more.count second)))
+GainsPrefix-after old mid new first second whole more = GainsPrefix-part old new (first ++ take more.count second)
+    (drop more.count second) (first ++ second) (sym (append_assoc first (take more.count second)
+    (drop more.count second) ∙ ap (λ l. first ++ l) (take-append-drop more.count second)))
     (Appends-trans old mid new first (take more.count second) whole more.gained)
 
 -- a prefix of a first text is one of both
 pub GainsPrefix-before : (old new : Option (List ℕ)) (first second : List ℕ) → GainsPrefix old new first
     → GainsPrefix old new (first ++ second)
-GainsPrefix-before old new first second part =
-    GainsPrefix-part old new (take part.count first) (drop part.count first ++ second) (first ++ second)
-    (sym (sym (append_assoc (take part.count first) (drop part.count first) second) ∙ ap (λ l. l ++ second)
-    (take-append-drop part.count first)))
-    part.gained
+GainsPrefix-before old new first second part = GainsPrefix-part old new (take part.count first) (drop part.count
+    first ++ second) (first ++ second) (sym (sym (append_assoc (take part.count first) (drop part.count first) second)
+    ∙ ap (λ l. l ++ second) (take-append-drop part.count first))) part.gained
 
 -- a count rises over all that it goes through where it rises over the end
 pub Rises-behind : (old mid new : ℕ) → old ≤ mid → mid ≤ new → Rises mid new → Rises old new
@@ -35,10 +32,14 @@ Rises-behind old mid new low up rises = λ few. by_end few (cases_lt mid (2 ^ 64
     by_end few (inr above) = omega (arith, few, above, up)
 
 -- a front of a text, and then a line
-pub broken_off : (out : Output) (mid : Option (List ℕ)) (faults : ℕ) (text line : List ℕ) → out.faults ≤ faults
-    → faults ≤ out.faults_now → GainsPrefix out.held mid text
-    → Gains (record { held = mid; held_now = out.held_now; faults = faults; faults_now = out.faults_now }) line
-    → BreaksOff out text line
+pub broken_off : (out : Output) (mid : Option (List ℕ)) (faults : ℕ) (text line : List ℕ)
+    → out.faults ≤ faults → faults ≤ out.faults_now → GainsPrefix out.held mid text → Gains (record {
+      held =
+          mid;
+      held_now = out.held_now;
+      faults = faults;
+      faults_now = out.faults_now;
+    }) line → BreaksOff out text line
 broken_off out mid faults text line low up front (inl whole) = record {
   count = front.count;
   gained = inl (Appends-trans out.held mid out.held_now (take front.count text) line front.gained whole);
@@ -55,15 +56,6 @@ broken_off out mid faults text line low up front (inr (failed, part)) = record {
 pub OnErr-always : {T E : Type 0} (result : Result T E) (P : Type 0) → P → OnErr result P
 OnErr-always (Ok x) P p = tt
 OnErr-always (Err e) P p = p
-
--- what follows of an answer
-pub OnErr-so : {T E : Type 0} (result : Result T E) (P Q : Type 0) → (P → Q) → OnErr result P → OnErr result Q
-OnErr-so (Ok x) P Q so p = tt
-OnErr-so (Err e) P Q so p = so p
-
-pub OnOk-so : {T E : Type 0} (result : Result T E) (P Q : Type 0) → (P → Q) → OnOk result P → OnOk result Q
-OnOk-so (Ok x) P Q so p = so p
-OnOk-so (Err e) P Q so p = tt
 
 pub OnOk-always : {T E : Type 0} (result : Result T E) (P : Type 0) → P → OnOk result P
 OnOk-always (Ok x) P p = p

@@ -1,5 +1,5 @@
 -- What is read of what a caller does is spelled so, and what is spelled so is read.
-use Rattle.plex_script.proofs.Imports.{arith, ◌≡◌, ℕ, Bool, true, false, not, Option, Some, None, option_map, refl, ap, ◌∙◌, ConnId, Kind, ShellCmd, CacheCmd, ListCmd, LockCmd, Ask, Shell, Content, Rigour, Declared, Spells, shell_tokens, may_give, is_operator, shell_at, cache_at, list_at, lock_at, pick, not_some, mapped, Words, FindsAll, is_tail, shell-sound, shell-complete, cache-sound, cache-complete, list-sound, list-complete, lock-sound, lock-complete, is_own, ask_at, cache_ask_at, list_ask_at, lock_ask_at, any_ask_at, AnyAsk, ask_tokens, MayAsk, is_ask_of}
+use Rattle.plex_script.proofs.Imports.{not_from_false, not-true, arith, ◌≡◌, ℕ, Bool, true, false, not, Option, Some, None, option_map, refl, ap, ◌∙◌, ConnId, Kind, ShellCmd, CacheCmd, ListCmd, LockCmd, Ask, Shell, Content, Rigour, Declared, Spells, shell_tokens, may_give, is_operator, shell_at, cache_at, list_at, lock_at, pick, not_some, mapped, Words, FindsAll, is_tail, shell-sound, shell-complete, cache-sound, cache-complete, list-sound, list-complete, lock-sound, lock-complete, is_own, ask_at, cache_ask_at, list_ask_at, lock_ask_at, any_ask_at, AnyAsk, ask_tokens, MayAsk, is_ask_of}
 use Rattle.cf_types.specs.declared.forms.Kind.TheVariants as kind
 use Rattle.plex_script.specs.declared.scripts.AnyAsk.TheVariants as any
 use Rattle.plex_script.proofs.FirstWords.{gives, shell-not_own, cache-content, list-content, lock-content}
@@ -13,10 +13,9 @@ pub record AskTold (rigour : Rigour) (declared : Declared) (by : ConnId) (ws res
 -- ---- asks, of a content that is told by its readings
 
 ask-sound : {C : Type 0} (by : ConnId) (rest : Words) (common : Option (ShellCmd × Words))
-    (content : Option (C × Words)) (ask : Ask C) (P : Ask C → Type 0)
-    → ((cmd : ShellCmd) → common ≡ Some (cmd, rest) → may_give by cmd ≡ true → P (Shell cmd))
-    → ((cmd : C) → content ≡ Some (cmd, rest) → is_operator by ≡ false → P (Content cmd))
-    → ask_at by common content ≡ Some (ask, rest) → P ask
+    (content : Option (C × Words)) (ask : Ask C) (P : Ask C → Type 0) → ((cmd : ShellCmd)
+    → common ≡ Some (cmd, rest) → may_give by cmd ≡ true → P (Shell cmd)) → ((cmd : C) → content ≡ Some (cmd, rest)
+    → is_operator by ≡ false → P (Content cmd)) → ask_at by common content ≡ Some (ask, rest) → P ask
 ask-sound {C} by rest None content ask P f g h = grind (arith, pick, not_some, Words, mapped)
 ask-sound {C} by rest (Some read) content ask P f g h = grind (arith, pick, Words, not_some)
 
@@ -30,103 +29,70 @@ common-complete {C} rigour declared by ws rest content cmd tail may h =
     let wrap : ShellCmd → Ask C = λ c. Shell c in
     rw f.read (record { found = wrap f.found; read = rw given refl; same = λ e. ap wrap (f.same e) })
 
-pub not_operator : (b : Bool) → not b ≡ true → b ≡ false
-not_operator true h = absurd (cc)
-not_operator false h = refl
-
-pub operator_not : (b : Bool) → b ≡ false → not b ≡ true
-operator_not true h = absurd (cc)
-operator_not false h = refl
-
 content-complete : {C : Type 0} (rigour : Rigour) (by : ConnId) (common : Option (ShellCmd × Words))
-    (content : Option (C × Words)) (cmd : C) (rest : Words)
-    → common ≡ None → not (is_operator by) ≡ true → FindsAll rigour content cmd rest
-    → FindsAll rigour (ask_at by common content) (Content cmd) rest
-content-complete {C} rigour by common content cmd rest none may f = grind (arith, not_operator, Words)
+    (content : Option (C × Words)) (cmd : C) (rest : Words) → common ≡ None → not (is_operator by) ≡ true
+    → FindsAll rigour content cmd rest → FindsAll rigour (ask_at by common content) (Content cmd) rest
+content-complete {C} rigour by common content cmd rest none may f = grind (arith, not-true, Words)
 
-wrapped-sound : {C : Type 0} (wrap : Ask C → AnyAsk) (reading : Option (Ask C × Words)) (ask : AnyAsk) (rest : Words)
-    (P : AnyAsk → Type 0)
-    → ((a : Ask C) → reading ≡ Some (a, rest) → P (wrap a))
-    → option_map (λ (read : Ask C × Words). (let p : AnyAsk × Words = (wrap read.0, read.1) in p)) reading ≡ Some
-    (ask, rest) → P ask
+wrapped-sound : {C : Type 0} (wrap : Ask C → AnyAsk) (reading : Option (Ask C × Words)) (ask : AnyAsk)
+    (rest : Words) (P : AnyAsk → Type 0) → ((a : Ask C) → reading ≡ Some (a, rest) → P (wrap a))
+    → option_map (λ (read : Ask C × Words). (let p : AnyAsk × Words = (wrap read.0, read.1) in p))
+    reading ≡ Some (ask, rest) → P ask
 wrapped-sound {C} wrap reading ask rest P f h = grind (arith, mapped, Words)
 
 wrapped-complete : {C : Type 0} (rigour : Rigour) (wrap : Ask C → AnyAsk) (reading : Option (Ask C × Words))
-    (ask : Ask C) (rest : Words) → FindsAll rigour reading ask rest
-    → FindsAll rigour (option_map (λ (read : Ask C × Words). (let p : AnyAsk × Words = (wrap read.0, read.1) in p))
-    reading) (wrap ask) rest
+    (ask : Ask C) (rest : Words) → FindsAll rigour reading ask rest → FindsAll rigour (option_map
+    (λ (read : Ask C × Words). (let p : AnyAsk × Words = (wrap read.0, read.1) in p)) reading) (wrap ask) rest
 wrapped-complete {C} rigour wrap reading ask rest f = grind (arith, Words)
 
 -- the ask is one of the kind, and is told
 abbrev pub AnyTold : Rigour → Declared → ConnId → Kind → Words → Words → AnyAsk → Type 0
 AnyTold rigour declared by kind ws rest ask = (is_ask_of kind ask ≡ true) × AskTold rigour declared by ws rest ask
 
-pub any_ask-sound : (rigour : Rigour) (declared : Declared) (by : ConnId) (kind : Kind) (ws rest : Words)
-    (ask : AnyAsk)
-    → any_ask_at rigour declared by kind ws ≡ Some (ask, rest) → AnyTold rigour declared by kind ws rest ask
-any_ask-sound rigour declared by kind.Cache ws rest ask h =
-    let P : AnyAsk → Type 0 = AnyTold rigour declared by kind.Cache ws rest in
-    let wrap : Ask CacheCmd → AnyAsk = λ a. any.Cache a in
-    wrapped-sound wrap (cache_ask_at rigour declared by ws) ask rest P
-    (λ a k. ask-sound by rest (shell_at rigour declared ws) (cache_at rigour declared ws) a (λ x. P (wrap x))
-    (grind (arith, shell-sound))
-    (λ cmd m other. let t = cache-sound rigour declared ws rest cmd m
-    in (grind (arith, operator_not))) k) h
-any_ask-sound rigour declared by (kind.List headers locks refs) ws rest ask h =
-    let P : AnyAsk → Type 0 = AnyTold rigour declared by (kind.List headers locks refs) ws rest in
-    let wrap : Ask ListCmd → AnyAsk = λ a. any.List a in
-    wrapped-sound wrap (list_ask_at rigour declared by ws) ask rest P
-    (λ a k. ask-sound by rest (shell_at rigour declared ws) (list_at rigour declared ws) a (λ x. P (wrap x))
-    (grind (arith, shell-sound))
-    (λ cmd m other. let t = list-sound rigour declared ws rest cmd m
-    in (grind (arith, operator_not))) k) h
-any_ask-sound rigour declared by kind.Lock ws rest ask h =
-    let P : AnyAsk → Type 0 = AnyTold rigour declared by kind.Lock ws rest in
-    let wrap : Ask LockCmd → AnyAsk = λ a. any.Lock a in
-    wrapped-sound wrap (lock_ask_at rigour declared by ws) ask rest P
-    (grind (arith, ask-sound, shell-sound, operator_not, lock-sound)) h
+module _ (rigour : Rigour) (declared : Declared) where
+  pub any_ask-sound : (by : ConnId) (kind : Kind) (ws rest : Words) (ask : AnyAsk)
+      → any_ask_at rigour declared by kind ws ≡ Some (ask, rest) → AnyTold rigour declared by kind ws rest ask
+  any_ask-sound by kind.Cache ws rest ask h =
+      let P = AnyTold rigour declared by kind.Cache ws rest in
+      let wrap : Ask CacheCmd → AnyAsk = λ a. any.Cache a in
+      wrapped-sound _ _ _ _ P (λ a k. ask-sound by rest (shell_at rigour declared ws) (cache_at rigour declared ws) a
+      (λ x. P (wrap x)) (grind (arith, shell-sound)) (λ cmd m other. let t = cache-sound rigour declared ws rest cmd m
+      in (grind (arith, not_from_false))) k) h
+  any_ask-sound by (kind.List headers locks refs) ws rest ask h =
+      let P = AnyTold rigour declared by (kind.List headers locks refs) ws rest in
+      let wrap : Ask ListCmd → AnyAsk = λ a. any.List a in
+      wrapped-sound _ _ _ _ P (λ a k. ask-sound by rest (shell_at rigour declared ws) (list_at rigour declared ws) a
+      (λ x. P (wrap x)) (grind (arith, shell-sound)) (λ cmd m other. let t = list-sound rigour declared ws rest cmd m
+      in (grind (arith, not_from_false))) k) h
+  any_ask-sound by kind.Lock ws rest ask h =
+      let P : AnyAsk → Type 0 = AnyTold rigour declared by kind.Lock ws rest in
+      let wrap : Ask LockCmd → AnyAsk = λ a. any.Lock a in
+      wrapped-sound _ _ _ _ P (grind (arith, ask-sound, shell-sound, not_from_false, lock-sound)) h
 
-pub any_ask-complete : (rigour : Rigour) (declared : Declared) (by : ConnId) (kind : Kind) (ws rest : Words)
-    (given : Option ℕ) (ask : AnyAsk) → is_tail rest ≡ true
-    → is_ask_of kind ask ≡ true → MayAsk by given ask → Spells rigour declared (ask_tokens given ask) ws rest
-    → FindsAll rigour (any_ask_at rigour declared by kind ws) ask rest
-any_ask-complete rigour declared by kind.Cache ws rest given (any.Cache (Shell cmd)) tail of may h =
-    wrapped-complete rigour any.Cache (cache_ask_at rigour declared by ws) (Shell cmd) rest
-    (common-complete rigour declared by ws rest (cache_at rigour declared ws) cmd tail may.0 h)
-any_ask-complete rigour declared by kind.Cache ws rest given (any.Cache (Content cmd)) tail of may h =
-    wrapped-complete rigour any.Cache (cache_ask_at rigour declared by ws) (Content cmd) rest
-    (grind (arith, content-complete, cache-content, cache-complete))
-any_ask-complete rigour declared by (kind.List headers locks refs) ws rest given (any.List (Shell cmd)) tail of may h
-    =
-    wrapped-complete rigour any.List (list_ask_at rigour declared by ws) (Shell cmd) rest
-    (common-complete rigour declared by ws rest (list_at rigour declared ws) cmd tail may.0 h)
-any_ask-complete rigour declared by (kind.List headers locks refs) ws rest given (any.List (Content cmd)) tail of may
-    h =
-    wrapped-complete rigour any.List (list_ask_at rigour declared by ws) (Content cmd) rest
-    (content-complete rigour by (shell_at rigour declared ws) (list_at rigour declared ws) cmd rest
-    (list-content rigour declared ws rest cmd h).0 may.0 (list-complete rigour declared ws rest cmd tail may.1 h))
-any_ask-complete rigour declared by kind.Lock ws rest given (any.Lock (Shell cmd)) tail of may h =
-    wrapped-complete rigour any.Lock (lock_ask_at rigour declared by ws) (Shell cmd) rest
-    (common-complete rigour declared by ws rest (lock_at rigour declared ws) cmd tail may.0 h)
-any_ask-complete rigour declared by kind.Lock ws rest given (any.Lock (Content cmd)) tail of may h =
-    wrapped-complete rigour any.Lock (lock_ask_at rigour declared by ws) (Content cmd) rest
-    (content-complete rigour by (shell_at rigour declared ws) (lock_at rigour declared ws) cmd rest
-    (lock-content rigour declared ws rest cmd h).0 may.0 (lock-complete rigour declared ws rest cmd tail h))
-any_ask-complete rigour declared by kind.Cache ws rest given (any.List ask) tail of may h = absurd (cc)
-any_ask-complete rigour declared by kind.Cache ws rest given (any.Lock ask) tail of may h = absurd (cc)
-any_ask-complete rigour declared by (kind.List headers locks refs) ws rest given (any.Cache ask) tail of may
-    h = absurd (cc)
-any_ask-complete rigour declared by (kind.List headers locks refs) ws rest given (any.Lock ask) tail of may h = absurd
-    (cc)
-any_ask-complete rigour declared by kind.Lock ws rest given (any.Cache ask) tail of may h = absurd (cc)
-any_ask-complete rigour declared by kind.Lock ws rest given (any.List ask) tail of may h = absurd (cc)
+  pub any_ask-complete : (by : ConnId) (kind : Kind) (ws rest : Words) (given : Option ℕ) (ask : AnyAsk)
+      → is_tail rest ≡ true → is_ask_of kind ask ≡ true → MayAsk by given ask → Spells rigour
+      declared (ask_tokens given ask) ws rest → FindsAll rigour (any_ask_at rigour declared by kind ws) ask rest
+  any_ask-complete by kind.Cache ws rest given (any.Cache (Shell cmd)) tail of may h = wrapped-complete
+      rigour any.Cache (cache_ask_at rigour declared by ws) (Shell cmd) rest (grind (arith, common-complete))
+  any_ask-complete by kind.Cache ws rest given (any.Cache (Content cmd)) tail of may h =
+      wrapped-complete _ _ _ _ _ (grind (arith, content-complete, cache-content, cache-complete))
+  any_ask-complete by (kind.List headers locks refs) ws rest given (any.List (Shell cmd)) tail of may h
+      = wrapped-complete rigour any.List (list_ask_at rigour declared by ws) (Shell cmd) rest
+      (common-complete rigour declared by ws rest (list_at rigour declared ws) cmd tail may.0 h)
+  any_ask-complete by (kind.List headers locks refs) ws rest given (any.List (Content cmd)) tail of may
+      h = wrapped-complete rigour any.List (list_ask_at rigour declared by ws) (Content cmd)
+      rest (grind (arith, content-complete, list-content, list-complete))
+  any_ask-complete by kind.Lock ws rest given (any.Lock (Shell cmd)) tail of may h = wrapped-complete
+      rigour any.Lock (lock_ask_at rigour declared by ws) (Shell cmd) rest (grind (arith, common-complete))
+  any_ask-complete by kind.Lock ws rest given (any.Lock (Content cmd)) tail of may h =
+      wrapped-complete _ _ _ _ _ (grind (arith, content-complete, lock-content, lock-complete))
+  any_ask-complete by kind ws rest given ask tail of may h = absurd (cc)
 
-pub ask-not_own : (rigour : Rigour) (declared : Declared) (ws rest : Words) (given : Option ℕ) (ask : AnyAsk)
-    → Spells rigour declared (ask_tokens given ask) ws rest → is_own ws ≡ false
-ask-not_own rigour declared ws rest given (any.Cache (Shell cmd)) h = shell-not_own rigour declared ws rest cmd h
-ask-not_own rigour declared ws rest given (any.Cache (Content cmd)) h = (cache-content rigour declared ws rest given
-    cmd h).1
-ask-not_own rigour declared ws rest given (any.List (Shell cmd)) h = shell-not_own rigour declared ws rest cmd h
-ask-not_own rigour declared ws rest given (any.List (Content cmd)) h = (list-content rigour declared ws rest cmd h).1
-ask-not_own rigour declared ws rest given (any.Lock (Shell cmd)) h = shell-not_own rigour declared ws rest cmd h
-ask-not_own rigour declared ws rest given (any.Lock (Content cmd)) h = (lock-content rigour declared ws rest cmd h).1
+  pub ask-not_own : (ws rest : Words) (given : Option ℕ) (ask : AnyAsk)
+      → Spells rigour declared (ask_tokens given ask) ws rest → is_own ws ≡ false
+  ask-not_own ws rest given (any.Cache (Shell cmd)) h = shell-not_own rigour declared ws rest cmd h
+  ask-not_own ws rest given (any.Cache (Content cmd)) h = (cache-content rigour declared ws rest given cmd h).1
+  ask-not_own ws rest given (any.List (Shell cmd)) h = shell-not_own rigour declared ws rest cmd h
+  ask-not_own ws rest given (any.List (Content cmd)) h = (list-content rigour declared ws rest cmd h).1
+  ask-not_own ws rest given (any.Lock (Shell cmd)) h = shell-not_own rigour declared ws rest cmd h
+  ask-not_own ws rest given (any.Lock (Content cmd)) h = (lock-content rigour declared ws rest cmd h).1

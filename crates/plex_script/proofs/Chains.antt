@@ -23,8 +23,7 @@ leads-append xs ys script mid after count h k = grind (arith, clear-append, adds
 
 pub leads-one : (script mid after : Script) (count : ℕ) (line : List ℕ) (lines : List (List ℕ))
     → LeadsOne script count line mid → Leads mid (count + 1) lines after → Leads script count (line ∷ lines) after
-leads-one script mid after count line lines h k =
-    record { clear_lines = (h.clear_line, k.clear_lines); adds = (mid, h.adds, k.adds) }
+leads-one script mid after count line lines h k = grind arith
 
 regroup : {X : Type 0} (front : List X) (x : X) (back all : List X) → front ++ x ∷ back ≡ all
     → (front ++ x ∷ []) ++ back ≡ all
@@ -37,27 +36,30 @@ longer front x count base e = omega (arith, e, length-append front (x ∷ []))
 -- a line for each of the things, and the script behind those that came
 pub leads-each : {X : Type 0} (state : List X → Script) (line_for : X → List ℕ) (all : List X) (base : ℕ)
     → ((front : List X) (x : X) (back : List X) (count : ℕ) → front ++ x ∷ back ≡ all → count ≡ base + length front
-    → LeadsOne (state front) count (line_for x) (state (front ++ x ∷ [])))
-    → (front back : List X) (count : ℕ) → front ++ back ≡ all → count ≡ base + length front
-    → Leads (state front) count (map line_for back) (state all)
-leads-each state line_for all base step front [] count e at =
-    record { clear_lines = tt; adds = ap state (sym e ∙ append-nil front) }
+    → LeadsOne (state front) count (line_for x) (state (front ++ x ∷ []))) → (front back : List X) (count : ℕ)
+    → front ++ back ≡ all → count ≡ base + length front → Leads (state front) count (map line_for back) (state all)
+leads-each state line_for all base step front [] count e at = grind (arith, append-nil)
 leads-each state line_for all base step front (x ∷ back) count e at =
     leads-one (state front) (state (front ++ x ∷ [])) (state all) count (line_for x) (map line_for back)
-    (step front x back count e at)
-    (leads-each state line_for all base step (front ++ x ∷ []) back (count + 1) (regroup front x back all e)
-    (longer front x count base at))
+    (step front x back count e at) (grind (
+      arith,
+      regroup,
+      longer,
+      leads-each state line_for
+          all base step (front ++ x ∷ []) back (count + 1) (regroup front x back all e) (longer front x count base at),
+    ))
 
 -- lines for each of the things
 pub leads-blocks : {X : Type 0} (state : List X → Script) (lines_for : X → List (List ℕ)) (all : List X)
     → ((front : List X) (x : X) (back : List X) (count : ℕ) → front ++ x ∷ back ≡ all
-    → Leads (state front) count (lines_for x) (state (front ++ x ∷ [])))
-    → (front back : List X) (count : ℕ) → front ++ back ≡ all
-    → Leads (state front) count (flat_map lines_for back) (state all)
-leads-blocks state lines_for all step front [] count e =
-    record { clear_lines = tt; adds = ap state (sym e ∙ append-nil front) }
+    → Leads (state front) count (lines_for x) (state (front ++ x ∷ []))) → (front back : List X) (count : ℕ)
+    → front ++ back ≡ all → Leads (state front) count (flat_map lines_for back) (state all)
+leads-blocks state lines_for all step front [] count e = grind (arith, append-nil)
 leads-blocks state lines_for all step front (x ∷ back) count e =
-    leads-append (lines_for x) (flat_map lines_for back) (state front) (state (front ++ x ∷ [])) (state all) count
-    (step front x back count e)
-    (leads-blocks state lines_for all step (front ++ x ∷ []) back (count + length (lines_for x))
-    (regroup front x back all e))
+    leads-append (lines_for x) (flat_map lines_for back) (state front) (state (front ++ x ∷ []))
+    (state all) count (step front x back count e) (grind (
+      arith,
+      regroup,
+      leads-blocks state
+          lines_for all step (front ++ x ∷ []) back (count + length (lines_for x)) (regroup front x back all e),
+    ))

@@ -1,49 +1,27 @@
 -- Each line leads on, or has a cause.
-use Rattle.plex_script.proofs.Imports.{◌≡◌, ℕ, ◌<◌, ◌+◌, ◌||◌, Bool, true, false, not, List, [], ◌∷◌, ◌++◌, length, nat_lt, Option, Some, None, IsTrue, refl, ap, arith, inl, inr, ◌⊎◌, MatchBool, MatchOption, is_some, ConnId, StrNo, Form, Limits, Names, words_of, lines_of, is_name, structure_of, Words, Declaration, Why, Late, Syntax, Limit, Unknown, Twice, Space, Act, Script, act_at, declaration_at, declared_in, kind_of, has_lines, is_full, is_twice, is_too_much, is_long, is_long_name, is_comment, is_policy_word, caller_of, EmptyCause, PolicyCause, StrangeCause, NoStructureCause, DoneCause, CallerCause, LineCause, IsFirst, strange_why, with_declaration, AddsDeclaration, AddsLine, AddsOfCaller, AddsWords, Adds, AddsAll, line_number, empty_script, IsScript, IsFault, unread_why}
+use Rattle.plex_script.proofs.Imports.{or_parts, not_from_false, ◌≡◌, ℕ, ◌<◌, ◌+◌, ◌||◌, Bool, true, false, not, List, [], ◌∷◌, ◌++◌, length, nat_lt, Option, Some, None, IsTrue, refl, ap, arith, inl, inr, ◌⊎◌, MatchBool, MatchOption, is_some, ConnId, StrNo, Form, Limits, Names, words_of, lines_of, is_name, structure_of, Words, Declaration, Why, Late, Syntax, Limit, Unknown, Twice, Space, Act, Script, act_at, declaration_at, declared_in, kind_of, has_lines, is_full, is_twice, is_too_much, is_long, is_long_name, is_comment, is_policy_word, caller_of, EmptyCause, PolicyCause, StrangeCause, NoStructureCause, DoneCause, CallerCause, LineCause, IsFirst, strange_why, with_declaration, AddsDeclaration, AddsLine, AddsOfCaller, AddsWords, Adds, AddsAll, line_number, empty_script, IsScript, IsFault, unread_why}
 use Rattle.plex_script.proofs.ActLaws.{act-sound}
 use Rattle.plex_script.proofs.PolicyLaws.{declaration-sound}
-use Rattle.plex_script.proofs.CauseLaws.{policy-late, policy-unread, policy-twice, policy-space, done-unread}
+use Rattle.plex_script.proofs.CauseLaws.{limit-alone, syntax-alone, unknown-alone, policy-late, policy-unread, policy-twice, policy-space, adds-fits, done-unread}
 
 -- this leads on, or that is the cause
 abbrev Decided : (Script → Type 0) → (Why → Type 0) → Type 0
 Decided leads cause = ((after : Script) × leads after) ⊎ ((why : Why) × IsFirst cause why)
 
 turned : (leads more : Script → Type 0) (cause other : Why → Type 0) → ((after : Script) → leads after → more after)
-    → ((w : Why) → cause w → other w)
-    → ((w : Why) → other w → cause w) → Decided leads cause → Decided more other
+    → ((w : Why) → cause w → other w) → ((w : Why) → other w → cause w) → Decided leads cause → Decided more other
 turned leads more cause other f g h (inl d) = inl (d.0, f d.0 d.1)
-turned leads more cause other f g h (inr d) =
-    inr (d.0, record { here = g d.0 d.1.here; none = λ w less k. d.1.none w less (h w k) })
-
-not_true : (b : Bool) → b ≡ false → not b ≡ true
-not_true true h = absurd (cc)
-not_true false h = refl
-
-or_false : (a b : Bool) → (a || b) ≡ false → (a ≡ false) × (b ≡ false)
-or_false true b h = absurd (cc)
-or_false false b h = (refl, h)
+turned leads more cause other f g h (inr d) = grind arith
 
 -- ---- empty lines and strange words
-
-limit-alone : (cause : Why → Type 0) → cause Limit → (cause Late → ⊥) → (cause Syntax → ⊥) → IsFirst cause Limit
-limit-alone cause here late syntax = grind arith
-
-syntax-alone : (cause : Why → Type 0) → cause Syntax → (cause Late → ⊥) → IsFirst cause Syntax
-syntax-alone cause here late = grind arith
-
-unknown-alone : (cause : Why → Type 0) → cause Unknown → (cause Late → ⊥) → (cause Syntax → ⊥) → (cause Limit → ⊥)
-    → IsFirst cause Unknown
-unknown-alone cause here late syntax limit = grind arith
 
 -- the first of two tests that holds, and else Unknown
 tested : (cause : Why → Type 0) (s l : Bool) → (s ≡ true → cause Syntax) → (cause Syntax → s ≡ true)
     → (l ≡ true → cause Limit) → (cause Limit → l ≡ true)
     → cause Unknown → (cause Late → ⊥) → IsFirst cause (strange_why s l)
 tested cause true l s_to s_from l_to l_from unknown late = syntax-alone cause (s_to refl) late
-tested cause false true s_to s_from l_to l_from unknown late = limit-alone cause (l_to refl) late
-    (λ h. let wrong = s_from h in cc)
-tested cause false false s_to s_from l_to l_from unknown late =
-    unknown-alone cause unknown late (λ h. let wrong = s_from h in cc) (λ h. let wrong = l_from h in cc)
+tested cause false true s_to s_from l_to l_from unknown late = grind (arith, limit-alone)
+tested cause false false s_to s_from l_to l_from unknown late = grind (arith, unknown-alone)
 
 -- ---- policy lines
 
@@ -56,52 +34,28 @@ policy-decided script long first ws = grind (arith, by_tests)
         → is_twice script d ≡ t → is_too_much script d ≡ m → Decided (λ after. IsTrue (not long)
         × AddsDeclaration script first ws after) (PolicyCause script long first ws)
     by_checks d true m early fits o_is t_is m_is =
-        inr (
-          Twice,
-          policy-twice script long first ws d early fits (declaration-sound Names (declared_in script) ws d
-              o_is) t_is,
-        )
+        let declares = declaration-sound Names (declared_in script) ws d o_is in
+        inr (Twice, policy-twice script long first ws d early fits declares t_is)
     by_checks d false true early fits o_is t_is m_is =
-        inr (
-          Space,
-          policy-space script long first ws d early fits (declaration-sound Names (declared_in script) ws d
-              o_is) t_is m_is,
-        )
+        let declares = declaration-sound Names (declared_in script) ws d o_is in
+        inr (Space, policy-space script long first ws d early fits declares t_is m_is)
     by_checks d false false early fits o_is t_is m_is =
-        let parts = or_false long (is_full script first) fits in
+        let parts = or_parts long (is_full script first) fits in
         inl (
           with_declaration script d,
-          (
-            not_true long parts.0,
-            record {
-              early = not_true (has_lines script) early;
-              declaration = d;
-              declares = declaration-sound Names (declared_in script) ws d o_is;
-              not_full = not_true (is_full script first) parts.1;
-              once = not_true (is_twice script d) t_is;
-              within = not_true (is_too_much script d) m_is;
-              same = refl;
-            },
-          ),
+          adds-fits script (with_declaration script d) long first ws d early (record {
+            short = not_from_false long parts.0;
+            full = parts.1;
+            declares = declaration-sound Names (declared_in script) ws d o_is;
+          }) t_is m_is refl,
         )
 
-    by_tests : (h e : Bool) (o : Option Declaration) → has_lines script ≡ h → (long || is_full script first) ≡ e
-        → declaration_at Names (declared_in script) ws ≡ o
-        → Decided (λ after. IsTrue (not long) × AddsDeclaration script first ws after)
-        (PolicyCause script long first ws)
+    by_tests : (h e : Bool) (o : Option Declaration) → has_lines script ≡ h
+        → (long || is_full script first) ≡ e → declaration_at Names (declared_in script) ws ≡ o → Decided
+        (λ after. IsTrue (not long) × AddsDeclaration script first ws after) (PolicyCause script long first ws)
     by_tests true e o h_is e_is o_is = inr (Late, policy-late script long first ws h_is)
-    by_tests false true o h_is e_is o_is =
-        inr (
-          unread_why (is_some (declaration_at Form (declared_in script) ws)) (long || is_full script first)
-              (is_some (declaration_at Limits (declared_in script) ws)),
-          policy-unread script long first ws h_is (λ x. absurd (cc)),
-        )
-    by_tests false false None h_is e_is o_is =
-        inr (
-          unread_why (is_some (declaration_at Form (declared_in script) ws)) (long || is_full script first)
-              (is_some (declaration_at Limits (declared_in script) ws)),
-          policy-unread script long first ws h_is (λ x. o_is),
-        )
+    by_tests false true o h_is e_is o_is = inr (_, policy-unread script long first ws h_is (λ x. absurd (cc)))
+    by_tests false false None h_is e_is o_is = inr (_, policy-unread script long first ws h_is (λ x. o_is))
     by_tests false false (Some d) h_is e_is o_is = by_checks d (is_twice script d) (is_too_much script d) h_is e_is
         o_is refl refl
 
@@ -113,57 +67,39 @@ done-decided : (script : Script) (at : ℕ) (long : Bool) (by : ConnId) (on : St
 done-decided script at long by on ws = by_tests long (act_at Names (declared_in script) by
     (kind_of script.structures on) ws) refl refl
   where
-    by_tests : (l : Bool) (o : Option (Act × ℕ)) → long ≡ l → act_at Names (declared_in script) by
-        (kind_of script.structures on) ws ≡ o
-        → Decided (λ after. IsTrue (not long) × AddsLine script at by on ws after)
-        (DoneCause (declared_in script) long by (kind_of script.structures on) ws)
-    by_tests true o l_is o_is =
-        inr (
-          unread_why (is_some (act_at Form (declared_in script) by (kind_of script.structures on) ws)) long
-              (is_some (act_at Limits (declared_in script) by (kind_of script.structures on) ws)),
-          done-unread (declared_in script) long by (kind_of script.structures on) ws (λ x. absurd (cc)),
-        )
-    by_tests false None l_is o_is =
-        inr (
-          unread_why (is_some (act_at Form (declared_in script) by (kind_of script.structures on) ws)) long
-              (is_some (act_at Limits (declared_in script) by (kind_of script.structures on) ws)),
-          done-unread (declared_in script) long by (kind_of script.structures on) ws (λ x. o_is),
-        )
-    by_tests false (Some told) l_is o_is =
-        inl (
-          record script {
-            lines = script.lines ++ (record { at = at; by = by; on = on; act = told.0; retry = told.1 })
-                ∷ [];
-          },
-          (grind (arith, not_true, act-sound)),
-        )
+    by_tests : (l : Bool) (o : Option (Act × ℕ)) → long ≡ l → act_at Names (declared_in script)
+        by (kind_of script.structures on) ws ≡ o → Decided (λ after. IsTrue (not long) × AddsLine
+        script at by on ws after) (DoneCause (declared_in script) long by (kind_of script.structures on) ws)
+    by_tests true o l_is o_is = inr (_, done-unread _ _ _ _ _ (λ x. absurd (cc)))
+    by_tests false None l_is o_is = inr (_, done-unread _ _ _ _ _ (λ x. o_is))
+    by_tests false (Some told) l_is o_is = inl (
+      record script {
+        lines = script.lines ++ (record { at = at; by = by; on = on; act = told.0; retry = told.1 }) ∷ [];
+      },
+      (grind (arith, not_from_false, act-sound)),
+    )
 
 caller-decided : (script : Script) (at : ℕ) (long : Bool) (by : ConnId) (ws : Words)
     → Decided (λ after. IsTrue (not long) × AddsOfCaller script at by ws after) (CallerCause script long by ws)
 caller-decided script at long by [] = inr (Syntax, syntax-alone (CallerCause script long by []) tt (λ h. h))
 caller-decided script at long by (second ∷ ws) = by_structure (structure_of script.structures second) refl
   where
-    by_structure : (o : Option StrNo) → structure_of script.structures second ≡ o
-        → Decided (λ after. IsTrue (not long) × AddsOfCaller script at by (second ∷ ws) after)
-        (CallerCause script long by (second ∷ ws))
+    by_structure : (o : Option StrNo) → structure_of script.structures second ≡ o → Decided (λ after. IsTrue
+        (not long) × AddsOfCaller script at by (second ∷ ws) after) (CallerCause script long by (second ∷ ws))
     by_structure None e =
         let s = not (is_name second) in
         let l = long || is_long_name second in
-        let first = tested (NoStructureCause long second) s l (λ h. h) (λ h. h) (λ h. h) (λ h. h) tt (λ h. h) in
+        let first = tested _ s l (λ h. h) (λ h. h) (λ h. h) (λ h. h) tt (λ h. h) in
         inr (
           strange_why s l,
           record {
             here = rw e first.here;
-            none = λ other less k. first.none other less
-                (rw e at k);
+            none = λ other less k. first.none other less (rw e at k);
           },
         )
-    by_structure (Some on) e =
-        turned (λ after. IsTrue (not long) × AddsLine script at by on ws after) (λ after. IsTrue (not long)
-        × AddsOfCaller script at by (second ∷ ws) after)
-        (DoneCause (declared_in script) long by (kind_of script.structures on) ws)
-        (CallerCause script long by (second ∷ ws))
-        (λ after h. (h.0, rw e h.1)) (λ w h. rw e h) (λ w h. rw e at h) (done-decided script at long by on ws)
+    by_structure (Some on) e = turned (λ after. IsTrue (not long) × AddsLine script at by on ws after)
+        (λ after. IsTrue (not long) × AddsOfCaller script at by (second ∷ ws) after) _ _
+        (λ after h. (h.0, rw e h.1)) (λ w h. rw e h) (λ w h. rw e at h) (done-decided _ at long by on ws)
 
 -- ---- lines
 
@@ -173,10 +109,8 @@ empty-decided script true = inr (Limit, limit-alone (EmptyCause true) refl (λ h
 empty-decided script false = inl (script, (refl, refl))
 
 words-decided : (script : Script) (at : ℕ) (long : Bool) (first : List ℕ) (ws : Words) (c p : Bool)
-    (o : Option ConnId)
-    → Decided (λ after. IsTrue (not long) × MatchBool c (after ≡ script)
-    (MatchBool p (AddsDeclaration script first (first ∷ ws) after)
-    (MatchOption o ⊥ (λ by. AddsOfCaller script at by ws after))))
+    (o : Option ConnId) → Decided (λ after. IsTrue (not long) × MatchBool c (after ≡ script) (MatchBool
+    p (AddsDeclaration script first (first ∷ ws) after) (MatchOption o ⊥ (λ by. AddsOfCaller script at by ws after))))
     (λ why. MatchBool c (EmptyCause long why) (MatchBool p (PolicyCause script long first (first ∷ ws) why)
     (MatchOption o (StrangeCause script long first ws why) (λ by. CallerCause script long by ws why))))
 words-decided script at long first ws true p o = empty-decided script long
@@ -186,8 +120,7 @@ words-decided script at long first ws false false None =
     let l = long || is_long_name first in
     inr (
       strange_why s l,
-      tested (StrangeCause script long first ws) s l (λ h. h) (λ h. h) (λ h. h) (λ h. h) tt
-          (λ h. h),
+      tested (StrangeCause script long first ws) s l (λ h. h) (λ h. h) (λ h. h) (λ h. h) tt (λ h. h),
     )
 words-decided script at long first ws false false (Some by) = caller-decided script at long by ws
 
@@ -197,20 +130,15 @@ line-decided script at line = by_words (words_of line) refl
   where
     by_words : (ws : Words) → words_of line ≡ ws → Decided (λ after. Adds script at line after)
         (LineCause script line)
-    by_words [] e =
-        turned (λ after. IsTrue (not (is_long line)) × (after ≡ script)) (λ after. Adds script at line after)
-        (EmptyCause (is_long line)) (LineCause script line)
-        (λ after h. (h.0, rw e h.1)) (λ w h. rw e h) (λ w h. rw e at h) (empty-decided script (is_long line))
-    by_words (first ∷ ws) e =
-        turned (λ after. IsTrue (not (is_long line)) × AddsWords script at (first ∷ ws) after)
+    by_words [] e = turned (λ after. IsTrue (not (is_long line)) × (after ≡ script)) (λ after. Adds script
+        at line after) _ _ (λ after h. (h.0, rw e h.1)) (λ w h. rw e h) (λ w h. rw e at h) (empty-decided _ _)
+    by_words (first ∷ ws) e = turned (λ after. IsTrue (not (is_long line)) × AddsWords script at (first ∷ ws) after)
         (λ after. Adds script at line after)
         (λ why. MatchBool (is_comment first) (EmptyCause (is_long line) why) (MatchBool (is_policy_word first)
-        (PolicyCause script (is_long line) first (first ∷ ws) why)
-        (MatchOption (caller_of script.connectors first) (StrangeCause script (is_long line) first ws why)
-        (λ by. CallerCause script (is_long line) by ws why)))) (LineCause script line)
-        (λ after h. (h.0, rw e h.1)) (λ w h. rw e h) (λ w h. rw e at h)
-        (words-decided script at (is_long line) first ws (is_comment first) (is_policy_word first)
-        (caller_of script.connectors first))
+        (PolicyCause script (is_long line) first (first ∷ ws) why) (MatchOption (caller_of script.connectors first)
+        (StrangeCause script (is_long line) first ws why) (λ by. CallerCause script (is_long line) by ws why))))
+        _ (λ after h. (h.0, rw e h.1)) (λ w h. rw e h) (λ w h. rw e at h) (words-decided _
+        at (is_long line) first ws (is_comment first) (is_policy_word first) (caller_of script.connectors first))
 
 -- ---- texts
 
@@ -228,40 +156,37 @@ pub record Stops (script : Script) (count : ℕ) (lines : List (List ℕ)) : Typ
 pub all-decided : (lines : List (List ℕ)) (script : Script) (count : ℕ)
     → ((after : Script) × AddsAll script count lines after) ⊎ Stops script count lines
 all-decided [] script count = inl (script, refl)
-all-decided (line ∷ lines) script count = at_line (line-decided script (line_number (count + 1)) line)
-    (λ next. all-decided lines next (count + 1))
+all-decided (line ∷ lines) script count = at_line (line-decided _ _ _) (λ next. all-decided lines next (count + 1))
   where
     at_more : (next : Script) → Adds script (line_number (count + 1)) line next
         → ((after : Script) × AddsAll next (count + 1) lines after) ⊎ Stops next (count + 1) lines
         → ((after : Script) × AddsAll script count (line ∷ lines) after) ⊎ Stops script count (line ∷ lines)
     at_more next adds (inl d) = inl (d.0, (next, adds, d.1))
-    at_more next adds (inr s) =
-        inr (record {
-          front = line ∷ s.front;
-          line = s.line;
-          behind = s.behind;
-          whole = ap (λ (ls : List (List ℕ)). line ∷ ls) s.whole;
-          before = s.before;
-          fine = (next, adds, s.fine);
-          why = s.why;
-          cause = s.cause;
-        })
+    at_more next adds (inr s) = inr (record {
+      front = line ∷ s.front;
+      line = s.line;
+      behind = s.behind;
+      whole = ap (λ ls. line ∷ ls) s.whole;
+      before = s.before;
+      fine = (next, adds, s.fine);
+      why = s.why;
+      cause = s.cause;
+    })
 
     at_line : Decided (λ after. Adds script (line_number (count + 1)) line after) (LineCause script line)
         → ((next : Script) → ((after : Script) × AddsAll next (count + 1) lines after) ⊎ Stops next (count + 1) lines)
         → ((after : Script) × AddsAll script count (line ∷ lines) after) ⊎ Stops script count (line ∷ lines)
     at_line (inl d) more = at_more d.0 d.1 (more d.0)
-    at_line (inr d) more =
-        inr (record {
-          front = [];
-          line = line;
-          behind = lines;
-          whole = refl;
-          before = script;
-          fine = refl;
-          why = d.0;
-          cause = d.1;
-        })
+    at_line (inr d) more = inr (record {
+      front = [];
+      line = line;
+      behind = lines;
+      whole = refl;
+      before = script;
+      fine = refl;
+      why = d.0;
+      cause = d.1;
+    })
 
 pub text-decided : (text : List ℕ) → ((script : Script) × IsScript text script) ⊎ ((number : ℕ) × (why : Why)
     × IsFault text number why)
@@ -270,18 +195,17 @@ text-decided text = told (all-decided (lines_of text) empty_script 0)
     told : ((after : Script) × AddsAll empty_script 0 (lines_of text) after) ⊎ Stops empty_script 0 (lines_of text)
         → ((script : Script) × IsScript text script) ⊎ ((number : ℕ) × (why : Why) × IsFault text number why)
     told (inl d) = inl d
-    told (inr s) =
-        inr (
-          line_number (length s.front + 1),
-          s.why,
-          record {
-            front = s.front;
-            line = s.line;
-            behind = s.behind;
-            whole = s.whole;
-            before = s.before;
-            fine = s.fine;
-            cause = s.cause;
-            here = refl;
-          },
-        )
+    told (inr s) = inr (
+      line_number (length s.front + 1),
+      s.why,
+      record {
+        front = s.front;
+        line = s.line;
+        behind = s.behind;
+        whole = s.whole;
+        before = s.before;
+        fine = s.fine;
+        cause = s.cause;
+        here = refl;
+      },
+    )

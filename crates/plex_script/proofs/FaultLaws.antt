@@ -5,25 +5,16 @@ use Rattle.plex_script.proofs.LineLaws.{adds-one, line-clean}
 
 -- the cause that has a rank
 abbrev why_at : ℕ → Why
-why_at n =
-    if n == 0 then Late else if n == 1 then Syntax else if n == 2 then Limit else if n == 3 then Unknown
-    else if n == 4 then Twice
-    else Space
+why_at n = if n == 0 then Late else if n == 1 then Syntax else
+    if n == 2 then Limit else if n == 3 then Unknown else if n == 4 then Twice else Space
 
 why_at-rank : (why : Why) → why_at (rank why) ≡ why
 why_at-rank Late = refl
-why_at-rank Syntax = refl
-why_at-rank Limit = refl
-why_at-rank Unknown = refl
-why_at-rank Twice = refl
-why_at-rank Space = refl
-
-rank-one : (one other : Why) → rank one ≡ rank other → one ≡ other
-rank-one one other same = sym (why_at-rank one) ∙ ap why_at same ∙ why_at-rank other
+why_at-rank why = refl
 
 -- of some causes one is the first
 first-one : (holds : Why → Type 0) (one other : Why) → IsFirst holds one → IsFirst holds other → one ≡ other
-first-one holds one other f g = grind (arith, nat_tests, rank-one)
+first-one holds one other f g = grind (arith, nat_tests, why_at-rank)
 
 -- ---- the first line that is wrong
 
@@ -46,10 +37,9 @@ clean_line script next before at line other why same is adds cause =
 
 -- after fronts of one text the lines that are wrong, with their causes, are the same
 one-wrong : (front other : List (List ℕ)) (script : Script) (count : ℕ) (line line' : List ℕ)
-    (behind behind' : List (List ℕ)) (before before' : Script) (why why' : Why)
-    → front ++ line ∷ behind ≡ other ++ line' ∷ behind'
-    → AddsAll script count front before → AddsAll script count other before' → IsCause before line why
-    → IsCause before' line' why' → (length front ≡ length other) × (why ≡ why')
+    (behind behind' : List (List ℕ)) (before before' : Script) (why why' : Why) → front ++
+    line ∷ behind ≡ other ++ line' ∷ behind' → AddsAll script count front before → AddsAll script count other before'
+    → IsCause before line why → IsCause before' line' why' → (length front ≡ length other) × (why ≡ why')
 one-wrong [] [] script count line line' behind behind' before before' why why' whole f g cause cause' =
     let here : IsCause script line why = subst (λ (s : Script). IsCause s line why) f cause in
     let there : IsCause script line why' = grind (arith, same_line) in
@@ -74,6 +64,5 @@ one-wrong (l ∷ front) (m ∷ other) script count line line' behind behind' bef
 pub one-fault : (text : List ℕ) (number other : ℕ) (why why' : Why) → IsFault text number why
     → IsFault text other why' → (number ≡ other) × (why ≡ why')
 one-fault text number other why why' f g =
-    let one = one-wrong f.front g.front empty_script 0 f.line g.line f.behind g.behind f.before g.before why why'
-    (sym f.whole ∙ g.whole) f.fine g.fine f.cause g.cause in
+    let one = one-wrong _ _ _ 0 _ _ _ _ _ _ _ _ (sym f.whole ∙ g.whole) f.fine g.fine f.cause g.cause in
     (f.here ∙ ap (λ n. line_number (n + 1)) one.0 ∙ sym g.here, one.1)

@@ -1,32 +1,22 @@
 -- What a declaration adds to a script keeps it well formed.
-use Rattle.plex_script.proofs.Imports.{◌≡◌, ◌≢◌, ℕ, ◌+◌, ◌≤◌, ◌<◌, ◌==◌, ◌||◌, Bool, true, false, not, List, [], ◌∷◌, ◌++◌, Option, Some, None, length, codes, refl, ◌∙◌, arith, slice_get, slice_set, get_or, All, AllPairs, option_map_or, nat_tests, length-set, length_push, All-nil, All-push, All-set, list_any_at, all_pairs_push, get_or_from_slice_get, slice_get_within, CONNECTORS, StrNo, Kind, Pref as Set, StrForm, IsPref, IsKind, IsVectorOf, IsForm, Names, Declared, is_declared, Words, Declaration, Facility, Structure, Connector, Line, Script, form_tokens, declaration_tokens, IsVectorTold, Declares, declared_in, has_lines, is_full, is_twice, has_pref, with_pref, with_declaration, AddsDeclaration, IsLineOf, IsWellFormed, AreWithin, words-within}
+use Rattle.plex_script.proofs.Imports.{or_parts, not-true, ◌≡◌, ◌≢◌, ℕ, ◌+◌, ◌≤◌, ◌<◌, ◌==◌, ◌||◌, Bool, true, false, not, List, [], ◌∷◌, ◌++◌, Option, Some, None, length, codes, refl, ◌∙◌, arith, slice_get, slice_set, get_or, All, AllPairs, option_map_or, nat_tests, length-set, length_push, All-nil, All-push, All-set, list_any_at, all_pairs_push, get_or_from_slice_get, slice_get_within, CONNECTORS, StrNo, Kind, Pref as Set, StrForm, IsPref, IsKind, IsVectorOf, IsForm, Names, Declared, is_declared, Words, Declaration, Facility, Structure, Connector, Line, Script, form_tokens, declaration_tokens, IsVectorTold, Declares, declared_in, has_lines, is_full, is_twice, has_pref, with_pref, with_declaration, AddsDeclaration, IsLineOf, IsWellFormed, AreWithin, words-within}
 use Rattle.cf_types.specs.declared.forms.Kind.TheVariants as kind
 use Rattle.plex_script.specs.declared.declarations.Declaration.TheVariants.{Pref}
 
-pub not-true : (b : Bool) → not b ≡ true → b ≡ false
-not-true true h = absurd (cc)
-not-true false h = refl
-
 -- ---- the form of a structure that a line declares
-
-no_pref : (prefs : List Set) → prefs ≡ []
-    → All IsPref prefs × AllPairs (λ (pref : Set) other. pref.cf.0 ≢ other.cf.0) prefs
-no_pref prefs h = rw h (All-nil IsPref, λ i j d low high. absurd (omega (arith, high)))
 
 abbrev Within : ℕ → ℕ → Type 0
 Within high n = (1 ≤ n) × (n ≤ high)
 
 formed : (form : StrForm) → IsKind form.kind → Within 4096 form.caps.entries → Within 4096 form.caps.elements
     → Within CONNECTORS form.conns → IsVectorOf form.kind form.vector → form.prefs ≡ [] → IsForm form
-formed form kind_ entries elements conns vector none = grind (arith, no_pref)
+formed form kind_ entries elements conns vector none = grind (arith, All-nil)
 
 pub told-form : (declared : Declared) (k : Kind) (form : StrForm) → form.kind ≡ k → form.prefs ≡ []
     → IsVectorTold k form.vector → AreWithin declared (form_tokens k form) → IsForm form
-told-form declared kind.Cache form is none told h =
-    formed form (rw is tt) h.1.0 h.1.1.0 h.1.1.1.0 (rw is h.1.1.1.1.0) none
+told-form declared kind.Cache form is none told h = grind (arith, formed)
 told-form declared (kind.List headers locks refs) form is none told h = grind (arith, formed)
-told-form declared kind.Lock form is none told h =
-    formed form (rw is tt) h.1.0 h.1.1.0 h.1.1.1.0 (rw is told) none
+told-form declared kind.Lock form is none told h = formed form (rw is tt) h.1.0 h.1.1.0 h.1.1.1.0 (rw is told) none
 
 -- ---- units that are set aside
 
@@ -35,23 +25,21 @@ pub known-form : (structures : List StrForm) (place : ℕ) (form : StrForm) → 
 known-form structures place form known forms = grind (arith, slice_get_within, get_or_from_slice_get)
 
 pub apart-new : (prefs : List Set) (pref : Set) → is_declared prefs pref.cf ≡ false → (k : ℕ) (d : Set)
-    → k < length prefs
-    → (get_or prefs k d).cf.0 ≢ pref.cf.0
+    → k < length prefs → (get_or prefs k d).cf.0 ≢ pref.cf.0
 apart-new prefs pref new k d low same = grind (arith, nat_tests, list_any_at)
 
 pub form-with : (form : StrForm) (pref : Set) → IsForm form → IsPref pref → is_declared form.prefs pref.cf ≡ false
     → IsForm (record form { prefs = form.prefs ++ pref ∷ [] })
-form-with form pref h p new =
-    record {
-      kind = h.kind;
-      caps = h.caps;
-      some_conns = h.some_conns;
-      most_conns = h.most_conns;
-      vector = h.vector;
-      prefs = All-push IsPref form.prefs pref h.prefs p;
-      apart = all_pairs_push (λ (one : Set) other. one.cf.0 ≢ other.cf.0) form.prefs pref h.apart
-          (λ k d low. apart-new form.prefs pref new k d low);
-    }
+form-with form pref h p new = record {
+  kind = h.kind;
+  caps = h.caps;
+  some_conns = h.some_conns;
+  most_conns = h.most_conns;
+  vector = h.vector;
+  prefs = All-push IsPref form.prefs pref h.prefs p;
+  apart = all_pairs_push (λ (one : Set) other. one.cf.0 ≢ other.cf.0) form.prefs pref h.apart
+      (λ k d low. apart-new form.prefs pref new k d low);
+}
 
 pref-keeps : (structures : List StrForm) (on : StrNo) (pref : Set) → IsPref pref
     → has_pref structures on pref.cf ≡ false → All IsForm structures
@@ -76,22 +64,17 @@ pub no_lines : (P : Line → Type 0) (script after : Script) → has_lines scrip
     → All P after.lines
 no_lines P script after early same = grind (arith, nat_tests)
 
-or-false : (a b : Bool) → (a || b) ≡ false → (a ≡ false) × (b ≡ false)
-or-false true b h = absurd (cc)
-or-false false b h = (refl, h)
-
 pub room_structures : (script : Script) (first : List ℕ) → first ≡ codes "STRUCTURE" → is_full script first ≡ false
     → length script.structures + 1 ≤ 16
-room_structures script first is h = grind (arith, or-false, nat_tests)
+room_structures script first is h = grind (arith, or_parts, nat_tests)
 
 pub room_connectors : (script : Script) (first : List ℕ) → first ≡ codes "CONNECTOR" → is_full script first ≡ false
     → length script.connectors + 1 ≤ CONNECTORS
 room_connectors script first is h = grind (arith, nat_tests)
 
 declared-keeps : (script : Script) (first : List ℕ) (ws : Words) (declaration : Declaration) → IsWellFormed script
-    → has_lines script ≡ false → Declares Names (declared_in script) (first ∷ ws) declaration
-    → is_full script first ≡ false → is_twice script declaration ≡ false
-    → IsWellFormed (with_declaration script declaration)
+    → has_lines script ≡ false → Declares Names (declared_in script) (first ∷ ws) declaration → is_full
+    script first ≡ false → is_twice script declaration ≡ false → IsWellFormed (with_declaration script declaration)
 declared-keeps script first ws (Facility pref) h early told room new = grind (arith, no_lines)
 declared-keeps script first ws (Structure form) h early told room new =
     let bounds = words-within (declared_in script) (declaration_tokens (Structure form)) (first ∷ ws) [] told.spelled
@@ -101,8 +84,7 @@ declared-keeps script first ws (Structure form) h early told room new =
       structures = rw (length_push script.structures form) (room_structures script first told.spelled.0 room);
       connectors = h.connectors;
       forms = All-push IsForm script.structures form h.forms is;
-      lines = no_lines (IsLineOf (with_declaration script (Structure form))) script
-          (with_declaration script (Structure form)) early refl;
+      lines = grind (arith, no_lines);
     }
 declared-keeps script first ws (Pref on pref) h early told room new =
     grind (arith, words-within, pref-keeps, no_lines)

@@ -18,39 +18,29 @@ one_of count conn few h = (h.0, omega (arith, few, h.1))
 
 -- ---- what is asked
 
-command-may : (declared : Declared) (by : ConnId) (command : ShellCmd) → length declared.connectors ≤ CONNECTORS → by.0 ≤ CONNECTORS
-    → may_give by command ≡ true
-    → AreWithin declared (shell_tokens command) → MayCommand by command
-command-may declared by (cmd.Connect keep) few low may h = no_operator by low may
-command-may declared by cmd.Disconnect few low may h = no_operator by low may
-command-may declared by cmd.Fail few low may h = no_operator by low may
+command-may : (declared : Declared) (by : ConnId) (command : ShellCmd) → length declared.connectors ≤ CONNECTORS →
+    by.0 ≤ CONNECTORS → may_give by command ≡ true → AreWithin declared (shell_tokens command) → MayCommand by command
 command-may declared by cmd.Next few low may h = low
 command-may declared by cmd.Respond few low may h = low
 command-may declared by (cmd.RebuildStart caps) few low may h = grind arith
 command-may declared by cmd.RebuildStop few low may h = low
-command-may declared by cmd.RebuildConnect few low may h = no_operator by low may
 command-may declared by (cmd.Copy n) few low may h = (no_operator by low may, h.1.0.0, h.1.0.1)
-command-may declared by cmd.RebuildComplete few low may h = no_operator by low may
-command-may declared by (cmd.ForceConn conn) few low may h =
-    (operator by may, one_of (length declared.connectors) conn few h.1.0)
+command-may declared by (cmd.ForceConn conn) few low may h = grind (arith, operator, one_of)
 command-may declared by cmd.ForceStr few low may h = operator by may
-command-may declared by (cmd.LoseConn conn cf) few low may h =
-    (operator by may, one_of (length declared.connectors) conn few h.1.0, h.1.1.0.0)
-command-may declared by (cmd.RestoreConn conn cf) few low may h =
-    (operator by may, one_of (length declared.connectors) conn few h.1.0, h.1.1.0.0)
+command-may declared by (cmd.LoseConn conn cf) few low may h = grind (arith, operator, one_of)
+command-may declared by (cmd.RestoreConn conn cf) few low may h = grind (arith, operator, one_of)
 command-may declared by (cmd.Vary cf off) few low may h = (operator by may, h.1.0.0)
 command-may declared by cmd.DuplexStart few low may h = operator by may
 command-may declared by cmd.DuplexStop few low may h = operator by may
+command-may declared by command few low may h = no_operator by low may
 
-ask-may : (declared : Declared) (by : ConnId) (given : Option ℕ) (asked : AnyAsk) → length declared.connectors ≤ CONNECTORS
-    → by.0 ≤ CONNECTORS → MayAsk by given asked
-    → AreWithin declared (ask_tokens given asked) → MayAskAny by asked
+ask-may : (declared : Declared) (by : ConnId) (given : Option ℕ) (asked : AnyAsk)
+    → length declared.connectors ≤ CONNECTORS → by.0 ≤ CONNECTORS
+    → MayAsk by given asked → AreWithin declared (ask_tokens given asked) → MayAskAny by asked
 ask-may declared by given (any.Cache (Shell command)) few low may h = command-may declared by command few low may.0 h
-ask-may declared by given (any.Cache (Content command)) few low may h = no_operator by low may.0
 ask-may declared by given (any.List (Shell command)) few low may h = command-may declared by command few low may.0 h
-ask-may declared by given (any.List (Content command)) few low may h = no_operator by low may.0
 ask-may declared by given (any.Lock (Shell command)) few low may h = command-may declared by command few low may.0 h
-ask-may declared by given (any.Lock (Content command)) few low may h = no_operator by low may.0
+ask-may declared by given asked few low may h = no_operator by low may.0
 
 act-may : (declared : Declared) (by : ConnId) (k : Kind) (given : Option ℕ) (act : Act) (retry : ℕ)
     → length declared.connectors ≤ CONNECTORS → by.0 ≤ CONNECTORS
@@ -58,12 +48,7 @@ act-may : (declared : Declared) (by : ConnId) (k : Kind) (given : Option ℕ) (a
 act-may declared by k given (Call asked) retry few low may h = grind (arith, ask-may)
 act-may declared by k given (Test index) retry few low may h = no_operator by low may.1
 act-may declared by k given (TestWord word) retry few low may h = no_operator by low may.1
-act-may declared by k given Post retry few low may h = no_operator by low may.0
-act-may declared by k given Take retry few low may h = no_operator by low may.0
-act-may declared by k given Events retry few low may h = no_operator by low may.0
-
-retry-few : (declared : Declared) (retry : ℕ) → AreWithin declared (retry_tokens retry) → retry ≤ 1000
-retry-few declared retry h = grind (arith, nat_tests)
+act-may declared by k given act retry few low may h = no_operator by low may.0
 
 -- ---- a line
 
@@ -81,23 +66,19 @@ line-keeps : (script : Script) (at : ℕ) (by : ConnId) (on : StrNo) (ws : Words
     → Known script.structures on → AddsLine script at by on ws after → IsWellFormed after
 line-keeps script at by on ws after h caller known adds =
     let line : Line = record { at = at; by = by; on = on; act = adds.act; retry = adds.retry } in
-    let next : Script = record script { lines = script.lines ++ line ∷ [] } in
+    let next = record script { lines = script.lines ++ line ∷ [] } in
     let acts = act_tokens adds.says.given adds.act in
     let retries = retry_tokens adds.retry in
-    let bounds = words-within (declared_in script) (acts ++ retries) ws [] adds.says.spelled in
-    let front = within-front (declared_in script) acts retries bounds in
+    let bounds = words-within _ _ _ _ adds.says.spelled in
+    let front = within-front _ _ _ bounds in
     let back = within-back (declared_in script) acts retries bounds in
     let low : by.0 ≤ CONNECTORS = omega (arith, caller, h.connectors) in
     let k = kind_of script.structures on in
-    let does : IsActOf k by adds.act =
-    act-may (declared_in script) by k adds.says.given adds.act adds.retry h.connectors low adds.says.allowed front in
-    let is : IsLineOf next line = grind (arith, kind-known, retry-few) in
-    let stays : (other : Line) → IsLineOf script other → IsLineOf next other =
-    λ other m. line-same script next other refl refl m in
-    let others : All (IsLineOf next) script.lines =
-    All-weaker (IsLineOf script) (IsLineOf next) stays script.lines h.lines in
-    let kept : IsWellFormed next =
-    record {
+    let does = act-may _ _ k _ _ _ h.connectors low adds.says.allowed front in
+    let is : IsLineOf next line = grind (arith, kind-known, nat_tests) in
+    let stays : (other : Line) → IsLineOf script other → IsLineOf next other = grind (arith, line-same) in
+    let others : All (IsLineOf next) script.lines = grind (arith, All-weaker) in
+    let kept : IsWellFormed next = record {
       structures = h.structures;
       connectors = h.connectors;
       forms = h.forms;

@@ -5,29 +5,23 @@ use Rattle.cf_types.specs.declared.forms.Kind.TheVariants as kind
 
 -- ---- who and where
 
-pub caller-few : (connectors : List Name16) (word : List ℕ) (by : ConnId) → caller_of connectors word ≡ Some by
-    → by.0 ≤ length connectors
-caller-few connectors word by h = grind (arith, connector-bounds)
-
 abbrev any_form : StrForm
-any_form =
-    record {
-      name = record { 0 = [] };
-      kind = kind.Cache;
-      caps = record { entries = 0; elements = 0 };
-      conns = 0;
-      vector = 0;
-      keep = false;
-      prefs = [];
-    }
+any_form = record {
+  name = record { 0 = [] };
+  kind = kind.Cache;
+  caps = record { entries = 0; elements = 0 };
+  conns = 0;
+  vector = 0;
+  keep = false;
+  prefs = [];
+}
 
 pub record Known (structures : List StrForm) (on : StrNo) : Type 0 where
   pub form : StrForm
   pub known : slice_get structures on.0 ≡ Some form
 
-pub structure-known : (structures : List StrForm) (word : List ℕ) (on : StrNo) → structure_of structures word ≡ Some
-    on
-    → Known structures on
+pub structure-known : (structures : List StrForm) (word : List ℕ) (on : StrNo)
+    → structure_of structures word ≡ Some on → Known structures on
 structure-known structures word on h =
     let named : StrForm → Bool = λ form. same_word (name_word form.name) word in
     let numbered : ℕ → StrNo = λ place. (record { 0 = place }) in
@@ -43,13 +37,11 @@ structure-known structures word on h =
 
 -- what a line of the policy keeps, and what a line of a caller
 abbrev pub KeepsDeclaration : (Script → Type 0) → Type 0
-KeepsDeclaration P =
-    (script : Script) (first : List ℕ) (ws : Words) (after : Script) → P script
+KeepsDeclaration P = (script : Script) (first : List ℕ) (ws : Words) (after : Script) → P script
     → AddsDeclaration script first (first ∷ ws) after → P after
 
 abbrev pub KeepsLine : (Script → Type 0) → Type 0
-KeepsLine P =
-    (script : Script) (at : ℕ) (by : ConnId) (on : StrNo) (ws : Words) (after : Script) → P script
+KeepsLine P = (script : Script) (at : ℕ) (by : ConnId) (on : StrNo) (ws : Words) (after : Script) → P script
     → by.0 ≤ length script.connectors → Known script.structures on → AddsLine script at by on ws after → P after
 
 module _ (P : Script → Type 0) (declaration : KeepsDeclaration P) (line : KeepsLine P) where
@@ -61,19 +53,15 @@ module _ (P : Script → Type 0) (declaration : KeepsDeclaration P) (line : Keep
   words-keep : (script : Script) (at : ℕ) (ws : Words) (after : Script) → P script → AddsWords script at ws after
       → P after
   words-keep script at [] after h adds = subst P (sym adds) h
-  words-keep script at (first ∷ ws) after h adds =
-      by_tests (is_comment first) (is_policy_word first) (caller_of script.connectors first) refl adds
+  words-keep script at (first ∷ ws) after h adds = grind (arith, by_tests)
     where
       by_tests : (c p : Bool) (o : Option ConnId) → caller_of script.connectors first ≡ o
-          → MatchBool c (after ≡ script)
-          (MatchBool p (AddsDeclaration script first (first ∷ ws) after)
-          (MatchOption o ⊥ (λ by. AddsOfCaller script at by ws after)))
-          → P after
+          → MatchBool c (after ≡ script) (MatchBool p (AddsDeclaration script first (first ∷ ws) after)
+          (MatchOption o ⊥ (λ by. AddsOfCaller script at by ws after))) → P after
       by_tests true p o e k = subst P (sym k) h
       by_tests false true o e k = declaration script first ws after h k
       by_tests false false None e k = absurd k
-      by_tests false false (Some by) e k =
-          caller-keeps script at by ws after h (caller-few script.connectors first by e) k
+      by_tests false false (Some by) e k = grind (arith, caller-keeps, connector-bounds)
 
   lines-keep : (lines : List (List ℕ)) (script : Script) (count : ℕ) (after : Script) → P script
       → AddsAll script count lines after → P after

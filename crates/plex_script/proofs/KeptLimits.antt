@@ -1,7 +1,7 @@
 -- Each script of a text keeps the limits.
-use Rattle.plex_script.proofs.Imports.{◌≡◌, ◌≢◌, ℕ, ◌+◌, ◌≤◌, ◌==◌, ◌||◌, Bool, true, false, cond, List, [], ◌∷◌, ◌++◌, Option, Some, None, length, map, refl, sym, ap, ◌∙◌, arith, subst, slice_get, slice_set, get_or, All, list_any, sum_by, option_map_or, map-set_same, nat_tests, length-set, length_push, map-append, All-nil, All-push, All-set, All-weaker, list_any_at, list_any-append, all_pairs_push, sum_by-cons, sum_by-set, get_or_from_slice_get, slice_get_within, Name16, CfId, ConnId, StrNo, Pref as Set, StrForm, IsPref, IsForm, Names, same_word, is_declared, name_word, same_word-of, Words, IsNamed, AreNames, words-within, within-front, within-back, within-append, Declaration, Facility, Structure, Connector, Line, Script, act_tokens, retry_tokens, declaration_tokens, Declares, declared_in, has_lines, kind_of, is_full, is_twice, is_too_much, facility_units, units_of, all_prefs, with_declaration, AddsDeclaration, AddsLine, IsScript, empty_script, AreFacilities, IsStructureIn, IsLineIn, KeepsLimits}
+use Rattle.plex_script.proofs.Imports.{not-true, ◌≡◌, ◌≢◌, ℕ, ◌+◌, ◌≤◌, ◌==◌, ◌||◌, Bool, true, false, cond, List, [], ◌∷◌, ◌++◌, Option, Some, None, length, map, refl, sym, ap, ◌∙◌, arith, subst, slice_get, slice_set, get_or, All, list_any, sum_by, option_map_or, map-set_same, nat_tests, length-set, length_push, map-append, All-nil, All-push, All-set, All-weaker, list_any_at, list_any-append, all_pairs_push, sum_by-cons, sum_by-set, get_or_from_slice_get, slice_get_within, Name16, CfId, ConnId, StrNo, Pref as Set, StrForm, IsPref, IsForm, Names, same_word, is_declared, name_word, same_word-of, Words, IsNamed, AreNames, words-within, within-front, within-back, within-append, Declaration, Facility, Structure, Connector, Line, Script, act_tokens, retry_tokens, declaration_tokens, Declares, declared_in, has_lines, kind_of, is_full, is_twice, is_too_much, facility_units, units_of, all_prefs, with_declaration, AddsDeclaration, AddsLine, IsScript, empty_script, AreFacilities, IsStructureIn, IsLineIn, KeepsLimits}
 use Rattle.plex_script.specs.declared.declarations.Declaration.TheVariants.{Pref}
-use Rattle.plex_script.proofs.FormLaws.{not-true, told-form, apart-new, form-with, no_lines, room_structures, room_connectors}
+use Rattle.plex_script.proofs.FormLaws.{told-form, apart-new, form-with, no_lines, room_structures, room_connectors}
 use Rattle.plex_script.proofs.FormedLines.{kind-known}
 use Rattle.plex_script.proofs.KeptAll.{Known, script-keeps}
 use Rattle.plex_script.proofs.PolicyPrinted.{units-append, prefs-append}
@@ -29,14 +29,12 @@ facilities-push : (facilities : List Set) (pref : Set) → AreFacilities facilit
     → is_declared facilities pref.cf ≡ false → AreFacilities (facilities ++ pref ∷ [])
 facilities-push facilities pref h is new = (
   All-push IsPref facilities pref h.0 is,
-  all_pairs_push (λ (one : Set) other. one.cf.0 ≢ other.cf.0) facilities pref h.1
-      (λ k d low. apart-new facilities pref new k d low),
+  all_pairs_push (λ (one : Set) other. one.cf.0 ≢ other.cf.0) facilities pref h.1 (grind (arith, apart-new)),
 )
 
 still-declared : (facilities : List Set) (pref : Set) (cf : CfId) → is_declared facilities cf ≡ true
     → is_declared (facilities ++ pref ∷ []) cf ≡ true
-still-declared facilities pref cf h =
-    list_any-append (λ (facility : Set). facility.cf.0 == cf.0) facilities (pref ∷ []) ∙ (rw h refl)
+still-declared facilities pref cf h = grind (arith, list_any-append)
 
 more-units : (facilities : List Set) (pref : Set) (cf : CfId)
     → facility_units facilities cf ≤ facility_units (facilities ++ pref ∷ []) cf
@@ -60,42 +58,14 @@ units-by (form ∷ structures) cf =
     let all = sum_by-cons (λ (f : StrForm). units_of f.prefs cf) form structures in
     omega (arith, one, rest, all)
 
--- one more for a structure
-units-set : (structures : List StrForm) (place : ℕ) (form : StrForm) (pref : Set) (cf : CfId)
-    → slice_get structures place ≡ Some form
-    → units_of (all_prefs (slice_set structures place (record form { prefs = form.prefs ++ pref ∷ [] }))) cf
-    ≡ units_of (all_prefs structures) cf + own pref cf
-units-set structures place form pref cf known =
-    let more : StrForm = record form { prefs = form.prefs ++ pref ∷ [] } in
-    let f : StrForm → ℕ = λ g. units_of g.prefs cf in
-    let low = slice_get_within structures place form known in
-    let here : f (get_or structures place form) ≡ f form =
-    ap f (get_or_from_slice_get structures place form form known) in
-    let set = sum_by-set f structures place more form low in
-    let after = units-by (slice_set structures place more) cf in
-    let before = units-by structures cf in
-    let one : f more ≡ f form + units_of (pref ∷ []) cf = units-append form.prefs (pref ∷ []) cf in
-    let last = units-one pref cf in
-    omega (arith, here, set, after, before, one, last)
-
 same_cf : (one other : CfId) → one.0 ≡ other.0 → one ≡ other
 same_cf one other e = ap (λ (n : ℕ). (let cf : CfId = record { 0 = n } in cf)) e
-
-room-set : (facilities : List Set) (structures : List StrForm) (place : ℕ) (form : StrForm) (pref : Set)
-    → slice_get structures place ≡ Some form
-    → ((cf : CfId) → units_of (all_prefs structures) cf ≤ facility_units facilities cf)
-    → units_of (all_prefs structures) pref.cf + pref.units ≤ facility_units facilities pref.cf
-    → (cf : CfId)
-    → units_of (all_prefs (slice_set structures place (record form { prefs = form.prefs ++ pref ∷ [] }))) cf
-    ≤ facility_units facilities cf
-room-set facilities structures place form pref known room enough cf = grind (arith, units-set, nat_tests, same_cf)
 
 -- ---- lines
 
 -- lines are those of each script that declares the same
-line-same : (script after : Script) (line : Line) → after.structures ≡ script.structures
-    → after.connectors ≡ script.connectors
-    → after.facilities ≡ script.facilities → IsLineIn script line → IsLineIn after line
+line-same : (script after : Script) (line : Line) → after.structures ≡ script.structures → after.connectors
+    ≡ script.connectors → after.facilities ≡ script.facilities → IsLineIn script line → IsLineIn after line
 line-same script after line structures connectors facilities h = grind arith
 
 -- ---- declarations
@@ -113,11 +83,9 @@ declared-keeps script first ws (Structure form) h early told room new enough =
     let bare = told.whole.0 in
     let in_script : IsStructureIn script.facilities form = grind (arith, All-nil) in
     let fresh : list_any (λ (other : Name16). same_word (name_word other) (name_word form.name))
-    (map name_of script.structures) ≡ false =
-    any-map (λ (other : Name16). same_word (name_word other) (name_word form.name)) name_of script.structures ∙ new in
+    (map name_of script.structures) ≡ false = grind (arith, any-map) in
     let names = names-push (map name_of script.structures) form.name h.structure_names within.1.0 fresh in
-    let none : (cf : CfId) → units_of (all_prefs (form ∷ [])) cf ≡ 0 =
-    λ cf. ap (λ (prefs : List Set). units_of (prefs ++ []) cf) bare in
+    let none : (cf : CfId) → units_of (all_prefs (form ∷ [])) cf ≡ 0 = grind arith in
     record {
       facilities = h.facilities;
       few_structures = rw (length_push script.structures form) (room_structures script first told.spelled.0 room);
@@ -126,8 +94,7 @@ declared-keeps script first ws (Structure form) h early told room new enough =
       few_connectors = h.few_connectors;
       connectors = h.connectors;
       room = λ cf. omega (arith, h.room cf, prefs-append script.structures (form ∷ []) cf, none cf);
-      lines = no_lines (IsLineIn (with_declaration script (Structure form))) script
-          (with_declaration script (Structure form)) early refl;
+      lines = grind (arith, no_lines);
     }
 declared-keeps script first ws (Pref on pref) h early told room new enough =
     let within = words-within (declared_in script) (declaration_tokens (Pref on pref)) (first ∷ ws) [] told.spelled in
@@ -140,27 +107,22 @@ declared-keeps script first ws (Pref on pref) h early told room new enough =
     at_form : IsPref pref → is_declared script.facilities pref.cf ≡ true
         → units_of (all_prefs script.structures) pref.cf + pref.units ≤ facility_units script.facilities pref.cf
         → (o : Option StrForm) → slice_get script.structures on.0 ≡ o
-        → option_map_or (λ (form : StrForm). is_declared form.prefs pref.cf) o false ≡ false
-        → (let put : StrForm → List StrForm =
-        λ form. slice_set script.structures on.0 (record form { prefs = form.prefs ++ pref ∷ [] }) in
+        → option_map_or (λ (form : StrForm). is_declared form.prefs pref.cf) o false ≡ false → (let put : StrForm
+        → List StrForm = λ form. slice_set script.structures on.0 (record form { prefs = form.prefs ++ pref ∷ [] }) in
         KeepsLimits (record script { structures = option_map_or put o script.structures }))
     at_form is known fits None e fresh = h
     at_form is known fits (Some form) e fresh =
         let more : StrForm = record form { prefs = form.prefs ++ pref ∷ [] } in
         let structures = slice_set script.structures on.0 more in
         let low = slice_get_within script.structures on.0 form e in
-        let here : get_or script.structures on.0 form ≡ form =
-        get_or_from_slice_get script.structures on.0 form form e in
-        let in_script : IsStructureIn script.facilities form =
-        subst (IsStructureIn script.facilities) here (h.structures on.0 form low) in
-        let more_in : IsStructureIn script.facilities more =
-        record {
+        let here : get_or script.structures on.0 form ≡ form = grind (arith, get_or_from_slice_get) in
+        let in_script : IsStructureIn script.facilities form = grind arith in
+        let more_in : IsStructureIn script.facilities more = record {
           formed = form-with form pref in_script.formed is fresh;
           declared = All-push (λ (p : Set). is_declared script.facilities p.cf
               ≡ true) form.prefs pref in_script.declared known;
         } in
-        let names : map name_of structures ≡ map name_of script.structures =
-        map-set_same name_of script.structures on.0 more form (ap name_of (sym here)) in
+        let names : map name_of structures ≡ map name_of script.structures = grind (arith, map-set_same) in
         record {
           facilities = h.facilities;
           few_structures = rw (length-set script.structures on.0 more) h.few_structures;
@@ -168,9 +130,18 @@ declared-keeps script first ws (Pref on pref) h early told room new enough =
           structure_names = subst AreNames (sym names) h.structure_names;
           few_connectors = h.few_connectors;
           connectors = h.connectors;
-          room = room-set script.facilities script.structures on.0 form pref e h.room fits;
-          lines = no_lines (IsLineIn (record script { structures = structures })) script
-              (record script { structures = structures }) early refl;
+          room = grind (
+            arith,
+            nat_tests,
+            same_cf,
+            slice_get_within,
+            get_or_from_slice_get,
+            sum_by-set,
+            units-by,
+            units-append,
+            units-one,
+          );
+          lines = grind (arith, no_lines);
         }
 declared-keeps script first ws (Connector name) h early told room new enough =
     let within = words-within (declared_in script) (declaration_tokens (Connector name)) (first ∷ ws) [] told.spelled
@@ -183,8 +154,7 @@ declared-keeps script first ws (Connector name) h early told room new enough =
       few_connectors = rw (length_push script.connectors name) (room_connectors script first told.spelled.0 room);
       connectors = names-push script.connectors name h.connectors within.1.0 new;
       room = h.room;
-      lines = no_lines (IsLineIn (with_declaration script (Connector name))) script
-          (with_declaration script (Connector name)) early refl;
+      lines = grind (arith, no_lines);
     }
 
 limits-declaration : (script : Script) (first : List ℕ) (ws : Words) (after : Script) → KeepsLimits script
@@ -202,14 +172,11 @@ limits-line script at by on ws after h caller known adds =
     let declared = declared_in script in
     let acts = act_tokens adds.says.given adds.act in
     let retries = retry_tokens adds.retry in
-    let within = words-within declared (acts ++ retries) ws [] adds.says.spelled in
-    let front = act-told declared by
-    (kind_of script.structures on) adds.says.given adds.act adds.retry adds.says.allowed
-    (within-front declared acts retries within) in
+    let within = words-within _ _ _ _ adds.says.spelled in
+    let front = act-told _ _ _ _ _ _ adds.says.allowed (within-front declared acts retries within) in
     let is : IsLineIn next line = grind (arith, kind-known, may-told, within-append, within-back) in
     let others : All (IsLineIn next) script.lines = grind (arith, All-weaker, line-same) in
-    let kept : KeepsLimits next =
-    record {
+    let kept : KeepsLimits next = record {
       facilities = h.facilities;
       few_structures = h.few_structures;
       structures = h.structures;

@@ -1,13 +1,12 @@
 -- Lines lead to one script, or are wrong, and not both.
-use Rattle.plex_script.proofs.Imports.{◌≡◌, ℕ, ◌+◌, ◌||◌, Bool, true, false, not, List, [], ◌∷◌, ◌++◌, Option, Some, None, refl, sym, ap, ◌∙◌, arith, inl, inr, MatchBool, MatchOption, ConnId, StrNo, Kind, Names, words_of, Declared, structure_of, Words, Why, Late, Syntax, Limit, Unknown, Twice, Space, Act, Script, SaysDone, declared_in, kind_of, has_lines, is_full, is_long, is_comment, is_policy_word, caller_of, EmptyCause, PolicyCause, StrangeCause, NoStructureCause, DoneCause, CallerCause, LineCause, AddsDeclaration, AddsLine, AddsOfCaller, AddsWords, Adds, AddsAll, line_number}
+use Rattle.plex_script.proofs.Imports.{or_from, not-true, ◌≡◌, ℕ, ◌+◌, ◌||◌, Bool, true, false, not, List, [], ◌∷◌, ◌++◌, Option, Some, None, refl, sym, ap, ◌∙◌, arith, inl, inr, MatchBool, MatchOption, ConnId, StrNo, Kind, Names, words_of, Declared, structure_of, Words, Why, Late, Syntax, Limit, Unknown, Twice, Space, Act, Script, SaysDone, declared_in, kind_of, has_lines, is_full, is_long, is_comment, is_policy_word, caller_of, EmptyCause, PolicyCause, StrangeCause, NoStructureCause, DoneCause, CallerCause, LineCause, AddsDeclaration, AddsLine, AddsOfCaller, AddsWords, Adds, AddsAll, line_number}
 use Rattle.plex_script.proofs.ActLaws.{act-complete}
 use Rattle.plex_script.proofs.CauseLaws.{Declares-one, SaysDone-limits, SaysDone-form, policy-read}
 
 -- ---- one script
 
-says-one : (declared : Declared) (by : ConnId) (kind : Kind) (ws : Words) (a b : Act) (m n : ℕ)
-    → SaysDone Names declared by kind ws a m → SaysDone Names declared by kind ws b n
-    → (let p : Act × ℕ = (a, m) in p) ≡ (b, n)
+says-one : (declared : Declared) (by : ConnId) (kind : Kind) (ws : Words) (a b : Act) (m n : ℕ) → SaysDone
+    Names declared by kind ws a m → SaysDone Names declared by kind ws b n → (let p : Act × ℕ = (a, m) in p) ≡ (b, n)
 says-one declared by kind ws a b m n h k =
     let f = act-complete Names declared by kind ws a m h in
     let g = act-complete Names declared by kind ws b n k in
@@ -18,11 +17,9 @@ says-one declared by kind ws a b m n h k =
 line-one : (script : Script) (at : ℕ) (by : ConnId) (on : StrNo) (ws : Words) (a b : Script)
     → AddsLine script at by on ws a → AddsLine script at by on ws b → a ≡ b
 line-one script at by on ws a b h k =
-    let one = says-one (declared_in script) by (kind_of script.structures on) ws h.act k.act h.retry k.retry h.says
-    k.says in
+    let one = says-one _ _ _ _ _ _ _ _ h.says k.says in
     let made : Act × ℕ → Script = λ p. record script {
-      lines = script.lines
-          ++ (record { at = at; by = by; on = on; act = p.0; retry = p.1 }) ∷ [];
+      lines = script.lines ++ (record { at = at; by = by; on = on; act = p.0; retry = p.1 }) ∷ [];
     } in
     h.same ∙ ap made one ∙ sym k.same
 
@@ -38,12 +35,10 @@ caller-one script at by (second ∷ ws) a b h k = grind (arith, line-one)
 words-one : (script : Script) (at : ℕ) (ws : Words) (a b : Script) → AddsWords script at ws a
     → AddsWords script at ws b → a ≡ b
 words-one script at [] a b h k = h ∙ sym k
-words-one script at (first ∷ ws) a b h k = by_tests (is_comment first) (is_policy_word first)
-    (caller_of script.connectors first) h k
+words-one script at (first ∷ ws) a b h k = grind (arith, by_tests)
   where
-    by_tests : (c p : Bool) (o : Option ConnId)
-        → MatchBool c (a ≡ script) (MatchBool p (AddsDeclaration script first (first ∷ ws) a)
-        (MatchOption o ⊥ (λ by. AddsOfCaller script at by ws a)))
+    by_tests : (c p : Bool) (o : Option ConnId) → MatchBool c (a ≡ script) (MatchBool
+        p (AddsDeclaration script first (first ∷ ws) a) (MatchOption o ⊥ (λ by. AddsOfCaller script at by ws a)))
         → MatchBool c (b ≡ script) (MatchBool p (AddsDeclaration script first (first ∷ ws) b)
         (MatchOption o ⊥ (λ by. AddsOfCaller script at by ws b))) → a ≡ b
     by_tests true p o m n = m ∙ sym n
@@ -69,81 +64,40 @@ not_long true h k = cc
 not_long false h k = cc
 
 empty-clean : (long : Bool) (why : Why) → not long ≡ true → EmptyCause long why → ⊥
-empty-clean long Late h k = k
-empty-clean long Syntax h k = k
 empty-clean long Limit h k = not_long long h k
-empty-clean long Unknown h k = k
-empty-clean long Twice h k = k
-empty-clean long Space h k = k
-
-false_of : (b : Bool) → not b ≡ true → b ≡ false
-false_of true h = absurd (cc)
-false_of false h = refl
-
-both_false : (a b : Bool) → a ≡ false → b ≡ false → (a || b) ≡ false
-both_false true b h k = absurd (cc)
-both_false false b h k = k
-
-policy-clean : (script after : Script) (long : Bool) (first : List ℕ) (ws : Words) (why : Why) → not long ≡ true
-    → AddsDeclaration script first ws after
-    → PolicyCause script long first ws why → ⊥
-policy-clean script after long first ws why short h k =
-    by_why why k
-  where
-    early : has_lines script ≡ false
-    early = false_of (has_lines script) h.early
-
-    fits : (long || is_full script first) ≡ false
-    fits = both_false long (is_full script first) (false_of long short) (false_of (is_full script first) h.not_full)
-
-    by_why : (w : Why) → PolicyCause script long first ws w → ⊥
-    by_why Late m = policy-read script long first ws h.declaration early fits h.declares Late (omega arith) m
-    by_why Syntax m = policy-read script long first ws h.declaration early fits h.declares Syntax (omega arith) m
-    by_why Limit m = policy-read script long first ws h.declaration early fits h.declares Limit (omega arith) m
-    by_why Unknown m = policy-read script long first ws h.declaration early fits h.declares Unknown (omega arith) m
-    by_why Twice m = grind (arith, Declares-one, not_long)
-    by_why Space m = grind (arith, Declares-one, not_long)
+empty-clean long why h k = k
 
 done-clean : (declared : Declared) (long : Bool) (by : ConnId) (kind : Kind) (ws : Words) (act : Act) (retry : ℕ)
     (why : Why) → not long ≡ true
     → SaysDone Names declared by kind ws act retry → DoneCause declared long by kind ws why → ⊥
-done-clean declared long by kind ws act retry Late short h k = k
 done-clean declared long by kind ws act retry Syntax short h k =
     k act retry (SaysDone-form declared by kind ws act retry (SaysDone-limits declared by kind ws act retry h))
 done-clean declared long by kind ws act retry Limit short h (inl k) = not_long long short k
-done-clean declared long by kind ws act retry Limit short h (inr k) = k act retry
-    (SaysDone-limits declared by kind ws act retry h)
+done-clean declared long by kind ws act retry Limit short h (inr k) = k act retry (grind (arith, SaysDone-limits))
 done-clean declared long by kind ws act retry Unknown short h k = k act retry h
-done-clean declared long by kind ws act retry Twice short h k = k
-done-clean declared long by kind ws act retry Space short h k = k
+done-clean declared long by kind ws act retry why short h k = k
 
-caller-clean : (script after : Script) (at : ℕ) (long : Bool) (by : ConnId) (ws : Words) (why : Why) → not long ≡ true
-    → AddsOfCaller script at by ws after
-    → CallerCause script long by ws why → ⊥
+caller-clean : (script after : Script) (at : ℕ) (long : Bool) (by : ConnId) (ws : Words) (why : Why)
+    → not long ≡ true → AddsOfCaller script at by ws after → CallerCause script long by ws why → ⊥
 caller-clean script after at long by [] why short h k = absurd h
-caller-clean script after at long by (second ∷ ws) why short h k = by_structure
-    (structure_of script.structures second) h k
+caller-clean script after at long by (second ∷ ws) why short h k = grind (arith, by_structure)
   where
     by_structure : (o : Option StrNo) → MatchOption o ⊥ (λ on. AddsLine script at by on ws after)
         → MatchOption o (NoStructureCause long second why) (λ on. DoneCause (declared_in script) long by
         (kind_of script.structures on) ws why) → ⊥
     by_structure None m n = m
-    by_structure (Some on) m n = done-clean (declared_in script) long by (kind_of script.structures on) ws m.act
-        m.retry why short m.says n
+    by_structure (Some on) m n = done-clean _ _ _ _ _ _ _ _ short m.says n
 
-words-clean : (script after : Script) (at : ℕ) (long : Bool) (first : List ℕ) (ws : Words) (why : Why) (c p : Bool)
-    (o : Option ConnId) → not long ≡ true
-    → MatchBool c (after ≡ script) (MatchBool p (AddsDeclaration script first (first ∷ ws) after)
-    (MatchOption o ⊥ (λ by. AddsOfCaller script at by ws after)))
+words-clean : (script after : Script) (at : ℕ) (long : Bool) (first : List ℕ) (ws : Words)
+    (why : Why) (c p : Bool) (o : Option ConnId) → not long ≡ true → MatchBool c (after ≡ script) (MatchBool
+    p (AddsDeclaration script first (first ∷ ws) after) (MatchOption o ⊥ (λ by. AddsOfCaller script at by ws after)))
     → MatchBool c (EmptyCause long why) (MatchBool p (PolicyCause script long first (first ∷ ws) why)
-    (MatchOption o (StrangeCause script long first ws why) (λ by. CallerCause script long by ws why)))
-    → ⊥
+    (MatchOption o (StrangeCause script long first ws why) (λ by. CallerCause script long by ws why))) → ⊥
 words-clean script after at long first ws why true p o short h k = empty-clean long why short k
-words-clean script after at long first ws why false true o short h k = policy-clean script after long first
-    (first ∷ ws) why short h k
+words-clean script after at long first ws why false true o short h k =
+    grind (arith, not-true, or_from, Declares-one, not_long, policy-read)
 words-clean script after at long first ws why false false None short h k = h
-words-clean script after at long first ws why false false (Some by) short h k = caller-clean script after at long by
-    ws why short h k
+words-clean script after at long first ws why false false (Some by) short h k = grind (arith, caller-clean)
 
 pub line-clean : (script after : Script) (at : ℕ) (line : List ℕ) (why : Why) → Adds script at line after
     → LineCause script line why → ⊥
@@ -157,12 +111,10 @@ line-clean script after at line why h k = by_words (words_of line) refl
         words-clean script after at (is_long line) first ws why (is_comment first) (is_policy_word first)
         (caller_of script.connectors first) h.0 adds cause
 
-pub all-clean : (front : List (List ℕ)) (line : List ℕ) (behind : List (List ℕ)) (script : Script) (count : ℕ)
-    (before after : Script) (why : Why)
-    → AddsAll script count (front ++ line ∷ behind) after → AddsAll script count front before
-    → LineCause before line why → ⊥
-all-clean [] line behind script count before after why h k cause =
-    line-clean script h.0 (line_number (count + 1)) line why h.1 (rw k at cause)
+pub all-clean : (front : List (List ℕ)) (line : List ℕ) (behind : List (List ℕ)) (script : Script)
+    (count : ℕ) (before after : Script) (why : Why) → AddsAll script count (front ++ line ∷ behind) after
+    → AddsAll script count front before → LineCause before line why → ⊥
+all-clean [] line behind script count before after why h k cause = line-clean _ _ _ _ _ h.1 (rw k at cause)
 all-clean (l ∷ front) line behind script count before after why h k cause =
     let one = adds-one script (line_number (count + 1)) l h.0 k.0 h.1 k.1 in
     all-clean front line behind h.0 (count + 1) before after why h.2 (rw (← one) at k.2) cause

@@ -7,23 +7,14 @@ use Rattle.plex_script.proofs.PolicyPrinted.{element, line-adds}
 
 -- ---- the first word
 
-upper_first : (b : ℕ) → is_ascii_uppercase b ≡ true → (b == 42) ≡ false
-upper_first b h = grind (arith, nat_tests)
-
 no_comment : (word : List ℕ) → is_name word ≡ true → is_comment word ≡ false
 no_comment [] h = absurd (cc)
-no_comment (b ∷ word) h = grind (arith, and_parts, upper_first)
+no_comment (b ∷ word) h = grind (arith, and_parts, nat_tests)
 
 reserved : (op sys none_ a b c d : Bool) → not (op || (sys || (none_ || (a || (b || (c || (d || false))))))) ≡ true
     → (op ≡ false) × ((a || (b || (c || (d || false)))) ≡ false)
-reserved true sys none_ a b c d h = absurd (cc)
-reserved false true none_ a b c d h = absurd (cc)
-reserved false false true a b c d h = absurd (cc)
-reserved false false false true b c d h = absurd (cc)
-reserved false false false false true c d h = absurd (cc)
-reserved false false false false false true d h = absurd (cc)
-reserved false false false false false false true h = absurd (cc)
 reserved false false false false false false false h = (refl, refl)
+reserved op sys none_ a b c d h = absurd (cc)
 
 no_policy : (word : List ℕ) → is_name word ≡ true
     → (same_word word (codes "OP") ≡ false) × (is_policy_word word ≡ false)
@@ -46,21 +37,14 @@ calls connectors (suc n) h most =
     let other : same_word word (codes "OP") ≡ false = apart.0 in
     record { comment = no_comment word said.0.0; policy_ = apart.1; caller = named word by other said.1 }
   where
-    named : (word : List ℕ) (by : ConnId) → same_word word (codes "OP") ≡ false → connector_of connectors word ≡ Some
-        by
-        → caller_of connectors word ≡ Some by
+    named : (word : List ℕ) (by : ConnId) → same_word word (codes "OP") ≡ false
+        → connector_of connectors word ≡ Some by → caller_of connectors word ≡ Some by
     named word by other known = rw other known
 
 -- ---- the second word
 
-structure-word : (structures : List StrForm) (on : StrNo) (form : StrForm) → slice_get structures on.0 ≡ Some form
-    → structure_name structures on.0 ≡ name_word form.name
-structure-word structures on form known =
-    ap (λ (o : Option StrForm). option_map_or (λ (f : StrForm). name_word f.name) o (decimal on.0)) known
-
-structure-read : (structures : List StrForm) (on : StrNo) (form : StrForm)
-    → HaveNames (λ (f : StrForm). f.name) structures
-    → slice_get structures on.0 ≡ Some form → structure_of structures (name_word form.name) ≡ Some on
+structure-read : (structures : List StrForm) (on : StrNo) (form : StrForm) → HaveNames (λ (f : StrForm). f.name)
+    structures → slice_get structures on.0 ≡ Some form → structure_of structures (name_word form.name) ≡ Some on
 structure-read structures on form names known =
     let low = slice_get_within structures on.0 form known in
     let here = get_or_from_slice_get structures on.0 form form known in
@@ -79,30 +63,18 @@ act-row (Call (any.List (Shell cmd))) = shell-row cmd
 act-row (Call (any.List (Content cmd))) = list-row cmd
 act-row (Call (any.Lock (Shell cmd))) = shell-row cmd
 act-row (Call (any.Lock (Content cmd))) = lock-row cmd
-act-row (Test index) = record { plain = refl; short = omega arith }
-act-row (TestWord word) = record { plain = refl; short = omega arith }
-act-row Post = record { plain = refl; short = omega arith }
-act-row Take = record { plain = refl; short = omega arith }
-act-row Events = record { plain = refl; short = omega arith }
-
-retry-row : (retry : ℕ) → IsRow 130 (retry_tokens retry)
-retry-row retry = grind (arith, IsRow)
+act-row act = record { plain = refl; short = omega arith }
 
 line-row : (line : Line) → IsRow 6130 (line_tokens line)
-line-row line =
-    row-append 6000 130 (act_tokens (class_in line.act) line.act) (retry_tokens line.retry) (act-row line.act)
-    (retry-row line.retry)
+line-row line = row-append 6000
+    130 (act_tokens (class_in line.act) line.act) (retry_tokens line.retry) (act-row line.act) (grind (arith, IsRow))
 
 -- ---- a line
 
 -- the tests for the sort of a line, passed
-of_caller : (c p : Bool) (o : Option ConnId) (by : ConnId) (A B : Type 0) (F : ConnId → Type 0) → c ≡ false
-    → p ≡ false
-    → o ≡ Some by → F by → MatchBool c A (MatchBool p B (MatchOption o ⊥ F))
+of_caller : (c p : Bool) (o : Option ConnId) (by : ConnId) (A B : Type 0) (F : ConnId → Type 0)
+    → c ≡ false → p ≡ false → o ≡ Some by → F by → MatchBool c A (MatchBool p B (MatchOption o ⊥ F))
 of_caller c p o by A B F comment policy_ caller f = rw (comment, policy_, caller) f
-
-at_structure : (o : Option StrNo) (on : StrNo) (F : StrNo → Type 0) → o ≡ Some on → F on → MatchOption o ⊥ F
-at_structure o on F e f = rw e f
 
 body-adds : (script : Script) (front : List Line) (line : Line) (count : ℕ) → AreNames script.connectors
     → HaveNames (λ (f : StrForm). f.name) script.structures → IsLineIn script line
@@ -120,7 +92,7 @@ body-adds script front line count names structures h =
     let where_ = structure_name script.structures line.on.0 in
     let named = structures.named line.on.0 h.form (slice_get_within script.structures line.on.0 h.form h.known) in
     let here = get_or_from_slice_get script.structures line.on.0 h.form h.form h.known in
-    let is : where_ ≡ name_word h.form.name = structure-word script.structures line.on h.form h.known in
+    let is : where_ ≡ name_word h.form.name = grind arith in
     let caller = caller-good script.connectors line.by.0 names h.caller in
     let second = name-good h.form.name (subst (λ (f : StrForm). IsPadded f.name.0) here named.0) in
     let words = who ∷ name_word h.form.name ∷ plain_words [] script.connectors tokens in
@@ -130,16 +102,15 @@ body-adds script front line count names structures h =
     let on = structure-read script.structures line.on h.form structures h.known in
     let does : AddsLine state (line_number (count + 1)) line.by line.on
     (plain_words [] script.connectors tokens) after = grind (arith, kind-known) in
-    let adds : AddsWords state (line_number (count + 1)) words after = grind (arith, of_caller, at_structure) in
+    let adds : AddsWords state (line_number (count + 1)) words after = grind (arith, of_caller) in
     let leads = line-adds state after count words good short adds in
     subst (λ (w : List ℕ). LeadsOne state count (line_of (who ∷ w ∷ plain_words [] script.connectors tokens)) after)
     (sym is) leads
 
 -- ---- all lines
 
-numbered-more : (base : ℕ) (front : List Line) (line : Line)
-    → numbered_behind base (front ++ line ∷ []) ≡ numbered_behind base front ++
-    (record line { at = line_number (base + length front + 1) }) ∷ []
+numbered-more : (base : ℕ) (front : List Line) (line : Line) → numbered_behind base (front ++ line ∷ [])
+    ≡ numbered_behind base front ++ (record line { at = line_number (base + length front + 1) }) ∷ []
 numbered-more base [] line = grind arith
 numbered-more base (first ∷ front) line = grind (arith, numbered-more (base + 1) front line)
 
@@ -147,22 +118,19 @@ line-of-all : (P : Line → Type 0) (front : List Line) (line : Line) (back all 
     → front ++ line ∷ back ≡ all → All P all → P line
 line-of-all P front line back all e h = element P front line back (subst (All P) (sym e) h)
 
-pub lines-add : (script : Script) (base : ℕ) → AreNames script.connectors
-    → HaveNames (λ (f : StrForm). f.name) script.structures
-    → All (IsLineIn script) script.lines
-    → Leads (record script { lines = [] }) base (map (body_line script) script.lines)
-    (record script { lines = numbered_behind base script.lines })
+pub lines-add : (script : Script) (base : ℕ) → AreNames script.connectors → HaveNames
+    (λ (f : StrForm). f.name) script.structures → All (IsLineIn script) script.lines → Leads (record script {
+      lines = [];
+    }) base (map (body_line script) script.lines) (record script { lines = numbered_behind base script.lines })
 lines-add script base names structures h =
     let with_lines : List Line → Script = λ ls. (record script { lines = ls }) in
-    leads-each (λ (front : List Line). with_lines (numbered_behind base front)) (body_line script) script.lines base
+    leads-each (λ front. with_lines (numbered_behind base front)) (body_line script) script.lines base
     (λ front line back count e at.
     let line_in = line-of-all (IsLineIn script) front line back script.lines e h in
-    let leads = body-adds script (numbered_behind base front) line count names structures line_in in
+    let leads = body-adds _ _ _ _ names structures line_in in
     let number : count + 1 ≡ base + length front + 1 = omega (arith, at) in
-    let same : numbered_behind base front ++ (record line { at = line_number (count + 1) }) ∷ []
-    ≡ numbered_behind base (front ++ line ∷ []) =
-    ap (λ (n : ℕ). (let l : Line = record line { at = line_number n } in numbered_behind base front ++ l ∷ [])) number
-    ∙ sym (numbered-more base front line) in
-    subst (λ (ls : List Line). LeadsOne (with_lines (numbered_behind base front)) count (body_line script line)
-    (with_lines ls)) same leads)
-    [] script.lines base refl (omega arith)
+    let same =
+    ap (λ n. (let l = record line { at = line_number n } in numbered_behind base front ++ l ∷ [])) number
+    ∙ sym (numbered-more _ _ _) in
+    subst (λ ls. LeadsOne (with_lines (numbered_behind base front))
+    count (body_line script line) (with_lines ls)) same leads) [] script.lines base refl (omega arith)

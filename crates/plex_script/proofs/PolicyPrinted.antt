@@ -11,24 +11,16 @@ policy facilities structures connectors =
 
 -- ---- a line of good words
 
-short_line : (line : List ℕ) → length line ≤ 8192 → not (is_long line) ≡ true
-short_line line h = grind (arith, nat_tests)
-
 -- a line is made of these words, and not long
-pub line-adds : (script after : Script) (count : ℕ) (words : List (List ℕ)) → AreGood words
-    → length (line_of words) ≤ 8192 → AddsWords script (line_number (count + 1)) words after
-    → LeadsOne script count (line_of words) after
-line-adds script after count words good short adds = grind (arith, line-clear, short_line, words-back)
+pub line-adds : (script after : Script) (count : ℕ) (words : List (List ℕ)) → AreGood words → length (line_of words)
+    ≤ 8192 → AddsWords script (line_number (count + 1)) words after → LeadsOne script count (line_of words) after
+line-adds script after count words good short adds = grind (arith, line-clear, words-back, nat_tests)
 
 -- ---- facilities
 
-unlike : (m n : ℕ) → m ≢ n → (m == n) ≡ false
-unlike m n apart = grind (arith, nat_tests)
-
 fresh_cf : (front : List Set) (x : Set) (back : List Set) → AreFacilities (front ++ x ∷ back)
     → is_declared front x.cf ≡ false
-fresh_cf front x back h =
-    list_any_none (λ (facility : Set). facility.cf.0 == x.cf.0) front (λ k d low.
+fresh_cf front x back h = list_any_none (λ (facility : Set). facility.cf.0 == x.cf.0) front (λ k d low.
     let apart = h.1 k (length front) d low (omega (arith, length-append front (x ∷ back))) in
     let left = get_or_append_left front (x ∷ back) d k low in
     let here = get_or-append_seam front x back d in
@@ -36,12 +28,10 @@ fresh_cf front x back h =
     (get_or (front ++ x ∷ back) (length front) d) x left here apart)
   where
     not_same : (a b c e : Set) → a ≡ b → c ≡ e → a.cf.0 ≢ c.cf.0 → (b.cf.0 == e.cf.0) ≡ false
-    not_same a b c e left here apart = grind (arith, unlike)
+    not_same a b c e left here apart = grind (arith, nat_tests)
 
 pub element : {X : Type 0} (P : X → Type 0) (front : List X) (x : X) (back : List X) → All P (front ++ x ∷ back) → P x
-element P front x back h =
-    subst P (get_or-append_seam front x back x)
-    (h (length front) x (omega (arith, length-append front (x ∷ back))))
+element P front x back h = subst P (get_or-append_seam front x back x) (grind (arith, length-append))
 
 not_false : (b : Bool) → b ≡ false → not b ≡ true
 not_false b h = rw h refl
@@ -53,11 +43,9 @@ facility-adds front x back count h =
     let cf = facility-good x.cf is.0.1 in
     let units = number-good x.units (omega (arith, is.2)) in
     let words = codes "FACILITY" ∷ facility_word x.cf ∷ decimal x.units ∷ [] in
-    let good : AreGood words =
-    (refl, refl, (cf.some, cf.solid_all, (units.some, units.solid_all, tt))) in
+    let good : AreGood words = (refl, refl, (cf.some, cf.solid_all, (units.some, units.solid_all, tt))) in
     let short : length (line_of words) ≤ 8192 = grind (arith, length-append) in
-    line-adds (policy front [] []) (policy (front ++ x ∷ []) [] []) count words good short
-    (record {
+    line-adds (policy front [] []) (policy (front ++ x ∷ []) [] []) count words good short (record {
       early = refl;
       declaration = Facility x;
       declares = grind (arith, facility-said, number-said, lit<);
@@ -69,10 +57,8 @@ facility-adds front x back count h =
 
 pub facilities-add : (facilities : List Set) → AreFacilities facilities
     → Leads (policy [] [] []) 0 (map facility_line facilities) (policy facilities [] [])
-facilities-add facilities h =
-    leads-each (λ (front : List Set). policy front [] []) facility_line facilities 0
-    (λ front x back count e at. facility-adds front x back count
-    (subst AreFacilities (sym e) h)) [] facilities 0 refl refl
+facilities-add facilities h = leads-each (λ (front : List Set). policy front [] []) facility_line
+    facilities 0 (λ front x back count e at. facility-adds front x back count (grind arith)) [] facilities 0 refl refl
 
 -- ---- names
 
@@ -81,35 +67,29 @@ pub structures-named : (structures : List StrForm) → AreNames (map (λ (form :
 structures-named structures h =
     let name : StrForm → Name16 = λ form. form.name in
     let at : (k : ℕ) (d : StrForm) → k < length structures
-    → get_or (map name structures) k (name d) ≡ name (get_or structures k d) =
-    λ k d low. get_or-map name structures k d (name d) low in
+    → get_or (map name structures) k (name d) ≡ name (get_or structures k d) = grind (arith, get_or-map) in
     record {
-      named = λ k d low.
-          subst IsNamed (at k d low) (h.0 k (name d) (omega (arith, low, length-map structures name)));
+      named = λ k d low. subst IsNamed (at k d low) (h.0 k (name d) (omega (arith, low, length-map structures name)));
       apart = grind (arith, length-map);
     }
 
 -- a name isn't one of those before it
-fresh_name : {X : Type 0} (name : X → Name16) (front : List X) (x : X) (back : List X)
-    → HaveNames name (front ++ x ∷ back)
-    → list_any (λ other. same_word (name_word (name other)) (name_word (name x))) front ≡ false
+fresh_name : {X : Type 0} (name : X → Name16) (front : List X) (x : X) (back : List X) → HaveNames name
+    (front ++ x ∷ back) → list_any (λ other. same_word (name_word (name other)) (name_word (name x))) front ≡ false
 fresh_name {X} name front x back h =
     list_any_none (λ (other : X). same_word (name_word (name other)) (name_word (name x))) front (λ k d low.
     let most : length front < length (front ++ x ∷ back) = omega (arith, length-append front (x ∷ back)) in
     let left = get_or_append_left front (x ∷ back) d k low in
     let here = get_or-append_seam front x back d in
     other_word (get_or (front ++ x ∷ back) k d) (get_or front k d)
-    (get_or (front ++ x ∷ back) (length front) d) x left here
-    (apart_words (name (get_or (front ++ x ∷ back) k d)) (name (get_or (front ++ x ∷ back) (length front) d))
-    (h.named k d (omega (arith, low, most))) (h.named (length front) d most) (h.apart k (length front) d low most)))
+    (get_or (front ++ x ∷ back) (length front) d) x left here (grind (arith, apart_words)))
   where
     other_word : (a b c e : X) → a ≡ b → c ≡ e → same_word (name_word (name a)) (name_word (name c)) ≡ false
         → same_word (name_word (name b)) (name_word (name e)) ≡ false
     other_word a b c e left here apart = grind arith
 
 name_of_element : {X : Type 0} (name : X → Name16) (front : List X) (x : X) (back : List X)
-    → HaveNames name (front ++ x ∷ back)
-    → IsNamed (name x)
+    → HaveNames name (front ++ x ∷ back) → IsNamed (name x)
 name_of_element name front x back h = element (λ y. IsNamed (name y)) front x back h.named
 
 -- ---- forms of structures
@@ -120,13 +100,11 @@ disposition-row false = record { plain = refl; short = omega arith }
 
 references-row : (how : Refs) → IsRow 65 (references how ∷ [])
 references-row refs.Names = record { plain = refl; short = omega arith }
-references-row refs.Keys = record { plain = refl; short = omega arith }
-references-row refs.Nothing = record { plain = refl; short = omega arith }
+references-row how = record { plain = refl; short = omega arith }
 
 form-row : (k : Kind) (form : StrForm) → IsRow 1000 (form_tokens k form)
-form-row kind.Cache form = grind (arith, row-wider, row-append, disposition-row)
 form-row (kind.List headers locks how) form = grind (arith, row-wider, row-append, disposition-row, references-row)
-form-row kind.Lock form = grind (arith, row-wider, row-append, disposition-row)
+form-row k form = grind (arith, row-wider, row-append, disposition-row)
 
 disposition-within : (declared : Declared) (keep : Bool) → AreWithin declared (disposition keep ∷ [])
 disposition-within declared true = (tt, tt)
@@ -134,20 +112,17 @@ disposition-within declared false = (tt, tt)
 
 references-within : (declared : Declared) (how : Refs) → AreWithin declared (references how ∷ [])
 references-within declared refs.Names = (tt, tt)
-references-within declared refs.Keys = (tt, tt)
-references-within declared refs.Nothing = (tt, tt)
+references-within declared how = (tt, tt)
 
 form-within : (declared : Declared) (k : Kind) (form : StrForm) → IsForm form → IsKind k → IsVectorOf k form.vector
     → AreWithin declared (form_tokens k form)
-form-within declared kind.Cache form h is vector = grind (arith, disposition-within)
 form-within declared (kind.List headers locks how) form h is vector =
     grind (arith, disposition-within, references-within)
-form-within declared kind.Lock form h is vector = grind (arith, disposition-within)
+form-within declared k form h is vector = grind (arith, disposition-within)
 
 vector-told : (k : Kind) (vector : ℕ) → IsVectorOf k vector → IsVectorTold k vector
-vector-told kind.Cache vector h = tt
-vector-told (kind.List headers locks how) vector h = tt
 vector-told kind.Lock vector h = h
+vector-told k vector h = tt
 
 abbrev with_prefs : StrForm → List Set → StrForm
 with_prefs form prefs = record form { prefs = prefs }
@@ -155,8 +130,7 @@ with_prefs form prefs = record form { prefs = prefs }
 same_tokens : (k : Kind) (form : StrForm) (prefs : List Set)
     → form_tokens k (with_prefs form prefs) ≡ form_tokens k form
 same_tokens kind.Cache form prefs = refl
-same_tokens (kind.List headers locks how) form prefs = refl
-same_tokens kind.Lock form prefs = refl
+same_tokens k form prefs = refl
 
 room-left : (count most : ℕ) → count < most → nat_le most count ≡ false
 room-left count most h = grind (arith, nat_tests)
@@ -165,9 +139,8 @@ no_names : AreNames []
 no_names = (λ k d low. absurd (omega arith), λ j k d before low. absurd (omega arith))
 
 form-adds : (facilities : List Set) (front : List StrForm) (form : StrForm) (back : List StrForm) (count : ℕ)
-    → HaveNames (λ (f : StrForm). f.name) (front ++ form ∷ back) → length front < 16 → IsForm form
-    → LeadsOne (policy facilities front []) count (form_line form)
-    (policy facilities (front ++ with_prefs form [] ∷ []) [])
+    → HaveNames (λ (f : StrForm). f.name) (front ++ form ∷ back) → length front < 16 → IsForm form → LeadsOne
+    (policy facilities front []) count (form_line form) (policy facilities (front ++ with_prefs form [] ∷ []) [])
 form-adds facilities front form back count names few h =
     let bare : StrForm = with_prefs form [] in
     let script = policy facilities front [] in
@@ -185,30 +158,24 @@ form-adds facilities front form back count names few h =
     let short : length (line_of words) ≤ 8192 = grind (arith, length-append) in
     let full : nat_le 16 (length front) ≡ false = room-left (length front) 16 few in
     let fresh = fresh_name (λ (f : StrForm). f.name) front form back names in
-    line-adds script after count words good short
-    (record {
+    line-adds script after count words good short (record {
       early = refl;
       declaration = Structure bare;
       declares = grind (arith, vector-told, name-said, same_tokens);
       not_full = rw full refl;
-      once = not_false (list_any
-          (λ (other : StrForm). same_word (name_word other.name) (name_word form.name)) front) fresh;
+      once = grind (arith, not_false);
       within = refl;
       same = refl;
     })
 
 -- ---- units set aside
 
-own_units : (pref : Set) → (cond (pref.cf.0 == pref.cf.0) pref.units 0) ≡ pref.units
-own_units pref = let same : (pref.cf.0 == pref.cf.0) ≡ true = grind (arith, nat_tests) in rw same refl
-
 pub units-append : (xs ys : List Set) (cf : CfId) → units_of (xs ++ ys) cf ≡ units_of xs cf + units_of ys cf
 units-append xs ys cf = sum_by-append (λ (pref : Set). cond (pref.cf.0 == cf.0) pref.units 0) xs ys
 
 units-first : (pref : Set) (rest : List Set) → units_of (pref ∷ rest) pref.cf ≡ pref.units + units_of rest pref.cf
-units-first pref rest =
-    sum_by-cons (λ (p : Set). cond (p.cf.0 == pref.cf.0) p.units 0) pref rest
-    ∙ ap (λ (n : ℕ). n + units_of rest pref.cf) (own_units pref)
+units-first pref rest = sum_by-cons (λ (p : Set). cond (p.cf.0 == pref.cf.0) p.units 0) pref rest
+    ∙ ap (λ (n : ℕ). n + units_of rest pref.cf) (grind (arith, nat_tests))
 
 pub prefs-append : (xs ys : List StrForm) (cf : CfId)
     → units_of (all_prefs (xs ++ ys)) cf ≡ units_of (all_prefs xs) cf + units_of (all_prefs ys) cf
@@ -216,65 +183,55 @@ prefs-append xs ys cf = grind (arith, flat_map-append, units-append)
 
 -- one more stays within what all take
 room-for : (front : List StrForm) (form : StrForm) (back : List StrForm) (done : List Set) (pref : Set)
-    (rest : List Set) (units : ℕ)
-    → done ++ pref ∷ rest ≡ form.prefs → units_of (all_prefs (front ++ form ∷ back)) pref.cf ≤ units
-    → units_of (all_prefs (front ++ with_prefs form done ∷ [])) pref.cf + pref.units ≤ units
+    (rest : List Set) (units : ℕ) → done ++ pref ∷ rest ≡ form.prefs → units_of (all_prefs (front ++ form ∷ back))
+    pref.cf ≤ units → units_of (all_prefs (front ++ with_prefs form done ∷ [])) pref.cf + pref.units ≤ units
 room-for front form back done pref rest units e most = grind (arith, prefs-append, units-append, units-first)
 
 slice_seam : (front : List StrForm) (form : StrForm) → slice_get (front ++ form ∷ []) (length front) ≡ Some form
-slice_seam front form =
-    slice_get-get_or (front ++ form ∷ []) (length front) form (omega (arith, length-append front (form ∷ [])))
-    ∙ ap Some (get_or-append_seam front form [] form)
+slice_seam front form = slice_get-get_or (front ++ form ∷ []) (length front)
+    form (omega (arith, length-append front (form ∷ []))) ∙ ap Some (get_or-append_seam front form [] form)
 
 pref-adds : (facilities : List Set) (front : List StrForm) (form : StrForm) (back : List StrForm) (done : List Set)
-    (pref : Set)
-    (rest : List Set) (count : ℕ) → HaveNames (λ (f : StrForm). f.name) (front ++ form ∷ back)
-    → IsStructureIn facilities form
-    → done ++ pref ∷ rest ≡ form.prefs
-    → units_of (all_prefs (front ++ form ∷ back)) pref.cf ≤ facility_units facilities pref.cf
-    → LeadsOne (policy facilities (front ++ with_prefs form done ∷ []) []) count (pref_line form pref)
-    (policy facilities (front ++ with_prefs form (done ++ pref ∷ []) ∷ []) [])
+    (pref : Set) (rest : List Set) (count : ℕ) → HaveNames (λ (f : StrForm). f.name) (front ++ form ∷ back)
+    → IsStructureIn facilities form → done ++ pref ∷ rest ≡ form.prefs → units_of (all_prefs (front ++ form ∷ back))
+    pref.cf ≤ facility_units facilities pref.cf → LeadsOne (policy facilities (front ++ with_prefs form done ∷ []) [])
+    count (pref_line form pref) (policy facilities (front ++ with_prefs form (done ++ pref ∷ []) ∷ []) [])
 pref-adds facilities front form back done pref rest count names h e room =
-    let now : StrForm = with_prefs form done in
-    let more : StrForm = with_prefs form (done ++ pref ∷ []) in
+    let now = with_prefs form done in
+    let more = with_prefs form (done ++ pref ∷ []) in
     let structures = front ++ now ∷ [] in
     let script = policy facilities structures [] in
     let after = policy facilities (front ++ more ∷ []) [] in
     let on : StrNo = record { 0 = length front } in
-    let named = name_of_element (λ (f : StrForm). f.name) front form back names in
-    let prefs : AreFacilities (done ++ pref ∷ rest) = subst AreFacilities (sym e) (h.formed.prefs, h.formed.apart) in
-    let is : IsPref pref = element IsPref done pref rest prefs.0 in
+    let named = name_of_element (λ f. f.name) _ _ _ names in
+    let prefs = subst AreFacilities (sym e) (h.formed.prefs, h.formed.apart) in
+    let is = element IsPref done pref rest prefs.0 in
     let known : is_declared facilities pref.cf ≡ true = grind (arith, element) in
-    let name = name-good form.name named.0 in
-    let cf = facility-good pref.cf is.0.1 in
+    let name = name-good _ named.0 in
+    let cf = facility-good _ is.0.1 in
     let units = number-good pref.units (omega (arith, is.2)) in
     let words = codes "PREF" ∷ name_word form.name ∷ facility_word pref.cf ∷ decimal pref.units ∷ [] in
-    let good : AreGood words =
-    (refl, refl, (name.some, name.solid_all, (cf.some, cf.solid_all, (units.some, units.solid_all, tt)))) in
+    let good : AreGood words = grind arith in
     let short : length (line_of words) ≤ 8192 = grind (arith, length-append) in
-    let fresh = fresh_name (λ (f : StrForm). f.name) front form back names in
+    let fresh = fresh_name (λ f. f.name) _ _ _ names in
     let is_it : StrForm → Bool = λ other. same_word (name_word other.name) (name_word form.name) in
     let numbered : ℕ → StrNo = λ place. (record { 0 = place }) in
     let place : structure_of structures (name_word form.name) ≡ Some on =
-    ap (option_map numbered) (position-seam is_it front now [] fresh (same_word-refl (name_word form.name))) in
+    grind (arith, position-seam, same_word-refl) in
     let here = slice_seam front now in
-    let once : has_pref structures on pref.cf ≡ false =
-    ap (λ (o : Option StrForm). option_map_or (λ (f : StrForm). is_declared f.prefs pref.cf) o false) here
-    ∙ fresh_cf done pref rest prefs in
+    let once = ap (λ o. option_map_or (λ f. is_declared f.prefs pref.cf) o false) here ∙ fresh_cf _ _ _ prefs in
     let set : with_pref structures on pref ≡ front ++ more ∷ [] = grind (arith, set-append_seam) in
     let enough = room-for front form back done pref rest (facility_units facilities pref.cf) e room in
     let within : nat_lt (facility_units facilities pref.cf) (units_of (all_prefs structures) pref.cf + pref.units)
-    ≡ false =
-    at_most (facility_units facilities pref.cf) (units_of (all_prefs structures) pref.cf + pref.units) enough in
-    line-adds script after count words good short
-    (record {
+    ≡ false = grind (arith, at_most) in
+    line-adds script after count words good short (record {
       early = refl;
       declaration = Pref on pref;
       declares = grind (arith, name-said, facility-said, number-said, lit<);
       not_full = refl;
-      once = not_false (has_pref structures on pref.cf) once;
+      once = not_false _ once;
       within = not_false _ within;
-      same = ap (λ (forms : List StrForm). policy facilities forms []) (sym set);
+      same = ap (λ forms. policy facilities forms []) (sym set);
     })
   where
     at_most : (m n : ℕ) → n ≤ m → nat_lt m n ≡ false
@@ -288,36 +245,30 @@ structure-adds : (facilities : List Set) (front : List StrForm) (form : StrForm)
     → Leads (policy facilities front []) count (structure_lines form) (policy facilities (front ++ form ∷ []) [])
 structure-adds facilities front form back count names few h room =
     let state : List Set → Script = λ done. policy facilities (front ++ with_prefs form done ∷ []) [] in
-    leads-one (policy facilities front []) (state []) (policy facilities (front ++ form ∷ []) []) count
-    (form_line form)
-    (map (pref_line form) form.prefs) (form-adds facilities front form back count names few h.formed)
-    (leads-each state (pref_line form) form.prefs (count + 1)
-    (λ done pref rest n e at. pref-adds facilities front form back done pref rest n names h e (room pref.cf))
+    leads-one _ _ _ _ _ _ (form-adds _ _ _ _ _ names few h.formed) (leads-each state (pref_line form)
+    form.prefs (count + 1) (λ done pref rest n e at. pref-adds _ _ _ _ _ _ _ n names h e (room pref.cf))
     [] form.prefs (count + 1) refl (omega arith))
 
-pub structures-add : (facilities : List Set) (structures : List StrForm) (count : ℕ)
-    → AreNames (map (λ (form : StrForm). form.name) structures) → length structures ≤ 16
-    → All (IsStructureIn facilities) structures
-    → ((cf : CfId) → units_of (all_prefs structures) cf ≤ facility_units facilities cf)
+pub structures-add : (facilities : List Set) (structures : List StrForm) (count : ℕ) → AreNames
+    (map (λ (form : StrForm). form.name) structures) → length structures ≤ 16 → All (IsStructureIn facilities)
+    structures → ((cf : CfId) → units_of (all_prefs structures) cf ≤ facility_units facilities cf)
     → Leads (policy facilities [] []) count (flat_map structure_lines structures) (policy facilities structures [])
 structures-add facilities structures count names few forms room =
     let named = structures-named structures names in
     leads-blocks (λ (front : List StrForm). policy facilities front []) structure_lines structures
-    (λ front form back n e.
-    structure-adds facilities front form back n (subst (HaveNames (λ (f : StrForm). f.name)) (sym e) named)
-    (omega (arith, few, ap length e, length-append front (form ∷ back)))
-    (element (IsStructureIn facilities) front form back (subst (All (IsStructureIn facilities)) (sym e) forms))
-    (λ cf. subst (λ (fs : List StrForm). units_of (all_prefs fs) cf ≤ facility_units facilities cf) (sym e)
-    (room cf)))
-    [] structures count refl
+    (λ front form back n e. structure-adds facilities front form back n (grind (arith, HaveNames)) (omega (
+      arith,
+      few,
+      ap length e,
+      length-append front (form ∷ back),
+    )) (grind (arith, element)) (grind arith)) [] structures count refl
 
 -- ---- connectors
 
-connector-adds : (facilities : List Set) (structures : List StrForm) (front : List Name16) (name : Name16)
-    (back : List Name16)
-    (count : ℕ) → HaveNames (λ (n : Name16). n) (front ++ name ∷ back) → length front < CONNECTORS
-    → LeadsOne (policy facilities structures front) count (connector_line name)
-    (policy facilities structures (front ++ name ∷ []))
+connector-adds : (facilities : List Set) (structures : List StrForm) (front : List Name16)
+    (name : Name16) (back : List Name16) (count : ℕ) → HaveNames (λ (n : Name16). n) (front ++ name ∷ back)
+    → length front < CONNECTORS → LeadsOne (policy facilities structures front)
+    count (connector_line name) (policy facilities structures (front ++ name ∷ []))
 connector-adds facilities structures front name back count names few =
     let named = name_of_element (λ (n : Name16). n) front name back names in
     let word = name-good name named.0 in
@@ -326,9 +277,8 @@ connector-adds facilities structures front name back count names few =
     let short : length (line_of words) ≤ 8192 = grind (arith, length-append) in
     let full : nat_le CONNECTORS (length front) ≡ false = room-left (length front) CONNECTORS few in
     let fresh = fresh_name (λ (n : Name16). n) front name back names in
-    line-adds (policy facilities structures front)
-    (policy facilities structures (front ++ name ∷ [])) count words good short
-    (record {
+    line-adds (policy facilities structures front) (policy facilities structures (front ++ name ∷ []))
+    count words good short (record {
       early = refl;
       declaration = Connector name;
       declares = record { whole = tt; spelled = (refl, ((name-said name named, named.0.1), refl)) };
@@ -339,13 +289,10 @@ connector-adds facilities structures front name back count names few =
     })
 
 pub connectors-add : (facilities : List Set) (structures : List StrForm) (connectors : List Name16) (count : ℕ)
-    → AreNames connectors → length connectors ≤ CONNECTORS
-    → Leads (policy facilities structures []) count (map connector_line connectors)
-    (policy facilities structures connectors)
+    → AreNames connectors → length connectors ≤ CONNECTORS → Leads
+    (policy facilities structures []) count (map connector_line connectors) (policy facilities structures connectors)
 connectors-add facilities structures connectors count names few =
     let named = connectors-named connectors names in
-    leads-each (λ (front : List Name16). policy facilities structures front) connector_line connectors count
-    (λ front name back n e at.
-    connector-adds facilities structures front name back n (subst (HaveNames (λ (n : Name16). n)) (sym e) named)
-    (omega (arith, few, ap length e, length-append front (name ∷ back))))
-    [] connectors count refl (omega arith)
+    leads-each (λ (front : List Name16). policy facilities structures front) connector_line connectors
+    count (λ front name back n e at. connector-adds facilities structures front name back n (grind (arith, HaveNames))
+    (omega (arith, few, ap length e, length-append front (name ∷ back)))) [] connectors count refl (omega arith)

@@ -72,21 +72,16 @@ pub record IsRead (text : List ℕ) (script : Script) (number : ℕ) (rest : Lis
 next_number : (n : ℕ) → min (min n 4294967295 + 1) 4294967295 ≡ min (n + 1) 4294967295
 next_number n = omega arith
 
-number_more : (number count : ℕ) → number ≡ line_number count → min (number + 1) 4294967295 ≡ line_number (count + 1)
-number_more number count h = rw h (next_number count)
-
 pub IsRead-more : (text : List ℕ) (script : Script) (number : ℕ) (rest line more : List ℕ) (next : Script) (after : ℕ)
-    → IsRead text script number rest
-    → lines_of rest ≡ line ∷ lines_of more → after ≡ min (number + 1) 4294967295 → Adds script after line next
-    → IsRead text next after more
+    → IsRead text script number rest → lines_of rest ≡ line ∷ lines_of more
+    → after ≡ min (number + 1) 4294967295 → Adds script after line next → IsRead text next after more
 IsRead-more text script number rest line more next after h lines is adds =
-    let as_count : after ≡ line_number (length h.front + 1) = is ∙ number_more number (length h.front) h.count in
+    let as_count : after ≡ line_number (length h.front + 1) = is ∙ (grind (arith, next_number)) in
     let len : length (h.front ++ line ∷ []) ≡ length h.front + 1 = omega (arith, length-append h.front (line ∷ [])) in
     let zero_more : 0 + length h.front + 1 ≡ length h.front + 1 = omega arith in
     record {
       front = h.front ++ line ∷ [];
-      whole = h.whole ∙ ap (λ (ls : List (List ℕ)). h.front ++ ls) lines
-          ∙ sym (append_assoc h.front (line ∷ []) (lines_of more));
+      whole = grind (arith, append_assoc);
       count = rw len as_count;
       fine = AddsAll-more empty_script 0 h.front script line next h.fine (rw zero_more (rw as_count at adds));
     }

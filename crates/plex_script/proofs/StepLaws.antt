@@ -66,5 +66,4 @@ asks_some kind line step.Rest ready goes = absurd (goes refl)
 -- a step that asks isn't the last
 pub some_goes : (kind : Kind) (line : Option AnyAsk) (now : Step) (asked : AnyAsk)
     → asked_by kind line now ≡ Some asked → now ≢ step.Rest
-some_goes kind line now asked asks rest =
-    let none : asked_by kind line now ≡ None = ap (asked_by kind line) rest in cc
+some_goes kind line now asked asks rest = grind arith

@@ -17,8 +17,4 @@ pub runs_elsewhere : (kind : Kind) (line : Option AnyAsk) (calls : List AnyCall)
 runs_elsewhere kind line calls by on other now [] apart runs = refl
 runs_elsewhere kind line calls by on other now (shown.Call place number ∷ items) apart runs =
     grind (arith, runs_elsewhere kind line calls by on other (step_after now runs.0) items apart runs.3)
-runs_elsewhere kind line calls by on other now (shown.Test place index bit at ∷ items) apart runs = absurd runs
-runs_elsewhere kind line calls by on other now (shown.Word place word bits at ∷ items) apart runs = absurd runs
-runs_elsewhere kind line calls by on other now (shown.BadIndex place index word len ∷ items) apart runs = absurd runs
-runs_elsewhere kind line calls by on other now (shown.Posted place sure ∷ items) apart runs = absurd runs
-runs_elsewhere kind line calls by on other now (shown.Took place sure ∷ items) apart runs = absurd runs
+runs_elsewhere kind line calls by on other now (item ∷ items) apart runs = absurd runs

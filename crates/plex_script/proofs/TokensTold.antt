@@ -11,86 +11,52 @@ told-class stg = grind (arith, nat_tests)
 given-told : (cmd : CacheCmd) → IsGiven (storage_told cmd) cmd
 given-told (cache.Read name index old stg) = told-class stg
 given-told (cache.Write name index body class adj old stg when_reg) = told-class stg
-given-told (cache.CrossInval name) = refl
-given-told cache.RegList = refl
-given-told (cache.Castout name) = refl
-given-told (cache.Unlock name) = refl
-given-told (cache.CoClass class) = refl
-given-told cache.CoStats = refl
-given-told (cache.DirInfo name) = refl
-given-told (cache.Delete name) = refl
-given-told (cache.StgStats stg) = refl
+given-told cmd = refl
 
 pub may-told : (by : ConnId) (kind : Kind) (given : Option ℕ) (act : Act) (retry : ℕ) → MayDo by kind given act retry
     → MayDo by kind (class_in act) act retry
-may-told by kind given (Call (any.Cache (Shell cmd))) retry h = (h.0, (h.1.0, refl))
 may-told by kind given (Call (any.Cache (Content cmd))) retry h = (h.0, (h.1.0, given-told cmd))
-may-told by kind given (Call (any.List (Shell cmd))) retry h = (h.0, (h.1.0, refl))
 may-told by kind given (Call (any.List (Content cmd))) retry h = (h.0, (h.1.0, h.1.1, refl))
 may-told by kind given (Call (any.Lock (Shell cmd))) retry h = (h.0, (h.1.0, refl))
-may-told by kind given (Call (any.Lock (Content cmd))) retry h = (h.0, (h.1.0, refl))
+may-told by kind given (Call ask) retry h = (h.0, (h.1.0, refl))
 may-told by kind given (Test index) retry h = (h.0, h.1, refl, h.3)
 may-told by kind given (TestWord word) retry h = (h.0, h.1, refl, h.3)
-may-told by kind given Post retry h = (h.0, refl, h.2)
-may-told by kind given Take retry h = (h.0, refl, h.2)
-may-told by kind given Events retry h = (h.0, refl, h.2)
+may-told by kind given act retry h = (h.0, refl, h.2)
 
 -- ---- the words of it
 
 abbrev storage : Option ℕ → List Token
 storage given = option_tokens (codes "STG") number_tokens given
 
-class-small : (declared : Declared) (given : Option ℕ) (stg : ℕ) → stg ≡ unwrap_or given 1
-    → AreWithin declared (storage given)
-    → stg ≤ 4294967295
-class-small declared None stg e h = omega (arith, e)
-class-small declared (Some n) stg e h = omega (arith, e, h.1.0.1)
+module _ (declared : Declared) where
+  class-small : (given : Option ℕ) (stg : ℕ) → stg ≡ unwrap_or given 1
+      → AreWithin declared (storage given) → stg ≤ 4294967295
+  class-small None stg e h = omega (arith, e)
+  class-small (Some n) stg e h = omega (arith, e, h.1.0.1)
 
-storage-within : (declared : Declared) (given : Option ℕ) (stg : ℕ) → stg ≡ unwrap_or given 1
-    → AreWithin declared (storage given)
-    → AreWithin declared (storage (class_told stg))
-storage-within declared given stg e h = grind (arith, class-small)
+  storage-within : (given : Option ℕ) (stg : ℕ) → stg ≡ unwrap_or given 1
+      → AreWithin declared (storage given) → AreWithin declared (storage (class_told stg))
+  storage-within given stg e h = grind (arith, class-small)
 
--- a part behind others, and before others
-behind-part : (declared : Declared) (front one other : List Token)
-    → (AreWithin declared one → AreWithin declared other)
-    → AreWithin declared (front ++ one) → AreWithin declared (front ++ other)
-behind-part declared front one other f h =
-    within-append declared front other (within-front declared front one h) (f (within-back declared front one h))
+  -- a part behind others, and before others
+  behind-part : (front one other : List Token) → (AreWithin declared one → AreWithin declared other)
+      → AreWithin declared (front ++ one) → AreWithin declared (front ++ other)
+  behind-part front one other f h = grind (arith, within-append, within-front, within-back)
 
-before-part : (declared : Declared) (back one other : List Token)
-    → (AreWithin declared one → AreWithin declared other)
-    → AreWithin declared (one ++ back) → AreWithin declared (other ++ back)
-before-part declared back one other f h =
-    within-append declared other back (f (within-front declared one back h)) (within-back declared one back h)
+  before-part : (back one other : List Token) → (AreWithin declared one → AreWithin declared other)
+      → AreWithin declared (one ++ back) → AreWithin declared (other ++ back)
+  before-part back one other f h = grind (arith, within-append, within-front, within-back)
 
-cache-told : (declared : Declared) (given : Option ℕ) (cmd : CacheCmd) → IsGiven given cmd
-    → AreWithin declared (cache_tokens given cmd) → AreWithin declared (cache_tokens (storage_told cmd) cmd)
-cache-told declared given (cache.Read name index old stg) e h =
-    grind (arith, behind-part, before-part, storage-within)
-cache-told declared given (cache.Write name index body class adj old stg when_reg) e h =
-    grind (arith, behind-part, before-part, storage-within)
-cache-told declared given (cache.CrossInval name) e h = h
-cache-told declared given cache.RegList e h = h
-cache-told declared given (cache.Castout name) e h = h
-cache-told declared given (cache.Unlock name) e h = h
-cache-told declared given (cache.CoClass class) e h = h
-cache-told declared given cache.CoStats e h = h
-cache-told declared given (cache.DirInfo name) e h = h
-cache-told declared given (cache.Delete name) e h = h
-cache-told declared given (cache.StgStats stg) e h = h
+  cache-told : (given : Option ℕ) (cmd : CacheCmd) → IsGiven given cmd
+      → AreWithin declared (cache_tokens given cmd) → AreWithin declared (cache_tokens (storage_told cmd) cmd)
+  cache-told given (cache.Read name index old stg) e h = grind (arith, behind-part, before-part, storage-within)
+  cache-told given (cache.Write name index body class adj old stg when_reg) e h =
+      grind (arith, behind-part, before-part, storage-within)
+  cache-told given cmd e h = h
 
-pub act-told : (declared : Declared) (by : ConnId) (kind : Kind) (given : Option ℕ) (act : Act) (retry : ℕ)
-    → MayDo by kind given act retry → AreWithin declared (act_tokens given act)
-    → AreWithin declared (act_tokens (class_in act) act)
-act-told declared by kind given (Call (any.Cache (Shell cmd))) retry may h = h
-act-told declared by kind given (Call (any.Cache (Content cmd))) retry may h = cache-told declared given cmd may.1.1 h
-act-told declared by kind given (Call (any.List (Shell cmd))) retry may h = h
-act-told declared by kind given (Call (any.List (Content cmd))) retry may h = h
-act-told declared by kind given (Call (any.Lock (Shell cmd))) retry may h = h
-act-told declared by kind given (Call (any.Lock (Content cmd))) retry may h = h
-act-told declared by kind given (Test index) retry may h = h
-act-told declared by kind given (TestWord word) retry may h = h
-act-told declared by kind given Post retry may h = h
-act-told declared by kind given Take retry may h = h
-act-told declared by kind given Events retry may h = h
+  pub act-told : (by : ConnId) (kind : Kind) (given : Option ℕ) (act : Act) (retry : ℕ) → MayDo by kind
+      given act retry → AreWithin declared (act_tokens given act) → AreWithin declared (act_tokens (class_in act) act)
+  act-told by kind given (Call (any.Cache (Content cmd))) retry may h = cache-told given cmd may.1.1 h
+  act-told by kind given (Call (any.List (Shell cmd))) retry may h = h
+  act-told by kind given (Call (any.Lock (Shell cmd))) retry may h = h
+  act-told by kind given act retry may h = h

@@ -24,15 +24,13 @@ later_later on first second third one two =
     let last : PassShown = pass_at third on in
     record {
       later = later_pass (pass_at first on) (pass_at second on) last one.later two.later;
-      rest = two.rest ∙ ap (with_pass on last) one.rest
-          ∙ ap (λ (passes : List PassShown). let d : DeskShown = record first { passes = passes } in d)
-          (set-set first.passes on.0 (pass_at second on) last);
+      rest = two.rest ∙ ap (with_pass on last) one.rest ∙ ap (λ (passes : List PassShown). let d : DeskShown =
+          record first { passes = passes } in d) (set-set first.passes on.0 (pass_at second on) last);
     }
 
 -- the same at a member's seat
 pub seen_more : {L : Type 0} (before between after : SeatShown L) → IsSame before between
     → IsLaterOn before.on before.desk between.desk → IsLaterOn between.on between.desk after.desk
     → IsLaterOn before.on before.desk after.desk
-seen_more before between after same one two =
-    later_later before.on before.desk between.desk after.desk one
-    (subst (λ (on : StrNo). IsLaterOn on between.desk after.desk) same.on two)
+seen_more before between after same one two = later_later before.on before.desk between.desk
+    after.desk one (subst (λ (on : StrNo). IsLaterOn on between.desk after.desk) same.on two)

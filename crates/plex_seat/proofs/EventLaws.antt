@@ -7,20 +7,17 @@ use Rattle.plex_seat.proofs.DeskLaws.{later_same}
 
 again : (on : StrNo) (one two : PassShown) (desk : DeskShown)
     → with_pass on two (with_pass on one desk) ≡ with_pass on two desk
-again on one two desk =
-    ap (λ (passes : List PassShown). let d : DeskShown = record desk { passes = passes } in d)
+again on one two desk = ap (λ (passes : List PassShown). let d : DeskShown = record desk { passes = passes } in d)
     (set-set desk.passes on.0 one two)
 
-rest_after : (on : StrNo) (first second third : DeskShown) (one two three : PassShown)
-    → second ≡ with_pass on one first → third ≡ with_pass on three (with_pass on two second)
-    → third ≡ with_pass on three first
+rest_after : (on : StrNo) (first second third : DeskShown) (one two three : PassShown) → second ≡ with_pass
+    on one first → third ≡ with_pass on three (with_pass on two second) → third ≡ with_pass on three first
 rest_after on first second third one two three was is =
     is ∙ again on two three second ∙ ap (with_pass on three) was ∙ again on one three first
 
 -- where a pass that knows more is put, no less is known
-known_set : (passes : List PassShown) (i : ℕ) (pass : PassShown)
-    → (slice_index_or passes i no_pass).known ≤ pass.known
-    → (slice_index_or passes i no_pass).known ≤ (slice_index_or (slice_set passes i pass) i no_pass).known
+known_set : (passes : List PassShown) (i : ℕ) (pass : PassShown) → (slice_index_or passes i no_pass).known ≤
+    pass.known → (slice_index_or passes i no_pass).known ≤ (slice_index_or (slice_set passes i pass) i no_pass).known
 known_set [] i pass more = omega arith
 known_set (first ∷ passes) zero pass more = more
 known_set (first ∷ passes) (suc i) pass more = known_set passes i pass more
@@ -46,8 +43,7 @@ module _ {L : Type 0} where
   module _ (most : ℕ) (before between after : SeatShown L) (same : IsSame before between) (here : IsSame between after)
       (asked : HasAskedForEvents most before between) where
     type_same : type_at between ≡ type_at before
-    type_same =
-        ap (λ (board : BoardShown L). type_in board between.on) same.board
+    type_same = ap (λ (board : BoardShown L). type_in board between.on) same.board
         ∙ ap (λ (on : StrNo). type_in before.board on) same.on
 
     -- the pass that the member has now, where it sits
@@ -67,9 +63,8 @@ module _ {L : Type 0} where
         record { no = called.told.no; by = (pass_of between).owner; ask = asks; told = called.told } in
         let new : PassShown = with_call asks called.told called.kept (pass_of between) in
         let told : after.desk ≡ with_pass before.on (pass_at after.desk before.on)
-        (with_pass before.on new between.desk) =
-        subst (λ (on : StrNo). after.desk ≡ with_pass on (pass_at after.desk on) (with_pass on new between.desk))
-        same.on called.desk.rest in
+        (with_pass before.on new between.desk) = subst (λ (on : StrNo). after.desk ≡ with_pass
+        on (pass_at after.desk on) (with_pass on new between.desk)) same.on called.desk.rest in
         record {
           more = asked.more ++ call ∷ [];
           count = omega (arith, asked.count, length-append asked.more (call ∷ []));
@@ -78,9 +73,8 @@ module _ {L : Type 0} where
           next = All-push (λ (call : AnyCall). call.ask ≡ common_ask (type_at before) cmd.Next) asked.more call
               asked.next (ap (λ (type_is : StrType). common_ask type_is cmd.Next) type_same);
           tests = called.tests ∙ asked.tests;
-          rest = rest_with (pass_at after.desk before.on) pass_same
-              (rest_after before.on before.desk between.desk after.desk (pass_of between) new
-              (pass_at after.desk before.on) asked.rest told);
+          rest = rest_with (pass_at after.desk before.on) pass_same (rest_after before.on before.desk
+              between.desk after.desk (pass_of between) new (pass_at after.desk before.on) asked.rest told);
         }
 
     -- no call more, though more was seen
@@ -101,18 +95,16 @@ module _ {L : Type 0} where
           next = asked.next;
           tests = ap (λ (pass : PassShown). pass.tests) now ∙ ap (λ (pass : PassShown). pass.tests) told.later.same
               ∙ ap (λ (pass : PassShown). pass.tests) was ∙ asked.tests;
-          rest = rest_with last pass_same
-              (told.rest ∙ ap (with_pass before.on last) asked.rest
+          rest = rest_with last pass_same (told.rest ∙ ap (with_pass before.on last) asked.rest
               ∙ again before.on (pass_of between) last before.desk);
         }
 
     -- the last call wasn't answered
     pub asked_fault : (limit : ℕ) (why : Unanswered) → most < limit
         → HasFault (common_ask (type_at between) cmd.Next) why between after → HasAskedForEvents limit before after
-    asked_fault limit OtherKind within fault =
-        asked_later limit (omega (arith, within))
-        (subst (λ (seat : SeatShown L). IsLaterOn between.on between.desk seat.desk) (sym fault.0)
-        (later_same between.on between.desk))
+    asked_fault limit OtherKind within fault = asked_later limit
+        (omega (arith, within)) (subst (λ (seat : SeatShown L). IsLaterOn between.on between.desk seat.desk)
+        (sym fault.0) (later_same between.on between.desk))
     asked_fault limit (NotMade refusal) within fault = asked_later limit (omega (arith, within)) fault.later
     asked_fault limit (Unread number) within fault =
         asked_within (most + 1) limit before after (omega (arith, within)) (asked_more number fault)

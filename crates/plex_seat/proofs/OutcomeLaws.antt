@@ -54,8 +54,7 @@ module _ {L : Type 0} (board : BoardShown L) (script : Script) (histories : List
       → AreClosed board desks histories → desks ≡ left ++ after.desk ∷ [] → IsDeskOf after.board after.desk
       → HasHeard after answer → on.0 < length board.cells → IsAnswerOf script histories on caller answer
   seat_answer at_board at_on of_caller same forms left desks closed are own heard there =
-      subst (λ who. IsAnswerOf script histories on who answer) (same.owner ∙ of_caller)
-      (answer_of board script histories on forms left desks after.desk closed are
-      (subst (λ (b : BoardShown L). IsDeskOf b after.desk) (same.board ∙ at_board) own) answer
-      (subst (λ (o : StrNo). Some answer.reply ≡ reply_numbered answer.no (pass_at after.desk o).replies)
-      (same.on ∙ at_on) heard) there)
+      subst (λ who. IsAnswerOf script histories on who answer) (same.owner ∙ of_caller) (answer_of board
+      script histories on forms left desks after.desk closed are (subst (λ (b : BoardShown L). IsDeskOf b after.desk)
+      (same.board ∙ at_board) own) answer (subst (λ (o : StrNo). Some answer.reply ≡ reply_numbered
+      answer.no (pass_at after.desk o).replies) (same.on ∙ at_on) heard) there)

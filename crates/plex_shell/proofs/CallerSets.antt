@@ -18,9 +18,8 @@ AreCallers-filter_without : (p : ConnId → Bool) (conn : ConnId)
 AreCallers-filter_without p conn =
     let others : ConnId → Bool = λ other. p other && not (other.0 == conn.0) in
     let same : filter others (conns_from 0 CALLERS) ≡ without_member conn (filter p (conns_from 0 CALLERS)) =
-    without_member-from p others conn 0 CALLERS
-    (and_right (p conn) (not (conn.0 == conn.0)) (rw (eq-eqb conn.0 conn.0 refl) refl))
-    (λ other apart high. rw (ne_eqb other.0 conn.0 apart) (and-true (p other))) in
+    without_member-from p others conn 0 CALLERS (and_right (p conn) (not (conn.0 == conn.0)) (rw
+    (eq-eqb conn.0 conn.0 refl) refl)) (λ other apart high. rw (ne_eqb other.0 conn.0 apart) (and-true (p other))) in
     subst (λ (set : List ConnId). AreCallers set) same (AreCallers-filter others)
 
 pub AreCallers-other_actives : (conn : ConnId) (conns : Connections)
@@ -52,9 +51,8 @@ abbrev pub LeadsFrom : List ConnId → Event → Mailboxes → ℕ → Mailboxes
 LeadsFrom set event whole number now = with_letters now (letters_to (members_from set number) event) ≡ whole
 
 module _ (set : List ConnId) (event : Event) (number : ℕ) (within : number < CALLERS) (whole now : Mailboxes) where
-  pub leads_member : is_member (record { 0 = number }) set ≡ true → LeadsFrom set event whole number now
-      → LeadsFrom set event whole (number + 1) (with_letter now
-      (record { to = record { 0 = number }; event = event }))
+  pub leads_member : is_member (record { 0 = number }) set ≡ true → LeadsFrom set event whole number now → LeadsFrom
+      set event whole (number + 1) (with_letter now (record { to = record { 0 = number }; event = event }))
   leads_member member before = rw (members_from-first set number within, member) at before
 
   pub leads_nobody : is_member (record { 0 = number }) set ≡ false → LeadsFrom set event whole number now

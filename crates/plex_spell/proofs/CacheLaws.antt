@@ -1,9 +1,8 @@
 -- What is read as a command of a cache is spelled so, and what is spelled so is read.
-use Rattle.plex_spell.proofs.Imports.{arith, ◌≡◌, ℕ, true, [], ◌∷◌, Option, Some, None, codes, refl, lit<, CacheCmd, Read, Write, CrossInval, RegList, Castout, Unlock, CoClass, CoStats, DirInfo, Delete, StgStats, cache_tokens, IsGiven, cache_at, read_places, read_of, write_places, write_of, name_places, number_places, Rigour, Declared, Spells}
-use Rattle.plex_spell.proofs.Choices.{pick, not_some}
+use Rattle.plex_spell.proofs.Imports.{codes, arith, lit<, ◌≡◌, ℕ, true, [], ◌∷◌, Option, Some, None, refl, CacheCmd, Read, Write, CrossInval, RegList, Castout, Unlock, CoClass, CoStats, DirInfo, Delete, StgStats, cache_tokens, IsGiven, cache_at, read_places, read_of, write_places, write_of, name_places, number_places, Rigour, Declared, Spells}
 use Rattle.plex_spell.proofs.PlaceLaws.{Words, FindsAll}
 use Rattle.plex_spell.proofs.PatternLaws.{ArePlaces}
-use Rattle.plex_spell.proofs.VerbLaws.{verb-sound, plain-sound, command-complete, plain-complete, is_tail, AreFree-tail}
+use Rattle.plex_spell.proofs.VerbLaws.{is_tail, verb-first, none-left, plain-first, row-complete, plain-complete}
 
 pub record CacheTold (rigour : Rigour) (declared : Declared) (ws rest : Words) (cmd : CacheCmd) : Type 0 where
   pub given : Option ℕ
@@ -23,67 +22,56 @@ pub are_number : ArePlaces number_places
 are_number = (lit< tt, tt, tt)
 
 pub cache-sound : (rigour : Rigour) (declared : Declared) (ws rest : Words) (cmd : CacheCmd)
-    → cache_at rigour declared ws ≡ Some (cmd, rest)
-    → CacheTold rigour declared ws rest cmd
-cache-sound rigour declared [] rest cmd h = not_some (let p : CacheCmd × Words = (cmd, rest) in p) h
+    → cache_at rigour declared ws ≡ Some (cmd, rest) → CacheTold rigour declared ws rest cmd
+cache-sound rigour declared [] rest cmd h = absurd (cc)
 cache-sound rigour declared (verb ∷ ws) rest cmd h =
     let P : CacheCmd → Type 0 = CacheTold rigour declared (verb ∷ ws) rest in
-    pick h (λ e k. verb-sound rigour declared verb (codes "READ") read_places read_of ws rest cmd P are_read
-    (λ vs s. record { given = vs.1.1.1.0; is_given = refl; spelled = s }) e k)
-    (λ _ a. pick a (λ e k. verb-sound rigour declared verb (codes "WRITE") write_places write_of ws rest cmd P
-    are_write (λ vs s. record { given = vs.1.1.1.1.1.1.0; is_given = refl; spelled = s }) e k)
-    (λ _ b. pick b (λ e k. verb-sound rigour declared verb (codes "CROSSINVAL") name_places (λ v. CrossInval v.0) ws
-    rest cmd P are_name (λ vs s. record { given = None; is_given = refl; spelled = s }) e k)
-    (λ _ c. pick c (λ e k. plain-sound rigour declared verb (codes "REGLIST") RegList ws rest cmd P
-    (λ s. record { given = None; is_given = refl; spelled = s }) e k)
-    (λ _ d. pick d (λ e k. verb-sound rigour declared verb (codes "CASTOUT") name_places (λ v. Castout v.0) ws rest
-    cmd P are_name (λ vs s. record { given = None; is_given = refl; spelled = s }) e k)
-    (λ _ f. pick f (λ e k. verb-sound rigour declared verb (codes "UNLOCK") name_places (λ v. Unlock v.0) ws rest cmd
-    P are_name (λ vs s. record { given = None; is_given = refl; spelled = s }) e k)
-    (λ _ g. pick g (λ e k. verb-sound rigour declared verb (codes "COCLASS") number_places (λ v. CoClass v.0) ws rest
-    cmd P are_number (λ vs s. record { given = None; is_given = refl; spelled = s }) e k)
-    (λ _ i. pick i (λ e k. plain-sound rigour declared verb (codes "COSTATS") CoStats ws rest cmd P
-    (λ s. record { given = None; is_given = refl; spelled = s }) e k)
-    (λ _ j. pick j (λ e k. verb-sound rigour declared verb (codes "DIRINFO") name_places (λ v. DirInfo v.0) ws rest
-    cmd P are_name (λ vs s. record { given = None; is_given = refl; spelled = s }) e k)
-    (λ _ l. pick l (λ e k. verb-sound rigour declared verb (codes "DELETE") name_places (λ v. Delete v.0) ws rest cmd
-    P are_name (λ vs s. record { given = None; is_given = refl; spelled = s }) e k)
-    (λ _ m. pick m (λ e k. verb-sound rigour declared verb (codes "STGSTATS") number_places (λ v. StgStats v.0) ws
-    rest cmd P are_number (λ vs s. record { given = None; is_given = refl; spelled = s }) e k)
-    (λ _ n. not_some (let p : CacheCmd × Words = (cmd, rest) in p) n)))))))))))
+    let row = verb-first rigour declared verb ws rest cmd P in
+    let word = plain-first rigour declared verb ws rest cmd P in
+    row (codes "READ") read_places read_of are_read (λ vs s. record {
+      given = vs.1.1.1.0;
+      is_given = refl;
+      spelled = s;
+    }) _ (row (codes "WRITE") write_places write_of are_write (λ vs s. record {
+      given = vs.1.1.1.1.1.1.0;
+      is_given = refl;
+      spelled = s;
+    }) _ (row (codes "CROSSINVAL") name_places (λ v. CrossInval v.0) are_name (λ vs. bare refl)
+    _ (word (codes "REGLIST") RegList (bare refl) _ (row (codes "CASTOUT") name_places (λ v. Castout v.0)
+    are_name (λ vs. bare refl) _ (row (codes "UNLOCK") name_places (λ v. Unlock v.0) are_name (λ vs. bare refl)
+    _ (row (codes "COCLASS") number_places (λ v. CoClass v.0) are_number (λ vs. bare refl) _ (word (codes "COSTATS")
+    CoStats (bare refl) _ (row (codes "DIRINFO") name_places (λ v. DirInfo v.0) are_name (λ vs. bare refl) _ (row
+    (codes "DELETE") name_places (λ v. Delete v.0) are_name (λ vs. bare refl) _ (row (codes "STGSTATS") number_places
+    (λ v. StgStats v.0) are_number (λ vs. bare refl) _ (none-left rigour declared verb ws rest cmd P))))))))))) h
+  where
+    bare : {c : CacheCmd} → IsGiven None c → Spells rigour declared (cache_tokens None c) (verb ∷ ws) rest
+        → CacheTold rigour declared (verb ∷ ws) rest c
+    bare is s = record { given = None; is_given = is; spelled = s }
 
-pub cache-complete : (rigour : Rigour) (declared : Declared) (ws rest : Words) (given : Option ℕ) (cmd : CacheCmd)
-    → is_tail rest ≡ true → IsGiven given cmd
-    → Spells rigour declared (cache_tokens given cmd) ws rest → FindsAll rigour (cache_at rigour declared ws) cmd rest
-cache-complete rigour declared ws rest given (Read name index old stg) tail is h =
-    rw is (command-complete rigour declared (codes "READ") read_places read_of (name, (index, (old, (given, tt)))) ws
-    rest are_read refl (AreFree-tail read_places rest tail refl) (cache_at rigour declared) (λ us. refl) h)
-cache-complete rigour declared ws rest given (Write name index body class adj old stg when_reg) tail is h =
-    rw is (command-complete rigour declared (codes "WRITE") write_places write_of
-    (name, (index, (body, (class, (adj, (old, (given, (when_reg, tt)))))))) ws rest are_write refl
-    (AreFree-tail write_places rest tail refl) (cache_at rigour declared) (λ us. refl) h)
-cache-complete rigour declared ws rest given (CrossInval name) tail is h =
-    command-complete rigour declared (codes "CROSSINVAL") name_places (λ v. CrossInval v.0) (name, tt) ws rest
-    are_name refl (AreFree-tail name_places rest tail refl) (cache_at rigour declared) (λ us. refl) h
-cache-complete rigour declared ws rest given RegList tail is h = plain-complete rigour declared (codes "REGLIST")
-    RegList ws rest (cache_at rigour declared) (λ us. refl) h
-cache-complete rigour declared ws rest given (Castout name) tail is h =
-    command-complete rigour declared (codes "CASTOUT") name_places (λ v. Castout v.0) (name, tt) ws rest are_name refl
-    (AreFree-tail name_places rest tail refl) (cache_at rigour declared) (λ us. refl) h
-cache-complete rigour declared ws rest given (Unlock name) tail is h =
-    command-complete rigour declared (codes "UNLOCK") name_places (λ v. Unlock v.0) (name, tt) ws rest are_name refl
-    (AreFree-tail name_places rest tail refl) (cache_at rigour declared) (λ us. refl) h
-cache-complete rigour declared ws rest given (CoClass class) tail is h =
-    command-complete rigour declared (codes "COCLASS") number_places (λ v. CoClass v.0) (class, tt) ws rest are_number
-    refl (AreFree-tail number_places rest tail refl) (cache_at rigour declared) (λ us. refl) h
-cache-complete rigour declared ws rest given CoStats tail is h = plain-complete rigour declared (codes "COSTATS")
-    CoStats ws rest (cache_at rigour declared) (λ us. refl) h
-cache-complete rigour declared ws rest given (DirInfo name) tail is h =
-    command-complete rigour declared (codes "DIRINFO") name_places (λ v. DirInfo v.0) (name, tt) ws rest are_name refl
-    (AreFree-tail name_places rest tail refl) (cache_at rigour declared) (λ us. refl) h
-cache-complete rigour declared ws rest given (Delete name) tail is h =
-    command-complete rigour declared (codes "DELETE") name_places (λ v. Delete v.0) (name, tt) ws rest are_name refl
-    (AreFree-tail name_places rest tail refl) (cache_at rigour declared) (λ us. refl) h
-cache-complete rigour declared ws rest given (StgStats stg) tail is h =
-    command-complete rigour declared (codes "STGSTATS") number_places (λ v. StgStats v.0) (stg, tt) ws rest are_number
-    refl (AreFree-tail number_places rest tail refl) (cache_at rigour declared) (λ us. refl) h
+module _ (rigour : Rigour) (declared : Declared) (ws rest : Words) (given : Option ℕ) where
+  pub cache-complete : (cmd : CacheCmd) → is_tail rest ≡ true → IsGiven given cmd → Spells
+      rigour declared (cache_tokens given cmd) ws rest → FindsAll rigour (cache_at rigour declared ws) cmd rest
+  cache-complete (Read name index old stg) tail is h =
+      rw is (row-complete rigour declared (cache_at rigour declared) (codes "READ") ws rest
+      read_places read_of (name, (index, (old, (given, tt)))) h tail are_read refl refl (λ us. refl))
+  cache-complete (Write name index body class adj old stg when_reg) tail is h =
+      rw is (row-complete rigour declared (cache_at rigour declared) (codes "WRITE") ws rest write_places write_of
+      (name, (index, (body, (class, (adj, (old, (given, (when_reg, tt)))))))) h tail are_write refl refl (λ us. refl))
+  cache-complete (CrossInval name) tail is h = row-complete rigour declared (cache_at rigour declared)
+      (codes "CROSSINVAL") ws rest name_places (λ v. CrossInval v.0) (name, tt) h tail are_name refl refl (λ us. refl)
+  cache-complete RegList tail is h =
+      plain-complete rigour declared (cache_at rigour declared) (codes "REGLIST") ws rest RegList h (λ us. refl)
+  cache-complete (Castout name) tail is h = row-complete rigour declared (cache_at rigour declared)
+      (codes "CASTOUT") ws rest name_places (λ v. Castout v.0) (name, tt) h tail are_name refl refl (λ us. refl)
+  cache-complete (Unlock name) tail is h = row-complete rigour declared (cache_at rigour declared)
+      (codes "UNLOCK") ws rest name_places (λ v. Unlock v.0) (name, tt) h tail are_name refl refl (λ us. refl)
+  cache-complete (CoClass class) tail is h = row-complete rigour declared (cache_at rigour declared)
+      (codes "COCLASS") ws rest number_places (λ v. CoClass v.0) (class, tt) h tail are_number refl refl (λ us. refl)
+  cache-complete CoStats tail is h =
+      plain-complete rigour declared (cache_at rigour declared) (codes "COSTATS") ws rest CoStats h (λ us. refl)
+  cache-complete (DirInfo name) tail is h = row-complete rigour declared (cache_at rigour declared)
+      (codes "DIRINFO") ws rest name_places (λ v. DirInfo v.0) (name, tt) h tail are_name refl refl (λ us. refl)
+  cache-complete (Delete name) tail is h = row-complete rigour declared (cache_at rigour declared)
+      (codes "DELETE") ws rest name_places (λ v. Delete v.0) (name, tt) h tail are_name refl refl (λ us. refl)
+  cache-complete (StgStats stg) tail is h = row-complete rigour declared (cache_at rigour declared)
+      (codes "STGSTATS") ws rest number_places (λ v. StgStats v.0) (stg, tt) h tail are_number refl refl (λ us. refl)

@@ -32,8 +32,7 @@ bound f (Some x) y h = record { value = x; read = refl; then_ = h }
 
 pub same_word-refl : (w : List ℕ) → same_word w w ≡ true
 same_word-refl [] = refl
-same_word-refl (b ∷ w) = let one : (b == b) ≡ true = grind (arith, nat_tests) in and_from (b == b) (same_word w w) one
-    (same_word-refl w)
+same_word-refl (b ∷ w) = grind (arith, nat_tests, and_from, same_word-refl w)
 
 pub word-same : (v w : List ℕ) → same_word v w ≡ true → v ≡ w
 word-same [] [] h = refl

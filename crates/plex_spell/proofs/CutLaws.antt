@@ -28,18 +28,15 @@ IsCut-stands at word h =
     }
 
 not_free-middle : (at : ℕ) (xs ys : List ℕ) → is_free at (xs ++ at ∷ ys) ≡ true → ⊥
-not_free-middle at [] ys h = let same : (at == at) ≡ true = grind (arith, nat_tests) in let free =
-    (and_parts (not (at == at)) (is_free at ys) h).0 in cc
+not_free-middle at [] ys h = grind (arith, nat_tests, and_parts)
 not_free-middle at (x ∷ xs) ys h = not_free-middle at xs ys (and_parts (not (x == at)) (is_free at (xs ++ at ∷ ys))
     h).1
 
 same_cut : (at : ℕ) (a b c d : List ℕ) → is_free at a ≡ true → is_free at c ≡ true → a ++ at ∷ b ≡ c ++ at ∷ d
     → (a ≡ c) × (b ≡ d)
 same_cut at [] b [] d free_a free_c e = (refl, cc)
-same_cut at [] b (y ∷ c) d free_a free_c e = let same : at ≡ y = cc in absurd
-    (not_free-middle at [] c (rw (← same) at free_c))
-same_cut at (x ∷ a) b [] d free_a free_c e = let same : x ≡ at = cc in absurd
-    (not_free-middle at [] a (rw same at free_a))
+same_cut at [] b (y ∷ c) d free_a free_c e = grind (arith, not_free-middle)
+same_cut at (x ∷ a) b [] d free_a free_c e = grind (arith, not_free-middle)
 same_cut at (x ∷ a) b (y ∷ c) d free_a free_c e =
     let more = same_cut at a b c d (and_parts (not (x == at)) (is_free at a) free_a).1
     (and_parts (not (y == at)) (is_free at c) free_c).1 (cc) in
@@ -71,12 +68,9 @@ parts-IsCut at word before after h =
 
 pub resource-sound : (rigour : Rigour) (word : List ℕ) (r : Resource) → resource_of rigour word ≡ Some r
     → IsResource rigour r word
-resource-sound rigour word r h =
-    chosen (stands_in 64 word) (resource_in rigour (before_first (λ b. b == 64) word)
-    (after_first (λ b. b == 64) word)) None r
-    (λ stands read. from_parts (before_first (λ b. b == 64) word) (after_first (λ b. b == 64) word)
-    (IsCut-stands 64 word stands) read)
-    (λ _ none. not_some r none) h
+resource-sound rigour word r h = chosen (stands_in 64 word) (resource_in rigour (before_first (λ b. b == 64) word)
+    (after_first (λ b. b == 64) word)) None r (λ stands read. from_parts (before_first (λ b. b == 64) word)
+    (after_first (λ b. b == 64) word) (IsCut-stands 64 word stands) read) (λ _ none. not_some r none) h
   where
     from_parts : (name hash : List ℕ) → IsCut 64 word name hash → resource_in rigour name hash ≡ Some r
         → IsResource rigour r word
@@ -93,8 +87,7 @@ resource-sound rigour word r h =
           hash = hash;
           cut = cut;
           named = grind (arith, at_limits-map);
-          padded = at_limits-map rigour (Unit {0}) ((length name ≤ 16) × (b.value.0 ≡ block_of name))
-              (r.name.0 ≡ block_of name) (λ q. sym (ap (λ (x : Name16). x.0) same_name) ∙ q.1) n.1;
+          padded = grind (arith, at_limits-map);
           numeral = rw (← same_hash) (number-sound rigour 0 4294967295 hash m.value (lit< tt) m.read);
         }
 
@@ -102,8 +95,7 @@ pub resource-complete : (rigour : Rigour) (word : List ℕ) (r : Resource) → I
     → Finds rigour (resource_of rigour word) r
 resource-complete rigour word r h =
     let p = parts-IsCut 64 word h.name h.hash h.cut in
-    let n = name-complete rigour h.name r.name h.named.0
-    (grind (arith, at_limits-both, at_limits-map)) in
+    let n = name-complete rigour h.name r.name h.named.0 (grind (arith, at_limits-both, at_limits-map)) in
     let k = number-complete rigour 0 4294967295 h.hash r.hash (lit< tt) h.numeral in
     let made : Name16 → ℕ → Resource = λ name hash. record { name = name; hash = hash } in
     let read : resource_in rigour h.name h.hash ≡ Some (made n.found k.found) = rw (n.read, k.read) refl in
@@ -119,21 +111,17 @@ star_free (b ∷ word) h =
     rw other (star_free word parts.1)
 
 pub data-sound : (rigour : Rigour) (word text : List ℕ) → data_of rigour word ≡ Some text → IsData rigour text word
-data-sound rigour word text h =
-    chosen (stands_in 42 word) (repeated_of rigour (before_first (λ b. b == 42) word)
-    (after_first (λ b. b == 42) word)) (text_of rigour 4096 word) text
-    (λ stands read. inr (from_parts (before_first (λ b. b == 42) word) (after_first (λ b. b == 42) word)
-    (IsCut-stands 42 word stands) read))
-    (λ _ read. inl (text-sound rigour 4096 word text read)) h
+data-sound rigour word text h = chosen (stands_in 42 word) (repeated_of
+    rigour (before_first (λ b. b == 42) word) (after_first (λ b. b == 42) word)) (text_of rigour 4096 word)
+    text (λ stands read. inr (from_parts (before_first (λ b. b == 42) word) (after_first (λ b. b == 42) word)
+    (IsCut-stands 42 word stands) read)) (λ _ read. inl (text-sound rigour 4096 word text read)) h
   where
     from_parts : (piece times : List ℕ) → IsCut 42 word piece times → repeated_of rigour piece times ≡ Some text
         → IsRepeated rigour text word
     from_parts piece times cut read =
-        let kept_text : ℕ → Option (List ℕ) = λ n. within_limits rigour (nat_le (n * length piece) 4096)
-        (repeat n piece)
-        (take 1 piece) in
-        chosen (is_term piece) (number_of rigour 1 4096 times >>= kept_text) None text
-        (λ term made.
+        let kept_text : ℕ → Option (List ℕ) =
+        λ n. within_limits rigour (nat_le (n * length piece) 4096) (repeat n piece) (take 1 piece) in
+        chosen (is_term piece) (number_of rigour 1 4096 times >>= kept_text) None text (λ term made.
         let b = bound kept_text (number_of rigour 1 4096 times) text made in
         let n = b.value in
         record {
@@ -146,8 +134,7 @@ data-sound rigour word text h =
           whole = kept_value rigour (nat_le (n * length piece) 4096) (repeat n piece) (take 1 piece) text (Unit {0})
               (λ (t : List ℕ). (t ≡ repeat n piece) × (length t ≤ 4096)) tt
               (λ fits. (refl, omega (arith, length-repeat n piece, true_le (n * length piece) 4096 fits))) b.then_;
-        })
-        (λ _ none. not_some text none) read
+        }) (λ _ none. not_some text none) read
 
 repeated-strict : (rigour : Rigour) (text piece times : List ℕ) (count : ℕ) → is_term piece ≡ true
     → times ≡ decimal count → 1 ≤ count → count ≤ 4096
@@ -158,18 +145,15 @@ repeated-strict rigour text piece times count term e low high is short =
     let fits = le_true (count * length piece) 4096 (omega (arith, len, short)) in
     record { found = text; read = rw (term, n, fits) (ap Some (sym is)); same = λ _. refl }
 
-repeated-complete : (rigour : Rigour) (text piece times : List ℕ) (count : ℕ) → is_term piece ≡ true
-    → IsNumber rigour 1 4096 count times
-    → AtLimits rigour (Unit {0}) ((text ≡ repeat count piece) × (length text ≤ 4096))
-    → Finds rigour (repeated_of rigour piece times) text
+repeated-complete : (rigour : Rigour) (text piece times : List ℕ) (count : ℕ)
+    → is_term piece ≡ true → IsNumber rigour 1 4096 count times → AtLimits rigour (Unit {0})
+    ((text ≡ repeat count piece) × (length text ≤ 4096)) → Finds rigour (repeated_of rigour piece times) text
 repeated-complete Form text piece times count term numeral whole =
     let n = number-complete Form 1 4096 times count (lit< tt) numeral in
     rw (term, n.read) (kept_finds Form (nat_le (n.found * length piece) 4096) (repeat n.found piece) (take 1 piece)
     text (Unit {0}) ⊥ (λ x. absurd x) tt)
-repeated-complete Limits text piece times count term numeral whole = repeated-strict Limits text piece times count
-    term numeral.1.0 numeral.1.1 numeral.1.2 whole.0 whole.1
-repeated-complete Names text piece times count term numeral whole = repeated-strict Names text piece times count term
-    numeral.1.0 numeral.1.1 numeral.1.2 whole.0 whole.1
+repeated-complete rigour text piece times count term numeral whole =
+    repeated-strict rigour text piece times count term numeral.1.0 numeral.1.1 numeral.1.2 whole.0 whole.1
 
 pub data-complete : (rigour : Rigour) (word text : List ℕ) → IsData rigour text word
     → Finds rigour (data_of rigour word) text

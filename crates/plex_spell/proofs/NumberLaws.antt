@@ -25,9 +25,8 @@ pub IsUtf8-numeral : (word : List ℕ) → is_numeral word ≡ true → IsUtf8 w
 IsUtf8-numeral word h = IsUtf8-from_ascii word (below word (digits-numeral word h))
 
 -- what is parsed is the value, where that has so many bits
-pub parsed-numeral : {E : Type 0} (word : List ℕ) (r : Result ℕ E) → is_numeral word ≡ true
-    → ParsesUnsigned 32 10 word r
-    → result_ok r ≡ cond (nat_lt (digits_value 10 word) (2 ^ 32)) (Some (digits_value 10 word)) None
+pub parsed-numeral : {E : Type 0} (word : List ℕ) (r : Result ℕ E) → is_numeral word ≡ true → ParsesUnsigned
+    32 10 word r → result_ok r ≡ cond (nat_lt (digits_value 10 word) (2 ^ 32)) (Some (digits_value 10 word)) None
 parsed-numeral {E} word (Ok n) h parses = grind (arith, OkIff-at_ok, parse_digits, own, digits-numeral, nat_tests)
 parsed-numeral {E} word (Err e) h parses =
     grind (arith, OkIff-at_err, parse_digits, own, digits-numeral, nonempty-numeral, nat_tests)
@@ -36,8 +35,7 @@ parsed-numeral {E} word (Err e) h parses =
 
 pub decimal-numeral : (word : List ℕ) → is_numeral word ≡ true → digits_value 10 word < 2 ^ 64
     → word ≡ decimal (digits_value 10 word)
-decimal-numeral word h small =
-    sym (decimal-digits_value own word (digits-numeral word h) (nonempty-numeral word h) (
+decimal-numeral word h small = sym (decimal-digits_value own word (digits-numeral word h) (nonempty-numeral word h) (
     grind (arith, and_parts, nat_tests)) small)
 
 pub value-decimal : (n : ℕ) → n < 2 ^ 64 → digits_value 10 (decimal n) ≡ n

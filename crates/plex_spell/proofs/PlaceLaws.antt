@@ -16,9 +16,8 @@ pub record FindsAll {V : Type 0} (rigour : Rigour) (reading : Option (V × Words
 
 -- ---- rows of tokens
 
-pub Spells-append : (rigour : Rigour) (declared : Declared) (ts us : List Token) (ws mid rest : Words)
-    → Spells rigour declared ts ws mid → Spells rigour declared us mid rest → Spells rigour declared (ts ++ us) ws
-    rest
+pub Spells-append : (rigour : Rigour) (declared : Declared) (ts us : List Token) (ws mid rest : Words) → Spells
+    rigour declared ts ws mid → Spells rigour declared us mid rest → Spells rigour declared (ts ++ us) ws rest
 Spells-append rigour declared [] us ws mid rest h k = rw h k
 Spells-append rigour declared (t ∷ ts) us [] mid rest h k = absurd h
 Spells-append rigour declared (t ∷ ts) us (w ∷ ws) mid rest h k =
@@ -29,27 +28,26 @@ pub record Split (rigour : Rigour) (declared : Declared) (ts us : List Token) (w
   pub front : Spells rigour declared ts ws mid
   pub behind_ : Spells rigour declared us mid rest
 
-pub Spells-split : (rigour : Rigour) (declared : Declared) (ts us : List Token) (ws rest : Words)
-    → Spells rigour declared (ts ++ us) ws rest → Split rigour declared ts us ws rest
-Spells-split rigour declared [] us ws rest h = record { mid = ws; front = refl; behind_ = h }
-Spells-split rigour declared (t ∷ ts) us [] rest h = absurd h
-Spells-split rigour declared (t ∷ ts) us (w ∷ ws) rest h =
-    grind (arith, Spells-split rigour declared ts us ws rest h.1)
+module _ (rigour : Rigour) (declared : Declared) where
+  pub Spells-split : (ts us : List Token) (ws rest : Words)
+      → Spells rigour declared (ts ++ us) ws rest → Split rigour declared ts us ws rest
+  Spells-split [] us ws rest h = record { mid = ws; front = refl; behind_ = h }
+  Spells-split (t ∷ ts) us [] rest h = absurd h
+  Spells-split (t ∷ ts) us (w ∷ ws) rest h = grind (arith, Spells-split ts us ws rest h.1)
 
--- ---- single words
+  -- ---- single words
 
-pub single-sound : {V : Type 0} (rigour : Rigour) (declared : Declared) (f : List ℕ → Option V) (token : V → Token)
-    → ((w : List ℕ) (v : V) → f w ≡ Some v → IsWord rigour declared (token v) w)
-    → (ws rest : Words) (v : V) → on_first f ws ≡ Some (v, rest) → Spells rigour declared (token v ∷ []) ws rest
-single-sound rigour declared f token sound [] rest v h = absurd (cc)
-single-sound {V} rigour declared f token sound (w ∷ ws) rest v h = grind (arith, mapped)
+  pub single-sound : {V : Type 0} (f : List ℕ → Option V) (token : V → Token)
+      → ((w : List ℕ) (v : V) → f w ≡ Some v → IsWord rigour declared (token v) w)
+      → (ws rest : Words) (v : V) → on_first f ws ≡ Some (v, rest) → Spells rigour declared (token v ∷ []) ws rest
+  single-sound f token sound [] rest v h = absurd (cc)
+  single-sound {V} f token sound (w ∷ ws) rest v h = grind (arith, mapped)
 
-pub single-complete : {V : Type 0} (rigour : Rigour) (declared : Declared) (f : List ℕ → Option V) (token : V → Token)
-    (v : V)
-    → ((w : List ℕ) → IsWord rigour declared (token v) w → Finds rigour (f w) v)
-    → (ws rest : Words) → Spells rigour declared (token v ∷ []) ws rest → FindsAll rigour (on_first f ws) v rest
-single-complete rigour declared f token v complete [] rest h = absurd h
-single-complete {V} rigour declared f token v complete (w ∷ ws) rest h = grind arith
+  pub single-complete : {V : Type 0} (f : List ℕ → Option V) (token : V → Token) (v : V)
+      → ((w : List ℕ) → IsWord rigour declared (token v) w → Finds rigour (f w) v) → (ws rest : Words)
+      → Spells rigour declared (token v ∷ []) ws rest → FindsAll rigour (on_first f ws) v rest
+  single-complete f token v complete [] rest h = absurd h
+  single-complete {V} f token v complete (w ∷ ws) rest h = grind arith
 
 -- ---- choices of words
 
@@ -60,38 +58,36 @@ either-sound first second rigour declared w b h = grind (arith, chosen, word-sam
 pub either-complete : (first second : List ℕ) → same_word second first ≡ false
     → (rigour : Rigour) (declared : Declared) (b : Bool) (w : List ℕ)
     → IsWord rigour declared (one_of_two first second b) w → Finds rigour (either_of first second w) b
-either-complete first second other rigour declared true w h =
-    record { found = true; read = rw (same_word-of w first h) refl; same = λ _. refl }
+either-complete first second other rigour declared true w h = grind (arith, same_word-of)
 either-complete first second other rigour declared false w h = grind (arith, same_word-of)
 
-pub decision-sound : (rigour : Rigour) (declared : Declared) (w : List ℕ) (how : Decision) → decision_of w ≡ Some how
-    → IsWord rigour declared (decision how) w
-decision-sound rigour declared w how h = grind (arith, chosen, word-same, not_some)
+module _ (rigour : Rigour) (declared : Declared) where
+  pub decision-sound : (w : List ℕ) (how : Decision) → decision_of w ≡ Some how
+      → IsWord rigour declared (decision how) w
+  decision-sound w how h = grind (arith, chosen, word-same, not_some)
 
-pub decision-complete : (rigour : Rigour) (declared : Declared) (how : Decision) (w : List ℕ) → IsWord rigour declared
-    (decision how) w → Finds rigour (decision_of w) how
-decision-complete rigour declared Keep w h = record { found = Keep; read = ap decision_of h; same = λ _. refl }
-decision-complete rigour declared Deny w h = record { found = Deny; read = ap decision_of h; same = λ _. refl }
-decision-complete rigour declared Notify w h = record { found = Notify; read = ap decision_of h; same = λ _. refl }
+  pub decision-complete : (how : Decision) (w : List ℕ) → IsWord rigour declared
+      (decision how) w → Finds rigour (decision_of w) how
+  decision-complete Keep w h = record { found = Keep; read = ap decision_of h; same = λ _. refl }
+  decision-complete Deny w h = record { found = Deny; read = ap decision_of h; same = λ _. refl }
+  decision-complete Notify w h = record { found = Notify; read = ap decision_of h; same = λ _. refl }
 
-pub refs-sound : (rigour : Rigour) (declared : Declared) (w : List ℕ) (how : Refs) → refs_of w ≡ Some how
-    → IsWord rigour declared (references how) w
-refs-sound rigour declared w how h = grind (arith, chosen, word-same, not_some)
+  pub refs-sound : (w : List ℕ) (how : Refs) → refs_of w ≡ Some how → IsWord rigour declared (references how) w
+  refs-sound w how h = grind (arith, chosen, word-same, not_some)
 
-pub refs-complete : (rigour : Rigour) (declared : Declared) (how : Refs) (w : List ℕ) → IsWord rigour declared
-    (references how) w → Finds rigour (refs_of w) how
-refs-complete rigour declared refs.Names w h = record { found = refs.Names; read = ap refs_of h; same = λ _. refl }
-refs-complete rigour declared refs.Keys w h = record { found = refs.Keys; read = ap refs_of h; same = λ _. refl }
-refs-complete rigour declared refs.Nothing w h = grind arith
+  pub refs-complete : (how : Refs) (w : List ℕ) → IsWord rigour declared
+      (references how) w → Finds rigour (refs_of w) how
+  refs-complete refs.Names w h = record { found = refs.Names; read = ap refs_of h; same = λ _. refl }
+  refs-complete refs.Keys w h = record { found = refs.Keys; read = ap refs_of h; same = λ _. refl }
+  refs-complete refs.Nothing w h = grind arith
 
--- ---- words that come first
+  -- ---- words that come first
 
--- behind this word stands what the rest says
-pub led : (rigour : Rigour) (declared : Declared) (word : List ℕ) (tokens : List Token) (ws rest : Words)
-    → begins_with word ws ≡ true → Spells rigour declared tokens (words_behind ws) rest → Spells rigour declared
-    (Literal word ∷ tokens) ws rest
-led rigour declared word tokens [] rest e h = absurd (cc)
-led rigour declared word tokens (w ∷ ws) rest e h = (word-same w word e, h)
+  -- behind this word stands what the rest says
+  pub led : (word : List ℕ) (tokens : List Token) (ws rest : Words) → begins_with word ws ≡ true
+      → Spells rigour declared tokens (words_behind ws) rest → Spells rigour declared (Literal word ∷ tokens) ws rest
+  led word tokens [] rest e h = absurd (cc)
+  led word tokens (w ∷ ws) rest e h = (word-same w word e, h)
 
 pub record Led (rigour : Rigour) (declared : Declared) (word : List ℕ) (tokens : List Token) (ws rest : Words) : Type
     0 where
@@ -99,33 +95,30 @@ pub record Led (rigour : Rigour) (declared : Declared) (word : List ℕ) (tokens
   pub rest_is : Spells rigour declared tokens (words_behind ws) rest
   pub first_is : (other : List ℕ) → same_word word other ≡ begins_with other ws
 
-pub led-by : (rigour : Rigour) (declared : Declared) (word : List ℕ) (tokens : List Token) (ws rest : Words)
-    → Spells rigour declared (Literal word ∷ tokens) ws rest → Led rigour declared word tokens ws rest
-led-by rigour declared word tokens [] rest h = absurd h
-led-by rigour declared word tokens (w ∷ ws) rest h = grind (arith, same_word-of)
+module _ (rigour : Rigour) (declared : Declared) where
+  pub led-by : (word : List ℕ) (tokens : List Token) (ws rest : Words)
+      → Spells rigour declared (Literal word ∷ tokens) ws rest → Led rigour declared word tokens ws rest
+  led-by word tokens [] rest h = absurd h
+  led-by word tokens (w ∷ ws) rest h = grind (arith, same_word-of)
 
--- a value that is read behind a word
-pub behind-sound : {V W : Type 0} (rigour : Rigour) (declared : Declared) (f : V → W) (reading : Option (V × Words))
-    (tokens : W → List Token) (ws rest : Words) (value : W)
-    → ((v : V) → reading ≡ Some (v, rest) → Spells rigour declared (tokens (f v)) ws rest)
-    → option_map (λ (read : V × Words). (let p : W × Words = (f read.0, read.1) in p)) reading ≡ Some (value, rest)
-    → Spells rigour declared (tokens value) ws rest
-behind-sound {V} {W} rigour declared f reading tokens ws rest value sound h = grind (arith, mapped)
+  -- a value that is read behind a word
+  pub behind-sound : {V W : Type 0} (f : V → W) (reading : Option (V × Words)) (tokens : W → List Token)
+      (ws rest : Words) (value : W) → ((v : V) → reading ≡ Some (v, rest) → Spells rigour declared
+      (tokens (f v)) ws rest) → option_map (λ (read : V × Words). (let p : W × Words = (f read.0, read.1) in p))
+      reading ≡ Some (value, rest) → Spells rigour declared (tokens value) ws rest
+  behind-sound {V} {W} f reading tokens ws rest value sound h = grind (arith, mapped)
 
-pub behind-complete : {V W : Type 0} (rigour : Rigour) (f : V → W) (reading : Option (V × Words)) (rest : Words)
-    (v : V)
-    → FindsAll rigour reading v rest → FindsAll rigour
-    (option_map (λ (read : V × Words). (let p : W × Words = (f read.0, read.1) in p)) reading) (f v) rest
+pub behind-complete : {V W : Type 0} (rigour : Rigour) (f : V → W)
+    (reading : Option (V × Words)) (rest : Words) (v : V) → FindsAll rigour reading v rest → FindsAll
+    rigour (option_map (λ (read : V × Words). (let p : W × Words = (f read.0, read.1) in p)) reading) (f v) rest
 behind-complete {V} {W} rigour f reading rest v h = grind arith
 
-pub number_at-sound : (rigour : Rigour) (declared : Declared) (ws rest : Words) (n : ℕ) → number_at rigour ws ≡ Some
-    (n, rest)
-    → Spells rigour declared (Number 0 4294967295 n ∷ []) ws rest
-number_at-sound rigour declared ws rest n h = grind (arith, single-sound, number-sound, lit<)
+module _ (rigour : Rigour) (declared : Declared) where
+  pub number_at-sound : (ws rest : Words) (n : ℕ)
+      → number_at rigour ws ≡ Some (n, rest) → Spells rigour declared (Number 0 4294967295 n ∷ []) ws rest
+  number_at-sound ws rest n h = grind (arith, single-sound, number-sound, lit<)
 
-pub number_at-complete : (rigour : Rigour) (declared : Declared) (ws rest : Words) (n : ℕ) → Spells rigour declared
-    (Number 0 4294967295 n ∷ []) ws rest
-    → FindsAll rigour (number_at rigour ws) n rest
-number_at-complete rigour declared ws rest n h =
-    single-complete rigour declared (number_of rigour 0 4294967295) (Number 0 4294967295) n
-    (λ w e. number-complete rigour 0 4294967295 w n (lit< tt) e) ws rest h
+  pub number_at-complete : (ws rest : Words) (n : ℕ)
+      → Spells rigour declared (Number 0 4294967295 n ∷ []) ws rest → FindsAll rigour (number_at rigour ws) n rest
+  number_at-complete ws rest n h = single-complete rigour declared (number_of rigour 0 4294967295)
+      (Number 0 4294967295) n (λ w e. number-complete rigour 0 4294967295 w n (lit< tt) e) ws rest h

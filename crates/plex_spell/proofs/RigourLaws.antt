@@ -19,32 +19,25 @@ data-form text w (inl h) = inl (h.0, tt)
 data-form text w (inr h) = grind arith
 
 word-limits : (declared : Declared) (t : Token) (w : List ℕ) → IsWord Names declared t w → IsWord Limits declared t w
-word-limits declared (Literal text) w h = h
-word-limits declared (Number low high n) w h = h
-word-limits declared (Term bytes) w h = h
-word-limits declared (Short text) w h = h
 word-limits declared (Data text) w h = data-limits text w h
 word-limits declared (OnResource r) w h = grind arith
 word-limits declared (Record id) w h = record-limits id.0 w h
 word-limits declared (OfFacility cf) w h = (h.0, tt)
 word-limits declared (OfConnector conn) w h = (h.0, tt)
 word-limits declared (OfStructure on) w h = (h.0, tt)
-word-limits declared (NewFacility cf) w h = h
-word-limits declared (NewName name) w h = h
+word-limits declared t w h = h
 
 word-form : (declared : Declared) (t : Token) (w : List ℕ) → IsWord Limits declared t w → IsWord Form declared t w
-word-form declared (Literal text) w h = h
 word-form declared (Number low high n) w h = (h.0, tt)
 word-form declared (Term bytes) w h = (h.0, tt)
 word-form declared (Short text) w h = (h.0, tt)
 word-form declared (Data text) w h = data-form text w h
 word-form declared (OnResource r) w h = grind arith
 word-form declared (Record id) w h = record-form id.0 w h
-word-form declared (OfFacility cf) w h = h
 word-form declared (OfConnector conn) w h = ((h.0.0, tt), tt)
 word-form declared (OfStructure on) w h = ((h.0.0, tt), tt)
-word-form declared (NewFacility cf) w h = h
 word-form declared (NewName name) w h = ((h.0.0, tt), tt)
+word-form declared t w h = h
 
 pub Spells-limits : (declared : Declared) (ts : List Token) (ws rest : Words) → Spells Names declared ts ws rest
     → Spells Limits declared ts ws rest

@@ -25,8 +25,7 @@ pub IsTerm-take : (limit : ℕ) (word : List ℕ) → 0 < limit → is_term word
 IsTerm-take limit word some h = grind (arith, length-take, nonempty-term, list_all-take, characters-term)
 
 pub IsTerm-whole : (limit : ℕ) (word : List ℕ) → length word ≤ limit → is_term word ≡ true → IsTerm limit word
-IsTerm-whole limit word short h =
-    record { nonempty = nonempty-term word h; short = short; characters = characters-term word h }
+IsTerm-whole limit word short h = grind (arith, nonempty-term, characters-term)
 
 pub any-place : (p : ℕ → Bool) (xs : List ℕ) → list_any p xs ≡ nat_lt (position_or_len p xs) (length xs)
 any-place p [] = refl

@@ -1,63 +1,46 @@
 -- Commands by their first words.
-use Rattle.plex_spell.proofs.Imports.{arith, ◌≡◌, ℕ, Bool, true, not, ◌&&◌, List, [], ◌∷◌, Option, Some, codes, refl, ap, ◌∙◌, list_any, and_parts, Rigour, same_word, Declared, Token, Spells, Literal, Place, Values, tokens_of, values_at}
-use Rattle.plex_spell.proofs.Choices.{word-same}
+use Rattle.plex_spell.proofs.Imports.{arith, ◌≡◌, ℕ, Bool, true, false, not, ◌&&◌, cond, List, [], ◌∷◌, Option, Some, None, codes, refl, ap, list_any, and_parts, Rigour, same_word, Declared, Token, Spells, Literal, Place, Values, tokens_of, values_at}
+use Rattle.plex_spell.proofs.Choices.{pick, word-same}
 use Rattle.plex_spell.proofs.PlaceLaws.{Words, FindsAll}
 use Rattle.plex_spell.proofs.RowLaws.{free_of}
 use Rattle.plex_spell.proofs.PatternLaws.{ArePlaces, keys, AreFree, are_rows, values-sound, values-complete}
 
 -- a command that was read behind its first word
-pub verb-sound : {C : Type 0} (rigour : Rigour) (declared : Declared) (verb word : List ℕ) (places : List Place)
-    (made : Values places → C) (ws rest : Words) (c : C)
-    (P : C → Type 0) → ArePlaces places
+pub verb-sound : {C : Type 0} (rigour : Rigour) (declared : Declared) (verb word : List ℕ)
+    (places : List Place) (made : Values places → C) (ws rest : Words) (c : C) (P : C → Type 0) → ArePlaces places
     → ((values : Values places) → Spells rigour declared (Literal word ∷ tokens_of places values) (verb ∷ ws) rest
-    → P (made values))
-    → same_word verb word ≡ true → values_at rigour declared places made ws ≡ Some (c, rest) → P c
+    → P (made values)) → same_word verb word ≡ true → values_at rigour declared places made ws ≡ Some (c, rest) → P c
 verb-sound rigour declared verb word places made ws rest c P are told e h =
     let t = values-sound rigour declared places made ws rest c are h in
     rw t.same (told t.values (word-same verb word e, t.spelled))
 
--- a command that is its first word alone
-pub plain-sound : {C : Type 0} (rigour : Rigour) (declared : Declared) (verb word : List ℕ) (made : C)
-    (ws rest : Words) (c : C)
-    (P : C → Type 0) → (Spells rigour declared (Literal word ∷ []) (verb ∷ ws) rest → P made)
-    → same_word verb word ≡ true → (let p : C × Words = (made, ws) in Some p) ≡ Some (c, rest) → P c
-plain-sound {C} rigour declared verb word made ws rest c P told e h = grind (arith, Words, word-same)
+-- one command of a chain that is told by its first word: it was read, or one of those behind it
+module _ {C : Type 0} (rigour : Rigour) (declared : Declared) (verb : List ℕ) (ws rest : Words) (c : C)
+    (P : C → Type 0) where
+  -- a command that is read behind its first word
+  pub verb-first : (word : List ℕ) (places : List Place) (made : Values places → C) → ArePlaces places
+      → ((values : Values places) → Spells rigour declared (Literal word ∷ tokens_of places values) (verb ∷ ws) rest
+      → P (made values)) → (next : Option (C × Words)) → (next ≡ Some (c, rest) → P c)
+      → cond (same_word verb word) (values_at rigour declared places made ws) next ≡ Some (c, rest) → P c
+  verb-first word places made are told next others h =
+      pick h (verb-sound rigour declared verb word places made ws rest c P are told) (λ _. others)
 
--- the words of a command behind its first word are read
-pub verb-complete : {C : Type 0} (rigour : Rigour) (declared : Declared) (places : List Place) (made : Values places
-    → C) (values : Values places) (ws rest : Words)
-    → ArePlaces places → are_rows places ≡ true → AreFree places rest → Spells rigour declared
-    (tokens_of places values) ws rest
-    → FindsAll rigour (values_at rigour declared places made ws) (made values) rest
-verb-complete rigour declared places made values ws rest are rows free h =
-    let f = values-complete rigour declared places made values ws rest are rows free h in
-    record { found = made f.found; read = f.read; same = λ e. ap made (f.same e) }
+  -- a command that is its first word alone
+  pub plain-first : (word : List ℕ) (made : C) → (Spells rigour declared (Literal word ∷ []) (verb ∷ ws) rest
+      → P made) → (next : Option (C × Words)) → (next ≡ Some (c, rest) → P c)
+      → cond (same_word verb word) (let p : C × Words = (made, ws) in Some p) next ≡ Some (c, rest) → P c
+  plain-first word made told next others h = pick {b = same_word verb word}
+      {x = (let p : C × Words = (made, ws) in Some p)} h (λ e k. grind (arith, Words, word-same)) (λ _. others)
 
-pub command-complete : {C : Type 0} (rigour : Rigour) (declared : Declared) (word : List ℕ) (places : List Place)
-    (made : Values places → C) (values : Values places) (ws rest : Words)
-    → ArePlaces places → are_rows places ≡ true → AreFree places rest → (reading : Words → Option (C × Words))
-    → ((us : Words) → reading (word ∷ us) ≡ values_at rigour declared places made us)
-    → Spells rigour declared (Literal word ∷ tokens_of places values) ws rest → FindsAll rigour (reading ws)
-    (made values) rest
-command-complete rigour declared word places made values [] rest are rows free reading is h = absurd h
-command-complete rigour declared word places made values (w ∷ ws) rest are rows free reading is h =
-    grind (arith, verb-complete)
-
-pub plain-complete : {C : Type 0} (rigour : Rigour) (declared : Declared) (word : List ℕ) (made : C) (ws rest : Words)
-    (reading : Words → Option (C × Words))
-    → ((us : Words) → reading (word ∷ us) ≡ (let p : C × Words = (made, us) in Some p))
-    → Spells rigour declared (Literal word ∷ []) ws rest → FindsAll rigour (reading ws) made rest
-plain-complete rigour declared word made [] rest reading is h = absurd h
-plain-complete {C} rigour declared word made (w ∷ ws) rest reading is h = grind (arith, Words)
+  -- none of them
+  pub none-left : (let none : Option (C × Words) = None in none) ≡ Some (c, rest) → P c
+  none-left h = absurd (cc)
 
 -- a command with a reading of its own behind its first word
-pub led-complete : {C : Type 0} (rigour : Rigour) (declared : Declared) (word : List ℕ) (tokens : List Token) (c : C)
-    (ws rest : Words) (reading inner : Words → Option (C × Words))
-    → ((us : Words) → reading (word ∷ us) ≡ inner us)
-    → ((us : Words) → Spells rigour declared tokens us rest → FindsAll rigour (inner us) c rest)
-    → Spells rigour declared (Literal word ∷ tokens) ws rest → FindsAll rigour (reading ws) c rest
-led-complete rigour declared word tokens c [] rest reading inner is complete h = absurd h
-led-complete rigour declared word tokens c (w ∷ ws) rest reading inner is complete h = grind arith
+pub other_first : {X G : Type 0} {v : X} (b : Bool) {x : Option X} → (b ≡ true → x ≡ Some v → G) → (next : Option X)
+    → (next ≡ Some v → G) → cond b x next ≡ Some v → G
+other_first true told next others h = told refl h
+other_first false told next others h = others h
 
 -- ---- what may stand behind a command: nothing, or RETRY
 
@@ -66,12 +49,12 @@ is_tail [] = true
 is_tail (w ∷ ws) = same_word w (codes "RETRY")
 
 abbrev pub lacks_retry : List (List ℕ) → Bool
-lacks_retry keys = not (list_any (same_word (codes "RETRY")) keys)
+lacks_retry others = not (list_any (same_word (codes "RETRY")) others)
 
-pub tail-free : (keys : List (List ℕ)) (rest : Words) → is_tail rest ≡ true → lacks_retry keys ≡ true
-    → free_of keys rest ≡ true
-tail-free keys [] h k = refl
-tail-free keys (w ∷ ws) h k = let same = word-same w (codes "RETRY") h in rw same k
+tail-free : (others : List (List ℕ)) (rest : Words) → is_tail rest ≡ true → lacks_retry others ≡ true
+    → free_of others rest ≡ true
+tail-free others [] h k = refl
+tail-free others (w ∷ ws) h k = let same = word-same w (codes "RETRY") h in rw same k
 
 abbrev pub all_lack_retry : List Place → Bool
 all_lack_retry [] = true
@@ -83,3 +66,38 @@ AreFree-tail [] rest h k = tt
 AreFree-tail (place ∷ places) rest h k =
     let parts = and_parts (lacks_retry (keys place)) (all_lack_retry places) k in
     (tail-free (keys place) rest h parts.0, AreFree-tail places rest h parts.1)
+
+-- ---- what is spelled is read
+
+-- a command with a reading of its own behind its first word
+pub led-complete : {C : Type 0} (rigour : Rigour) (declared : Declared) (word : List ℕ) (tokens : List Token) (c : C)
+    (ws rest : Words) (reading inner : Words → Option (C × Words)) → ((us : Words) → reading (word ∷ us) ≡ inner us)
+    → ((us : Words) → Spells rigour declared tokens us rest → FindsAll rigour (inner us) c rest)
+    → Spells rigour declared (Literal word ∷ tokens) ws rest → FindsAll rigour (reading ws) c rest
+led-complete rigour declared word tokens c [] rest reading inner is complete h = absurd h
+led-complete rigour declared word tokens c (w ∷ ws) rest reading inner is complete h = grind arith
+
+pub command-complete : {C : Type 0} (rigour : Rigour) (declared : Declared) (word : List ℕ)
+    (places : List Place) (made : Values places → C) (values : Values places) (ws rest : Words)
+    → ArePlaces places → are_rows places ≡ true → AreFree places rest → (reading : Words → Option (C × Words))
+    → ((us : Words) → reading (word ∷ us) ≡ values_at rigour declared places made us) → Spells
+    rigour declared (Literal word ∷ tokens_of places values) ws rest → FindsAll rigour (reading ws) (made values) rest
+command-complete rigour declared word places made values ws rest are rows free reading is h = led-complete rigour
+    declared word (tokens_of places values) (made values) ws rest reading (values_at rigour declared places made)
+    is (λ us s. let f = values-complete rigour declared places made values us rest are rows free s in
+    record { found = made f.found; read = f.read; same = λ e. ap made (f.same e) }) h
+
+module _ {C : Type 0} (rigour : Rigour) (declared : Declared) (reading : Words → Option (C × Words)) (word : List ℕ)
+    (ws rest : Words) where
+  -- the same, in front of what may stand behind a command
+  pub row-complete : (places : List Place) (made : Values places → C) (values : Values places)
+      → Spells rigour declared (Literal word ∷ tokens_of places values) ws rest → is_tail rest ≡ true
+      → ArePlaces places → are_rows places ≡ true → all_lack_retry places ≡ true → ((us : Words) → reading
+      (word ∷ us) ≡ values_at rigour declared places made us) → FindsAll rigour (reading ws) (made values) rest
+  row-complete places made values h tail are rows lack is = command-complete rigour declared
+      word places made values ws rest are rows (AreFree-tail places rest tail lack) reading is h
+
+  pub plain-complete : (c : C) → Spells rigour declared (Literal word ∷ []) ws rest → ((us : Words)
+      → reading (word ∷ us) ≡ (let p : C × Words = (c, us) in Some p)) → FindsAll rigour (reading ws) c rest
+  plain-complete c h is = led-complete rigour declared word [] c ws rest reading (λ us. (let p : C
+      × Words = (c, us) in Some p)) is (λ us k. rw k (record { found = c; read = refl; same = λ _. refl })) h

@@ -11,45 +11,36 @@ pub record Finds {V : Type 0} (rigour : Rigour) (reading : Option V) (value : V)
 
 pub kept_value : {V : Type 0} (rigour : Rigour) (fits : Bool) (value other v : V) (P : Type 0) (Q : V → Type 0)
     → P → (fits ≡ true → Q value) → within_limits rigour fits value other ≡ Some v → AtLimits rigour P (Q v)
-kept_value Form true value other v P Q p q h = p
-kept_value Form false value other v P Q p q h = p
-kept_value Limits true value other v P Q p q h = let same : value ≡ v = cc in rw (← same) (q refl)
-kept_value Limits false value other v P Q p q h = absurd (cc)
-kept_value Names true value other v P Q p q h = let same : value ≡ v = cc in rw (← same) (q refl)
-kept_value Names false value other v P Q p q h = absurd (cc)
+kept_value Form fits value other v P Q p q h = p
+kept_value rigour true value other v P Q p q h = let same : value ≡ v = cc in rw (← same) (q refl)
+kept_value rigour false value other v P Q p q h = absurd (cc)
 
 pub kept_finds : {V : Type 0} (rigour : Rigour) (fits : Bool) (value other v : V) (P Q : Type 0)
     → (Q → (fits ≡ true) × (value ≡ v)) → AtLimits rigour P Q → Finds rigour (within_limits rigour fits value other) v
 kept_finds Form true value other v P Q f h = record { found = value; read = refl; same = λ e. absurd (cc) }
 kept_finds Form false value other v P Q f h = record { found = other; read = refl; same = λ e. absurd (cc) }
-kept_finds Limits fits value other v P Q f h = grind arith
-kept_finds Names fits value other v P Q f h = grind arith
+kept_finds rigour fits value other v P Q f h = grind arith
 
 -- ---- numbers
 
 in_range : (low high v : ℕ) → (nat_le low v && nat_le v high) ≡ true → (low ≤ v) × (v ≤ high)
 in_range low high v h = grind (arith, and_parts, nat_tests)
 
-pub number-sound : (rigour : Rigour) (low high : ℕ) (word : List ℕ) (n : ℕ) → high < 2 ^ 64
-    → number_of rigour low high word ≡ Some n
-    → IsNumber rigour low high n word
+pub number-sound : (rigour : Rigour) (low high : ℕ) (word : List ℕ) (n : ℕ)
+    → high < 2 ^ 64 → number_of rigour low high word ≡ Some n → IsNumber rigour low high n word
 number-sound rigour low high word n small h = grind (arith, chosen, kept_value, in_range, decimal-numeral, not_some)
 
 -- a number that keeps its range is read
-pub number-strict : (rigour : Rigour) (low high : ℕ) (word : List ℕ) (n : ℕ) → high < 2 ^ 64 → word ≡ decimal n
-    → low ≤ n → n ≤ high
-    → number_of rigour low high word ≡ Some n
+pub number-strict : (rigour : Rigour) (low high : ℕ) (word : List ℕ) (n : ℕ)
+    → high < 2 ^ 64 → word ≡ decimal n → low ≤ n → n ≤ high → number_of rigour low high word ≡ Some n
 number-strict rigour low high word n small e at_least at_most =
     grind (arith, numeral-decimal, value-decimal, and_from, nat_tests)
 
-pub number-complete : (rigour : Rigour) (low high : ℕ) (word : List ℕ) (n : ℕ) → high < 2 ^ 64
-    → IsNumber rigour low high n word
-    → Finds rigour (number_of rigour low high word) n
+pub number-complete : (rigour : Rigour) (low high : ℕ) (word : List ℕ) (n : ℕ)
+    → high < 2 ^ 64 → IsNumber rigour low high n word → Finds rigour (number_of rigour low high word) n
 number-complete Form low high word n small h = grind (arith, kept_finds)
-number-complete Limits low high word n small h =
-    record { found = n; read = number-strict Limits low high word n small h.1.0 h.1.1 h.1.2; same = λ _. refl }
-number-complete Names low high word n small h =
-    record { found = n; read = number-strict Names low high word n small h.1.0 h.1.1 h.1.2; same = λ _. refl }
+number-complete rigour low high word n small h =
+    record { found = n; read = number-strict rigour low high word n small h.1.0 h.1.1 h.1.2; same = λ _. refl }
 
 -- ---- texts
 
@@ -71,19 +62,16 @@ text-complete rigour limit word text h = grind (arith, kept_finds, le_true)
 
 pub at_limits-map : (rigour : Rigour) (P Q R : Type 0) → (Q → R) → AtLimits rigour P Q → AtLimits rigour P R
 at_limits-map Form P Q R f h = h
-at_limits-map Limits P Q R f h = f h
-at_limits-map Names P Q R f h = f h
+at_limits-map rigour P Q R f h = f h
 
 pub at_limits-both : (rigour : Rigour) (Q R : Type 0) → AtLimits rigour (Unit {0}) Q → AtLimits rigour (Unit {0}) R
     → AtLimits rigour (Unit {0}) (Q × R)
 at_limits-both Form Q R h k = tt
-at_limits-both Limits Q R h k = (h, k)
-at_limits-both Names Q R h k = (h, k)
+at_limits-both rigour Q R h k = (h, k)
 
 pub limits_at_names : (rigour : Rigour) (P Q : Type 0) → is_names rigour ≡ true → AtLimits rigour P Q → Q
-limits_at_names Form P Q e h = absurd (cc)
-limits_at_names Limits P Q e h = absurd (cc)
 limits_at_names Names P Q e h = h
+limits_at_names rigour P Q e h = absurd (cc)
 
 -- ---- names and keys
 
@@ -95,9 +83,8 @@ name-sound rigour word name h =
     let t = text-sound rigour 16 word m.value m.read in
     let is : block_of m.value ≡ name.0 = ap (λ (n : Name16). n.0) m.made in (grind (arith, at_limits-map))
 
-pub name-complete : (rigour : Rigour) (word : List ℕ) (name : Name16) → is_term word ≡ true
-    → AtLimits rigour (Unit {0}) ((length word ≤ 16) × (name.0 ≡ block_of word)) → Finds rigour (name_of rigour word)
-    name
+pub name-complete : (rigour : Rigour) (word : List ℕ) (name : Name16) → is_term word ≡ true → AtLimits
+    rigour (Unit {0}) ((length word ≤ 16) × (name.0 ≡ block_of word)) → Finds rigour (name_of rigour word) name
 name-complete rigour word name term h =
     let make = λ (text : List ℕ). (let n : Name16 = record { 0 = block_of text } in n) in
     let t = text-complete rigour 16 word word (grind (arith, at_limits-map)) in
@@ -110,13 +97,13 @@ name-complete rigour word name term h =
 pub key-sound : (rigour : Rigour) (word : List ℕ) (key : Key16) → key_of rigour word ≡ Some key
     → (is_term word ≡ true) × AtLimits rigour (Unit {0}) ((length word ≤ 16) × (key.0 ≡ block_of word))
 key-sound rigour word key h =
-    let m = mapped (λ (text : List ℕ). (let n : Key16 = record { 0 = block_of text } in n)) (text_of rigour 16 word) key
-    h in
+    let m =
+    mapped (λ (text : List ℕ). (let n : Key16 = record { 0 = block_of text } in n)) (text_of rigour 16 word) key h in
     let t = text-sound rigour 16 word m.value m.read in
     let is : block_of m.value ≡ key.0 = ap (λ (n : Key16). n.0) m.made in (grind (arith, at_limits-map))
 
-pub key-complete : (rigour : Rigour) (word : List ℕ) (key : Key16) → is_term word ≡ true
-    → AtLimits rigour (Unit {0}) ((length word ≤ 16) × (key.0 ≡ block_of word)) → Finds rigour (key_of rigour word) key
+pub key-complete : (rigour : Rigour) (word : List ℕ) (key : Key16) → is_term word ≡ true → AtLimits
+    rigour (Unit {0}) ((length word ≤ 16) × (key.0 ≡ block_of word)) → Finds rigour (key_of rigour word) key
 key-complete rigour word key term h =
     let make = λ (text : List ℕ). (let n : Key16 = record { 0 = block_of text } in n) in
     let t = text-complete rigour 16 word word (grind (arith, at_limits-map)) in
@@ -142,36 +129,28 @@ term-name (b ∷ word) h = grind (arith, and_parts, and_from, capitals_term, nat
 
 pub new_name-sound : (rigour : Rigour) (word : List ℕ) (name : Name16) → new_name_of rigour word ≡ Some name
     → IsName rigour word × AtLimits rigour (Unit {0}) (name.0 ≡ block_of word)
-new_name-sound rigour word name h =
-    chosen (is_name word) (name_of rigour word) None name
-    (λ named read.
-    let n = name-sound rigour word name read in (grind (arith, at_limits-map)))
-    (λ _ none. not_some name none) h
+new_name-sound rigour word name h = chosen (is_name word) (name_of rigour word) None name (λ named read.
+    let n = name-sound rigour word name read in (grind (arith, at_limits-map))) (λ _ none. not_some name none) h
 
 pub new_name-complete : (rigour : Rigour) (word : List ℕ) (name : Name16) → IsName rigour word
-    → AtLimits rigour (Unit {0}) (name.0 ≡ block_of word)
-    → Finds rigour (new_name_of rigour word) name
-new_name-complete rigour word name named h =
-    rw named.0 (name-complete rigour word name (term-name word named.0) (at_limits-both rigour (length word ≤ 16)
-    (name.0 ≡ block_of word) named.1 h))
+    → AtLimits rigour (Unit {0}) (name.0 ≡ block_of word) → Finds rigour (new_name_of rigour word) name
+new_name-complete rigour word name named h = rw named.0 (name-complete rigour
+    word name (term-name word named.0) (at_limits-both rigour (length word ≤ 16) (name.0 ≡ block_of word) named.1 h))
 
 -- ---- what is declared
 
 known-sound : {V : Type 0} (rigour : Rigour) (o : Option V) (other v : V) → named_value rigour o other ≡ Some v
     → AtNames rigour (Unit {0}) (o ≡ Some v)
-known-sound Form o other v h = tt
-known-sound Limits o other v h = tt
 known-sound Names None other v h = absurd (cc)
 known-sound Names (Some x) other v h = h
+known-sound rigour o other v h = tt
 
 known-complete : {V : Type 0} (rigour : Rigour) (o : Option V) (other v : V) → AtNames rigour (Unit {0}) (o ≡ Some v)
     → Finds rigour (named_value rigour o other) v
-known-complete Form None other v h = record { found = other; read = refl; same = λ e. absurd (cc) }
-known-complete Form (Some x) other v h = record { found = x; read = refl; same = λ e. absurd (cc) }
-known-complete Limits None other v h = record { found = other; read = refl; same = λ e. absurd (cc) }
-known-complete Limits (Some x) other v h = record { found = x; read = refl; same = λ e. absurd (cc) }
 known-complete Names None other v h = absurd (cc)
 known-complete Names (Some x) other v h = record { found = x; read = refl; same = λ e. cc }
+known-complete rigour None other v h = record { found = other; read = refl; same = λ e. absurd (cc) }
+known-complete rigour (Some x) other v h = record { found = x; read = refl; same = λ e. absurd (cc) }
 
 abbrev pub IsDeclaredName : {V : Type 0} → Rigour → Option V → V → List ℕ → Type 0
 IsDeclaredName rigour o v word = IsName rigour word × AtNames rigour (Unit {0}) (o ≡ Some v)
@@ -190,9 +169,8 @@ padded_name-is : (word : List ℕ) → (padded_name word).0 ≡ block_of word
 unfolding padded_name
 padded_name-is word = refl
 
-pub declared-complete : {V : Type 0} (rigour : Rigour) (word : List ℕ) (o : Option V) (other v : V)
-    → IsDeclaredName rigour o v word
-    → Finds rigour (new_name_of rigour word >>= (λ name. named_value rigour o other)) v
+pub declared-complete : {V : Type 0} (rigour : Rigour) (word : List ℕ) (o : Option V) (other v : V) → IsDeclaredName
+    rigour o v word → Finds rigour (new_name_of rigour word >>= (λ name. named_value rigour o other)) v
 declared-complete rigour word o other v h =
     let n = new_name-complete rigour word (padded_name word) h.0 (grind (arith, padded_name-is)) in
     let k = known-complete rigour o other v h.1 in
@@ -204,12 +182,10 @@ pub facility-sound : (rigour : Rigour) (declared : Declared) (word : List ℕ) (
 facility-sound rigour declared word cf h = grind (arith, bound)
 
 pub facility-complete : (rigour : Rigour) (declared : Declared) (word : List ℕ) (cf : CfId)
-    → facility_of word ≡ Some cf
-    → AtNames rigour (Unit {0}) (is_declared declared.facilities cf ≡ true)
+    → facility_of word ≡ Some cf → AtNames rigour (Unit {0}) (is_declared declared.facilities cf ≡ true)
     → Finds rigour (facility_in rigour declared word) cf
-facility-complete Form declared word cf e h = rw e (record { found = cf; read = refl; same = λ _. refl })
-facility-complete Limits declared word cf e h = rw e (record { found = cf; read = refl; same = λ _. refl })
 facility-complete Names declared word cf e h = rw e (record { found = cf; read = rw h refl; same = λ _. refl })
+facility-complete rigour declared word cf e h = rw e (record { found = cf; read = refl; same = λ _. refl })
 
 -- ---- record ids
 

@@ -14,18 +14,16 @@ drop_next : (n b : ℕ) (text : List ℕ) → drop (1 + n) (b ∷ text) ≡ drop
 drop_next n b text = let e : 1 + n ≡ suc n = omega arith in rw e refl
 
 IsFront-cons : (b : ℕ) (text : List ℕ) (blank : Bool) → is_blank b ≡ blank → IsFront text → IsFront (b ∷ text)
-IsFront-cons b text true e h =
-    record {
-      parts = slice_split is_blank text;
-      split = rw (take_while-cons is_mark b text, e) refl;
-      rest = rw e (rw e refl);
-    }
-IsFront-cons b text false e h =
-    record {
-      parts = h.parts;
-      split = rw (take_while-cons is_mark b text, e, h.split) refl;
-      rest = grind (arith, drop_next);
-    }
+IsFront-cons b text true e h = record {
+  parts = slice_split is_blank text;
+  split = rw (take_while-cons is_mark b text, e) refl;
+  rest = rw e (rw e refl);
+}
+IsFront-cons b text false e h = record {
+  parts = h.parts;
+  split = rw (take_while-cons is_mark b text, e, h.split) refl;
+  rest = grind (arith, drop_next);
+}
 
 pub front_of : (text : List ℕ) → IsFront text
 front_of [] = record { parts = []; split = refl; rest = refl }
@@ -41,8 +39,7 @@ words_of-first [] h = absurd (cc)
 words_of-first (b ∷ text) h =
     let front = front_of (b ∷ text) in
     let some = nonempty_front b text h in
-    ap (filter is_nonempty) front.split ∙ (rw some (ap (λ (ws : List (List ℕ)). take_while is_mark (b ∷ text) ∷ ws)
-    front.rest))
+    ap (filter is_nonempty) front.split ∙ (grind arith)
 
 -- the place of the first blank, or the length
 pub place_or_length : (p : ℕ → Bool) (xs : List ℕ) → unwrap_or (position p xs) (length xs) ≡ position_or_len p xs

@@ -16,8 +16,7 @@ ends_so xs k long x at =
     split_next xs k x at ∙ ap (λ l. take k xs ++ x ∷ l) (drop_all (k + 1) xs (omega (arith, long)))
 
 ends_with : {X : Type 0} (xs : List X) → 0 < length xs → (x : X) × (xs ≡ take (length xs - 1) xs ++ x ∷ [])
-ends_with xs some =
-    ⊎_elim (λ found. (found.0, ends_so xs (length xs - 1) (omega (arith, some)) found.0 found.2))
+ends_with xs some = ⊎_elim (λ found. (found.0, ends_so xs (length xs - 1) (omega (arith, some)) found.0 found.2))
     (λ past. absurd (omega (arith, some, past.0))) (slice_get_cases xs (length xs - 1)).1
 
 module _ {C R I S : Type 0} (meaning : Meaning C R I S) (is_kind : Kind → Bool)
@@ -28,9 +27,8 @@ module _ {C R I S : Type 0} (meaning : Meaning C R I S) (is_kind : Kind → Bool
         → meaning.items shape state ≡ front ++ others
         → meaning.items shape (content_of_items meaning shape front) ≡ front
     pub unplace_front : (shape : Shape) (caps : Caps) (state : S) (front : List I) (item : I) (others : List I)
-        → IsContent shape caps state → meaning.items shape state ≡ front ++ item ∷ others
-        → meaning.unplace shape (content_of_items meaning shape (front ++ item ∷ []))
-        ≡ content_of_items meaning shape front
+        → IsContent shape caps state → meaning.items shape state ≡ front ++ item ∷ others → meaning.unplace
+        shape (content_of_items meaning shape (front ++ item ∷ [])) ≡ content_of_items meaning shape front
     pub need_first : (items others : List I) → IsNoMore (meaning.need items) (meaning.need (items ++ others))
 
   -- a new engine has no item, and what it was made with is its capacity
@@ -51,9 +49,8 @@ module _ {C R I S : Type 0} (meaning : Meaning C R I S) (is_kind : Kind → Bool
       }
 
   module _ (laws : ItemLaws) where
-    made_push : (shape : Shape) (front : List I) (item : I)
-        → content_of_items meaning shape (front ++ item ∷ [])
-        ≡ meaning.place shape (content_of_items meaning shape front) item
+    made_push : (shape : Shape) (front : List I) (item : I) → content_of_items meaning shape
+        (front ++ item ∷ []) ≡ meaning.place shape (content_of_items meaning shape front) item
     made_push shape front item = fold-append (meaning.place shape) (meaning.empty shape) front (item ∷ [])
 
     -- ---- an engine that is filled
@@ -87,10 +84,9 @@ module _ {C R I S : Type 0} (meaning : Meaning C R I S) (is_kind : Kind → Bool
       place-next = grind (arith, split)
 
       pub place-fits : Fits new.shape.kind (meaning.need (items_of meaning new ++ item ∷ [])) new.caps
-      place-fits =
-          fits_less new.shape.kind (meaning.need (items_of meaning new ++ item ∷ [])) (meaning.need all) new.caps
-          (subst (λ (l : List I). IsNoMore (meaning.need (items_of meaning new ++ item ∷ [])) (meaning.need l))
-          (append_assoc (items_of meaning new) (item ∷ []) rest ∙ sym split)
+      place-fits = fits_less new.shape.kind (meaning.need (items_of meaning new ++ item ∷ [])) (meaning.need all)
+          new.caps (subst (λ (l : List I). IsNoMore (meaning.need (items_of meaning new ++ item ∷ []))
+          (meaning.need l)) (append_assoc (items_of meaning new) (item ∷ []) rest ∙ sym split)
           (laws.need_first (items_of meaning new ++ item ∷ []) rest)) here.fits
 
       -- with the next item it is what the first items make, with that one
@@ -107,14 +103,12 @@ module _ {C R I S : Type 0} (meaning : Meaning C R I S) (is_kind : Kind → Bool
       pub placed-filled : IsFilled meaning IsContent (with_item meaning new item)
       placed-filled = grind (arith, split_behind, placed-items, placed_state)
 
-      pub placed-copy : copy_in meaning (with_item meaning new item)
-          ≡ with_next meaning 1 old (copy_in meaning new)
+      pub placed-copy : copy_in meaning (with_item meaning new item) ≡ with_next meaning 1 old (copy_in meaning new)
       placed-copy = grind (arith, placed-items, take_next)
 
       -- whether or not the item could be placed
-      pub after-place : {X : Type 0} (result : Result X I) (after : Held S)
-          → OnOk result (after ≡ with_item meaning new item) → OnErr result (after ≡ new)
-          → IsFilled meaning IsContent after
+      pub after-place : {X : Type 0} (result : Result X I) (after : Held S) → OnOk result
+          (after ≡ with_item meaning new item) → OnErr result (after ≡ new) → IsFilled meaning IsContent after
       after-place (Ok x) after ok err = subst (IsFilled meaning IsContent) (sym ok) placed-filled
       after-place (Err x) after ok err = subst (IsFilled meaning IsContent) (sym err) full
 
@@ -141,7 +135,6 @@ module _ {C R I S : Type 0} (meaning : Meaning C R I S) (is_kind : Kind → Bool
       pub dropped-filled : IsFilled meaning IsContent (without_last_item meaning held)
       dropped-filled = grind (arith, whole_split, dropped-items, state_left)
 
-      pub dropped-one : (after : Held S) (copy : Copy I) → copy_in meaning held ≡ copy
-          → after ≡ without_last_item meaning held
-          → copy_in meaning after ≡ record copy { items = take (length copy.items - 1) copy.items }
+      pub dropped-one : (after : Held S) (copy : Copy I) → copy_in meaning held ≡ copy → after ≡ without_last_item
+          meaning held → copy_in meaning after ≡ record copy { items = take (length copy.items - 1) copy.items }
       dropped-one after copy seen same = grind (arith, dropped-items)

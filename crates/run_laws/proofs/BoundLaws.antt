@@ -6,9 +6,8 @@ use Rattle.run_laws.proofs.CountLaws.{most_on, calls_shown, most_at_end, follows
 
 -- however a caller's work ended, its items show its own calls, and no more than its lines and its closing make
 ends_few : (limit : ℕ) (script : Script) (histories : List AnyHistory) (conn : ConnId) (on : StrNo)
-    (items : List Shown) (end : AgentEnd) → EndsRight limit script histories conn items end
-    → (AgreesWith histories conn items)
-    × (calls_shown on items ≤ most_of_lines on (lines_of script conn) + most_at_end conn.0)
+    (items : List Shown) (end : AgentEnd) → EndsRight limit script histories conn items end → (AgreesWith
+    histories conn items) × (calls_shown on items ≤ most_of_lines on (lines_of script conn) + most_at_end conn.0)
 ends_few limit script histories conn on items ended.Done right =
     (right.agrees, follows_few script histories conn on items right)
 ends_few limit script histories conn on items (ended.JournalFull full) right =
@@ -52,7 +51,7 @@ module _ (limit : ℕ) (script : Script) (histories : List AnyHistory) (transcri
       ≤ most_of_lines on (lines_of script (record { 0 = c })) + most_at_end c) calls (own_few c low within)) in
       omega (arith, few, closings_sum connectors, length_calls form.0 entries right.legal)
 
-pub within-script : (limit : ℕ) (script : Script) (histories : List AnyHistory) (transcripts : List Transcript)
+pub within_script : (limit : ℕ) (script : Script) (histories : List AnyHistory) (transcripts : List Transcript)
     → ShowsHistories limit script histories transcripts → IsWithinScript script histories
-within-script limit script histories transcripts shows on =
+within_script limit script histories transcripts shows on =
     history_few limit script histories transcripts shows on (slice_get histories on.0) refl

@@ -2,9 +2,8 @@
 use Rattle.run_laws.proofs.Imports.{arith, ◌≡◌, ℕ, List, [], ◌∷◌, ◌++◌, refl, sym, ◌∙◌, subst, CacheCmd, Caps, ConnId, Held, Content, no_content, Deed, Copies, after_deed, after_run, Calls, orderly-content, fresh-copy, content-run, content-nothing, uncast-kept, IsHeldAfter, content_applied, copies_then, uncast_then, AreFresh, AreKept, IsUnique}
 use Rattle.run_laws.proofs.UniqueLaws.{unique-content}
 
-after_run-push : (vector : ℕ) (caps : Caps) (content : Content) (deeds : List Deed) (deed : Deed)
-    → after_run vector caps content (deeds ++ deed ∷ [])
-    ≡ after_deed vector caps (after_run vector caps content deeds) deed
+after_run-push : (vector : ℕ) (caps : Caps) (content : Content) (deeds : List Deed) (deed : Deed) → after_run
+    vector caps content (deeds ++ deed ∷ []) ≡ after_deed vector caps (after_run vector caps content deeds) deed
 after_run-push vector caps content [] deed = refl
 after_run-push vector caps content (first ∷ deeds) deed =
     after_run-push vector caps (after_deed vector caps content first) deeds deed
@@ -14,21 +13,18 @@ applied-run : (held : Held Content) (deeds : List Deed) (by : ConnId) (cmd : Cac
     → content_applied held by cmd ≡ after_run held.shape.vector held.caps no_content (deeds ++ Calls by cmd ∷ [])
 applied-run held deeds by cmd led = grind (arith, after_run-push)
 
-pub applied-fresh : (held : Held Content) (deeds : List Deed) (by : ConnId) (cmd : CacheCmd) (copies : Copies)
+pub applied_fresh : (held : Held Content) (deeds : List Deed) (by : ConnId) (cmd : CacheCmd) (copies : Copies)
     → IsHeldAfter deeds held → AreFresh (content_applied held by cmd) (copies_then held copies deeds by cmd)
-applied-fresh held deeds by cmd copies led =
-    subst (λ (content : Content). AreFresh content (copies_then held copies deeds by cmd))
-    (sym (applied-run held deeds by cmd led))
-    (λ conn index name there. fresh-copy held.shape.vector held.caps copies (deeds ++ Calls by cmd ∷ []) conn index
-    name there)
+applied_fresh held deeds by cmd copies led = subst (λ (content : Content). AreFresh content (copies_then held copies
+    deeds by cmd)) (sym (applied-run held deeds by cmd led)) (λ conn index name there. fresh-copy held.shape.vector
+    held.caps copies (deeds ++ Calls by cmd ∷ []) conn index name there)
 
-pub applied-kept : (held : Held Content) (deeds : List Deed) (by : ConnId) (cmd : CacheCmd) → IsHeldAfter deeds held
+pub applied_kept : (held : Held Content) (deeds : List Deed) (by : ConnId) (cmd : CacheCmd) → IsHeldAfter deeds held
     → AreKept (content_applied held by cmd) (uncast_then held deeds by cmd)
-applied-kept held deeds by cmd led = grind (arith, applied-run, uncast-kept)
+applied_kept held deeds by cmd led = grind (arith, applied-run, uncast-kept)
 
-pub applied-unique : (held : Held Content) (deeds : List Deed) (by : ConnId) (cmd : CacheCmd) → IsHeldAfter deeds held
+pub applied_unique : (held : Held Content) (deeds : List Deed) (by : ConnId) (cmd : CacheCmd) → IsHeldAfter deeds held
     → IsUnique (content_applied held by cmd)
-applied-unique held deeds by cmd led =
-    subst IsUnique (sym (applied-run held deeds by cmd led))
-    (unique-content _ (orderly-content held.caps _
-    (content-run held.shape.vector held.caps no_content (deeds ++ Calls by cmd ∷ []) (content-nothing held.caps))))
+applied_unique held deeds by cmd led =
+    subst IsUnique (sym (applied-run held deeds by cmd led)) (unique-content _ (orderly-content held.caps
+    _ (content-run held.shape.vector held.caps no_content (deeds ++ Calls by cmd ∷ []) (content-nothing held.caps))))

@@ -22,17 +22,13 @@ entry number by command answered =
     record { no = number; by = conn by; what = what.Call (ask.Content command); reply = answered }
 
 abbrev history : CacheHistory
-history =
-    entry 1 1 (Read page 0 None 1) (reply.Content replies.NoData)
-    ∷ entry 2 2 (Read page 5 None 1) (reply.Content replies.NoData)
-    ∷ entry 3 2 (Write page 5 (1 ∷ []) (Some 3) None None 1 false) (reply.Content replies.Ok)
-    ∷ entry 4 1 (Write page 0 (9 ∷ []) (Some 3) None None 1 true) (reply.Refused refusal.NotRegistered)
-    ∷ entry 5 1 (Castout page) (reply.Content (replies.CastData (1 ∷ []) None))
-    ∷ entry 6 2 (Write page 5 (2 ∷ []) (Some 3) None None 1 false) (reply.Content replies.Ok)
-    ∷ entry 7 1 (Unlock page) (reply.Content (replies.Unlocked true))
-    ∷ entry 8 1 (Castout page) (reply.Content (replies.CastData (2 ∷ []) None))
-    ∷ entry 9 1 (Unlock page) (reply.Content (replies.Unlocked false))
-    ∷ []
+history = entry 1 1 (Read page 0 None 1) (reply.Content replies.NoData) ∷ entry 2 2 (Read page 5 None 1)
+    (reply.Content replies.NoData) ∷ entry 3 2 (Write page 5 (1 ∷ []) (Some 3) None None 1 false)
+    (reply.Content replies.Ok) ∷ entry 4 1 (Write page 0 (9 ∷ []) (Some 3) None None 1 true) (reply.Refused
+    refusal.NotRegistered) ∷ entry 5 1 (Castout page) (reply.Content (replies.CastData (1 ∷ []) None)) ∷ entry
+    6 2 (Write page 5 (2 ∷ []) (Some 3) None None 1 false) (reply.Content replies.Ok) ∷ entry
+    7 1 (Unlock page) (reply.Content (replies.Unlocked true)) ∷ entry 8 1 (Castout page) (reply.Content
+    (replies.CastData (2 ∷ []) None)) ∷ entry 9 1 (Unlock page) (reply.Content (replies.Unlocked false)) ∷ []
 
 -- 2 holds what it wrote last at 5, and nothing at another index; 1 was refused, and holds no data at 0
 held_by_2 : copy_held history (conn 2) 5 ≡ Some (2 ∷ [], None)
@@ -48,9 +44,8 @@ held_by_1 : copy_held history (conn 1) 0 ≡ None
 held_by_1 = refl
 
 -- the changed WRITEs that were accepted
-written : map (page_written page) history
-    ≡ None ∷ None ∷ Some (record { body = 1 ∷ []; adj = None; class = 3 }) ∷ None ∷ None
-    ∷ Some (record { body = 2 ∷ []; adj = None; class = 3 }) ∷ None ∷ None ∷ None ∷ []
+written : map (page_written page) history ≡ None ∷ None ∷ Some (record { body = 1 ∷ []; adj = None; class = 3 })
+    ∷ None ∷ None ∷ Some (record { body = 2 ∷ []; adj = None; class = 3 }) ∷ None ∷ None ∷ None ∷ []
 written = refl
 
 -- the UNLOCK of the CASTOUT before the WRITE at 6 doesn't count; the CASTOUT at 8 alone doesn't; the UNLOCK at 9 does
@@ -71,32 +66,26 @@ abbrev room : ℕ → ℕ → Caps
 room entries elements = record { entries = entries; elements = elements }
 
 abbrev form : StrForm
-form =
-    record {
-      name = page;
-      kind = kind.Cache;
-      caps = room 8 8;
-      conns = 4;
-      vector = 64;
-      keep = false;
-      prefs = record { cf = record { 0 = 1 }; units = 40 } ∷ record { cf = record { 0 = 2 }; units = 40 } ∷ [];
-    }
+form = record {
+  name = page;
+  kind = kind.Cache;
+  caps = room 8 8;
+  conns = 4;
+  vector = 64;
+  keep = false;
+  prefs = record { cf = record { 0 = 1 }; units = 40 } ∷ record { cf = record { 0 = 2 }; units = 40 } ∷ [];
+}
 
 abbrev common : ℕ → ShellCmd → ShellReply → CacheEntry
 common number command answered =
     record { no = number; by = conn 1; what = what.Call (ask.Shell command); reply = reply.Shell answered }
 
 abbrev rebuilt : CacheHistory
-rebuilt =
-    common 1 (cmd.Connect false) (shown.OkNew (record { 0 = 1 }))
-    ∷ entry 2 1 (Write page 5 (1 ∷ []) (Some 3) None None 1 false) (reply.Content replies.Ok)
-    ∷ common 3 (cmd.RebuildStart (room 10 10)) (shown.OkNumber 1)
-    ∷ common 4 cmd.Next (shown.Event (event.Quiesce 1))
-    ∷ common 5 cmd.Respond (shown.Responded (event.Quiesce 1))
-    ∷ common 6 cmd.RebuildConnect (shown.OkAt (record { 0 = 2 }))
-    ∷ common 7 (cmd.Copy 1) (shown.Copied 1 0)
-    ∷ common 8 cmd.RebuildComplete shown.Ok
-    ∷ []
+rebuilt = common 1 (cmd.Connect false) (shown.OkNew (record { 0 = 1 })) ∷ entry
+    2 1 (Write page 5 (1 ∷ []) (Some 3) None None 1 false) (reply.Content replies.Ok) ∷ common
+    3 (cmd.RebuildStart (room 10 10)) (shown.OkNumber 1) ∷ common 4 cmd.Next (shown.Event (event.Quiesce 1)) ∷ common
+    5 cmd.Respond (shown.Responded (event.Quiesce 1)) ∷ common 6 cmd.RebuildConnect (shown.OkAt
+    (record { 0 = 2 })) ∷ common 7 (cmd.Copy 1) (shown.Copied 1 0) ∷ common 8 cmd.RebuildComplete shown.Ok ∷ []
 
 -- the registration and the old capacity last until the new instance takes the old one's place
 registered_before : registered_at (content_after form (take 7 rebuilt)).regs (conn 1) 5 ≡ Some page

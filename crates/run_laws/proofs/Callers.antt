@@ -13,8 +13,7 @@ free_passed x xs false e h = refl
 
 free_unpadded : (bytes : List ℕ) → is_free 32 (text_in_block bytes) ≡ true
 free_unpadded [] = refl
-free_unpadded (x ∷ bytes) =
-    rw (take_while-cons (λ b. not (b == 32)) x bytes)
+free_unpadded (x ∷ bytes) = rw (take_while-cons (λ b. not (b == 32)) x bytes)
     (free_passed x (text_in_block bytes) (not (x == 32)) refl (free_unpadded bytes))
 
 term_above : (b : ℕ) → term_byte b ≡ true → 32 < b
@@ -66,9 +65,8 @@ nothing_there (suc i) x e = cc
 no_names : AreApart []
 no_names = grind (arith, nothing_there)
 
-new_word : (names : List Name16) (name : Name16)
-    → list_any (λ other. same_word (name_word other) (name_word name)) names ≡ false
-    → (i : ℕ) (other : Name16) → slice_get names i ≡ Some other → name_word other ≢ name_word name
+new_word : (names : List Name16) (name : Name16) → list_any (λ other. same_word (name_word other) (name_word name))
+    names ≡ false → (i : ℕ) (other : Name16) → slice_get names i ≡ Some other → name_word other ≢ name_word name
 new_word names name new i other e same =
     let here : get_or names i other ≡ other = get_or_from_slice_get names i other other e in
     let found : list_any (λ (o : Name16). same_word (name_word o) (name_word name)) names ≡ true =
@@ -97,8 +95,7 @@ declared script (verb ∷ word ∷ ws) (declaration.Connector name) says once h 
     grind (arith, named_word, one_more, no_operator, no_system)
 
 of_caller : (script : Script) (at : ℕ) (by : ConnId) (ws : Words) (after : Script)
-    → AddsOfCaller script at by ws after
-    → AreApart script.connectors → AreApart after.connectors
+    → AddsOfCaller script at by ws after → AreApart script.connectors → AreApart after.connectors
 of_caller script at by [] after adds h = absurd adds
 of_caller script at by (second ∷ ws) after adds h = grind arith
 
@@ -109,10 +106,8 @@ of_words script at (first ∷ ws) after adds h =
     by_tests (is_comment first) (is_policy_word first) (caller_of script.connectors first) adds
   where
     by_tests : (c p : Bool) (o : Option ConnId)
-        → MatchBool c (after ≡ script)
-        (MatchBool p (AddsDeclaration script first (first ∷ ws) after)
-        (MatchOption o ⊥ (λ by. AddsOfCaller script at by ws after)))
-        → AreApart after.connectors
+        → MatchBool c (after ≡ script) (MatchBool p (AddsDeclaration script first (first ∷ ws) after)
+        (MatchOption o ⊥ (λ by. AddsOfCaller script at by ws after))) → AreApart after.connectors
     by_tests true p o k = rw k h
     by_tests false true o k = grind (arith, declared, not-false)
     by_tests false false None k = absurd k
@@ -121,9 +116,8 @@ of_words script at (first ∷ ws) after adds h =
 of_lines : (lines : List (List ℕ)) (script : Script) (count : ℕ) (after : Script) → AddsAll script count lines after
     → AreApart script.connectors → AreApart after.connectors
 of_lines [] script count after adds h = rw adds h
-of_lines (line ∷ lines) script count after adds h =
-    of_lines lines adds.0 (count + 1) after adds.2
-    (of_words script (line_number (count + 1)) (words_of line) adds.0 adds.1.1 h)
+of_lines (line ∷ lines) script count after adds h = of_lines lines
+    adds.0 (count + 1) after adds.2 (of_words script (line_number (count + 1)) (words_of line) adds.0 adds.1.1 h)
 
 pub names_apart : (text : List ℕ) (script : Script) → IsScript text script → AreApart script.connectors
 names_apart text script is = of_lines (lines_of text) empty_script 0 script is no_names

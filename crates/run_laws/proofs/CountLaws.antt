@@ -20,7 +20,7 @@ shown_none on items most none = rw none (omega arith)
 -- ---- one line
 
 -- a step that asks something isn't the last
-heard_goes : (kind : Kind) (line : Option AnyAsk) (calls : List AnyCall) (by : ConnId) (number : ℕ) (told : Told)
+pub heard_goes : (kind : Kind) (line : Option AnyAsk) (calls : List AnyCall) (by : ConnId) (number : ℕ) (told : Told)
     (now : Step) → IsHeard calls by (asked_by kind line now) number told → now ≢ step.Rest
 heard_goes kind line calls by number told now heard rests =
     subst (λ (s : Step). IsHeard calls by (asked_by kind line s) number told) rests heard
@@ -61,8 +61,7 @@ act_few form calls by on at retry (act.Test index) items shows =
     shown_none on items _ (test_numbers form at index items on shows)
 act_few form calls by on at retry (act.TestWord word) items shows =
     shown_none on items _ (word_numbers form at word items on shows)
-act_few form calls by on at retry act.Post items shows = shown_none on items _ (ap (numbers_on on) shows.1)
-act_few form calls by on at retry act.Take items shows = shown_none on items _ (ap (numbers_on on) shows.1)
+act_few form calls by on at retry _ items shows = shown_none on items _ (ap (numbers_on on) shows.1)
 
 -- ---- the lines of a caller
 
@@ -97,14 +96,12 @@ closings_few : (histories : List AnyHistory) (conn : ConnId) (on : StrNo) (first
 closings_few histories conn on first [] before items shows = inl (shown_none on items 0 (ap (numbers_on on) shows))
 closings_few histories conn on first (form ∷ forms) before items shows =
     let rest = shows.1 in
-    by_place (first == on.0) refl
-    (closing_few form _ conn on (record { 0 = first }) before shows.0 rest.2)
+    by_place (first == on.0) refl (closing_few form _ conn on (record { 0 = first }) before shows.0 rest.2)
     (closings_few histories conn on (first + 1) forms before rest.0 rest.3)
     (shown_both on items shows.0 rest.0 rest.1)
   where
-    by_place : {here others all : ℕ} (b : Bool) → first == on.0 ≡ b → here ≤ cond b 1 0
-        → (others ≤ 0) ⊎ ((first + 1 ≤ on.0) × (others ≤ 1)) → all ≡ here + others
-        → (all ≤ 0) ⊎ ((first ≤ on.0) × (all ≤ 1))
+    by_place : {here others all : ℕ} (b : Bool) → first == on.0 ≡ b → here ≤ cond b 1 0 → (others ≤ 0)
+        ⊎ ((first + 1 ≤ on.0) × (others ≤ 1)) → all ≡ here + others → (all ≤ 0) ⊎ ((first ≤ on.0) × (all ≤ 1))
     by_place true is one (inl none) both = inr (grind (arith, nat_tests), omega arith)
     by_place true is one (inr later) both = absurd (grind (arith, nat_tests))
     by_place false is none (inl others) both = inl (omega arith)
@@ -131,61 +128,52 @@ some_at_end : (c : ℕ) → c ≢ 0 → most_at_end c ≡ 1
 some_at_end zero other = absurd (other refl)
 some_at_end (suc c) other = refl
 
--- a caller whose work is done
-pub follows_few : (script : Script) (histories : List AnyHistory) (conn : ConnId) (on : StrNo) (items : List Shown)
-    → Follows script histories conn items
-    → calls_shown on items ≤ most_of_lines on (lines_of script conn) + most_at_end conn.0
-follows_few script histories conn on items follows =
-    omega (
-      arith,
-      shown_both on items follows.during follows.after follows.shows,
-      lines_few script.structures histories on (lines_of script conn) follows.during follows.lines,
-      at_end (conn.0 == 0) refl follows.closings,
-    )
-  where
-    at_end : (b : Bool) → conn.0 == 0 ≡ b
-        → MatchBool b (follows.after ≡ [])
-        (ShowsClosings histories conn 0 script.structures follows.during follows.after)
-        → calls_shown on follows.after ≤ most_at_end conn.0
-    at_end true is none = shown_none on follows.after _ (ap (numbers_on on) none)
-    at_end false is closings =
-        let one : most_at_end conn.0 ≡ 1 = some_at_end conn.0 (λ zero. grind (arith, nat_tests)) in
-        rw one (closings_one histories conn on script.structures follows.during follows.after closings)
+module _ (script : Script) (histories : List AnyHistory) (conn : ConnId) (on : StrNo) (items : List Shown) where
+  -- the items show no more calls than the lines and the closing make
+  abbrev AreFew : Type 0
+  AreFew = calls_shown on items ≤ most_of_lines on (lines_of script conn) + most_at_end conn.0
 
--- a caller that stops at a full journal, in the work of a line, in its closing, or in either
-stops_in_line_few : (script : Script) (histories : List AnyHistory) (conn : ConnId) (on : StrNo) (items : List Shown)
-    (full : StrNo) → StopsInLine script histories conn items full
-    → calls_shown on items ≤ most_of_lines on (lines_of script conn)
-stops_in_line_few script histories conn on items full stops =
-    let line : Line = stops.line in
-    let same : full.0 == on.0 ≡ line.on.0 == on.0 = sym (ap (λ (at : StrNo). at.0 == on.0) stops.there) in
-    omega (
-      arith,
-      shown_both on items stops.during stops.last stops.shows,
-      lines_few script.structures histories on stops.before stops.during stops.played,
-      runs_up_to_few stops.form.kind (call_of line.act) _ conn on full (line.on.0 == on.0) same _ stops.last
-          stops.stopped,
-      ap (most_of_lines on) stops.lines ∙ sum_by-append (most_on on) stops.before (line ∷ stops.later),
-      sum_by-cons (most_on on) line stops.later,
-    )
+  -- a caller whose work is done
+  pub follows_few : Follows script histories conn items → AreFew
+  follows_few follows = omega (
+    arith,
+    shown_both on items follows.during follows.after follows.shows,
+    lines_few script.structures histories on (lines_of script conn) follows.during follows.lines,
+    at_end (conn.0 == 0) refl follows.closings,
+  )
+    where
+      at_end : (b : Bool) → conn.0 == 0 ≡ b → MatchBool b (follows.after ≡ []) (ShowsClosings histories
+          conn 0 script.structures follows.during follows.after) → calls_shown on follows.after ≤ most_at_end conn.0
+      at_end true is none = shown_none on follows.after _ (ap (numbers_on on) none)
+      at_end false is closings =
+          let one : most_at_end conn.0 ≡ 1 = some_at_end conn.0 (λ zero. grind (arith, nat_tests)) in
+          rw one (closings_one histories conn on script.structures follows.during follows.after closings)
 
-stops_in_closing_few : (script : Script) (histories : List AnyHistory) (conn : ConnId) (on : StrNo)
-    (items : List Shown) (full : StrNo) → StopsInClosing script histories conn items full
-    → calls_shown on items ≤ most_of_lines on (lines_of script conn) + most_at_end conn.0
-stops_in_closing_few script histories conn on items full stops =
-    omega (
-      arith,
-      shown_both on items stops.during stops.after stops.shows,
-      lines_few script.structures histories on (lines_of script conn) stops.during stops.lines,
-      closings_one histories conn on (take full.0 script.structures) stops.during stops.after stops.closings,
-      some_at_end conn.0 stops.connector,
-    )
+  -- a caller that stops at a full journal, in the work of a line, in its closing, or in either
+  stops_in_line_few : (full : StrNo) → StopsInLine script histories conn items full → AreFew
+  stops_in_line_few full stops =
+      let line : Line = stops.line in
+      let same : full.0 == on.0 ≡ line.on.0 == on.0 = sym (ap (λ (at : StrNo). at.0 == on.0) stops.there) in
+      omega (
+        arith,
+        shown_both on items stops.during stops.last stops.shows,
+        lines_few script.structures histories on stops.before stops.during stops.played,
+        runs_up_to_few stops.form.kind (call_of line.act) _ conn on full (line.on.0 == on.0) same _ stops.last
+            stops.stopped,
+        ap (most_of_lines on) stops.lines ∙ sum_by-append (most_on on) stops.before (line ∷ stops.later),
+        sum_by-cons (most_on on) line stops.later,
+      )
 
-pub stops_few : (script : Script) (histories : List AnyHistory) (conn : ConnId) (on : StrNo)
-    (items : List Shown) (full : StrNo)
-    → StopsInLine script histories conn items full ⊎ StopsInClosing script histories conn items full
-    → calls_shown on items ≤ most_of_lines on (lines_of script conn) + most_at_end conn.0
-stops_few script histories conn on items full (inl stops) =
-    omega (arith, stops_in_line_few script histories conn on items full stops)
-stops_few script histories conn on items full (inr stops) =
-    stops_in_closing_few script histories conn on items full stops
+  stops_in_closing_few : (full : StrNo) → StopsInClosing script histories conn items full → AreFew
+  stops_in_closing_few full stops = omega (
+    arith,
+    shown_both on items stops.during stops.after stops.shows,
+    lines_few script.structures histories on (lines_of script conn) stops.during stops.lines,
+    closings_one histories conn on (take full.0 script.structures) stops.during stops.after stops.closings,
+    some_at_end conn.0 stops.connector,
+  )
+
+  pub stops_few : (full : StrNo)
+      → StopsInLine script histories conn items full ⊎ StopsInClosing script histories conn items full → AreFew
+  stops_few full (inl stops) = stops_in_line_few full stops
+  stops_few full (inr stops) = stops_in_closing_few full stops

@@ -1,5 +1,5 @@
 -- Texts that are the same, from their fronts on.
-use Rattle.run_laws.proofs.Imports.{◌≡◌, ℕ, ◌≤◌, ◌<◌, ◌==◌, ◌^◌, Bool, true, not, List, [], ◌∷◌, ◌++◌, length, refl, ap, ◌∙◌, arith, append_assoc, length-append, is_ascii_digit, decimal, list_all, flat_map, and_parts, and_from, nat_tests, decimal_injective, flat_map-append, append_cancel_left, is_numeral, numeral-decimal, heading, line_text}
+use Rattle.run_laws.proofs.Imports.{append-nil, ◌≡◌, ℕ, ◌≤◌, ◌<◌, ◌==◌, ◌^◌, Bool, true, not, List, [], ◌∷◌, ◌++◌, length, refl, ap, ◌∙◌, arith, append_assoc, length-append, is_ascii_digit, decimal, list_all, flat_map, and_parts, and_from, nat_tests, decimal_injective, flat_map-append, append_cancel_left, is_numeral, numeral-decimal, heading, line_text}
 
 -- the byte doesn't stand in the text
 abbrev pub is_free : ℕ → List ℕ → Bool
@@ -83,18 +83,13 @@ pub same_end : (front : List ℕ) (m n : ℕ) (xs ys : List ℕ) → m < 2 ^ 64 
     → (front ++ decimal m) ++ 10 ∷ xs ≡ (front ++ decimal n) ++ 10 ∷ ys → (m ≡ n) × (xs ≡ ys)
 same_end front m n xs ys small_m small_n e = grind (arith, same_number, append_cancel_left, append_assoc)
 
-pub append_end : (u : List ℕ) → u ++ [] ≡ u
-append_end [] = refl
-append_end (x ∷ u) = ap (λ (v : List ℕ). x ∷ v) (append_end u)
-
 -- three words, the last of them set apart
 pub one_word : (s t a : List ℕ) → s ++ ((32 ∷ t) ++ ((32 ∷ a) ++ [])) ≡ (s ++ ((32 ∷ t) ++ 32 ∷ [])) ++ a
-one_word s t a = grind (arith, append_assoc, append_end)
+one_word s t a = grind (arith, append_assoc, append-nil)
 
 -- headings of one word and one name tell the same number
 pub same_heading : (word name : List ℕ) (m n : ℕ) (xs ys : List (List ℕ)) → m < 2 ^ 64 → n < 2 ^ 64
     → text_of (heading word name m ∷ xs) ≡ text_of (heading word name n ∷ ys) → (m ≡ n) × (text_of xs ≡ text_of ys)
-same_heading word name m n xs ys small_m small_n e =
-    same_end (word ++ ((32 ∷ name) ++ 32 ∷ [])) m n (text_of xs) (text_of ys) small_m small_n
-    (texts _ _ (heading word name m) (heading word name n) xs ys (one_word word name (decimal m))
-    (one_word word name (decimal n)) e)
+same_heading word name m n xs ys small_m small_n e = same_end
+    (word ++ ((32 ∷ name) ++ 32 ∷ [])) m n (text_of xs) (text_of ys) small_m small_n (texts _ _ (heading word name m)
+    (heading word name n) xs ys (one_word word name (decimal m)) (one_word word name (decimal n)) e)

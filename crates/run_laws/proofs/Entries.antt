@@ -35,9 +35,8 @@ module _ {C R I S : Type 0} (meaning : Meaning C R I S) (form : StrForm) (of : A
   abbrev replies_of : Entry C R → List (List ℕ)
   replies_of entry = reply_words answer_words script (is_of_vary entry.what) entry.reply
 
-  line_is : (number : List ℕ) (by : ConnId) (told : What C) (replies : List (List ℕ))
-      → line_of (number ∷ what_words cmd_words script by told ++ codes "->" ∷ replies)
-      ≡ number ++ 32 ∷ (who by told ++ behind told replies)
+  line_is : (number : List ℕ) (by : ConnId) (told : What C) (replies : List (List ℕ)) → line_of (number ∷ what_words
+      cmd_words script by told ++ codes "->" ∷ replies) ≡ number ++ 32 ∷ (who by told ++ behind told replies)
   line_is number by (what.Call ask) replies = refl
   line_is number by (what.Lost cf) replies = refl
 
@@ -67,24 +66,21 @@ module _ {C R I S : Type 0} (meaning : Meaning C R I S) (form : StrForm) (of : A
       → (number ++ 32 ∷ (caller ++ 32 ∷ rest)) ++ behind ≡ (number ++ 32 ∷ []) ++ (caller ++ 32 ∷ (rest ++ behind))
   regrouped number caller rest behind = grind (arith, append_assoc)
 
-  text_front : (entry : Entry C R) (front : Front entry) (lines : List (List ℕ))
-      → text_of (line entry ∷ lines)
+  text_front : (entry : Entry C R) (front : Front entry) (lines : List (List ℕ)) → text_of (line entry ∷ lines)
       ≡ (decimal entry.no ++ 32 ∷ []) ++ (who_of entry ++ 32 ∷ (front.rest ++ 10 ∷ text_of lines))
   text_front entry front lines = grind (arith, text-cons, text_of, regrouped)
 
   -- what a caller asks next, in the histories that are read
   abbrev pub Asked : (List (Entry C R) → ConnId → Option AnyAsk) → List (Entry C R) → List (Entry C R) → Type 0
   Asked next before [] = Unit {0}
-  Asked next before (entry ∷ entries) =
-      ((ask : Ask C) → entry.what ≡ what.Call ask
-      → (next before entry.by ≡ Some (of ask)) × (entry.by.0 ≤ length script.connectors))
-      × Asked next (before ++ entry ∷ []) entries
+  Asked next before (entry ∷ entries) = ((ask : Ask C) → entry.what ≡ what.Call ask → (next before
+      entry.by ≡ Some (of ask)) × (entry.by.0 ≤ length script.connectors)) × Asked next (before ++ entry ∷ []) entries
 
   same_by : (a b : ConnId) → a.0 ≡ b.0 → a ≡ b
   same_by a b e = ap (λ (n : ℕ). (let it : ConnId = record { 0 = n } in it)) e
 
-  number_next : (before : List (Entry C R)) (entry : Entry C R) (told : What C) → IsNextAs meaning form before entry told
-      → entry.no ≡ length before + 1
+  number_next : (before : List (Entry C R)) (entry : Entry C R) (told : What C)
+      → IsNextAs meaning form before entry told → entry.no ≡ length before + 1
   number_next before entry (what.Call ask) e = ap (λ (it : Entry C R). it.no) e
   number_next before entry (what.Lost cf) e = ap (λ (it : Entry C R). it.no) e
 
@@ -93,9 +89,8 @@ module _ {C R I S : Type 0} (meaning : Meaning C R I S) (form : StrForm) (of : A
   IsCaller by (what.Call ask) = by.0 ≤ length script.connectors
   IsCaller by (what.Lost cf) = Unit {0}
 
-  is_caller : (next : Option AnyAsk) (by : ConnId) (told : What C)
-      → ((ask : Ask C) → told ≡ what.Call ask → (next ≡ Some (of ask)) × (by.0 ≤ length script.connectors))
-      → IsCaller by told
+  is_caller : (next : Option AnyAsk) (by : ConnId) (told : What C) → ((ask : Ask C)
+      → told ≡ what.Call ask → (next ≡ Some (of ask)) × (by.0 ≤ length script.connectors)) → IsCaller by told
   is_caller next by (what.Call ask) asked = (asked ask refl).1
   is_caller next by (what.Lost cf) asked = tt
 
@@ -116,24 +111,22 @@ module _ {C R I S : Type 0} (meaning : Meaning C R I S) (form : StrForm) (of : A
       let tail' : List ℕ = codes "->" ++ tail_of replies' in
       let one : front ++ (facility_word cf ++ 32 ∷ tail) ≡ rest = cc in
       let other : front ++ (facility_word cf' ++ 32 ∷ tail') ≡ rest' = cc in
-      let whole : front ++ (facility_word cf ++ 32 ∷ (tail ++ xs)) ≡ front ++ (facility_word cf' ++ 32 ∷ (tail' ++ ys)) =
-      grind (arith, append_assoc) in
-      let words = same_cut 32 (facility_word cf) (tail ++ xs) (facility_word cf') (tail' ++ ys)
-      (free_facility cf is) (free_facility cf' is')
-      (append_cancel_left front (facility_word cf ++ 32 ∷ (tail ++ xs)) (facility_word cf' ++ 32 ∷ (tail' ++ ys)) whole) in
+      let whole : front ++ (facility_word cf ++ 32 ∷ (tail ++ xs)) ≡ front ++ (facility_word
+      cf' ++ 32 ∷ (tail' ++ ys)) = grind (arith, append_assoc) in
+      let words = same_cut 32 (facility_word cf) (tail ++ xs)
+      (facility_word cf') (tail' ++ ys) (free_facility cf is) (free_facility cf' is') (append_cancel_left
+      front (facility_word cf ++ 32 ∷ (tail ++ xs)) (facility_word cf' ++ 32 ∷ (tail' ++ ys)) whole) in
       let number : cf.0 ≡ cf'.0 = grind (arith, decimal_injective, append_cancel_left) in
       ap (λ (n : ℕ). (let it : CfId = record { 0 = n } in it)) number
 
   -- what two entries behind the same ones tell, where their lines are the same
-  same_next : (next : Option AnyAsk) (next' : Option AnyAsk) (before : List (Entry C R)) (a b : Entry C R)
-      (told told' : What C) (replies replies' : List (List ℕ)) (rest rest' xs ys : List ℕ)
-      → AreApart script.connectors → (a.by ≡ b.by → next ≡ next')
-      → ((ask : Ask C) → told ≡ what.Call ask → (next ≡ Some (of ask)) × (a.by.0 ≤ length script.connectors))
-      → ((ask : Ask C) → told' ≡ what.Call ask → (next' ≡ Some (of ask)) × (b.by.0 ≤ length script.connectors))
-      → NamesFacility told → NamesFacility told'
-      → IsNextAs meaning form before a told → IsNextAs meaning form before b told'
-      → behind told replies ≡ 32 ∷ rest → behind told' replies' ≡ 32 ∷ rest'
-      → who a.by told ≡ who b.by told' → rest ++ xs ≡ rest' ++ ys → a ≡ b
+  same_next : (next : Option AnyAsk) (next' : Option AnyAsk) (before : List (Entry C R))
+      (a b : Entry C R) (told told' : What C) (replies replies' : List (List ℕ)) (rest rest' xs ys : List ℕ)
+      → AreApart script.connectors → (a.by ≡ b.by → next ≡ next') → ((ask : Ask C) → told ≡ what.Call ask
+      → (next ≡ Some (of ask)) × (a.by.0 ≤ length script.connectors)) → ((ask : Ask C) → told' ≡ what.Call ask
+      → (next' ≡ Some (of ask)) × (b.by.0 ≤ length script.connectors)) → NamesFacility told → NamesFacility told'
+      → IsNextAs meaning form before a told → IsNextAs meaning form before b told' → behind told replies ≡ 32 ∷ rest
+      → behind told' replies' ≡ 32 ∷ rest' → who a.by told ≡ who b.by told' → rest ++ xs ≡ rest' ++ ys → a ≡ b
   same_next next next' before a b (what.Call ask) (what.Call ask') replies replies' rest rest' xs ys apart asker asked
       asked' marks marks' goes goes' blank blank' callers e =
       let by : a.by ≡ b.by =
@@ -150,28 +143,27 @@ module _ {C R I S : Type 0} (meaning : Meaning C R I S) (form : StrForm) (of : A
       asked' marks marks' goes goes' blank blank' callers e =
       absurd (not_system script b.by.0 apart (asked' ask' refl).1 (sym callers))
 
-  pub same_entries : (next : List (Entry C R) → ConnId → Option AnyAsk) (before one other : List (Entry C R))
-      (xs ys : List (List ℕ))
-      → AreApart script.connectors → length one ≡ length other → NamesFacilities one → NamesFacilities other
-      → Continues meaning form before one → Continues meaning form before other → Asked next before one
-      → Asked next before other
+  pub same_entries : (next : List (Entry C R) → ConnId → Option AnyAsk)
+      (before one other : List (Entry C R)) (xs ys : List (List ℕ)) → AreApart script.connectors
+      → length one ≡ length other → NamesFacilities one → NamesFacilities other → Continues meaning form before one
+      → Continues meaning form before other → Asked next before one → Asked next before other
       → text_of (map line one ++ xs) ≡ text_of (map line other ++ ys) → (one ≡ other) × (text_of xs ≡ text_of ys)
   same_entries next before [] [] xs ys apart same marks marks' goes goes' asked asked' e = (refl, e)
-  same_entries next before [] (b ∷ other) xs ys apart same marks marks' goes goes' asked asked' e = absurd (omega (arith, same))
-  same_entries next before (a ∷ one) [] xs ys apart same marks marks' goes goes' asked asked' e = absurd (omega (arith, same))
+  same_entries next before [] (b ∷ other) xs ys apart same marks marks' goes goes' asked asked' e =
+      absurd (omega (arith, same))
+  same_entries next before (a ∷ one) [] xs ys apart same marks marks' goes goes' asked asked' e =
+      absurd (omega (arith, same))
   same_entries next before (a ∷ one) (b ∷ other) xs ys apart same marks marks' goes goes' asked asked' e =
       let front = front_of a in
       let front' = front_of b in
       let numbers : decimal b.no ≡ decimal a.no =
       ap decimal (number_next before b b.what goes'.0 ∙ sym (number_next before a a.what goes.0)) in
-      let behind_number = append_cancel_left (decimal a.no ++ 32 ∷ [])
-      (who_of a ++ 32 ∷ (front.rest ++ 10 ∷ text_of (map line one ++ xs)))
-      (who_of b ++ 32 ∷ (front'.rest ++ 10 ∷ text_of (map line other ++ ys)))
-      (grind (arith, text_front, text_of)) in
-      let callers = same_cut 32 (who_of a) (front.rest ++ 10 ∷ text_of (map line one ++ xs))
-      (who_of b) (front'.rest ++ 10 ∷ text_of (map line other ++ ys))
-      (free_who a.by a.what (is_caller (next before a.by) a.by a.what asked.0))
-      (free_who b.by b.what (is_caller (next before b.by) b.by b.what asked'.0)) behind_number in
+      let behind_number = append_cancel_left
+      (decimal a.no ++ 32 ∷ []) (who_of a ++ 32 ∷ (front.rest ++ 10 ∷ text_of (map line one ++ xs)))
+      (who_of b ++ 32 ∷ (front'.rest ++ 10 ∷ text_of (map line other ++ ys))) (grind (arith, text_front, text_of)) in
+      let callers = same_cut 32 (who_of a) (front.rest ++ 10 ∷ text_of (map line one ++ xs)) (who_of b)
+      (front'.rest ++ 10 ∷ text_of (map line other ++ ys)) (free_who a.by a.what (is_caller (next before a.by) a.by
+      a.what asked.0)) (free_who b.by b.what (is_caller (next before b.by) b.by b.what asked'.0)) behind_number in
       let same_entry : a ≡ b =
       same_next (next before a.by) (next before b.by) before a b a.what b.what (replies_of a) (replies_of b) front.rest
       front'.rest (10 ∷ text_of (map line one ++ xs)) (10 ∷ text_of (map line other ++ ys)) apart (ap (next before))

@@ -3,30 +3,25 @@ use Rattle.run_laws.proofs.Imports.{arith, ◌≡◌, ℕ, List, [], ◌∷◌, 
 use Rattle.plex_board.specs.LockModel.Contents.{Content}
 use Rattle.plex_board.specs.LockModel.Step.{cause, done}
 
-cause_same : (m n k : ℕ) (content : Content) (by : ConnId) (cmd : LockCmd)
-    → cause (record { entries = m; elements = k }) content by cmd
-    ≡ cause (record { entries = n; elements = k }) content by cmd
+cause_same : (m n k : ℕ) (content : Content) (by : ConnId) (cmd : LockCmd) → cause (record
+    { entries = m; elements = k }) content by cmd ≡ cause (record { entries = n; elements = k }) content by cmd
 cause_same m n k content by (Obtain r excl rec) = refl
-cause_same m n k content by (Alter r excl rec) = refl
-cause_same m n k content by (Release r) = refl
-cause_same m n k content by (Decide r conn how) = refl
-cause_same m n k content by (RtRead conn) = refl
-cause_same m n k content by (RtDelete conn r) = refl
+cause_same m n k content by _ = refl
 
 cause_agrees : (a b : Caps) → a.elements ≡ b.elements → (content : Content) (by : ConnId) (cmd : LockCmd)
     → cause a content by cmd ≡ cause b content by cmd
 cause_agrees a b e content by cmd = grind (arith, cause_same)
 
-pub step-agrees : (a b : Caps) → a.elements ≡ b.elements → (shape : Shape) (content : Content) (by : ConnId)
+pub step_agrees : (a b : Caps) → a.elements ≡ b.elements → (shape : Shape) (content : Content) (by : ConnId)
     (cmd : LockCmd) → step_at a shape content by cmd ≡ step_at b shape content by cmd
-step-agrees a b e shape content by cmd =
+step_agrees a b e shape content by cmd =
     ap (λ refusal. unless_refused refusal content (done content by cmd)) (cause_agrees a b e content by cmd)
 
-pub replies-agree : (a b : Caps) → a.elements ≡ b.elements → (shape : Shape) (content : Content)
+pub replies_agree : (a b : Caps) → a.elements ≡ b.elements → (shape : Shape) (content : Content)
     (commands : List (ConnId × LockCmd)) → replies_of a shape content commands ≡ replies_of b shape content commands
-replies-agree a b e shape content [] = refl
-replies-agree a b e shape content (command ∷ commands) =
-    let same = step-agrees a b e shape content command.0 command.1 in
+replies_agree a b e shape content [] = refl
+replies_agree a b e shape content (command ∷ commands) =
+    let same = step_agrees a b e shape content command.0 command.1 in
     ap (λ step. step.reply ∷ replies_of a shape step.state commands) same
     ∙ ap (λ l. (step_at b shape content command.0 command.1).reply ∷ l)
-    (replies-agree a b e shape (step_at b shape content command.0 command.1).state commands)
+    (replies_agree a b e shape (step_at b shape content command.0 command.1).state commands)

@@ -39,8 +39,7 @@ heard_behind before [] rise = tt
 heard_behind before (call ∷ some) rise = (
   found_at 0 before call some rise,
   subst (λ (cs : List AnyCall). AreHeard cs some) (append_assoc before (call ∷ []) some)
-      (heard_behind (before ++ call ∷ []) some
-      (subst (Rising 0) (sym (append_assoc before (call ∷ []) some)) rise)),
+      (heard_behind (before ++ call ∷ []) some (subst (Rising 0) (sym (append_assoc before (call ∷ []) some)) rise)),
 )
 
 pub heard_each : (calls : List AnyCall) → Rising 0 calls → AreHeard calls calls
@@ -52,9 +51,8 @@ found_in : (number : ℕ) (calls : List AnyCall) (call : AnyCall) → call_numbe
 found_in number [] call e = absurd cc
 found_in number (first ∷ calls) call e = by_test (first.no == number) refl (found_in number calls call) e
   where
-    by_test : (b : Bool) → first.no == number ≡ b
-        → (call_numbered number calls ≡ Some call → Contains (numbers_of calls) number)
-        → (if b then Some first else call_numbered number calls) ≡ Some call
+    by_test : (b : Bool) → first.no == number ≡ b → (call_numbered number calls ≡ Some call
+        → Contains (numbers_of calls) number) → (if b then Some first else call_numbered number calls) ≡ Some call
         → Contains (numbers_of (first ∷ calls)) number
     by_test true same later found = grind (arith, numbers_of, nat_tests)
     by_test false apart later found =
@@ -80,6 +78,5 @@ point_from (history.Lock entries) n there = inr there
 
 pub heard_within : (form : StrForm) (h : AnyHistory) → IsAnyLegal form h → (number : ℕ) (call : AnyCall)
     → call_numbered number (any_calls h) ≡ Some call → number ≤ any_length h
-heard_within form h legal number call found =
-    any_within form h legal number (point_from h number
-    (subst (λ (ns : List ℕ). Contains ns number) (numbers_any h) (found_in number (any_calls h) call found)))
+heard_within form h legal number call found = any_within form h legal number (point_from h
+    number (subst (λ (ns : List ℕ). Contains ns number) (numbers_any h) (found_in number (any_calls h) call found)))

@@ -12,8 +12,7 @@ NoOther entries = (cf : CfId) → ¬ IsFacility cf → marks_at entries cf ≡ 0
 
 module _ {C R : Type 0} where
   more_marks : (entry : Entry C R) (entries : List (Entry C R)) (cf : CfId) (b : Bool)
-      → is_mark_as cf entry.what ≡ b
-      → marks_at (entry ∷ entries) cf ≡ (if b then 1 else 0) + marks_at entries cf
+      → is_mark_as cf entry.what ≡ b → marks_at (entry ∷ entries) cf ≡ (if b then 1 else 0) + marks_at entries cf
   more_marks entry entries cf true is = rw is (omega arith)
   more_marks entry entries cf false is = rw is (omega arith)
 

@@ -19,8 +19,7 @@ record AreLocks (content : Content) : Type 0 where
 -- so it is a content where there is room for them
 fitting : (caps : Caps) (content : Content) → AreLocks content → records_in content ≤ caps.elements
     → IsContent caps content
-fitting caps content are few =
-    record { owners = are.owners; queue = are.queue; due = are.due; records = few }
+fitting caps content are few = record { owners = are.owners; queue = are.queue; due = are.due; records = few }
 
 locks_of : (caps : Caps) (content : Content) → IsContent caps content → AreLocks content
 locks_of caps content is = record { owners = is.owners; queue = is.queue; due = is.due }
@@ -55,10 +54,7 @@ cause_more : (caps more : Caps) (content : Content) (by : ConnId) (cmd : LockCmd
     → cause caps content by cmd ≡ None → cause more content by cmd ≡ None
 cause_more caps more content by (Obtain r excl rec) h none = grind (arith, none_hold, none_of, records_more)
 cause_more caps more content by (Alter r excl rec) h none = grind (arith, none_hold, none_of, records_more)
-cause_more caps more content by (Release r) h none = none
-cause_more caps more content by (Decide r conn how) h none = none
-cause_more caps more content by (RtRead conn) h none = none
-cause_more caps more content by (RtDelete conn r) h none = none
+cause_more caps more content by _ h none = none
 
 -- ---- what is done to locks leaves locks
 
@@ -69,9 +65,8 @@ locks_done : (caps : Caps) (content : Content) (by : ConnId) (cmd : LockCmd) →
     → AreLocks content → AreLocks (done content by cmd).state
 locks_done caps content by cmd none are =
     let room = more_room caps content in
-    locks_of room (done content by cmd).state
-    (content-done room content by cmd (fitting room content are (omega arith))
-    (cause_more caps room content by cmd (omega arith) none))
+    locks_of room (done content by cmd).state (content-done room
+    content by cmd (fitting room content are (omega arith)) (cause_more caps room content by cmd (omega arith) none))
 
 locks_left : (content : Content) (conn : ConnId) (keep : Bool) → AreLocks content
     → AreLocks (departure_of conn keep content).content
@@ -89,17 +84,16 @@ locks_back content conn are =
 -- ---- after every history
 
 kept : (form : StrForm) → IsKept lock_meaning form AreLocks
-kept form =
-    record {
-      empty = none_are;
-      done = λ caps content by cmd none are. locks_done caps content by cmd none are;
-      leave = locks_left;
-      back = locks_back;
-      forget = λ content are. are;
-    }
+kept form = record {
+  empty = none_are;
+  done = λ caps content by cmd none are. locks_done caps content by cmd none are;
+  leave = locks_left;
+  back = locks_back;
+  forget = λ content are. are;
+}
 
-pub owners-replay : (form : StrForm) (history : LockHistory) → OwnersAreCompatible (content_after form history)
-owners-replay form history =
+pub owners_replay : (form : StrForm) (history : LockHistory) → OwnersAreCompatible (content_after form history)
+owners_replay form history =
     compatible (content_after form history) (kept-replay lock_meaning form refl AreLocks (kept form) history)
 
 -- ---- after every command
@@ -118,10 +112,8 @@ locks_run : (held : Held Content) (deeds : List Deed) → AreLocks held.state
 locks_run held [] are = are
 locks_run held (deed ∷ deeds) are = locks_run (after_deed held deed) deeds (locks_after held deed are)
 
-pub owners-applied : (held : Held Content) (deeds : List Deed) (by : ConnId) (cmd : LockCmd) → IsHeldAfter deeds held
+pub owners_applied : (held : Held Content) (deeds : List Deed) (by : ConnId) (cmd : LockCmd) → IsHeldAfter deeds held
     → OwnersAreCompatible (content_applied held by cmd)
-owners-applied held deeds by cmd led =
-    compatible (content_applied held by cmd)
-    (locks_answered held by cmd
-    (subst (λ (h : Held Content). AreLocks h.state) (sym led)
+owners_applied held deeds by cmd led = compatible (content_applied held by cmd)
+    (locks_answered held by cmd (subst (λ (h : Held Content). AreLocks h.state) (sym led)
     (locks_run (new_held lock_meaning held.shape held.caps) deeds none_are)))

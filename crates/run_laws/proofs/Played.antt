@@ -26,9 +26,8 @@ runs_consume : (kind : Kind) (line : Option AnyAsk) (calls : List AnyCall) (by :
 runs_consume kind line calls by on now [] [] runs numbers each = runs
 runs_consume kind line calls by on now [] (call ∷ mine) runs numbers each = absurd cc
 runs_consume kind line calls by on now (shown.Call place number ∷ items) mine runs numbers each =
-    at_call mine numbers each
-    (λ call others rest shows each'. runs_consume kind line calls by on
-    (step_after now call.told) items others shows rest each')
+    at_call mine numbers each (λ call others rest shows each'. runs_consume kind line calls
+    by on (step_after now call.told) items others shows rest each')
   where
     here : place.0 == on.0 ≡ true
     here = rw runs.1 (itself on.0)
@@ -36,13 +35,11 @@ runs_consume kind line calls by on now (shown.Call place number ∷ items) mine 
     split : numbers_on on (shown.Call place number ∷ items) ≡ number ∷ numbers_on on items
     split = rw here refl
 
-    at_call : (mine : List AnyCall)
-        → numbers_on on (shown.Call place number ∷ items) ≡ map (λ (call : AnyCall). call.no) mine
-        → AreHeard calls mine
+    at_call : (mine : List AnyCall) → numbers_on on (shown.Call place number ∷ items) ≡ map
+        (λ (call : AnyCall). call.no) mine → AreHeard calls mine
         → ((call : AnyCall) (others : List AnyCall) → numbers_on on items ≡ map (λ (c : AnyCall). c.no) others
         → Runs kind line calls by on (step_after now call.told) items → AreHeard calls others
-        → Consumes kind line (step_after now call.told) others)
-        → Consumes kind line now mine
+        → Consumes kind line (step_after now call.told) others) → Consumes kind line now mine
     at_call [] numbers each behind = absurd
         (let wrong : number ∷ numbers_on on items ≡ [] = sym split ∙ numbers in cc)
     at_call (call ∷ mine) numbers each behind = grind (arith, split, heard_is)
@@ -58,10 +55,8 @@ none_mine [] numbers none same = refl
 none_mine (call ∷ mine) numbers none same = absurd (cc)
 
 act_consumes : (form : StrForm) (calls : List AnyCall) (by : ConnId) (on : StrNo) (retry : ℕ) (done : Act)
-    (items : List Shown)
-    (mine : List AnyCall) → ShowsAct form calls by on retry done items
-    → numbers_on on items ≡ map (λ call. call.no) mine
-    → AreHeard calls mine → Consumes form.kind (call_of done) (first_step done retry) mine
+    (items : List Shown) (mine : List AnyCall) → ShowsAct form calls by on retry done items → numbers_on on items ≡
+    map (λ call. call.no) mine → AreHeard calls mine → Consumes form.kind (call_of done) (first_step done retry) mine
 act_consumes form calls by on retry (act.Call asked) items mine shows numbers each =
     runs_consume form.kind (Some asked) calls by on (step.Call retry) items mine shows numbers each
 act_consumes form calls by on retry act.Events items mine shows numbers each =
@@ -110,8 +105,7 @@ parts_of (call ∷ own) (x ∷ xs) ys e =
     record {
       front = call ∷ more.front;
       back = more.back;
-      whole = ap
-          (λ (cs : List AnyCall). call ∷ cs) rest;
+      whole = ap (λ (cs : List AnyCall). call ∷ cs) rest;
       first = cc;
       second = more.second;
     }
@@ -119,9 +113,8 @@ parts_of (call ∷ own) (x ∷ xs) ys e =
 -- works, and the calls that are left behind them
 abbrev pub PlaysThen : Kind → List Work → List AnyCall → List AnyCall → Type 0
 PlaysThen kind [] calls rest = calls ≡ rest
-PlaysThen kind (work ∷ more) calls rest =
-    (mine : List AnyCall) × ((others : List AnyCall) × (calls ≡ mine ++ others)
-    × (Consumes kind work.line work.first mine) × PlaysThen kind more others rest)
+PlaysThen kind (work ∷ more) calls rest = (mine : List AnyCall) × ((others : List AnyCall)
+    × (calls ≡ mine ++ others) × (Consumes kind work.line work.first mine) × PlaysThen kind more others rest)
 
 pub plays_all : (kind : Kind) (ws last : List Work) (calls rest : List AnyCall) → PlaysThen kind ws calls rest
     → Plays kind last rest → Plays kind (ws ++ last) calls
@@ -139,9 +132,8 @@ module _ (forms : List StrForm) (histories : List AnyHistory) (on : StrNo) (form
   there = calls_on histories on
 
   lines_play : (lines : List Line) (items : List Shown) (own : List AnyCall) (later : List ℕ)
-      → ShowsLines forms histories lines items
-      → numbers_on on items ++ later ≡ map (λ call. call.no) own → AreHeard there own
-      → (rest : List AnyCall) × (PlaysThen form.kind (map work_of (lines_at on lines)) own rest)
+      → ShowsLines forms histories lines items → numbers_on on items ++ later ≡ map (λ call. call.no) own
+      → AreHeard there own → (rest : List AnyCall) × (PlaysThen form.kind (map work_of (lines_at on lines)) own rest)
       × (later ≡ map (λ call. call.no) rest) × AreHeard there rest
   lines_play [] items own later shows numbers each = grind arith
   lines_play (line ∷ lines) items own later (form', (first, (others, known', split, shows, more))) numbers each =
@@ -150,14 +142,11 @@ module _ (forms : List StrForm) (histories : List AnyHistory) (on : StrNo) (form
       parted : numbers_on on first ++ (numbers_on on others ++ later) ≡ map (λ (call : AnyCall). call.no) own
       parted = grind (arith, append_assoc, filter_map-append)
 
-      by_place : (b : Bool) → line.on.0 == on.0 ≡ b
-          → ((own' : List AnyCall) → numbers_on on others ++ later ≡ map (λ (call : AnyCall). call.no) own'
-          → AreHeard there own'
-          → (rest : List AnyCall) × (PlaysThen form.kind (map work_of (lines_at on lines)) own' rest)
-          × (later ≡ map (λ (call : AnyCall). call.no) rest) × AreHeard there rest)
-          → (rest : List AnyCall)
-          × (PlaysThen form.kind (map work_of (cond b (line ∷ lines_at on lines) (lines_at on lines))) own rest)
-          × (later ≡ map (λ (call : AnyCall). call.no) rest) × AreHeard there rest
+      by_place : (b : Bool) → line.on.0 == on.0 ≡ b → ((own' : List AnyCall) → numbers_on on others ++ later ≡ map
+          (λ (call : AnyCall). call.no) own' → AreHeard there own' → (rest : List AnyCall) × (PlaysThen form.kind
+          (map work_of (lines_at on lines)) own' rest) × (later ≡ map (λ (call : AnyCall). call.no) rest) × AreHeard
+          there rest) → (rest : List AnyCall) × (PlaysThen form.kind (map work_of (cond b (line ∷ lines_at on lines)
+          (lines_at on lines))) own rest) × (later ≡ map (λ (call : AnyCall). call.no) rest) × AreHeard there rest
       by_place true same goes_on =
           let place : line.on.0 ≡ on.0 = grind (arith, nat_tests) in
           let is : line.on ≡ on = ap (λ (n : ℕ). (let it : StrNo = record { 0 = n } in it)) place in
@@ -179,23 +168,20 @@ closing_elsewhere : (form : StrForm) (calls : List AnyCall) (conn : ConnId) (on 
 closing_elsewhere form calls conn on other before items apart h = grind (arith, runs_elsewhere)
 
 -- a closing is the last work, or nothing
-closing_here : (form : StrForm) (calls : List AnyCall) (conn : ConnId) (on : StrNo) (before items : List Shown)
-    (mine : List AnyCall)
-    → ShowsClosing form calls conn on before items → numbers_on on items ≡ map (λ call. call.no) mine
-    → AreHeard calls mine
+closing_here : (form : StrForm) (calls : List AnyCall) (conn : ConnId)
+    (on : StrNo) (before items : List Shown) (mine : List AnyCall) → ShowsClosing form calls conn on before items
+    → numbers_on on items ≡ map (λ call. call.no) mine → AreHeard calls mine
     → (mine ≡ []) ⊎ Consumes form.kind (Some (shell_ask form.kind cmd.Disconnect)) (step.Call 0) mine
 closing_here form calls conn on before items mine h numbers each = grind (arith, Consumes, runs_consume, none_mine)
 
 -- the closings at structures from a number on show nothing of one before
-closings_past : (histories : List AnyHistory) (conn : ConnId) (first : ℕ) (forms : List StrForm)
-    (before items : List Shown)
-    (other : StrNo) → ShowsClosings histories conn first forms before items → other.0 < first
-    → numbers_on other items ≡ []
+closings_past : (histories : List AnyHistory)
+    (conn : ConnId) (first : ℕ) (forms : List StrForm) (before items : List Shown) (other : StrNo)
+    → ShowsClosings histories conn first forms before items → other.0 < first → numbers_on other items ≡ []
 closings_past histories conn first [] before items other none past = ap (numbers_on other) none
 closings_past histories conn first (form ∷ forms) before items other (here, (rest, split, shows, behind)) past =
     let apart : first == other.0 ≡ false = grind (arith, nat_tests) in
-    ap (numbers_on other) split ∙ filter_map-append (number_on other) here rest
-    ∙ rw (
+    ap (numbers_on other) split ∙ filter_map-append (number_on other) here rest ∙ rw (
       closing_elsewhere form (calls_on histories (record { 0 = first })) conn
           (record { 0 = first }) other before here apart shows,
       closings_past histories conn (first + 1) forms before rest other behind (omega (arith, past)),
@@ -203,16 +189,14 @@ closings_past histories conn first (form ∷ forms) before items other (here, (r
 
 -- the closings of a caller at structures from a number on: at this structure the departure alone, or nothing
 closings_play : (histories : List AnyHistory) (conn : ConnId) (first : ℕ) (forms : List StrForm)
-    (before items : List Shown)
-    (on : StrNo) (form : StrForm) (mine : List AnyCall) → ShowsClosings histories conn first forms before items
-    → ((k : ℕ) (f : StrForm) → slice_get forms k ≡ Some f → first + k ≡ on.0 → f ≡ form)
+    (before items : List Shown) (on : StrNo) (form : StrForm) (mine : List AnyCall) → ShowsClosings histories
+    conn first forms before items → ((k : ℕ) (f : StrForm) → slice_get forms k ≡ Some f → first + k ≡ on.0 → f ≡ form)
     → numbers_on on items ≡ map (λ call. call.no) mine → AreHeard (calls_on histories on) mine
     → (mine ≡ []) ⊎ Consumes form.kind (Some (shell_ask form.kind cmd.Disconnect)) (step.Call 0) mine
 closings_play histories conn first [] before items on form mine shows forms numbers each =
     inl (none_mine mine (numbers_on on items) (ap (numbers_on on) shows) numbers)
-closings_play histories conn first (f ∷ fs) before items on form mine
-    (here, (others, split, shows, more)) forms numbers each =
-    by_place (first == on.0) refl
+closings_play histories conn first (f ∷ fs) before items on
+    form mine (here, (others, split, shows, more)) forms numbers each = by_place (first == on.0) refl
     (λ same hearing. closings_play histories conn (first + 1) fs before others on form mine more later same hearing)
   where
     at_first : StrNo
@@ -245,35 +229,30 @@ closings_play histories conn first (f ∷ fs) before items on form mine
 
 -- ---- the whole
 
-last_plays : (kind : Kind) (rest : List AnyCall)
-    → (rest ≡ []) ⊎ Consumes kind (Some (shell_ask kind cmd.Disconnect)) (step.Call 0) rest
-    → Plays kind (closing kind ∷ []) rest
+last_plays : (kind : Kind) (rest : List AnyCall) → (rest ≡ [])
+    ⊎ Consumes kind (Some (shell_ask kind cmd.Disconnect)) (step.Call 0) rest → Plays kind (closing kind ∷ []) rest
 last_plays kind rest (inl none) = inl none
 last_plays kind rest (inr consumes) = inr (rest, ([], sym (append-nil rest), consumes, refl))
 
 -- the calls of a caller at a structure are its works there
-pub own_plays : (script : Script) (histories : List AnyHistory) (conn : ConnId) (items : List Shown) (on : StrNo)
-    (form : StrForm)
-    (own : List AnyCall) → Follows script histories conn items → slice_get script.structures on.0 ≡ Some form
-    → numbers_on on items ≡ map (λ call. call.no) own → AreHeard (calls_on histories on) own
-    → Plays form.kind (works form.kind (lines_at on (lines_of script conn))) own
+pub own_plays : (script : Script) (histories : List AnyHistory) (conn : ConnId) (items : List Shown)
+    (on : StrNo) (form : StrForm) (own : List AnyCall) → Follows script histories conn items
+    → slice_get script.structures on.0 ≡ Some form → numbers_on on items ≡ map (λ call. call.no) own → AreHeard
+    (calls_on histories on) own → Plays form.kind (works form.kind (lines_at on (lines_of script conn))) own
 own_plays script histories conn items on form own follows known numbers each =
     let split : numbers_on on follows.during ++ numbers_on on follows.after ≡ map (λ (call : AnyCall). call.no) own =
     grind (arith, filter_map-append) in
     let first = lines_play script.structures histories on form known (lines_of script conn) follows.during own
     (numbers_on on follows.after) follows.lines split each in
-    plays_all form.kind (map work_of (lines_at on (lines_of script conn)))
-    (closing form.kind ∷ []) own first.0 first.1
-    (last_plays form.kind first.0 (by_caller (conn.0 == 0) first.0 first.2 first.3 follows.closings))
+    plays_all form.kind (map work_of (lines_at on (lines_of script conn))) (closing form.kind ∷ []) own
+    first.0 first.1 (last_plays form.kind first.0 (by_caller (conn.0 == 0) first.0 first.2 first.3 follows.closings))
   where
     forms : (k : ℕ) (f : StrForm) → slice_get script.structures k ≡ Some f → 0 + k ≡ on.0 → f ≡ form
     forms k f e same = grind arith
 
-    by_caller : (b : Bool) (rest : List AnyCall)
-        → numbers_on on follows.after ≡ map (λ (call : AnyCall). call.no) rest
-        → AreHeard (calls_on histories on) rest
-        → MatchBool b (follows.after ≡ [])
-        (ShowsClosings histories conn 0 script.structures follows.during follows.after)
+    by_caller : (b : Bool) (rest : List AnyCall) → numbers_on
+        on follows.after ≡ map (λ (call : AnyCall). call.no) rest → AreHeard (calls_on histories on) rest → MatchBool
+        b (follows.after ≡ []) (ShowsClosings histories conn 0 script.structures follows.during follows.after)
         → (rest ≡ []) ⊎ Consumes form.kind (Some (shell_ask form.kind cmd.Disconnect)) (step.Call 0) rest
     by_caller true rest same hearing none = inl
         (none_mine rest (numbers_on on follows.after) (ap (numbers_on on) none) same)

@@ -7,23 +7,26 @@ use Rattle.run_laws.proofs.Callers.{AreApart, names_apart}
 use Rattle.run_laws.proofs.Heard.{AreHeard, heard_each, heard_own, heard_within}
 use Rattle.run_laws.proofs.Played.{own_plays}
 use Rattle.run_laws.proofs.Sizes.{short_at, small, few_at}
-use Rattle.run_laws.proofs.Histories.{AreRight, AreShort, IsPlayedAt, histories_same}
+use Rattle.run_laws.proofs.Histories.{AreRight, IsPlayedAt, Each, IsRight, histories_same}
 use Rattle.run_laws.proofs.Items.{IsBounded, AreBounded, follows_same}
 
 -- ---- transcripts
 
-same_transcript : (a b : Transcript) → a.items ≡ b.items → a.end ≡ b.end → a ≡ b
-same_transcript a b items ends = grind arith
-
-same_list : {X : Type 0} (x y : X) (xs ys : List X) → x ≡ y → xs ≡ ys → x ∷ xs ≡ y ∷ ys
-same_list x y xs ys first rest = ap (λ z. z ∷ xs) first ∙ ap (λ zs. y ∷ zs) rest
-
-same_reading : (a b : Reading) → a.histories ≡ b.histories → a.transcripts ≡ b.transcripts → a ≡ b
-same_reading a b histories transcripts = grind arith
-
 -- from the front on
 from_front : {X : Type 0} (xs : List X) (k : ℕ) (x : X) → slice_get xs k ≡ Some x → slice_get xs (0 + k) ≡ Some x
 from_front xs k x e = let same : k ≡ 0 + k = omega arith in subst (λ (j : ℕ). slice_get xs j ≡ Some x) same e
+
+-- what holds of each element at its place holds from the front on
+each_from : {X : Type 0} (P : ℕ → X → Type 0) (all : List X) → ((n : ℕ) (x : X) → slice_get all n ≡ Some x → P n x)
+    → (n : ℕ) (rest : List X) → ((k : ℕ) (x : X) → slice_get rest k ≡ Some x → slice_get all (n + k) ≡ Some x)
+    → Each P n rest
+each_from P all each n [] at = tt
+each_from {X} P all each n (x ∷ rest) at =
+    let place : n + 0 ≡ n = omega arith in (
+      each n x (subst (λ (k : ℕ). slice_get all k ≡ Some x) place (at 0 x refl)),
+      each_from P all each (n + 1) rest (λ k y e. (let further : n + suc k ≡ (n + 1) + k = omega arith in
+          subst (λ (j : ℕ). slice_get all j ≡ Some y) further (at (suc k) y e))),
+    )
 
 -- a caller's transcript: it follows the script to its end, and what it tells has at most 64 bits
 record IsTold (script : Script) (histories : List AnyHistory) (c : ℕ) (transcript : Transcript) : Type 0 where
@@ -33,17 +36,14 @@ record IsTold (script : Script) (histories : List AnyHistory) (c : ℕ) (transcr
   done : transcript.end ≡ ended.Done
 
 abbrev AreTold : Script → List AnyHistory → ℕ → List Transcript → Type 0
-AreTold script histories c [] = Unit {0}
-AreTold script histories c (transcript ∷ transcripts) =
-    IsTold script histories c transcript × AreTold script histories (c + 1) transcripts
+AreTold script histories c transcripts = Each (IsTold script histories) c transcripts
 
 module _ (script : Script) (histories : List AnyHistory) (small : (on : StrNo) → length_on histories on < 2 ^ 64)
     (within : (on : StrNo) (number : ℕ) (call : AnyCall) → call_numbered number (calls_on histories on) ≡ Some call
     → number ≤ length_on histories on) where
-  transcripts_same : (c : ℕ) (one other : List Transcript) (xs ys : List (List ℕ)) → length one ≡ length other
-      → AreTold script histories c one → AreTold script histories c other
-      → text_of (lines_each (λ i t. transcript_lines script i t) c one ++ xs)
-      ≡ text_of (lines_each (λ i t. transcript_lines script i t) c other ++ ys) → one ≡ other
+  transcripts_same : (c : ℕ) (one other : List Transcript) (xs ys : List (List ℕ)) → length one ≡ length other →
+      AreTold script histories c one → AreTold script histories c other → text_of (lines_each (λ i t. transcript_lines
+      script i t) c one ++ xs) ≡ text_of (lines_each (λ i t. transcript_lines script i t) c other ++ ys) → one ≡ other
   transcripts_same c [] [] xs ys same told told' e = refl
   transcripts_same c [] (b ∷ other) xs ys same told told' e = absurd (omega (arith, same))
   transcripts_same c (a ∷ one) [] xs ys same told told' e = absurd (omega (arith, same))
@@ -53,15 +53,15 @@ module _ (script : Script) (histories : List AnyHistory) (small : (on : StrNo) �
       let counts = same_heading (codes "TRANSCRIPT") (caller_name script c) (length a.items) (length b.items)
       ((map (shown_line script) a.items ++ more) ++ xs)
       ((map (shown_line script) b.items ++ more') ++ ys) told.0.few told'.0.few e in
-      let shows = follows_same script histories small within (record { 0 = c }) a.items b.items (more ++ xs)
-      (more' ++ ys)
-      told.0.follows told'.0.follows told.0.bounded told'.0.bounded
-      (sym (ap text_of (append_assoc (map (shown_line script) a.items) more xs)) ∙ counts.1
-      ∙ ap text_of (append_assoc (map (shown_line script) b.items) more' ys)) in
+      let shows = follows_same script histories small within
+      (record { 0 = c }) a.items b.items (more ++ xs) (more' ++ ys) told.0.follows told'.0.follows
+      told.0.bounded told'.0.bounded (sym (ap text_of (append_assoc (map (shown_line script) a.items) more xs))
+      ∙ counts.1 ∙ ap text_of (append_assoc (map (shown_line script) b.items) more' ys)) in
       let items : a.items ≡ b.items = shows.0 in
       let ends : a.end ≡ b.end = told.0.done ∙ sym told'.0.done in
-      same_list a b one other (same_transcript a b items ends)
-      (transcripts_same (c + 1) one other xs ys (omega (arith, same)) told.1 told'.1 shows.1)
+      let here : a ≡ b = grind arith in
+      let rest : one ≡ other =
+      transcripts_same (c + 1) one other xs ys (omega (arith, same)) told.1 told'.1 shows.1 in cc
 
 -- ---- what holds of a reading
 
@@ -105,8 +105,7 @@ module _ (script : Script) (reading : Reading) (is : IsReading script reading)
 
   -- each caller's calls at a structure are its works
   played_at : (x : ℕ) (form : StrForm) (entries : AnyHistory) → slice_get script.structures x ≡ Some form
-      → slice_get histories x ≡ Some entries
-      → IsPlayedAt script (record { 0 = x }) form.kind (any_calls entries)
+      → slice_get histories x ≡ Some entries → IsPlayedAt script (record { 0 = x }) form.kind (any_calls entries)
   played_at x form entries known there by low =
       let on : StrNo = record { 0 = x } in
       let within : by.0 < length reading.transcripts = omega (arith, low, is.callers) in
@@ -114,9 +113,8 @@ module _ (script : Script) (reading : Reading) (is : IsReading script reading)
       let transcript = get_or reading.transcripts by.0 d in
       let follows = follows_of by.0 transcript (slice_get-get_or reading.transcripts by.0 d within) in
       let calls_there : calls_on histories on ≡ any_calls entries = rw there refl in
-      let numbers : numbers_on on transcript.items ≡ map (λ (call : AnyCall). call.no)
-      (own_calls (any_calls entries) by) =
-      follows.agrees.numbers on (slice_get_within histories x entries there)
+      let numbers : numbers_on on transcript.items ≡ map (λ (call : AnyCall). call.no) (own_calls
+      (any_calls entries) by) = follows.agrees.numbers on (slice_get_within histories x entries there)
       ∙ ap (λ (cs : List AnyCall). map (λ (call : AnyCall). call.no) (own_calls cs by)) calls_there in
       let each : AreHeard (calls_on histories on) (own_calls (any_calls entries) by) =
       subst (λ (cs : List AnyCall). AreHeard (calls_on histories on) (own_calls cs by)) calls_there
@@ -125,65 +123,33 @@ module _ (script : Script) (reading : Reading) (is : IsReading script reading)
       own_plays script histories by transcript.items on form
       (own_calls (any_calls entries) by) follows known numbers each
 
-  are_right : (n : ℕ) (rest : List AnyHistory)
-      → ((k : ℕ) (entries : AnyHistory) → slice_get rest k ≡ Some entries
-      → slice_get histories (n + k) ≡ Some entries)
-      → AreRight script n rest
-  are_right n [] at = tt
-  are_right n (entries ∷ rest) at =
-      let place : n + 0 ≡ n = omega arith in
-      let there : slice_get histories n ≡ Some entries = subst
-      (λ (k : ℕ). slice_get histories k ≡ Some entries) place (at 0 entries refl) in
-      let form = form_at n entries there in (
+  all_right : AreRight script 0 histories
+  all_right = each_from (λ n entries. (form : StrForm) × IsRight script n form entries) histories
+      (λ n entries there. (let form = form_at n entries there in (
+        form.0,
         record {
-          form = form.0;
           known = form.1;
+          short = short_at script reading short n entries there;
           right = is.histories_right n form.0 entries form.1 there;
           marks = is.facilities n entries there;
           plays = played_at n form.0 entries form.1 there;
         },
-        are_right (n + 1) rest (λ k other e.
-            (let further : n + suc k ≡ (n + 1) + k = omega arith in
-            subst (λ (j : ℕ). slice_get histories j ≡ Some other) further (at (suc k) other e))),
-      )
-
-  all_right : AreRight script 0 histories
-  all_right = are_right 0 histories (from_front histories)
-
-  are_short : (n : ℕ) (rest : List AnyHistory)
-      → ((k : ℕ) (entries : AnyHistory) → slice_get rest k ≡ Some entries
-      → slice_get histories (n + k) ≡ Some entries)
-      → AreShort rest
-  are_short n [] at = tt
-  are_short n (entries ∷ rest) at = (
-    short_at script reading short (n + 0) entries (at 0 entries refl),
-    are_short (n + 1) rest (λ k other e.
-        (let further : n + suc k ≡ (n + 1) + k = omega arith in
-        subst (λ (j : ℕ). slice_get histories j ≡ Some other) further (at (suc k) other e))),
-  )
+      ))) 0 histories (from_front histories)
 
   -- what a transcript's items tell has at most 64 bits
   item_bounded : (c k : ℕ) (transcript : Transcript) (item : Shown)
-      → slice_get reading.transcripts c ≡ Some transcript → slice_get transcript.items k ≡ Some item
-      → IsBounded item
-  item_bounded c k transcript (shown.Call on number) there e = tt
-  item_bounded c k transcript (shown.Test on index bit at) there e =
-      is.numbers c k transcript (shown.Test on index bit at) there e
-  item_bounded c k transcript (shown.Word on word bits at) there e =
-      is.numbers c k transcript (shown.Word on word bits at) there e
-  item_bounded c k transcript (shown.BadIndex on index word len) there e = tt
-  item_bounded c k transcript (shown.Posted on sure) there e =
-      omega (
-        arith,
-        ((follows_of c transcript there).agrees.notes k (shown.Posted on sure) e).1,
-        small script reading short on,
-      )
-  item_bounded c k transcript (shown.Took on sure) there e =
-      omega (
-        arith,
-        ((follows_of c transcript there).agrees.notes k (shown.Took on sure) e).1,
-        small script reading short on,
-      )
+      → slice_get reading.transcripts c ≡ Some transcript → slice_get transcript.items k ≡ Some item → IsBounded item
+  item_bounded c k transcript (shown.Posted on sure) there e = omega (
+    arith,
+    ((follows_of c transcript there).agrees.notes k (shown.Posted on sure) e).1,
+    small script reading short on,
+  )
+  item_bounded c k transcript (shown.Took on sure) there e = omega (
+    arith,
+    ((follows_of c transcript there).agrees.notes k (shown.Took on sure) e).1,
+    small script reading short on,
+  )
+  item_bounded c k transcript item there e = is.numbers c k transcript item there e
 
   all_bounded : (items : List Shown) → ((k : ℕ) (item : Shown) → slice_get items k ≡ Some item → IsBounded item)
       → AreBounded items
@@ -192,68 +158,45 @@ module _ (script : Script) (reading : Reading) (is : IsReading script reading)
 
   told_at : (c : ℕ) (transcript : Transcript) → slice_get reading.transcripts c ≡ Some transcript
       → IsTold script histories c transcript
-  told_at c transcript there =
-      record {
-        follows = follows_of c transcript there;
-        bounded = all_bounded transcript.items (λ k item e. item_bounded c k transcript item there e);
-        few = few_at script reading short c transcript there;
-        done = (is.follows c transcript there).0;
-      }
-
-  are_told : (n : ℕ) (rest : List Transcript)
-      → ((k : ℕ) (transcript : Transcript) → slice_get rest k ≡ Some transcript
-      → slice_get reading.transcripts (n + k) ≡ Some transcript)
-      → AreTold script histories n rest
-  are_told n [] at = tt
-  are_told n (transcript ∷ rest) at =
-      let place : n + 0 ≡ n = omega arith in (
-        told_at n transcript
-            (subst (λ (k : ℕ). slice_get reading.transcripts k ≡ Some transcript) place (at 0 transcript refl)),
-        are_told (n + 1) rest (λ k other e.
-            (let further : n + suc k ≡ (n + 1) + k = omega arith in
-            subst (λ (j : ℕ). slice_get reading.transcripts j ≡ Some other) further (at (suc k) other e))),
-      )
+  told_at c transcript there = record {
+    follows = follows_of c transcript there;
+    bounded = all_bounded transcript.items (λ k item e. item_bounded c k transcript item there e);
+    few = few_at script reading short c transcript there;
+    done = (is.follows c transcript there).0;
+  }
 
   all_told : AreTold script histories 0 reading.transcripts
-  all_told = are_told 0 reading.transcripts (from_front reading.transcripts)
+  all_told = each_from (IsTold script histories) reading.transcripts told_at 0 reading.transcripts
+      (from_front reading.transcripts)
 
 -- ---- two readings
 
 -- the text behind the policy
-behind_policy : (script : Script) (one other : Reading) → report_of script one ≡ report_of script other
-    → text_of (histories_lines script one.histories ++ (transcripts_lines script one.transcripts ++ codes "END" ∷ []))
-    ≡ text_of
+behind_policy : (script : Script) (one other : Reading) → report_of script one ≡ report_of script other → text_of
+    (histories_lines script one.histories ++ (transcripts_lines script one.transcripts ++ codes "END" ∷ [])) ≡ text_of
     (histories_lines script other.histories ++ (transcripts_lines script other.transcripts ++ codes "END" ∷ []))
 behind_policy script one other e =
-    let rest : Reading → List (List ℕ) =
-    λ reading. histories_lines script reading.histories ++
-    (transcripts_lines script reading.transcripts ++ codes "END" ∷ []) in
-    same_behind (map connector_line script.connectors) (rest one) (rest other)
-    (same_behind (structures_lines script) (map connector_line script.connectors ++ rest one)
-    (map connector_line script.connectors ++ rest other)
-    (grind (arith, same_behind)))
+    let rest : Reading → List (List ℕ) = λ reading. histories_lines script
+    reading.histories ++ (transcripts_lines script reading.transcripts ++ codes "END" ∷ []) in
+    same_behind (map connector_line script.connectors) (rest one)
+    (rest other) (same_behind (structures_lines script) (map connector_line script.connectors ++ rest one)
+    (map connector_line script.connectors ++ rest other) (grind (arith, same_behind)))
 
 one_reading : (script : Script) (one other : Reading) → AreApart script.connectors
-    → IsReading script one
-    → IsReading script other → length (report_of script one) < 2 ^ 64
+    → IsReading script one → IsReading script other → length (report_of script one) < 2 ^ 64
     → report_of script one ≡ report_of script other → one ≡ other
 one_reading script one other apart is is' short e =
     let short' : length (report_of script other) < 2 ^ 64 = subst (λ (text : List ℕ). length text < 2 ^ 64) e short in
-    let first = histories_same script 0 one.histories other.histories
-    (transcripts_lines script one.transcripts ++ codes "END" ∷ [])
-    (transcripts_lines script other.transcripts ++ codes "END" ∷ []) apart
-    (is.structures ∙ sym is'.structures)
-    (are_short script one is short 0 one.histories (from_front one.histories))
-    (are_short script other is' short' 0 other.histories (from_front other.histories))
-    (all_right script one is short) (all_right script other is' short')
-    (behind_policy script one other e) in
+    let first = histories_same
+    script 0 one.histories other.histories (transcripts_lines script one.transcripts ++ codes "END" ∷ [])
+    (transcripts_lines script other.transcripts ++ codes "END" ∷ []) apart (is.structures ∙ sym is'.structures)
+    (all_right script one is short) (all_right script other is' short') (behind_policy script one other e) in
     let told' : AreTold script one.histories 0 other.transcripts = grind (arith, all_told) in
-    let last = transcripts_same script one.histories (small script one short)
-    (within_history script one is short)
-    0 one.transcripts other.transcripts (codes "END" ∷ []) (codes "END" ∷ [])
-    (is.callers ∙ sym is'.callers)
-    (all_told script one is short) told' first.1 in
-    same_reading one other first.0 last
+    let transcripts : one.transcripts ≡ other.transcripts =
+    transcripts_same script one.histories (small script one short)
+    (within_history script one is short) 0 one.transcripts other.transcripts (codes "END" ∷ [])
+    (codes "END" ∷ []) (is.callers ∙ sym is'.callers) (all_told script one is short) told' first.1 in
+    let histories : one.histories ≡ other.histories = first.0 in grind arith
 
 pub only_reading : IsOnlyReading
 only_reading text script one other says is is' short e =

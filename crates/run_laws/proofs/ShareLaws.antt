@@ -30,19 +30,17 @@ keys_below key n xs keys k d within =
 -- where each share of a list is no longer than the sum over another list's share, and so many more, the list is no
 -- longer than the sum over the other list, and all of these
 pub shares_bound : {X Y : Type 0} (key : X → ℕ) (of f : Y → ℕ) (more : ℕ → ℕ) (n : ℕ) (xs : List X) (ys : List Y)
-    → All (λ x. key x < n) xs
-    → ((c : ℕ) → c < n → length (share key c xs) ≤ sum_by f (share of c ys) + more c)
+    → All (λ x. key x < n) xs → ((c : ℕ) → c < n → length (share key c xs) ≤ sum_by f (share of c ys) + more c)
     → length xs ≤ sum_by f ys + sum_below more n
 shares_bound key of f more zero [] ys keys each = omega arith
 shares_bound key of f more zero (x ∷ xs) ys keys each = absurd (omega (arith, keys 0 x (omega arith)))
-shares_bound key of f more (suc n) xs ys keys each =
-    grind (
-      arith,
-      keys_below,
-      share_kept,
-      length-filter_both,
-      sum_by-filter_both,
-      shares_bound key of f more n
-          (others key n xs) (others of n ys) (keys_below key n xs keys) (λ c below. let mine = share_kept key c n below xs
-          in let its = share_kept of c n below ys in rw (mine, its) (each c (omega arith))),
-    )
+shares_bound key of f more (suc n) xs ys keys each = grind (
+  arith,
+  keys_below,
+  share_kept,
+  length-filter_both,
+  sum_by-filter_both,
+  shares_bound key of f more n (others key n xs) (others of n ys) (keys_below key n xs keys)
+      (λ c below. let mine = share_kept key c n below xs
+      in let its = share_kept of c n below ys in rw (mine, its) (each c (omega arith))),
+)

@@ -14,9 +14,8 @@ history_long script n (history.List entries) = omega
 history_long script n (history.Lock entries) = omega
     (arith, length-map entries (entry_line lock_words lock_reply_words script))
 
-each_long : (script : Script) (n x : ℕ) (histories : List AnyHistory) (entries : AnyHistory)
-    → slice_get histories x ≡ Some entries
-    → any_length entries < length (lines_each (λ i h. history_lines script i h) n histories)
+each_long : (script : Script) (n x : ℕ) (histories : List AnyHistory) (entries : AnyHistory) → slice_get histories
+    x ≡ Some entries → any_length entries < length (lines_each (λ i h. history_lines script i h) n histories)
 each_long script n x [] entries e = grind arith
 each_long script n zero (first ∷ histories) entries e = grind (arith, history_long, length-append)
 each_long script n (suc x) (first ∷ histories) entries e =
@@ -36,40 +35,17 @@ module _ (script : Script) (reading : Reading) (short : length (report_of script
   abbrev histories : List AnyHistory
   histories = reading.histories
 
-  -- no history is longer than the report
-  lines_within : length (histories_lines script histories) ≤ length (report_of script reading)
-  lines_within =
-      let behind : List (List ℕ) = transcripts_lines script reading.transcripts ++ codes "END" ∷ [] in
-      omega (
-        arith,
-        text-long (report_lines script histories reading.transcripts),
-        length-append (map facility_line (by_number script.facilities))
-            (structures_lines script ++
-            (map connector_line script.connectors ++ (histories_lines script histories ++ behind))),
-        length-append (structures_lines script)
-            (map connector_line script.connectors ++ (histories_lines script histories ++ behind)),
-        length-append (map connector_line script.connectors) (histories_lines script histories ++ behind),
-        length-append (histories_lines script histories) behind,
-      )
-
-  -- so in a report of fewer than 2^64 bytes each length has at most 64 bits
-  pub short_at : (x : ℕ) (entries : AnyHistory) → slice_get histories x ≡ Some entries → any_length entries < 2 ^ 64
-  short_at x entries there = omega (arith, each_long script 0 x histories entries there, lines_within, short)
-
-  pub small : (on : StrNo) → length_on histories on < 2 ^ 64
-  small on = grind (arith, short_at)
-
-  -- no transcript is longer than the report
-  transcripts_within : length (transcripts_lines script reading.transcripts) ≤ length (report_of script reading)
-  transcripts_within =
+  -- all histories and transcripts together aren't longer than the report
+  parts_within : length (histories_lines script histories) + length (transcripts_lines script reading.transcripts)
+      ≤ length (report_of script reading)
+  parts_within =
       let end : List (List ℕ) = codes "END" ∷ [] in
       let behind : List (List ℕ) = transcripts_lines script reading.transcripts ++ end in
       omega (
         arith,
         text-long (report_lines script histories reading.transcripts),
-        length-append (map facility_line (by_number script.facilities))
-            (structures_lines script ++
-            (map connector_line script.connectors ++ (histories_lines script histories ++ behind))),
+        length-append (map facility_line (by_number script.facilities)) (structures_lines
+            script ++ (map connector_line script.connectors ++ (histories_lines script histories ++ behind))),
         length-append (structures_lines script)
             (map connector_line script.connectors ++ (histories_lines script histories ++ behind)),
         length-append (map connector_line script.connectors) (histories_lines script histories ++ behind),
@@ -77,7 +53,14 @@ module _ (script : Script) (reading : Reading) (short : length (report_of script
         length-append (transcripts_lines script reading.transcripts) end,
       )
 
+  -- so in a report of fewer than 2^64 bytes each length has at most 64 bits
+  pub short_at : (x : ℕ) (entries : AnyHistory) → slice_get histories x ≡ Some entries → any_length entries < 2 ^ 64
+  short_at x entries there = omega (arith, each_long script 0 x histories entries there, parts_within, short)
+
+  pub small : (on : StrNo) → length_on histories on < 2 ^ 64
+  small on = grind (arith, short_at)
+
   pub few_at : (c : ℕ) (transcript : Transcript) → slice_get reading.transcripts c ≡ Some transcript
       → length transcript.items < 2 ^ 64
   few_at c transcript there =
-      omega (arith, transcripts_long script 0 c reading.transcripts transcript there, transcripts_within, short)
+      omega (arith, transcripts_long script 0 c reading.transcripts transcript there, parts_within, short)

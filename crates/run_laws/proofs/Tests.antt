@@ -12,13 +12,10 @@ use Rattle.run_laws.proofs.Sizes.{short_at}
 
 -- a test is at a structure, and a word that a test shows begins within the vector
 abbrev IsPlaced : List StrForm → Shown → Type 0
-IsPlaced forms (shown.Call place number) = Unit {0}
 IsPlaced forms (shown.Test place index bit at) = (form : StrForm) × (slice_get forms place.0 ≡ Some form)
 IsPlaced forms (shown.Word place word bits at) =
     (form : StrForm) × (slice_get forms place.0 ≡ Some form) × (32 * word < form.vector)
-IsPlaced forms (shown.BadIndex place index word len) = Unit {0}
-IsPlaced forms (shown.Posted place sure) = Unit {0}
-IsPlaced forms (shown.Took place sure) = Unit {0}
+IsPlaced forms _ = Unit {0}
 
 abbrev ArePlaced : List StrForm → List Shown → Type 0
 ArePlaced forms [] = Unit {0}
@@ -41,11 +38,7 @@ module _ (forms : List StrForm) where
   runs_placed k asked calls by on now [] runs = tt
   runs_placed k asked calls by on now (shown.Call place number ∷ items) runs =
       grind (arith, runs_placed k asked calls by on (step_after now runs.0) items runs.3)
-  runs_placed k asked calls by on now (shown.Test place index bit at ∷ items) runs = absurd runs
-  runs_placed k asked calls by on now (shown.Word place word bits at ∷ items) runs = absurd runs
-  runs_placed k asked calls by on now (shown.BadIndex place index word len ∷ items) runs = absurd runs
-  runs_placed k asked calls by on now (shown.Posted place sure ∷ items) runs = absurd runs
-  runs_placed k asked calls by on now (shown.Took place sure ∷ items) runs = absurd runs
+  runs_placed k asked calls by on now (_ ∷ items) runs = absurd runs
 
   test_placed : (form : StrForm) (on : StrNo) (index : ℕ) (items : List Shown) → slice_get forms on.0 ≡ Some form
       → ShowsTest form on index items → ArePlaced forms items
@@ -62,12 +55,9 @@ module _ (forms : List StrForm) where
       runs_placed form.kind (Some asked) calls by on (step.Call retry) items shows
   act_placed form calls by on retry act.Events items known shows =
       runs_placed form.kind None calls by on (first_step act.Events retry) items shows
-  act_placed form calls by on retry (act.Test index) items known shows =
-      test_placed form on index items known shows
-  act_placed form calls by on retry (act.TestWord word) items known shows =
-      word_placed form on word items known shows
-  act_placed form calls by on retry act.Post items known (sure, is) = subst (ArePlaced forms) (sym is) (tt, tt)
-  act_placed form calls by on retry act.Take items known (sure, is) = subst (ArePlaced forms) (sym is) (tt, tt)
+  act_placed form calls by on retry (act.Test index) items known shows = test_placed form on index items known shows
+  act_placed form calls by on retry (act.TestWord word) items known shows = word_placed form on word items known shows
+  act_placed form calls by on retry _ items known shows = subst (ArePlaced forms) (sym shows.1) (tt, tt)
 
   lines_placed : (histories : List AnyHistory) (lines : List Line) (items : List Shown)
       → ShowsLines forms histories lines items → ArePlaced forms items
@@ -80,16 +70,14 @@ module _ (forms : List StrForm) where
   closing_placed form calls conn on before items shows = grind (arith, runs_placed)
 
   closings_placed : (histories : List AnyHistory) (conn : ConnId) (on : ℕ) (more : List StrForm)
-      (before items : List Shown)
-      → ShowsClosings histories conn on more before items → ArePlaced forms items
+      (before items : List Shown) → ShowsClosings histories conn on more before items → ArePlaced forms items
   closings_placed histories conn on [] before items shows = subst (ArePlaced forms) (sym shows) tt
   closings_placed histories conn on (form ∷ more) before items (first, (others, split, shows, behind)) =
       let place : StrNo = record { 0 = on } in
       let here : ArePlaced forms first = closing_placed form (calls_on histories place) conn place before first
       shows in
       subst (ArePlaced forms) (sym split)
-      (placed-append forms first others here
-      (closings_placed histories conn (on + 1) more before others behind))
+      (placed-append forms first others here (closings_placed histories conn (on + 1) more before others behind))
 
 follows_placed : (script : Script) (histories : List AnyHistory) (conn : ConnId) (items : List Shown)
     → Follows script histories conn items → ArePlaced script.structures items
@@ -97,9 +85,8 @@ follows_placed script histories conn items follows = grind (arith, placed-append
 
 -- ---- what tests show
 
-module _ (limit : ℕ) (script : Script) (reading : Reading)
-    (shows : ShowsHistories limit script reading.histories reading.transcripts)
-    (done : (c : ℕ) (transcript : Transcript) → slice_get reading.transcripts c ≡ Some transcript
+module _ (limit : ℕ) (script : Script) (reading : Reading) (shows : ShowsHistories limit script reading.histories
+    reading.transcripts) (done : (c : ℕ) (transcript : Transcript) → slice_get reading.transcripts c ≡ Some transcript
     → transcript.end ≡ ended.Done) (short : length (report_of script reading) < 2 ^ 64) where
   history_at : (x : ℕ) (form : StrForm) → slice_get script.structures x ≡ Some form
       → (entries : AnyHistory) × (slice_get reading.histories x ≡ Some entries) × IsHistoryOf script form entries
@@ -118,7 +105,6 @@ module _ (limit : ℕ) (script : Script) (reading : Reading)
 
   numbers_at : (c k : ℕ) (transcript : Transcript) (item : Shown) → slice_get reading.transcripts c ≡ Some transcript
       → slice_get transcript.items k ≡ Some item → IsPlaced script.structures item → ShowsNumbers item
-  numbers_at c k transcript (shown.Call on number) there e placed = tt
   numbers_at c k transcript (shown.Test on index bit at) there e (form, known) =
       let it = history_at on.0 form known in
       let tells = shows.tests c transcript there k (shown.Test on index bit at) form it.0 e known it.1 in
@@ -133,9 +119,7 @@ module _ (limit : ℕ) (script : Script) (reading : Reading)
         omega (arith, tells.made, word_below (λ j. nat_lt (32 * word + j) form.vector && tells.bits j) 32),
         omega (arith, low, short_at script reading short on.0 it.0 it.1),
       )
-  numbers_at c k transcript (shown.BadIndex on index word len) there e placed = tt
-  numbers_at c k transcript (shown.Posted on sure) there e placed = tt
-  numbers_at c k transcript (shown.Took on sure) there e placed = tt
+  numbers_at c k transcript _ there e placed = tt
 
   -- what shows histories, with every caller's work done, is a reading
   pub is_reading : ((x : ℕ) (entries : AnyHistory) → slice_get reading.histories x ≡ Some entries

@@ -22,10 +22,8 @@ works kind lines = map work_of lines ++ closing kind ∷ []
 -- ---- a work done
 
 abbrev pub is_rest : Step → Bool
-is_rest (step.Call asks) = false
-is_rest (step.Next left behind) = false
-is_rest (step.Respond left behind) = false
 is_rest step.Rest = true
+is_rest _ = false
 
 -- calls from a step on: what is asked next, or the calls that are left where the work is done
 pub data Pending : Type 0 where
@@ -47,10 +45,8 @@ module _ (kind : Kind) (line : Option AnyAsk) where
   pending now (call ∷ calls) = goes_on (is_rest now) (pending (step_after now call.told) calls) (call ∷ calls)
 
   asks_none : (now : Step) → is_rest now ≡ true → asked_by kind line now ≡ None
-  asks_none (step.Call asks) h = absurd cc
-  asks_none (step.Next left behind) h = absurd cc
-  asks_none (step.Respond left behind) h = absurd cc
   asks_none step.Rest h = refl
+  asks_none _ h = absurd cc
 
   moving : (now : Step) (asked : AnyAsk) → asked_by kind line now ≡ Some asked → is_rest now ≡ false
   moving now asked e = grind (arith, asks_none)
@@ -88,9 +84,8 @@ next_ask kind (work ∷ more) calls = asked_or (λ others. next_ask kind more ot
 -- calls are what the first of these works ask, one after another
 abbrev pub Plays : Kind → List Work → List AnyCall → Type 0
 Plays kind [] calls = calls ≡ []
-Plays kind (work ∷ more) calls =
-    (calls ≡ []) ⊎ ((mine : List AnyCall) × ((others : List AnyCall) × (calls ≡ mine ++ others)
-    × (Consumes kind work.line work.first mine) × Plays kind more others))
+Plays kind (work ∷ more) calls = (calls ≡ []) ⊎ ((mine : List AnyCall) × ((others : List AnyCall)
+    × (calls ≡ mine ++ others) × (Consumes kind work.line work.first mine) × Plays kind more others))
 
 -- two lists that are one, cut in two ways: the second cut is within the first part or behind it
 pub data Where {X : Type 0} (mine others before : List X) (x : X) (behind : List X) : Type 0 where
@@ -98,8 +93,7 @@ pub data Where {X : Type 0} (mine others before : List X) (x : X) (behind : List
   Behind : (more : List X) → before ≡ mine ++ more → others ≡ more ++ x ∷ behind → Where mine others before x behind
 
 cut_where : {X : Type 0} (mine others before : List X) (x : X) (behind : List X)
-    → mine ++ others ≡ before ++ x ∷ behind
-    → Where mine others before x behind
+    → mine ++ others ≡ before ++ x ∷ behind → Where mine others before x behind
 cut_where [] others before x behind e = Behind before refl e
 cut_where (m ∷ mine) others [] x behind e =
     let same : m ≡ x = cc in
@@ -127,8 +121,7 @@ next_of kind (work ∷ more) calls before call behind (inr (mine, (others, whole
     at_cut (cut_where mine others before call behind (sym whole ∙ e))
     (λ later left. next_of kind more others later call behind rest left)
   where
-    at_cut : Where mine others before call behind
-        → ((later : List AnyCall) → others ≡ later ++ call ∷ behind → next_ask kind more later ≡ Some call.ask)
-        → next_ask kind (work ∷ more) before ≡ Some call.ask
+    at_cut : Where mine others before call behind → ((later : List AnyCall) → others ≡ later ++ call ∷ behind
+        → next_ask kind more later ≡ Some call.ask) → next_ask kind (work ∷ more) before ≡ Some call.ask
     at_cut (Within later is) more_asked = grind (arith, pending_call)
     at_cut (Behind later is left) more_asked = grind (arith, done_left)

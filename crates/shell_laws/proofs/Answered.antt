@@ -11,14 +11,12 @@ module _ {C R I S : Type 0} (meaning : Meaning C R I S) (form : StrForm) where
   -- the entries have the machine's replies, one after another
   abbrev pub AreAnswered : Machine S → List (Entry C R) → Type 0
   AreAnswered machine [] = Unit {0}
-  AreAnswered machine (entry ∷ entries) =
-      (entry.reply ≡ reply_for machine entry.by entry.what)
+  AreAnswered machine (entry ∷ entries) = (entry.reply ≡ reply_for machine entry.by entry.what)
       × AreAnswered (machine_after meaning form machine entry) entries
 
   -- the next entry of a history has the machine's reply
   answered_next : (history : List (Entry C R)) (entry : Entry C R) (told : What C)
-      → IsNextAs meaning form history entry told
-      → entry.reply ≡ reply_for (replay meaning form history) entry.by told
+      → IsNextAs meaning form history entry told → entry.reply ≡ reply_for (replay meaning form history) entry.by told
   answered_next history entry (what.Call asked) next = ap (λ (e : Entry C R). e.reply) next
   answered_next history entry (what.Lost cf) next = ap (λ (e : Entry C R). e.reply) next
 

@@ -45,9 +45,8 @@ module _ {C R I S : Type 0} (meaning : Meaning C R I S) (is_kind : Kind → Bool
         → IsContent shape other (meaning.forget state)
     pub need_first : (items others : List I) → IsNoMore (meaning.need items) (meaning.need (items ++ others))
     pub need_leave : (shape : Shape) (caps : Caps) (state : S) (conn : ConnId) (keep : Bool)
-        → IsTrue (is_kind shape.kind) → IsContent shape caps state
-        → IsNoMoreOf shape.kind (meaning.need (meaning.items shape (meaning.leave shape state conn keep).state))
-        (meaning.need (meaning.items shape state))
+        → IsTrue (is_kind shape.kind) → IsContent shape caps state → IsNoMoreOf shape.kind (meaning.need
+        (meaning.items shape (meaning.leave shape state conn keep).state)) (meaning.need (meaning.items shape state))
 
   module _ (laws : ContentLaws) (form : StrForm) (kind : IsTrue (is_kind form.kind)) where
     abbrev need_of : S → Caps
@@ -68,18 +67,15 @@ module _ {C R I S : Type 0} (meaning : Meaning C R I S) (is_kind : Kind → Bool
 
     -- ---- room in a new instance
 
-    room_less : (rebuild : Option Rebuild) (content less : S)
-        → IsNoMoreOf form.kind (need_of less) (need_of content) → HasRoom meaning form rebuild content
-        → HasRoom meaning form rebuild less
+    room_less : (rebuild : Option Rebuild) (content less : S) → IsNoMoreOf form.kind (need_of less) (need_of content)
+        → HasRoom meaning form rebuild content → HasRoom meaning form rebuild less
     room_less None content less is room = tt
     room_less (Some rebuild) content less is room = grind arith
 
     room_nothing : (rebuild : Option Rebuild) (content : S) → HasRoom meaning form rebuild content
         → HasRoom meaning form rebuild nothing
-    room_nothing rebuild content =
-        room_less rebuild content nothing
-        (no_more_of form.kind (need_of nothing) (need_of content)
-        (subst (λ (items : List I). IsNoMore (meaning.need items) (need_of content))
+    room_nothing rebuild content = room_less rebuild content nothing (no_more_of form.kind (need_of nothing)
+        (need_of content) (subst (λ (items : List I). IsNoMore (meaning.need items) (need_of content))
         (sym (laws.items_empty (shape_of form))) (laws.need_first [] (meaning.items (shape_of form) content))))
 
     room_in : (at : Stage) (rebuild : Rebuild) (content : S) → HasRoom meaning form (Some rebuild) content
@@ -97,8 +93,7 @@ module _ {C R I S : Type 0} (meaning : Meaning C R I S) (is_kind : Kind → Bool
 
     held-gone : (gone : Bool) (s : Standing) (content : S) (copied : ℕ) → Held s content copied
         → Held (gone_if gone form s) (if gone then nothing else content) copied
-    held-gone true s content copied held =
-        (laws.content_empty (shape_of form) form.caps, room_nothing s.rebuild content held.1)
+    held-gone true s content copied held = grind (arith, room_nothing)
     held-gone false s content copied held = held
 
     -- behind COPY the content is in the new instance, and keeps no registrations
@@ -129,13 +124,11 @@ module _ {C R I S : Type 0} (meaning : Meaning C R I S) (is_kind : Kind → Bool
       held_left : (leaver : Leaver) → Held s (departure_from meaning form (Some leaver) machine).state machine.copied
       held_left leaver = go (is_some s.instances.primary)
         where
-          go : (b : Bool) → Held s (if b
-              then meaning.leave (shape_of form) machine.content leaver.conn leaver.keep
-              else record { state = machine.content; letters = [] }).state machine.copied
+          go : (b : Bool) → Held s (if b then meaning.leave (shape_of form) machine.content
+              leaver.conn leaver.keep else record { state = machine.content; letters = [] }).state machine.copied
           go true = (
             laws.content_leave (shape_of form) s.caps machine.content leaver.conn leaver.keep held.0,
-            room_less s.rebuild machine.content _ (laws.need_leave (shape_of form) s.caps machine.content leaver.conn
-                leaver.keep kind held.0) held.1,
+            room_less s.rebuild machine.content _ (grind arith) held.1,
           )
           go false = held
 
@@ -180,12 +173,9 @@ module _ {C R I S : Type 0} (meaning : Meaning C R I S) (is_kind : Kind → Bool
         room_for_any : (rebuild : Option Rebuild) (content : S) → fresh_of rebuild ≡ None
             → HasRoom meaning form rebuild content
         room_for_any None content none = tt
-        room_for_any (Some rebuild) content none = λ stands.
-            absurd (let wrong : false ≡ true = rw none at stands in cc)
+        room_for_any (Some rebuild) content none = grind arith
     held-after machine by (what.Lost cf) manned held =
         grind (arith, IsSound, standing_of, sound_of, kept-mark, held-move)
 
     pub held-replay : (history : List (Entry C R)) → IsHeldBy (replay meaning form history)
-    held-replay history =
-        (kept-manned meaning form IsHeldBy held-after history
-        (record { content = laws.content_empty (shape_of form) form.caps; room = tt })).1
+    held-replay history = (kept-manned meaning form IsHeldBy held-after history (grind arith)).1

@@ -30,8 +30,7 @@ third_none first second third rest fine = (none_holds (first ∷ second ∷ thir
 
 pub fourth_none : (first second third fourth : Option Refusal) (rest : List (Option Refusal))
     → first_refusal (first ∷ second ∷ third ∷ fourth ∷ rest) ≡ None → fourth ≡ None
-fourth_none first second third fourth rest fine =
-    (none_holds (first ∷ second ∷ third ∷ fourth ∷ rest) fine).1.1.1.0
+fourth_none first second third fourth rest fine = (none_holds (first ∷ second ∷ third ∷ fourth ∷ rest) fine).1.1.1.0
 
 -- what isn't refused isn't so
 pub not_so : (b : Bool) (why : Refusal) → refusal_when b why ≡ None → b ≡ false

@@ -40,10 +40,8 @@ module _ {C R I S : Type 0} (meaning : Meaning C R I S) (form : StrForm)
         → after.content ≡ (departure_from meaning form (Some who) machine).state → Moves
     left_by who leaves e = go (stands_in machine) e
       where
-        go : (b : Bool)
-            → after.content ≡ (cond b (meaning.leave (shape_of form) machine.content who.conn who.keep)
-            (record { state = machine.content; letters = [] })).state
-            → Moves
+        go : (b : Bool) → after.content ≡ (cond b (meaning.leave (shape_of form) machine.content who.conn who.keep)
+            (record { state = machine.content; letters = [] })).state → Moves
         go true e = Left who command refl leaves e
         go false e = Same e
 
@@ -63,9 +61,8 @@ module _ {C R I S : Type 0} (meaning : Meaning C R I S) (form : StrForm)
     cleared : after.content ≡ meaning.empty (shape_of form) → stands_in after ≡ false → Moves
     cleared e none = Cleared e (and-false (stands_in machine) (stands_in after) none)
 
-    by_move : (move : ShellMove) → IsKnown false move (standing_of machine.shell)
-        → leaver machine.shell by command ≡ leaver_of move
-        → after.content ≡ content_after meaning form (is_some machine.shell.rebuild)
+    by_move : (move : ShellMove) → IsKnown false move (standing_of machine.shell) → leaver machine.shell
+        by command ≡ leaver_of move → after.content ≡ content_after meaning form (is_some machine.shell.rebuild)
         (deeds_of move (standing_of machine.shell)) (departure_from meaning form (leaver_of move) machine).state
         → stands_in after ≡ is_some (moved form move (standing_of machine.shell)).instances.primary → Moves
     by_move (Connects active made back) known leaves e stands = absurd (false≢true known)
@@ -74,47 +71,38 @@ module _ {C R I S : Type 0} (meaning : Meaning C R I S) (form : StrForm)
     by_move (Forces other true) known leaves e stands = cleared e stands
     by_move (Forces other false) known leaves e stands = left_by (record { conn = other; keep = false }) leaves e
     by_move Deallocates known leaves e stands = cleared e stands
-    by_move (Gives rebuild who) known leaves e stands =
-        switched (is_switch (outcome_of (without_owing who rebuild))) machine.content refl e
+    by_move (Gives rebuild who) known leaves e stands = grind (arith, switched)
     by_move (Places rebuild who at made) known leaves e stands = grind (arith, switched, made_under)
     by_move Fails known leaves e stands = cleared e stands
     by_move _ known leaves e stands = Same e
 
   other_change : (machine : Machine S) (by : ConnId) (command : ShellCmd) → is_connection command ≡ false
-      → shell_cause form (room_of meaning form machine) machine.shell by command ≡ None
-      → Move meaning form machine (command_done meaning form machine by command).machine by
-      (what.Call (ask.Shell command))
+      → shell_cause form (room_of meaning form machine) machine.shell by command ≡ None → Move
+      meaning form machine (command_done meaning form machine by command).machine by (what.Call (ask.Shell command))
   other_change machine by command other fine =
       let is = move_by meaning form machine by command fine in
       let known : IsKnown false is.move (standing_of machine.shell) = rw other at (is.known) in
-      by_move machine (command_done meaning form machine by command).machine by command is.move known
-      (ap (λ (w : Work). w.2) is.does)
-      (ap (λ (w : Work). content_after meaning form (is_some machine.shell.rebuild) w.1
-      (departure_from meaning form w.2 machine).state) is.does)
-      (ap (λ (w : Work). is_some w.0.instances.primary) is.does)
+      by_move machine (command_done meaning form machine by command).machine
+      by command is.move known (ap (λ (w : Work). w.2) is.does) (grind (arith, Work)) (grind (arith, Work))
 
   -- CONNECT brings a connector back, or makes the first instance
   connected : (before after : Machine S) (by : ConnId) (keep : Bool) (failed rebuilding : Bool) (make : Option CfId)
       → after.content ≡ with_made meaning form rebuilding make
-      (with_back_of meaning form (cond failed (Some by) None) before.content)
-      → (is_some make ≡ true → stands_in before ≡ false)
-      → Move meaning form before after by (what.Call (ask.Shell (cmd.Connect keep)))
+      (with_back_of meaning form (cond failed (Some by) None) before.content) → (is_some make ≡ true
+      → stands_in before ≡ false) → Move meaning form before after by (what.Call (ask.Shell (cmd.Connect keep)))
   connected before after by keep false rebuilding None e makes = Same e
   connected before after by keep true rebuilding None e makes = Returned keep refl e
   connected before after by keep false true (Some cf) e makes = Same e
   connected before after by keep true true (Some cf) e makes = Returned keep refl e
-  connected before after by keep failed false (Some cf) e makes =
-      Cleared e (false-and (stands_in before) (stands_in after) (makes refl))
+  connected before after by keep failed false (Some cf) e makes = grind (arith, Cleared, false-and, stands_in)
 
   command_change : (machine : Machine S) (by : ConnId) (command : ShellCmd)
-      → shell_cause form (room_of meaning form machine) machine.shell by command ≡ None
-      → Move meaning form machine (command_done meaning form machine by command).machine by
-      (what.Call (ask.Shell command))
+      → shell_cause form (room_of meaning form machine) machine.shell by command ≡ None → Move
+      meaning form machine (command_done meaning form machine by command).machine by (what.Call (ask.Shell command))
   command_change machine by (cmd.Connect keep) fine =
       let shell : Shell = with_posted [] machine.shell in
-      connected machine _ by keep (is_some (state_of shell.conns by)) (is_some machine.shell.rebuild)
-      (made_at form shell by) refl
-      (λ e. made_none shell.instances.primary (place_for (units_of shell.caps) (candidates form shell by)) e)
+      connected machine _ by keep (is_some (state_of shell.conns by))
+      (is_some machine.shell.rebuild) (made_at form shell by) refl (grind (arith, made_none))
   command_change machine by command fine = other_change machine by command refl fine
 
   -- that a call has come makes no difference to the content
@@ -134,29 +122,25 @@ module _ {C R I S : Type 0} (meaning : Meaning C R I S) (form : StrForm)
 
   -- ---- calls
 
-  pub shell_change : (machine : Machine S) (by : ConnId) (command : ShellCmd)
-      → Move meaning form machine (step meaning form machine by (ask.Shell command)).machine by
-      (what.Call (ask.Shell command))
+  pub shell_change : (machine : Machine S) (by : ConnId) (command : ShellCmd) → Move meaning
+      form machine (step meaning form machine by (ask.Shell command)).machine by (what.Call (ask.Shell command))
   shell_change machine by command =
       move_entered machine _ by _ (go (shell_cause form (room_of meaning form machine) machine.shell by command) refl)
     where
-      go : (cause : Option Refusal)
-          → shell_cause form (room_of meaning form machine) machine.shell by command ≡ cause
-          → Move meaning form machine (unless meaning form cause machine
-          (command_done meaning form machine by command)).machine by (what.Call (ask.Shell command))
+      go : (cause : Option Refusal) → shell_cause form (room_of meaning form machine) machine.shell by command ≡ cause
+          → Move meaning form machine (unless meaning form cause
+          machine (command_done meaning form machine by command)).machine by (what.Call (ask.Shell command))
       go (Some refusal) is = Same refl
       go None is = command_change machine by command is
 
   content_change : (machine : Machine S) (by : ConnId) (command : C)
       → let stepped = step meaning form machine by (ask.Content command) in
       Change meaning form machine stepped.machine by (what.Call (ask.Content command)) stepped.reply
-  content_change machine by command =
-      go (content_cause machine.shell by)
+  content_change machine by command = go (content_cause machine.shell by)
       (meaning.cause (shape_of form) machine.shell.caps machine.content by command) refl
     where
-      go : (cause refused : Option Refusal)
-          → meaning.cause (shape_of form) machine.shell.caps machine.content by command ≡ refused
-          → let stepped = unless_refused refused machine.content
+      go : (cause refused : Option Refusal) → meaning.cause (shape_of form) machine.shell.caps
+          machine.content by command ≡ refused → let stepped = unless_refused refused machine.content
           (meaning.done (shape_of form) machine.shell.caps machine.content by command) in
           let done = unless meaning form cause machine (record {
             reply = content_reply stepped.reply;
@@ -167,9 +151,8 @@ module _ {C R I S : Type 0} (meaning : Meaning C R I S) (form : StrForm)
       go None (Some refusal) is = Quiet refl (Same refl)
       go None None is = Done command refl is refl
 
-  pub changed : (machine : Machine S) (by : ConnId) (told : What C)
-      → Change meaning form machine (after_what meaning form machine by told) by told
-      (reply_for meaning form machine by told)
+  pub changed : (machine : Machine S) (by : ConnId) (told : What C) → Change meaning form
+      machine (after_what meaning form machine by told) by told (reply_for meaning form machine by told)
   changed machine by (what.Call (ask.Shell command)) = Quiet refl (shell_change machine by command)
   changed machine by (what.Call (ask.Content command)) = content_change machine by command
   changed machine by (what.Lost cf) = Quiet refl (loss_change machine by cf)

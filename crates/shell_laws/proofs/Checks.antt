@@ -50,13 +50,12 @@ caps = record { entries = 10; elements = 10 }
 
 -- up to the first item that is copied
 abbrev begin : List Row
-begin =
-    said 1 a (cmd.Connect false) (shown.OkNew (record { 0 = 1 })) ∷ said 2 b (cmd.Connect false)
-    (shown.OkNew (record { 0 = 1 })) ∷ done 3 a ∷ done 4 b ∷ said 5 op (cmd.RebuildStart caps) (shown.OkNumber 1)
-    ∷ event_taken 6 a (event.NewConn b) ∷ event_taken 7 a (event.Quiesce 1) ∷ answered 8 a (event.Quiesce 1)
-    ∷ no_event 9 a ∷ done 10 a ∷ done 11 b ∷ event_taken 12 b (event.Quiesce 1) ∷ answered 13 b (event.Quiesce 1)
-    ∷ event_taken 14 b (event.RebuildConnect 1) ∷ no_event 15 b ∷ said 16 a cmd.RebuildConnect (shown.OkAt cf2)
-    ∷ said 17 b cmd.RebuildConnect (shown.OkAt cf2) ∷ said 18 a (cmd.Copy 1) (shown.Copied 1 1) ∷ []
+begin = said 1 a (cmd.Connect false) (shown.OkNew (record { 0 = 1 })) ∷ said 2 b (cmd.Connect false)
+    (shown.OkNew (record { 0 = 1 })) ∷ done 3 a ∷ done 4 b ∷ said 5 op (cmd.RebuildStart caps)
+    (shown.OkNumber 1) ∷ event_taken 6 a (event.NewConn b) ∷ event_taken 7 a (event.Quiesce 1) ∷ answered
+    8 a (event.Quiesce 1) ∷ no_event 9 a ∷ done 10 a ∷ done 11 b ∷ event_taken 12 b (event.Quiesce 1) ∷ answered
+    13 b (event.Quiesce 1) ∷ event_taken 14 b (event.RebuildConnect 1) ∷ no_event 15 b ∷ said 16 a cmd.RebuildConnect
+    (shown.OkAt cf2) ∷ said 17 b cmd.RebuildConnect (shown.OkAt cf2) ∷ said 18 a (cmd.Copy 1) (shown.Copied 1 1) ∷ []
 
 abbrev read_at : ℕ → List Row → Option Rebuild
 read_at n history = rebuild_told (λ before. both) (take n history)
@@ -66,59 +65,45 @@ rebuild number stage members owing fresh =
     record { number = number; stage = stage; members = members; owing = owing; caps = caps; fresh = fresh }
 
 -- a rebuild that ends
-whole : let history : List Row =
-    begin ++ (record {
-      no = 19;
-      by = a;
-      what = what.Call (ask.Shell cmd.RebuildComplete);
-      reply = reply.Refused (refusal.ItemsLeft 1);
-    }
-    ∷ said 20 a (cmd.Copy 1) (shown.Copied 1 0) ∷ said 21 a cmd.RebuildComplete shown.Ok
-    ∷ said 22 b cmd.RebuildComplete shown.Ok ∷ event_taken 23 a (event.RebuildConnect 1)
-    ∷ event_taken 24 a (event.ConnectsDone 1) ∷ event_taken 25 a (event.Cleanup 1) ∷ answered 26 a (event.Cleanup 1)
-    ∷ no_event 27 a ∷ event_taken 28 b (event.ConnectsDone 1) ∷ event_taken 29 b (event.Cleanup 1)
-    ∷ answered 30 b (event.Cleanup 1) ∷ []) in
-    (read_at 4 history ≡ None)
-    × (read_at 5 history ≡ Some (rebuild 1 Quiesce both both None))
-    × (read_at 8 history ≡ Some (rebuild 1 Quiesce both (b ∷ []) None))
-    × (read_at 13 history ≡ Some (rebuild 1 Connect both both None))
-    × (read_at 16 history ≡ Some (rebuild 1 Connect both (b ∷ []) (Some cf2)))
-    × (read_at 17 history ≡ Some (rebuild 1 Copy both both (Some cf2)))
-    × (read_at 19 history ≡ Some (rebuild 1 Copy both both (Some cf2)))
-    × (read_at 21 history ≡ Some (rebuild 1 Copy both (b ∷ []) (Some cf2)))
-    × (read_at 22 history ≡ Some (rebuild 1 Cleanup both both None))
-    × (read_at 29 history ≡ Some (rebuild 1 Cleanup both (b ∷ []) None))
-    × (read_at 30 history ≡ None)
+whole : let history : List Row = begin ++ (record {
+  no = 19;
+  by = a;
+  what = what.Call (ask.Shell cmd.RebuildComplete);
+  reply = reply.Refused (refusal.ItemsLeft 1);
+} ∷ said 20 a (cmd.Copy 1) (shown.Copied 1 0) ∷ said 21 a cmd.RebuildComplete shown.Ok ∷ said 22 b
+    cmd.RebuildComplete shown.Ok ∷ event_taken 23 a (event.RebuildConnect 1) ∷ event_taken 24 a (event.ConnectsDone 1)
+    ∷ event_taken 25 a (event.Cleanup 1) ∷ answered 26 a (event.Cleanup 1) ∷ no_event 27 a ∷ event_taken
+    28 b (event.ConnectsDone 1) ∷ event_taken 29 b (event.Cleanup 1) ∷ answered 30 b (event.Cleanup 1) ∷ []) in
+    (read_at 4 history ≡ None) × (read_at 5 history ≡ Some (rebuild 1 Quiesce both both None)) × (read_at 8 history
+    ≡ Some (rebuild 1 Quiesce both (b ∷ []) None)) × (read_at 13 history ≡ Some (rebuild 1 Connect both both None))
+    × (read_at 16 history ≡ Some (rebuild 1 Connect both (b ∷ []) (Some cf2))) × (read_at 17 history ≡ Some (rebuild
+    1 Copy both both (Some cf2))) × (read_at 19 history ≡ Some (rebuild 1 Copy both both (Some cf2))) × (read_at
+    21 history ≡ Some (rebuild 1 Copy both (b ∷ []) (Some cf2))) × (read_at 22 history ≡ Some (rebuild 1 Cleanup both
+    both None)) × (read_at 29 history ≡ Some (rebuild 1 Cleanup both (b ∷ []) None)) × (read_at 30 history ≡ None)
 whole = (refl, refl, refl, refl, refl, refl, refl, refl, refl, refl, refl)
 
 -- one that is stopped, and another behind it
-stopped : let history : List Row =
-    begin ++ (said 19 op cmd.RebuildStop shown.Ok ∷ done 20 a ∷ event_taken 21 a (event.RebuildConnect 1)
-    ∷ event_taken 22 a (event.ConnectsDone 1) ∷ event_taken 23 a (event.Stop 1) ∷ answered 24 a (event.Stop 1)
-    ∷ no_event 25 a ∷ event_taken 26 b (event.ConnectsDone 1) ∷ event_taken 27 b (event.Stop 1)
-    ∷ answered 28 b (event.Stop 1) ∷ event_taken 29 b (event.StopDone 1) ∷ no_event 30 b
-    ∷ said 31 op (cmd.RebuildStart caps) (shown.OkNumber 2) ∷ said 32 b cmd.Fail shown.Ok
-    ∷ event_taken 33 a (event.StopDone 1) ∷ event_taken 34 a (event.Quiesce 2)
-    ∷ answered 35 a (event.Quiesce 2) ∷ []) in
+stopped : let history : List Row = begin ++ (said 19 op cmd.RebuildStop shown.Ok ∷ done 20 a ∷ event_taken 21
+    a (event.RebuildConnect 1) ∷ event_taken 22 a (event.ConnectsDone 1) ∷ event_taken 23 a (event.Stop 1) ∷ answered
+    24 a (event.Stop 1) ∷ no_event 25 a ∷ event_taken 26 b (event.ConnectsDone 1) ∷ event_taken
+    27 b (event.Stop 1) ∷ answered 28 b (event.Stop 1) ∷ event_taken 29 b (event.StopDone 1) ∷ no_event
+    30 b ∷ said 31 op (cmd.RebuildStart caps) (shown.OkNumber 2) ∷ said 32 b cmd.Fail shown.Ok ∷ event_taken
+    33 a (event.StopDone 1) ∷ event_taken 34 a (event.Quiesce 2) ∷ answered 35 a (event.Quiesce 2) ∷ []) in
     (read_at 19 history ≡ Some (rebuild 1 Stopping both both None))
-    × (read_at 24 history ≡ Some (rebuild 1 Stopping both (b ∷ []) None))
-    × (read_at 28 history ≡ None)
-    × (read_at 31 history ≡ Some (rebuild 2 Quiesce both both None))
-    × (read_at 32 history ≡ Some (rebuild 2 Quiesce (a ∷ []) (a ∷ []) None))
-    × (read_at 35 history ≡ Some (rebuild 2 Connect (a ∷ []) (a ∷ []) None))
+    × (read_at 24 history ≡ Some (rebuild 1 Stopping both (b ∷ []) None)) × (read_at 28 history ≡ None)
+    × (read_at 31 history ≡ Some (rebuild 2 Quiesce both both None)) × (read_at 32 history ≡ Some (rebuild
+    2 Quiesce (a ∷ []) (a ∷ []) None)) × (read_at 35 history ≡ Some (rebuild 2 Connect (a ∷ []) (a ∷ []) None))
 stopped = (refl, refl, refl, refl, refl, refl)
 
 -- one in which a connector fails in COPY; another's COMPLETE before it counts no more
-emptied : let history : List Row =
-    begin ++ (said 19 b cmd.Fail shown.Ok ∷ said 20 a (cmd.Copy 4) (shown.Copied 2 0)
-    ∷ said 21 a cmd.RebuildComplete shown.Ok ∷ event_taken 22 a (event.RebuildConnect 1)
-    ∷ event_taken 23 a (event.ConnectsDone 1) ∷ event_taken 24 a (event.DiscFail b)
-    ∷ answered 25 a (event.DiscFail b) ∷ event_taken 26 a (event.Cleanup 1) ∷ answered 27 a (event.Cleanup 1) ∷ []) in
+emptied : let history : List Row = begin ++ (said 19 b cmd.Fail shown.Ok ∷ said 20 a (cmd.Copy 4)
+    (shown.Copied 2 0) ∷ said 21 a cmd.RebuildComplete shown.Ok ∷ event_taken 22 a (event.RebuildConnect 1)
+    ∷ event_taken 23 a (event.ConnectsDone 1) ∷ event_taken 24 a (event.DiscFail b) ∷ answered
+    25 a (event.DiscFail b) ∷ event_taken 26 a (event.Cleanup 1) ∷ answered 27 a (event.Cleanup 1) ∷ []) in
     (read_at 20 history ≡ Some (rebuild 1 Copy (a ∷ []) (a ∷ []) (Some cf2)))
-    × (read_at 25 history ≡ Some (rebuild 1 Cleanup (a ∷ []) (a ∷ []) None))
-    × (read_at 27 history ≡ None)
-    × (read_at 20 (begin ++ (said 19 a cmd.RebuildComplete shown.Ok ∷ said 20 b cmd.Fail shown.Ok ∷ []))
-    ≡ Some (rebuild 1 Copy (a ∷ []) (a ∷ []) (Some cf2)))
+    × (read_at 25 history ≡ Some (rebuild 1 Cleanup (a ∷ []) (a ∷ []) None)) × (read_at 27 history ≡ None)
+    × (read_at 20 (begin ++ (said 19 a cmd.RebuildComplete shown.Ok ∷ said 20 b cmd.Fail shown.Ok ∷ [])) ≡ Some
+    (rebuild 1 Copy (a ∷ []) (a ∷ []) (Some cf2)))
 emptied = (refl, refl, refl, refl)
 
 -- one in which the facility of the new instance is varied off
@@ -130,10 +115,8 @@ new_lost : let history : List Row =
 new_lost = (refl, refl)
 
 -- and one in which that of the only one is
-old_lost : let history : List Row =
-    take 5 begin ++ (said 6 op (cmd.Vary (record { 0 = 1 }) true) shown.FailedNow ∷ event_taken 7 a (event.NewConn b)
-    ∷ event_taken 8 a (event.Quiesce 1) ∷ answered 9 a (event.Quiesce 1) ∷ []) in
+old_lost : let history : List Row = take 5 begin ++ (said 6 op (cmd.Vary (record { 0 = 1 }) true) shown.FailedNow
+    ∷ event_taken 7 a (event.NewConn b) ∷ event_taken 8 a (event.Quiesce 1) ∷ answered 9 a (event.Quiesce 1) ∷ []) in
     (read_at 5 history ≡ Some (rebuild 1 Quiesce both both None))
-    × (read_at 6 history ≡ None)
-    × (read_at 9 history ≡ None)
+    × (read_at 6 history ≡ None) × (read_at 9 history ≡ None)
 old_lost = (refl, refl, refl)

@@ -1,5 +1,5 @@
 -- What deeds make of the capacities of the instances, and that those of a command may be done.
-use Rattle.shell_laws.proofs.Imports.{◌≡◌, Bool, true, false, List, [], ◌∷◌, Option, None, Some, inr, refl, sym, ap, ◌∙◌, subst, if◌then◌else◌, ◌||◌, ◌&&◌, is_some, is_none, both_ways, Stage, Quiesce, Connect, Copy, Cleanup, Stopping, Caps, StrForm, CfId, ConnId, ShellCmd, without_member, Deeds, Room, Fits, Machine, items_of, room_of, Meaning, fresh_of, is_switch, Shell, caps_in, emptied, is_drop, mark_outcome, shell_cause, Rebuild, outcome, outcome_of, rebuild_emptied, rebuild_left, rebuild_without, with_place, without_owing, AreFitting, caps_behind, fresh_behind, fresh_caps, HasMembers, IsManned, IsPlaced, Somebody}
+use Rattle.shell_laws.proofs.Imports.{arith, ◌≡◌, Bool, true, false, List, [], ◌∷◌, Option, None, Some, inr, refl, sym, ap, ◌∙◌, subst, if◌then◌else◌, ◌||◌, ◌&&◌, is_some, is_none, both_ways, Stage, Quiesce, Connect, Copy, Cleanup, Stopping, Caps, StrForm, CfId, ConnId, ShellCmd, without_member, Deeds, Room, Fits, Machine, items_of, room_of, Meaning, fresh_of, is_switch, Shell, caps_in, emptied, is_drop, mark_outcome, shell_cause, Rebuild, outcome, outcome_of, rebuild_emptied, rebuild_left, rebuild_without, with_place, without_owing, AreFitting, caps_behind, fresh_behind, fresh_caps, HasMembers, IsManned, IsPlaced, Somebody}
 use Rattle.shell_laws.proofs.LossLaws.{loss-cases}
 use Rattle.shell_laws.proofs.MemberLaws.{rebuild_in_it, sound_of}
 use Rattle.shell_laws.proofs.PlaceLaws.{IsRebuild, is-without, no_switch, no_switch_outside, placed-owed, switch_copy, switch_stands}
@@ -8,13 +8,11 @@ use Rattle.shell_laws.proofs.ShellMoves.Move.{Connects, Departs, Forces, Dealloc
 use Rattle.shell_laws.proofs.StepLaws.{done, move_by}
 
 -- what the deeds of a mark make of the capacities is what the shell has behind it
-pub capacities-loss : (form : StrForm) (cf : CfId) (shell : Shell)
-    → let acted = mark_outcome form cf shell in
+pub capacities-loss : (form : StrForm) (cf : CfId) (shell : Shell) → let acted = mark_outcome form cf shell in
     (acted.shell.caps ≡ caps_behind form shell acted.deeds)
     × (fresh_caps acted.shell.rebuild ≡ fresh_behind shell acted.deeds)
-capacities-loss form cf shell =
-    loss-cases form cf shell (λ acted. (acted.shell.caps ≡ caps_behind form shell acted.deeds)
-    × (fresh_caps acted.shell.rebuild ≡ fresh_behind shell acted.deeds)) (record {
+capacities-loss form cf shell = loss-cases form cf shell (λ acted. (acted.shell.caps ≡ caps_behind
+    form shell acted.deeds) × (fresh_caps acted.shell.rebuild ≡ fresh_behind shell acted.deeds)) (record {
       none = (refl, refl);
       simplex = λ left lost. (refl, refl);
       stops = λ rebuild is lost. (refl, refl);
@@ -25,9 +23,8 @@ capacities-loss form cf shell =
 
 -- with members left, the new instance stays the rebuild's until it takes the primary's place
 fresh_passed : (at : Stage) (members owing before : List ConnId) (rebuild : Rebuild) → Somebody members
-    → IsPlaced at members before rebuild.fresh
-    → fresh_caps (rebuild_left (outcome at members owing) rebuild)
-    ≡ (if is_switch (outcome at members owing) || false then None else fresh_caps (Some rebuild))
+    → IsPlaced at members before rebuild.fresh → fresh_caps (rebuild_left (outcome at members owing)
+    rebuild) ≡ (if is_switch (outcome at members owing) || false then None else fresh_caps (Some rebuild))
 fresh_passed at [] owing before rebuild (conn, (others, are)) placed = absurd (cc)
 fresh_passed at (conn ∷ conns) (other ∷ others) before rebuild somebody placed = refl
 fresh_passed Quiesce (conn ∷ conns) [] before rebuild somebody placed = refl
@@ -37,8 +34,7 @@ fresh_passed at (conn ∷ conns) [] before rebuild somebody placed = rw placed r
 
 -- and it is dropped where the rebuild ends with a departure
 fresh_left : (at : Stage) (members owing : List ConnId) (rebuild : Rebuild)
-    → is_switch (outcome at members owing) ≡ false
-    → let after = rebuild_left (outcome at members owing) rebuild in
+    → is_switch (outcome at members owing) ≡ false → let after = rebuild_left (outcome at members owing) rebuild in
     fresh_caps after ≡ (if is_some rebuild.fresh && is_none after then None else fresh_caps (Some rebuild))
 fresh_left at members owing rebuild = go at members owing
   where
@@ -82,18 +78,15 @@ caps-move : (form : StrForm) (room : Room) (s : Standing) (move : Move) → Allo
     → let deeds = deeds_of move s in
     (moved form move s).caps
     ≡ (if deeds.drop_all then form.caps else if deeds.switch then caps_in s.rebuild s.caps else s.caps)
-caps-move form room s (Gives rebuild who) may =
-    ap (λ (r : Option Rebuild). if is_switch (outcome_of (without_owing who rebuild)) then caps_in r s.caps else s.caps)
-    (sym may.is)
-caps-move form room s (Places rebuild who at made) may =
-    ap (λ (r : Option Rebuild). if is_switch (outcome_of (without_owing who (with_place at rebuild)))
-    then caps_in r s.caps else s.caps) (sym may.is)
+caps-move form room s (Gives rebuild who) may = ap (λ (r : Option Rebuild). if is_switch
+    (outcome_of (without_owing who rebuild)) then caps_in r s.caps else s.caps) (sym may.is)
+caps-move form room s (Places rebuild who at made) may = ap (λ (r : Option Rebuild). if is_switch
+    (outcome_of (without_owing who (with_place at rebuild))) then caps_in r s.caps else s.caps) (sym may.is)
 caps-move form room s _ may = refl
 
 fresh-move : (form : StrForm) (room : Room) (s : Standing) → IsSound s → (move : Move) → Allows form room s move
     → let deeds = deeds_of move s in
-    fresh_caps (moved form move s).rebuild
-    ≡ (if deeds.drop_all || (deeds.switch || deeds.drop_fresh) then None
+    fresh_caps (moved form move s).rebuild ≡ (if deeds.drop_all || (deeds.switch || deeds.drop_fresh) then None
     else if is_some deeds.make && is_some s.rebuild then Some (caps_in s.rebuild s.caps) else fresh_caps s.rebuild)
 fresh-move form room s sound (Connects active made back) may = rw (may.idle) (never (is_some made))
   where
@@ -111,8 +104,7 @@ fresh-move form room s sound (Departs who false) may = go s.rebuild
     go (Some rebuild) =
         let left : Rebuild = rebuild_without who.conn rebuild in
         fresh_left left.stage left.members left.owing left (no_switch who.conn rebuild)
-fresh-move form room s sound (Forces other true) may =
-    fresh_emptied s.rebuild ∙ ap fresh_caps (no_rebuild s.rebuild s.active sound.members (may refl))
+fresh-move form room s sound (Forces other true) may = grind (arith, fresh_emptied, no_rebuild)
 fresh-move form room s sound (Forces other false) may = fresh_emptied s.rebuild
 fresh-move form room s sound Deallocates may = ap fresh_caps (no_rebuild s.rebuild s.active sound.members may)
 fresh-move form room s sound (Starts number caps) may = sym (ap fresh_caps may.idle)
@@ -125,9 +117,8 @@ fresh-move form room s sound (Places rebuild who at made) may =
     let given : Rebuild = without_owing who (with_place at rebuild) in
     let is : IsRebuild (Some rebuild) s.active = rebuild_in_it s rebuild sound may.is in
     fresh_passed rebuild.stage rebuild.members given.owing given.owing given (subst Somebody (sym is.0.0) is.0.1)
-    (rw (may.stage) (inr refl))
-    ∙ ap (λ (caps : Option Caps). if is_switch (outcome_of given) || false then None else caps)
-    (rw (may.is) (go (is_some made) rebuild.fresh may.found))
+    (rw (may.stage) (inr refl)) ∙ ap (λ (caps : Option Caps). if is_switch (outcome_of given)
+    || false then None else caps) (rw (may.is) (go (is_some made) rebuild.fresh may.found))
   where
     go : (made : Bool) (fresh : Option CfId) → (fresh ≡ None → made ≡ true) → Some rebuild.caps
         ≡ (if made && true then Some rebuild.caps else if is_some fresh then Some rebuild.caps else None)
@@ -162,9 +153,8 @@ module _ {C R I S : Type 0} (meaning : Meaning C R I S) (form : StrForm) (machin
       none : is_some deeds.make ≡ true → ⊥
       none some = let wrong : false ≡ true = rw make at some in cc
 
-  fitting-move : IsSound (standing_of machine.shell) → (move : Move)
-      → Allows form (room_of meaning form machine) (standing_of machine.shell) move
-      → MayBeDone (deeds_of move (standing_of machine.shell))
+  fitting-move : IsSound (standing_of machine.shell) → (move : Move) → Allows form (room_of meaning form machine)
+      (standing_of machine.shell) move → MayBeDone (deeds_of move (standing_of machine.shell))
   fitting-move sound (Connects active made back) may = record {
     back = λ some. may.idle;
     alone = λ some. ap fresh_of may.idle;
@@ -179,23 +169,19 @@ module _ {C R I S : Type 0} (meaning : Meaning C R I S) (form : StrForm) (machin
     back = λ some. absurd (cc);
     alone = λ some. absurd (cc);
     room = λ some under. absurd (cc);
-    stands = λ yes.
-        ap (λ (r : Option Rebuild). is_some (fresh_of r)) may.is
-        ∙ switch_stands (without_owing who rebuild)
-        (placed-owed who rebuild may.elsewhere (rebuild_in_it (standing_of machine.shell) rebuild sound may.is).1) yes;
+    stands = λ yes. ap (λ (r : Option Rebuild). is_some (fresh_of r)) may.is
+        ∙ switch_stands (without_owing who rebuild) (placed-owed
+        who rebuild may.elsewhere (rebuild_in_it (standing_of machine.shell) rebuild sound may.is).1) yes;
     unmade = λ yes. refl;
-    filled = λ yes.
-        may.filled (let copy : rebuild.stage ≡ Copy =
+    filled = λ yes. may.filled (let copy : rebuild.stage ≡ Copy =
         switch_copy rebuild.stage rebuild.members (without_member who rebuild.owing) yes in rw copy refl);
     whole = λ yes. refl;
   }
   fitting-move sound (Places rebuild who at made) may = record {
     back = λ some. absurd (cc);
     alone = λ some. ap fresh_of may.is ∙ may.alone some;
-    room = λ some under.
-        subst (λ (r : Option Rebuild).
-        Fits form.kind (meaning.need (items_of meaning form machine)) (caps_in r machine.shell.caps)) (sym may.is)
-        (rw (may.stands) at (may.fits (may.alone some)));
+    room = λ some under. subst (λ (r : Option Rebuild). Fits form.kind (meaning.need (items_of meaning form machine))
+        (caps_in r machine.shell.caps)) (sym may.is) (rw (may.stands) at (may.fits (may.alone some)));
     stands = λ yes. absurd (both_ways _ stays yes);
     unmade = λ yes. absurd (both_ways _ stays yes);
     filled = λ yes. absurd (both_ways _ stays yes);
@@ -203,17 +189,15 @@ module _ {C R I S : Type 0} (meaning : Meaning C R I S) (form : StrForm) (machin
   }
     where
       stays : is_switch (outcome_of (without_owing who (with_place at rebuild))) ≡ false
-      stays =
-          no_switch_outside rebuild.stage rebuild.members (without_member who rebuild.owing) (rw (may.stage) refl)
+      stays = no_switch_outside rebuild.stage rebuild.members (without_member who rebuild.owing) (rw (may.stage) refl)
   fitting-move sound _ may = fitting_any _ refl refl refl
 
 -- ---- commands
 
 module _ {C R I S : Type 0} (meaning : Meaning C R I S) (form : StrForm) (machine : Machine S) (by : ConnId) where
   -- the capacities of the primary and of the new instance behind a command are what its deeds make of them
-  pub capacities-command : (command : ShellCmd) → IsManned machine.shell
-      → shell_cause form (room_of meaning form machine) machine.shell by command ≡ None
-      → let acted = done meaning form machine by command in
+  pub capacities-command : (command : ShellCmd) → IsManned machine.shell → shell_cause form (room_of
+      meaning form machine) machine.shell by command ≡ None → let acted = done meaning form machine by command in
       (acted.shell.caps ≡ caps_behind form machine.shell acted.deeds)
       × (fresh_caps acted.shell.rebuild ≡ fresh_behind machine.shell acted.deeds)
   capacities-command command manned fine =
@@ -223,10 +207,8 @@ module _ {C R I S : Type 0} (meaning : Meaning C R I S) (form : StrForm) (machin
       let may = is.allows manned.places sound in
       let room : Room = room_of meaning form machine in (
         ap (λ (w : Work). w.0.caps) is.does
-            ∙ caps-move form room s is.move may
-            ∙ ap (λ (w : Work). caps_behind form machine.shell w.1) (sym is.does),
-        ap (λ (w : Work). fresh_caps w.0.rebuild) is.does
-            ∙ fresh-move form room s sound is.move may
+            ∙ caps-move form room s is.move may ∙ ap (λ (w : Work). caps_behind form machine.shell w.1) (sym is.does),
+        ap (λ (w : Work). fresh_caps w.0.rebuild) is.does ∙ fresh-move form room s sound is.move may
             ∙ ap (λ (w : Work). fresh_behind machine.shell w.1) (sym is.does),
       )
 
@@ -237,5 +219,4 @@ module _ {C R I S : Type 0} (meaning : Meaning C R I S) (form : StrForm) (machin
   fitting-command command manned fine =
       let is = move_by meaning form machine by command fine in
       let sound : IsSound (standing_of machine.shell) = sound_of machine.shell manned in
-      subst (λ (w : Work). AreFitting meaning form machine w.1) (sym is.does)
-      (fitting-move meaning form machine sound is.move (is.allows manned.places sound))
+      subst (λ (w : Work). AreFitting meaning form machine w.1) (sym is.does) (grind (arith, fitting-move))

@@ -21,10 +21,6 @@ pub forced_empties : (rebuild : Option Rebuild) (all : Bool) → IsFilling rebui
 forced_empties None all filling = absurd filling
 forced_empties (Some rebuild) all filling = rw (filling.0) refl
 
--- no item stays where none was
-none_stay : (deeds : Deeds) (n : ℕ) → n ≡ 0 → copied_after deeds n ≡ 0
-none_stay deeds n none = grind arith
-
 module _ {C R I S : Type 0} (meaning : Meaning C R I S) (form : StrForm) (machine : Machine S)
     (manned : IsManned machine.shell) (filled : IsFilled meaning form machine) where
   abbrev s : Standing
@@ -32,10 +28,8 @@ module _ {C R I S : Type 0} (meaning : Meaning C R I S) (form : StrForm) (machin
 
   -- there are no items in the new instance; or it is being filled, and the content is as it was
   abbrev Fills : Standing → S → ℕ → Type 0
-  Fills s content copied =
-      ((copied ≡ 0) ⊎ IsFilling s.rebuild)
-      × ((copied ≡ 0) ⊎ (content ≡ machine.content))
-      × (copied ≤ length (meaning.items (shape_of form) content))
+  Fills s content copied = ((copied ≡ 0) ⊎ IsFilling s.rebuild)
+      × ((copied ≡ 0) ⊎ (content ≡ machine.content)) × (copied ≤ length (meaning.items (shape_of form) content))
 
   abbrev Behind : Move → Type 0
   Behind move = Past meaning form Fills machine move
@@ -59,23 +53,20 @@ module _ {C R I S : Type 0} (meaning : Meaning C R I S) (form : StrForm) (machin
       → copied_of (room_of meaning form machine) move ≡ 0 → Behind move
   fills-filling filling (Connects active made back) may none = absurd (none_filling may.idle filling)
   fills-filling filling (Departs who gone) may none = grind (arith, empty, moved, Departs, departure_empties, left_by)
-  fills-filling filling (Forces other gone) may none =
-      empty (moved form (Forces other gone) s) _ _ (rw (forced_empties s.rebuild gone filling) refl)
+  fills-filling filling (Forces other gone) may none = grind (arith, empty, moved, Forces, forced_empties)
   fills-filling filling Deallocates may none = empty (moved form Deallocates s) _ _ refl
   fills-filling filling (Starts number caps) may none = absurd (none_filling may.idle filling)
   fills-filling filling (Gives rebuild who) may none =
       grind (arith, filling_in, IsRebuild, rebuild_in_it, sound_of, Gives, empty, moved, low)
-  fills-filling filling (Places rebuild who at made) may none =
-      let wrong : Copy ≡ Connect = sym (filling_in rebuild may.is filling).0 ∙ may.stage in absurd (cc)
-  fills-filling filling (Stops rebuild) may none =
-      empty (moved form (Stops rebuild) s) _ _ (rw ((filling_in rebuild may filling).1) refl)
+  fills-filling filling (Places rebuild who at made) may none = grind (arith, filling_in)
+  fills-filling filling (Stops rebuild) may none = grind (arith, empty, moved, Stops, filling_in)
   fills-filling filling Fails may none = empty (moved form Fails s) _ _ refl
   fills-filling filling (Copies n) may none = rw none (same s filling)
   fills-filling filling move may none = same (moved form move s) filling
 
   fills-move : (move : Move) → Allows form (room_of meaning form machine) s move → Behind move
   fills-move (Copies n) may = (grind (arith, low, min-le_right))
-  fills-move move may = grind (arith, Move, Allows, copied_of, empty, moved, none_stay, deeds_of, fills-filling)
+  fills-move move may = grind (arith, Move, Allows, copied_of, empty, moved, deeds_of, fills-filling)
 
   -- a command on the content that is accepted finds no items in the new instance
   none_copied : (by : ConnId) → content_cause machine.shell by ≡ None → machine.copied ≡ 0
@@ -92,10 +83,8 @@ module _ {C R I S : Type 0} (meaning : Meaning C R I S) (form : StrForm) (machin
 
   fills-step : (by : ConnId) (asked : Ask C) → let after = (step meaning form machine by asked).machine in
       Fills (standing_of after.shell) after.content after.copied
-  fills-step =
-      kept-call meaning form Fills machine manned.places (sound_of machine.shell manned) fills-move
-      (filled.filling, inr refl, low)
-      (λ by command accepted. let none = none_copied by accepted in (inl none, inl none, omega (arith, none)))
+  fills-step = kept-call meaning form Fills machine manned.places
+      (sound_of machine.shell manned) fills-move (filled.filling, inr refl, low) (grind (arith, none_copied))
 
 -- ---- calls, marks and histories
 
@@ -105,8 +94,7 @@ module _ {C R I S : Type 0} (meaning : Meaning C R I S) (form : StrForm) where
   filled-step machine by asked manned filled = grind (arith, fills-step)
 
   pub front-step : (machine : Machine S) (by : ConnId) (asked : Ask C) → IsManned machine.shell
-      → IsFilled meaning form machine
-      → ((step meaning form machine by asked).machine.copied ≡ 0)
+      → IsFilled meaning form machine → ((step meaning form machine by asked).machine.copied ≡ 0)
       ⊎ ((step meaning form machine by asked).machine.content ≡ machine.content)
   front-step machine by asked manned filled = (fills-step meaning form machine manned filled by asked).1
 
@@ -114,8 +102,7 @@ module _ {C R I S : Type 0} (meaning : Meaning C R I S) (form : StrForm) where
       → IsFilled meaning form (loss_step meaning form machine cf).machine
   filled-loss machine cf filled = grind (arith, loss-cases)
 
-  pub front-loss : (machine : Machine S) (cf : CfId)
-      → ((loss_step meaning form machine cf).machine.copied ≡ 0)
+  pub front-loss : (machine : Machine S) (cf : CfId) → ((loss_step meaning form machine cf).machine.copied ≡ 0)
       ⊎ ((loss_step meaning form machine cf).machine.content ≡ machine.content)
   front-loss machine cf = grind (arith, loss-cases)
 
@@ -125,6 +112,5 @@ module _ {C R I S : Type 0} (meaning : Meaning C R I S) (form : StrForm) where
   filled-after machine by (what.Lost cf) manned filled = filled-loss machine cf filled
 
   pub filled-replay : (history : List (Entry C R)) → IsFilled meaning form (replay meaning form history)
-  filled-replay history =
-      (kept-manned meaning form (λ machine. IsFilled meaning form machine) filled-after history
-      (record { filling = inl refl; within = omega arith })).1
+  filled-replay history = (kept-manned meaning form (λ machine. IsFilled meaning form machine)
+      filled-after history (record { filling = inl refl; within = omega arith })).1

@@ -9,9 +9,8 @@ module _ {C R I S : Type 0} (meaning : Meaning C R I S) (form : StrForm) where
   -- of a content alone: the empty one has it, and each step, departure, return and end of registrations keeps it
   pub record IsKept (P : S → Type 0) : Type 0 where
     pub empty : P (meaning.empty (shape_of form))
-    pub done : (caps : Caps) (state : S) (by : ConnId) (command : C)
-        → meaning.cause (shape_of form) caps state by command ≡ None → P state
-        → P (meaning.done (shape_of form) caps state by command).state
+    pub done : (caps : Caps) (state : S) (by : ConnId) (command : C) → meaning.cause (shape_of form)
+        caps state by command ≡ None → P state → P (meaning.done (shape_of form) caps state by command).state
     pub leave : (state : S) (conn : ConnId) (keep : Bool) → P state
         → P (meaning.leave (shape_of form) state conn keep).state
     pub back : (state : S) (conn : ConnId) → P state → P (meaning.back state conn)

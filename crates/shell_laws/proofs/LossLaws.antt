@@ -37,28 +37,23 @@ module _ {C R I S : Type 0} (meaning : Meaning C R I S) (form : StrForm) (machin
   -- where the answer is that it stops: the content is as it was, the primary where it stood, and there is no new
   -- instance
   abbrev KeepsIfStopped : ℕ → ShellOutcome → Type 0
-  KeepsIfStopped number acted =
-      acted.reply ≡ shown.Stopped number
+  KeepsIfStopped number acted = acted.reply ≡ shown.Stopped number
       → (content_after meaning form (is_some machine.shell.rebuild) acted.deeds machine.content ≡ machine.content)
-      × (acted.shell.instances ≡ machine.shell.instances)
-      × (fresh_of acted.shell.rebuild ≡ None)
+      × (acted.shell.instances ≡ machine.shell.instances) × (fresh_of acted.shell.rebuild ≡ None)
 
   stop_keeps : (cf : CfId) (number : ℕ) (shell : Shell) → shell.instances ≡ machine.shell.instances
       → InEachCase form cf shell (KeepsIfStopped number)
   stop_keeps cf number shell same = grind arith
 
-  pub loss-keeps : (cf : CfId) (number : ℕ)
-      → (loss_step meaning form machine cf).reply ≡ reply.Shell (shown.Stopped number)
-      → let stopped = (loss_step meaning form machine cf).machine in
+  pub loss-keeps : (cf : CfId) (number : ℕ) → (loss_step meaning form machine cf).reply ≡ reply.Shell
+      (shown.Stopped number) → let stopped = (loss_step meaning form machine cf).machine in
       (stopped.content ≡ machine.content)
-      × (stopped.shell.instances ≡ machine.shell.instances)
-      × (fresh_of stopped.shell.rebuild ≡ None)
+      × (stopped.shell.instances ≡ machine.shell.instances) × (fresh_of stopped.shell.rebuild ≡ None)
   loss-keeps cf number stops = grind (arith, loss-cases, stop_keeps, shell_reply)
 
   pub vary-keeps : (by : ConnId) (cf : CfId) (off : Bool) (number : ℕ)
       → (step meaning form machine by (ask.Shell (cmd.Vary cf off))).reply ≡ reply.Shell (shown.Stopped number)
       → let stopped = (step meaning form machine by (ask.Shell (cmd.Vary cf off))).machine in
       (stopped.content ≡ machine.content)
-      × (stopped.shell.instances ≡ machine.shell.instances)
-      × (fresh_of stopped.shell.rebuild ≡ None)
+      × (stopped.shell.instances ≡ machine.shell.instances) × (fresh_of stopped.shell.rebuild ≡ None)
   vary-keeps by cf off number stops = grind (arith, vary-cases, stop_keeps, shell_reply)

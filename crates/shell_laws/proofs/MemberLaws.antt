@@ -50,15 +50,12 @@ pub sound-move : (form : StrForm) (room : Room) (s : Standing) → IsSound s →
 sound-move form room s sound Quiet may = sound
 sound-move form room s sound (Connects active made back) may =
     grind (arith, both_ways, ArePaired, alone, missing, stands_none)
-sound-move form room s sound (Departs who gone) may =
-    sound-gone form gone (record s { active = without_member who.conn s.active; rebuild = left_by who.conn s.rebuild })
-    may (sound-rebuilt form s sound (left_by who.conn s.rebuild) (without_member who.conn s.active)
-    (is-without who.conn s.rebuild s.active (sound.members, sound.placed)) (λ idle. ap (left_by who.conn) idle)
-    (somebody_without who.conn s.active))
+sound-move form room s sound (Departs who gone) may = sound-gone form gone
+    (record s { active = without_member who.conn s.active; rebuild = left_by who.conn s.rebuild }) may (sound-rebuilt
+    form s sound (left_by who.conn s.rebuild) (without_member who.conn s.active) (is-without who.conn s.rebuild
+    s.active (sound.members, sound.placed)) (λ idle. ap (left_by who.conn) idle) (somebody_without who.conn s.active))
 sound-move form room s sound (Forces other gone) may =
-    sound-gone form gone (record s { rebuild = emptied s.rebuild }) may
-    (sound-rebuilt form s sound (emptied s.rebuild) s.active
-    (is-emptied s.rebuild s.active (sound.members, sound.placed)) (λ idle. ap emptied idle) (λ somebody. somebody))
+    sound-gone form gone (record s { rebuild = emptied s.rebuild }) may (grind (arith, sound-rebuilt, is-emptied))
 sound-move form room s sound Deallocates may = sound-gone form true s (λ gone. may) sound
 sound-move form room s sound (Starts number caps) may = grind (arith, alone, moved, Starts, both_ways)
 sound-move form room s sound (Gives rebuild who) may = grind (arith, sound-onward, placed-owed, rebuild_in_it)
@@ -87,11 +84,9 @@ module _ {C R I S : Type 0} (meaning : Meaning C R I S) (form : StrForm) where
       → IsManned (step meaning form machine by asked).machine.shell
   manned-step machine by asked manned =
       let sound : IsSound (standing_of machine.shell) = sound_of machine.shell manned in
-      manned_of (step meaning form machine by asked).machine.shell
-      (length-conns-step meaning form machine by asked ∙ manned.places)
-      (kept-call meaning form Sound machine manned.places sound
-      (sound-move form (room_of meaning form machine) (standing_of machine.shell) sound) sound
-      (λ by command accepted. sound) by asked)
+      manned_of (step meaning form machine by asked).machine.shell (length-conns-step meaning form machine by asked
+      ∙ manned.places) (kept-call meaning form Sound machine manned.places sound (sound-move form
+      (room_of meaning form machine) (standing_of machine.shell) sound) sound (λ by command accepted. sound) by asked)
 
   pub manned-loss : (machine : Machine S) (cf : CfId) → IsManned machine.shell
       → IsManned (loss_step meaning form machine cf).machine.shell
@@ -114,32 +109,28 @@ module _ {C R I S : Type 0} (meaning : Meaning C R I S) (form : StrForm) where
   }
 
   -- what each call and each mark keeps of such a machine, a history keeps
-  module _ (P : Machine S → Type 0)
-      (step : (machine : Machine S) (by : ConnId) (told : What C) → IsManned machine.shell → P machine
-      → P (after_what meaning form machine by told)) where
+  module _ (P : Machine S → Type 0) (step : (machine : Machine S) (by : ConnId) (told : What C)
+      → IsManned machine.shell → P machine → P (after_what meaning form machine by told)) where
     kept_fold : (machine : Machine S) (entries : List (Entry C R)) → IsManned machine.shell → P machine
         → IsManned (fold (machine_after meaning form) machine entries).shell
         × P (fold (machine_after meaning form) machine entries)
     kept_fold machine [] manned is = (manned, is)
-    kept_fold machine (entry ∷ entries) manned is =
-        kept_fold (machine_after meaning form machine entry) entries
-        (manned-after machine entry.by entry.what manned) (step machine entry.by entry.what manned is)
+    kept_fold machine (entry ∷ entries) manned is = kept_fold (machine_after meaning form machine entry)
+        entries (manned-after machine entry.by entry.what manned) (step machine entry.by entry.what manned is)
 
     pub kept-manned : (history : List (Entry C R)) → P (opening meaning form)
         → IsManned (replay meaning form history).shell × P (replay meaning form history)
     kept-manned history is = kept_fold (opening meaning form) history manned-opening is
 
   pub manned-replay : (history : List (Entry C R)) → IsManned (replay meaning form history).shell
-  manned-replay history =
-      (kept-manned (λ machine. Unit {0}) (λ machine by told manned is. is) history tt).0
+  manned-replay history = (kept-manned (λ machine. Unit {0}) (λ machine by told manned is. is) history tt).0
 
 -- ---- who waits
 
 -- the members of a rebuild under way are those active, and there are some
 pub manned-members : (shell : Shell) (rebuild : Rebuild) → IsManned shell → shell.rebuild ≡ Some rebuild
     → HasMembers (Some rebuild) (actives shell.conns)
-manned-members shell rebuild manned is =
-    subst (λ (r : Option Rebuild). HasMembers r (actives shell.conns)) is manned.members
+manned-members shell rebuild manned is = grind arith
 
 held_up_either : (at : Stage) (owes : Bool) → is_held_up at true ≡ true → is_held_up at owes ≡ true
 held_up_either Quiesce owes held = absurd (cc)

@@ -19,8 +19,7 @@ module _ {C R I S : Type 0} (meaning : Meaning C R I S) (form : StrForm) (P : St
 
   -- behind what is done
   abbrev Behind : Work → Type 0
-  Behind work =
-      P work.0 (content_after meaning form (is_some machine.shell.rebuild) work.1
+  Behind work = P work.0 (content_after meaning form (is_some machine.shell.rebuild) work.1
       (departure_from meaning form work.2 machine).state) (copied_after work.1 (machine.copied + work.3))
 
   -- behind a move
@@ -32,22 +31,18 @@ module _ {C R I S : Type 0} (meaning : Meaning C R I S) (form : StrForm) (P : St
     kept : (enough : Type 0) (by : ConnId) (connects : Bool) (who : Option Leaver) (copied : ℕ) (told : Telling)
         (acted : ShellOutcome) → enough → IsMove form room s enough by connects who copied told acted
         → Behind (work_by who copied acted)
-    kept enough by connects who copied told acted places is =
-        subst (λ (work : Work). Behind work) (sym is.does) (moves is.move (is.allows places sound))
+    kept enough by connects who copied told acted places is = grind (arith, Work)
 
     pub kept-mark : (cf : CfId) → let after = (loss_step meaning form machine cf).machine in
         P (standing_of after.shell) after.content after.copied
     kept-mark cf =
         let acted : ShellOutcome = loss_outcome form cf machine.shell in
         let none : machine.copied + 0 ≡ machine.copied = omega arith in
-        subst (λ (n : ℕ). P (standing_of acted.shell)
-        (content_after meaning form (is_some machine.shell.rebuild) acted.deeds machine.content)
-        (copied_after acted.deeds n)) none
-        (kept (Unit {0}) (record { 0 = 0 }) false None 0 _ acted tt
-        (moves-loss form room machine.shell (Unit {0}) (record { 0 = 0 }) cf))
+        subst (λ (n : ℕ). P (standing_of acted.shell) (content_after meaning form (is_some machine.shell.rebuild)
+        acted.deeds machine.content) (copied_after acted.deeds n)) none (kept (Unit {0}) (record { 0 = 0 })
+        false None 0 _ acted tt (moves-loss form room machine.shell (Unit {0}) (record { 0 = 0 }) cf))
 
-    pub kept-call : Keeps machine
-        → ((by : ConnId) (command : C) → content_cause machine.shell by ≡ None
+    pub kept-call : Keeps machine → ((by : ConnId) (command : C) → content_cause machine.shell by ≡ None
         → P s (content_done meaning form machine by command).machine.content machine.copied)
         → (by : ConnId) (asked : Ask C) → let after = (step meaning form machine by asked).machine in
         P (standing_of after.shell) after.content after.copied
@@ -56,7 +51,6 @@ module _ {C R I S : Type 0} (meaning : Meaning C R I S) (form : StrForm) (P : St
         go : (cause : Option Refusal) → shell_cause form room machine.shell by command ≡ cause
             → Keeps (unless meaning form cause machine (command_done meaning form machine by command)).machine
         go (Some refusal) is = keeps
-        go None is =
-            kept (length machine.shell.conns ≡ CALLERS) by _ _ _ _ _ places
-            (move_by meaning form machine by command is)
+        go None is = kept (length machine.shell.conns ≡ CALLERS)
+            by _ _ _ _ _ places (move_by meaning form machine by command is)
     kept-call keeps contents by (ask.Content command) = grind arith

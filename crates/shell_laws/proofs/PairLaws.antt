@@ -13,9 +13,8 @@ paired-change before after change = change
 
 module _ {C R I S : Type 0} (meaning : Meaning C R I S) (form : StrForm) (machine : Machine S) (by : ConnId)
     (manned : IsManned machine.shell) where
-  pub change-command : (command : ShellCmd)
-      → shell_cause form (room_of meaning form machine) machine.shell by command ≡ None
-      → Change machine.shell (done meaning form machine by command).shell
+  pub change-command : (command : ShellCmd) → shell_cause form (room_of meaning form machine)
+      machine.shell by command ≡ None → Change machine.shell (done meaning form machine by command).shell
   change-command command fine paired =
       let is = move_by meaning form machine by command fine in
       let sound : IsSound (standing_of machine.shell) = sound_of machine.shell manned in

@@ -21,12 +21,10 @@ rebuild_past : (at : Stage) (members owing : List ConnId) (rebuild : Rebuild) �
     → rebuild.members ≡ members → rebuild.owing ≡ owing → IsPlaced at members owing rebuild.fresh
     → IsRebuild (rebuild_left (outcome at members owing) rebuild) members
 rebuild_past at [] owing rebuild in_stage are owe placed = (tt, tt)
-rebuild_past at (conn ∷ conns) (other ∷ others) rebuild in_stage are owe placed =
-    ((are, (conn, (conns, refl))), rw (in_stage, are, owe) placed)
+rebuild_past at (conn ∷ conns) (other ∷ others) rebuild in_stage are owe placed = grind arith
 rebuild_past Quiesce (conn ∷ conns) [] rebuild in_stage are owe placed = ((are, (conn, (conns, refl))), inl refl)
 rebuild_past Connect (conn ∷ conns) [] rebuild in_stage are owe (inl all) = absurd (cc)
-rebuild_past Connect (conn ∷ conns) [] rebuild in_stage are owe (inr stands) =
-    ((are, (conn, (conns, refl))), stands)
+rebuild_past Connect (conn ∷ conns) [] rebuild in_stage are owe (inr stands) = ((are, (conn, (conns, refl))), stands)
 rebuild_past Copy (conn ∷ conns) [] rebuild in_stage are owe placed = ((are, (conn, (conns, refl))), refl)
 rebuild_past Cleanup (conn ∷ conns) [] rebuild in_stage are owe placed = (tt, tt)
 rebuild_past Stopping (conn ∷ conns) [] rebuild in_stage are owe placed = (tt, tt)
@@ -35,9 +33,8 @@ pub is-onward : (rebuild : Rebuild) (active : List ConnId) → rebuild.members �
     → IsRebuild (rebuild_onward rebuild) active
 is-onward rebuild active are placed = grind (arith, rebuild_past)
 
-placed_without : (at : Stage) (by : ConnId) (members owing : List ConnId) (fresh : Option CfId)
-    → IsPlaced at members owing fresh
-    → IsPlaced at (without_member by members) (owing_after at by (without_member by members) owing) fresh
+placed_without : (at : Stage) (by : ConnId) (members owing : List ConnId) (fresh : Option CfId) → IsPlaced at members
+    owing fresh → IsPlaced at (without_member by members) (owing_after at by (without_member by members) owing) fresh
 placed_without Connect by members owing fresh (inl all) = inl (ap (without_member by) all)
 placed_without Connect by members owing fresh (inr stands) = inr stands
 placed_without at by members owing fresh placed = placed
@@ -73,8 +70,7 @@ switch_copy at (conn ∷ conns) [] switch = absurd (cc)
 -- it stands where it does so
 pub switch_stands : (rebuild : Rebuild) → HasPlace (Some rebuild) → is_switch (outcome_of rebuild) ≡ true
     → is_some rebuild.fresh ≡ true
-switch_stands rebuild placed switch =
-    rw (switch_copy rebuild.stage rebuild.members rebuild.owing switch) at placed
+switch_stands rebuild placed switch = rw (switch_copy rebuild.stage rebuild.members rebuild.owing switch) at placed
 
 -- outside COPY nothing does
 pub no_switch_outside : (at : Stage) (members owing : List ConnId) → is_copy at ≡ false
@@ -113,7 +109,6 @@ place_among is units [] cf never found = absurd (cc)
 place_among is units (pref ∷ prefs) cf never found = grind (arith, place_among is units prefs cf never)
 
 -- where it is made, no primary stands
-pub made_apart : (form : StrForm) (shell : Shell) (by : ConnId) (one other : CfId)
-    → shell.instances.primary ≡ Some one
-    → place_for (units_of shell.caps) (candidates form shell by) ≡ Some other → other.0 ≢ one.0
+pub made_apart : (form : StrForm) (shell : Shell) (by : ConnId) (one other : CfId) → shell.instances.primary ≡ Some
+    one → place_for (units_of shell.caps) (candidates form shell by) ≡ Some other → other.0 ≢ one.0
 made_apart form shell by one other stands found = grind (arith, place_among, both_ways, eq-eqb)

@@ -30,16 +30,11 @@ same_rebuild read owing is = ap (λ (o : List ConnId). record (rebuild_of read) 
 all_awaited : (read : Reading) → Somebody read.members → awaited read ≡ read.members → IsGoing (Some read)
 all_awaited read (conn, (others, some)) all = ap (outcome read.stage read.members) all ∙ rw some refl
 
--- where one has passed, the next one hasn't
-going_past : (read : Reading) → IsGoing (passed read)
-going_past read = grind (arith, all_awaited, filter_true)
-
 -- it passes as counters do
 past : (read : Reading) → option_map rebuild_of (passed read) ≡ rebuild_onward (rebuild_of read)
 past read = go read.members (awaited read)
   where
-    begins : (at : Stage)
-        → Some (rebuild_of (with_stage at read)) ≡ Some (rebuild_in at (rebuild_of read))
+    begins : (at : Stage) → Some (rebuild_of (with_stage at read)) ≡ Some (rebuild_in at (rebuild_of read))
     begins at = ap Some (same_rebuild (with_stage at read) read.members (filter_true read.members))
 
     behind : (at : Stage) → option_map rebuild_of (read_behind at read) ≡ rebuild_left (next_stage at) (rebuild_of read)
@@ -48,9 +43,8 @@ past read = go read.members (awaited read)
     behind Copy = begins Cleanup
     behind at = refl
 
-    go : (members owing : List ConnId)
-        → option_map rebuild_of (read_past members owing read)
-        ≡ rebuild_left (outcome read.stage members owing) (rebuild_of read)
+    go : (members owing : List ConnId) → option_map rebuild_of
+        (read_past members owing read) ≡ rebuild_left (outcome read.stage members owing) (rebuild_of read)
     go [] owing = refl
     go (member ∷ members) [] = behind read.stage
     go (member ∷ members) (conn ∷ owing) = refl
@@ -68,12 +62,9 @@ module _ (by : ConnId) (telling : Telling) (read : Reading) (going : IsGoing (So
 
   given_or_not : (b : Bool) → is_awaited read.stage read.number telling ≡ b
       → option_map rebuild_of (passed longer) ≡ rebuild_given b by (rebuild_of read)
-  given_or_not false other =
-      past_as longer (awaited read)
-      (rw other (owing_same by (has_given read.stage read.number read.entries) read.members))
-      ∙ ap (λ (p : Passed). rebuild_left p (rebuild_of read)) going
-  given_or_not true awaits =
-      past_as longer (without_member by (awaited read))
+  given_or_not false other = past_as longer (awaited read) (rw other (owing_same by (has_given read.stage
+      read.number read.entries) read.members)) ∙ ap (λ (p : Passed). rebuild_left p (rebuild_of read)) going
+  given_or_not true awaits = past_as longer (without_member by (awaited read))
       (rw awaits (owing_given by (has_given read.stage read.number read.entries) read.members))
 
   given : option_map rebuild_of (passed longer)
@@ -82,8 +73,7 @@ module _ (by : ConnId) (telling : Telling) (read : Reading) (going : IsGoing (So
 
 -- a departure
 awaited_left : (by : ConnId) (read : Reading)
-    → awaited (with_told by Departs read)
-    ≡ owing_after read.stage by (without_member by read.members) (awaited read)
+    → awaited (with_told by Departs read) ≡ owing_after read.stage by (without_member by read.members) (awaited read)
 awaited_left by read = go read.stage
   where
     left : List ConnId
@@ -106,10 +96,9 @@ still at (conn ∷ conns) owing is = refl
 forced : (at : Stage) (by : ConnId) (read : Reading) → IsGoing (Some (record read { stage = at }))
     → option_map rebuild_of (passed (with_entry by Forces (record read { stage = at })))
     ≡ Some (rebuild_emptied at (rebuild_of (record read { stage = at })))
-forced Copy by read going =
-    past_as (record read { stage = Copy; entries = [] }) read.members (filter_true read.members)
-    ∙ ap (λ (p : Passed). rebuild_left p (record (rebuild_of read) { stage = Copy; owing = read.members }))
-    (still Copy read.members _ going)
+forced Copy by read going = past_as (record read { stage = Copy; entries = [] }) read.members
+    (filter_true read.members) ∙ ap (λ (p : Passed). rebuild_left p
+    (record (rebuild_of read) { stage = Copy; owing = read.members })) (still Copy read.members _ going)
 forced at by read going = given_or_not by Forces (record read { stage = at }) going false refl
 
 none_awaited : (at : Stage) (number : ℕ) → is_awaited at number Nothing ≡ false
@@ -129,8 +118,7 @@ told-next actives by Departs (Some read) going = past_as (with_told by Departs r
 told-next actives by Forces (Some read) going = forced read.stage by read going
 told-next actives by (Places cf) (Some read) going =
     given by (Places cf) (record read { place = Some (unwrap_or read.place cf) }) going
-told-next actives by Nothing (Some read) going =
-    given_or_not by Nothing read going false (none_awaited read.stage read.number)
+told-next actives by Nothing (Some read) going = grind (arith, given_or_not, none_awaited)
 told-next actives by telling (Some read) going = given by telling read going
 told-next actives by _ None going = refl
 
@@ -138,10 +126,8 @@ told-next actives by _ None going = refl
 pub going-next : (actives left : List ConnId) (by : ConnId) (telling : Telling) (read : Option Reading) → IsGoing read
     → HasMembers (option_map rebuild_of (read_next actives by telling read)) left
     → IsGoing (read_next actives by telling read)
-going-next actives left by (Starts number caps) read going some =
-    all_awaited (begun number caps actives) (subst Somebody (sym some.0) some.1) (filter_true actives)
-going-next actives left by Stops (Some read) going some =
-    all_awaited (with_stage Stopping read) (subst Somebody (sym some.0) some.1) (filter_true read.members)
+going-next actives left by (Starts number caps) read going some = grind (arith, all_awaited, filter_true)
+going-next actives left by Stops (Some read) going some = grind (arith, all_awaited, filter_true)
 going-next actives left by Fails (Some read) going some = tt
-going-next actives left by telling (Some read) going some = going_past (with_told by telling read)
+going-next actives left by telling (Some read) going some = grind (arith, all_awaited, filter_true)
 going-next actives left by _ None going some = tt

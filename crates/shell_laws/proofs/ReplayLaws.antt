@@ -15,26 +15,22 @@ module _ {C R I S : Type 0} (meaning : Meaning C R I S) (form : StrForm)
     kept_move : (before after : Machine S) (by : ConnId) (told : What C) → Move meaning form before after by told
         → P before.content → P after.content
     kept_move before after by told (Same e) is = subst P (sym e) is
-    kept_move before after by told (Left who command asked leaves e) is =
-        subst P (sym e) (kept.leave before.content who.conn who.keep is)
+    kept_move before after by told (Left who command asked leaves e) is = grind arith
     kept_move before after by told (Returned keep asked e) is = subst P (sym e) (kept.back before.content by is)
     kept_move before after by told (Forgotten e) is = subst P (sym e) (kept.forget before.content is)
     kept_move before after by told (Cleared e gone) is = subst P (sym e) kept.empty
 
     kept_change : (before after : Machine S) (by : ConnId) (told : What C) (answer : Reply R)
         → Change meaning form before after by told answer → P before.content → P after.content
-    kept_change before after by told answer (Done command accepted fine e) is =
-        subst P (sym e) (kept.done before.shell.caps before.content by command fine is)
+    kept_change before after by told answer (Done command accepted fine e) is = grind arith
     kept_change before after by told answer (Quiet none move) is = kept_move before after by told move is
 
     kept_fold : (machine : Machine S) (entries : List (Entry C R)) → P machine.content
         → P (fold (machine_after meaning form) machine entries).content
     kept_fold machine [] is = is
-    kept_fold machine (entry ∷ entries) is =
-        kept_fold (machine_after meaning form machine entry) entries
-        (kept_change machine (after_what meaning form machine entry.by entry.what) entry.by entry.what
-        (reply_for meaning form machine entry.by entry.what)
-        (changed meaning form unregistered machine entry.by entry.what) is)
+    kept_fold machine (entry ∷ entries) is = kept_fold (machine_after meaning form machine entry) entries
+        (kept_change machine (after_what meaning form machine entry.by entry.what) entry.by entry.what (reply_for
+        meaning form machine entry.by entry.what) (changed meaning form unregistered machine entry.by entry.what) is)
 
     pub kept-replay : (history : List (Entry C R)) → P (replay meaning form history).content
     kept-replay history = kept_fold (opening meaning form) history kept.empty
@@ -64,8 +60,7 @@ module _ {C R I S : Type 0} (meaning : Meaning C R I S) (form : StrForm)
       traced_move none (Cleared e gone) = grind (arith, stands_in, replay-push)
 
       traced_change : Change meaning form before after entry.by entry.what entry.reply → P longer after.content
-      traced_change (Done command accepted fine e) =
-          subst (P longer) (sym e) (traced.done history entry command accepted fine is)
+      traced_change (Done command accepted fine e) = grind arith
       traced_change (Quiet none move) = traced_move none move
 
       pub traced-next : entry.reply ≡ reply_for meaning form before entry.by entry.what → Holds longer
@@ -74,12 +69,9 @@ module _ {C R I S : Type 0} (meaning : Meaning C R I S) (form : StrForm)
     traced_fold : (history entries : List (Entry C R)) → AreAnswered meaning form (replay meaning form history) entries
         → Holds history → Holds (history ++ entries)
     traced_fold history [] answered is = subst Holds (sym (append-nil history)) is
-    traced_fold history (entry ∷ entries) answered is =
-        subst Holds (append_assoc history (entry ∷ []) entries)
-        (traced_fold (history ++ entry ∷ []) entries
-        (subst (λ (m : Machine S). AreAnswered meaning form m entries) (sym (replay-push meaning form history entry))
-        answered.1)
-        (traced-next history entry is answered.0))
+    traced_fold history (entry ∷ entries) answered is = subst Holds (append_assoc history (entry ∷ []) entries)
+        (traced_fold (history ++ entry ∷ []) entries (subst (λ (m : Machine S). AreAnswered meaning form m entries)
+        (sym (replay-push meaning form history entry)) answered.1) (traced-next history entry is answered.0))
 
     pub traced-replay : (history : List (Entry C R)) → AreAnswered meaning form (opening meaning form) history
         → P history (replay meaning form history).content

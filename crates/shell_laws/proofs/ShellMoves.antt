@@ -11,14 +11,13 @@ pub record Standing : Type 0 where
   pub caps : Caps
 
 abbrev pub standing_of : Shell → Standing
-standing_of shell =
-    record {
-      instances = shell.instances;
-      active = actives shell.conns;
-      rebuild = shell.rebuild;
-      failed = shell.failed;
-      caps = shell.caps;
-    }
+standing_of shell = record {
+  instances = shell.instances;
+  active = actives shell.conns;
+  rebuild = shell.rebuild;
+  failed = shell.failed;
+  caps = shell.caps;
+}
 
 -- nothing that stands changes; a connector connects, and these are active then; one departs, and the structure goes
 -- with it or stays; a failed connection is forced away, likewise; the structure is deallocated; a rebuild starts; a
@@ -44,21 +43,19 @@ pub data Move : Type 0 where
 
 -- the structure goes, with all that stands of it but the connections
 abbrev pub gone_if : Bool → StrForm → Standing → Standing
-gone_if gone form s =
-    record s {
-      instances = if gone then no_instance else s.instances;
-      failed = not gone && s.failed;
-      caps = if gone then form.caps else s.caps;
-    }
+gone_if gone form s = record s {
+  instances = if gone then no_instance else s.instances;
+  failed = not gone && s.failed;
+  caps = if gone then form.caps else s.caps;
+}
 
 -- a rebuild goes on, and behind COPY the new instance takes the old one's place
 abbrev pub switched_if : Bool → Rebuild → Standing → Standing
-switched_if switch rebuild s =
-    record s {
-      instances = record s.instances { primary = if switch then rebuild.fresh else s.instances.primary };
-      rebuild = rebuild_onward rebuild;
-      caps = if switch then rebuild.caps else s.caps;
-    }
+switched_if switch rebuild s = record s {
+  instances = record s.instances { primary = if switch then rebuild.fresh else s.instances.primary };
+  rebuild = rebuild_onward rebuild;
+  caps = if switch then rebuild.caps else s.caps;
+}
 
 abbrev pub gone_on : Rebuild → Standing → Standing
 gone_on rebuild s = switched_if (is_switch (outcome_of rebuild)) rebuild s
@@ -69,8 +66,7 @@ left_by who rebuild = rebuild_next [] who Telling.Departs rebuild
 
 abbrev pub moved : StrForm → Move → Standing → Standing
 moved form Quiet s = s
-moved form (Connects active made back) s =
-    record s { instances = with_primary made s.instances; active = active }
+moved form (Connects active made back) s = record s { instances = with_primary made s.instances; active = active }
 moved form (Departs who gone) s =
     gone_if gone form (record s { active = without_member who.conn s.active; rebuild = left_by who.conn s.rebuild })
 moved form (Forces other gone) s = gone_if gone form (record s { rebuild = emptied s.rebuild })
@@ -98,8 +94,7 @@ deeds_of (Departs who gone) s =
 deeds_of (Forces other gone) s = record no_deeds { restart = is_restart s.rebuild s.rebuild; drop_all = gone }
 deeds_of Deallocates s = record no_deeds { drop_all = true }
 deeds_of (Starts number caps) s = no_deeds
-deeds_of (Gives rebuild who) s =
-    record no_deeds { switch = is_switch (outcome_of (without_owing who rebuild)) }
+deeds_of (Gives rebuild who) s = record no_deeds { switch = is_switch (outcome_of (without_owing who rebuild)) }
 deeds_of (Places rebuild who at made) s =
     record no_deeds { make = made; switch = is_switch (outcome_of (without_owing who (with_place at rebuild))) }
 deeds_of (Stops rebuild) s = record no_deeds { drop_fresh = is_some rebuild.fresh }

@@ -78,8 +78,7 @@ active_of b fine = in_stage b refusal.NotConnected fine
 -- whoever is active is one of those that are, since its connection has a place
 pub active_member : (conns : Connections) (conn : ConnId) → length conns ≡ CALLERS → is_active conns conn ≡ true
     → is_member conn (actives conns) ≡ true
-active_member conns conn places active =
-    is_member-actives conns conn (omega (arith, places, is_active-within conns conn active)) ∙ active
+active_member conns conn places active = grind (arith, is_member-actives, is_active-within)
 
 -- where no connection is defined nobody is active
 none_active : (conns : Connections) → defined_count conns ≡ 0 → actives conns ≡ []
@@ -90,8 +89,7 @@ none_active conns none = go (actives conns) (nobody_active conns none)
     go (conn ∷ others) never = absurd (never (conn, (others, refl)))
 
 none_behind : (form : StrForm) (conns : Connections) → goes form conns ≡ true → actives conns ≡ []
-none_behind form conns gone =
-    none_active conns (eqb-true (defined_count conns) 0 ((and_parts _ _ gone).1))
+none_behind form conns gone = none_active conns (eqb-true (defined_count conns) 0 ((and_parts _ _ gone).1))
 
 module _ (form : StrForm) (room : Room) (shell : Shell) (by : ConnId) where
   pub connect_stage : (rebuild : Rebuild) (at : Stage) → shell.rebuild ≡ Some rebuild → rebuild.stage ≡ at
@@ -134,10 +132,9 @@ is_connection _ = false
 module _ (form : StrForm) (room : Room) (s : Standing) (places : Type 0) (by : ConnId) (connects : Bool)
   where
     -- the entry tells nothing of a rebuild
-    unheard : (move : Move) (who : Option Leaver) (copied : ℕ) (acted : ShellOutcome)
-        → work_by who copied acted ≡ work_of form room s move → (moved form move s).rebuild ≡ s.rebuild
-        → IsKnown connects move s → (places → IsSound s → Allows form room s move)
-        → IsMove form room s places by connects who copied Nothing acted
+    unheard : (move : Move) (who : Option Leaver) (copied : ℕ) (acted : ShellOutcome) → work_by who copied
+        acted ≡ work_of form room s move → (moved form move s).rebuild ≡ s.rebuild → IsKnown connects move s → (places
+        → IsSound s → Allows form room s move) → IsMove form room s places by connects who copied Nothing acted
     unheard move who copied acted does same known allows = record {
       move = move;
       does = does;
@@ -160,8 +157,7 @@ moves-loss form room shell places by cf =
     loss-cases form cf shell (λ acted.
     IsMove form room s places by false None 0 (mark_telling acted.reply) acted) (record {
       none = dull form room s places by false (idle_outcome shown.OkNone shell) refl refl;
-      simplex = λ left lost.
-          unheard form room s places by false (Move.Simplexes cf (Some left)) None 0 _ refl refl tt
+      simplex = λ left lost. unheard form room s places by false (Move.Simplexes cf (Some left)) None 0 _ refl refl tt
           (λ places sound. (refl, unfailed_with s sound (λ i. is_at cf i.primary || is_at cf i.secondary) refl lost));
       stops = λ rebuild is there. record {
         move = Move.Stops rebuild;
@@ -195,9 +191,8 @@ module _ (form : StrForm) (room : Room) (judged : Shell) (letters : List Letter)
   HasPlaces = length judged.conns ≡ CALLERS
 
   abbrev Moves : ShellCmd → ShellOutcome → Type 0
-  Moves command acted =
-      IsMove form room s HasPlaces by (is_connection command) (leaver judged by command) (moved_by room command)
-      (telling command acted.reply) acted
+  Moves command acted = IsMove form room s HasPlaces by (is_connection command)
+      (leaver judged by command) (moved_by room command) (telling command acted.reply) acted
 
   abbrev IsTaken : ShellCmd → Type 0
   IsTaken command = shell_cause form room judged by command ≡ None
@@ -209,9 +204,7 @@ module _ (form : StrForm) (room : Room) (judged : Shell) (letters : List Letter)
   unfailed fine = not_so judged.failed refusal.StructureFailed fine
 
   somebody : HasPlaces → unless_active judged by ≡ None → Somebody (actives judged.conns)
-  somebody places fine =
-      somebody_member by (actives judged.conns)
-      (active_member judged.conns by places (active_of (is_active judged.conns by) fine))
+  somebody places fine = somebody_member by (actives judged.conns) (grind (arith, active_member, active_of))
 
   moves_connect : (keep : Bool) → IsTaken (cmd.Connect keep)
       → Moves (cmd.Connect keep) (shell_done form room shell by (cmd.Connect keep))
@@ -221,9 +214,8 @@ module _ (form : StrForm) (room : Room) (judged : Shell) (letters : List Letter)
       (made_at form judged by) (if is_some (state_of judged.conns by) then Some by else None)) None 0 _ refl refl refl
       (grind (arith, idle_rebuild, unfailed, primary-connect, past_front, none_made))
 
-  moves_departure : (keep : Bool) → unless_active judged by ≡ None
-      → IsMove form room s HasPlaces by false (Some (record { conn = by; keep = keep })) 0 Telling.Departs
-      (departure_outcome form shell by keep)
+  moves_departure : (keep : Bool) → unless_active judged by ≡ None → IsMove form room s HasPlaces
+      by false (Some (record { conn = by; keep = keep })) 0 Telling.Departs (departure_outcome form shell by keep)
   moves_departure keep fine = record {
     move = Move.Departs (record { conn = by; keep = keep }) (goes form conns);
     does = grind (arith, gone_if, conns, left, active);
@@ -248,11 +240,10 @@ module _ (form : StrForm) (room : Room) (judged : Shell) (letters : List Letter)
   moves_next (Some taken) = dull form room s HasPlaces by false _ refl refl
 
   -- a member gives what the stage waits for
-  moves_given : (told : Telling) (answer : ShellReply) (rebuild : Rebuild) (noted : Shell) → standing_of noted ≡ s
-      → judged.rebuild ≡ Some rebuild
-      → rebuild_onward (without_owing by rebuild) ≡ rebuild_next s.active by told (Some rebuild)
-      → MayBeTold s.active told s.rebuild → is_connect rebuild.stage ≡ false
-      → (is_copy rebuild.stage ≡ true → room.left ≡ 0)
+  moves_given : (told : Telling) (answer : ShellReply) (rebuild : Rebuild) (noted : Shell)
+      → standing_of noted ≡ s → judged.rebuild ≡ Some rebuild
+      → rebuild_onward (without_owing by rebuild) ≡ rebuild_next s.active by told (Some rebuild) → MayBeTold
+      s.active told s.rebuild → is_connect rebuild.stage ≡ false → (is_copy rebuild.stage ≡ true → room.left ≡ 0)
       → IsMove form room s HasPlaces by false None 0 told (given_outcome answer by rebuild noted)
   moves_given told answer rebuild noted same is tells may elsewhere filled = record {
     move = Move.Gives rebuild by;
@@ -281,8 +272,7 @@ module _ (form : StrForm) (room : Room) (judged : Shell) (letters : List Letter)
 
       by_rebuild : (rebuild : Option Rebuild) (noted : Shell) → standing_of noted ≡ s → judged.rebuild ≡ rebuild
           → Moves cmd.Respond (responded by answered rebuild noted)
-      by_rebuild None noted same is =
-          unawaited None noted same is refl
+      by_rebuild None noted same is = unawaited None noted same is refl
       by_rebuild (Some rebuild) noted same is = go (is_response rebuild.stage rebuild.number answered) refl
         where
           go : (b : Bool) → is_response rebuild.stage rebuild.number answered ≡ b → Moves cmd.Respond (if b
@@ -350,13 +340,11 @@ module _ (form : StrForm) (room : Room) (judged : Shell) (letters : List Letter)
   moves_copy : (n : ℕ) (rebuild : Option Rebuild) → judged.rebuild ≡ rebuild → IsTaken (cmd.Copy n)
       → Moves (cmd.Copy n) (shell_done form room shell by (cmd.Copy n))
   moves_copy n None is fine = absurd (let wrong = rw is at ((none (cmd.Copy n) fine).1.1.1.0) in cc)
-  moves_copy n (Some rebuild) is fine =
-      unheard form room s HasPlaces by false (Move.Copies n) None _ _ refl refl tt
-      (λ places sound. rw is (copy, rw copy at (subst HasPlace is sound.placed)))
+  moves_copy n (Some rebuild) is fine = unheard form room s HasPlaces by false (Move.Copies n)
+      None _ _ refl refl tt (λ places sound. rw is (copy, rw copy at (subst HasPlace is sound.placed)))
     where
       copy : rebuild.stage ≡ stage.Copy
-      copy =
-          copy_is rebuild.stage (in_stage (is_copy rebuild.stage) _ (rw is at ((none (cmd.Copy n) fine).1.1.1.1.0)))
+      copy = grind (arith, copy_is, in_stage, none)
 
   moves_completion : (rebuild : Option Rebuild) → judged.rebuild ≡ rebuild → IsTaken cmd.RebuildComplete
       → Moves cmd.RebuildComplete (complete_outcome shell by rebuild)
@@ -385,10 +373,8 @@ module _ (form : StrForm) (room : Room) (judged : Shell) (letters : List Letter)
       active = grind (arith, actives-with_forced, none)
 
   moves_structure : IsTaken cmd.ForceStr → Moves cmd.ForceStr (shell_done form room shell by cmd.ForceStr)
-  moves_structure fine =
-      unheard form room s HasPlaces by false Move.Deallocates None 0 _ refl refl tt
-      (λ places sound. none_active judged.conns
-      (nothing_left (defined_count judged.conns) _ (none cmd.ForceStr fine).0))
+  moves_structure fine = unheard form room s HasPlaces by false
+      Move.Deallocates None 0 _ refl refl tt (grind (arith, none_active, nothing_left, none))
 
   moves_vary : (cf : CfId) (off : Bool) → Moves (cmd.Vary cf off) (vary_outcome form cf off shell)
   moves_vary cf true = moves-loss form room (with_off cf true shell) HasPlaces by cf
@@ -406,15 +392,13 @@ module _ (form : StrForm) (room : Room) (judged : Shell) (letters : List Letter)
   moves_simplex : (second : Option CfId) → judged.instances.secondary ≡ second
       → Moves cmd.DuplexStop (simplex_again second shell)
   moves_simplex None is = dull form room s HasPlaces by false _ refl refl
-  moves_simplex (Some cf) is =
-      unheard form room s HasPlaces by false (Move.Simplexes cf judged.instances.primary) None 0 _ refl refl tt
-      (grind (arith, unfailed_with))
+  moves_simplex (Some cf) is = unheard form room s HasPlaces
+      by false (Move.Simplexes cf judged.instances.primary) None 0 _ refl refl tt (grind (arith, unfailed_with))
 
   pub moves-command : (command : ShellCmd) → IsTaken command → Moves command (shell_done form room shell by command)
   moves-command (cmd.Connect keep) fine = moves_connect keep fine
   moves-command cmd.Disconnect fine = moves_departure false (none cmd.Disconnect fine).0
-  moves-command cmd.Fail fine =
-      moves_departure (is_kept (state_of judged.conns by)) (none cmd.Fail fine).0
+  moves-command cmd.Fail fine = moves_departure (is_kept (state_of judged.conns by)) (none cmd.Fail fine).0
   moves-command cmd.Next fine = moves_next (next_event shell.mail by)
   moves-command cmd.Respond fine = moves_response (owed_event shell.mail by)
   moves-command (cmd.RebuildStart caps) fine = moves_start caps fine
@@ -445,40 +429,34 @@ module _ {C R I S : Type 0} (meaning : Meaning C R I S) (form : StrForm) (machin
   done command = shell_done form room (acting command) by command
 
   pub move_by : (command : ShellCmd) → shell_cause form room machine.shell by command ≡ None
-      → IsMove form room (standing_of machine.shell) (length machine.shell.conns ≡ CALLERS) by
-      (is_connection command) (leaver machine.shell by command) (moved_by room command)
-      (telling command (done command).reply) (done command)
+      → IsMove form room (standing_of machine.shell) (length machine.shell.conns ≡ CALLERS) by (is_connection command)
+      (leaver machine.shell by command) (moved_by room command) (telling command (done command).reply) (done command)
   move_by command fine = grind (arith, moves-command)
 
-  pub tells_command : (command : ShellCmd) → shell_cause form room machine.shell by command ≡ None
-      → (done command).shell.rebuild
-      ≡ rebuild_next active by (telling command (done command).reply) machine.shell.rebuild
-  tells_command command fine =
-      let is = move_by command fine in ap (λ (w : Work). w.0.rebuild) is.does ∙ is.tells
+  pub tells_command : (command : ShellCmd) → shell_cause form room machine.shell by command ≡ None → (done
+      command).shell.rebuild ≡ rebuild_next active by (telling command (done command).reply) machine.shell.rebuild
+  tells_command command fine = grind (arith, move_by, Work)
 
   abbrev pub told : (asked : Ask C) → CallOutcome R S → Telling
   told asked answered = telling_of (what.Call asked) answered.reply
 
   -- what is told of a rebuild is what becomes of it, and may be told
   abbrev IsTold : Ask C → CallOutcome R S → Type 0
-  IsTold asked answered =
-      (answered.machine.shell.rebuild ≡ rebuild_next active by (told asked answered) machine.shell.rebuild)
-      × (length machine.shell.conns ≡ CALLERS → HasPlace machine.shell.rebuild
-      → MayBeTold active (told asked answered) machine.shell.rebuild)
+  IsTold asked answered = (answered.machine.shell.rebuild ≡ rebuild_next
+      active by (told asked answered) machine.shell.rebuild) × (length machine.shell.conns ≡ CALLERS
+      → HasPlace machine.shell.rebuild → MayBeTold active (told asked answered) machine.shell.rebuild)
 
   told-step : (asked : Ask C) → IsTold asked (step meaning form machine by asked)
   told-step (ask.Shell command) = go (shell_cause form room machine.shell by command) refl
     where
-      go : (cause : Option Refusal) → shell_cause form room machine.shell by command ≡ cause
-          → IsTold (ask.Shell command)
-          (unless meaning form cause machine (command_done meaning form machine by command))
+      go : (cause : Option Refusal) → shell_cause form room machine.shell by command ≡ cause → IsTold
+          (ask.Shell command) (unless meaning form cause machine (command_done meaning form machine by command))
       go (Some refusal) is = (nothing_told active by machine.shell.rebuild, λ places placed. tt)
       go None is = (tells_command command is, (move_by command is).may)
   told-step (ask.Content command) = grind (arith, nothing_told)
 
-  pub rebuild-step : (asked : Ask C)
-      → (step meaning form machine by asked).machine.shell.rebuild
-      ≡ rebuild_next active by (told asked (step meaning form machine by asked)) machine.shell.rebuild
+  pub rebuild-step : (asked : Ask C) → (step meaning form machine by asked).machine.shell.rebuild ≡ rebuild_next
+      active by (told asked (step meaning form machine by asked)) machine.shell.rebuild
   rebuild-step asked = (told-step asked).0
 
   -- ---- a mark
@@ -486,7 +464,6 @@ module _ {C R I S : Type 0} (meaning : Meaning C R I S) (form : StrForm) (machin
   abbrev marked : CfId → Telling
   marked cf = telling_of {C = C} (what.Lost cf) (loss_step meaning form machine cf).reply
 
-  pub rebuild-loss : (cf : CfId)
-      → (loss_step meaning form machine cf).machine.shell.rebuild
-      ≡ rebuild_next active by (marked cf) machine.shell.rebuild
+  pub rebuild-loss : (cf : CfId) → (loss_step meaning form machine cf).machine.shell.rebuild ≡ rebuild_next
+      active by (marked cf) machine.shell.rebuild
   rebuild-loss cf = grind (arith, moves-loss, Work)

@@ -14,11 +14,10 @@ one_bit false = refl
 
 bit-word : (f : ℕ → Bool) (n k : ℕ) → k < n → bit_at (word_from f n) k ≡ one_if (f k)
 bit-word f zero k less = absurd (omega arith)
-bit-word f (suc n) k less =
-    elim (cases_lt k n) [
-      | inl low ↦ bit_at_cat_low (one_if (f n)) n (word_from f n) k low ∙ bit-word f n k low
-      | inr high ↦ grind (arith, bit_at_cat_high, word-small, one_bit)
-    ]
+bit-word f (suc n) k less = elim (cases_lt k n) [
+  | inl low ↦ bit_at_cat_low (one_if (f n)) n (word_from f n) k low ∙ bit-word f n k low
+  | inr high ↦ grind (arith, bit_at_cat_high, word-small, one_bit)
+]
 
 tells : (b : Bool) (v : ℕ) → v ≡ one_if b → (v == 1) ≡ b
 tells true v is = subst (λ k. (k == 1) ≡ true) (sym is) refl

@@ -14,10 +14,9 @@ unfolding whole_word
 whole_alike f g same = word_alike f g 32 same
 
 -- a word in which one bit was put
-pub bit_put : (f : ℕ → Bool) (bits after place : ℕ) (bit : Bool) → after < 2 ^ 32
-    → bit_at after place ≡ one_if bit
-    → ((k : ℕ) → k < 32 → k ≢ place → bit_at after k ≡ bit_at bits k)
-    → bits ≡ whole_word f → after ≡ whole_word (λ k. if k == place then bit else f k)
+pub bit_put : (f : ℕ → Bool) (bits after place : ℕ) (bit : Bool) → after < 2 ^ 32 → bit_at after place ≡ one_if bit
+    → ((k : ℕ) → k < 32 → k ≢ place → bit_at after k ≡ bit_at bits k) → bits ≡ whole_word f
+    → after ≡ whole_word (λ k. if k == place then bit else f k)
 bit_put f bits after place bit small here others was =
     same_from_bits_below 32 after (whole_word g) small (whole-small g) (λ k below. at k below (k == place) refl)
   where
@@ -52,36 +51,30 @@ words_none conns len count words is conn word some most within =
 -- ---- bits that are told
 
 -- the word of a bit that is told
-told_here : (len : ℕ) (bits : Bits) (change : BitChange) (conn word k : ℕ) → change.conn.0 ≡ conn
-    → change.index / 32 ≡ word → change.index < len → k < 32
-    → (if k == change.index % 32 then change.bit else bit_of len bits (record { 0 = conn }) (32 * word + k))
-    ≡ bit_of len (with_told bits change) (record { 0 = conn }) (32 * word + k)
+told_here : (len : ℕ) (bits : Bits) (change : BitChange) (conn word k : ℕ) → change.conn.0 ≡ conn → change.index
+    / 32 ≡ word → change.index < len → k < 32 → (if k == change.index % 32 then change.bit else bit_of len bits
+    (record { 0 = conn }) (32 * word + k)) ≡ bit_of len (with_told bits change) (record { 0 = conn }) (32 * word + k)
 told_here len bits change conn word k conns words below less = grind (arith, nat_tests)
 
 -- another word
-told_apart : (len : ℕ) (bits : Bits) (change : BitChange) (conn word k : ℕ) → k < 32
-    → ¬ IsAt conn word (record { conn = change.conn; word = change.index / 32 })
-    → bit_of len bits (record { 0 = conn }) (32 * word + k)
-    ≡ bit_of len (with_told bits change) (record { 0 = conn }) (32 * word + k)
+told_apart : (len : ℕ) (bits : Bits) (change : BitChange) (conn word k : ℕ)
+    → k < 32 → ¬ IsAt conn word (record { conn = change.conn; word = change.index / 32 }) → bit_of len bits
+    (record { 0 = conn }) (32 * word + k) ≡ bit_of len (with_told bits change) (record { 0 = conn }) (32 * word + k)
 told_apart len bits change conn word k less apart = grind (arith, nat_tests)
 
 -- the words, once a bit is told
-pub words_told : (conns len : ℕ) (old new : List ℕ) (bits : Bits) (change : BitChange) (after : ℕ)
-    → 0 < change.conn.0 → change.index < len
-    → ((f : ℕ → Bool) → word_at len old change.conn.0 (change.index / 32) ≡ whole_word f
-    → after ≡ whole_word (λ k. if k == change.index % 32 then change.bit else f k))
-    → word_at len new change.conn.0 (change.index / 32) ≡ after
-    → ((conn word : ℕ) → 0 < conn → word < words_of len
-    → ¬ IsAt conn word (record { conn = change.conn; word = change.index / 32 })
-    → word_at len new conn word ≡ word_at len old conn word)
+pub words_told : (conns len : ℕ) (old new : List ℕ) (bits : Bits) (change : BitChange) (after : ℕ) → 0 < change.conn.0
+    → change.index < len → ((f : ℕ → Bool) → word_at len old change.conn.0 (change.index / 32) ≡ whole_word f
+    → after ≡ whole_word (λ k. if k == change.index % 32 then change.bit else f k)) → word_at len new
+    change.conn.0 (change.index / 32) ≡ after → ((conn word : ℕ) → 0 < conn → word < words_of len → ¬ IsAt conn word
+    (record { conn = change.conn; word = change.index / 32 }) → word_at len new conn word ≡ word_at len old conn word)
     → AreWordsOf conns len old bits → AreWordsOf conns len new (with_told bits change)
 words_told conns len old new bits change after positive below changed here others were conn word some most within =
     go (change.conn.0 == conn) refl (change.index / 32 == word) refl
   where
     else_where : ¬ IsAt conn word (record { conn = change.conn; word = change.index / 32 })
         → word_at len new conn word ≡ word_in len (with_told bits change) conn word
-    else_where apart =
-        others conn word some within apart ∙ were conn word some most within
+    else_where apart = others conn word some within apart ∙ were conn word some most within
         ∙ whole_alike _ _ (λ k less. told_apart len bits change conn word k less apart)
 
     go : (b : Bool) → change.conn.0 == conn ≡ b → (e : Bool) → change.index / 32 == word ≡ e
@@ -100,11 +93,9 @@ words_past conns len words bits change past were conn word some most within =
     grind (arith, whole_alike, nat_tests, bit-past)
 
 -- one bit more
-pub told_more : (before : Bits) (changes : List BitChange) (i : ℕ) (d : BitChange) → i < length changes
-    → with_told (fold with_told before (take i changes)) (get_or changes i d)
-    ≡ fold with_told before (take (i + 1) changes)
-told_more before changes i d below =
-    sym (ap (fold with_told before) (take_more changes i d below)
+pub told_more : (before : Bits) (changes : List BitChange) (i : ℕ) (d : BitChange) → i < length changes → with_told
+    (fold with_told before (take i changes)) (get_or changes i d) ≡ fold with_told before (take (i + 1) changes)
+told_more before changes i d below = sym (ap (fold with_told before) (take_more changes i d below)
     ∙ fold_push with_told before (take i changes) (get_or changes i d))
 
 abbrev last_told : Bool → List Bool → Bool
@@ -122,27 +113,23 @@ last_is true false = refl
 last_is true true = refl
 
 -- all that changed
-pub words_gained : (conns len : ℕ) (words : List ℕ) (before after : Bits) (changes : List BitChange)
-    → Gains before after [] changes → AreWordsOf conns len words (fold with_told before changes)
-    → AreWordsOf conns len words after
+pub words_gained : (conns len : ℕ) (words : List ℕ) (before after : Bits) (changes : List BitChange) → Gains before
+    after [] changes → AreWordsOf conns len words (fold with_told before changes) → AreWordsOf conns len words after
 words_gained conns len words before after changes gains are conn word some most within =
     grind (arith, whole_alike, folded, last_is)
 
 -- the same where the words are another mirror's
 pub bit_taken : (old new : MirrorWords) (bits : Bits) (change : BitChange) (after : ℕ) → AreMirrorsOf old new
-    → 0 < change.conn.0 → change.index < old.len
-    → ((f : ℕ → Bool) → word_at old.len old.words change.conn.0 (change.index / 32) ≡ whole_word f
-    → after ≡ whole_word (λ k. if k == change.index % 32 then change.bit else f k))
-    → word_at new.len new.words change.conn.0 (change.index / 32) ≡ after
-    → ((conn word : ℕ) → 0 < conn → word < words_of old.len
-    → ¬ IsAt conn word (record { conn = change.conn; word = change.index / 32 })
+    → 0 < change.conn.0 → change.index < old.len → ((f : ℕ → Bool) → word_at old.len old.words change.conn.0
+    (change.index / 32) ≡ whole_word f → after ≡ whole_word (λ k. if k == change.index % 32 then change.bit else f k))
+    → word_at new.len new.words change.conn.0 (change.index / 32) ≡ after → ((conn word : ℕ)
+    → 0 < conn → word < words_of old.len → ¬ IsAt conn word (record { conn = change.conn; word = change.index / 32 })
     → word_at new.len new.words conn word ≡ word_at old.len old.words conn word)
     → AreWordsOf old.conns old.len old.words bits → AreWordsOf new.conns new.len new.words (with_told bits change)
-bit_taken old new bits change after table positive below changed here others were =
-    subst₂ (λ (n l : ℕ). AreWordsOf n l new.words (with_told bits change)) (sym table.0) (sym table.1)
-    (words_told old.conns old.len old.words new.words bits change after positive below changed
-    (ap (λ (l : ℕ). word_at l new.words change.conn.0 (change.index / 32)) (sym table.1) ∙ here)
-    (λ conn word some within apart. ap (λ (l : ℕ). word_at l new.words conn word) (sym table.1)
+bit_taken old new bits change after table positive below changed here others were = subst₂ (λ (n l : ℕ). AreWordsOf n
+    l new.words (with_told bits change)) (sym table.0) (sym table.1) (words_told old.conns old.len old.words new.words
+    bits change after positive below changed (ap (λ (l : ℕ). word_at l new.words change.conn.0 (change.index / 32))
+    (sym table.1) ∙ here) (λ conn word some within apart. ap (λ (l : ℕ). word_at l new.words conn word) (sym table.1)
     ∙ others conn word some within apart) were)
 
 -- one word that is put in leaves the others
@@ -157,15 +144,12 @@ put_other conns len words place number bits conn word here is some within apart 
 -- ---- words that are looked up
 
 pub looked_more : (start old new : MirrorWords) (bits : ℕ → ℕ → ℕ) (places : List Place) (i : ℕ) (d : Place)
-    → i < length places → AreMirrorsOf start old
-    → word_at new.len new.words (get_or places i d).conn.0 (get_or places i d).word
-    ≡ bits (get_or places i d).conn.0 (get_or places i d).word
-    → ((conn word : ℕ) → 0 < conn → word < words_of old.len → ¬ IsAt conn word (get_or places i d)
-    → word_at new.len new.words conn word ≡ word_at old.len old.words conn word)
-    → ((conn word : ℕ) → 0 < conn → word < words_of start.len
-    → IsSpared (take i places) conn word ⊎ (word_at old.len old.words conn word ≡ bits conn word))
-    → (conn word : ℕ) → 0 < conn → word < words_of start.len
-    → IsSpared (take (i + 1) places) conn word ⊎ (word_at new.len new.words conn word ≡ bits conn word)
+    → i < length places → AreMirrorsOf start old → word_at new.len new.words (get_or places i d).conn.0
+    (get_or places i d).word ≡ bits (get_or places i d).conn.0 (get_or places i d).word → ((conn word : ℕ) → 0 < conn
+    → word < words_of old.len → ¬ IsAt conn word (get_or places i d) → word_at new.len new.words conn word ≡ word_at
+    old.len old.words conn word) → ((conn word : ℕ) → 0 < conn → word < words_of start.len → IsSpared (take i places)
+    conn word ⊎ (word_at old.len old.words conn word ≡ bits conn word)) → (conn word : ℕ) → 0 < conn → word < words_of
+    start.len → IsSpared (take (i + 1) places) conn word ⊎ (word_at new.len new.words conn word ≡ bits conn word)
 looked_more start old new bits places i d below table here others was conn word some within =
     go (place.conn.0 == conn) refl (place.word == word) refl
   where
@@ -190,16 +174,14 @@ looked_more start old new bits places i d below table here others was conn word 
 
 -- every word was
 pub looked_all : (start new : MirrorWords) (vector : ℕ) (bits : Bits) (places : List Place) → AreMirrorsOf start new
-    → IsEvery start.conns start.len places → start.len ≡ vector
-    → ((conn word : ℕ) → 0 < conn → word < words_of start.len
-    → IsSpared places conn word ⊎ (word_at new.len new.words conn word ≡ word_in vector bits conn word))
+    → IsEvery start.conns start.len places → start.len ≡ vector → ((conn word : ℕ) → 0 < conn → word < words_of
+    start.len → IsSpared places conn word ⊎ (word_at new.len new.words conn word ≡ word_in vector bits conn word))
     → AreWordsOf new.conns new.len new.words bits
 looked_all start new vector bits places table every same are conn word some most within = grind arith
 
 -- the same bits by another name
-pub words_alike : (conns len : ℕ) (words : List ℕ) (before after : Bits)
-    → ((conn : ConnId) (index : ℕ) → before conn index ≡ after conn index)
-    → AreWordsOf conns len words before → AreWordsOf conns len words after
+pub words_alike : (conns len : ℕ) (words : List ℕ) (before after : Bits) → ((conn : ConnId) (index : ℕ)
+    → before conn index ≡ after conn index) → AreWordsOf conns len words before → AreWordsOf conns len words after
 words_alike conns len words before after same are conn word some most within = grind (arith, whole_alike)
 
 -- ---- stores of them
@@ -209,9 +191,8 @@ module _ {D : Type 0} where
       → AllByRecursion (λ place. one place.conn.0 place.word ≡ other place.conn.0 place.word) places
       → stores_of {D = D} len one number places ≡ stores_of {D = D} len other number places
   stores_same len one other number [] same = refl
-  stores_same len one other number (place ∷ places) same =
-      (λ i. Stored (word_number len place.conn.0 place.word) (same.0 i) number
-      ∷ stores_same len one other number places same.1 i)
+  stores_same len one other number (place ∷ places) same = (λ i. Stored (word_number len place.conn.0 place.word)
+      (same.0 i) number ∷ stores_same len one other number places same.1 i)
 
   pub stores_alike : (conns len : ℕ) (one other : ℕ → ℕ → ℕ) (named : List Place) (before after : SeatSeen D)
       → ((conn word : ℕ) → 0 < conn → conn ≤ conns → word < words_of len → one conn word ≡ other conn word)

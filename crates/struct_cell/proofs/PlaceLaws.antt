@@ -8,9 +8,8 @@ spared-front places place conn word spared =
     (All-pop (λ p. ¬ IsAt conn word p) (places ++ place ∷ []) places (Some place) refl spared).0
 
 -- a bit whose word isn't this one is another bit
-pub bit-apart : (change : BitChange) (conn : ConnId) (index : ℕ)
-    → ¬ IsAt conn.0 (index / 32) (record { conn = change.conn; word = change.index / 32 })
-    → is_for conn index change ≡ false
+pub bit-apart : (change : BitChange) (conn : ConnId) (index : ℕ) → ¬ IsAt conn.0 (index / 32)
+    (record { conn = change.conn; word = change.index / 32 }) → is_for conn index change ≡ false
 bit-apart change conn index apart = grind (arith, nat_tests)
 
 -- nor is a bit that the vectors don't have one that they have
@@ -35,27 +34,22 @@ bit-named named change place conn index is has spared = grind (arith, bit-apart,
 
 -- the words of one connector's vector, one more
 pub words-more : (places now : List Place) (conn n : ℕ)
-    → ((other word : ℕ) → IsSpared now other word → IsSpared places other word)
-    → (IsSpared now conn n → ⊥) → ((word : ℕ) → word < n → IsSpared places conn word → ⊥)
-    → (word : ℕ) → word < n + 1 → IsSpared now conn word → ⊥
-words-more places now conn n others here before word less spared =
-    elim (cases_lt word n) [
-      | inl low ↦ before word low (others conn word spared)
-      | inr high ↦ let same : word ≡ n = omega arith in here (subst (λ w. IsSpared now conn w) same spared)
-    ]
+    → ((other word : ℕ) → IsSpared now other word → IsSpared places other word) → (IsSpared now conn n → ⊥)
+    → ((word : ℕ) → word < n → IsSpared places conn word → ⊥) → (word : ℕ) → word < n + 1 → IsSpared now conn word → ⊥
+words-more places now conn n others here before word less spared = elim (cases_lt word n) [
+  | inl low ↦ before word low (others conn word spared)
+  | inr high ↦ let same : word ≡ n = omega arith in here (subst (λ w. IsSpared now conn w) same spared)
+]
 
 -- the vectors of connectors, one more
-pub vectors-more : (places now : List Place) (words n : ℕ)
-    → ((conn word : ℕ) → IsSpared now conn word → IsSpared places conn word)
-    → ((word : ℕ) → word < words → IsSpared now (n + 1) word → ⊥)
+pub vectors-more : (places now : List Place) (words n : ℕ) → ((conn word : ℕ) → IsSpared now conn word
+    → IsSpared places conn word) → ((word : ℕ) → word < words → IsSpared now (n + 1) word → ⊥)
     → ((conn word : ℕ) → 0 < conn → conn ≤ n → word < words → IsSpared places conn word → ⊥)
     → (conn word : ℕ) → 0 < conn → conn ≤ n + 1 → word < words → IsSpared now conn word → ⊥
-vectors-more places now words n others here before conn word some most below spared =
-    elim (cases_lt conn (n + 1)) [
-      | inl low ↦ before conn word some (omega arith) below (others conn word spared)
-      | inr high ↦ let same : conn ≡ n + 1 = omega arith in here word below
-          (subst (λ c. IsSpared now c word) same spared)
-    ]
+vectors-more places now words n others here before conn word some most below spared = elim (cases_lt conn (n + 1)) [
+  | inl low ↦ before conn word some (omega arith) below (others conn word spared)
+  | inr high ↦ let same : conn ≡ n + 1 = omega arith in here word below (subst (λ c. IsSpared now c word) same spared)
+]
 
 -- each of distinct places is spared by those before it
 pub spared-before : (places : List Place) (i : ℕ) (d : Place) → i < length places → AreDistinct places

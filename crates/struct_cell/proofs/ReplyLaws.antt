@@ -8,9 +8,8 @@ module _ {C R : Type 0} where
   CountFrom before [] = Unit {0}
   CountFrom before (entry ∷ entries) = (entry.no ≡ before + 1) × CountFrom (before + 1) entries
 
-  count_from : (before : ℕ) (entries : List (Entry C R))
-      → ((i : ℕ) (entry : Entry C R) → slice_get entries i ≡ Some entry → entry.no ≡ before + i + 1)
-      → CountFrom before entries
+  count_from : (before : ℕ) (entries : List (Entry C R)) → ((i : ℕ) (entry : Entry C R)
+      → slice_get entries i ≡ Some entry → entry.no ≡ before + i + 1) → CountFrom before entries
   count_from before [] each = tt
   count_from before (entry ∷ entries) each = (
     (let here : entry.no ≡ before + 0 + 1 = each 0 entry refl in omega (arith, here)),
@@ -49,9 +48,8 @@ module _ {C R : Type 0} where
       ≡ option_and_then (reply_for owner) (slice_get entries i)) same (reply_there owner 0 entries i count))
 
 module _ {C R I S L : Type 0} (asks : L → Option ℕ) (downs : L → Option (List ℕ)) (faults : L → ℕ)
-    (meaning : Meaning C R I S) (key : CellKey C R L) (limit : ℕ) (standing : StructureView S L)
-    (touched : VectorWords)
-    (journal : List (Entry C R)) (seat : SeatSeen (About C R))
+    (meaning : Meaning C R I S) (key : CellKey C R L) (limit : ℕ)
+    (standing : StructureView S L) (touched : VectorWords) (journal : List (Entry C R)) (seat : SeatSeen (About C R))
     (cell : IsCell asks downs faults meaning key limit standing touched journal seat) where
   -- of a cell's journal the entry of a number has for a caller what the caller's call of that number was replied
   pub reply_own : (owner : ConnId) (mine : List (ℕ × About C R)) (number : ℕ) → mine ≡ calls_of owner.0 seat.log
@@ -59,7 +57,6 @@ module _ {C R I S L : Type 0} (asks : L → Option ℕ) (downs : L → Option (L
   reply_own owner mine number is =
       let all : mine ≡ heard owner journal =
       is ∙ ap (calls_in owner.0) cell.commits ∙ own_calls owner.0 (calls journal) in
-      sym (ap (reply_to number) all ∙ reply_numbered owner journal number
-      (count_from 0 journal (λ i entry there.
-      (let no : entry.no ≡ i + 1 = number_legal meaning key.form journal cell.legal i entry there in
+      sym (ap (reply_to number) all ∙ reply_numbered owner journal number (count_from 0 journal
+      (λ i entry there. (let no : entry.no ≡ i + 1 = number_legal meaning key.form journal cell.legal i entry there in
       omega (arith, no)))))

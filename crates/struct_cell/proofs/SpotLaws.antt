@@ -17,8 +17,7 @@ numbered conns len one other this that same =
 -- one more
 pub spotted_push : (conns len : ℕ) (places : List Place) (spots : List ℕ) (place : Place) (number : ℕ)
     → AreSpotted conns len places spots → IsWithin conns len place → number ≡ number_in len place
-    → number < length spots
-    → ((k : ℕ) → get_or spots number 0 ≡ k → slice_get places k ≢ Some place)
+    → number < length spots → ((k : ℕ) → get_or spots number 0 ≡ k → slice_get places k ≢ Some place)
     → AreSpotted conns len (places ++ place ∷ []) (set spots number (length places))
 spotted_push conns len places spots place number is here number_is below absent = record {
   within = All-push (IsWithin conns len) places place is.within here;
@@ -38,6 +37,5 @@ spotted_push conns len places spots place number is here number_is below absent 
 -- ---- places in order
 
 -- what comes before a word of a connector comes before all words of the next one
-pub before_next : (places : List Place) (conn word : ℕ) → ComeBefore places conn word
-    → ComeBefore places (conn + 1) 0
+pub before_next : (places : List Place) (conn word : ℕ) → ComeBefore places conn word → ComeBefore places (conn + 1) 0
 before_next places conn word before = grind (arith, All-weaker)

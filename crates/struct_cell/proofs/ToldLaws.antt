@@ -7,8 +7,7 @@ module _ {C R : Type 0} where
   contains_number all k d below = (
     k,
     subst (λ (n : ℕ). k < n) (sym (length-map all (λ (c : Call C R). c.no))) below,
-    get_or-map
-        (λ (c : Call C R). c.no) all k d (get_or all k d).no below,
+    get_or-map (λ (c : Call C R). c.no) all k d (get_or all k d).no below,
   )
 
   -- the calls of one caller among commits are those of the history
@@ -18,18 +17,15 @@ module _ {C R : Type 0} where
   own_calls owner (call ∷ all) = grind (arith, own_calls owner all)
 
 module _ {C R I S L : Type 0} (asks : L → Option ℕ) (downs : L → Option (List ℕ)) (faults : L → ℕ)
-    (meaning : Meaning C R I S) (key : CellKey C R L) (limit : ℕ) (standing : StructureView S L)
-    (touched : VectorWords)
-    (journal : List (Entry C R)) (seat : SeatSeen (About C R))
+    (meaning : Meaning C R I S) (key : CellKey C R L) (limit : ℕ)
+    (standing : StructureView S L) (touched : VectorWords) (journal : List (Entry C R)) (seat : SeatSeen (About C R))
     (cell : IsCell asks downs faults meaning key limit standing touched journal seat) where
   -- a number that was issued is a point of the journal
   pub issued_point : (n : ℕ) → IsIssued seat.log seat.number n → IsPoint journal n
   issued_point n (inl none) = inl none
-  issued_point n (inr (inl done)) =
-      inr (committed-all (λ (k : ℕ). Contains (numbers journal) k) seat.log n
-      (subst (All (λ c. Contains (numbers journal) c.number)) (sym cell.commits)
-      (All-map (λ c. Contains (numbers journal) c.number) commit_of (calls journal)
-      (contains_number (calls journal)))) done)
+  issued_point n (inr (inl done)) = inr (committed-all (λ (k : ℕ). Contains (numbers journal) k)
+      seat.log n (subst (All (λ c. Contains (numbers journal) c.number)) (sym cell.commits) (All-map
+      (λ c. Contains (numbers journal) c.number) commit_of (calls journal) (contains_number (calls journal)))) done)
   issued_point n (inr (inr flying)) = inl (flying ∙ cell.idle)
 
   pub issued_within : (n : ℕ) → IsIssued seat.log seat.number n → n ≤ length journal
@@ -52,13 +48,11 @@ module _ {C R I S L : Type 0} (asks : L → Option ℕ) (downs : L → Option (L
       let numbered = numbered_legal meaning key.form journal cell.legal in
       let point : IsPoint journal test.at = issued_point test.at honest.issued in
       let bits_of : ℕ → ℕ
-      → Bool = λ len n. bit_in
-      (bits_at (steps_of seat.log) (word_number len owner (test.index / 32)) n) test.index in
+      → Bool = λ len n. bit_in (bits_at (steps_of seat.log) (word_number len owner (test.index / 32)) n) test.index in
       let within : test.index / 32 < words_of key.form.vector = subst
       (λ (n : ℕ). test.index / 32 < words_of n) cell.len honest.within in
       let at_number : (n : ℕ) → bits_of key.words.len n ≡ shown_below meaning key.form journal (n + 1) conn test.index
-      =
-      λ n. ap (λ (len : ℕ). bits_of len n) cell.len ∙ cell.bits n test.index conn honest.connector most within in
+      = λ n. ap (λ (len : ℕ). bits_of len n) cell.len ∙ cell.bits n test.index conn honest.connector most within in
       let here : shown_below meaning key.form journal (test.at + 1) conn test.index ≡ shown_after meaning key.form
       (take test.at journal) conn test.index = grind arith in
       let before : test.sure < test.at → shown_below meaning key.form journal (test.at - 1 + 1) conn test.index
@@ -79,8 +73,7 @@ module _ {C R I S L : Type 0} (asks : L → Option ℕ) (downs : L → Option (L
       let most : pass.owner ≤ key.callers = subst (λ (n : ℕ). pass.owner ≤ n)
       (ap (λ w. w.conns) table ∙ cell.conns) shown.owner in
       All-weaker (IsHonest seat.log seat.number pass.table.len pass.owner)
-      (IsTold meaning key.form journal pass.owner)
-      (λ test honest. told pass.owner test most
+      (IsTold meaning key.form journal pass.owner) (λ test honest. told pass.owner test most
       (subst (λ w. IsHonest seat.log seat.number w.len pass.owner test) table honest)) pass.tests shown.tests
 
   pub mine_own : (pass : PassSeen (About C R)) → IsShown seat pass
@@ -90,12 +83,10 @@ module _ {C R I S L : Type 0} (asks : L → Option ℕ) (downs : L → Option (L
 -- ---- a cell that is closed
 
 module _ {C R I S L : Type 0} (asks : L → Option ℕ) (downs : L → Option (List ℕ)) (faults : L → ℕ)
-    (meaning : Meaning C R I S) (key seen : CellKey C R L) (limit : ℕ)
-    (standing : StructureView S L) (touched : VectorWords)
-    (journal history : List (Entry C R)) (seat : SeatSeen (About C R))
-    (passes : List (PassSeen (About C R)))
-    (cell : IsCell asks downs faults meaning key limit standing touched journal seat) (key_is : key ≡ seen)
-    (history_is : history ≡ journal) where
+    (meaning : Meaning C R I S) (key seen : CellKey C R L) (limit : ℕ) (standing : StructureView S L)
+    (touched : VectorWords) (journal history : List (Entry C R)) (seat : SeatSeen (About C R))
+    (passes : List (PassSeen (About C R))) (cell : IsCell asks downs faults meaning key limit
+    standing touched journal seat) (key_is : key ≡ seen) (history_is : history ≡ journal) where
   -- its links, with those that are handed out
   pub closed_links : (handed : Links L) → handed ≡ standing.links
       → AreAsked asks downs faults (answers meaning seen.form history) seen.links handed
@@ -104,26 +95,19 @@ module _ {C R I S L : Type 0} (asks : L → Option ℕ) (downs : L → Option (L
   pub closed_callers : All (λ (call : Call C R). call.by.0 ≤ seen.callers) (calls history)
   closed_callers = grind arith
 
-  pub closed_mine : All (IsShown seat) passes
-      → All (λ (pass : PassSeen (About C R)). pass.mine ≡ map own_call_of (own history (record { 0 = pass.owner })))
-      passes
-  closed_mine shown =
-      subst (λ (h : List (Entry C R)). All
-      (λ (pass : PassSeen (About C R)). pass.mine ≡ map own_call_of (own h (record { 0 = pass.owner }))) passes)
-      (sym history_is)
-      (All-weaker (IsShown seat)
+  pub closed_mine : All (IsShown seat) passes → All
+      (λ (pass : PassSeen (About C R)). pass.mine ≡ map own_call_of (own history (record { 0 = pass.owner }))) passes
+  closed_mine shown = subst (λ (h : List (Entry C R)). All (λ (pass : PassSeen (About C R)). pass.mine ≡ map
+      own_call_of (own h (record { 0 = pass.owner }))) passes) (sym history_is) (All-weaker (IsShown seat)
       (λ (pass : PassSeen (About C R)). pass.mine ≡ map own_call_of (own journal (record { 0 = pass.owner })))
-      (λ pass it. mine_own asks downs faults meaning key limit standing touched journal seat cell pass it) passes shown)
+      (λ pass it. mine_own asks downs faults meaning key limit standing touched journal seat cell pass it)
+      passes shown)
 
   pub closed_known : All (IsShown seat) passes
       → All (λ (pass : PassSeen (About C R)). IsPoint history pass.known × (pass.known ≤ length history)) passes
-  closed_known shown =
-      subst (λ (h : List (Entry C R)).
-      All (λ (pass : PassSeen (About C R)). IsPoint h pass.known × (pass.known ≤ length h)) passes)
-      (sym history_is)
-      (All-weaker (IsShown seat)
-      (λ (pass : PassSeen (About C R)). IsPoint journal pass.known × (pass.known ≤ length journal))
-      (λ pass it. (
+  closed_known shown = subst (λ (h : List (Entry C R)). All (λ (pass : PassSeen (About C R)). IsPoint h pass.known
+      × (pass.known ≤ length h)) passes) (sym history_is) (All-weaker (IsShown seat)
+      (λ (pass : PassSeen (About C R)). IsPoint journal pass.known × (pass.known ≤ length journal)) (λ pass it. (
         issued_point asks downs faults meaning key limit standing touched journal seat cell pass.known it.known,
         issued_within asks downs faults meaning key limit standing touched journal seat cell pass.known it.known,
       )) passes shown)

@@ -17,9 +17,8 @@ module _ {C R : Type 0} where
   told-number number ask (reply.Refused refusal) = refl
 
   -- the number of the call behind them is above what was known
-  pub number-later : (journal after : List (Entry C R)) (marks : List Mark) (known number told : ℕ)
-      → known ≤ length journal → after ≡ entered journal marks → number ≡ length after + 1 → told ≡ number
-      → known < told
+  pub number-later : (journal after : List (Entry C R)) (marks : List Mark) (known number told : ℕ) → known ≤ length
+      journal → after ≡ entered journal marks → number ≡ length after + 1 → told ≡ number → known < told
   number-later journal after marks known number told most is number_is told_is = grind (arith, length-entered)
 
   -- with the marks of a call that found room the journal is hardly longer
@@ -28,16 +27,14 @@ module _ {C R : Type 0} where
   count-entered journal after marks limit below two is = grind (arith, length-entered)
 
   -- one mark more
-  pub entered-more : (journal now after : List (Entry C R)) (marks : List Mark) (i : ℕ) (d : Mark) (number : ℕ)
-      (told : ShellReply) → i < length marks → now ≡ entered journal (take i marks) → number ≡ length now + 1
-      → told ≡ (let mark = get_or marks i d in reply_as mark.lost)
-      → after ≡ now ++ record {
+  pub entered-more : (journal now after : List (Entry C R)) (marks : List Mark) (i : ℕ) (d : Mark)
+      (number : ℕ) (told : ShellReply) → i < length marks → now ≡ entered journal (take i marks)
+      → number ≡ length now + 1 → told ≡ (let mark = get_or marks i d in reply_as mark.lost) → after ≡ now ++ record {
         no = number;
         by = operator;
         what = what.Lost (get_or marks i d).cf;
         reply = reply.Shell told;
-      } ∷ []
-      → after ≡ entered journal (take (i + 1) marks)
+      } ∷ [] → after ≡ entered journal (take (i + 1) marks)
   entered-more journal now after marks i d number told below was number_is told_is more =
       let mark : Mark = get_or marks i d in
       more
@@ -52,26 +49,22 @@ module _ {C R : Type 0} where
         by = operator;
         what = what.Lost mark.cf;
         reply = reply.Shell r;
-      } in now ++ entry ∷ [])) told_is
-      ∙ ap (λ (h : List (Entry C R)). with_entry h mark) was
-      ∙ sym (fold_push with_entry journal (take i marks) mark)
-      ∙ ap (entered journal) (sym (take_more marks i d below))
+      } in now ++ entry ∷ [])) told_is ∙ ap (λ (h : List (Entry C R)). with_entry h mark) was ∙ sym (fold_push
+      with_entry journal (take i marks) mark) ∙ ap (entered journal) (sym (take_more marks i d below))
 
 module _ {C R I S : Type 0} (meaning : Meaning C R I S) (form : StrForm) where
   -- marks that tell what is lost are those of the history
-  pub entered-told : (journal : List (Entry C R)) (cfs : List CfId) (marks : List Mark)
-      → AreTold meaning form (replay meaning form journal) cfs marks
-      → entered journal marks ≡ with_marks meaning form journal cfs
+  pub entered-told : (journal : List (Entry C R)) (cfs : List CfId) (marks : List Mark) → AreTold meaning
+      form (replay meaning form journal) cfs marks → entered journal marks ≡ with_marks meaning form journal cfs
   entered-told journal [] [] told = refl
   entered-told journal [] (mark ∷ marks) told = absurd told
   entered-told journal (cf ∷ cfs) [] told = absurd told
-  entered-told journal (cf ∷ cfs) (mark ∷ marks) told =
-      grind (
-        arith,
-        replay-push,
-        entered-told (with_mark meaning form journal cf) cfs marks (
-            grind (arith, replay-push)),
-      )
+  entered-told journal (cf ∷ cfs) (mark ∷ marks) told = grind (
+    arith,
+    replay-push,
+    entered-told (with_mark meaning form journal cf) cfs marks (
+        grind (arith, replay-push)),
+  )
 
   -- as many as there are losses
   pub told-length : (machine : Machine S) (cfs : List CfId) (marks : List Mark)
@@ -82,9 +75,8 @@ module _ {C R I S : Type 0} (meaning : Meaning C R I S) (form : StrForm) where
   told-length machine (cf ∷ cfs) (mark ∷ marks) told =
       ap (λ (n : ℕ). suc n) (told-length (lost_at meaning form machine cf) cfs marks told.2)
 
-  pub replay-marks : (journal : List (Entry C R)) (cfs : List CfId)
-      → replay meaning form (with_marks meaning form journal cfs)
-      ≡ behind_marks meaning form (replay meaning form journal) cfs
+  pub replay-marks : (journal : List (Entry C R)) (cfs : List CfId) → replay meaning form
+      (with_marks meaning form journal cfs) ≡ behind_marks meaning form (replay meaning form journal) cfs
   replay-marks journal [] = refl
   replay-marks journal (cf ∷ cfs) = grind (arith, replay-push, replay-marks (with_mark meaning form journal cf) cfs)
 
@@ -104,17 +96,15 @@ module _ {C R I S L : Type 0} (asks : L → Option ℕ) (downs : L → Option (L
   few_marks old new by ask marks reply it = grind (arith, told-length, marks_few, two_asked)
 
   -- the same turn of the structure that a journal leads to
-  pub turn_at : (form : StrForm) (machine : Machine S) (old new : StructureView S L) (by : ConnId) (ask : Ask C)
-      (marks : List Mark) (reply : Reply R) → old.form ≡ form → old.machine ≡ machine
-      → IsTurn asks downs faults meaning old new by ask marks reply
-      → IsTurn asks downs faults meaning (record { form = form; machine = machine; links = old.links }) new by ask marks
-      reply
+  pub turn_at : (form : StrForm) (machine : Machine S) (old new : StructureView S L) (by : ConnId)
+      (ask : Ask C) (marks : List Mark) (reply : Reply R) → old.form ≡ form → old.machine ≡ machine
+      → IsTurn asks downs faults meaning old new by ask marks reply → IsTurn asks downs faults
+      meaning (record { form = form; machine = machine; links = old.links }) new by ask marks reply
   turn_at form machine old new by ask marks reply form_is machine_is it = grind arith
 
   pub taken : (form : StrForm) (journal : List (Entry C R)) (links : Links L) (new : StructureView S L)
-      (by : ConnId) (ask : Ask C) (marks : List Mark) (reply : Reply R)
-      → (it : IsTurn asks downs faults meaning
-      (record { form = form; machine = replay meaning form journal; links = links }) new by ask marks reply)
+      (by : ConnId) (ask : Ask C) (marks : List Mark) (reply : Reply R) → (it : IsTurn asks downs faults
+      meaning (record { form = form; machine = replay meaning form journal; links = links }) new by ask marks reply)
       → IsTaken meaning form journal (record { by = by; ask = ask; down = it.down }) new.machine marks reply
   taken form journal links new by ask marks reply it = grind (arith, replay-marks, entered-told, replay-push)
 
@@ -157,11 +147,9 @@ module _ {C R I S : Type 0} (meaning : Meaning C R I S) (form : StrForm) where
   numbers-turn history turn = grind (arith, calls-turn, map-append, call_added)
 
   -- a legal history ends with a call
-  ends_at : (history : List (Entry C R)) → IsLegal meaning form history
-      → last_of 0 (numbers history) ≡ length history
-  ends_at history legal =
-      by_turns meaning form (λ (h : List (Entry C R)). last_of 0 (numbers h) ≡ length h) refl
-      (grind (arith, numbers-turn, fold_push, number_added, length-turn)) history legal
+  ends_at : (history : List (Entry C R)) → IsLegal meaning form history → last_of 0 (numbers history) ≡ length history
+  ends_at history legal = by_turns meaning form (λ (h : List (Entry C R)). last_of 0 (numbers h) ≡ length h)
+      refl (grind (arith, numbers-turn, fold_push, number_added, length-turn)) history legal
 
   -- one more turn, where there was room
   pub room_more : (limit : ℕ) (history : List (Entry C R)) (turn : Turn C) → IsLegal meaning form history

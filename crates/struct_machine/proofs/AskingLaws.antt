@@ -23,9 +23,8 @@ reached_last stops d None = refl
 reached_last stops d (Some x) = grind arith
 
 -- both are asked, unless the first ends that
-reached_both : (stops : Bool) (d : CfId → Bool) (first second : Option CfId)
-    → ((cf : CfId) → has (listed first) cf ≡ true → stops && d cf ≡ false)
-    → reached stops d (listed first ++ listed second) ≡ listed first ++ listed second
+reached_both : (stops : Bool) (d : CfId → Bool) (first second : Option CfId) → ((cf : CfId) → has (listed first) cf
+    ≡ true → stops && d cf ≡ false) → reached stops d (listed first ++ listed second) ≡ listed first ++ listed second
 reached_both stops d None second goes = reached_last stops d second
 reached_both stops d (Some x) second goes = grind (arith, itself, reached_last)
 
@@ -42,24 +41,19 @@ goes_on true (Some x) other cf goes none = absurd cc
 
 -- where the first doesn't end it, the answers are those of the two
 answers_both : (first second lost other : Option CfId) (stops : Bool) (cf : CfId)
-    → AreDistinct (listed first ++ listed second)
-    → listed lost ≡ marks_of (has (listed lost)) (alone first)
-    → listed other ≡ marks_of (has (listed other)) (alone second)
-    → stops && is_some lost ≡ false
+    → AreDistinct (listed first ++ listed second) → listed lost ≡ marks_of (has (listed lost)) (alone first)
+    → listed other ≡ marks_of (has (listed other)) (alone second) → stops && is_some lost ≡ false
     → answers_to (has (listed lost ++ listed other)) (record { links = listed first ++ listed second; stops = stops })
-    cf
-    ≡ answers_to (has (listed lost)) (alone first) cf ++ answers_to (has (listed other)) (alone second) cf
+    cf ≡ answers_to (has (listed lost)) (alone first) cf ++ answers_to (has (listed other)) (alone second) cf
 answers_both first second lost other stops cf distinct here there goes =
     grind (arith, reached_both, goes_on, not_told, distinct_parts, reached_last, has-append, or_false)
 
 module _ {L : Type 0} (calls : L → Option ℕ) (downs : L → Option (List ℕ)) (faults : L → ℕ) where
   -- the two places, one after the other
   pub asked_both : (asked : Asked) (lost other : Option CfId) (old middle new : Links L)
-      → (let asks = asks_in asked in AreDistinct asks.links)
-      → listed lost ≡ marks_of (has (listed lost)) (alone asked.first)
-      → listed other ≡ marks_of (has (listed other)) (alone asked.second)
-      → asked.stops && is_some lost ≡ false
-      → AreAsked calls downs faults (answers_to (has (listed lost)) (alone asked.first)) old middle
+      → (let asks = asks_in asked in AreDistinct asks.links) → listed lost ≡ marks_of (has (listed lost))
+      (alone asked.first) → listed other ≡ marks_of (has (listed other)) (alone asked.second) → asked.stops && is_some
+      lost ≡ false → AreAsked calls downs faults (answers_to (has (listed lost)) (alone asked.first)) old middle
       → AreAsked calls downs faults (answers_to (has (listed other)) (alone asked.second)) middle new
       → AreAsked calls downs faults (answers_to (has (listed lost ++ listed other)) (asks_in asked)) old new
   asked_both asked lost other old middle new distinct here there goes one two =
@@ -72,9 +66,8 @@ filtered : (at lost : Option CfId) (others : List CfId) → listed lost ≡ mark
     → filter (has (listed lost ++ others)) (listed at) ≡ listed lost
 filtered at lost others here apart_so = grind (arith, filter_agreed, has-append, or_false, reached_last)
 
-filtered_behind : (at other : Option CfId) (others : List CfId) → listed other ≡ marks_of (has (listed other)) (alone
-    at)
-    → ((cf : CfId) → has (listed at) cf ≡ true → has others cf ≡ false)
+filtered_behind : (at other : Option CfId) (others : List CfId) → listed other ≡ marks_of
+    (has (listed other)) (alone at) → ((cf : CfId) → has (listed at) cf ≡ true → has others cf ≡ false)
     → filter (has (others ++ listed other)) (listed at) ≡ listed other
 filtered_behind at other others here apart_so = grind (arith, filter_agreed, has-append, reached_last)
 
@@ -82,24 +75,21 @@ distinct_behind : (xs ys : List CfId) (cf : CfId) → AreDistinct (xs ++ ys) →
 distinct_behind xs ys cf distinct there = grind (arith, both_ways, distinct_parts)
 
 -- where the first doesn't end it, those that are down are those of the two
-pub marks_both : (asked : Asked) (lost other : Option CfId)
-    → (let asks = asks_in asked in AreDistinct asks.links)
+pub marks_both : (asked : Asked) (lost other : Option CfId) → (let asks = asks_in asked in AreDistinct asks.links)
     → listed lost ≡ marks_of (has (listed lost)) (alone asked.first)
-    → listed other ≡ marks_of (has (listed other)) (alone asked.second)
-    → asked.stops && is_some lost ≡ false
+    → listed other ≡ marks_of (has (listed other)) (alone asked.second) → asked.stops && is_some lost ≡ false
     → listed lost ++ listed other ≡ marks_of (has (listed lost ++ listed other)) (asks_in asked)
-marks_both asked lost other distinct here there goes =
-    grind (
-      arith,
-      filter-append,
-      reached_both,
-      goes_on,
-      not_told,
-      distinct_parts,
-      filtered,
-      filtered_behind,
-      distinct_behind,
-    )
+marks_both asked lost other distinct here there goes = grind (
+  arith,
+  filter-append,
+  reached_both,
+  goes_on,
+  not_told,
+  distinct_parts,
+  filtered,
+  filtered_behind,
+  distinct_behind,
+)
 
 -- ---- a single link
 

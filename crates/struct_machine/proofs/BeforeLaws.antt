@@ -19,8 +19,7 @@ left_none shell who fresh none = grind arith
 
 -- a departure leaves no item that the deeds don't take as well
 pub left_copied : (shell : Shell) (who : Option Leaver) (fresh : Option Fresh) (deeds : Deeds)
-    → (copied_in fresh ≡ 0)
-    ⊎ ((deeds.restart || (deeds.switch || (deeds.drop_fresh || deeds.drop_all))) ≡ true)
+    → (copied_in fresh ≡ 0) ⊎ ((deeds.restart || (deeds.switch || (deeds.drop_fresh || deeds.drop_all))) ≡ true)
     → copied_after deeds (copied_in (fresh_left shell who fresh)) ≡ copied_after deeds (copied_in fresh + 0)
 left_copied shell who fresh deeds (inl none) = grind (arith, left_none)
 left_copied shell who fresh deeds (inr emptied) = rw emptied refl
@@ -55,9 +54,8 @@ connect_makes : (primary place : Option CfId) → is_some (if is_none primary th
 connect_makes None place some = refl
 connect_makes (Some cf) place some = absurd (cc)
 
-connection_makes : (form : StrForm) (shell : Shell) (by : ConnId) (rebuild : Option Rebuild)
-    → is_some (rebuild_connect_outcome form shell by rebuild).deeds.make ≡ true
-    → not (is_some (fresh_of rebuild)) ≡ true
+connection_makes : (form : StrForm) (shell : Shell) (by : ConnId) (rebuild : Option Rebuild) → is_some
+    (rebuild_connect_outcome form shell by rebuild).deeds.make ≡ true → not (is_some (fresh_of rebuild)) ≡ true
 connection_makes form shell by None some = absurd (cc)
 connection_makes form shell by (Some rebuild) some = connect_makes rebuild.fresh _ some
 
@@ -102,14 +100,10 @@ module _ {C R I S : Type 0} (meaning : Meaning C R I S) (form : StrForm) (room :
     (by : ConnId) where
   pub sudden : (command : ShellCmd) → MakesOrSwitches (deeds_of form room acting by command)
       → IsSudden meaning shell by command
-  sudden cmd.Disconnect (inl some) = absurd (cc)
-  sudden cmd.Disconnect (inr does) = absurd (cc)
-  sudden cmd.Fail (inl some) = absurd (cc)
-  sudden cmd.Fail (inr does) = absurd (cc)
-  sudden (cmd.Copy n) (inl some) = absurd (cc)
-  sudden (cmd.Copy n) (inr does) = absurd (cc)
-  sudden (cmd.ForceConn other) (inl some) = absurd (cc)
-  sudden (cmd.ForceConn other) (inr does) = absurd (cc)
+  sudden cmd.Disconnect either = grind arith
+  sudden cmd.Fail either = grind arith
+  sudden (cmd.Copy n) either = grind arith
+  sudden (cmd.ForceConn other) either = grind arith
   sudden command either = record { nobody = refl; nothing = λ held fresh. refl }
 
 -- a second instance is made with no departure before
@@ -130,14 +124,8 @@ pub switched_caps : (fresh : Option Fresh) (shell : Shell) (size : Caps) → cap
     → is_some fresh ≡ true → caps_or fresh size ≡ caps_made shell
 switched_caps fresh shell size same stands = grind arith
 
-pub nobody_taken : (back : Option ConnId) (rebuild : Option Rebuild) → (is_some back ≡ true → rebuild ≡ None)
-    → is_some rebuild ≡ true → back ≡ None
-nobody_taken None rebuild idle under = refl
-nobody_taken (Some conn) rebuild idle under =
-    absurd (let wrong : false ≡ true = ap is_some (sym (idle refl)) ∙ under in cc)
-
-pub no_second : (second : Option CfId) (rebuild : Option Rebuild) → (is_some second ≡ true → rebuild ≡ None)
-    → is_some rebuild ≡ true → second ≡ None
-no_second None rebuild idle under = refl
-no_second (Some cf) rebuild idle under =
-    absurd (let wrong : false ≡ true = ap is_some (sym (idle refl)) ∙ under in cc)
+-- what isn't there in a rebuild isn't there under one
+pub none_under : {X : Type 0} (there : Option X) (rebuild : Option Rebuild) → (is_some there ≡ true → rebuild ≡ None)
+    → is_some rebuild ≡ true → there ≡ None
+none_under None rebuild idle under = refl
+none_under (Some x) rebuild idle under = absurd (let wrong : false ≡ true = ap is_some (sym (idle refl)) ∙ under in cc)

@@ -10,8 +10,7 @@ filter_none p (x ∷ xs) none = rw none.0 (filter_none p xs none.1)
 
 -- nothing is told of a bit that isn't named
 told_unnamed : (changes : List BitChange) (conn : ConnId) (index : ℕ)
-    → All (λ change. is_for conn index change ≡ false) changes
-    → bits_told changes conn index ≡ []
+    → All (λ change. is_for conn index change ≡ false) changes → bits_told changes conn index ≡ []
 told_unnamed changes conn index unnamed = grind (arith, filter_none, recursion_from_All)
 
 difference_same : (a b : Bool) → difference a b ≡ [] → b ≡ a
@@ -44,8 +43,7 @@ gains_held meaning form (Some was) (Some now) bits stands left gains = gains
 module _ {C R I S : Type 0} (meaning : Meaning C R I S) (form : StrForm) (machine : Machine S) (by : ConnId)
     (marks : List Mark) (all : Bool) where
   -- a call that is refused
-  pub refused_all : (call : Ask C) (refusal : Refusal)
-      → call_cause form (room_of meaning form machine) machine.shell by call ≡ Some refusal
-      → marks ≡ [] → all ≡ false → all ≡ may_be_any meaning form machine by call marks
+  pub refused_all : (call : Ask C) (refusal : Refusal) → call_cause form (room_of meaning form machine) machine.shell
+      by call ≡ Some refusal → marks ≡ [] → all ≡ false → all ≡ may_be_any meaning form machine by call marks
   refused_all (ask.Shell command) refusal is unmarked quiet = grind arith
   refused_all (ask.Content command) refusal is unmarked quiet = quiet ∙ sym (ap any_failure unmarked)

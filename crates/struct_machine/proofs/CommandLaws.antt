@@ -7,15 +7,13 @@ use Rattle.struct_machine.proofs.ToldLaws.{manned-told, filled-told}
 use Rattle.struct_machine.proofs.DeedLaws.{IsEmptyOf, AreIdle, back_caller, caps_past, copied_past, of_past, state_past}
 use Rattle.struct_machine.proofs.InstanceLaws.{IsPlacing, IsSeconding, IsDropping, placing_command, facility_behind}
 use Rattle.struct_machine.proofs.KeptLaws.{caps_none, fresh_none, fresh_stands, fresh_under, held_stands, rebuild_held, room_left}
-use Rattle.struct_machine.proofs.BeforeLaws.{IsSudden, MakesOrSwitches, adds_quietly, before_caps, copied_more, left_copied, making, no_second, nobody_taken, nothing_lacks, same_empty, same_more, seconding, sudden, switched_caps}
+use Rattle.struct_machine.proofs.BeforeLaws.{IsSudden, MakesOrSwitches, adds_quietly, before_caps, copied_more, left_copied, making, none_under, nothing_lacks, same_empty, same_more, seconding, sudden, switched_caps}
 
 -- ---- a command that isn't refused
 
-module _ {C R I S : Type 0} (meaning : Meaning C R I S) (form : StrForm)
-    (shelled : ShellView) (kept : Kept S) (of : AreOf meaning form shelled kept) (by : ConnId)
-    (command : ShellCmd)
-    (accepted : shell_cause form (room_of meaning form (machine_of meaning form shelled kept)) shelled.shell by command
-    ≡ None) where
+module _ {C R I S : Type 0} (meaning : Meaning C R I S) (form : StrForm) (shelled : ShellView)
+    (kept : Kept S) (of : AreOf meaning form shelled kept) (by : ConnId) (command : ShellCmd) (accepted : shell_cause
+    form (room_of meaning form (machine_of meaning form shelled kept)) shelled.shell by command ≡ None) where
   abbrev machine : Machine S
   machine = machine_of meaning form shelled kept
 
@@ -76,27 +74,16 @@ module _ {C R I S : Type 0} (meaning : Meaning C R I S) (form : StrForm)
   copied_behind_it = go command of.filled.filling
     where
       Goes : ShellCmd → Type 0
-      Goes command =
-          (copied_in kept.fresh ≡ 0) ⊎ IsFilling shelled.shell.rebuild
-          → copied_after (done meaning form machine by command).deeds
-          (copied_in (fresh_before meaning shelled.shell by command kept.held kept.fresh))
-          ≡ copied_after (done meaning form machine by command).deeds
-          (copied_in kept.fresh + moved_by (room_of meaning form machine) command)
+      Goes command = (copied_in kept.fresh ≡ 0)
+          ⊎ IsFilling shelled.shell.rebuild → copied_after (done meaning form machine by command).deeds (copied_in
+          (fresh_before meaning shelled.shell by command kept.held kept.fresh)) ≡ copied_after (done meaning
+          form machine by command).deeds (copied_in kept.fresh + moved_by (room_of meaning form machine) command)
 
-      still : (command : ShellCmd)
-          → copied_after (done meaning form machine by command).deeds (copied_in kept.fresh)
-          ≡ copied_after (done meaning form machine by command).deeds (copied_in kept.fresh + 0)
-      still command =
-          ap (copied_after (done meaning form machine by command).deeds) (same_more (copied_in kept.fresh))
-
-      parted : (who : Leaver) (deeds : Deeds)
-          → (IsFilling shelled.shell.rebuild
+      parted : (who : Leaver) (deeds : Deeds) → (IsFilling shelled.shell.rebuild
           → (deeds.restart || (deeds.switch || (deeds.drop_fresh || deeds.drop_all))) ≡ true)
-          → (copied_in kept.fresh ≡ 0) ⊎ IsFilling shelled.shell.rebuild
-          → copied_after deeds (copied_in (fresh_left shelled.shell (Some who) kept.fresh))
-          ≡ copied_after deeds (copied_in kept.fresh + 0)
-      parted who deeds empties (inl none) =
-          left_copied shelled.shell (Some who) kept.fresh deeds (inl none)
+          → (copied_in kept.fresh ≡ 0) ⊎ IsFilling shelled.shell.rebuild → copied_after deeds
+          (copied_in (fresh_left shelled.shell (Some who) kept.fresh)) ≡ copied_after deeds (copied_in kept.fresh + 0)
+      parted who deeds empties (inl none) = left_copied shelled.shell (Some who) kept.fresh deeds (inl none)
       parted who deeds empties (inr filling) =
           left_copied shelled.shell (Some who) kept.fresh deeds (inr (empties filling))
 
@@ -105,25 +92,21 @@ module _ {C R I S : Type 0} (meaning : Meaning C R I S) (form : StrForm)
       go cmd.Fail filling = grind (arith, parted, done, departure_empties)
       go (cmd.Copy n) filling = grind (arith, copied_more, nothing_lacks, room_left)
       go (cmd.ForceConn other) filling = grind (arith, parted, done, forced_empties)
-      go command filling = still command
+      go command filling =
+          ap (copied_after (done meaning form machine by command).deeds) (same_more (copied_in kept.fresh))
 
   -- ---- the laws of rebuilds stay
 
   pub manned_behind : IsManned acted.shell
-  manned_behind =
-      manned-told acted.shell.mail acted.shell.lost (entered acted.shell)
-      (subst (λ (cause : Option Refusal).
-      IsManned
-      (with_entered (unless meaning form cause machine (command_done meaning form machine by command))).machine.shell)
+  manned_behind = manned-told acted.shell.mail
+      acted.shell.lost (entered acted.shell) (subst (λ (cause : Option Refusal). IsManned (with_entered
+      (unless meaning form cause machine (command_done meaning form machine by command))).machine.shell)
       accepted (manned-step meaning form machine by (ask.Shell command) of.manned))
 
   pub filled_behind : IsFilled meaning form (command_done meaning form machine by command).machine
-  filled_behind =
-      filled-told meaning form acted.shell.mail acted.shell.lost
-      (entered_machine (command_done meaning form machine by command).machine)
-      (subst (λ (cause : Option Refusal).
-      IsFilled meaning form
-      (with_entered (unless meaning form cause machine (command_done meaning form machine by command))).machine)
+  filled_behind = filled-told meaning form acted.shell.mail acted.shell.lost (entered_machine
+      (command_done meaning form machine by command).machine) (subst (λ (cause : Option Refusal). IsFilled meaning
+      form (with_entered (unless meaning form cause machine (command_done meaning form machine by command))).machine)
       accepted (filled-step meaning form machine by (ask.Shell command) of.manned of.filled))
 
   -- what came before the command, and the engines that were made for it
@@ -146,8 +129,7 @@ module _ {C R I S : Type 0} (meaning : Meaning C R I S) (form : StrForm)
     of_left : IsOf meaning form shelled.shell.caps left.held
     of_left = grind (arith, left_of)
 
-    empty_made : is_some acted.deeds.make ≡ true
-        → IsEmptyOf meaning form (caps_made shelled.shell) spares.empty
+    empty_made : is_some acted.deeds.make ≡ true → IsEmptyOf meaning form (caps_made shelled.shell) spares.empty
     empty_made some = grind (arith, same_empty, making)
 
     may_make : (cf : CfId) → acted.deeds.make ≡ Some cf → MayMake meaning form rebuilding left spares.empty cf
@@ -173,16 +155,14 @@ module _ {C R I S : Type 0} (meaning : Meaning C R I S) (form : StrForm)
         shape_so None of = tt
         shape_so (Some held) of = of.0
 
-        room_so : rebuilding ≡ true → (held : Option (Held S)) → kept.held ≡ held
-            → IsOf meaning form shelled.shell.caps held
-            → IfSome held (λ (h : Held S). Fits form.kind (meaning.need (held_items meaning h)) (caps_made
-            shelled.shell))
+        room_so : rebuilding ≡ true
+            → (held : Option (Held S)) → kept.held ≡ held → IsOf meaning form shelled.shell.caps held → IfSome
+            held (λ (h : Held S). Fits form.kind (meaning.need (held_items meaning h)) (caps_made shelled.shell))
         room_so under None there of = tt
         room_so under (Some held) there of =
             subst (λ (items : List I). Fits form.kind (meaning.need items) (caps_made shelled.shell))
             (ap (λ (o : Option (Held S)). meaning.items (shape_of form) (state_in meaning form o)) there
-            ∙ ap (λ (shape : Shape). meaning.items shape held.state) (sym of.0))
-            (fitting.room some under)
+            ∙ ap (λ (shape : Shape). meaning.items shape held.state) (sym of.0)) (fitting.room some under)
 
     -- the deeds may be done to the instances as they stand before them
     pub admitted : MayCommand by command
@@ -197,10 +177,10 @@ module _ {C R I S : Type 0} (meaning : Meaning C R I S) (form : StrForm)
           stands = grind (arith, fresh_kept, fresh_stands);
           there = fitting.stands yes;
           place = of.fresh_at;
-          alone = grind (arith, at_is, no_second, under_switch);
+          alone = grind (arith, at_is, none_under {X = CfId}, under_switch);
           filled = grind (arith, same_held, state_kept, fresh_kept, room_left);
         },
-        nobody_taken acted.deeds.back shelled.shell.rebuild fitting.back (under_switch yes),
+        none_under acted.deeds.back shelled.shell.rebuild fitting.back (under_switch yes),
         fitting.unmade yes,
         (placing.switch yes).0,
         (placing.switch yes).1,
@@ -226,18 +206,16 @@ module _ {C R I S : Type 0} (meaning : Meaning C R I S) (form : StrForm)
             → IfSome second (λ cf. MayAdd left spares.second cf × HasNone acted.deeds.back × HasNone acted.deeds.make)
         by_second None adds = tt
         by_second (Some cf) adds =
-            let s : IsSeconding shelled.shell.instances acted.deeds cf =
-            subst (λ (o : Option CfId). IfSome o (IsSeconding shelled.shell.instances acted.deeds)) adds placing.second
-            in
+            let s : IsSeconding shelled.shell.instances acted.deeds cf = subst (λ (o : Option CfId). IfSome o
+            (IsSeconding shelled.shell.instances acted.deeds)) adds placing.second in
             let command_adds : makes_second command ≡ true = grind (arith, seconding) in
             let copied : spares.second ≡ kept.held = is.spared.second command_adds in
             let quiet : gone.state ≡ machine.content =
             rw (adds_quietly shelled.shell by command command_adds) refl in (
             grind (arith, stands_left, held_stands, at_is, same_held))
 
-        by_drop : (drop : Option CfId) → acted.deeds.drop_at ≡ drop
-            → IfSome drop (λ cf. MayDrop left cf × HasNone acted.deeds.back × HasNone acted.deeds.make
-            × HasNone acted.deeds.second)
+        by_drop : (drop : Option CfId) → acted.deeds.drop_at ≡ drop → IfSome drop
+            (λ cf. MayDrop left cf × HasNone acted.deeds.back × HasNone acted.deeds.make × HasNone acted.deeds.second)
         by_drop None drops = tt
         by_drop (Some cf) drops =
             let d : IsDropping shelled.shell.instances acted.deeds cf =
@@ -246,7 +224,7 @@ module _ {C R I S : Type 0} (meaning : Meaning C R I S) (form : StrForm)
 
     -- ---- what the deeds leave
 
-    abbrev past : Kept S
+    abbrev pub past : Kept S
     past = kept_past meaning rebuilding acted.deeds (fresh_of shelled.shell.rebuild) spares left
 
     caps_left : caps_of left.fresh ≡ fresh_caps shelled.shell.rebuild
@@ -266,70 +244,55 @@ module _ {C R I S : Type 0} (meaning : Meaning C R I S) (form : StrForm)
     -- the items in the new instance are those that the machine counts
     copied_so : copied_in past.fresh
         ≡ copied_after acted.deeds (copied_in kept.fresh + moved_by (room_of meaning form machine) command)
-    copied_so =
-        copied_past meaning form (caps_made shelled.shell) spares.empty rebuilding acted.deeds left.fresh
+    copied_so = copied_past meaning form (caps_made shelled.shell) spares.empty rebuilding acted.deeds left.fresh
         (λ some. is.fresh ∙ none_before (fresh_none meaning form shelled kept of (fitting.alone some))) empty_made
-        ∙ ap (λ (f : Option Fresh). copied_after acted.deeds (copied_in f)) is.fresh
-        ∙ copied_behind_it
+        ∙ ap (λ (f : Option Fresh). copied_after acted.deeds (copied_in f)) is.fresh ∙ copied_behind_it
 
     -- so the call's outcome is the machine's
-    pub command_same : (after : ShellOutcome) (now : Kept S) → after ≡ acted → now ≡ past
-        → record {
-          reply = reply.Shell after.reply;
-          machine = record {
-            shell = after.shell;
-            content = state_in meaning form now.held;
-            copied = copied_in
-                now.fresh;
-          };
-        } ≡ command_done meaning form machine by command
+    pub command_same : (after : ShellOutcome) (now : Kept S) → after ≡ acted → now ≡ past → record {
+      reply = reply.Shell after.reply;
+      machine = record {
+        shell = after.shell;
+        content = state_in meaning form now.held;
+        copied = copied_in now.fresh;
+      };
+    } ≡ command_done meaning form machine by command
     command_same after now acts does = grind (arith, told, counted)
       where
         told : state_in meaning form now.held ≡ content_after meaning form rebuilding acted.deeds gone.state
-        told =
-            ap (λ (k : Kept S). state_in meaning form k.held) does
-            ∙ ap (λ (o : Option (Held S)). state_in meaning form
-            (held_past meaning rebuilding acted.deeds spares.empty left.fresh o)) is.held
-            ∙ state_past meaning form (caps_made shelled.shell) spares.empty rebuilding acted.deeds left.fresh kept.held
-            gone.state empty_made empty_without idle_without
+        told = ap (λ (k : Kept S). state_in meaning form k.held) does ∙ ap (λ (o : Option (Held S)). state_in meaning
+            form (held_past meaning rebuilding acted.deeds spares.empty left.fresh o)) is.held
+            ∙ state_past meaning form (caps_made shelled.shell)
+            spares.empty rebuilding acted.deeds left.fresh kept.held gone.state empty_made empty_without idle_without
 
         counted : copied_in now.fresh
             ≡ copied_after acted.deeds (copied_in kept.fresh + moved_by (room_of meaning form machine) command)
         counted = ap (λ (k : Kept S). copied_in k.fresh) does ∙ copied_so
 
-    pub kept_behind : (after : ShellOutcome) (view : ShellView) (now : Kept S) → after ≡ acted → now ≡ past
-        → is_some now.held ≡ is_some now.at.primary
-        → view.form ≡ form → view.shell ≡ after.shell → AreOf meaning form view now
+    pub kept_behind : (after : ShellOutcome) (view : ShellView) (now : Kept S) → after ≡ acted → now ≡ past → is_some
+        now.held ≡ is_some now.at.primary → view.form ≡ form → view.shell ≡ after.shell → AreOf meaning form view now
     kept_behind after view now acts does stands same shell = record {
       formed = of.formed;
       shell_form = same;
-      places =
-          ap (λ (k : Kept S). k.at) does
-          ∙ ap (places_past rebuilding acted.deeds (fresh_of shelled.shell.rebuild)) at_is
-          ∙ sym placing.places
-          ∙ sym (ap (λ (s : Shell). s.instances) there);
-      held =
-          subst₂ (IsOf meaning form) (sym capacities.0 ∙ sym (ap (λ (s : Shell). s.caps) there))
-          (ap (λ (k : Kept S). k.held) (sym does))
+      places = ap (λ (k : Kept S). k.at) does ∙ ap (places_past rebuilding acted.deeds
+          (fresh_of shelled.shell.rebuild)) at_is ∙ sym placing.places ∙ sym (ap (λ (s : Shell). s.instances) there);
+      held = subst₂ (IsOf meaning form)
+          (sym capacities.0 ∙ sym (ap (λ (s : Shell). s.caps) there)) (ap (λ (k : Kept S). k.held) (sym does))
           (of_past meaning form (caps_made shelled.shell) spares.empty acted.deeds shelled.shell left.fresh left.held
-          of_left refl empty_made fitting.unmade
-          (grind (arith, switched_caps, caps_left, fresh_kept, fresh_stands)));
-      fresh =
-          ap (λ (k : Kept S). caps_of k.fresh) does
-          ∙ caps_past meaning form (caps_made shelled.shell) spares.empty acted.deeds shelled.shell left.fresh caps_left
-          refl empty_made
-          ∙ sym capacities.1
+          of_left refl empty_made fitting.unmade (grind (arith, switched_caps, caps_left, fresh_kept, fresh_stands)));
+      fresh = ap (λ (k : Kept S). caps_of k.fresh) does ∙ caps_past meaning form (caps_made shelled.shell)
+          spares.empty acted.deeds shelled.shell left.fresh caps_left refl empty_made ∙ sym capacities.1
           ∙ sym (ap (λ (s : Shell). fresh_caps s.rebuild) there);
-      fresh_at =
-          subst (λ (s : Shell). IfSome (fresh_of s.rebuild) IsFacility) (sym there)
+      fresh_at = subst (λ (s : Shell). IfSome (fresh_of s.rebuild) IsFacility) (sym there)
           (facility_behind meaning form machine by of.formed of.manned command accepted of.fresh_at);
       stands = stands;
       manned = subst IsManned (sym there) manned_behind;
-      filled =
-          subst (λ (s : Shell). IsFilled meaning form
-          (record { shell = s; content = state_in meaning form now.held; copied = copied_in now.fresh })) (sym shell)
-          (subst (λ (outcome : CallOutcome R S). IsFilled meaning form outcome.machine)
-          (sym (command_same after now acts does)) filled_behind);
+      filled = subst (λ (s : Shell). IsFilled meaning form (record {
+        shell = s;
+        content = state_in meaning form now.held;
+        copied = copied_in now.fresh;
+      })) (sym shell) (subst (λ (outcome : CallOutcome R S). IsFilled
+          meaning form outcome.machine) (sym (command_same after now acts does)) filled_behind);
     }
       where
         there : view.shell ≡ acted.shell

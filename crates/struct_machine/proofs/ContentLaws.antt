@@ -4,11 +4,10 @@ use Rattle.struct_machine.proofs.Imports.{arith, ◌≡◌, Bool, true, false, �
 -- the other is left, and is the primary
 module _ {E : Type 0} (cf : CfId) where
   abbrev left_at : Option (Placed E) → Option (Placed E) → Instances
-  left_at one other =
-      record {
-        primary = facility_of (first_left (elsewhere (Some cf) one) (elsewhere (Some cf) other));
-        secondary = facility_of (second_left (elsewhere (Some cf) one) (elsewhere (Some cf) other));
-      }
+  left_at one other = record {
+    primary = facility_of (first_left (elsewhere (Some cf) one) (elsewhere (Some cf) other));
+    secondary = facility_of (second_left (elsewhere (Some cf) one) (elsewhere (Some cf) other));
+  }
 
   left_so : (one other : Option (Placed E)) → (is_at cf (facility_of one) || is_at cf (facility_of other)) ≡ true
       → is_some (facility_of one) ≡ true → is_some (facility_of other) ≡ true
@@ -22,9 +21,8 @@ module _ {E : Type 0} (cf : CfId) where
 pub left_places : {E L : Type 0} (cf : CfId) (pair : PairView E L)
     → (is_at cf (instances_of pair).primary || is_at cf (instances_of pair).secondary) ≡ true
     → is_some (instances_of pair).primary ≡ true → is_some (instances_of pair).secondary ≡ true
-    → (is_at cf (instances_of pair).primary ≡ true → is_at cf (instances_of pair).secondary ≡ false)
-    → (instances_of (without_at cf pair) ≡ at_left cf (instances_of pair))
-    × (is_some (without_at cf pair).primary ≡ true)
+    → (is_at cf (instances_of pair).primary ≡ true → is_at cf (instances_of pair).secondary ≡ false) → (instances_of
+    (without_at cf pair) ≡ at_left cf (instances_of pair)) × (is_some (without_at cf pair).primary ≡ true)
 left_places cf pair there stands two apart = left_so cf pair.primary pair.secondary there stands two apart
 
 -- ---- a departure
@@ -36,9 +34,8 @@ module _ {C R I S : Type 0} (meaning : Meaning C R I S) (is_kind : Kind → Bool
     pub content : (shape : Shape) (caps : Caps) (state : S) (conn : ConnId) (keep : Bool)
         → IsContent shape caps state → IsContent shape caps (meaning.leave shape state conn keep).state
     pub need : (shape : Shape) (caps : Caps) (state : S) (conn : ConnId) (keep : Bool)
-        → IsTrue (is_kind shape.kind) → IsContent shape caps state
-        → IsNoMoreOf shape.kind (meaning.need (meaning.items shape (meaning.leave shape state conn keep).state))
-        (meaning.need (meaning.items shape state))
+        → IsTrue (is_kind shape.kind) → IsContent shape caps state → IsNoMoreOf shape.kind (meaning.need
+        (meaning.items shape (meaning.leave shape state conn keep).state)) (meaning.need (meaning.items shape state))
 
   -- the copy begins anew
   pub left_standing : LeaveLaws → (was now : Option (Held S)) (filling after : Option (FillingView I O))
@@ -53,8 +50,7 @@ module _ {C R I S : Type 0} (meaning : Meaning C R I S) (is_kind : Kind → Bool
       held_left held is = grind arith
 
       go : (was : Option (Held S)) (filling : Option (FillingView I O))
-          → AreStanding meaning is_kind IsContent IsOrder was filling
-          → AreStanding meaning is_kind IsContent IsOrder
+          → AreStanding meaning is_kind IsContent IsOrder was filling → AreStanding meaning is_kind IsContent IsOrder
           (option_map (λ (held : Held S). with_departure meaning held conn keep) was) (option_map begun_anew filling)
       go None None standing = standing
       go None (Some filling) standing = standing
@@ -62,11 +58,10 @@ module _ {C R I S : Type 0} (meaning : Meaning C R I S) (is_kind : Kind → Bool
       go (Some held) (Some filling) standing = (
         held_left held standing.0,
         record {
-          copy = copy_left meaning is_kind IsContent held (meaning.leave held.shape held.state conn keep).state
-              (record filling.copy { items = [] }) refl
-              (laws.content held.shape held.caps held.state conn keep standing.0.content)
-              (laws.need held.shape held.caps held.state conn keep standing.0.kind standing.0.content)
-              (grind arith);
+          copy = copy_left meaning is_kind IsContent
+              held (meaning.leave held.shape held.state conn keep).state (record filling.copy { items = [] })
+              refl (laws.content held.shape held.caps held.state conn keep standing.0.content)
+              (laws.need held.shape held.caps held.state conn keep standing.0.kind standing.0.content) (grind arith);
           ordered = tt;
         },
       )

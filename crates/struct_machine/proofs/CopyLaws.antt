@@ -16,8 +16,7 @@ first_some [] why rest = refl
 first_some (None ∷ front) why rest = first_some front why rest
 first_some (Some cause ∷ front) why rest = refl
 
-under_way : (rebuild : Option Rebuild) → unless_rebuilding rebuild ≡ None
-    → (r : Rebuild) × (rebuild ≡ Some r)
+under_way : (rebuild : Option Rebuild) → unless_rebuilding rebuild ≡ None → (r : Rebuild) × (rebuild ≡ Some r)
 under_way None fine = absurd (cc)
 under_way (Some r) fine = (r, refl)
 
@@ -41,9 +40,8 @@ module _ (form : StrForm) (shell : Shell) (by : ConnId) (n : ℕ) (cf : CfId) wh
   stopped_ends rebuild = grind (arith, first_some)
 
   -- the loss of the old instance, and that of the new one
-  loss_ends : shell.instances.secondary ≡ None
-      → (shell.instances.primary ≡ Some cf) ⊎ (fresh_of shell.rebuild ≡ Some cf)
-      → IsEnded form shell by n (mark_outcome form cf shell)
+  loss_ends : shell.instances.secondary ≡ None → (shell.instances.primary ≡ Some cf)
+      ⊎ (fresh_of shell.rebuild ≡ Some cf) → IsEnded form shell by n (mark_outcome form cf shell)
   loss_ends alone either = grind (arith, itself, stopped_ends, failed_ends)
 
 -- ---- the whole of it
@@ -66,28 +64,23 @@ module _ {C R I S : Type 0} (meaning : Meaning C R I S) (form : StrForm) (machin
   with_items more = record machine { copied = machine.copied + more }
 
   -- one loss, of the machine with the items that were copied, and of the one before
-  same_loss : (cf : CfId) (more : ℕ)
-      → (machine.shell.instances.primary ≡ Some cf) ⊎ (fresh_of machine.shell.rebuild ≡ Some cf)
-      → lost_at meaning form (with_items more) cf ≡ lost_at meaning form machine cf
+  same_loss : (cf : CfId) (more : ℕ) → (machine.shell.instances.primary ≡ Some cf) ⊎ (fresh_of
+      machine.shell.rebuild ≡ Some cf) → lost_at meaning form (with_items more) cf ≡ lost_at meaning form machine cf
   same_loss cf more either = grind (arith, ends)
 
   refused_so : (cause : Option Refusal) (answer : CallOutcome R S) (behind : Machine S) (told : Reply R)
       → is_some cause ≡ true → (answered : ShellReply) → told ≡ copy_reply cause answered
       → Path (CallOutcome R S) (record { reply = told; machine = behind }) (unless meaning form cause behind answer)
   refused_so None answer behind told some answered is = absurd (cc)
-  refused_so (Some refusal) answer behind told some answered is =
-      λ i. record { reply = is i; machine = behind }
+  refused_so (Some refusal) answer behind told some answered is = λ i. record { reply = is i; machine = behind }
 
   -- what COPY answers behind the marks, and leaves
   pub copy_done : (lost : Lost) (now : Machine S) (seen : Room) (told : Reply R)
-      → IfSome lost.first (λ cf. machine.shell.instances.primary ≡ Some cf)
-      → IfSome lost.second (λ cf. fresh_of machine.shell.rebuild ≡ Some cf)
-      → (is_some lost.first ≡ true → lost.second ≡ None)
+      → IfSome lost.first (λ cf. machine.shell.instances.primary ≡ Some cf) → IfSome lost.second
+      (λ cf. fresh_of machine.shell.rebuild ≡ Some cf) → (is_some lost.first ≡ true → lost.second ≡ None)
       → now ≡ behind_marks meaning form (with_items (moved_by room (cmd.Copy n))) (marks_in lost)
-      → seen.left ≡ room.left
-      → told ≡ copy_reply (shell_cause form seen now.shell by (cmd.Copy n))
-      (shell_done form seen now.shell by (cmd.Copy n)).reply
-      → Path (CallOutcome R S) (record { reply = told; machine = now })
+      → seen.left ≡ room.left → told ≡ copy_reply (shell_cause form seen now.shell by (cmd.Copy n)) (shell_done
+      form seen now.shell by (cmd.Copy n)).reply → Path (CallOutcome R S) (record { reply = told; machine = now })
       (judged meaning form (behind_marks meaning form machine (marks_in lost)) by (ask.Shell (cmd.Copy n)))
   copy_done lost now seen told first second stopped behind left is =
       go lost.first lost.second first second stopped behind
@@ -96,45 +89,35 @@ module _ {C R I S : Type 0} (meaning : Meaning C R I S) (form : StrForm) (machin
       more = moved_by room (cmd.Copy n)
 
       Goes : Option CfId → Option CfId → Type 0
-      Goes one two =
-          now ≡ behind_marks meaning form (with_items more) (listed one ++ listed two)
-          → Path (CallOutcome R S) (record { reply = told; machine = now })
-          (judged meaning form (behind_marks meaning form machine (listed one ++ listed two)) by (ask.Shell (cmd.Copy
-          n)))
+      Goes one two = now ≡ behind_marks meaning form (with_items more) (listed one ++ listed two)
+          → Path (CallOutcome R S) (record { reply = told; machine = now }) (judged meaning
+          form (behind_marks meaning form machine (listed one ++ listed two)) by (ask.Shell (cmd.Copy n)))
 
-      alone_lost : (cf : CfId)
-          → (machine.shell.instances.primary ≡ Some cf) ⊎ (fresh_of machine.shell.rebuild ≡ Some cf)
-          → now ≡ lost_at meaning form (with_items more) cf
-          → Path (CallOutcome R S) (record { reply = told; machine = now })
-          (judged meaning form (lost_at meaning form machine cf) by (ask.Shell (cmd.Copy n)))
+      alone_lost : (cf : CfId) → (machine.shell.instances.primary ≡ Some cf) ⊎ (fresh_of machine.shell.rebuild ≡ Some
+          cf) → now ≡ lost_at meaning form (with_items more) cf → Path (CallOutcome R S) (record {
+            reply = told;
+            machine = now;
+          }) (judged meaning form (lost_at meaning form machine cf) by (ask.Shell (cmd.Copy n)))
       alone_lost cf either behind =
           let behind_it : now ≡ lost_at meaning form machine cf = behind ∙ same_loss cf more either in
           let ended : IsEnded form machine.shell by n (mark_outcome form cf machine.shell) = ends cf either in
           subst (λ (m : Machine S). Path (CallOutcome R S) (record { reply = told; machine = now })
-          (judged meaning form m by (ask.Shell (cmd.Copy n)))) behind_it
-          (refused_so (shell_cause form (room_of meaning form now) now.shell by (cmd.Copy n))
-          (command_done meaning form now by (cmd.Copy n)) now told
-          (ap (λ (m : Machine S). is_some (shell_cause form (room_of meaning form now) m.shell by (cmd.Copy n)))
-          behind_it
-          ∙ ended.refused (room_of meaning form now)) _ is)
+          (judged meaning form m by (ask.Shell (cmd.Copy n)))) behind_it (refused_so (shell_cause form
+          (room_of meaning form now) now.shell by (cmd.Copy n)) (command_done meaning form now by (cmd.Copy n)) now
+          told (ap (λ (m : Machine S). is_some (shell_cause form (room_of meaning form now) m.shell by (cmd.Copy n)))
+          behind_it ∙ ended.refused (room_of meaning form now)) _ is)
 
-      go : (one two : Option CfId) → IfSome one (λ cf. machine.shell.instances.primary ≡ Some cf)
-          → IfSome two (λ cf. fresh_of machine.shell.rebuild ≡ Some cf)
-          → (is_some one ≡ true → two ≡ None) → Goes one two
-      go None None first second stopped behind =
-          subst (λ (cause : Option Refusal). Path (CallOutcome R S) (record { reply = told; machine = now })
-          (unless meaning form cause machine (command_done meaning form machine by (cmd.Copy n)))) (sym accepted)
-          (λ i. record { reply = told_so i; machine = behind i })
+      go : (one two : Option CfId) → IfSome one (λ cf. machine.shell.instances.primary ≡ Some cf) → IfSome
+          two (λ cf. fresh_of machine.shell.rebuild ≡ Some cf) → (is_some one ≡ true → two ≡ None) → Goes one two
+      go None None first second stopped behind = subst (λ (cause : Option Refusal). Path (CallOutcome R S)
+          (record { reply = told; machine = now }) (unless meaning form cause machine (command_done meaning
+          form machine by (cmd.Copy n)))) (sym accepted) (λ i. record { reply = told_so i; machine = behind i })
         where
           told_so : told ≡ reply.Shell (shell_done form room machine.shell by (cmd.Copy n)).reply
-          told_so =
-              is
-              ∙ ap (λ (m : Machine S). copy_reply (shell_cause form seen m.shell by (cmd.Copy n))
+          told_so = is ∙ ap (λ (m : Machine S). copy_reply (shell_cause form seen m.shell by (cmd.Copy n))
               (shell_done form seen m.shell by (cmd.Copy n)).reply) behind
-              ∙ ap (λ (cause : Option Refusal). copy_reply cause (shell_done form seen machine.shell by (cmd.Copy
-              n)).reply)
-              accepted
-              ∙ ap (λ (l : ℕ). reply.Shell (shown.Copied (min n l) (l - min n l))) left
+              ∙ ap (λ (cause : Option Refusal). copy_reply cause (shell_done form seen machine.shell by
+              (cmd.Copy n)).reply) accepted ∙ ap (λ (l : ℕ). reply.Shell (shown.Copied (min n l) (l - min n l))) left
       go None (Some cf) first second stopped behind = alone_lost cf (inr second) behind
       go (Some cf) None first second stopped behind = alone_lost cf (inl first) behind
       go (Some cf) (Some other) first second stopped behind =

@@ -13,31 +13,6 @@ pub record IsBarren (deeds : Deeds) : Type 0 where
 barren_so : (deeds : Deeds) → deeds.back ≡ None → deeds.make ≡ None → deeds.second ≡ None → IsBarren deeds
 barren_so deeds back make second = record { back = back; make = make; second = second }
 
-barren_next : (shell : Shell) (by : ConnId) (taken : Option Event) → IsBarren (take_event shell by taken).deeds
-barren_next shell by None = barren_so _ refl refl refl
-barren_next shell by (Some event) = barren_so _ refl refl refl
-
-barren_response : (shell : Shell) (by : ConnId) (owed : Option Event) → IsBarren (response_outcome shell by owed).deeds
-barren_response shell by None = barren_so _ refl refl refl
-barren_response shell by (Some answered) = grind (arith, barren_so)
-
-barren_stop : (shell : Shell) (rebuild : Option Rebuild) → IsBarren (stop_outcome shell rebuild).deeds
-barren_stop shell None = barren_so _ refl refl refl
-barren_stop shell (Some rebuild) = barren_so _ refl refl refl
-
-barren_completion : (shell : Shell) (by : ConnId) (rebuild : Option Rebuild)
-    → IsBarren (complete_outcome shell by rebuild).deeds
-barren_completion shell by None = barren_so _ refl refl refl
-barren_completion shell by (Some rebuild) = barren_so _ refl refl refl
-
-barren_vary : (form : StrForm) (shell : Shell) (cf : CfId) (off : Bool)
-    → IsBarren (vary_outcome form cf off shell).deeds
-barren_vary form shell cf off = grind (arith, vary-cases, barren_so)
-
-barren_again : (shell : Shell) (second : Option CfId) → IsBarren (simplex_again second shell).deeds
-barren_again shell None = barren_so _ refl refl refl
-barren_again shell (Some cf) = barren_so _ refl refl refl
-
 -- CONNECT, REBUILD CONNECT and DUPLEX START may make one
 abbrev pub is_maker : ShellCmd → Bool
 is_maker (cmd.Connect keep) = true
@@ -50,13 +25,8 @@ pub barren : (form : StrForm) (room : Room) (shell : Shell) (by : ConnId) (comma
 barren form room shell by (cmd.Connect keep) other = absurd (cc)
 barren form room shell by cmd.RebuildConnect other = absurd (cc)
 barren form room shell by cmd.DuplexStart other = absurd (cc)
-barren form room shell by cmd.Next other = barren_next shell by (next_event shell.mail by)
-barren form room shell by cmd.Respond other = barren_response shell by (owed_event shell.mail by)
-barren form room shell by cmd.RebuildStop other = barren_stop shell shell.rebuild
-barren form room shell by cmd.RebuildComplete other = barren_completion shell by shell.rebuild
-barren form room shell by (cmd.Vary cf off) other = barren_vary form shell cf off
-barren form room shell by cmd.DuplexStop other = barren_again shell shell.instances.secondary
-barren form room shell by command other = barren_so _ refl refl refl
+barren form room shell by (cmd.Vary cf off) other = grind (arith, vary-cases, barren_so)
+barren form room shell by command other = grind (arith, barren_so)
 
 -- ---- whose connection is taken up again
 
@@ -71,8 +41,7 @@ back_if false by caller = tt
 
 -- it is a caller
 pub back_caller : (form : StrForm) (room : Room) (shell : Shell) (by : ConnId) (command : ShellCmd)
-    → MayCommand by command
-    → IfSome (shell_done form room shell by command).deeds.back IsCaller
+    → MayCommand by command → IfSome (shell_done form room shell by command).deeds.back IsCaller
 back_caller form room shell by (cmd.Connect keep) may =
     back_if (is_some (state_of shell.conns by)) by (omega (arith, may.1))
 back_caller form room shell by cmd.RebuildConnect may = connected_none form shell by shell.rebuild
@@ -117,14 +86,12 @@ module _ {C R I S : Type 0} (meaning : Meaning C R I S) (form : StrForm) (caps :
   pub of_past : (deeds : Deeds) (shell : Shell) (fresh : Option Fresh) (held : Option (Held S))
       → IsOf meaning form shell.caps held → caps ≡ caps_made shell
       → (is_some deeds.make ≡ true → IsEmptyOf meaning form caps empty) → (deeds.switch ≡ true → deeds.make ≡ None)
-      → (deeds.switch ≡ true → (size : Caps) → caps_or fresh size ≡ caps_made shell)
-      → IsOf meaning form (caps_behind form shell deeds)
-      (held_past meaning (is_some shell.rebuild) deeds empty fresh held)
+      → (deeds.switch ≡ true → (size : Caps) → caps_or fresh size ≡ caps_made shell) → IsOf
+      meaning form (caps_behind form shell deeds) (held_past meaning (is_some shell.rebuild) deeds empty fresh held)
   of_past deeds shell fresh held of are made unmade switched_to = grind (arith, back_of)
 
-  state_back : (back : Option ConnId) (held : Held S) → (state : S)
-      → state_in meaning form (held_back meaning back (Some (record held { state = state })))
-      ≡ with_back_of meaning form back state
+  state_back : (back : Option ConnId) (held : Held S) → (state : S) → state_in meaning form
+      (held_back meaning back (Some (record held { state = state }))) ≡ with_back_of meaning form back state
   state_back None held state = refl
   state_back (Some conn) held state = refl
 
@@ -135,11 +102,9 @@ module _ {C R I S : Type 0} (meaning : Meaning C R I S) (form : StrForm) (caps :
     pub back : is_some deeds.back ≡ true → is_some deeds.make ≡ true
 
   -- the content behind deeds is what the instances hold then
-  pub state_past : (rebuilding : Bool) (deeds : Deeds) (fresh : Option Fresh) (held : Option (Held S)) (state : S)
-      → (is_some deeds.make ≡ true → IsEmptyOf meaning form caps empty)
-      → (is_some held ≡ false → state ≡ meaning.empty (shape_of form))
-      → (is_some held ≡ false → AreIdle rebuilding deeds)
-      → state_in meaning form (held_past meaning rebuilding deeds empty fresh (left_in state held))
-      ≡ content_after meaning form rebuilding deeds state
+  pub state_past : (rebuilding : Bool) (deeds : Deeds) (fresh : Option Fresh) (held : Option (Held S)) (state : S) →
+      (is_some deeds.make ≡ true → IsEmptyOf meaning form caps empty) → (is_some held ≡ false → state ≡ meaning.empty
+      (shape_of form)) → (is_some held ≡ false → AreIdle rebuilding deeds) → state_in meaning form (held_past
+      meaning rebuilding deeds empty fresh (left_in state held)) ≡ content_after meaning form rebuilding deeds state
   state_past rebuilding deeds fresh (Some held) state made empty_so idle = grind (arith, state_back)
   state_past rebuilding deeds fresh None state made empty_so idle = grind arith

@@ -1,16 +1,11 @@
 -- What proofs here name of other crates, and of this one's definitions. Declares nothing.
+pub use Rattle.cf_types.proofs.Imports.{min-le_right, both_ways, eq-eqb, false_from_ne_true, eqb-true, and_left, and_right, All-from_recursion, filter-append, recursion_from_All, fold-append, AllByRecursion, state_of, actives, is_active, IsFacility, IsCaller, IsPref, IsForm, Bits, Gains, is_for, bits_told, difference, next_event, owed_event, Mailboxes}
+pub use Rattle.engine_api.proofs.Imports.{MayCommand, Instances, is_at, place_for, no_instance, units_of, Fits, IsNoMoreOf, Asks, AreDistinct, apart, has, reached, marks_of, answers_to, listed, asks_of, asked_unless, links_asked, copied_after, Machine, content_after, room_of, moved_by, departure_from, command_done, unless, with_entered, entered_machine, CallOutcome, with_back_of, content_done, content_reply, loss_step, fresh_of, shape_of, Shell, Leaver, shell_done, leaver, with_posted, caps_made, rebuild_connect_outcome, call_cause, ShellOutcome, is_kept, shell_cause, entered, failed_outcome, idle_outcome, if_failed, if_lost, mark_outcome, simplex_outcome, stopped_outcome, unless_active, unless_rebuilding, given_outcome, no_deeds, take_event, response_outcome, stop_outcome, complete_outcome, vary_outcome, simplex_again, candidates, is_candidate, departure_outcome, if_duplexed, if_no_place, if_rebuilding, loss_outcome, refusal_when, shell_without, unless_allocated, unless_copied_to, with_off, opening_shell, content_cause}
+pub use Rattle.plex_shell.proofs.Imports.{outcome_of, rebuild_emptied, rebuild_left, rebuild_without, without_owing, reply_as}
+pub use Rattle.shell_laws.proofs.Imports.{fresh_caps, AreFitting, caps_behind, fresh_behind, IsFilled, IsFilling, IsManned, IsPaired, rebuild_next, rebuild_given, Telling, is_awaited, mark_telling, telling, Starts, Places, Completes, Responds, Stops, Departs, Forces, Fails, Nothing, map-filtered, set_same, get_within, get-set_same, get-set_other, any_is_found, all_found, filter_swap, filter_absorbed, list_all_weaker, none_from_all, filter_none, list_all-filter, found_passes, list_all-insertion, pairwise, accepted_as}
 pub use Rattle.std.proofs.Common.{◌≡◌, ℕ, ◌==◌, Bool, true, false, not, ◌&&◌, ◌||◌, List, [], ◌∷◌, ◌++◌, ◌≢◌, refl, sym, ap, subst, ◌∙◌, Option, None, Some, IfSome, All, filter, is_some, if◌then◌else◌, ◌+◌, ◌⊎◌, inl, inr, arith, is_none, min, subst₂, option_map, IsTrue, ◌-◌, length, Result, Ok, Err, IfOk, rules, ◌≤◌, drop, append-nil}
-pub use Rattle.std.proofs.Math.Nat.{min-le_right}
-pub use Rattle.std.proofs.lemmas.Bool.{both_ways, eq-eqb, false_from_ne_true, eqb-true, and_left, and_right}
-pub use Rattle.std.proofs.lemmas.List.Elements.{All-from_recursion, filter-append, recursion_from_All}
-pub use Rattle.std.proofs.lemmas.List.Sums.{fold-append}
-pub use Rattle.std.specs.List.{AllByRecursion}
 pub use Rattle.std.specs.Prelude.{unwrap_or}
 pub use Rattle.cf_types.proofs.GainsLaws.{gains_none}
-pub use Rattle.cf_types.specs.Connections.{state_of, actives, is_active}
-pub use Rattle.cf_types.specs.Forms.{IsFacility, IsCaller, IsPref, IsForm}
-pub use Rattle.cf_types.specs.Gains.{Bits, Gains, is_for, bits_told, difference}
-pub use Rattle.cf_types.specs.Mailboxes.{next_event, owed_event, Mailboxes}
 pub use Rattle.cf_types.specs.declared.effects.BitChange.{BitChange}
 pub use Rattle.cf_types.specs.declared.events.Event.{Event}
 pub use Rattle.cf_types.specs.declared.events.Letter.{Letter}
@@ -33,25 +28,15 @@ pub use Rattle.duplex_pair.specs.Pairs.{bits_of, PairView, elsewhere, facility_o
 pub use Rattle.duplex_pair.specs.declared.lost.Lost.{Lost}
 pub use Rattle.duplex_pair.specs.declared.placed.Placed.{Placed}
 pub use Rattle.engine_api.proofs.AskLaws.{filter_agreed, has_other, same_cf, itself, distinct_apart}
-pub use Rattle.engine_api.specs.Asking.{MayCommand}
-pub use Rattle.engine_api.specs.Instances.{Instances, is_at, place_for, no_instance, units_of}
-pub use Rattle.engine_api.specs.Items.{Fits, IsNoMoreOf}
-pub use Rattle.engine_api.specs.LinkAsks.{Asks, AreDistinct, apart, has, reached, marks_of, answers_to, listed, asks_of, asked_unless, links_asked}
-pub use Rattle.engine_api.specs.Machine.{copied_after, Machine, content_after, room_of, moved_by, departure_from, command_done, unless, with_entered, entered_machine, CallOutcome, with_back_of, content_done, content_reply, loss_step}
 pub use Rattle.engine_api.specs.Meaning.{Meaning, Held, Departure, items_of, with_departure, first_refusal, new_held, Answer, answer}
-pub use Rattle.engine_api.specs.RebuildCore.Stages.{outcome_of, rebuild_emptied, rebuild_left, rebuild_without, without_owing}
 pub use Rattle.engine_api.specs.RebuildCore.declared.passed.Passed.{Passed}
 pub use Rattle.engine_api.specs.RebuildCore.declared.passed.Passed.TheVariants.{No, Into}
 pub use Rattle.engine_api.specs.RebuildCore.declared.rebuild.Rebuild.{Rebuild}
-pub use Rattle.engine_api.specs.Rebuilds.{fresh_of}
-pub use Rattle.engine_api.specs.Shapes.{shape_of}
-pub use Rattle.engine_api.specs.Shell.{Shell, Leaver, shell_done, leaver, with_posted, caps_made, rebuild_connect_outcome, call_cause, ShellOutcome, is_kept, shell_cause, entered, failed_outcome, idle_outcome, if_failed, if_lost, mark_outcome, simplex_outcome, stopped_outcome, unless_active, unless_rebuilding, given_outcome, no_deeds, take_event, response_outcome, stop_outcome, complete_outcome, vary_outcome, simplex_again, candidates, is_candidate, departure_outcome, if_duplexed, if_no_place, if_rebuilding, loss_outcome, refusal_when, shell_without, unless_allocated, unless_copied_to, with_off, opening_shell, content_cause}
 pub use Rattle.engine_api.specs.declared.asks.Ask.{Ask}
 pub use Rattle.engine_api.specs.declared.asks.Reply.{Reply}
 pub use Rattle.engine_api.specs.declared.deeds.Deeds.{Deeds}
 pub use Rattle.engine_api.specs.declared.deeds.Room.{Room}
 pub use Rattle.engine_api.specs.declared.shapes.Shape.{Shape}
-pub use Rattle.plex_shell.specs.Losses.{reply_as}
 pub use Rattle.plex_shell.specs.ShellView.{ShellView}
 pub use Rattle.plex_shell.specs.Verdicts.{refused_or, doer_of, verdict}
 pub use Rattle.plex_shell.specs.declared.lost_as.LostAs.{LostAs}
@@ -59,21 +44,15 @@ pub use Rattle.plex_shell.specs.declared.verdicts.Verdict.{Verdict}
 pub use Rattle.plex_shell.specs.declared.verdicts.Verdict.TheVariants.{Refuse, Content}
 pub use Rattle.rebuild_copy.proofs.DepartureLaws.{copy_left}
 pub use Rattle.rebuild_copy.specs.Filling.{Fresh, caps_or, emptied, with_copied, FillingView, lacking}
-pub use Rattle.shell_laws.proofs.CapacityLaws.{none_fresh_then}
-pub use Rattle.shell_laws.proofs.CauseLaws.{fourth_none, idle_rebuild, past_first, past_second, third_none, not_so}
+pub use Rattle.shell_laws.proofs.CapacityLaws.{none_fresh_then, ContentLaws, held-replay}
+pub use Rattle.shell_laws.proofs.CauseLaws.{fourth_none, idle_rebuild, past_first, past_front, past_second, third_none, not_so}
 pub use Rattle.shell_laws.proofs.DeedLaws.{capacities-command, fitting-command, capacities-loss}
 pub use Rattle.shell_laws.proofs.FillingLaws.{filled-step, departure_empties, forced_empties, filled-loss}
 pub use Rattle.shell_laws.proofs.LossLaws.{vary-cases, loss-cases}
-pub use Rattle.shell_laws.proofs.MemberLaws.{manned-step, manned-members, manned-opening, manned-loss}
+pub use Rattle.shell_laws.proofs.MemberLaws.{manned-step, manned-members, manned-opening, manned-loss, manned-replay}
 pub use Rattle.shell_laws.proofs.PairLaws.{change-command, paired-change}
 pub use Rattle.shell_laws.proofs.PlaceLaws.{no_switch, placed_for, switch_copy}
 pub use Rattle.shell_laws.proofs.StepLaws.{done, acting, connect_stage, first_none, tells_command, active_member, active_of, somebody_member, rebuild-loss}
-pub use Rattle.shell_laws.specs.Capacities.{fresh_caps, AreFitting, caps_behind, fresh_behind}
-pub use Rattle.shell_laws.specs.Filling.{IsFilled, IsFilling}
-pub use Rattle.shell_laws.specs.Members.{IsManned, IsPaired}
-pub use Rattle.shell_laws.specs.Steps.{rebuild_next, rebuild_given}
-pub use Rattle.shell_laws.specs.Tellings.{Telling, is_awaited, mark_telling, telling}
-pub use Rattle.shell_laws.specs.Tellings.Telling.{Starts, Places, Completes, Responds, Stops, Departs, Forces, Fails, Nothing}
 pub use Rattle.struct_machine.specs.Asking.{unless_same}
 pub use Rattle.struct_machine.specs.Changes.{ChangeList, IsUntouched, Names, any_failure, may_be_any, may_change_bits}
 pub use Rattle.struct_machine.specs.Content.{lacking_in, Kept, AreStanding, IsHeldAt, begun_anew, ContentView, kept_of, nothing_kept}
@@ -81,6 +60,6 @@ pub use Rattle.struct_machine.specs.Deeds.{fresh_left, fresh_before, makes_empty
 pub use Rattle.struct_machine.specs.Kept.{copied_in, caps_of, state_in, AreOf, IsOf, machine_of, left_in, copy_reply, judged, command_looks, room_seen, is_copying, items_named}
 pub use Rattle.struct_machine.specs.Losses.{IsEnding, kept_without}
 pub use Rattle.struct_machine.specs.Marks.{is_failure}
-pub use Rattle.struct_machine.specs.Turns.{asks_in, AreTold, behind_marks, lost_at, marks_in, AreMarked, IsJudgedTurn, content_asks_of, copy_asks_of}
+pub use Rattle.struct_machine.specs.Turns.{asks_in, AreTold, behind_marks, lost_at, marks_in, AreMarked, IsJudgedTurn, content_asks_of, copy_asks_of, IsTurn}
 pub use Rattle.struct_machine.specs.declared.asking.Asked.{Asked}
 pub use Rattle.struct_machine.specs.declared.marks.Mark.{Mark}

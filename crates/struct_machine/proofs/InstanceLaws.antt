@@ -1,5 +1,5 @@
 -- Where the instances of a structure stand behind a command, and which of its deeds may be done.
-use Rattle.struct_machine.proofs.Imports.{arith, ◌≡◌, ◌≢◌, Bool, true, false, ◌==◌, ◌||◌, List, [], ◌∷◌, ◌++◌, Option, None, Some, IfSome, refl, ap, ◌∙◌, if◌then◌else◌, is_some, is_none, eq-eqb, eqb-true, false_from_ne_true, Event, Connect, StrForm, CfId, ConnId, Refusal, ShellCmd, ShellReply, state_of, IsFacility, IsForm, next_event, owed_event, Deeds, Instances, no_instance, is_at, place_for, units_of, Machine, room_of, Meaning, first_refusal, fresh_of, Shell, ShellOutcome, candidates, complete_outcome, departure_outcome, given_outcome, idle_outcome, if_duplexed, if_no_place, if_rebuilding, is_kept, loss_outcome, no_deeds, rebuild_connect_outcome, refusal_when, response_outcome, shell_cause, shell_without, simplex_again, simplex_outcome, stop_outcome, take_event, unless_allocated, unless_copied_to, vary_outcome, with_off, Rebuild, IsManned, IsPaired, idle_rebuild, past_first, past_second, third_none, change-command, paired-change, no_switch, placed_for, switch_copy, acting, connect_stage, done, first_none, tells_command, mark_telling, telling, places_past, at_left, at_switched}
+use Rattle.struct_machine.proofs.Imports.{arith, ◌≡◌, ◌≢◌, Bool, true, false, ◌==◌, ◌||◌, List, [], ◌∷◌, ◌++◌, Option, None, Some, IfSome, refl, ap, ◌∙◌, if◌then◌else◌, is_some, is_none, eq-eqb, eqb-true, false_from_ne_true, Event, Connect, StrForm, CfId, ConnId, Refusal, ShellCmd, ShellReply, state_of, IsFacility, IsForm, next_event, owed_event, Deeds, Instances, no_instance, is_at, place_for, units_of, Machine, room_of, Meaning, first_refusal, fresh_of, Shell, ShellOutcome, candidates, complete_outcome, departure_outcome, given_outcome, idle_outcome, if_duplexed, if_no_place, if_rebuilding, is_kept, loss_outcome, no_deeds, rebuild_connect_outcome, refusal_when, response_outcome, shell_cause, shell_without, simplex_again, simplex_outcome, stop_outcome, take_event, unless_allocated, unless_copied_to, vary_outcome, with_off, Rebuild, IsManned, IsPaired, idle_rebuild, past_first, past_front, past_second, third_none, change-command, paired-change, no_switch, placed_for, switch_copy, acting, connect_stage, done, first_none, tells_command, mark_telling, telling, places_past, at_left, at_switched}
 use Rattle.cf_types.specs.declared.refusals.Refusal.TheVariants as refusal
 use Rattle.cf_types.specs.declared.shell_commands.ShellCmd.TheVariants as cmd
 use Rattle.cf_types.specs.declared.shell_commands.ShellReply.TheVariants as shown
@@ -45,10 +45,9 @@ pub record IsCommon (deeds : Deeds) : Type 0 where
   pub second : deeds.second ≡ None
   pub drop_at : deeds.drop_at ≡ None
 
-placing_common : (before : Shell) (acted : ShellOutcome) → IsCommon acted.deeds
-    → acted.shell.instances ≡ (if acted.deeds.drop_all then no_instance
-    else at_switched acted.deeds.switch (fresh_of before.rebuild) before.instances)
-    → IsPlacing before acted
+placing_common : (before : Shell) (acted : ShellOutcome)
+    → IsCommon acted.deeds → acted.shell.instances ≡ (if acted.deeds.drop_all then no_instance
+    else at_switched acted.deeds.switch (fresh_of before.rebuild) before.instances) → IsPlacing before acted
 placing_common before acted common places = grind arith
 
 nothing_common : IsCommon no_deeds
@@ -78,9 +77,10 @@ pub paired_apart : (cf : CfId) (shell : Shell) → IsPaired shell → is_at cf s
     → is_at cf shell.instances.secondary ≡ false
 paired_apart cf shell paired there = grind (arith, false_from_ne_true, eqb-true)
 
-places_left : (cf left : CfId) (before : Shell) (shell : Shell)
-    → at_left cf before.instances ≡ record { primary = Some left; secondary = None }
-    → (is_at cf before.instances.primary || is_at cf before.instances.secondary) ≡ true
+places_left : (cf left : CfId) (before : Shell) (shell : Shell) → at_left cf before.instances ≡ record {
+  primary = Some left;
+  secondary = None;
+} → (is_at cf before.instances.primary || is_at cf before.instances.secondary) ≡ true
     → is_some before.instances.secondary ≡ true → IsPaired before → IsPlacing before (simplex_outcome cf left shell)
 places_left cf left before shell left_so there two paired = grind (arith, paired_apart)
 
@@ -106,19 +106,6 @@ again_places before shell paired same (Some cf) other =
 
 -- ---- what tells no place
 
-respond_told : (rebuild : Option Rebuild) (reply : ShellReply) → IsPlaceTold rebuild (telling cmd.Respond reply)
-respond_told rebuild (shown.Responded event) = tt
-respond_told rebuild _ = tt
-
-stop_told : (rebuild : Option Rebuild) (reply : ShellReply) → IsPlaceTold rebuild (telling cmd.RebuildStop reply)
-stop_told rebuild shown.Ok = tt
-stop_told rebuild _ = tt
-
-complete_told : (rebuild : Option Rebuild) (reply : ShellReply)
-    → IsPlaceTold rebuild (telling cmd.RebuildComplete reply)
-complete_told rebuild shown.Ok = tt
-complete_told rebuild _ = tt
-
 pub mark_told : (rebuild : Option Rebuild) (reply : ShellReply) → IsPlaceTold rebuild (mark_telling reply)
 mark_told rebuild (shown.Stopped number) = tt
 mark_told rebuild shown.FailedNow = tt
@@ -128,6 +115,10 @@ reached : (b : Bool) (xs ys : List (Option Refusal)) → b ≡ true → first_re
     → first_refusal xs ≡ None
 reached true xs ys is fine = fine
 reached false xs ys is fine = absurd (cc)
+
+found : (place : Option CfId) → is_some place ≡ true → IfSome place IsFacility → IsFacility (facility_of place)
+found None there is = absurd (cc)
+found (Some cf) there is = is
 
 -- ---- commands
 
@@ -217,19 +208,12 @@ module _ {C R I S : Type 0} (meaning : Meaning C R I S) (form : StrForm) (machin
       there : is_some (place_for (units_of machine.shell.caps) (candidates form machine.shell by)) ≡ true
       there = grind (arith, placed_for, past_first, unallocated, no_place, past)
 
-      found : (place : Option CfId) → is_some place ≡ true → IfSome place IsFacility
-          → IsFacility (facility_of place)
-      found None there is = absurd (cc)
-      found (Some cf) there is = is
-
       paired : IsPaired (done meaning form machine by cmd.DuplexStart).shell
-      paired =
-          paired-change machine.shell (done meaning form machine by cmd.DuplexStart).shell
+      paired = paired-change machine.shell (done meaning form machine by cmd.DuplexStart).shell
           (change-command meaning form machine by manned cmd.DuplexStart fine) manned.paired
 
-      apart_so : (primary : Option CfId) → machine.shell.instances.primary ≡ primary
-          → IfSome primary (λ at. (facility_of (place_for (units_of machine.shell.caps)
-          (candidates form shell by))).0 ≢ at.0)
+      apart_so : (primary : Option CfId) → machine.shell.instances.primary ≡ primary → IfSome
+          primary (λ at. (facility_of (place_for (units_of machine.shell.caps) (candidates form shell by))).0 ≢ at.0)
       apart_so None is = tt
       apart_so (Some one) is = paired.apart one _ is refl
 
@@ -238,8 +222,7 @@ module _ {C R I S : Type 0} (meaning : Meaning C R I S) (form : StrForm) (machin
   pub placing_command : (command : ShellCmd) → IsTaken command
       → IsPlacing machine.shell (done meaning form machine by command)
   placing_command (cmd.Connect keep) fine = connect_places keep fine
-  placing_command cmd.Disconnect fine =
-      departure_places form machine.shell (before_it cmd.Disconnect) by false refl
+  placing_command cmd.Disconnect fine = departure_places form machine.shell (before_it cmd.Disconnect) by false refl
   placing_command cmd.Fail fine =
       departure_places form machine.shell (before_it cmd.Fail) by (is_kept (state_of machine.shell.conns by)) refl
   placing_command cmd.Next fine = next_places (next_event (before_it cmd.Next).mail by)
@@ -260,11 +243,6 @@ module _ {C R I S : Type 0} (meaning : Meaning C R I S) (form : StrForm) (machin
   -- ---- the new instance stands in a facility
 
   -- the first to connect finds a place
-  past_front : (front rest : List (Option Refusal)) → first_refusal (front ++ rest) ≡ None → first_refusal rest ≡ None
-  past_front [] rest fine = fine
-  past_front (None ∷ front) rest fine = past_front front rest fine
-  past_front (Some refusal ∷ front) rest fine = absurd (cc)
-
   connecting_past : (rebuild : Rebuild) → machine.shell.rebuild ≡ Some rebuild → IsTaken cmd.RebuildConnect
       → first_refusal (unless_copied_to form machine.shell (room_of meaning form machine) by (Some rebuild)) ≡ None
   connecting_past rebuild is fine = grind (arith, past_second)
@@ -272,11 +250,6 @@ module _ {C R I S : Type 0} (meaning : Meaning C R I S) (form : StrForm) (machin
   place_found : (rebuild : Rebuild) → machine.shell.rebuild ≡ Some rebuild → IsTaken cmd.RebuildConnect
       → rebuild.fresh ≡ None → IsFacility (facility_of (fresh_made form (before_it cmd.RebuildConnect) by rebuild))
   place_found rebuild is fine none = grind (arith, found, placed_for, past_front, connecting_past, found_facility)
-    where
-      found : (place : Option CfId) → is_some place ≡ true → IfSome place IsFacility
-          → IsFacility (facility_of place)
-      found None there is = absurd (cc)
-      found (Some cf) there is = is
 
   place_told : (rebuild : Option Rebuild) → machine.shell.rebuild ≡ rebuild → IsTaken cmd.RebuildConnect
       → IsPlaceTold machine.shell.rebuild (telling cmd.RebuildConnect
@@ -286,12 +259,10 @@ module _ {C R I S : Type 0} (meaning : Meaning C R I S) (form : StrForm) (machin
 
   told_places : (command : ShellCmd) → IsTaken command
       → IsPlaceTold machine.shell.rebuild (telling command (done meaning form machine by command).reply)
-  told_places cmd.Respond fine = respond_told machine.shell.rebuild (done meaning form machine by cmd.Respond).reply
-  told_places cmd.RebuildStop fine =
-      stop_told machine.shell.rebuild (done meaning form machine by cmd.RebuildStop).reply
+  told_places cmd.Respond fine = grind arith
+  told_places cmd.RebuildStop fine = grind arith
   told_places cmd.RebuildConnect fine = place_told machine.shell.rebuild refl fine
-  told_places cmd.RebuildComplete fine =
-      complete_told machine.shell.rebuild (done meaning form machine by cmd.RebuildComplete).reply
+  told_places cmd.RebuildComplete fine = grind arith
   told_places (cmd.Vary cf off) fine =
       mark_told machine.shell.rebuild (done meaning form machine by (cmd.Vary cf off)).reply
   told_places command fine = tt

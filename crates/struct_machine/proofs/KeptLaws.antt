@@ -21,10 +21,9 @@ same_standing (Some fresh) None same = absurd (cc)
 same_standing (Some fresh) (Some rebuild) same = grind arith
 
 -- how many items it lacks, in the shell's words
-lacking_left : {C R I S : Type 0} (meaning : Meaning C R I S) (held : Held S) (shape : Shape) (fresh : Option Fresh)
-    (stands : Bool) → held.shape ≡ shape → is_some fresh ≡ stands
-    → lacking meaning held fresh
-    ≡ (if stands then length (meaning.items shape held.state) - copied_in fresh else 0)
+lacking_left : {C R I S : Type 0} (meaning : Meaning C R I S) (held : Held S)
+    (shape : Shape) (fresh : Option Fresh) (stands : Bool) → held.shape ≡ shape → is_some fresh ≡ stands
+    → lacking meaning held fresh ≡ (if stands then length (meaning.items shape held.state) - copied_in fresh else 0)
 lacking_left meaning held shape None true same is = absurd (cc)
 lacking_left meaning held shape None false same is = refl
 lacking_left meaning held shape (Some fresh) true same is = rw same refl
@@ -41,11 +40,9 @@ rebuilt_stands shell rebuild manned is = grind (arith, manned-members, false_fro
 pub content_stands : (shell : Shell) (by : ConnId) → IsManned shell → content_cause shell by ≡ None
     → is_some shell.instances.primary ≡ true
 content_stands shell by manned accepted =
-    manned.primary (somebody_member by (actives shell.conns)
-    (active_member shell.conns by manned.places
-    (active_of (is_active shell.conns by) (first_none (unless_active shell by) _ accepted))))
-    (not_so shell.failed refusal.StructureFailed
-    (third_none (unless_active shell by) (if_lost shell) (if_failed shell) _ accepted))
+    manned.primary (somebody_member by (actives shell.conns) (active_member shell.conns by manned.places
+    (active_of (is_active shell.conns by) (first_none (unless_active shell by) _ accepted)))) (not_so shell.failed
+    refusal.StructureFailed (third_none (unless_active shell by) (if_lost shell) (if_failed shell) _ accepted))
 
 module _ {C R I S : Type 0} (meaning : Meaning C R I S) (form : StrForm)
     (shelled : ShellView) (kept : Kept S) (of : AreOf meaning form shelled kept) where
@@ -81,8 +78,7 @@ module _ {C R I S : Type 0} (meaning : Meaning C R I S) (form : StrForm)
 module _ {C R I S : Type 0} (meaning : Meaning C R I S) (form : StrForm) where
   -- what the instances hold then, and the reply
   abbrev pub IsAnswered : ConnId → C → Result R Refusal → (was now : Option (Held S)) → Type 0
-  IsAnswered by command reply was now =
-      Path (Option (Answer R S))
+  IsAnswered by command reply was now = Path (Option (Answer R S))
       (option_map (λ (held : Held S). (let a : Answer R S = record { reply = reply; held = held } in a)) now)
       (option_map (λ (held : Held S). answer meaning held by command) was)
 
@@ -101,23 +97,18 @@ module _ {C R I S : Type 0} (meaning : Meaning C R I S) (form : StrForm) where
   answered_some by command reply (Some was) (Some now) is = refl
 
   pub kept_content : (shelled now : ShellView) (kept after : Kept S) (letters : List Letter) (by : ConnId)
-      (command : C) (reply : Result R Refusal)
-      → AreOf meaning form shelled kept → now.form ≡ shelled.form
-      → now.shell ≡ with_posted letters shelled.shell
-      → IsAnswered by command reply kept.held after.held → after.at ≡ kept.at
-      → kept.fresh ≡ None → after.fresh ≡ None
-      → AreOf meaning form now after
+      (command : C) (reply : Result R Refusal) → AreOf meaning form shelled kept → now.form ≡ shelled.form
+      → now.shell ≡ with_posted letters shelled.shell → IsAnswered by command reply kept.held after.held
+      → after.at ≡ kept.at → kept.fresh ≡ None → after.fresh ≡ None → AreOf meaning form now after
   kept_content shelled now kept after letters by command reply of same posted is at alone none =
       grind (arith, answered_of, answered_some, manned-told)
 
   -- the call's outcome is the machine's
   pub content_same : (shelled now : ShellView) (kept after : Kept S) (letters : List Letter) (by : ConnId)
-      (command : C) (reply : Result R Refusal)
-      → AreOf meaning form shelled kept → is_some kept.held ≡ true
+      (command : C) (reply : Result R Refusal) → AreOf meaning form shelled kept → is_some kept.held ≡ true
       → now.shell ≡ with_posted letters shelled.shell → letters ≡ letters_by meaning by command kept.held
       → IsAnswered by command reply kept.held after.held → kept.fresh ≡ None → after.fresh ≡ None
-      → Path (CallOutcome R S)
-      (record { reply = content_reply reply; machine = machine_of meaning form now after })
+      → Path (CallOutcome R S) (record { reply = content_reply reply; machine = machine_of meaning form now after })
       (content_done meaning form (machine_of meaning form shelled kept) by command)
   content_same shelled now kept after letters by command reply of stands posted sent is alone none = grind arith
 
@@ -129,18 +120,17 @@ module _ {C R I S : Type 0} (meaning : Meaning C R I S) (form : StrForm) where
   -- before the first call
   pub kept_opening : (shelled : ShellView) (kept : Kept S) → IsForm form → shelled.form ≡ form
       → shelled.shell ≡ opening_shell form → kept ≡ nothing_kept → AreOf meaning form shelled kept
-  kept_opening shelled kept formed same opens nothing =
-      subst (AreOf meaning form shelled) (sym nothing) (record {
-        formed = formed;
-        shell_form = same;
-        places = sym (ap (λ (shell : Shell). shell.instances) opens);
-        held = tt;
-        fresh = rw opens refl;
-        fresh_at = rw opens tt;
-        stands = refl;
-        manned = subst IsManned (sym opens) (manned-opening meaning form);
-        filled = record { filling = inl refl; within = omega arith };
-      })
+  kept_opening shelled kept formed same opens nothing = subst (AreOf meaning form shelled) (sym nothing) (record {
+    formed = formed;
+    shell_form = same;
+    places = sym (ap (λ (shell : Shell). shell.instances) opens);
+    held = tt;
+    fresh = rw opens refl;
+    fresh_at = rw opens tt;
+    stands = refl;
+    manned = subst IsManned (sym opens) (manned-opening meaning form);
+    filled = record { filling = inl refl; within = omega arith };
+  })
 
 -- what is held stands where a primary does
 pub kept_stands : {E L S : Type 0} (holds : E → Held S) (content : ContentView E L)

@@ -15,8 +15,7 @@ TellsSo how cf acted = reply_as how ≡ acted.reply → acted.deeds ≡ deeds_as
 
 deeds_told : (form : StrForm) (cf : CfId) (shell : Shell) (how : LostAs) → TellsSo how cf (loss_outcome form cf shell)
 deeds_told form cf shell (told.Simplex left) = grind (arith, loss-cases)
-deeds_told form cf shell (told.Stopped number) = grind (arith, loss-cases)
-deeds_told form cf shell told.FailedNow = grind (arith, loss-cases)
+deeds_told form cf shell how = grind (arith, loss-cases)
 
 module _ {C R I S : Type 0} (meaning : Meaning C R I S) (form : StrForm) (shelled : ShellView) (kept : Kept S)
     (of : AreOf meaning form shelled kept) (cf : CfId) (how : LostAs)
@@ -41,9 +40,8 @@ module _ {C R I S : Type 0} (meaning : Meaning C R I S) (form : StrForm) (shelle
       → machine_of meaning form now after ≡ lost_at meaning form machine cf
   lost_same now after came ends = grind (arith, deeds_so)
 
-  pub kept_lost : (now : ShellView) (after : Kept S) → now.form ≡ shelled.form → now.shell ≡ acted.shell
-      → after ≡ kept_without how cf kept → is_some after.held ≡ is_some after.at.primary
-      → AreOf meaning form now after
+  pub kept_lost : (now : ShellView) (after : Kept S) → now.form ≡ shelled.form → now.shell ≡ acted.shell →
+      after ≡ kept_without how cf kept → is_some after.held ≡ is_some after.at.primary → AreOf meaning form now after
   kept_lost now after same came ends stands = record {
     formed = of.formed;
     shell_form = same ∙ of.shell_form;
@@ -57,23 +55,19 @@ module _ {C R I S : Type 0} (meaning : Meaning C R I S) (form : StrForm) (shelle
   }
     where
       places_so : (how : LostAs) → acted.deeds ≡ deeds_as how cf → (kept_without how cf kept).at ≡ acted.shell.instances
-      places_so (told.Simplex left) is =
-          ap (at_left cf) of.places ∙ sym (placing.places ∙ rw is refl)
+      places_so (told.Simplex left) is = ap (at_left cf) of.places ∙ sym (placing.places ∙ rw is refl)
       places_so (told.Stopped number) is = of.places ∙ sym (placing.places ∙ rw is refl)
       places_so told.FailedNow is = sym (placing.places ∙ rw is refl)
 
       held_so : (how : LostAs) → acted.deeds ≡ deeds_as how cf
           → IsOf meaning form acted.shell.caps (kept_without how cf kept).held
-      held_so (told.Simplex left) is = grind (arith, capacities-loss)
-      held_so (told.Stopped number) is = grind (arith, capacities-loss)
       held_so told.FailedNow is = tt
+      held_so how is = grind (arith, capacities-loss)
 
       fresh_so : (how : LostAs) → acted.deeds ≡ deeds_as how cf
           → caps_of (kept_without how cf kept).fresh ≡ fresh_caps acted.shell.rebuild
-      fresh_so (told.Simplex left) is =
-          of.fresh ∙ sym ((capacities-loss form cf shelled.shell).1 ∙ rw is refl)
-      fresh_so (told.Stopped number) is = sym ((capacities-loss form cf shelled.shell).1 ∙ rw is refl)
-      fresh_so told.FailedNow is = sym ((capacities-loss form cf shelled.shell).1 ∙ rw is refl)
+      fresh_so (told.Simplex left) is = of.fresh ∙ sym ((capacities-loss form cf shelled.shell).1 ∙ rw is refl)
+      fresh_so how is = sym ((capacities-loss form cf shelled.shell).1 ∙ rw is refl)
 
   -- where the structure doesn't fail, the content stays
   pub held_lost : (after : Kept S) → after ≡ kept_without how cf kept → is_failure how ≡ false → after.held ≡ kept.held

@@ -9,8 +9,7 @@ module _ {C R I S : Type 0} (meaning : Meaning C R I S) (form : StrForm) where
   pub told_more : (start machine : Machine S) (cfs : List CfId) (marks : List Mark) (mark : Mark)
       → machine ≡ behind_marks meaning form start cfs
       → Path (Reply R) (reply.Shell (reply_as mark.lost)) (loss_step meaning form machine mark.cf).reply
-      → AreTold meaning form start cfs marks
-      → AreTold meaning form start (cfs ++ mark.cf ∷ []) (marks ++ mark ∷ [])
+      → AreTold meaning form start cfs marks → AreTold meaning form start (cfs ++ mark.cf ∷ []) (marks ++ mark ∷ [])
   told_more start machine [] [] mark behind tells told =
       (refl, tells ∙ ap (λ (m : Machine S). (loss_step meaning form m mark.cf).reply) behind, tt)
   told_more start machine [] (m ∷ marks) mark behind tells told = absurd told
@@ -25,51 +24,41 @@ module _ {C R I S : Type 0} (meaning : Meaning C R I S) (form : StrForm) where
   behind_both machine one two first second is other = grind (arith, fold-append)
 
   -- what a command on the content asks
-  pub content_asks : (machine : Machine S) (by : ConnId) (call : Ask C) (command : C)
-      → call ≡ ask.Content command → content_cause machine.shell by ≡ None
-      → content_asks_of machine.shell ≡ links_asked meaning form machine by call
+  pub content_asks : (machine : Machine S) (by : ConnId) (call : Ask C) (command : C) → call ≡ ask.Content command →
+      content_cause machine.shell by ≡ None → content_asks_of machine.shell ≡ links_asked meaning form machine by call
   content_asks machine by call command is accepted = grind arith
 
   -- ---- a whole turn
 
   module _ {L : Type 0} (calls : L → Option ℕ) (downs : L → Option (List ℕ)) (faults : L → ℕ) where
     pub turn_made : (old new : Machine S) (before after : Links L) (by : ConnId) (call : Ask C) (asks : Asks)
-        (lost : Lost) (marks : List Mark) (reply : Reply R)
-        → asks ≡ links_asked meaning form old by call
-        → marks_in lost ≡ marks_of (has (marks_in lost)) asks
-        → AreAsked calls downs faults (answers_to (has (marks_in lost)) asks) before after
-        → AreTold meaning form old (marks_in lost) marks
-        → Path (CallOutcome R S) (record { reply = reply; machine = new })
-        (judged meaning form (behind_marks meaning form old (marks_in lost)) by call)
-        → IsJudgedTurn calls downs faults meaning form old new before after by call marks reply
+        (lost : Lost) (marks : List Mark) (reply : Reply R) → asks ≡ links_asked meaning form old by call → marks_in
+        lost ≡ marks_of (has (marks_in lost)) asks → AreAsked calls downs faults (answers_to (has (marks_in lost))
+        asks) before after → AreTold meaning form old (marks_in lost) marks → Path (CallOutcome R S)
+        (record { reply = reply; machine = new }) (judged meaning form (behind_marks meaning form old (marks_in lost))
+        by call) → IsJudgedTurn calls downs faults meaning form old new before after by call marks reply
     turn_made old new before after by call asks lost marks reply asked marked links told done = grind arith
 
     -- the links that a call asks, with the marks that they make
     pub marks_made : (old new : Machine S) (before after : Links L) (asks wanted : Asks) (lost : Lost)
-        (marks : List Mark) → asks ≡ wanted
-        → marks_in lost ≡ marks_of (has (marks_in lost)) asks
+        (marks : List Mark) → asks ≡ wanted → marks_in lost ≡ marks_of (has (marks_in lost)) asks
         → AreAsked calls downs faults (answers_to (has (marks_in lost)) asks) before after
-        → AreTold meaning form old (marks_in lost) marks
-        → new ≡ behind_marks meaning form old (marks_in lost)
+        → AreTold meaning form old (marks_in lost) marks → new ≡ behind_marks meaning form old (marks_in lost)
         → AreMarked calls downs faults meaning form old new before after wanted marks
     marks_made old new before after asks wanted lost marks asked marked links told machine = grind arith
 
     -- a command on the content that is judged behind them
     pub turn_behind : (old middle new : Machine S) (before between after : Links L) (by : ConnId) (call : Ask C)
-        (command : C) (marks : List Mark) (reply : Reply R)
-        → AreMarked calls downs faults meaning form old middle before between (content_asks_of old.shell) marks
-        → call ≡ ask.Content command
-        → content_cause old.shell by ≡ None
-        → Path (CallOutcome R S) (record { reply = reply; machine = new }) (judged meaning form middle by call)
-        → after ≡ between
-        → IsJudgedTurn calls downs faults meaning form old new before after by call marks reply
+        (command : C) (marks : List Mark) (reply : Reply R) → AreMarked calls downs faults meaning form old middle
+        before between (content_asks_of old.shell) marks → call ≡ ask.Content command → content_cause old.shell by
+        ≡ None → Path (CallOutcome R S) (record { reply = reply; machine = new }) (judged meaning form middle by call)
+        → after ≡ between → IsJudgedTurn calls downs faults meaning form old new before after by call marks reply
     turn_behind old middle new before between after by call command marks reply marked is accepted done same =
         grind (arith, content_asks)
 
     -- one that asks no link
     pub turn_quiet : (old new : Machine S) (before after : Links L) (by : ConnId) (call : Ask C) (marks : List Mark)
-        (reply : Reply R) → (links_asked meaning form old by call).links ≡ []
-        → after ≡ before → marks ≡ []
+        (reply : Reply R) → (links_asked meaning form old by call).links ≡ [] → after ≡ before → marks ≡ []
         → Path (CallOutcome R S) (record { reply = reply; machine = new }) (judged meaning form old by call)
         → IsJudgedTurn calls downs faults meaning form old new before after by call marks reply
     turn_quiet old new before after by call marks reply none same unmarked done = record {
@@ -99,16 +88,14 @@ module _ {C R I S : Type 0} (meaning : Meaning C R I S) (form : StrForm) where
 
   -- what COPY asks
   pub copy_asks : (machine : Machine S) (by : ConnId) (call : Ask C) (n : ℕ) (shell : Shell)
-      → call ≡ ask.Shell (cmd.Copy n)
-      → shell_cause form (room_of meaning form machine) machine.shell by (cmd.Copy n) ≡ None → shell ≡ machine.shell
-      → copy_asks_of shell ≡ links_asked meaning form machine by call
+      → call ≡ ask.Shell (cmd.Copy n) → shell_cause form (room_of meaning form machine) machine.shell
+      by (cmd.Copy n) ≡ None → shell ≡ machine.shell → copy_asks_of shell ≡ links_asked meaning form machine by call
   copy_asks machine by call n shell is accepted same = grind arith
 
   -- a refused call changes nothing, and one that isn't refused does what it does
   pub refused_done : (machine : Machine S) (by : ConnId) (call : Ask C) (refusal : Refusal)
-      → call_cause form (room_of meaning form machine) machine.shell by call ≡ Some refusal
-      → Path (CallOutcome R S) (record { reply = reply.Refused refusal; machine = machine })
-      (judged meaning form machine by call)
+      → call_cause form (room_of meaning form machine) machine.shell by call ≡ Some refusal → Path (CallOutcome R S)
+      (record { reply = reply.Refused refusal; machine = machine }) (judged meaning form machine by call)
   refused_done machine by call refusal is = grind arith
 
   pub command_judged : (machine : Machine S) (by : ConnId) (command : ShellCmd)

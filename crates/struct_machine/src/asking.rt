@@ -26,6 +26,7 @@ pub struct Asked {
 
 impl Asked {
     /// These two, each once.
+    #[tactic(auto, using(crate::proofs::AskingLaws::apart_both, crate::proofs::AskingLaws::places_both, engine_api::proofs::AskLaws::distinct_apart))]
     pub(crate) fn both(first: Option<CfId>, second: Option<CfId>, stops: bool) -> Asked
         requires first_at { IfSome first IsFacility }
         requires second_at { IfSome second IsFacility }
@@ -110,6 +111,7 @@ fn ask_place<E: Engine, L: Link>(content: &mut Content<E, L>, at: Option<CfId>) 
 }
 
 // Asks the link to a facility. It is told where the link is down.
+#[tactic(auto, using(crate::proofs::AskingLaws::asked_place, crate::proofs::AskingLaws::marks_single, crate::proofs::AskingLaws::told_single))]
 fn ask_facility<E: Engine, L: Link>(content: &mut Content<E, L>, cf: CfId) -> Option<CfId>
     requires place { IsFacility cf }
     ensures marks { listed result

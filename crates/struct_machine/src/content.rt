@@ -305,6 +305,7 @@ impl<E: Engine, L: Link> Content<E, L> {
     }
 
     /// One of two instances is dropped, and the other is the only one.
+    #[tactic(auto, using(crate::proofs::ContentLaws::left_places))]
     pub(crate) fn drop_at(&mut self, cf: CfId)
         requires there { (is_at cf (instances_of self.old.pair).primary
             || is_at cf (instances_of self.old.pair).secondary) ≡ true }

@@ -105,6 +105,7 @@ pub(crate) fn answer<E: Engine, L: Link>(
 
 // A call is judged, its links are asked, and it is done where the shell doesn't refuse it behind
 // what they tell.
+#[tactic(auto, using(crate::proofs::TurnLaws::turn_quiet, crate::proofs::TurnLaws::refused_asks, crate::proofs::TurnLaws::refused_done, crate::proofs::ChangeLaws::refused_all))]
 fn answer_judged<E: Engine, L: Link>(
     alloc: Global,
     form: &StrForm,
@@ -213,6 +214,7 @@ pub(crate) fn room_of<E: Engine, L: Link>(
 }
 
 // Why the shell refuses a call, if it does.
+#[tactic(auto, using(crate::proofs::RefusalLaws::refused_call))]
 fn refusal_of<C>(shell: &Shell, by: ConnId, ask: &Ask<C>, room: &Room) -> Option<Refusal>
     requires may { MayAsk by ask.now }
     ensures { result ≡ call_cause shell.now.form room.now shell.now.shell by ask.now }
@@ -546,6 +548,7 @@ fn copy_judged<R: Drop, C>(shell: &mut Shell, call: &CommonCall<'_, C>) -> Reply
 }
 
 // A common command that the shell doesn't refuse. What bits it may have changed is told.
+#[tactic(auto, using(crate::proofs::RoomLaws::cause_seen, crate::proofs::RoomLaws::done_seen, crate::proofs::PostedLaws::accepted_posted, crate::proofs::PostedLaws::letters_none))]
 fn do_command<E: Engine, L: Link>(
     alloc: Global,
     form: &StrForm,

@@ -93,6 +93,7 @@ pub(crate) fn lose_marked<E: Engine, L: Link>(
 
 /// A link has told that what stands in a facility is lost. Of two instances the other one is left;
 /// a rebuild that loses its new instance stops; and without any instance the structure fails.
+#[tactic(auto, using(crate::proofs::LossLaws::lost_same, crate::proofs::LossLaws::held_lost))]
 pub(crate) fn lose<E: Engine, L: Link>(
     form: &StrForm,
     shell: &mut Shell,

@@ -47,17 +47,15 @@ module _ {L : Type 0} (board : BoardShown L) where
   seats desks front more a b callers counted new three last before =
       let two : callers ≡ 2 =
       omega (arith, three, ap length new, length-map-range_with_len (new_desk board) 0 (callers + 1)) in
-      let are : (front ++ a ∷ []) ++ b ∷ [] ≡ new_desk board 0 ∷ new_desk board 1 ∷ new_desk board 2 ∷ [] =
-      ap (λ l. l ++ b ∷ []) (sym before) ∙ sym last ∙ new
-      ∙ ap (λ n. map (new_desk board) (range_with_len 0 (n + 1))) two in
+      let are : (front ++ a ∷ []) ++ b ∷ [] ≡ new_desk board 0 ∷ new_desk board 1 ∷ new_desk board 2 ∷ [] = ap (λ l. l
+      ++ b ∷ []) (sym before) ∙ sym last ∙ new ∙ ap (λ n. map (new_desk board) (range_with_len 0 (n + 1))) two in
       let it = three_are front a b (new_desk board 0) (new_desk board 1) (new_desk board 2) are in
       record { callers = counted ∙ two; operator = it.0; first = it.1; second = it.2 }
 
   pub member : (desk : DeskShown) (owner : ℕ) → HasPool board → desk ≡ new_desk board owner → 1 ≤ owner
       → owner ≤ CONNECTORS → IsMember board desk
-  member desk owner pool new some few =
-      subst (IsMember board) (sym new)
-      (record { pool = pool; of_board = new_desk-of_board board owner; connector = (some, few) })
+  member desk owner pool new some few = subst (IsMember board)
+      (sym new) (record { pool = pool; of_board = new_desk-of_board board owner; connector = (some, few) })
 
   -- the desks as they come back
   module _ (front left all : List DeskShown) (a b a' b' : DeskShown) (seated : AreSeats front a b)
@@ -67,16 +65,13 @@ module _ {L : Type 0} (board : BoardShown L) where
     all_are = both ∙ ap (λ l. l ++ b' ∷ []) (one ∙ ap (λ l. l ++ a' ∷ []) seated.operator)
 
     pub all-of_board : All (IsDeskOf board) all
-    all-of_board =
-        All-same (IsDeskOf board) all (new_desk board 0 ∷ a' ∷ b' ∷ []) all_are
-        (All-cons (IsDeskOf board) (new_desk board 0) (a' ∷ b' ∷ []) (new_desk-of_board board 0)
-        (All-cons (IsDeskOf board) a' (b' ∷ []) a_stays.of_board
-        (All-cons (IsDeskOf board) b' [] b_stays.of_board (All-nil (IsDeskOf board)))))
+    all-of_board = All-same (IsDeskOf board) all (new_desk board 0 ∷ a' ∷ b' ∷ []) all_are (All-cons
+        (IsDeskOf board) (new_desk board 0) (a' ∷ b' ∷ []) (new_desk-of_board board 0) (All-cons (IsDeskOf board)
+        a' (b' ∷ []) a_stays.of_board (All-cons (IsDeskOf board) b' [] b_stays.of_board (All-nil (IsDeskOf board)))))
 
     pub all-owners : map owner_of all ≡ range_with_len 0 (board.callers + 1)
     all-owners =
         let first : a'.owner.0 ≡ 1 = ap (λ o. o.0) (a_stays.owner ∙ ap (λ (d : DeskShown). d.owner) seated.first) in
         let second : b'.owner.0 ≡ 2 = ap (λ o. o.0) (b_stays.owner ∙ ap (λ (d : DeskShown). d.owner) seated.second) in
-        ap (map owner_of) all_are
-        ∙ ap (λ n. 0 ∷ n ∷ b'.owner.0 ∷ []) first ∙ ap (λ n. 0 ∷ 1 ∷ n ∷ []) second
-        ∙ ap (λ n. range_with_len 0 (n + 1)) (sym seated.callers)
+        ap (map owner_of) all_are ∙ ap (λ n. 0 ∷ n ∷ b'.owner.0 ∷ []) first
+        ∙ ap (λ n. 0 ∷ 1 ∷ n ∷ []) second ∙ ap (λ n. range_with_len 0 (n + 1)) (sym seated.callers)

@@ -14,9 +14,8 @@ module _ {D : Type 0} where
   -- no store has a number that begins
   pub fresh : (number word : ℕ) (log : List (Logged D)) → count_of log < number → IsBegun 0 log
       → ¬ HasStore (steps_of log) word number
-  fresh number word log above idle h =
-      ⊎_elim (λ (b : number ≤ count_of log). omega arith) (λ (z : number ≡ 0). omega arith)
-      (idle.orderly.stores word number h)
+  fresh number word log above idle h = ⊎_elim (λ (b : number ≤ count_of log). omega arith)
+      (λ (z : number ≡ 0). omega arith) (idle.orderly.stores word number h)
 
   -- the number in flight may go on, beside itself and beside the stores since the last commit
   pub open_begun : (number : ℕ) (log : List (Logged D)) → 0 < number → IsBegun number log
@@ -31,9 +30,8 @@ module _ {D : Type 0} where
     orderly = orderly-store log to bits number number fits (begun.above some, inr refl) begun.orderly;
   }
 
-  pub begun-commit : (number by : ℕ) (about : D) (log : List (Logged D)) → number < 2 ^ 32 → 0 < number
-      → IsBegun number log
-      → IsBegun 0 (log ++ Committed number by about ∷ [])
+  pub begun-commit : (number by : ℕ) (about : D) (log : List (Logged D)) → number < 2 ^ 32
+      → 0 < number → IsBegun number log → IsBegun 0 (log ++ Committed number by about ∷ [])
   begun-commit number by about log fits some begun = record {
     above = λ h. absurd (omega arith);
     carried = inl (flying-push log (Committed number by about));

@@ -1,5 +1,5 @@
 -- The commits of a log, and the calls of one caller among them.
-use Rattle.vec_words.proofs.Imports.{arith, ◌≡◌, ◌≢◌, ℕ, List, [], ◌∷◌, ◌++◌, refl, ap, ◌∙◌, append-nil, All, if◌then◌else◌, ◌==◌, ⊤, map-append, filter-append, All-nil, All-cons, All-head, All-tail, All-contains, Step, Store, Commit, IsCommitted, Logged, Stored, Committed, steps_of, CallRecord, commits_of, calls_in, calls_of}
+use Rattle.vec_words.proofs.Imports.{arith, ◌≡◌, ◌≢◌, ℕ, List, [], ◌∷◌, ◌++◌, refl, ap, ◌∙◌, append-nil, All, ⊤, map-append, filter-append, All-nil, All-cons, All-head, All-tail, All-contains, Step, Store, Commit, IsCommitted, Logged, Stored, Committed, steps_of, CallRecord, commits_of, calls_in, calls_of}
 
 -- a fact of a commit's number
 abbrev OnCommit : (ℕ → Type 0) → Step → Type 0
@@ -18,9 +18,8 @@ module _ {D : Type 0} where
       → commits_of (log ++ Stored to bits stamp ∷ []) ≡ commits_of log
   commits-store log to bits stamp = commits_of-append log (Stored to bits stamp ∷ []) ∙ append-nil (commits_of log)
 
-  pub commits-commit : (log : List (Logged D)) (number by : ℕ) (about : D)
-      → commits_of (log ++ Committed number by about ∷ []) ≡ commits_of log ++ record
-      { number = number; caller = by; about = about } ∷ []
+  pub commits-commit : (log : List (Logged D)) (number by : ℕ) (about : D) → commits_of (log ++ Committed
+      number by about ∷ []) ≡ commits_of log ++ record { number = number; caller = by; about = about } ∷ []
   commits-commit log number by about = commits_of-append log (Committed number by about ∷ [])
 
   pub calls_in-append : (caller : ℕ) (commits more : List (CallRecord D))

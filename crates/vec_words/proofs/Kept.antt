@@ -1,12 +1,11 @@
 -- Tests stay told, and what the rule says of a view stays so, at each step.
-use Rattle.vec_words.proofs.Imports.{◌≡◌, ◌≢◌, ◌⊎◌, ◌-◌, ◌/◌, ◌<◌, ◌≤◌, ℕ, zero, suc, List, [], ◌∷◌, ◌++◌, length, set, refl, sym, ap, ◌∙◌, subst, inl, inr, ⊎_elim, arith, max, some, some-injective, some-ne-none, get_elem?, at_set, bits_at, IsOpen, bits_of, stamp_of, Carries-at, Leaves, Moves, leaves-commit, store-cases, settled-max, settled-below, Logged, Stored, Committed, Sight, View, steps_of, count_of, flying_of, left_in, IsOrderly, Tells, bit_in, words_of, word_number, sight, Settled, IsKept, Roll, Fits, AllFit}
+use Rattle.vec_words.proofs.Imports.{◌≡◌, ◌≢◌, ◌⊎◌, ◌/◌, ◌<◌, ◌≤◌, ℕ, zero, suc, List, [], ◌∷◌, ◌++◌, length, set, refl, sym, ap, subst, inl, inr, ⊎_elim, arith, max, some, some-injective, some-ne-none, get_elem?, at_set, bits_at, IsOpen, bits_of, stamp_of, Carries-at, Leaves, Moves, leaves-commit, store-cases, settled-max, settled-below, Logged, Stored, Committed, Sight, View, steps_of, count_of, flying_of, left_in, IsOrderly, Tells, bit_in, words_of, word_number, sight, Settled, IsKept, Roll, Fits, AllFit}
 use Rattle.vec_words.proofs.Logs.{steps-push, count-push}
 use Rattle.vec_words.proofs.Sound.{CanStore, stamps_before, settled-store_now, settled-commit_now}
 
 module _ {D : Type 0} where
   tells_left : (log later : List (Logged D)) (word : ℕ) (test : Sight)
-      → Leaves (steps_of log) (steps_of later) word test.at
-      → Tells log word test → Tells later word test
+      → Leaves (steps_of log) (steps_of later) word test.at → Tells log word test → Tells later word test
   tells_left log later word test leaves h = grind (arith, ⊎_elim)
 
   tells_moved : (log later : List (Logged D)) (word : ℕ) (test : Sight) → test.sure < test.at
@@ -27,12 +26,10 @@ module _ {D : Type 0} where
         not_before = k.not_before;
         seen = subst (λ c. test.sure ≤ c) (sym (count-push log (Stored to bits stamp))) seen;
         settled = settled-store_now log to bits stamp test.at can.fresh k.settled;
-        tells = elim (subst (λ l. Leaves (steps_of log) l word test.at ⊎
-            ((to ≡ word) × (stamp ≡ test.at) × Moves (steps_of log) l word test.at))
-            (sym (steps-push log (Stored to bits stamp)))
-            (store-cases (steps_of log) to bits stamp word test.at (omega arith)
-            (settled-below (steps_of log) (count_of log) (flying_of log) stamp test.at can.fresh k.settled)
-            (stamps_before log to bits stamp orderly can))) [
+        tells = elim (subst (λ l. Leaves (steps_of log) l word test.at ⊎ ((to ≡ word) × (stamp ≡ test.at)
+            × Moves (steps_of log) l word test.at)) (sym (steps-push log (Stored to bits stamp))) (store-cases
+            (steps_of log) to bits stamp word test.at (omega arith) (settled-below (steps_of log) (count_of log)
+            (flying_of log) stamp test.at can.fresh k.settled) (stamps_before log to bits stamp orderly can))) [
               | inl leaves ↦ tells_left log later word test leaves k.tells
               | inr moves ↦ let at : stamp ≡ test.at =
                   moves.1 in tells_moved log later word test (omega arith) moves.2 k.tells
@@ -58,10 +55,9 @@ module _ {D : Type 0} where
       }
 
   -- a test that is made now
-  pub kept-now : (log : List (Logged D)) (len conn word known sure index : ℕ) → IsOrderly log (flying_of log)
-      → Settled log known
-      → sure ≤ known → sure ≤ count_of log → 0 < conn → index / 32 < words_of len
-      → word_number len conn (index / 32) ≡ word
+  pub kept-now : (log : List (Logged D)) (len conn word known sure index : ℕ)
+      → IsOrderly log (flying_of log) → Settled log known → sure ≤ known
+      → sure ≤ count_of log → 0 < conn → index / 32 < words_of len → word_number len conn (index / 32) ≡ word
       → IsKept log len conn (sight (bits_of (left_in log word)) (max known (stamp_of (left_in log word))) sure index)
   kept-now log len conn word known sure index orderly settled ordered seen positive within is =
       let left : ℕ = left_in log word in
@@ -78,29 +74,22 @@ module _ {D : Type 0} where
       }
 
   -- the views of all seats, after one changed or came
-  pub all_set : (len : ℕ) (roll : Roll D) (views : List (View D)) (id : ℕ) (w : View D)
-      → ((j : ℕ) (u : View D) → j ≢ id → get_elem? views j ≡ some u → Fits len roll j u) → Fits len roll id w
-      → AllFit len roll (set views id w)
+  pub all_set : (len : ℕ) (roll : Roll D) (views : List (View D)) (id : ℕ) (w : View D) → ((j : ℕ) (u : View D) → j
+      ≢ id → get_elem? views j ≡ some u → Fits len roll j u) → Fits len roll id w → AllFit len roll (set views id w)
   all_set len roll views id w others mine j u e =
-      ⊎_elim
-      (λ (x : (j ≡ id) × (w ≡ u)). subst (λ (y : ℕ × View D). Fits len roll y.0 y.1) (λ i. (sym x.0 i, x.1 i)) mine)
-      (λ (x : (j ≢ id) × (get_elem? views j ≡ some u)). others j u x.0 x.1)
-      (at_set views id j w u e)
+      ⊎_elim (λ (x : (j ≡ id) × (w ≡ u)). subst (λ (y : ℕ × View D). Fits len roll y.0 y.1) (λ i. (sym x.0 i, x.1 i))
+      mine) (λ (x : (j ≢ id) × (get_elem? views j ≡ some u)). others j u x.0 x.1) (at_set views id j w u e)
 
   pub all_push : (len : ℕ) (roll : Roll D) (views : List (View D)) (w : View D) → AllFit len roll views
       → Fits len roll (length views) w → AllFit len roll (views ++ w ∷ [])
-  all_push len roll views w others mine j u e =
-      ⊎_elim
-      (λ (h : get_elem? views j ≡ some u). others j u h)
+  all_push len roll views w others mine j u e = ⊎_elim (λ (h : get_elem? views j ≡ some u). others j u h)
       (λ (x : (j ≡ length views) × (w ≡ u)). subst (λ (y : ℕ × View D). Fits len roll y.0 y.1)
-      (λ i. (sym x.0 i, x.1 i)) mine)
-      (at_push views w u j e)
+      (λ i. (sym x.0 i, x.1 i)) mine) (at_push views w u j e)
     where
       at_push : (l : List (View D)) (a b : View D) (k : ℕ) → get_elem? (l ++ a ∷ []) k ≡ some b
           → (get_elem? l k ≡ some b) ⊎ ((k ≡ length l) × (a ≡ b))
       at_push [] a b zero e = inr (refl, some-injective a b e)
       at_push [] a b (suc k) e = absurd (some-ne-none b (sym e))
       at_push (x ∷ xs) a b zero e = inl e
-      at_push (x ∷ xs) a b (suc k) e =
-          ⊎_elim (λ (h : get_elem? xs k ≡ some b). inl h) (λ (h : (k ≡ length xs) × (a ≡ b)). inr (ap suc h.0, h.1))
-          (at_push xs a b k e)
+      at_push (x ∷ xs) a b (suc k) e = ⊎_elim (λ (h : get_elem? xs k ≡ some b). inl h)
+          (λ (h : (k ≡ length xs) × (a ≡ b)). inr (ap suc h.0, h.1)) (at_push xs a b k e)

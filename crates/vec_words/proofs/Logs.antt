@@ -1,5 +1,5 @@
 -- What one more store or commit does to the readings of a log.
-use Rattle.vec_words.proofs.Imports.{arith, ◌≡◌, ◌≢◌, ◌⊎◌, ◌<◌, ◌≤◌, ℕ, List, [], ◌∷◌, ◌++◌, ◌∙◌, subst, inl, inr, ⊎_elim, if◌then◌else◌, Contains, map-append, fold-append, Contains-push_cases, Store, Commit, bits_at, IsCommitted, HasStore, word_of, bits_at-push_store, bits_at-push_above, bits_at-push_other, bits_at-push_commit, Logged, Stored, Committed, step_of, steps_of, count_of, count_after, flying_of, flying_after, left_in, left_after}
+use Rattle.vec_words.proofs.Imports.{arith, ◌≡◌, ◌≢◌, ◌⊎◌, ◌<◌, ◌≤◌, ℕ, List, [], ◌∷◌, ◌++◌, subst, inl, inr, ⊎_elim, Contains, map-append, fold-append, Contains-push_cases, Store, Commit, bits_at, IsCommitted, HasStore, word_of, bits_at-push_store, bits_at-push_above, bits_at-push_other, bits_at-push_commit, Logged, Stored, Committed, step_of, steps_of, count_of, count_after, flying_of, flying_after, left_in, left_after}
 
 module _ {D : Type 0} where
   pub steps-push : (log : List (Logged D)) (x : Logged D) → steps_of (log ++ x ∷ []) ≡ steps_of log ++ step_of x ∷ []
@@ -46,32 +46,27 @@ module _ {D : Type 0} where
   -- a number that is committed was so, or is the new commit's
   pub committed-store : (log : List (Logged D)) (to bits stamp n : ℕ)
       → IsCommitted (steps_of (log ++ Stored to bits stamp ∷ [])) n → IsCommitted (steps_of log) n
-  committed-store log to bits stamp n h =
-      ⊎_elim (λ (c : IsCommitted (steps_of log) n). c) (λ (e : Store to bits stamp ≡ Commit n). absurd (cc))
-      (Contains-push_cases (steps_of log) (Store to bits stamp) (Commit n)
-      (subst (λ l. IsCommitted l n) (steps-push log (Stored to bits stamp)) h))
+  committed-store log to bits stamp n h = ⊎_elim (λ (c : IsCommitted (steps_of log) n). c)
+      (λ (e : Store to bits stamp ≡ Commit n). absurd (cc)) (Contains-push_cases (steps_of log)
+      (Store to bits stamp) (Commit n) (subst (λ l. IsCommitted l n) (steps-push log (Stored to bits stamp)) h))
 
   pub committed-commit : (log : List (Logged D)) (m by : ℕ) (about : D) (n : ℕ)
       → IsCommitted (steps_of (log ++ Committed m by about ∷ [])) n → IsCommitted (steps_of log) n ⊎ (m ≡ n)
-  committed-commit log m by about n h =
-      ⊎_elim (λ (c : IsCommitted (steps_of log) n). inl c) (λ (e : Commit m ≡ Commit n). inr (cc))
-      (Contains-push_cases (steps_of log) (Commit m) (Commit n)
-      (subst (λ l. IsCommitted l n) (steps-push log (Committed m by about)) h))
+  committed-commit log m by about n h = ⊎_elim (λ (c : IsCommitted (steps_of log) n). inl c)
+      (λ (e : Commit m ≡ Commit n). inr (cc)) (Contains-push_cases (steps_of log) (Commit m)
+      (Commit n) (subst (λ l. IsCommitted l n) (steps-push log (Committed m by about)) h))
 
   -- a store that is there was there, or is the new one
-  pub has_store-store : (log : List (Logged D)) (to bits at word stamp : ℕ)
-      → HasStore (steps_of (log ++ Stored to bits at ∷ [])) word stamp
-      → HasStore (steps_of log) word stamp ⊎ ((to ≡ word) × (at ≡ stamp))
-  has_store-store log to bits at word stamp h =
-      ⊎_elim (λ (c : Contains (steps_of log) (Store word h.0 stamp)). inl (h.0, c))
-      (λ (e : Store to bits at ≡ Store word h.0 stamp). inr (cc, cc))
+  pub has_store-store : (log : List (Logged D)) (to bits at word stamp : ℕ) → HasStore (steps_of
+      (log ++ Stored to bits at ∷ [])) word stamp → HasStore (steps_of log) word stamp ⊎ ((to ≡ word) × (at ≡ stamp))
+  has_store-store log to bits at word stamp h = ⊎_elim (λ (c : Contains (steps_of log) (Store word h.0 stamp)).
+      inl (h.0, c)) (λ (e : Store to bits at ≡ Store word h.0 stamp). inr (cc, cc))
       (Contains-push_cases (steps_of log) (Store to bits at) (Store word h.0 stamp)
       (subst (λ l. Contains l (Store word h.0 stamp)) (steps-push log (Stored to bits at)) h.1))
 
   pub has_store-commit : (log : List (Logged D)) (m by : ℕ) (about : D) (word stamp : ℕ)
       → HasStore (steps_of (log ++ Committed m by about ∷ [])) word stamp → HasStore (steps_of log) word stamp
-  has_store-commit log m by about word stamp h =
-      ⊎_elim (λ (c : Contains (steps_of log) (Store word h.0 stamp)). (h.0, c))
-      (λ (e : Commit m ≡ Store word h.0 stamp). absurd (cc))
+  has_store-commit log m by about word stamp h = ⊎_elim (λ (c : Contains (steps_of log) (Store word h.0 stamp)).
+      (h.0, c)) (λ (e : Commit m ≡ Store word h.0 stamp). absurd (cc))
       (Contains-push_cases (steps_of log) (Commit m) (Store word h.0 stamp)
       (subst (λ l. Contains l (Store word h.0 stamp)) (steps-push log (Committed m by about)) h.1))

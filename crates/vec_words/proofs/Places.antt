@@ -1,5 +1,5 @@
 -- A word of a connector's vector is a word of the table.
-use Rattle.vec_words.proofs.Imports.{◌≡◌, ◌+◌, ◌-◌, ◌*◌, ◌/◌, ◌^◌, ◌<◌, ◌≤◌, ℕ, subst, sym, arith, mul-le-mul_right, suc-mul, All, dec_le, length-range_with_len, get_or-range_with_len, words_of, word_number, indices_of}
+use Rattle.vec_words.proofs.Imports.{◌≡◌, ◌+◌, ◌-◌, ◌*◌, ◌/◌, ◌^◌, ◌<◌, ◌≤◌, ℕ, ap, ◌∙◌, subst, sym, arith, mul-le-mul_right, suc-mul, All, dec_le, length-range_with_len, get_or-range_with_len, words_of, word_number, indices_of}
 
 pub within_all : (len conn conns word : ℕ) → 0 < conn → conn ≤ conns → word < words_of len
     → word_number len conn word < conns * words_of len
@@ -7,6 +7,16 @@ within_all len conn conns word some most below = grind (arith, mul-le-mul_right,
 
 pub small : (len conn word : ℕ) → len < 2 ^ 32 → conn < 256 → word < words_of len → word_number len conn word < 2 ^ 40
 small len conn word fits few below = grind (arith, mul-le-mul_right)
+
+-- the word's number as the code has it
+pub number_is : (from span conn word len table : ℕ) → from ≡ conn - 1 → span ≡ words_of len → len ≡ table
+    → from * span + word ≡ word_number table conn word
+number_is from span conn word len table f s l = let e : span ≡ words_of table =
+    s ∙ ap words_of l in λ i. f i * e i + word
+
+pub few : (from span conn word len table : ℕ) → from ≡ conn - 1 → span ≡ words_of len → len ≡ table → len < 2 ^ 32
+    → conn < 256 → word < words_of table → from * span + word < 2 ^ 40
+few from span conn word len table f s l fits c w = grind (arith, number_is, small)
 
 -- the indices of a word are its own
 pub indices_within : (word : ℕ) → All (λ k. k / 32 ≡ word) (indices_of word)
@@ -17,8 +27,7 @@ indices_within word k d below =
 
 -- two vectors have no word in common, nor has one vector two words of one number
 pub word_number-same : (len conn other word next : ℕ) → 0 < conn → 0 < other → word < words_of len
-    → next < words_of len
-    → word_number len conn word ≡ word_number len other next → (conn ≡ other) × (word ≡ next)
+    → next < words_of len → word_number len conn word ≡ word_number len other next → (conn ≡ other) × (word ≡ next)
 word_number-same len conn other word next some some' below below' same =
     let is : conn ≡ other = equal_by (dec_le conn other) (dec_le other conn) in (is, words is)
   where

@@ -14,9 +14,8 @@ zeros_at (suc n) (suc i) = zeros_at n i
 
 module _ {D : Type 0} where
   -- a view of which the rule asks nothing but the two numbers
-  fits_note : (len : ℕ) (roll : Roll D) (seat conns width known sure : ℕ) → Settled roll.log known
-      → sure ≤ count_of roll.log
-      → Fits len roll seat (note_view conns width known sure)
+  fits_note : (len : ℕ) (roll : Roll D) (seat conns width known sure : ℕ)
+      → Settled roll.log known → sure ≤ count_of roll.log → Fits len roll seat (note_view conns width known sure)
   fits_note len roll seat conns width known sure settled seen = grind (arith, off, All-nil)
 
   fits_blank : (len : ℕ) (roll : Roll D) (seat : ℕ) → Fits len roll seat blank_view
@@ -48,10 +47,9 @@ module _ {D : Type 0} where
         roll = kept.roll;
         sound = kept.sound;
         left = kept.left;
-        fit = all_push shape.len kept.roll (set s.views id v) (note_of v)
-            (subst (AllFit shape.len kept.roll) (sym (set_again s.views id v at)) kept.fit)
-            (fits_note shape.len kept.roll (length (set s.views id v)) v.conns v.len v.known v.sure mine.known
-            mine.sure);
+        fit = all_push shape.len kept.roll (set s.views id v)
+            (note_of v) (subst (AllFit shape.len kept.roll) (sym (set_again s.views id v at)) kept.fit) (fits_note
+            shape.len kept.roll (length (set s.views id v)) v.conns v.len v.known v.sure mine.known mine.sure);
       }
 
   away : (views : List (View D)) (id other : ℕ) (both w : View D) → ¬ (other ≡ id)
@@ -75,10 +73,9 @@ module _ {D : Type 0} where
         roll = roll;
         sound = kept.sound;
         left = kept.left;
-        fit = all_set shape.len roll (set s.views id (told_of v w)) other blank_view
-            (λ j u _ e. all_set shape.len roll s.views id (told_of v w) (λ i y _ e'. kept.fit i y e')
-            (raised shape.len roll id v w.known w.sure mine theirs.known theirs.sure) j u e)
-            (fits_blank shape.len roll other);
+        fit = all_set shape.len roll (set s.views id (told_of v w)) other blank_view (λ j u _ e. all_set shape.len
+            roll s.views id (told_of v w) (λ i y _ e'. kept.fit i y e') (raised shape.len
+            roll id v w.known w.sure mine theirs.known theirs.sure) j u e) (fits_blank shape.len roll other);
       }
 
   -- the engine's seat, whose log is empty yet, makes the next pass
@@ -102,11 +99,8 @@ module _ {D : Type 0} where
         roll = roll;
         sound = kept.sound;
         left = kept.left;
-        fit = all_push shape.len roll views (next_pass v)
-            (all_set shape.len roll s.views id (made_one v)
-            (λ j u apart e. let f = kept.fit j u e in grind arith)
-            (grind arith))
-            (grind (arith, off, All-nil));
+        fit = all_push shape.len roll views (next_pass v) (all_set shape.len roll s.views id (made_one v)
+            (λ j u apart e. let f = kept.fit j u e in grind arith) (grind arith)) (grind (arith, off, All-nil));
       }
     where
       seat_before : (o next new seat : ℕ) → o < next → (if o == next then new else seat) ≡ seat
@@ -131,12 +125,10 @@ module _ {D : Type 0} where
         roll = roll;
         sound = kept.sound;
         left = kept.left;
-        fit = all_push shape.len roll views (log_alone v)
-            (all_set shape.len roll s.views id (without_log v)
-            (λ j u apart e. let f = kept.fit j u e in grind (arith, handed))
-            (handed shape.len old (length views) id v false [] (λ k. absurd (off k)) mine))
-            (handed shape.len old (length views) (length views) blank_view true v.log (λ _. (refl, held.1))
-            (fits_blank shape.len old (length views)));
+        fit = all_push shape.len roll views (log_alone v) (all_set shape.len roll s.views
+            id (without_log v) (λ j u apart e. let f = kept.fit j u e in grind (arith, handed)) (handed shape.len
+            old (length views) id v false [] (λ k. absurd (off k)) mine)) (handed shape.len old (length views)
+            (length views) blank_view true v.log (λ _. (refl, held.1)) (fits_blank shape.len old (length views)));
       }
 
   -- the log comes to a seat
@@ -150,10 +142,8 @@ module _ {D : Type 0} where
       let roll : Roll D = record old { holder = id } in
       let others : (j : ℕ) (u : View D) → j ≢ other → get_elem? (set s.views id (with_log v w)) j ≡ some u
       → Fits shape.len roll j u
-      = λ j u off_other e. ⊎_elim
-      (λ (t : (j ≡ id) × (with_log v w ≡ u)). subst (λ (y : ℕ × View D). Fits shape.len roll y.0 y.1)
-      (λ i. (sym t.0 i, t.1 i))
-      (handed shape.len old id id v true w.log (λ _. (refl, held.1)) mine))
+      = λ j u off_other e. ⊎_elim (λ (t : (j ≡ id) × (with_log v w ≡ u)). subst (λ (y : ℕ × View D). Fits shape.len
+      roll y.0 y.1) (λ i. (sym t.0 i, t.1 i)) (handed shape.len old id id v true w.log (λ _. (refl, held.1)) mine))
       (λ (t : (j ≢ id) × (get_elem? s.views j ≡ some u)). let f = kept.fit j u t.1 in
       handed shape.len old id j u u.keeps u.log (λ k. absurd (off_other ((f.keeps k).0 ∙ sym held.0))) f)
       (at_set s.views id j (with_log v w) u e) in
@@ -183,9 +173,8 @@ module _ {D : Type 0} where
           roll = roll;
           sound = kept.sound;
           left = subst (AreLeft shape roll.log) (sym (set-get_or s.words i 0)) kept.left;
-          fit = all_set shape.len roll s.views id (tested_of asked v n) (λ j u _ e. kept.fit j u e)
-              (subst (λ k. Fits shape.len roll id (tested_of asked v k)) (sym found)
-              (tested_fits roll v kept.sound mine refl ordered));
+          fit = all_set shape.len roll s.views id (tested_of asked v n) (λ j u _ e. kept.fit j u e) (subst (λ k. Fits
+              shape.len roll id (tested_of asked v k)) (sym found) (tested_fits roll v kept.sound mine refl ordered));
         }),
         (refl, refl),
       )
@@ -203,22 +192,19 @@ module _ {D : Type 0} where
             known = settled-max (steps_of roll.log) (count_of roll.log) (flying_of roll.log) v.known
                 (stamp_of w) mine.known (sound.stamps word);
             sure = mine.sure;
-            tests = All-append (IsKept roll.log shape.len v.owner) v.tests
-                (map (sight (bits_of w) at v.sure) asked) mine.tests
-                (All-map (IsKept roll.log shape.len v.owner) (sight (bits_of w) at v.sure) asked
-                (All-weaker (λ k. k / 32 ≡ place)
-                (λ k. IsKept roll.log shape.len v.owner (sight (bits_of w) at v.sure k))
-                (λ k is. kept-now roll.log shape.len v.owner word v.known v.sure k sound mine.known ordered mine.sure
-                (subst (λ o. 0 < o) (sym owner) positive) (subst (λ x. x < words_of shape.len) (sym is) below)
-                (ap (word_number shape.len v.owner) is ∙ ap (λ o. word_number shape.len o place) owner ∙ sym word_is))
-                asked here));
+            tests = All-append (IsKept roll.log shape.len v.owner) v.tests (map (sight (bits_of w) at v.sure) asked)
+                mine.tests (All-map (IsKept roll.log shape.len v.owner) (sight (bits_of w) at v.sure)
+                asked (All-weaker (λ k. k / 32 ≡ place) (λ k. IsKept roll.log shape.len v.owner
+                (sight (bits_of w) at v.sure k)) (λ k is. kept-now roll.log shape.len v.owner
+                word v.known v.sure k sound mine.known ordered mine.sure (subst (λ o. 0 < o) (sym owner) positive)
+                (subst (λ x. x < words_of shape.len) (sym is) below) (ap (word_number shape.len v.owner) is
+                ∙ ap (λ o. word_number shape.len o place) owner ∙ sym word_is)) asked here));
           }
 
   -- a pass that holds the log loads the count
-  pub learns : (shape : Shape) (slots id : ℕ) (me : Me ℕ (View D)) → me.0.keeps ≡ true → me.0.passes ≡ true
-      → me.0.len ≡ shape.len
-      → Allows (Kept shape) slots id me 0 (λ n. n)
-      (λ n after. Becomes me (learned_of me.0 n) after × Shows me.0.len me.0 n)
+  pub learns : (shape : Shape) (slots id : ℕ) (me : Me ℕ (View D))
+      → me.0.keeps ≡ true → me.0.passes ≡ true → me.0.len ≡ shape.len → Allows (Kept shape)
+      slots id me 0 (λ n. n) (λ n after. Becomes me (learned_of me.0 n) after × Shows me.0.len me.0 n)
   learns shape slots id me has_log is_pass len_is s kept width at small =
       let v = me.0 in
       let roll = kept.roll in

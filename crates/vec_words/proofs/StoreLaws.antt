@@ -28,8 +28,7 @@ module _ {D : Type 0} (len : ℕ) (bits : ℕ → ℕ → ℕ) (number : ℕ) wh
   pub stores_of-below : (log : List (Logged D)) (places : List Place) (word k : ℕ) → k < number
       → bits_at (steps_of (log ++ made places)) word k ≡ bits_at (steps_of log) word k
   stores_of-below log [] word k low = ap (λ l. bits_at (steps_of l) word k) (append-nil log)
-  stores_of-below log (p ∷ ps) word k low =
-      ap (λ l. bits_at (steps_of l) word k) (sym (made-cons log p ps))
+  stores_of-below log (p ∷ ps) word k low = ap (λ l. bits_at (steps_of l) word k) (sym (made-cons log p ps))
       ∙ stores_of-below (log ++ store_of len bits number p ∷ []) ps word k low
       ∙ bits-above log (word_number len p.conn.0 p.word) (bits p.conn.0 p.word) number word k low
 
@@ -44,8 +43,7 @@ module _ {D : Type 0} (len : ℕ) (bits : ℕ → ℕ → ℕ) (number : ℕ) wh
   -- from their number on a fact of a word's bits holds, where it holds of its new bits, and of the old ones where it
   -- was spared
   pub stores_of-from : (conns : ℕ) (log : List (Logged D)) (places : List Place) (conn word k : ℕ) (P : ℕ → Type 0)
-      → 0 < conn
-      → word < words_of len → number ≤ k → All (IsWithin conns len) places → P (bits conn word)
+      → 0 < conn → word < words_of len → number ≤ k → All (IsWithin conns len) places → P (bits conn word)
       → (IsSpared places conn word → P (bits_at (steps_of log) (word_number len conn word) k))
       → P (bits_at (steps_of (log ++ made places)) (word_number len conn word) k)
   stores_of-from conns log [] conn word k P positive below from within new old = grind (arith, append-nil, All-nil)
@@ -53,21 +51,18 @@ module _ {D : Type 0} (len : ℕ) (bits : ℕ → ℕ → ℕ) (number : ℕ) wh
       let w = word_number len conn word in
       let first = log ++ store_of len bits number p ∷ [] in
       let here : IsWithin conns len p = All-head (IsWithin conns len) p ps within in
-      subst P (ap (λ l. bits_at (steps_of l) w k) (made-cons log p ps))
-      (stores_of-from conns first ps conn word k P positive below from (All-tail (IsWithin conns len) p ps within) new
-      (λ spared. at_cases conn word p (P (bits_at (steps_of first) w k))
-      (λ at. subst P (sym (subst (λ (x : ℕ × ℕ). bits_at
-      (steps_of (log ++ Stored (word_number len x.0 x.1) (bits x.0 x.1) number ∷ [])) w k ≡ bits conn word)
-      (λ i. (sym at.0 i, sym at.1 i)) (bits-here log w (bits conn word) number k from))) new)
-      (λ apart. subst P (sym (bits-other log (word_number len p.conn.0 p.word) (bits p.conn.0 p.word) number w k
-      (number-apart conns len conn word p positive below here apart)))
-      (old (All-cons (λ q. ¬ IsAt conn word q) p ps apart spared)))))
+      subst P (ap (λ l. bits_at (steps_of l) w k) (made-cons log p ps)) (stores_of-from conns first
+      ps conn word k P positive below from (All-tail (IsWithin conns len) p ps within) new (λ spared. at_cases conn
+      word p (P (bits_at (steps_of first) w k)) (λ at. subst P (sym (subst (λ (x : ℕ × ℕ). bits_at (steps_of
+      (log ++ Stored (word_number len x.0 x.1) (bits x.0 x.1) number ∷ [])) w k ≡ bits conn word)
+      (λ i. (sym at.0 i, sym at.1 i)) (bits-here log w (bits conn word) number k from))) new) (λ apart. subst P
+      (sym (bits-other log (word_number len p.conn.0 p.word) (bits p.conn.0 p.word) number w k (number-apart conns
+      len conn word p positive below here apart))) (old (All-cons (λ q. ¬ IsAt conn word q) p ps apart spared)))))
 
   -- a word that they spared has no store of their number, where it had none
-  stores_of-once : (conns : ℕ) (log : List (Logged D)) (places : List Place) (conn word : ℕ) → 0 < conn
-      → word < words_of len
-      → All (IsWithin conns len) places → IsSpared places conn word
-      → ¬ HasStore (steps_of log) (word_number len conn word) number
+  stores_of-once : (conns : ℕ) (log : List (Logged D)) (places : List Place) (conn word : ℕ)
+      → 0 < conn → word < words_of len → All (IsWithin conns len) places
+      → IsSpared places conn word → ¬ HasStore (steps_of log) (word_number len conn word) number
       → ¬ HasStore (steps_of (log ++ made places)) (word_number len conn word) number
   stores_of-once conns log [] conn word positive below within spared fresh h =
       fresh (subst (λ l. HasStore (steps_of l) (word_number len conn word) number) (append-nil log) h)
@@ -76,11 +71,10 @@ module _ {D : Type 0} (len : ℕ) (bits : ℕ → ℕ → ℕ) (number : ℕ) wh
       let v = word_number len p.conn.0 p.word in
       let here : IsWithin conns len p = All-head (IsWithin conns len) p ps within in
       let apart = All-head (λ q. ¬ IsAt conn word q) p ps spared in
-      stores_of-once conns (log ++ store_of len bits number p ∷ []) ps conn word positive below
-      (All-tail (IsWithin conns len) p ps within) (All-tail (λ q. ¬ IsAt conn word q) p ps spared)
-      (λ s. ⊎_elim (λ (t : HasStore (steps_of log) w number). fresh t)
-      (λ (e : (v ≡ w) × (number ≡ number)). number-apart conns len conn word p positive below here apart e.0)
-      (has_store-store log v (bits p.conn.0 p.word) number w number s))
+      stores_of-once conns (log ++ store_of len bits number p ∷ []) ps conn word positive
+      below (All-tail (IsWithin conns len) p ps within) (All-tail (λ q. ¬ IsAt conn word q) p ps spared) (λ s. ⊎_elim
+      (λ (t : HasStore (steps_of log) w number). fresh t) (λ (e : (v ≡ w) × (number ≡ number)). number-apart conns
+      len conn word p positive below here apart e.0) (has_store-store log v (bits p.conn.0 p.word) number w number s))
       (subst (λ l. HasStore (steps_of l) w number) (sym (made-cons log p ps)) h)
 
 -- What a call's stores do, by what `store_changed` ensures.
@@ -93,8 +87,7 @@ module _ {D : Type 0} (conns len : ℕ) (bits : ℕ → ℕ → ℕ) (named : Li
   -- they leave the bits at each number below theirs
   pub stores-below : (word k : ℕ) → StoresEach conns len bits named before after → k < before.number
       → bits_at (steps_of after.log) word k ≡ bits_at (steps_of before.log) word k
-  stores-below word k each low =
-      ap (λ l. bits_at (steps_of l) word k) (log_is each each.places each.seat)
+  stores-below word k each low = ap (λ l. bits_at (steps_of l) word k) (log_is each each.places each.seat)
       ∙ stores_of-below len bits before.number before.log each.places word k low
 
   pub stores-commits : StoresEach conns len bits named before after → commits_of after.log ≡ commits_of before.log
@@ -106,12 +99,9 @@ module _ {D : Type 0} (conns len : ℕ) (bits : ℕ → ℕ → ℕ) (named : Li
       → word < words_of len → before.number ≤ k → P (bits conn word)
       → (IsSpared named conn word → P (bits_at (steps_of before.log) (word_number len conn word) k))
       → P (bits_at (steps_of after.log) (word_number len conn word) k)
-  stores-from conn word k P each positive below from new old =
-      subst (λ l. P (bits_at (steps_of l) (word_number len conn word) k)) (sym (log_is each each.places each.seat))
-      (stores_of-from len bits before.number conns before.log each.places conn word k P positive below from
-      each.within
-      new
-      (λ spared. old ((each.same conn word).0 spared)))
+  stores-from conn word k P each positive below from new old = subst (λ l. P (bits_at (steps_of l) (word_number len
+      conn word) k)) (sym (log_is each each.places each.seat)) (stores_of-from len bits before.number conns before.log
+      each.places conn word k P positive below from each.within new (λ spared. old ((each.same conn word).0 spared)))
 
 -- The stores of a list of named words, one by one.
 front : {A : Type 0} (P : A → Type 0) (xs : List A) (x : A) → All P (xs ++ x ∷ []) → All P xs
@@ -125,22 +115,19 @@ take-next : {A : Type 0} (xs : List A) (i : ℕ) (x : A) → slice_get xs i ≡ 
 take-next xs i x is =
     take_more xs i x (slice_get_within xs i x is) ∙ ap (λ y. take i xs ++ y ∷ []) (get_or_from_slice_get xs i x x is)
 
-pub within-at : (conns len : ℕ) (places : List Place) (i : ℕ) (p : Place) → slice_get places i ≡ Some p
-    → All (IsWithin conns len) places
-    → IsWithin conns len p
+pub within-at : (conns len : ℕ) (places : List Place) (i : ℕ) (p : Place)
+    → slice_get places i ≡ Some p → All (IsWithin conns len) places → IsWithin conns len p
 within-at conns len places i p is all =
     subst (IsWithin conns len) (get_or_from_slice_get places i p p is) (all i p (slice_get_within places i p is))
 
 -- no place below this one is the word
-pub spared-below : (places : List Place) (i conn word : ℕ) → i ≤ length places
-    → ((k : ℕ) (p : Place) → 0 ≤ k → k < i → slice_get places k ≡ Some p → ¬ IsAt conn word p)
-    → IsSpared (take i places) conn word
-spared-below places i conn word most each k d inside = grind (arith, length-take-le, get_or-take, slice_get-get_or)
+pub spared_below : (places : List Place) (i conn word : ℕ) → i ≤ length places → ((k : ℕ) (p : Place)
+    → 0 ≤ k → k < i → slice_get places k ≡ Some p → ¬ IsAt conn word p) → IsSpared (take i places) conn word
+spared_below places i conn word most each k d inside = grind (arith, length-take-le, get_or-take, slice_get-get_or)
 
-pub contains-below : (places : List Place) (i k : ℕ) (p q : Place) → k < i → i ≤ length places
-    → slice_get places k ≡ Some p
-    → IsAt q.conn.0 q.word p → Contains (take i places) q
-contains-below places i k p q below most is at =
+pub contains_below : (places : List Place) (i k : ℕ) (p q : Place)
+    → k < i → i ≤ length places → slice_get places k ≡ Some p → IsAt q.conn.0 q.word p → Contains (take i places) q
+contains_below places i k p q below most is at =
     let short = length-take-le i places most in
     let same : p ≡ q = λ j. record { conn = record { 0 = at.0 j }; word = at.1 j } in
     (k, omega (arith, short, below), get_or-take i places k q below ∙ get_or_from_slice_get places k p q is ∙ same)
@@ -151,19 +138,16 @@ module _ {D : Type 0} (conns len : ℕ) (bits : ℕ → ℕ → ℕ) (before : S
 
   -- the word wasn't named before
   each-first : (after : SeatSeen D) (named : List Place) (p : Place) → IsWithin conns len p
-      → IsSpared named p.conn.0 p.word
-      → StoresEach conns len bits named before after
-      → StoresEach conns len bits (named ++ p ∷ []) before
-      (record after { log = after.log ++ store_of len bits before.number p ∷ [] })
+      → IsSpared named p.conn.0 p.word → StoresEach conns len bits named before after → StoresEach conns
+      len bits (named ++ p ∷ []) before (record after { log = after.log ++ store_of len bits before.number p ∷ [] })
   each-first after named p within apart each =
       let ps = each.places in
       let store = store_of len bits before.number in
       record {
         places = ps ++ p ∷ [];
         seat = ap (λ (s : SeatSeen D). record s { log = s.log ++ store p ∷ [] }) each.seat
-            ∙ ap (λ l. record before { log = l })
-            (append_assoc before.log (stores_of len bits before.number ps) (store p ∷ [])
-            ∙ ap (λ l. before.log ++ l) (sym (map-append store ps (p ∷ []))));
+            ∙ ap (λ l. record before { log = l }) (append_assoc before.log (stores_of len bits before.number ps)
+            (store p ∷ []) ∙ ap (λ l. before.log ++ l) (sym (map-append store ps (p ∷ []))));
         within = All-push (IsWithin conns len) ps p each.within within;
         once = all_pairs_push (λ (a b : Place). ¬ IsAt b.conn.0 b.word a) ps p each.once
             (λ k d less. (each.same p.conn.0 p.word).1 apart k d less);
@@ -175,8 +159,7 @@ module _ {D : Type 0} (conns len : ℕ) (bits : ℕ → ℕ → ℕ) (before : S
 
   -- it was
   each-again : (after : SeatSeen D) (named : List Place) (p : Place) → Contains named p
-      → StoresEach conns len bits named before after
-      → StoresEach conns len bits (named ++ p ∷ []) before after
+      → StoresEach conns len bits named before after → StoresEach conns len bits (named ++ p ∷ []) before after
   each-again after named p has each = record {
     places = each.places;
     seat = each.seat;
@@ -189,25 +172,20 @@ module _ {D : Type 0} (conns len : ℕ) (bits : ℕ → ℕ → ℕ) (before : S
   }
 
   -- a word that wasn't named has no store yet
-  pub each-once : (after : SeatSeen D) (named : List Place) (p : Place) → IsWithin conns len p
-      → IsSpared named p.conn.0 p.word
-      → StoresEach conns len bits named before after → ((w : ℕ) → ¬ HasStore (steps_of before.log) w before.number)
-      → ¬ HasStore (steps_of after.log) (word_number len p.conn.0 p.word) after.number
+  pub each-once : (after : SeatSeen D) (named : List Place) (p : Place) → IsWithin conns len p → IsSpared named
+      p.conn.0 p.word → StoresEach conns len bits named before after → ((w : ℕ) → ¬ HasStore (steps_of before.log)
+      w before.number) → ¬ HasStore (steps_of after.log) (word_number len p.conn.0 p.word) after.number
   each-once after named p within apart each fresh =
       subst (λ (s : SeatSeen D). ¬ HasStore (steps_of s.log) (word_number len p.conn.0 p.word) s.number)
-      (sym each.seat)
-      (stores_of-once len bits before.number conns before.log each.places p.conn.0 p.word within.0 within.2
-      each.within
-      ((each.same p.conn.0 p.word).1 apart) (fresh (word_number len p.conn.0 p.word)))
+      (sym each.seat) (stores_of-once len bits before.number conns before.log each.places p.conn.0 p.word
+      within.0 within.2 each.within ((each.same p.conn.0 p.word).1 apart) (fresh (word_number len p.conn.0 p.word)))
 
   -- one step of the loop
   pub each-step : (after new : SeatSeen D) (named : List Place) (i : ℕ) (p : Place) (first : Bool)
-      → slice_get named i ≡ Some p
-      → IsWithin conns len p → StoresEach conns len bits (take i named) before after
-      → (first ≡ true → IsSpared (take i named) p.conn.0 p.word ×
-      (new ≡ record after { log = after.log ++ store_of len bits after.number p ∷ [] }))
-      → (first ≡ false → Contains (take i named) p × (new ≡ after))
-      → StoresEach conns len bits (take (i + 1) named) before new
+      → slice_get named i ≡ Some p → IsWithin conns len p → StoresEach conns len bits (take i named) before after
+      → (first ≡ true → IsSpared (take i named) p.conn.0 p.word
+      × (new ≡ record after { log = after.log ++ store_of len bits after.number p ∷ [] })) → (first ≡ false
+      → Contains (take i named) p × (new ≡ after)) → StoresEach conns len bits (take (i + 1) named) before new
   each-step after new named i p true is within each then else_ =
       let h = then refl in
       let same : after.number ≡ before.number = ap (λ (s : SeatSeen D). s.number) each.seat in

@@ -5,7 +5,6 @@ pub id_of : (x y z : WordTable) → x ≡ y → z ≡ y → x.id ≡ z.id
 id_of x y z p q = ap (λ (t : WordTable). t.id) p ∙ sym (ap (λ (t : WordTable). t.id) q)
 
 -- how many words the table has, by its own form
-pub words_here : (conns len conns' len' words : ℕ) → conns ≡ conns' → len ≡ len'
-    → words ≡ suc (conns' * words_of len')
-    → words ≡ suc (conns * words_of len)
+pub words_here : (conns len conns' len' words : ℕ) → conns ≡ conns'
+    → len ≡ len' → words ≡ suc (conns' * words_of len') → words ≡ suc (conns * words_of len)
 words_here conns len conns' len' words p q e = e ∙ λ i. suc (sym p i * words_of (sym q i))

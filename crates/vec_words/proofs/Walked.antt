@@ -23,9 +23,8 @@ module _ {A : Type 0} where
       let here = walked-here f now first i d walked in
       record {
         long = length-set now i y ∙ walked.long;
-        done = take_more_set now i y inside ∙ (λ k. walked.done k ++ (new ∙ ap f here) k ∷ [])
-            ∙ sym (ap (map f) (take_more first i d (omega arith))
-            ∙ map-append f (take i first) (get_or first i d ∷ []));
+        done = take_more_set now i y inside ∙ (λ k. walked.done k ++ (new ∙ ap f here) k ∷ []) ∙ sym
+            (ap (map f) (take_more first i d (omega arith)) ∙ map-append f (take i first) (get_or first i d ∷ []));
         rest = drop-set-lt (i + 1) now i y (omega arith) ∙ sym (drop-drop 1 i now) ∙ ap (drop 1) walked.rest
             ∙ drop-drop 1 i first;
       }

@@ -1,5 +1,5 @@
 -- The steps that change a word keep the rule.
-use Rattle.vec_words.proofs.Imports.{◌≡◌, ◌≢◌, ◌*◌, ◌^◌, ◌<◌, ◌≤◌, ℕ, suc, true, List, [], ◌∷◌, ◌++◌, set, refl, sym, ap, ◌∙◌, subst, ⊎_elim, arith, length-set, get_or-set_other, get_or-set_same, All, cases_eq, All-weaker, Me, keeps, Allows, IsOpen, word_of, Logged, Stored, Committed, View, Shape, words_of, count_of, flying_of, IsOrderly, stored_to, committed_of, Becomes, Settled, IsKept, Roll, Fits, AreLeft, Kept}
+use Rattle.vec_words.proofs.Imports.{◌≡◌, ◌*◌, ◌^◌, ◌<◌, ◌≤◌, ℕ, suc, true, List, [], ◌∷◌, ◌++◌, set, refl, sym, ap, ◌∙◌, subst, ⊎_elim, arith, length-set, get_or-set_other, get_or-set_same, All, cases_eq, All-weaker, Me, keeps, Allows, IsOpen, word_of, Logged, Stored, Committed, View, Shape, words_of, count_of, flying_of, IsOrderly, stored_to, committed_of, Becomes, Settled, IsKept, Roll, Fits, AreLeft, Kept}
 use Rattle.vec_words.proofs.Logs.{count-push, left-push, left-here, left-other}
 use Rattle.vec_words.proofs.Commits.{calls-store, calls-here, calls-other}
 use Rattle.vec_words.proofs.Sound.{CanStore, settled-count, settled-store_now, settled-commit_now, sound-store, sound-commit}
@@ -7,25 +7,22 @@ use Rattle.vec_words.proofs.Kept.{kept-store, kept-commit, all_set}
 
 module _ {D : Type 0} where
   left-store : (shape : Shape) (log : List (Logged D)) (words : List ℕ) (word bits stamp : ℕ)
-      → word < shape.conns * words_of shape.len
-      → AreLeft shape log words → AreLeft shape (log ++ Stored word bits stamp ∷ [])
-      (set words (suc word) (word_of bits stamp))
-  left-store shape log words word bits stamp within left =
-      grind (
-        arith,
-        get_or-set_other,
-        count-push,
-        length-set,
-        ⊎_elim,
-        get_or-set_same,
-        left-here,
-        left-other,
-        cases_eq,
-      )
+      → word < shape.conns * words_of shape.len → AreLeft shape log words
+      → AreLeft shape (log ++ Stored word bits stamp ∷ []) (set words (suc word) (word_of bits stamp))
+  left-store shape log words word bits stamp within left = grind (
+    arith,
+    get_or-set_other,
+    count-push,
+    length-set,
+    ⊎_elim,
+    get_or-set_same,
+    left-here,
+    left-other,
+    cases_eq,
+  )
 
   left-commit : (shape : Shape) (log : List (Logged D)) (words : List ℕ) (number by : ℕ) (about : D)
-      → AreLeft shape log words
-      → AreLeft shape (log ++ Committed number by about ∷ []) (set words 0 number)
+      → AreLeft shape log words → AreLeft shape (log ++ Committed number by about ∷ []) (set words 0 number)
   left-commit shape log words number by about left =
       grind (arith, get_or-set_same, count-push, length-set, get_or-set_other, left-push)
 
@@ -69,9 +66,8 @@ module _ {D : Type 0} where
               (left-store shape old.log s.words word bits stamp within kept.left);
           fit = all_set shape.len roll s.views id (stored_to word bits stamp v)
               (λ j u apart e. let f = kept.fit j u e in
-              fits-store shape.len old word bits stamp j u u.log
-              (λ k. absurd (apart ((f.keeps k).0 ∙ sym held.0))) kept.sound can' f)
-              (fits-store shape.len old word bits stamp id v (v.log ++ Stored word bits stamp ∷ [])
+              fits-store shape.len old word bits stamp j u u.log (λ k. absurd (apart ((f.keeps k).0 ∙ sym held.0)))
+              kept.sound can' f) (fits-store shape.len old word bits stamp id v (v.log ++ Stored word bits stamp ∷ [])
               (λ _. (held.0, ap (λ l. l ++ Stored word bits stamp ∷ []) held.1)) kept.sound can' mine);
         }),
         (refl, refl),
@@ -79,14 +75,12 @@ module _ {D : Type 0} where
 
   -- the number is the one in flight, for the seat that holds the log
   pub publishes : (shape : Shape) (slots id : ℕ) (me : Me ℕ (View D)) (number : ℕ) (about : List D) (x : D)
-      → about ≡ x ∷ []
-      → me.0.keeps ≡ true → me.0.passes ≡ true → number < 2 ^ 32
-      → IsOpen (count_of me.0.log) (flying_of me.0.log) number
+      → about ≡ x ∷ [] → me.0.keeps ≡ true
+      → me.0.passes ≡ true → number < 2 ^ 32 → IsOpen (count_of me.0.log) (flying_of me.0.log) number
       → Allows (Kept shape) slots id me 0 (λ _. number) (λ _ after. Becomes me (committed_of number about me.0) after)
   publishes shape slots id me number about x one has_log is_pass fits fresh =
-      subst (λ a. Allows (Kept shape) slots id me 0 (λ _. number)
-      (λ _ after. Becomes me (committed_of number a me.0) after)) (sym one)
-      (λ s kept width at small.
+      subst (λ a. Allows (Kept shape) slots id me
+      0 (λ _. number) (λ _ after. Becomes me (committed_of number a me.0) after)) (sym one) (λ s kept width at small.
       let v = me.0 in
       let old = kept.roll in
       let mine = kept.fit id v at in
@@ -116,8 +110,7 @@ module _ {D : Type 0} where
                 known = settled-commit_now old.log number v.owner x u.known fresh' f.known;
                 sure = omega (arith, count, seen, higher);
                 tests = tests u j f;
-              })
-              (record {
+              }) (record {
                 keeps = λ _. (held.0, ap (λ l. l ++ Committed number v.owner x ∷ []) held.1);
                 makes = mine.makes;
                 passes = grind (arith, calls-here);

@@ -156,6 +156,7 @@ impl<D> Vectors<D> {
     }
 
     /// Moves the log from one seat to another.
+    #[tactic(auto, using(crate::proofs::Steps::splits_log, crate::proofs::Steps::joins_log))]
     fn hand_log(&self, from: &mut Seat<u8, View<D>>, to: &mut Seat<u8, View<D>>)
         requires tables { (from.old.table_id ≡ self.now.id) × (to.old.table_id ≡ self.now.id) }
         requires log { from.old.me.0.keeps ≡ true }

@@ -36,6 +36,7 @@ impl<D> Vectors<D> {
     }
 
     /// Tests the 32 bits of a word of the pass's own vector with one load.
+    #[tactic(auto, using(crate::proofs::Places::indices_within))]
     pub fn test_word(&self, pass: &mut Pass<D>, word: u32) -> TestedWord
         requires table { pass.old.table ≡ self.now }
         requires caller { 0 < pass.old.owner }

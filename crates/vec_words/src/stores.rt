@@ -98,6 +98,7 @@ impl<D> Vectors<D> {
 }
 
 /// Whether the place isn't named before this one.
+#[tactic(auto, using(crate::proofs::StoreLaws::spared_below))]
 fn is_first<C: Changes>(changes: &C, at: usize, place: Place) -> bool
     requires { at ≤ length (C.places changes.now) }
     ensures first { result ≡ true → IsSpared (take at

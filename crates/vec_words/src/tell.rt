@@ -8,6 +8,7 @@ use crate::vectors::Vectors;
 
 impl<D> Vectors<D> {
     /// A note of the numbers that the pass has.
+    #[tactic(auto, using(crate::proofs::Tables::id_of, crate::proofs::Steps::splits_note))]
     pub fn tell(&self, pass: &mut Pass<D>) -> Note<D>
         requires { pass.old.table ≡ self.now }
         ensures note { result ≡ record {
@@ -26,6 +27,7 @@ impl<D> Vectors<D> {
     }
 
     /// A second note with the same numbers.
+    #[tactic(auto, using(crate::proofs::Tables::id_of, crate::proofs::Steps::splits_note))]
     pub fn copy_note(&self, note: &mut Note<D>) -> Note<D>
         requires { note.old.table ≡ self.now }
         ensures copy { result ≡ note.old }
@@ -41,6 +43,7 @@ impl<D> Vectors<D> {
 
     /// Tells a note to the pass, whose numbers are then each the larger of both. It answers the
     /// number of a call that the pass has now seen complete.
+    #[tactic(auto, using(crate::proofs::Tables::id_of, crate::proofs::Steps::joins_note))]
     pub fn told(&self, pass: &mut Pass<D>, note: Note<D>) -> u32
         requires pass { pass.old.table ≡ self.now }
         requires note { note.table ≡ self.now }

@@ -116,6 +116,7 @@ impl<D> Vectors<D> {
     }
 
     /// The pass of the next caller.
+    #[tactic(auto, using(crate::proofs::Steps::splits_pass))]
     fn next_pass(&self, seat: &mut Seat<u8, View<D>>, owner: u8) -> Pass<D>
         requires first { IsFirst self.now seat.old owner }
         requires owner { owner ≤ self.now.conns }
@@ -164,6 +165,7 @@ impl<D> Vectors<D> {
     }
 
     /// The number of a word of a connector's vector among all words.
+    #[tactic(auto, using(crate::proofs::Places::number_is, crate::proofs::Places::few, crate::proofs::Places::within_all))]
     pub(crate) fn word_number(&self, conn: u8, word: u32) -> usize
         requires conn { (0 < conn) × (conn ≤ self.now.conns) }
         requires word { word < words_of self.now.len }

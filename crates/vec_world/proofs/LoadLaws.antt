@@ -32,15 +32,10 @@ after_load-stored before after word bits number at new stamp fits can since =
       settled = settled-store after.log after.count after.flying at new stamp number can.fresh since.settled;
       count = since.count;
       log = omega arith;
-      told =
-          subst (λ (later : List Step). Tells (after.log ++ step ∷ []) later before.count word bits number)
-          (sym (logged_since-push before.log after.log step since.log))
-          (Tells-push_store after.log (logged_since before after) at new stamp before.count word bits number
-          (omega arith)
-          (settled-below after.log after.count after.flying stamp number can.fresh since.settled)
-          (StampsUpTo-weaker after.log at (stamp_of (word_at after at)) (stamp - 1) (omega arith)
-          (since.sound.words at).greatest)
-          since.told);
+      told = subst (λ (later : List Step). Tells (after.log ++ step ∷ []) later before.count word bits number)
+          (sym (logged_since-push before.log after.log step since.log)) (Tells-push_store after.log (logged_since
+          before after) at new stamp before.count word bits number (omega arith) (settled-below after.log after.count
+          after.flying stamp number can.fresh since.settled) (grind (arith, StampsUpTo-weaker)) since.told);
     }
 
 after_load-committed : (before after : World) (word bits number done : ℕ) → IsOpen after.count after.flying done
@@ -55,8 +50,7 @@ after_load-committed before after word bits number done fresh since =
       settled = settled-commit after.log after.count after.flying done number fresh since.settled;
       count = omega arith;
       log = omega arith;
-      told =
-          subst (λ (later : List Step). Tells (after.log ++ Commit done ∷ []) later before.count word bits number)
+      told = subst (λ (later : List Step). Tells (after.log ++ Commit done ∷ []) later before.count word bits number)
           (sym (logged_since-push before.log after.log (Commit done) since.log))
           (Tells-push_commit after.log (logged_since before after) done before.count word bits number since.told);
     }
@@ -74,34 +68,25 @@ after_load-told before after word bits number into (Some note) sound since = gri
 
 after_load-act : (before : World) (word bits number : ℕ) (after : World) (step : Step) → FitsHalf step
     → IsAfterLoad before word bits number after → IsAfterLoad before word bits number (act after step)
-after_load-act before word bits number after (Store at new stamp) fits since =
-    cond_both (can_store after at stamp) (with_store after at new stamp) after (IsAfterLoad before word bits number)
-    (λ test. after_load-stored before after word bits number at new stamp fits
-    (can_store_from_test after at stamp test) since) (λ _. since)
-after_load-act before word bits number after (Commit done) fits since =
-    cond_both (is_open after done) (with_commit after done) after (IsAfterLoad before word bits number)
-    (λ test. after_load-committed before after word bits number done (open_from_test after done test) since)
-    (λ _. since)
-after_load-act before word bits number after (Load pass at) fits since =
-    cond_both (has_word after at) (with_learned after pass (stamp_of (word_at after at))) after
-    (IsAfterLoad before word bits number)
-    (λ _. after_load-learned before after word bits number pass (stamp_of (word_at after at))
-    (sound-learned after pass (stamp_of (word_at after at)) (settled-stamp after at since.sound.stamps) since.sound)
-    since)
-    (λ _. since)
-after_load-act before word bits number after (LoadCount pass) fits since =
-    after_load-learned before after word bits number pass after.count
-    (sound-act after (LoadCount pass) fits since.sound) since
+after_load-act before word bits number after (Store at new stamp) fits since = cond_both (can_store after at stamp)
+    (with_store after at new stamp) after (IsAfterLoad before word bits number) (λ test. after_load-stored before
+    after word bits number at new stamp fits (can_store_from_test after at stamp test) since) (λ _. since)
+after_load-act before word bits number after (Commit done) fits since = cond_both (is_open after done)
+    (with_commit after done) after (IsAfterLoad before word bits number) (λ test. after_load-committed before
+    after word bits number done (open_from_test after done test) since) (λ _. since)
+after_load-act before word bits number after (Load pass at) fits since = cond_both (has_word after at) (with_learned
+    after pass (stamp_of (word_at after at))) after (IsAfterLoad before word bits number) (λ _. after_load-learned _
+    _ _ _ _ _ _ (sound-learned _ _ _ (settled-stamp after at since.sound.stamps) since.sound) since) (λ _. since)
+after_load-act before word bits number after (LoadCount pass) fits since = after_load-learned
+    before after word bits number pass after.count (sound-act after (LoadCount pass) fits since.sound) since
 after_load-act before word bits number after (Split pass) fits since =
-    cond_both (has_pass after pass) (with_note after pass) after (IsAfterLoad before word bits number)
-    (λ _. record {
+    cond_both (has_pass after pass) (with_note after pass) after (IsAfterLoad before word bits number) (λ _. record {
       sound = sound-noted after pass since.sound;
       settled = since.settled;
       count = since.count;
       log = since.log;
       told = since.told;
-    })
-    (λ _. since)
+    }) (λ _. since)
 after_load-act before word bits number after (Join into) fits since =
     grind (arith, cond_both, after_load-told, sound-told)
 
@@ -109,43 +94,32 @@ after_load-act before word bits number after (Join into) fits since =
 
 after_load-now : (world : World) (pass word : ℕ) → IsSound world
     → IsAfterLoad world word (bits_of (word_at world word)) (known_at_load world pass word) world
-after_load-now world pass word sound =
-    record {
-      sound = sound;
-      settled =
-          settled-max world.log world.count world.flying (known_by world pass) (stamp_of (word_at world word))
-          (settled-known world pass sound.known) (settled-stamp world word sound.stamps);
-      count = omega arith;
-      log = omega arith;
-      told =
-          inl (sym (Carries-at world.log word (bits_of (word_at world word)) (stamp_of (word_at world word))
-          (known_at_load world pass word)
-          (omega arith) (sound.words word)));
-    }
+after_load-now world pass word sound = record {
+  sound = sound;
+  settled = settled-max _ _ _ _ _ (settled-known world pass sound.known) (settled-stamp world word sound.stamps);
+  count = omega arith;
+  log = omega arith;
+  told = inl (sym (Carries-at _ _ _ _ _ (omega arith) (sound.words word)));
+}
 
 -- the law of a load, from any sound world on
 pub tells-fold : (before : World) (pass word : ℕ) (steps : List Step) → IsSound before → All FitsHalf steps
     → TellsWord before (fold act before steps) pass word
 tells-fold before pass word steps sound fits =
-    (fold-act (IsAfterLoad before word (bits_of (word_at before word)) (known_at_load before pass word))
-    (after_load-act before word (bits_of (word_at before word)) (known_at_load before pass word))
-    before steps fits (after_load-now before pass word sound)).told
+    (fold-act _ (after_load-act _ _ _ _) _ _ fits (after_load-now _ _ _ sound)).told
 
 -- a list of steps is run up to a place, and then on
 world_of-split : (words passes place : ℕ) (steps : List Step)
     → fold act (world_of words passes (take place steps)) (drop place steps) ≡ world_of words passes steps
-world_of-split words passes place steps =
-    sym (fold-append act (start words passes) (take place steps) (drop place steps))
-    ∙ ap (world_of words passes) (take-append-drop place steps)
+world_of-split words passes place steps = sym (fold-append act (start words passes)
+    (take place steps) (drop place steps)) ∙ ap (world_of words passes) (take-append-drop place steps)
 
 -- the law of loads, for every list of steps
 pub each_load_tells : (words passes : ℕ) (steps : List Step) → All FitsHalf steps → EachLoadTells words passes steps
 each_load_tells words passes steps fits place pass word there in_passes in_words =
-    let before : World = world_of words passes (take place steps) in
-    subst (λ (after : World). TellsWord before after pass word) (world_of-split words passes place steps)
-    (tells-fold before pass word (drop place steps)
-    (sound-world_of words passes (take place steps) (All-take FitsHalf place steps fits))
-    (All-drop FitsHalf place steps fits))
+    let before = world_of words passes (take place steps) in
+    subst (λ after. TellsWord before after pass word) (world_of-split words passes place steps) (tells-fold
+    _ _ _ _ (sound-world_of _ _ _ (All-take FitsHalf place steps fits)) (All-drop FitsHalf place steps fits))
 
 -- one more step of the list
 pub world_of-more : (words passes : ℕ) (steps : List Step) (i : ℕ) (d : Step) (world after : World) → i < length steps

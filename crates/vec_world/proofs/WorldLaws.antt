@@ -53,33 +53,25 @@ stamp-above world word stamp can sound = grind (arith, settled-stamp)
 pub sound-stored : (world : World) (word bits stamp : ℕ) → bits < 2 ^ 32 → CanStore world word stamp → IsSound world
     → IsSound (with_store world word bits stamp)
 sound-stored world word bits stamp fits can sound =
-    let later : World = with_store world word bits stamp in
-    let Log : ℕ → ℕ → Type 0 = CarriesWord (world.log ++ Store word bits stamp ∷ []) in
-    let keeps_settled : (n : ℕ) → Settled world n → Settled later n =
-    λ n. settled-store world.log world.count world.flying word bits stamp n can.fresh in
+    let later = with_store world word bits stamp in
+    let Log = CarriesWord (world.log ++ Store word bits stamp ∷ []) in
+    let keeps_settled : (n : ℕ) → Settled world n → Settled later n = λ n. settled-store _ _ _ _ _ _ n can.fresh in
     record {
       flight = inr can.fresh.0;
       count = keeps_settled world.count sound.count;
       known = All-weaker (Settled world) (Settled later) keeps_settled world.known sound.known;
       notes = All-weaker (Settled world) (Settled later) keeps_settled world.notes sound.notes;
-      stamps =
-          All-set (λ value. Settled later (stamp_of value)) world.words word (word_of bits stamp)
-          (inr (stamp_of-word_of bits stamp fits))
-          (All-weaker (λ value. Settled world (stamp_of value)) (λ value. Settled later (stamp_of value))
-          (λ value. keeps_settled (stamp_of value)) world.words sound.stamps);
-      words = λ (at : ℕ). elim (cases_eq at word) [
+      stamps = All-set (λ value. Settled later (stamp_of value)) world.words word (word_of bits stamp) (inr
+          (stamp_of-word_of _ _ fits)) (All-weaker (λ value. Settled world (stamp_of value)) (λ value. Settled
+          later (stamp_of value)) (λ value. keeps_settled (stamp_of value)) world.words sound.stamps);
+      words = λ at. elim (cases_eq at word) [
         | inl same ↦
-            let low : stamp_of (word_at world word) < stamp = stamp-above world word stamp can sound in
-            let last : Log word (word_of bits stamp) =
-            CarriesWord-push_store world.log word (word_at world word) bits stamp fits (omega arith)
-            (sound.words word) in
-            subst (λ (n : ℕ). Log n (get_or (set world.words word (word_of bits stamp)) n 0)) (sym same)
+            let low = stamp-above _ _ _ can sound in
+            let last = CarriesWord-push_store _ _ _ _ _ fits (omega arith) (sound.words word) in
+            subst (λ n. Log n (get_or (set world.words word (word_of bits stamp)) n 0)) (sym same)
             (subst (Log word) (sym (get_or-set_same world.words word (word_of bits stamp) 0 can.within)) last)
-        | inr other ↦
-            subst (Log at) (sym (get_or-set_other world.words word at (word_of bits stamp) 0 other))
-            (Carries-push_other world.log word bits stamp at (bits_of (word_at world at))
-            (stamp_of (word_at world at))
-            (λ same. other (sym same)) (sound.words at))
+        | inr other ↦ subst (Log at) (grind (arith, get_or-set_other)) (Carries-push_other _ _ _ _
+            at (bits_of (word_at world at)) (stamp_of (word_at world at)) (λ same. other (sym same)) (sound.words at))
       ];
     }
 
@@ -87,68 +79,54 @@ pub sound-committed : (world : World) (number : ℕ) → IsOpen world.count worl
     → IsSound (with_commit world number)
 sound-committed world number fresh sound =
     let later : World = with_commit world number in
-    let keeps_settled : (n : ℕ) → Settled world n → Settled later n =
-    λ n. settled-commit world.log world.count world.flying number n fresh in
+    let keeps_settled : (n : ℕ) → Settled world n → Settled later n = λ n. settled-commit _ _ _ _ n fresh in
     record {
       flight = inl refl;
       count = inl (omega arith, inr (Contains-push world.log (Commit number)));
       known = All-weaker (Settled world) (Settled later) keeps_settled world.known sound.known;
       notes = All-weaker (Settled world) (Settled later) keeps_settled world.notes sound.notes;
-      stamps =
-          All-weaker (λ value. Settled world (stamp_of value)) (λ value. Settled later (stamp_of value))
+      stamps = All-weaker (λ value. Settled world (stamp_of value)) (λ value. Settled later (stamp_of value))
           (λ value. keeps_settled (stamp_of value)) world.words sound.stamps;
-      words = λ (word : ℕ).
-          Carries-push_commit world.log number word (bits_of (word_at world word)) (stamp_of (word_at world word))
-          (sound.words word);
+      words = λ (word : ℕ). Carries-push_commit _ _ _ _ _ (sound.words word);
     }
 
 pub sound-learned : (world : World) (pass number : ℕ) → Settled world number → IsSound world
     → IsSound (with_learned world pass number)
-sound-learned world pass number settled sound =
-    cond_both (has_pass world pass) (record world { known = set world.known pass (max (known_by world pass) number) })
-    world IsSound
-    (λ _. record {
+sound-learned world pass number settled sound = cond_both (has_pass world pass)
+    (record world { known = set world.known pass (max (known_by world pass) number) }) world IsSound (λ _. record {
       flight = sound.flight;
       count = sound.count;
-      known =
-          All-set (Settled world) world.known pass (max (known_by world pass) number)
-          (settled-max world.log world.count world.flying (known_by world pass) number
-          (settled-known world pass sound.known) settled)
-          sound.known;
+      known = All-set (Settled world) world.known pass (max (known_by world pass) number) (settled-max world.log
+          world.count world.flying (known_by world pass) number (grind (arith, settled-known)) settled) sound.known;
       notes = sound.notes;
       stamps = sound.stamps;
       words = sound.words;
-    })
-    (λ _. sound)
+    }) (λ _. sound)
 
 pub sound-noted : (world : World) (pass : ℕ) → IsSound world → IsSound (with_note world pass)
-sound-noted world pass sound =
-    record {
-      flight = sound.flight;
-      count = sound.count;
-      known = sound.known;
-      notes = All-push (Settled world) world.notes (known_by world pass) sound.notes
-          (settled-known world pass sound.known);
-      stamps = sound.stamps;
-      words = sound.words;
-    }
+sound-noted world pass sound = record {
+  flight = sound.flight;
+  count = sound.count;
+  known = sound.known;
+  notes = All-push (Settled world) world.notes (known_by world pass) sound.notes (grind (arith, settled-known));
+  stamps = sound.stamps;
+  words = sound.words;
+}
 
 sound-without_note : (world : World) → IsSound world
     → IsSound (record world { notes = take (length world.notes - 1) world.notes })
-sound-without_note world sound =
-    record {
-      flight = sound.flight;
-      count = sound.count;
-      known = sound.known;
-      notes = All-take (Settled world) (length world.notes - 1) world.notes sound.notes;
-      stamps = sound.stamps;
-      words = sound.words;
-    }
+sound-without_note world sound = record {
+  flight = sound.flight;
+  count = sound.count;
+  known = sound.known;
+  notes = All-take (Settled world) (length world.notes - 1) world.notes sound.notes;
+  stamps = sound.stamps;
+  words = sound.words;
+}
 
 settled-note : (world : World) (at note : ℕ) → slice_get world.notes at ≡ Some note → IsSound world
     → Settled world note
-settled-note world at note there sound =
-    subst (Settled world) (get_or_from_slice_get world.notes at note 0 there)
+settled-note world at note there sound = subst (Settled world) (get_or_from_slice_get world.notes at note 0 there)
     (All-get_or (Settled world) world.notes at 0 (slice_get_within world.notes at note there) sound.notes)
 
 -- a note that is told was among the notes
@@ -158,68 +136,40 @@ sound-told world into None there sound = sound
 sound-told world into (Some note) there sound =
     let settled : Settled world note = settled-note world (length world.notes - 1) note there sound in
     cond_both (has_pass world into) (record world { known = set world.known into (max (known_by world into) note) })
-    world
-    (λ w. IsSound (record w { notes = take (length world.notes - 1) world.notes }))
-    (λ _. record {
+    world (λ w. IsSound (record w { notes = take (length world.notes - 1) world.notes })) (λ _. record {
       flight = sound.flight;
       count = sound.count;
-      known =
-          All-set (Settled world) world.known into (max (known_by world into) note)
-          (settled-max world.log world.count world.flying (known_by world into) note
-          (settled-known world into sound.known) settled)
-          sound.known;
+      known = All-set (Settled world) world.known into (max (known_by world into) note) (settled-max world.log
+          world.count world.flying (known_by world into) note (grind (arith, settled-known)) settled) sound.known;
       notes = All-take (Settled world) (length world.notes - 1) world.notes sound.notes;
       stamps = sound.stamps;
       words = sound.words;
-    })
-    (λ _. sound-without_note world sound)
-
--- a list of zeros has 0 at each place, and past its end
-get_or-zeros : (many at : ℕ) → get_or {A = ℕ} (replicate many 0) at 0 ≡ 0
-get_or-zeros many at = grind (arith, cases_lt, get_or-replicate, get_or_past, length-replicate)
-
-pub sound-start : (words passes : ℕ) → IsSound (start words passes)
-sound-start words passes =
-    record {
-      flight = inl refl;
-      count = inr refl;
-      known = All-replicate (Settled (start words passes)) passes 0 (inr refl);
-      notes = All-nil (Settled (start words passes));
-      stamps = All-replicate (λ value. Settled (start words passes) (stamp_of value)) words 0 (inr refl);
-      words = λ (word : ℕ).
-          subst (λ (v : ℕ). CarriesWord [] word v) (sym (get_or-zeros words word)) (Carries-nil word);
-    }
+    }) (λ _. sound-without_note world sound)
 
 pub sound-act : (world : World) (step : Step) → FitsHalf step → IsSound world → IsSound (act world step)
-sound-act world (Store word bits stamp) fits sound =
-    cond_both (can_store world word stamp) (with_store world word bits stamp) world IsSound
-    (λ test. sound-stored world word bits stamp fits (can_store_from_test world word stamp test) sound) (λ _. sound)
-sound-act world (Commit number) fits sound =
-    cond_both (is_open world number) (with_commit world number) world IsSound
-    (λ test. sound-committed world number (open_from_test world number test) sound) (λ _. sound)
-sound-act world (Load pass word) fits sound =
-    cond_both (has_word world word) (with_learned world pass (stamp_of (word_at world word))) world IsSound
-    (λ _. sound-learned world pass (stamp_of (word_at world word))
-    (settled-stamp world word sound.stamps) sound)
-    (λ _. sound)
+sound-act world (Store word bits stamp) fits sound = cond_both (can_store world word stamp) (with_store world word
+    bits stamp) world IsSound (λ test. sound-stored _ _ _ _ fits (can_store_from_test _ _ _ test) sound) (λ _. sound)
+sound-act world (Commit number) fits sound = cond_both (is_open world number) (with_commit world number)
+    world IsSound (λ test. sound-committed world number (open_from_test world number test) sound) (λ _. sound)
+sound-act world (Load pass word) fits sound = cond_both (has_word world word)
+    (with_learned world pass (stamp_of (word_at world word))) world IsSound (λ _. sound-learned world
+    pass (stamp_of (word_at world word)) (settled-stamp world word sound.stamps) sound) (λ _. sound)
 sound-act world (LoadCount pass) fits sound = sound-learned world pass world.count sound.count sound
-sound-act world (Split pass) fits sound =
-    cond_both (has_pass world pass) (with_note world pass) world IsSound
-    (λ _. sound-noted world pass sound) (λ _. sound)
+sound-act world (Split pass) fits sound = cond_both (has_pass world pass)
+    (with_note world pass) world IsSound (λ _. sound-noted world pass sound) (λ _. sound)
 sound-act world (Join into) fits sound = grind (arith, cond_both, sound-told)
 
 -- what each step keeps, a list of steps keeps
 pub fold-act : (P : World → Type 0) → ((world : World) (step : Step) → FitsHalf step → P world → P (act world step))
     → (world : World) (steps : List Step) → All FitsHalf steps → P world → P (fold act world steps)
 fold-act P keeps world [] fits holds = holds
-fold-act P keeps world (step ∷ steps) fits holds =
-    fold-act P keeps (act world step) steps (All-tail FitsHalf step steps fits)
-    (keeps world step (All-head FitsHalf step steps fits) holds)
+fold-act P keeps world (step ∷ steps) fits holds = fold-act P keeps (act world step) steps
+    (All-tail FitsHalf step steps fits) (keeps world step (All-head FitsHalf step steps fits) holds)
 
 pub sound-world_of : (words passes : ℕ) (steps : List Step) → All FitsHalf steps
     → IsSound (world_of words passes steps)
 sound-world_of words passes steps fits = fold-act IsSound sound-act (start words passes) steps fits
-    (sound-start words passes)
+    (grind (arith, All-replicate, All-nil, Carries-nil, cases_lt, get_or-replicate, get_or_past, length-replicate))
 
 -- Numbers are genuine.
 

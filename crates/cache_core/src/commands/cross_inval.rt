@@ -28,6 +28,7 @@ pub(crate) fn reply(regs: &Regs, by: ConnId, name: &Name16) -> CacheReply
 }
 
 /// Does the command.
+#[tactic(auto, using(crate::proofs::FrontLaws::fewer))]
 pub(crate) fn act(regs: &mut Regs, by: ConnId, name: &Name16, out: &mut Effects)
     requires { length regs.old.regs ≤ out.old.bits.room }
     ensures regs { regs.new.regs ≡ regs_without_name name.now (Some by) regs.old.regs }

@@ -20,6 +20,7 @@ pub(crate) fn refusal(rows: &Rows, by: ConnId, name: &Name16) -> Judged
 }
 
 /// Does the command.
+#[tactic(auto, using(crate::proofs::FrontLaws::fewer))]
 pub(crate) fn act(rows: &mut Rows, regs: &mut Regs, name: &Name16, out: &mut Effects)
     requires { length regs.old.regs ≤ out.old.bits.room }
     ensures content { record { rows = rows.new.rows; regs = regs.new.regs }

@@ -25,6 +25,7 @@ pub(crate) fn request(by: ConnId, r: Resource, excl: bool, rec: Option<Adjunct>)
 }
 
 // Whether anybody waits for a resource.
+#[tactic(auto, using(crate::proofs::ReadLaws::any_by))]
 fn is_awaited(locks: &Locks, r: &Resource) -> bool
     ensures { result ≡ obtain.is_awaited r.now locks.now.content.waiters }
 {

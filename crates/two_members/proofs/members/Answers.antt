@@ -10,8 +10,7 @@ pub work-written-requires-clause-members : goal.work-written-requires-clause-mem
 work-written-requires-clause-members g c κs within =
     let pool : HasPool c.in-Ok-start.board = search rules in
     let three : length c.in-Ok-start.desks.items ≡ 3 = search rules in
-    let seated =
-    seats c.in-Ok-start.board c.in-Ok-start.desks.items c.pop-2.new.self.items c.pop.new.self.items
+    let seated = seats c.in-Ok-start.board c.in-Ok-start.desks.items c.pop-2.new.self.items c.pop.new.self.items
     c.in-Some-Some.a c.in-Some-Some.b (length c.args.script.now.connectors) c.in-Ok-start.ensures.callers
     c.in-Ok-start.ensures.desks three c.in-Some-Some.ensures.items c.in-Some-Some.ensures'.items in (
       member c.in-Ok-start.board c.in-Some-Some.a 1 pool seated.first (omega arith) (omega arith),
@@ -21,8 +20,7 @@ work-written-requires-clause-members g c κs within =
 pub close-histories-requires-clause-desks : goal.close-histories-requires-clause-desks
 close-histories-requires-clause-desks g c κs within =
     let three : length c.in-Ok-start.desks.items ≡ 3 = search rules in
-    let seated =
-    seats c.in-Ok-start.board c.in-Ok-start.desks.items c.pop-2.new.self.items c.pop.new.self.items
+    let seated = seats c.in-Ok-start.board c.in-Ok-start.desks.items c.pop-2.new.self.items c.pop.new.self.items
     c.in-Some-Some.a c.in-Some-Some.b (length c.args.script.now.connectors) c.in-Ok-start.ensures.callers
     c.in-Ok-start.ensures.desks three c.in-Some-Some.ensures.items c.in-Some-Some.ensures'.items in
     all-of_board c.in-Ok-start.board c.pop-2.new.self.items c.push_reserved.new.self.items
@@ -33,8 +31,7 @@ close-histories-requires-clause-desks g c κs within =
 pub close-histories-requires-clause-owners : goal.close-histories-requires-clause-owners
 close-histories-requires-clause-owners g c κs within =
     let three : length c.in-Ok-start.desks.items ≡ 3 = search rules in
-    let seated =
-    seats c.in-Ok-start.board c.in-Ok-start.desks.items c.pop-2.new.self.items c.pop.new.self.items
+    let seated = seats c.in-Ok-start.board c.in-Ok-start.desks.items c.pop-2.new.self.items c.pop.new.self.items
     c.in-Some-Some.a c.in-Some-Some.b (length c.args.script.now.connectors) c.in-Ok-start.ensures.callers
     c.in-Ok-start.ensures.desks three c.in-Some-Some.ensures.items c.in-Some-Some.ensures'.items in
     all-owners c.in-Ok-start.board c.pop-2.new.self.items c.push_reserved.new.self.items
@@ -46,8 +43,7 @@ pub returns-clause-outcome : goal.returns-clause-outcome
 returns-clause-outcome g c =
     let pool : HasPool c.in-Ok-start.board = search rules in
     let three : length c.in-Ok-start.desks.items ≡ 3 = search rules in
-    let seated =
-    seats c.in-Ok-start.board c.in-Ok-start.desks.items c.pop-2.new.self.items c.pop.new.self.items
+    let seated = seats c.in-Ok-start.board c.in-Ok-start.desks.items c.pop-2.new.self.items c.pop.new.self.items
     c.in-Some-Some.a c.in-Some-Some.b (length c.args.script.now.connectors) c.in-Ok-start.ensures.callers
     c.in-Ok-start.ensures.desks three c.in-Some-Some.ensures.items c.in-Some-Some.ensures'.items in
     outcome c.in-Ok-start.board c.args.script.now c.close-histories.result.0.items c.push_reserved.new.self.items

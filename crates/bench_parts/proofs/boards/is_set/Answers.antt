@@ -7,6 +7,5 @@ test-requires-clause-index c κs =
     pool-within c.args.board.now c.args.index c.requires.seated.board_is c.requires.index
 
 pub returns : goal.returns
-returns c =
-    still-seated c.args.board.now c.args.desk.now c.test.new.desk c.requires.seated
-    (ap (λ (d : DeskShown). d.owner) c.test.ensures.tested) c.test.ensures.of_board
+returns c = still-seated c.args.board.now c.args.desk.now c.test.new.desk
+    c.requires.seated (ap (λ (d : DeskShown). d.owner) c.test.ensures.tested) c.test.ensures.of_board

@@ -4,8 +4,7 @@ use Rattle.cache_core.proofs.room.front.Goals.{in-Some+in_ok-push-in-Some, in-No
 use Rattle.cache_core.proofs.room.front.Goals as goal
 
 pub loop-k-init : goal.loop-k-init
-loop-k-init c =
-    rw (c.new-names.ensures.items, c.new-names.ensures.len)
+loop-k-init c = rw (c.new-names.ensures.items, c.new-names.ensures.len)
     (fronting_start c.args.request.now c.args.rows.now.rows c.args.room.now)
 
 pub returns-then-is_enough : goal.returns-then-is_enough
@@ -23,17 +22,11 @@ loop-k-preserved c =
     let items = λ (v : Vec Name16 Global). v.items in
     let long = λ (v : Vec Name16 Global). vec_len v in
     elim c.match-victim_at.branch [
-      | in-Some+in_ok-push-in-Some w ↦
-          fronting_some c.args.request.now c.args.rows.now.rows c.args.room.now l.names.items next.names.items
-          (vec_len l.names) l.given (vec_len next.names) next.given l.k c.victim_at.result w.in-Some.row
-          c.victim_at.ensures w.in-Some.is lacks
-          (ap items w.names-is ∙ w.in_ok-push-in-Some.ensures.items)
-          (ap long w.names-is ∙ w.in_ok-push-in-Some.ensures.len) w.given-is l.invariant
-      | in-None w ↦
-          fronting_none c.args.request.now c.args.rows.now.rows c.args.room.now l.names.items next.names.items
-          (vec_len l.names) l.given (vec_len next.names) next.given l.k c.victim_at.result
-          c.victim_at.ensures w.in-None.is
-          (ap items w.names-is) (ap long w.names-is) w.given-is l.invariant
+      | in-Some+in_ok-push-in-Some w ↦ fronting_some _ _ _ _ _ _ _ l.invariant _ w.in-Some.row
+          c.victim_at.ensures w.in-Some.is _ _ _ lacks (ap items w.names-is ∙ w.in_ok-push-in-Some.ensures.items)
+          (ap long w.names-is ∙ w.in_ok-push-in-Some.ensures.len) w.given-is
+      | in-None w ↦ fronting_none _ _ _ _ _ _ _ l.invariant
+          _ _ _ _ c.victim_at.ensures w.in-None.is (ap items w.names-is) (ap long w.names-is) w.given-is
     ]
 
 pub returns : goal.returns

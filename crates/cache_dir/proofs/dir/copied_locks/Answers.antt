@@ -6,8 +6,7 @@ add_lock-requires c =
     copy_absent _ _ _ _ _ c.in-Some.ensures.steps c.loop-name.invariant c.iter-name-items.ensures.unique
 
 pub loop-name-preserved : goal.loop-name-preserved
-loop-name-preserved c =
-    copy_moved _ _ _ _ _ _ c.in-Some.ensures.steps c.in_ok-add_lock.ensures c.loop-name.invariant
+loop-name-preserved c = copy_moved _ _ _ _ _ _ c.in-Some.ensures.steps c.in_ok-add_lock.ensures c.loop-name.invariant
 
 pub returns : goal.returns
 returns c = copy_all _ _ _ c.in-None.ensures.steps.0 c.loop-name.invariant

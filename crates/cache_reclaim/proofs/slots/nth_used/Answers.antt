@@ -10,13 +10,10 @@ returns c =
     let h = λ (e : ℕ × Option Used). e.1 in
     sym (same_option c.nth.result)
     ∙ nth_from_yields_List {v = λ y. y} {all = filter_map h (reverse c.filter_map.result.iter.iter)} c.nth.result
-    c.nth.new.self c.args.k c.nth.ensures.ran
-    (YieldsList-from_filter_map {steps = rev_steps (TakesLast deref_pair)}
+    c.nth.new.self c.args.k c.nth.ensures.ran (YieldsList-from_filter_map {steps = rev_steps (TakesLast deref_pair)}
     {v = λ (p : Bor ℕ × Bor (Option Used)). (p.0.now, p.1.now)} {ys = reverse c.filter_map.result.iter.iter} _ h
     (YieldsList-from_shown (rev_steps (TakesLast deref_pair)) (λ (p : Bor ℕ × Bor (Option Used)). (p.0.now, p.1.now))
-    (λ s. reverse s.iter)
-    (λ s t h. ap (λ l. length (reverse l)) h.0)
+    (λ s. reverse s.iter) (λ s t h. ap (λ l. length (reverse l)) h.0)
     (λ s x t h. ap reverse h ∙ reverse-append t.iter ((x.0.now, x.1.now) ∷ [])) c.filter_map.result.iter)
-    c.filter_map.ensures.closure (λ x r q k. search rules))
-    ∙ ap (λ l. slice_get (filter_map h (reverse l)) c.args.k)
+    c.filter_map.ensures.closure (λ x r q k. search rules)) ∙ ap (λ l. slice_get (filter_map h (reverse l)) c.args.k)
     (ap (λ r. r.iter) c.filter_map.ensures.source ∙ c.rev.ensures.source ∙ c.iter.ensures.rest)

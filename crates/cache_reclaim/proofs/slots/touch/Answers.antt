@@ -9,6 +9,5 @@ returns-clause-tied c =
     c.write.ensures.unique c.args.stg c.write.ensures.entries c.slot_for-slot.ensures.writes)
 
 pub returns-clause-order : goal.returns-clause-order
-returns-clause-order c =
-    touched_order c.args.slots.now.entries _ _ c.requires.tied c.args.name _ c.slot_for-slot.ensures.apart
-    _ c.args.stg c.write.ensures.entries
+returns-clause-order c = touched_order c.args.slots.now.entries
+    _ _ c.requires.tied c.args.name _ c.slot_for-slot.ensures.apart _ c.args.stg c.write.ensures.entries

@@ -1,11 +1,10 @@
-use Rattle.cache_rows.proofs.Imports.{ℕ, Some, ◌∙◌, ap, arith, le-leb, elements_of, rows_without, item_with, tally_of}
+use Rattle.cache_rows.proofs.Imports.{ℕ, Some, ◌∙◌, arith, le-leb, elements_of, rows_without, item_with}
 use Rattle.cache_rows.proofs.TallyLaws.{can_grow, tally_come}
 use Rattle.cache_rows.proofs.rows.write_row.Goals as goal
 
 pub add-requires-clause-room : goal.add-requires-clause-room
-add-requires-clause-room c =
-    can_grow c.count_out.new.tally (rows_without c.args.label.now.name c.args.directory.now.rows)
-    c.count_out.ensures.counted (omega (arith, c.count_out.ensures.fewer, c.requires.less))
+add-requires-clause-room c = can_grow c.count_out.new.tally (rows_without c.args.label.now.name
+    c.args.directory.now.rows) c.count_out.ensures.counted (omega (arith, c.count_out.ensures.fewer, c.requires.less))
 
 pub returns-clause-counted : goal.returns-clause-counted
 returns-clause-counted c =
@@ -13,8 +12,5 @@ returns-clause-counted c =
     let rows = c.args.directory.now.rows in
     let row = item_with label (Some c.args.body.now) in
     let sized = c.elements.ensures.elements in
-    tally_come c.count_out.new.tally _ row (rows_without label.name rows) _
-    c.count_out.ensures.counted
-    (c.add.ensures ∙ ap (λ (n : ℕ). tally_of label.class n c.count_out.new.tally) sized)
-    (le-leb (elements_of row.body) 16 (omega (arith, sized, c.elements.ensures.few)))
-    c.write.ensures.rows
+    tally_come c.count_out.new.tally _ row (rows_without label.name rows) _ c.count_out.ensures.counted (grind arith)
+    (le-leb (elements_of row.body) 16 (omega (arith, sized, c.elements.ensures.few))) c.write.ensures.rows

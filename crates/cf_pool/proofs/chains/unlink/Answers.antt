@@ -3,9 +3,8 @@ use Rattle.cf_pool.proofs.PoolLaws.{at_lens, at_some, at_need, at_within, unlink
 use Rattle.cf_pool.proofs.chains.unlink.Goals as goal
 
 pub last_of-last-requires-clause-within : goal.last_of-last-requires-clause-within
-last_of-last-requires-clause-within c =
-    subst (λ n. IsWithin c.args.next.now n c.args.at) (sym c.need_of-need.ensures)
-    (at_within _ _ _ _ _ c.requires.shared _ c.requires.chain)
+last_of-last-requires-clause-within c = subst (λ n. IsWithin c.args.next.now n c.args.at)
+    (sym c.need_of-need.ensures) (at_within _ _ _ _ _ c.requires.shared _ c.requires.chain)
 
 pub bounds-next-last : goal.bounds-next-last
 bounds-next-last c =

@@ -6,8 +6,7 @@ pub loop-left-preserved : goal.loop-left-preserved
 loop-left-preserved c =
     let one : c.loop-left.left ≡ suc (c.loop-left.left - 1) = omega arith in
     let more = walked_more _ _ _ _ _ _ _ _ _ _ c.loop-left.invariant.few (omega (arith, c.len.ensures))
-    c.loop-left.invariant.bytes one
-    c.in_ok-append.ensures.whole c.in_ok-append.ensures.put in
+    c.loop-left.invariant.bytes one c.in_ok-append.ensures.whole c.in_ok-append.ensures.put in
     record {
       few = more.0;
       bytes = more.1;

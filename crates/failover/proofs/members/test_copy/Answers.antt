@@ -6,9 +6,8 @@ use Rattle.failover.proofs.members.test_copy.Goals as goal
 pub test-requires-clause-caller : goal.test-requires-clause-caller
 test-requires-clause-caller c κs =
     let place = c.from.ensures in
-    let owner =
-    seat_owner c.args.board.now c.args.desks.now.items c.requires c.from.result c.index_mut.result.now
-    (omega (arith, place)) c.index_mut.ensures.value in omega (arith, owner, place)
+    let owner = seat_owner c.args.board.now c.args.desks.now.items c.requires c.from.result
+    c.index_mut.result.now (omega (arith, place)) c.index_mut.ensures.value in omega (arith, owner, place)
 
 pub returns-clause-tested : goal.returns-clause-tested
 returns-clause-tested c =

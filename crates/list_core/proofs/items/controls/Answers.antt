@@ -1,4 +1,4 @@
-use Rattle.list_core.proofs.Imports.{arith, ◌≡◌, ◌∙◌}
+use Rattle.list_core.proofs.Imports.{arith}
 use Rattle.list_core.proofs.RowLaws.{map-triples}
 use Rattle.list_core.proofs.items.controls.Goals as goal
 

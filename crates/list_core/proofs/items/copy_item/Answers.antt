@@ -1,4 +1,4 @@
-use Rattle.list_core.proofs.Imports.{◌≡◌, ◌∙◌, arith, length-items}
+use Rattle.list_core.proofs.Imports.{arith, length-items}
 use Rattle.list_core.proofs.RowLaws.{one_more, no_more}
 use Rattle.list_core.proofs.items.copy_item.Goals as goal
 

@@ -1,4 +1,4 @@
-use Rattle.list_core.proofs.Imports.{◌≡◌, ◌+◌, ◌-◌, ◌<◌, ◌∙◌, arith, IfOk-weaker, row-here, row-later, drop_lists, count_more}
+use Rattle.list_core.proofs.Imports.{arith, IfOk-weaker, row-here, row-later, drop_lists, count_more}
 use Rattle.list_core.proofs.items.copy_row.Goals as goal
 
 pub returns-then-left-len : goal.returns-then-left-len

@@ -1,4 +1,4 @@
-use Rattle.list_core.proofs.Imports.{arith, ◌≡◌, ◌∙◌}
+use Rattle.list_core.proofs.Imports.{arith}
 use Rattle.list_core.proofs.RowLaws.{monitors-told_rows, told-told_rows}
 use Rattle.list_core.proofs.items.place_item.Goals as goal
 

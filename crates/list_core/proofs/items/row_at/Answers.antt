@@ -1,4 +1,4 @@
-use Rattle.list_core.proofs.Imports.{arith, ◌≡◌, ◌∙◌, IfOk-weaker, none_within, none_shown}
+use Rattle.list_core.proofs.Imports.{arith, IfOk-weaker, none_within, none_shown}
 use Rattle.list_core.proofs.items.row_at.Goals as goal
 
 pub returns : goal.returns

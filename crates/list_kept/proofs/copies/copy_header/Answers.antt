@@ -1,4 +1,4 @@
-use Rattle.list_kept.proofs.Imports.{◌≡◌, ◌++◌, ◌∷◌, [], ℕ, Option, Some, List, Bor, slice_get, option_map, sym, ap, ◌∙◌, arith, list_any, front_next, front_whole, front_long, front_alone, Rec, Record, record_in, record_id, is_id, records_of, all_records, none_within, none_shown}
+use Rattle.list_kept.proofs.Imports.{◌≡◌, ℕ, Option, Some, List, Bor, slice_get, option_map, sym, ap, ◌∙◌, arith, list_any, front_next, front_whole, front_long, front_alone, Rec, Record, record_in, record_id, is_id, records_of, all_records, none_within, none_shown}
 use Rattle.list_kept.proofs.copies.copy_header.Goals as goal
 
 -- the record that was found stands at its place

@@ -1,4 +1,4 @@
-use Rattle.list_kept.proofs.Imports.{◌≡◌, [], length, ap, ◌∙◌, arith, length-replicate, front, front_none, front_all}
+use Rattle.list_kept.proofs.Imports.{◌≡◌, length, ap, ◌∙◌, arith, length-replicate, front, front_none, front_all}
 use Rattle.list_kept.proofs.DataLaws.{no_chains}
 use Rattle.list_kept.proofs.copies.copy_records.Goals as goal
 

@@ -3,6 +3,4 @@ use Rattle.list_kept.proofs.copies.copy_records.Given as goal
 
 abbrev pub invariant-loop-header : goal.invariant-loop-header
 invariant-loop-header l =
-    (l.copy.lists ≡ front l.header 0 l.store.lists)
-    × AreUsed l.copy.loose
-    × (length l.copy.chains ≡ l.elements)
+    (l.copy.lists ≡ front l.header 0 l.store.lists) × AreUsed l.copy.loose × (length l.copy.chains ≡ l.elements)

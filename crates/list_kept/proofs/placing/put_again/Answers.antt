@@ -6,8 +6,7 @@ put_record-requires-clause-alone c =
     let lists = c.args.store.now.lists in
     let rec = record_in c.args.store.now.chains c.take-rec.result in
     ap (λ (l : Lists). list_any (is_id c.take-rec.result.id) (all_records l)) c.take-rec.ensures.lists
-    ∙ gone record_id c.args.id.0 lists rec
-    (found_passes (is_id c.args.id) (all_records lists) rec c.take-rec.ensures.«record»)
+    ∙ gone record_id c.args.id.0 lists rec (grind (arith, found_passes))
 
 pub put_record-requires-clause-ordered : goal.put_record-requires-clause-ordered
 put_record-requires-clause-ordered c = grind (arith, ordered_without)

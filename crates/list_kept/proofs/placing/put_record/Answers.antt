@@ -8,7 +8,6 @@ place_of-place-requires-clause-ordered c =
 pub returns-clause-lists : goal.returns-clause-lists
 returns-clause-lists c =
     let lists = c.args.store.now.lists in
-    c.add.ensures.lists
-    ∙ ap (λ (n : ℕ). lists_with c.args.header n (record_in c.args.store.now.chains c.args.rec) lists)
-    c.place_of-place.ensures.place
+    c.add.ensures.lists ∙ ap (λ (n : ℕ). lists_with c.args.header
+    n (record_in c.args.store.now.chains c.args.rec) lists) c.place_of-place.ensures.place
     ∙ placed-with c.args.head c.args.header (record_in c.args.store.now.chains c.args.rec) lists

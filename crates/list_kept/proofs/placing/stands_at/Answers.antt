@@ -1,4 +1,4 @@
-use Rattle.list_kept.proofs.Imports.{arith, ◌∙◌, none_within, none_shown, passes_first}
+use Rattle.list_kept.proofs.Imports.{arith, none_within, none_shown, passes_first}
 use Rattle.list_kept.proofs.PlaceLaws.{ordered_first}
 use Rattle.list_kept.proofs.placing.stands_at.Goals as goal
 

@@ -1,4 +1,4 @@
-use Rattle.list_kept.proofs.Imports.{◌≡◌, Some, ◌∙◌, arith, record_in, record_of}
+use Rattle.list_kept.proofs.Imports.{◌≡◌, Some, arith, record_in, record_of}
 use Rattle.list_kept.proofs.NamedLaws.{elements_found, elements_absent}
 use Rattle.list_kept.proofs.reading.elements_of_others.Goals as goal
 

@@ -1,4 +1,4 @@
-use Rattle.list_kept.proofs.Imports.{arith, ◌≡◌, ◌∙◌}
+use Rattle.list_kept.proofs.Imports.{arith}
 use Rattle.list_kept.proofs.KeyedLaws.{keyed, find_keyed}
 use Rattle.list_kept.proofs.reading.keyed_in.Goals as goal
 

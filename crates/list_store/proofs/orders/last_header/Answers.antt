@@ -1,4 +1,4 @@
-use Rattle.list_store.proofs.Imports.{◌≡◌, ◌+◌, ◌-◌, ◌++◌, ◌∷◌, [], ◌∙◌, arith, eqb-true, drop_more, length-map, nil_from_length, list_of, list_of-get_or}
+use Rattle.list_store.proofs.Imports.{arith, eqb-true, drop_more, length-map, nil_from_length, list_of, list_of-get_or}
 use Rattle.list_store.proofs.VecLaws.{list_of-in}
 use Rattle.list_store.proofs.orders.last_header.Goals as goal
 

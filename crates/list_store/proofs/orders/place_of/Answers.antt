@@ -1,4 +1,4 @@
-use Rattle.list_store.proofs.Imports.{arith, ◌==◌, sym, ◌∙◌, false≢true, none_placed}
+use Rattle.list_store.proofs.Imports.{arith, sym, ◌∙◌, false≢true, none_placed}
 use Rattle.list_store.proofs.VecLaws.{stands_there}
 use Rattle.list_store.proofs.orders.place_of.Goals as goal
 

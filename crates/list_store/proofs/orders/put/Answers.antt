@@ -1,4 +1,4 @@
-use Rattle.list_store.proofs.Imports.{◌∙◌, arith}
+use Rattle.list_store.proofs.Imports.{arith}
 use Rattle.list_store.proofs.VecLaws.{list_of-in, orders_in-set, few-more}
 use Rattle.list_store.proofs.orders.put.Goals as goal
 

@@ -1,4 +1,4 @@
-use Rattle.list_store.proofs.Imports.{◌∙◌, arith}
+use Rattle.list_store.proofs.Imports.{arith}
 use Rattle.list_store.proofs.VecLaws.{orders_in-kept, places-more}
 use Rattle.list_store.proofs.orders.reserve.Goals as goal
 

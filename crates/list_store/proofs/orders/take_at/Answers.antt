@@ -1,4 +1,4 @@
-use Rattle.list_store.proofs.Imports.{◌∙◌, arith}
+use Rattle.list_store.proofs.Imports.{arith}
 use Rattle.list_store.proofs.VecLaws.{list_of-in, orders_in-set, place-less, few-removed}
 use Rattle.list_store.proofs.orders.take_at.Goals as goal
 

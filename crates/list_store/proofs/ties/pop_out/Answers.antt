@@ -8,7 +8,4 @@ returns-clause-popped c =
     let keys = ap (λ (l : List (Vec ℕ Global)). length
     (records_of (orders_in l) c.args.header)) c.as_slice.ensures.value in
     let many = length-at c.args.slab.now (orders_in c.args.orders.now.items) c.args.header in
-    c.pull.ensures.removed
-    ∙ ap (λ (l : List Rec). set lists c.args.header l)
-    (remove_last (records_of lists c.args.header) c.last_place-last.result c.requires.full.full
-    (omega (arith, keys, many, c.last_place-last.ensures)))
+    c.pull.ensures.removed ∙ ap (λ (l : List Rec). set lists c.args.header l) (grind (arith, remove_last))

@@ -1,4 +1,4 @@
-use Rattle.lock_core.proofs.Imports.{◌≡◌, ◌++◌, ◌∷◌, [], length, append_assoc, append-nil, sym, ap, ◌∙◌, arith, Settlement, grant, granted_letter, content_granted}
+use Rattle.lock_core.proofs.Imports.{◌≡◌, ◌∷◌, length, append_assoc, append-nil, sym, ap, arith, Settlement, grant, granted_letter, content_granted}
 use Rattle.lock_core.proofs.GrantLaws.{next-waits, grant-next, grant-none}
 use Rattle.lock_core.proofs.grants.grant.Goals as goal
 

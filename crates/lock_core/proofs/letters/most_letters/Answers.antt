@@ -1,6 +1,6 @@
 use Rattle.lock_core.proofs.Imports.{arith, Content}
 use Rattle.lock_model.specs.Commands.Alter as alter
-use Rattle.lock_core.proofs.LetterLaws.{alter_few, release_few, delete_few}
+use Rattle.lock_core.proofs.LetterLaws.{alter_few}
 use Rattle.lock_core.proofs.letters.most_letters.Goals as goal
 
 pub returns-in-Alter : goal.returns-in-Alter
@@ -11,9 +11,3 @@ returns-in-Alter c by =
     } in
     let w = alter.request by c.in-Alter.r c.in-Alter.excl c.in-Alter.rec in
     rw (← c.locks.view_is, c.in-Alter.is) (omega (arith, alter_few w content, c.count_of.ensures.count))
-
-pub returns-in-Release : goal.returns-in-Release
-returns-in-Release c by = grind (arith, release_few)
-
-pub returns-in-RtDelete : goal.returns-in-RtDelete
-returns-in-RtDelete c by = grind (arith, delete_few)

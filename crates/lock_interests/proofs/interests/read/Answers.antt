@@ -1,4 +1,4 @@
-use Rattle.lock_interests.proofs.Imports.{arith, ◌≡◌, ◌∙◌}
+use Rattle.lock_interests.proofs.Imports.{arith}
 use Rattle.lock_interests.proofs.OwnerLaws.{read_each}
 use Rattle.lock_interests.proofs.interests.read.Goals as goal
 

@@ -1,4 +1,4 @@
-use Rattle.lock_interests.proofs.Imports.{arith, ◌+◌, ◌<◌, ◌∙◌}
+use Rattle.lock_interests.proofs.Imports.{arith}
 use Rattle.lock_interests.proofs.OwnerLaws.{retained_next}
 use Rattle.lock_interests.proofs.interests.retain_recorded.Goals as goal
 

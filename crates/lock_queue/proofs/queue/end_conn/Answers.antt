@@ -1,22 +1,20 @@
-use Rattle.lock_queue.proofs.Imports.{◌≡◌, ◌≤◌, List, map, not, length, ap, arith, ◌∙◌, ConnId, length-filter-le, resource_by, joined, left_seen, left_table, length_seen, Waiter, is_by, waiters_without_conn, part_of, waiters_in, AreEntries}
-use Rattle.lock_queue.proofs.CountLaws.{recorded_few, recorded_seen}
+use Rattle.lock_queue.proofs.Imports.{◌≡◌, ◌≤◌, List, map, not, length, ap, arith, ConnId, length-filter-le, resource_by, joined, left_seen, left_table, length_seen, Waiter, is_by, waiters_without_conn, part_of, waiters_in, AreEntries}
+use Rattle.lock_queue.proofs.CountLaws.{recorded_few}
 use Rattle.lock_queue.proofs.WaiterLaws.{queue-filter}
 use Rattle.lock_queue.proofs.queue.end_conn.Goals as goal
 
 left : (conn : ConnId) (entries new : List (List Waiter)) → AreEntries entries
-    → new ≡ map (waiters_without_conn conn) entries
-    → waiters_in new ≡ waiters_without_conn conn (waiters_in entries)
+    → new ≡ map (waiters_without_conn conn) entries → waiters_in new ≡ waiters_without_conn conn (waiters_in entries)
 left conn entries new is e = grind (arith, left_seen)
 
 fewer : (conn : ConnId) (entries new : List (List Waiter)) → AreEntries entries
     → new ≡ map (waiters_without_conn conn) entries → length (joined new) ≤ length (waiters_in entries)
-fewer conn entries new is e =
-    omega (
-      arith,
-      length_seen part_of new,
-      ap (λ (l : List Waiter). length l) (left conn entries new is e),
-      length-filter-le (λ (waiter : Waiter). not (is_by conn waiter)) (waiters_in entries),
-    )
+fewer conn entries new is e = omega (
+  arith,
+  length_seen part_of new,
+  ap (λ (l : List Waiter). length l) (left conn entries new is e),
+  length-filter-le (λ (waiter : Waiter). not (is_by conn waiter)) (waiters_in entries),
+)
 
 pub count_all-count-requires : goal.count_all-count-requires
 count_all-count-requires c = grind (arith, fewer)
@@ -26,13 +24,6 @@ returns-clause-kept c =
     rw c.take_out_conn.ensures.entries (left_table part_of c.args.entries.now (map (resource_by part_of)
     (waiters_in c.args.entries.now)) c.requires.kept (λ (waiter : Waiter). not (is_by c.args.conn waiter)))
 
-pub returns-clause-waiters : goal.returns-clause-waiters
-returns-clause-waiters c =
-    left c.args.conn c.args.entries.now c.take_out_conn.new.entries c.requires.kept c.take_out_conn.ensures.entries
-
-pub returns-clause-count : goal.returns-clause-count
-returns-clause-count c = c.count_all-count.ensures ∙ length_seen part_of c.take_out_conn.new.entries
-
 pub returns-clause-fits : goal.returns-clause-fits
 returns-clause-fits c = grind (arith, fewer)
 
@@ -40,16 +31,12 @@ pub returns-clause-less : goal.returns-clause-less
 returns-clause-less c = grind (arith, fewer)
 
 pub returns-clause-queue : goal.returns-clause-queue
-returns-clause-queue c =
-    rw (left c.args.conn c.args.entries.now c.take_out_conn.new.entries c.requires.kept c.take_out_conn.ensures.entries)
-    (queue-filter (λ (waiter : Waiter). not (is_by c.args.conn waiter)) (waiters_in c.args.entries.now)
-    c.requires.queue)
+returns-clause-queue c = rw (left c.args.conn c.args.entries.now
+    c.take_out_conn.new.entries c.requires.kept c.take_out_conn.ensures.entries) (queue-filter
+    (λ (waiter : Waiter). not (is_by c.args.conn waiter)) (waiters_in c.args.entries.now) c.requires.queue)
 
 pub recorded_all-recorded-requires : goal.recorded_all-recorded-requires
 recorded_all-recorded-requires c = grind (arith, recorded_few, fewer)
-
-pub returns-clause-recorded : goal.returns-clause-recorded
-returns-clause-recorded c = c.recorded_all-recorded.ensures ∙ recorded_seen c.take_out_conn.new.entries
 
 pub returns-clause-recorded_fits : goal.returns-clause-recorded_fits
 returns-clause-recorded_fits c = grind (arith, recorded_few, fewer)

@@ -1,4 +1,4 @@
-use Rattle.lock_queue.proofs.Imports.{arith, ◌∙◌, prefix_len-le-length, insert-prefix_len, Waiter, is_ahead}
+use Rattle.lock_queue.proofs.Imports.{arith, prefix_len-le-length, insert-prefix_len, Waiter, is_ahead}
 use Rattle.lock_queue.proofs.queue.put_in.Goals as goal
 
 pub insert_copy-requires-clause-place : goal.insert_copy-requires-clause-place

@@ -4,22 +4,19 @@ use Rattle.lock_queue.proofs.queue.put_new.Goals as goal
 
 counted : (c : goal.After-put_in-before) → c.put_in-before.result ≡ length (filter (λ (other : Waiter).
     is_on c.args.waiter.r other && (other.alter || not c.args.waiter.alter)) (waiters_in c.args.entries.now))
-counted c =
-    c.put_in-before.ensures.before
-    ∙ ap length (kept_in part_of c.args.entries.now
-    (map (resource_by part_of) (waiters_in c.args.entries.now)) c.requires.kept c.slot_of-slot.result
-    c.index-entries-slot.result c.slot_of-slot.ensures.within (c.args.waiter.r, c.args.waiter.conn)
-    c.slot_of-slot.ensures.slot (λ (other : Waiter). is_on c.args.waiter.r other
-    && (other.alter || not c.args.waiter.alter)) (counts_on c.args.waiter))
+counted c = c.put_in-before.ensures.before
+    ∙ ap length (kept_in part_of c.args.entries.now (map (resource_by part_of) (waiters_in c.args.entries.now))
+    c.requires.kept c.slot_of-slot.result c.index-entries-slot.result c.slot_of-slot.ensures.within
+    (c.args.waiter.r, c.args.waiter.conn) c.slot_of-slot.ensures.slot (λ (other : Waiter). is_on c.args.waiter.r
+    other && (other.alter || not c.args.waiter.alter)) (counts_on c.args.waiter))
 
 within : (c : goal.After-put_in-before) → c.put_in-before.result ≤ length (waiters_in c.args.entries.now)
-within c =
-    omega (
-      arith,
-      counted c,
-      length-filter-le (λ (other : Waiter). is_on c.args.waiter.r other
-          && (other.alter || not c.args.waiter.alter)) (waiters_in c.args.entries.now),
-    )
+within c = omega (
+  arith,
+  counted c,
+  length-filter-le (λ (other : Waiter). is_on c.args.waiter.r other
+      && (other.alter || not c.args.waiter.alter)) (waiters_in c.args.entries.now),
+)
 
 pub put_in-before-requires-clause-few : goal.put_in-before-requires-clause-few
 put_in-before-requires-clause-few c = grind (arith, few_in, length-map)
@@ -28,10 +25,8 @@ pub overflow_add-result : goal.overflow_add-result
 overflow_add-result c = omega (arith, within c, c.requires.few)
 
 pub returns-clause-kept : goal.returns-clause-kept
-returns-clause-kept c =
-    of_seen part_of _ _ (put_table part_of c.args.entries.now
-    (map (resource_by part_of) (waiters_in c.args.entries.now)) c.requires.kept c.slot_of-slot.result
-    c.index-entries-slot.result
+returns-clause-kept c = of_seen part_of _ _ (put_table part_of c.args.entries.now (map (resource_by part_of)
+    (waiters_in c.args.entries.now)) c.requires.kept c.slot_of-slot.result c.index-entries-slot.result
     c.slot_of-slot.ensures.within (λ y. stands_before y c.args.waiter) (λ y. is_ahead y c.args.waiter) c.args.waiter
     c.slot_of-slot.ensures.slot (ahead_front c.args.waiter) (ahead_stop c.args.waiter) (ahead_agree c.args.waiter)
     (ahead_others c.args.waiter) c.put_in-before.new.waiters c.put_in-before.ensures.waiters c.requires.none)
@@ -43,9 +38,8 @@ pub returns-clause-within : goal.returns-clause-within
 returns-clause-within c = omega (arith, within c, c.requires.few)
 
 pub returns-clause-waiters : goal.returns-clause-waiters
-returns-clause-waiters c =
-    put_seen part_of c.args.entries.now (map (resource_by part_of) (waiters_in c.args.entries.now)) c.requires.kept
-    c.slot_of-slot.result c.index-entries-slot.result
+returns-clause-waiters c = put_seen part_of c.args.entries.now (map (resource_by part_of)
+    (waiters_in c.args.entries.now)) c.requires.kept c.slot_of-slot.result c.index-entries-slot.result
     c.slot_of-slot.ensures.within (λ y. stands_before y c.args.waiter) (λ y. is_ahead y c.args.waiter) c.args.waiter
     c.slot_of-slot.ensures.slot (ahead_front c.args.waiter) (ahead_stop c.args.waiter) (ahead_agree c.args.waiter)
     (ahead_others c.args.waiter) c.put_in-before.new.waiters c.put_in-before.ensures.waiters

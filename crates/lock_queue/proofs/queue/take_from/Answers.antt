@@ -1,19 +1,10 @@
-use Rattle.lock_queue.proofs.Imports.{arith, sym, ◌∙◌, none_placed, some_place, cut_out, none_out, is_waiter, part_of}
+use Rattle.lock_queue.proofs.Imports.{sym, ◌∙◌, none_placed, cut_out, none_out, is_waiter, part_of}
 use Rattle.lock_queue.proofs.queue.take_from.Goals as goal
 
-pub returns-in-Some-clause-there : goal.returns-in-Some-clause-there
-returns-in-Some-clause-there c = grind (arith, some_place)
-
 pub returns-in-Some-clause-waiters : goal.returns-in-Some-clause-waiters
-returns-in-Some-clause-waiters c =
-    c.cut.ensures.list ∙ cut_out part_of (c.args.r.now, c.args.conn) c.args.waiters.now c.in-Some.at c.requires
-    (sym c.place_in.ensures ∙ c.in-Some.is)
-
-pub returns-in-None-clause-there : goal.returns-in-None-clause-there
-returns-in-None-clause-there c =
-    sym (none_placed (is_waiter c.args.r.now c.args.conn) c.args.waiters.now (sym c.place_in.ensures ∙ c.in-None.is))
+returns-in-Some-clause-waiters c = c.cut.ensures.list ∙ cut_out part_of
+    (c.args.r.now, c.args.conn) c.args.waiters.now c.in-Some.at c.requires (sym c.place_in.ensures ∙ c.in-Some.is)
 
 pub returns-in-None-clause-waiters : goal.returns-in-None-clause-waiters
-returns-in-None-clause-waiters c =
-    none_out part_of (c.args.r.now, c.args.conn) c.args.waiters.now
+returns-in-None-clause-waiters c = none_out part_of (c.args.r.now, c.args.conn) c.args.waiters.now
     (none_placed (is_waiter c.args.r.now c.args.conn) c.args.waiters.now (sym c.place_in.ensures ∙ c.in-None.is))

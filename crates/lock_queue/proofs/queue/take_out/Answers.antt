@@ -15,11 +15,9 @@ returns-clause-kept c =
     (c.args.r.now, c.args.conn) c.slot_of-slot.ensures.slot c.take_from.new.waiters c.take_from.ensures.waiters
 
 pub returns-clause-there : goal.returns-clause-there
-returns-clause-there c =
-    c.take_from.ensures.there
-    ∙ there_in part_of c.args.entries.now (map (resource_by part_of) (waiters_in c.args.entries.now))
-    c.requires.kept c.slot_of-slot.result c.index-entries-slot.result c.slot_of-slot.ensures.within
-    (c.args.r.now, c.args.conn) c.slot_of-slot.ensures.slot
+returns-clause-there c = c.take_from.ensures.there ∙ there_in part_of c.args.entries.now
+    (map (resource_by part_of) (waiters_in c.args.entries.now)) c.requires.kept c.slot_of-slot.result
+    c.index-entries-slot.result c.slot_of-slot.ensures.within (c.args.r.now, c.args.conn) c.slot_of-slot.ensures.slot
 
 pub returns-clause-waiters : goal.returns-clause-waiters
 returns-clause-waiters c =
@@ -28,20 +26,9 @@ returns-clause-waiters c =
     (c.args.r.now, c.args.conn) c.slot_of-slot.ensures.slot c.take_from.new.waiters c.take_from.ensures.waiters
 
 pub returns-clause-less : goal.returns-clause-less
-returns-clause-less c =
-    rw (taken_seen part_of c.args.entries.now (map (resource_by part_of) (waiters_in c.args.entries.now))
-    c.requires.kept c.slot_of-slot.result c.index-entries-slot.result c.slot_of-slot.ensures.within
-    (c.args.r.now, c.args.conn) c.slot_of-slot.ensures.slot c.take_from.new.waiters c.take_from.ensures.waiters)
-    (less_one c.args.r.now c.args.conn (waiters_in c.args.entries.now) c.take_from.result
-    (c.take_from.ensures.there
-    ∙ there_in part_of c.args.entries.now (map (resource_by part_of) (waiters_in c.args.entries.now))
-    c.requires.kept c.slot_of-slot.result c.index-entries-slot.result c.slot_of-slot.ensures.within
-    (c.args.r.now, c.args.conn) c.slot_of-slot.ensures.slot) c.requires.kept.one_each)
+returns-clause-less c = rw (returns-clause-waiters c) (less_one c.args.r.now c.args.conn
+    (waiters_in c.args.entries.now) c.take_from.result (returns-clause-there c) c.requires.kept.one_each)
 
 pub returns-clause-queue : goal.returns-clause-queue
-returns-clause-queue c =
-    rw (taken_seen part_of c.args.entries.now (map (resource_by part_of) (waiters_in c.args.entries.now))
-    c.requires.kept c.slot_of-slot.result c.index-entries-slot.result c.slot_of-slot.ensures.within
-    (c.args.r.now, c.args.conn) c.slot_of-slot.ensures.slot c.take_from.new.waiters c.take_from.ensures.waiters)
-    (queue-filter (λ (waiter : Waiter). not (is_waiter c.args.r.now c.args.conn waiter))
-    (waiters_in c.args.entries.now) c.requires.queue)
+returns-clause-queue c = rw (returns-clause-waiters c) (queue-filter (λ (waiter : Waiter). not (is_waiter
+    c.args.r.now c.args.conn waiter)) (waiters_in c.args.entries.now) c.requires.queue)

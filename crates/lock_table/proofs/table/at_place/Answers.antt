@@ -1,17 +1,8 @@
-use Rattle.lock_table.proofs.Imports.{arith, ◌∙◌, sym, nth_from_yields_List, YieldsList-from_first, ordered, at_is, none_past, owners_left, part_of}
+use Rattle.lock_table.proofs.Imports.{◌∙◌, sym, nth_from_yields_List, YieldsList-from_first, at_is, owners_left, part_of}
 use Rattle.lock_table.proofs.table.at_place.Goals as goal
 
-pub start_of-before-requires : goal.start_of-before-requires
-start_of-before-requires c =
-    ordered part_of c.args.entries.now c.args.order.now (rw c.requires.order c.requires.entries)
-
 pub returns-in-Some : goal.returns-in-Some
-returns-in-Some c =
-    nth_from_yields_List c.nth.result c.nth.new.self c.saturating_sub.result c.nth.ensures.ran
-    (YieldsList-from_first (λ x. x.now) owners_left _ c.owners_on.ensures)
-    ∙ rw c.saturating_sub.ensures (at_is part_of c.args.entries.now c.args.order.now c.args.k
-    c.start_of-before.result c.in-Some.r (rw c.requires.order c.requires.entries)
-    (sym c.key_at.ensures ∙ c.in-Some.is) c.start_of-before.ensures)
-
-pub returns-in-None : goal.returns-in-None
-returns-in-None c = grind (arith, none_past)
+returns-in-Some c = nth_from_yields_List c.nth.result c.nth.new.self c.saturating_sub.result c.nth.ensures.ran
+    (YieldsList-from_first (λ x. x.now) owners_left _ c.owners_on.ensures) ∙ rw c.saturating_sub.ensures
+    (at_is part_of c.args.entries.now c.args.order.now c.args.k c.start_of-before.result c.in-Some.r
+    (rw c.requires.order c.requires.entries) (sym c.key_at.ensures ∙ c.in-Some.is) c.start_of-before.ensures)

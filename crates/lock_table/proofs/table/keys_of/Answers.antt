@@ -7,6 +7,5 @@ loop-entry-preserved c =
     c.entry-item.result _ c.loop-entry-test.true c.entry-item.is c.in_ok-push_keys.ensures c.loop-entry.invariant
 
 pub returns : goal.returns
-returns c =
-    keys_end c.args.entries.now c.loop-entry.keys.items c.loop-entry.entry-index _ c.loop-entry-test.false
-    c.loop-entry.invariant
+returns c = keys_end c.args.entries.now
+    c.loop-entry.keys.items c.loop-entry.entry-index _ c.loop-entry-test.false c.loop-entry.invariant

@@ -5,12 +5,11 @@ pub put-requires-clause-few : goal.put-requires-clause-few
 put-requires-clause-few c = grind (arith, few_in, length-map)
 
 pub returns-clause-kept : goal.returns-clause-kept
-returns-clause-kept c =
-    of_seen part_of _ _ (put_table part_of c.args.entries.now (map (resource_by part_of) (owners_in c.args.entries.now))
-    c.requires.kept c.slot_of-slot.result c.index-entries-slot.result c.slot_of-slot.ensures.within
-    (λ y. not (resource_before c.args.held.r y.r)) (λ y. true) c.args.held c.slot_of-slot.ensures.slot
-    (last_front part_of c.args.held) (last_stop part_of c.args.held) (last_agree part_of c.args.held) (λ y e. refl)
-    c.put.new.self (c.put.ensures.owners ∙ last_put part_of c.args.held _) c.requires.none)
+returns-clause-kept c = of_seen part_of _ _ (put_table part_of c.args.entries.now (map (resource_by part_of)
+    (owners_in c.args.entries.now)) c.requires.kept c.slot_of-slot.result c.index-entries-slot.result
+    c.slot_of-slot.ensures.within (λ y. not (resource_before c.args.held.r y.r)) (λ y. true) c.args.held
+    c.slot_of-slot.ensures.slot (last_front part_of c.args.held) (last_stop part_of c.args.held) (last_agree part_of
+    c.args.held) (λ y e. refl) c.put.new.self (c.put.ensures.owners ∙ last_put part_of c.args.held _) c.requires.none)
 
 pub returns-clause-owners : goal.returns-clause-owners
 returns-clause-owners c = put_seen part_of c.args.entries.now (map (resource_by part_of) (owners_in c.args.entries.now))

@@ -1,4 +1,4 @@
-use Rattle.lock_table.proofs.Imports.{arith, refl, map, ◌∙◌, length-map, resource_by, all_changed_seen, all_changed_table, in_retention_of, part_of, owners_in}
+use Rattle.lock_table.proofs.Imports.{arith, refl, map, length-map, resource_by, all_changed_seen, all_changed_table, in_retention_of, part_of, owners_in}
 use Rattle.lock_table.proofs.table.retain_of.Goals as goal
 
 pub returns-clause-kept : goal.returns-clause-kept

@@ -2,9 +2,7 @@ use Rattle.lock_table.proofs.Imports.{List, subst, arith, IsPermutation, Resourc
 use Rattle.lock_table.proofs.table.sorted_keys.Goals as goal
 
 pub returns : goal.returns
-returns c =
-    sorted_is same_resource resource_before resource_order resource_of (joined c.args.entries.now) c.sort.new.self.items
-    (subst (λ (l : List Resource). IsPermutation l c.sort.new.self.items) c.in_ok-keys.ensures
-    c.in_ok-sort.ensures.permutation)
-    (neighbours same_resource resource_before resource_order c.sort.new.self.items
-    (λ k d less. c.in_ok-sort.ensures.sorted k d (omega arith) less))
+returns c = sorted_is same_resource resource_before resource_order resource_of (joined c.args.entries.now)
+    c.sort.new.self.items (subst (λ (l : List Resource). IsPermutation l c.sort.new.self.items)
+    c.in_ok-keys.ensures c.in_ok-sort.ensures.permutation) (neighbours same_resource resource_before
+    resource_order c.sort.new.self.items (λ k d less. c.in_ok-sort.ensures.sorted k d (omega arith) less))

@@ -12,25 +12,15 @@ returns-clause-kept c = taken_bins part_of c.args.entries.now (map (resource_by 
     (c.args.r.now, c.args.conn) c.slot_of-slot.ensures.slot c.take.new.self c.take.ensures.owners
 
 pub returns-clause-there : goal.returns-clause-there
-returns-clause-there c =
-    c.take.ensures.there
-    ∙ there_in part_of c.args.entries.now (map (resource_by part_of) (owners_in c.args.entries.now))
-    c.requires c.slot_of-slot.result c.index-entries-slot.result c.slot_of-slot.ensures.within
-    (c.args.r.now, c.args.conn) c.slot_of-slot.ensures.slot
+returns-clause-there c = c.take.ensures.there ∙ there_in part_of
+    c.args.entries.now (map (resource_by part_of) (owners_in c.args.entries.now)) c.requires c.slot_of-slot.result
+    c.index-entries-slot.result c.slot_of-slot.ensures.within (c.args.r.now, c.args.conn) c.slot_of-slot.ensures.slot
 
 pub returns-clause-owners : goal.returns-clause-owners
-returns-clause-owners c =
-    taken_seen part_of c.args.entries.now (map (resource_by part_of) (owners_in c.args.entries.now))
-    c.requires c.slot_of-slot.result c.index-entries-slot.result c.slot_of-slot.ensures.within
+returns-clause-owners c = taken_seen part_of c.args.entries.now (map (resource_by part_of) (owners_in
+    c.args.entries.now)) c.requires c.slot_of-slot.result c.index-entries-slot.result c.slot_of-slot.ensures.within
     (c.args.r.now, c.args.conn) c.slot_of-slot.ensures.slot c.take.new.self c.take.ensures.owners
 
 pub returns-clause-less : goal.returns-clause-less
-returns-clause-less c =
-    rw (taken_seen part_of c.args.entries.now (map (resource_by part_of) (owners_in c.args.entries.now))
-    c.requires c.slot_of-slot.result c.index-entries-slot.result c.slot_of-slot.ensures.within
-    (c.args.r.now, c.args.conn) c.slot_of-slot.ensures.slot c.take.new.self c.take.ensures.owners)
-    (less_one c.args.r.now c.args.conn (owners_in c.args.entries.now) c.take.result
-    (c.take.ensures.there
-    ∙ there_in part_of c.args.entries.now (map (resource_by part_of) (owners_in c.args.entries.now))
-    c.requires c.slot_of-slot.result c.index-entries-slot.result c.slot_of-slot.ensures.within
-    (c.args.r.now, c.args.conn) c.slot_of-slot.ensures.slot) c.requires.one_each)
+returns-clause-less c = rw (returns-clause-owners c) (less_one c.args.r.now c.args.conn
+    (owners_in c.args.entries.now) c.take.result (returns-clause-there c) c.requires.one_each)

@@ -4,6 +4,5 @@ use Rattle.one_thread.proofs.SteadyLaws.{steady_steps}
 use Rattle.one_thread.proofs.pool.ask_pool.Goals as goal
 
 pub returns-clause-step : goal.returns-clause-step
-returns-clause-step c =
-    steady_steps cache_meaning c.args.pool.now c.answer.new.self c.args.by c.args.ask.now c.answer.new.changed.marks
-    c.answer.result c.answer.ensures.turn
+returns-clause-step c = steady_steps cache_meaning c.args.pool.now
+    c.answer.new.self c.args.by c.args.ask.now c.answer.new.changed.marks c.answer.result c.answer.ensures.turn

@@ -4,15 +4,11 @@ use Rattle.plex_agent.proofs.agent.serve.Goals as goal
 use Rattle.plex_agent.proofs.agent.serve.Goals.{then-eq, else-eq}
 
 pub gated_turn-requires-clause-line : goal.gated_turn-requires-clause-line
-gated_turn-requires-clause-line g c κs within =
-    line_fits c.args.board.now c.args.lines.now c.loop-line.line-index c.line-item.result c.line-item.result
-    (search rules) c.line-item.is c.requires.lines
+gated_turn-requires-clause-line g c κs within = line_fits _ _ _ _ _ (search rules) c.line-item.is c.requires.lines
 
 pub loop-line-preserved : goal.loop-line-preserved
 loop-line-preserved g c =
-    let fits = line_fits c.args.board.now c.args.lines.now c.loop-line.line-index c.line-item.result
-    c.line-item.result
-    (search rules) c.line-item.is c.requires.lines in
+    let fits = line_fits _ _ _ _ _ (search rules) c.line-item.is c.requires.lines in
     elim c.if-eq.branch [
       | then-eq w ↦ rw (w.desk-is, w.shown-is) (record {
         of_board = w.gated_turn.ensures.of_board;
@@ -26,10 +22,11 @@ loop-line-preserved g c =
       | else-eq w ↦ rw (w.desk-is, w.shown-is) (record {
         of_board = c.loop-line.invariant.of_board;
         owner = c.loop-line.invariant.owner;
-        rest = λ after more. c.loop-line.invariant.rest after
-            (does_others c.args.board.now (record { desk = c.loop-line.desk; shown = c.loop-line.shown })
-            (record { desk = c.loop-line.desk; shown = c.loop-line.shown }) after
-            c.args.desk.now.owner c.args.lines.now c.loop-line.line-index c.line-item.result c.line-item.result
-            (search rules) c.line-item.is (search rules) more);
+        rest = λ after more. c.loop-line.invariant.rest after (does_others c.args.board.now
+            (record { desk = c.loop-line.desk; shown = c.loop-line.shown }) (record {
+              desk = c.loop-line.desk;
+              shown = c.loop-line.shown;
+            }) after c.args.desk.now.owner c.args.lines.now c.loop-line.line-index
+            c.line-item.result c.line-item.result (search rules) c.line-item.is (search rules) more);
       })
     ]

@@ -6,8 +6,7 @@ abbrev pub invariant-loop-line : goal.invariant-loop-line
 invariant-loop-line g l = record {
   of_board : IsDeskOf l.board l.desk;
   owner : l.desk.owner ≡ l.fn.desk.owner;
-  rest : (after : AtWork)
-      → DoesLines l.board (lines_by l.fn.desk.owner (drop l.line-index l.lines))
-      (record { desk = l.desk; shown = l.shown }) after
+  rest : (after : AtWork) → DoesLines
+      l.board (lines_by l.fn.desk.owner (drop l.line-index l.lines)) (record { desk = l.desk; shown = l.shown }) after
       → DoesLines l.board (lines_by l.fn.desk.owner l.lines) (record { desk = l.fn.desk; shown = no_items }) after;
 }

@@ -7,11 +7,10 @@ invariant-loop-alloc g l = record {
   of_board : IsDeskOf l.board l.desk;
   owner : l.desk.owner ≡ l.fn.desk.owner;
   ready : IsReady (option_copied l.call.ask) l.now;
-  rest : (cell : CellShown g.row.L.Denot) → cell_on l.board l.call.on ≡ Some cell → (after : AtWork)
-      → Asks cell.limit cell.form.kind (option_copied l.call.ask) l.call.on l.now
-      (at_work l.desk l.items.items ended.Done) after
-      → Asks cell.limit cell.form.kind (option_copied l.call.ask) l.call.on l.fn.first
-      (at_work l.fn.desk l.fn.items.items ended.Done) after;
+  rest : (cell : CellShown g.row.L.Denot) → cell_on l.board l.call.on ≡ Some cell
+      → (after : AtWork) → Asks cell.limit cell.form.kind (option_copied l.call.ask) l.call.on
+      l.now (at_work l.desk l.items.items ended.Done) after → Asks cell.limit cell.form.kind
+      (option_copied l.call.ask) l.call.on l.fn.first (at_work l.fn.desk l.fn.items.items ended.Done) after;
 }
 
 abbrev pub decreases-loop-alloc : goal.decreases-loop-alloc

@@ -5,11 +5,9 @@ use Rattle.plex_agent.proofs.calls.ask_step.Goals as goal
 pub call-requires-clause-ask : goal.call-requires-clause-ask
 call-requires-clause-ask g c κs within =
     ask_fits c.args.board.now c.args.call.now.on c.kind-kind.result (option_copied c.args.call.now.ask)
-    c.args.desk.now.owner
-    c.args.now c.in-Some.ask c.kind-kind.ensures.str_type c.requires.may (search rules)
+    c.args.desk.now.owner c.args.now c.in-Some.ask c.kind-kind.ensures.str_type c.requires.may (search rules)
 
 pub call-requires-clause-may : goal.call-requires-clause-may
-call-requires-clause-may g c κs within =
-    may_ask_there c.args.board.now c.args.call.now.on c.kind-kind.result (option_copied c.args.call.now.ask)
-    c.args.desk.now.owner
-    c.args.now c.in-Some.ask c.kind-kind.ensures.str_type c.requires.may (search rules) c.requires.place
+call-requires-clause-may g c κs within = may_ask_there c.args.board.now c.args.call.now.on
+    c.kind-kind.result (option_copied c.args.call.now.ask) c.args.desk.now.owner c.args.now
+    c.in-Some.ask c.kind-kind.ensures.str_type c.requires.may (search rules) c.requires.place

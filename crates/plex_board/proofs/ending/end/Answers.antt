@@ -11,13 +11,17 @@ loop-station-preserved g c =
     let count = end-count _ _ _ _ _ _ left at in
     record {
       homes = end-homes _ _ _ _ _ _ left at before.homes;
-      ended =
-          end-ended _ _ _ _ _ _ left at _ _ _ _ _ c.push_reserved.ensures.items before.ended
-          (record { history_type = said.history_type; legal = said.legal; most = said.most; room = said.room; callers = said.callers })
-          (all-accounts _ _ _ said.mine said.replies said.tests said.known);
-      links =
-          end-asked _ _ _ _ _ _ left at g.L.Link.calls g.L.Link.downs g.L.Link.faults _ _ _ _ _ _ _ _
-          c.push_reserved.ensures.items c.push_four.ensures.items said.links before.links;
+      ended = end-ended _ _ _ _ _ _ left at _ _ _ _ _ c.push_reserved.ensures.items before.ended
+          (record {
+            history_type = said.history_type;
+            legal = said.legal;
+            most = said.most;
+            room =
+                said.room;
+            callers = said.callers;
+          }) (all-accounts _ _ _ said.mine said.replies said.tests said.known);
+      links = end-asked _ _ _ _ _ _ left at g.L.Link.calls g.L.Link.downs g.L.Link.faults
+          _ _ _ _ _ _ _ _ c.push_reserved.ensures.items c.push_four.ensures.items said.links before.links;
       history_room =
           omega (arith, count, before.history_room, c.push_reserved.ensures.len, c.push_reserved.ensures.capacity);
       link_room = grind (arith, length-append);

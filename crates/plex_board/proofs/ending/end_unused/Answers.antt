@@ -8,6 +8,5 @@ pub end-requires-clause-homes : goal.end-requires-clause-homes
 end-requires-clause-homes g c κs within = unused-homes _ _ _ c.requires.unused _ c.gather.ensures
 
 pub returns : goal.returns
-returns g c =
-    unused-links _ _ _ c.requires.unused g.L.Link.calls g.L.Link.downs g.L.Link.faults _ _ _ _ c.gather.ensures
-    c.end.ensures.histories c.end.ensures.links
+returns g c = unused-links _ _ _ c.requires.unused g.L.Link.calls
+    g.L.Link.downs g.L.Link.faults _ _ _ _ c.gather.ensures c.end.ensures.histories c.end.ensures.links

@@ -25,9 +25,8 @@ close-words-requires g c =
       hands = (
         omega (arith, form.1, some_hands),
         subst (AreAll locks) (sym hands)
-            (all-hands c.args.script.now locks c.args.callers idle after c.in-Ok.hands.items
-            (form.0 ∙ c.requires.entries.1) c.requires.callers.2 c.in-Ok.ensures.hands idles
-            c.work_each.ensures form.1),
+            (all-hands c.args.script.now locks c.args.callers idle after c.in-Ok.hands.items (form.0
+            ∙ c.requires.entries.1) c.requires.callers.2 c.in-Ok.ensures.hands idles c.work_each.ensures form.1),
       );
     }
 
@@ -45,13 +44,9 @@ returns g c =
     let words = c.close-words.result.items in
     subst (λ (t : List HandTold × List ℕ). IsLocked c.args.script.now (record { hands = t.0; words = t.1 }))
     (λ i. (sym (c.from_vec.ensures ∙ told) i, sym c.from_vec-2.ensures i))
-    (told-right c.args.script.now locks c.args.callers idle after c.in-Ok.hands.items
-    (form.0 ∙ c.requires.entries.1) c.requires.callers.2 c.in-Ok.ensures.hands idles
-    c.work_each.ensures
-    words c.close-words.ensures.count
-    (subst (λ (l : List HandSeen). (word : ℕ) → word < locks.words
-    → HasValue (all_held l) word (slice_index words word)) hands
-    c.close-words.ensures.words)
-    (subst (λ (l : List HandSeen). AllPairs AreCompatible (all_held l)) hands c.close-words.ensures.compatible)
-    (subst (λ (l : List HandSeen). All (λ (h : HandSeen). All (IsOthers l h.number) h.read) l) hands
-    c.close-words.ensures.read))
+    (told-right c.args.script.now locks c.args.callers idle after c.in-Ok.hands.items (form.0 ∙ c.requires.entries.1)
+    c.requires.callers.2 c.in-Ok.ensures.hands idles c.work_each.ensures words c.close-words.ensures.count (subst
+    (λ (l : List HandSeen). (word : ℕ) → word < locks.words → HasValue (all_held l) word (slice_index words word))
+    hands c.close-words.ensures.words) (subst (λ (l : List HandSeen). AllPairs AreCompatible (all_held l)) hands
+    c.close-words.ensures.compatible) (subst (λ (l : List HandSeen). All (λ (h : HandSeen). All (IsOthers l h.number)
+    h.read) l) hands c.close-words.ensures.read))

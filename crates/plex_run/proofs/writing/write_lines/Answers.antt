@@ -1,6 +1,6 @@
-use Rattle.plex_run.proofs.Imports.{◌≡◌, None, Some, rules}
+use Rattle.plex_run.proofs.Imports.{on_ok_weaker, on_err_weaker, ◌≡◌, None, Some, rules}
 use Rattle.std.specs.List.{slice_get}
-use Rattle.plex_run.proofs.Written.{OnErr-always, OnErr-so, OnOk-always, OnOk-so}
+use Rattle.plex_run.proofs.Written.{OnErr-always, OnOk-always}
 use Rattle.plex_run.proofs.ReportLaws.{all_written, all_short, text_front, text_front_more}
 use Rattle.plex_run.proofs.writing.write_lines.Goals as goal
 
@@ -11,7 +11,7 @@ returns-in_default-clause-front g c =
 pub returns-in_default-line-clause-whole : goal.returns-in_default-line-clause-whole
 returns-in_default-line-clause-whole g c =
     let past : slice_get c.args.report.now c.loop-k.k ≡ None = search rules in
-    OnOk-so c.flush.result _ _
+    on_ok_weaker c.flush.result
     (all_written _ _ _ _ _ c.args.report.now c.loop-k.k c.loop-k.invariant.passed past) c.flush.ensures.whole
 
 pub returns-in_default-line-clause-short : goal.returns-in_default-line-clause-short
@@ -21,14 +21,12 @@ returns-in_default-line-clause-short g c =
     c.loop-k.invariant.small past)
 
 pub returns-in_default-line-clause-front : goal.returns-in_default-line-clause-front
-returns-in_default-line-clause-front g c =
-    OnErr-so c.flush.result _ _
+returns-in_default-line-clause-front g c = on_err_weaker c.flush.result
     (text_front _ _ _ _ _ c.args.report.now c.loop-k.k c.loop-k.invariant.passed) c.flush.ensures.front
 
 pub returns-in_default-checked_add-clause-front : goal.returns-in_default-checked_add-clause-front
-returns-in_default-checked_add-clause-front g c =
-    text_front _ _ _ _ _ c.args.report.now c.loop-k.k c.loop-k.invariant.passed
-    c.break_off-in_default-checked_add.ensures.front
+returns-in_default-checked_add-clause-front g c = text_front
+    _ _ _ _ _ c.args.report.now c.loop-k.k c.loop-k.invariant.passed c.break_off-in_default-checked_add.ensures.front
 
 pub returns-in_err-put-clause-front : goal.returns-in_err-put-clause-front
 returns-in_err-put-clause-front g c =

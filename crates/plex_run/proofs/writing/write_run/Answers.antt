@@ -1,5 +1,4 @@
-use Rattle.plex_run.proofs.Imports.{◌≡◌, ◌++◌, ◌<◌, ◌^◌, length, ℕ, List, map, ◌∙◌, subst, concat, line_text, report_lines, report_of, full_line, reading_of, output, Writes, WritesFront}
-use Rattle.plex_run.proofs.Written.{OnErr-so, OnOk-so}
+use Rattle.plex_run.proofs.Imports.{on_ok_weaker, on_err_weaker, ◌≡◌, ◌++◌, ◌<◌, ◌^◌, length, ℕ, List, map, ◌∙◌, subst, concat, line_text, report_lines, report_of, full_line, reading_of, output, Writes, WritesFront}
 use Rattle.plex_run.proofs.ReportLaws.{report_text, headed_text}
 use Rattle.plex_run.proofs.writing.write_run.Goals as goal
 
@@ -11,9 +10,8 @@ returns-clause-whole g c =
     ++ report_of c.args.script.now (reading_of finished) =
     headed_text _ _ _ lines (c.deref.ensures.value ∙ c.in_ok-heading.ensures)
     (rw (c.items-histories.ensures, c.items-transcripts.ensures) at c.in_ok-report.ensures) in
-    OnOk-so c.write_headed.result _ _
-    (subst (Writes (output g.K.Sink.held g.K.Sink.faults c.args.sink.now c.write_headed.new.sink)) same)
-    c.write_headed.ensures.whole
+    on_ok_weaker c.write_headed.result (subst (Writes
+    (output g.K.Sink.held g.K.Sink.faults c.args.sink.now c.write_headed.new.sink)) same) c.write_headed.ensures.whole
 
 pub returns-clause-short : goal.returns-clause-short
 returns-clause-short g c =
@@ -21,7 +19,7 @@ returns-clause-short g c =
     let lines = report_lines c.args.script.now finished.histories finished.transcripts in
     let same : concat c.in_ok-report.report ≡ report_of c.args.script.now (reading_of finished) =
     report_text _ lines (rw (c.items-histories.ensures, c.items-transcripts.ensures) at c.in_ok-report.ensures) in
-    OnOk-so c.write_headed.result _ _ (subst (λ (text : List ℕ). length text < 2 ^ 64) same)
+    on_ok_weaker c.write_headed.result (subst (λ (text : List ℕ). length text < 2 ^ 64) same)
     c.write_headed.ensures.short
 
 pub returns-clause-front : goal.returns-clause-front
@@ -32,6 +30,5 @@ returns-clause-front g c =
     ++ report_of c.args.script.now (reading_of finished) =
     headed_text _ _ _ lines (c.deref.ensures.value ∙ c.in_ok-heading.ensures)
     (rw (c.items-histories.ensures, c.items-transcripts.ensures) at c.in_ok-report.ensures) in
-    OnErr-so c.write_headed.result _ _
-    (subst (WritesFront (output g.K.Sink.held g.K.Sink.faults c.args.sink.now c.write_headed.new.sink)) same)
-    c.write_headed.ensures.front
+    on_err_weaker c.write_headed.result (subst (WritesFront
+    (output g.K.Sink.held g.K.Sink.faults c.args.sink.now c.write_headed.new.sink)) same) c.write_headed.ensures.front

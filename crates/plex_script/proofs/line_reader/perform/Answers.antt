@@ -8,8 +8,7 @@ returns-in_err-act-clause-wrong c =
     let second = c.in-Some.second.now in
     let on = c.in-Some-structure_number.on in
     let found : structure_of script.structures second ≡ Some on = grind arith in
-    let kind : c.kind_of-kind.result ≡ kind_of script.structures on = c.kind_of-kind.ensures
-    ∙ ap (λ (fs : List StrForm). kind_of fs on) c.as_slice-2.ensures.value in
+    let kind = c.kind_of-kind.ensures ∙ ap (λ fs. kind_of fs on) c.as_slice-2.ensures.value in
     let judged = rw kind at c.in_err-act.ensures in
     let p = err_from_is_err_and c.from_residual.result c.from_residual.ensures.1 in
     rw (p.1, p.2) (caller-fault script c.args.long c.args.by second c.next.new.self c.args.words on
@@ -21,10 +20,7 @@ returns-clause-ok c =
     let second = c.in-Some.second.now in
     let on = c.in-Some-structure_number.on in
     let found : structure_of script.structures second ≡ Some on = grind arith in
-    let kind : c.kind_of-kind.result ≡ kind_of script.structures on = c.kind_of-kind.ensures
-    ∙ ap (λ (fs : List StrForm). kind_of fs on) c.as_slice-2.ensures.value in
+    let kind = c.kind_of-kind.ensures ∙ ap (λ fs. kind_of fs on) c.as_slice-2.ensures.value in
     let judged = rw kind at c.in_ok-act.ensures in
-    let same = ap (λ (ls : List Line). (let s : Script = record script { lines = ls } in s))
-    c.in_ok-push.ensures.items in
-    adds-done script _ c.args.at c.args.long c.args.by second c.next.new.self c.args.words on c.in_ok-act.act
-    c.in_ok-act.retry c.in-Some.ensures.word found judged same
+    let same = ap (λ ls. (let s = record script { lines = ls } in s)) c.in_ok-push.ensures.items in
+    adds-done _ _ _ _ _ _ _ _ _ _ _ c.in-Some.ensures.word found judged same

@@ -3,9 +3,5 @@ use Rattle.plex_script.proofs.Spaced.{line_more}
 use Rattle.plex_script.proofs.printer.put_facilities.Goals as goal
 
 pub loop-facility-preserved : goal.loop-facility-preserved
-loop-facility-preserved c =
-    line_more facility_line c.args.facilities.now c.loop-facility.facility-index
-    (record { cf = record { 0 = 0 }; units = 0 })
-    c.loop-facility.text.items _ _ _ c.loop-facility-test.true c.in_ok-put_facility_line.ensures
-    c.in_ok-push.ensures.items
-    c.loop-facility.invariant
+loop-facility-preserved c = line_more _ _ _ _ _ _ _ _ c.loop-facility-test.true
+    c.in_ok-put_facility_line.ensures c.in_ok-push.ensures.items c.loop-facility.invariant

@@ -6,5 +6,4 @@ pub returns-in-Some-clause-lines : goal.returns-in-Some-clause-lines
 returns-in-Some-clause-lines c = grind (arith, rest_whole, lines-feed)
 
 pub returns-in-None-clause-lines : goal.returns-in-None-clause-lines
-returns-in-None-clause-lines c =
-    let text = c.args.text.now in rw (nothing_left text) (lines-last text c.requires (sym c.in-None.ensures))
+returns-in-None-clause-lines c = grind (arith, nothing_left, lines-last)

@@ -8,6 +8,5 @@ pub loop-number-preserved : goal.loop-number-preserved
 loop-number-preserved c = grind (arith, then-has, leads_member, else-has, leads_nobody)
 
 pub returns-clause-boxes : goal.returns-clause-boxes
-returns-clause-boxes c =
-    leads_all c.args.to c.args.event c.loop-number.number _ c.loop-number.mail.boxes (omega arith)
-    c.loop-number.invariant.letters
+returns-clause-boxes c = leads_all c.args.to
+    c.args.event c.loop-number.number _ c.loop-number.mail.boxes (omega arith) c.loop-number.invariant.letters

@@ -1,5 +1,5 @@
-use Rattle.run_laws.proofs.ValidLaws.{valid-is-fresh}
+use Rattle.run_laws.proofs.ValidLaws.{valid_is_fresh}
 use Rattle.run_laws.proofs.fresh.valid_is_fresh.Goals as goal
 
 pub returns : goal.returns
-returns c = valid-is-fresh
+returns c = valid_is_fresh

@@ -1,5 +1,5 @@
-use Rattle.run_laws.proofs.OwnerReplay.{owners-replay}
+use Rattle.run_laws.proofs.OwnerReplay.{owners_replay}
 use Rattle.run_laws.proofs.locks.owners_compatible.Goals as goal
 
 pub returns : goal.returns
-returns c = owners-replay c.args.form.now c.args.history.now
+returns c = owners_replay c.args.form.now c.args.history.now

@@ -4,7 +4,6 @@ use Rattle.shell_laws.proofs.laws.content_waits.Goals as goal
 
 pub returns : goal.returns
 returns g c = record {
-  waits = λ rebuild by is held.
-      content_waits (replay g.E.Engine.meaning c.args.form.now c.args.history.now).shell rebuild by
-      (manned-replay g.E.Engine.meaning c.args.form.now c.args.history.now) is held;
+  waits = λ rebuild by is held. content_waits (replay g.E.Engine.meaning c.args.form.now c.args.history.now).shell
+      rebuild by (manned-replay g.E.Engine.meaning c.args.form.now c.args.history.now) is held;
 }

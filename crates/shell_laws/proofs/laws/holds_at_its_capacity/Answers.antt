@@ -16,6 +16,5 @@ returns g c =
       need_leave = from.need_leave;
     } in
     record {
-      held = held-replay g.E.Engine.meaning g.E.Engine.is_kind g.E.Engine.is_content laws c.args.form.now
-          c.requires.kind c.args.history.now;
+      held = grind (arith, held-replay);
     }

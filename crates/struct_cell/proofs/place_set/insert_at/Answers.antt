@@ -7,6 +7,5 @@ pub returns-clause-spotted : goal.returns-clause-spotted
 returns-clause-spotted c = grind (arith, spotted_push)
 
 pub returns-clause-others : goal.returns-clause-others
-returns-clause-others c conn word spared =
-    spared-front c.args.places.now.items c.args.place conn word
-    (subst (λ (ps : List Place). IsSpared ps conn word) c.push_reserved.ensures.items spared)
+returns-clause-others c conn word spared = spared-front c.args.places.now.items c.args.place
+    conn word (subst (λ (ps : List Place). IsSpared ps conn word) c.push_reserved.ensures.items spared)

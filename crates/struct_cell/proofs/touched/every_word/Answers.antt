@@ -10,6 +10,5 @@ loop-before-preserved c =
       distinct = put.distinct;
       ordered = put.before;
       every = vectors-more c.loop-before.places.items c.put_words.new.places.items
-          (words_of c.args.len) c.loop-before.before
-          put.others put.here c.loop-before.invariant.every;
+          (words_of c.args.len) c.loop-before.before put.others put.here c.loop-before.invariant.every;
     }

@@ -11,11 +11,10 @@ store_one-requires-clause-once g c =
     let none : Place = record { conn = record { 0 = 0 }; word = 0 } in
     let all : All (IsWithin c.args.vectors.now.conns c.args.vectors.now.len) places =
     subst₂ (λ (n l : ℕ). All (IsWithin n l) places) c.requires.conns c.requires.len c.places-places.ensures.within in
-    each-once c.args.vectors.now.conns c.args.vectors.now.len (word_at c.args.touched.now.len c.args.touched.now.words)
-    c.args.seat.now c.loop-place.seat (take c.loop-place.place-index places) _
-    (all c.loop-place.place-index none c.loop-place-test.true)
-    (spared-before places c.loop-place.place-index none c.loop-place-test.true c.places-places.ensures.distinct)
-    c.loop-place.invariant c.requires.fresh
+    each-once c.args.vectors.now.conns c.args.vectors.now.len (word_at c.args.touched.now.len
+    c.args.touched.now.words) c.args.seat.now c.loop-place.seat (take c.loop-place.place-index places)
+    _ (all c.loop-place.place-index none c.loop-place-test.true) (spared-before places c.loop-place.place-index
+    none c.loop-place-test.true c.places-places.ensures.distinct) c.loop-place.invariant c.requires.fresh
 
 pub loop-place-preserved : goal.loop-place-preserved
 loop-place-preserved g c =
@@ -23,10 +22,7 @@ loop-place-preserved g c =
     let none : Place = record { conn = record { 0 = 0 }; word = 0 } in
     let all : All (IsWithin c.args.vectors.now.conns c.args.vectors.now.len) places =
     subst₂ (λ (n l : ℕ). All (IsWithin n l) places) c.requires.conns c.requires.len c.places-places.ensures.within in
-    each-step c.args.vectors.now.conns c.args.vectors.now.len (word_at c.args.touched.now.len c.args.touched.now.words)
-    c.args.seat.now c.loop-place.seat c.store_one.new.seat places c.loop-place.place-index _ true
-    (slice_get-get_or places c.loop-place.place-index none c.loop-place-test.true)
-    (all c.loop-place.place-index none c.loop-place-test.true)
-    c.loop-place.invariant
-    (grind (arith, spared-before))
-    (λ e. absurd cc)
+    each-step c.args.vectors.now.conns c.args.vectors.now.len (word_at c.args.touched.now.len
+    c.args.touched.now.words) c.args.seat.now c.loop-place.seat c.store_one.new.seat places c.loop-place.place-index _
+    true (slice_get-get_or places c.loop-place.place-index none c.loop-place-test.true) (all c.loop-place.place-index
+    none c.loop-place-test.true) c.loop-place.invariant (grind (arith, spared-before)) (λ e. absurd cc)

@@ -14,19 +14,14 @@ returns-clause-marked g c =
     machine = grind arith in
     let one = c.mark-alone.ensures.machine ∙ ap (λ (m : Machine g.row.E-State.Denot). behind_marks meaning form m
     (listed lost.first)) same in
-    let two = behind_both meaning form machine
-    (machine_of meaning form c.mark-alone.new.shell (kept_of g.E.Engine.held c.mark-alone.new.content))
-    (machine_of meaning form c.mark-both.new.shell (kept_of g.E.Engine.held c.mark-both.new.content))
-    lost.first lost.second one c.mark-both.ensures.machine in
+    let two = behind_both meaning form machine (machine_of meaning form c.mark-alone.new.shell
+    (kept_of g.E.Engine.held c.mark-alone.new.content)) (machine_of meaning form c.mark-both.new.shell
+    (kept_of g.E.Engine.held c.mark-both.new.content)) lost.first lost.second one c.mark-both.ensures.machine in
     let unmarked : AreTold meaning form machine [] c.args.marks.now =
     subst (λ (marks : List Mark). AreTold meaning form machine [] marks) (sym c.requires.unmarked) tt in
     let first_told = c.mark-alone.ensures.told machine [] (same, unmarked) in
     let told = c.mark-both.ensures.told machine (listed lost.first) (one, first_told) in
-    marks_made meaning form g.L.Link.calls g.L.Link.downs g.L.Link.faults machine
-    (machine_of meaning form c.mark-both.new.shell (kept_of g.E.Engine.held c.mark-both.new.content))
-    c.args.content.now.pair.links c.mark-both.new.content.pair.links
-    (asks_in c.both.result) (content_asks_of c.args.shell.now.shell) lost c.mark-both.new.marks
-    (grind (arith, content_places))
-    c.ask_links-lost.ensures.marks
-    (grind arith)
-    told two
+    marks_made meaning form g.L.Link.calls g.L.Link.downs g.L.Link.faults machine (machine_of meaning
+    form c.mark-both.new.shell (kept_of g.E.Engine.held c.mark-both.new.content)) c.args.content.now.pair.links
+    c.mark-both.new.content.pair.links (asks_in c.both.result) (content_asks_of c.args.shell.now.shell)
+    lost c.mark-both.new.marks (grind (arith, content_places)) c.ask_links-lost.ensures.marks (grind arith) told two

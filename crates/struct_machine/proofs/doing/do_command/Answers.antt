@@ -1,13 +1,9 @@
 -- A common command does to shell and instances what the machine's step does.
-use Rattle.struct_machine.proofs.Imports.{arith, ◌≡◌, None, is_some, refl, ◌∙◌, option_map, Room, departure_from, room_of, fresh_of, ShellOutcome, leaver, shell_cause, with_posted, kept_of, Spares, machine_of}
+use Rattle.struct_machine.proofs.Imports.{arith, rules, ◌≡◌, None, is_some, refl, ◌∙◌, option_map, Room, departure_from, room_of, fresh_of, ShellOutcome, leaver, shell_cause, with_posted, kept_of, Spares, machine_of}
 use Rattle.struct_machine.proofs.CommandLaws as law
 use Rattle.struct_machine.proofs.KeptLaws.{kept_stands}
-use Rattle.struct_machine.proofs.PostedLaws.{accepted_posted, letters_none}
-use Rattle.struct_machine.proofs.RoomLaws.{cause_seen, done_seen}
+use Rattle.struct_machine.proofs.RoomLaws.{done_seen}
 use Rattle.struct_machine.proofs.doing.do_command.Goals as goal
-
-pub act-reply-requires-clause-accepted : goal.act-reply-requires-clause-accepted
-act-reply-requires-clause-accepted g c = grind (arith, cause_seen, accepted_posted, letters_none)
 
 pub do_deeds-requires-clause-admitted : goal.do_deeds-requires-clause-admitted
 do_deeds-requires-clause-admitted g c κs within =
@@ -17,10 +13,8 @@ do_deeds-requires-clause-admitted g c κs within =
     let of = c.requires.of_form in
     let machine = machine_of g.E.Engine.meaning c.args.form.now c.args.shell.now kept in
     let room : Room = room_of g.E.Engine.meaning c.args.form.now machine in
-    let accepted : shell_cause c.args.form.now room c.args.shell.now.shell by cmd ≡ None =
-    c.requires.accepted in
-    let gone = departure_from g.E.Engine.meaning c.args.form.now
-    (leaver c.args.shell.now.shell by cmd) machine in
+    let accepted : shell_cause c.args.form.now room c.args.shell.now.shell by cmd ≡ None = c.requires.accepted in
+    let gone = departure_from g.E.Engine.meaning c.args.form.now (leaver c.args.shell.now.shell by cmd) machine in
     let after : ShellOutcome = record {
       reply = c.act-reply.result.0;
       shell = c.act-reply.new.self.shell;
@@ -34,28 +28,24 @@ do_deeds-requires-clause-admitted g c κs within =
     let is : law.IsLeft g.E.Engine.meaning c.args.form.now c.args.shell.now kept of by cmd accepted
     spares left = grind arith in
     let acts : after ≡ law.acted g.E.Engine.meaning c.args.form.now c.args.shell.now kept of by cmd
-    accepted =
-    (rw (c.prepare.ensures.form, of.shell_form, c.in_ok-prepare.ensures.ok_shell, c.requires.room) at
-    c.act-reply.ensures.acts)
+    accepted = (rw (c.prepare.ensures.form, of.shell_form, c.in_ok-prepare.ensures.ok_shell, c.requires.room)
+    at c.act-reply.ensures.acts)
     ∙ done_seen c.args.form.now room (with_posted gone.letters c.args.shell.now.shell) by cmd in
     let under : c.is_rebuilding-rebuilding.result ≡ is_some c.args.shell.now.shell.rebuild = grind arith in
     let fresh : c.instances-fresh.result.2 ≡ fresh_of c.args.shell.now.shell.rebuild = grind arith in
     law.admitted_then g.E.Engine.meaning c.args.form.now c.args.shell.now kept of by cmd accepted
-    spares left is c.requires.may after c.is_rebuilding-rebuilding.result c.instances-fresh.result.2 acts under
-    fresh
+    spares left is c.requires.may after c.is_rebuilding-rebuilding.result c.instances-fresh.result.2 acts under fresh
 
-pub returns-clause-ok : goal.returns-clause-ok
-returns-clause-ok g c =
+pub returns : goal.returns
+returns g c =
     let by = c.args.call.now.by in
     let cmd = c.args.call.now.cmd.now in
     let kept = kept_of g.E.Engine.held c.args.content.now in
     let of = c.requires.of_form in
     let machine = machine_of g.E.Engine.meaning c.args.form.now c.args.shell.now kept in
     let room : Room = room_of g.E.Engine.meaning c.args.form.now machine in
-    let accepted : shell_cause c.args.form.now room c.args.shell.now.shell by cmd ≡ None =
-    c.requires.accepted in
-    let gone = departure_from g.E.Engine.meaning c.args.form.now
-    (leaver c.args.shell.now.shell by cmd) machine in
+    let accepted : shell_cause c.args.form.now room c.args.shell.now.shell by cmd ≡ None = c.requires.accepted in
+    let gone = departure_from g.E.Engine.meaning c.args.form.now (leaver c.args.shell.now.shell by cmd) machine in
     let after : ShellOutcome = record {
       reply = c.act-reply.result.0;
       shell = c.act-reply.new.self.shell;
@@ -69,93 +59,25 @@ returns-clause-ok g c =
     let is : law.IsLeft g.E.Engine.meaning c.args.form.now c.args.shell.now kept of by cmd accepted
     spares left = grind arith in
     let acts : after ≡ law.acted g.E.Engine.meaning c.args.form.now c.args.shell.now kept of by cmd
-    accepted =
-    (rw (c.prepare.ensures.form, of.shell_form, c.in_ok-prepare.ensures.ok_shell, c.requires.room) at
-    c.act-reply.ensures.acts)
+    accepted = (rw (c.prepare.ensures.form, of.shell_form, c.in_ok-prepare.ensures.ok_shell, c.requires.room)
+    at c.act-reply.ensures.acts)
     ∙ done_seen c.args.form.now room (with_posted gone.letters c.args.shell.now.shell) by cmd in
     let under : c.is_rebuilding-rebuilding.result ≡ is_some c.args.shell.now.shell.rebuild = grind arith in
-    let fresh : c.instances-fresh.result.2 ≡ fresh_of c.args.shell.now.shell.rebuild = grind arith in
     let now = kept_of g.E.Engine.held c.do_deeds.new.content in
-    law.command_same g.E.Engine.meaning c.args.form.now c.args.shell.now kept of by cmd accepted
-    spares left is after now acts
-    (grind arith)
-
-pub returns-clause-bits : goal.returns-clause-bits
-returns-clause-bits g c = grind (arith, done_seen)
-
-pub returns-clause-all : goal.returns-clause-all
-returns-clause-all g c =
-    let by = c.args.call.now.by in
-    let cmd = c.args.call.now.cmd.now in
-    let kept = kept_of g.E.Engine.held c.args.content.now in
-    let of = c.requires.of_form in
-    let machine = machine_of g.E.Engine.meaning c.args.form.now c.args.shell.now kept in
-    let room : Room = room_of g.E.Engine.meaning c.args.form.now machine in
-    let accepted : shell_cause c.args.form.now room c.args.shell.now.shell by cmd ≡ None =
-    c.requires.accepted in
-    let gone = departure_from g.E.Engine.meaning c.args.form.now
-    (leaver c.args.shell.now.shell by cmd) machine in
-    let after : ShellOutcome = record {
-      reply = c.act-reply.result.0;
-      shell = c.act-reply.new.self.shell;
-      deeds = c.act-reply.result.1;
-    } in
-    let spares : Spares g.row.E-State.Denot = record {
-      empty = option_map g.E.Engine.held c.in_ok-made.made.empty;
-      second = option_map g.E.Engine.held c.in_ok-made.made.second;
-    } in
-    let left = kept_of g.E.Engine.held c.prepare.new.content in
-    let is : law.IsLeft g.E.Engine.meaning c.args.form.now c.args.shell.now kept of by cmd accepted
-    spares left = grind arith in
-    let acts : after ≡ law.acted g.E.Engine.meaning c.args.form.now c.args.shell.now kept of by cmd
-    accepted =
-    (rw (c.prepare.ensures.form, of.shell_form, c.in_ok-prepare.ensures.ok_shell, c.requires.room) at
-    c.act-reply.ensures.acts)
-    ∙ done_seen c.args.form.now room (with_posted gone.letters c.args.shell.now.shell) by cmd in
-    let under : c.is_rebuilding-rebuilding.result ≡ is_some c.args.shell.now.shell.rebuild = grind arith in
-    let fresh : c.instances-fresh.result.2 ≡ fresh_of c.args.shell.now.shell.rebuild = grind arith in
-    law.all_then g.E.Engine.meaning c.args.form.now c.args.shell.now kept of by cmd accepted
-    spares left is after acts c.is_rebuilding-rebuilding.result under
-    (record {
-      all = c.changed.inside.all;
-      bits = c.prepare.new.out.bits.items;
-      marks = c.changed.inside.marks;
-    }) c.note.new.self c.note.ensures
-
-pub returns-clause-of_form : goal.returns-clause-of_form
-returns-clause-of_form g c =
-    let by = c.args.call.now.by in
-    let cmd = c.args.call.now.cmd.now in
-    let kept = kept_of g.E.Engine.held c.args.content.now in
-    let of = c.requires.of_form in
-    let machine = machine_of g.E.Engine.meaning c.args.form.now c.args.shell.now kept in
-    let room : Room = room_of g.E.Engine.meaning c.args.form.now machine in
-    let accepted : shell_cause c.args.form.now room c.args.shell.now.shell by cmd ≡ None =
-    c.requires.accepted in
-    let gone = departure_from g.E.Engine.meaning c.args.form.now
-    (leaver c.args.shell.now.shell by cmd) machine in
-    let after : ShellOutcome = record {
-      reply = c.act-reply.result.0;
-      shell = c.act-reply.new.self.shell;
-      deeds = c.act-reply.result.1;
-    } in
-    let spares : Spares g.row.E-State.Denot = record {
-      empty = option_map g.E.Engine.held c.in_ok-made.made.empty;
-      second = option_map g.E.Engine.held c.in_ok-made.made.second;
-    } in
-    let left = kept_of g.E.Engine.held c.prepare.new.content in
-    let is : law.IsLeft g.E.Engine.meaning c.args.form.now c.args.shell.now kept of by cmd accepted
-    spares left = grind arith in
-    let acts : after ≡ law.acted g.E.Engine.meaning c.args.form.now c.args.shell.now kept of by cmd
-    accepted =
-    (rw (c.prepare.ensures.form, of.shell_form, c.in_ok-prepare.ensures.ok_shell, c.requires.room) at
-    c.act-reply.ensures.acts)
-    ∙ done_seen c.args.form.now room (with_posted gone.letters c.args.shell.now.shell) by cmd in
-    let under : c.is_rebuilding-rebuilding.result ≡ is_some c.args.shell.now.shell.rebuild = grind arith in
-    let fresh : c.instances-fresh.result.2 ≡ fresh_of c.args.shell.now.shell.rebuild = grind arith in
-    let now = kept_of g.E.Engine.held c.do_deeds.new.content in
-    law.kept_behind g.E.Engine.meaning c.args.form.now c.args.shell.now kept of by cmd accepted
-    spares left is after c.act-reply.new.self now acts
-    (grind arith)
-    (kept_stands g.E.Engine.held c.do_deeds.new.content)
-    (c.act-reply.ensures.form ∙ c.prepare.ensures.form ∙ of.shell_form) refl
+    let done : now ≡ law.past
+    g.E.Engine.meaning c.args.form.now c.args.shell.now kept of by cmd accepted spares left is = grind arith in
+    record {
+      ok = law.command_same _ _ _ _ of _ _ accepted _ _ is after now acts done;
+      bits = grind (arith, done_seen);
+      all = law.all_then _ _ _ _ of _ _ accepted _ _ is after acts c.is_rebuilding-rebuilding.result under (record {
+        all = c.changed.inside.all;
+        bits = c.prepare.new.out.bits.items;
+        marks = c.changed.inside.marks;
+      }) c.note.new.self c.note.ensures;
+      of_form = law.kept_behind _ _ _ _ of _ _ accepted _ _ is after c.act-reply.new.self now acts done
+          (kept_stands g.E.Engine.held c.do_deeds.new.content)
+          (c.act-reply.ensures.form ∙ c.prepare.ensures.form ∙ of.shell_form) refl;
+      links = search rules;
+      marks = search rules;
+      err = search rules;
+    }

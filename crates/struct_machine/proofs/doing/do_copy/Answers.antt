@@ -36,37 +36,30 @@ returns-clause-turn g c =
     c.ready.ensures.form c.ready.ensures.shell at holds copied in
     let one = c.mark-alone.ensures.machine ∙ ap (λ (m : Machine g.row.E-State.Denot). behind_marks meaning form m
     (listed lost.first)) copies in
-    let two = behind_both meaning form items
-    (machine_of meaning form c.mark-alone.new.shell (kept_of g.E.Engine.held c.mark-alone.new.content))
-    (machine_of meaning form c.mark-both.new.shell (kept_of g.E.Engine.held c.mark-both.new.content))
-    lost.first lost.second one c.mark-both.ensures.machine in
+    let two = behind_both meaning form items (machine_of meaning form c.mark-alone.new.shell
+    (kept_of g.E.Engine.held c.mark-alone.new.content)) (machine_of meaning form c.mark-both.new.shell
+    (kept_of g.E.Engine.held c.mark-both.new.content)) lost.first lost.second one c.mark-both.ensures.machine in
     let now = machine_of meaning form c.copy_judged.new.shell (kept_of g.E.Engine.held c.mark-both.new.content) in
     let behind : now ≡ behind_marks meaning form items (marks_in lost) =
     ap (λ (s : Shell). (let m : Machine g.row.E-State.Denot = record now { shell = s } in m))
-    c.copy_judged.ensures.shell
-    ∙ two in
+    c.copy_judged.ensures.shell ∙ two in
     let first_told = c.mark-alone.ensures.told items [] (grind arith) in
     let told = c.mark-both.ensures.told items (listed lost.first) (one, first_told) in
     let calls = c.requires.asked ∙ ap (λ (command : ShellCmd). (let a : Ask g.row.E-Cmd.Denot = ask.Shell command in
     a)) is in
     let replied = c.copy_judged.ensures.reply in
-    turn_made meaning form g.L.Link.calls g.L.Link.downs g.L.Link.faults machine now
-    c.args.content.now.pair.links c.mark-both.new.content.pair.links by c.args.call.now.ask.now
+    turn_made meaning form g.L.Link.calls g.L.Link.downs g.L.Link.faults
+    machine now c.args.content.now.pair.links c.mark-both.new.content.pair.links by c.args.call.now.ask.now
     (copy_asks_of c.ready.new.self.shell) lost c.mark-both.new.marks c.copy_judged.result
     (copy_asks meaning form machine by c.args.call.now.ask.now n c.ready.new.self.shell calls accepted shell)
-    c.ask_copy-lost.ensures.marks
-    (grind arith)
-    (told_before meaning form machine by n of.manned accepted lost
+    c.ask_copy-lost.ensures.marks (grind arith) (told_before meaning form machine by n of.manned accepted lost
     (moved_by (room_of meaning form machine) (cmd.Copy n)) c.mark-both.new.marks c.ask_copy-lost.ensures.stopped told)
     (copy_done meaning form machine by n of.manned accepted lost now c.args.call.now.room c.copy_judged.result
     (subst (λ (s : Shell). IfSome lost.first (λ (cf : CfId). s.instances.primary ≡ Some cf)) shell
-    c.ask_copy-lost.ensures.first)
-    (subst (λ (s : Shell). IfSome lost.second (λ (cf : CfId). fresh_of s.rebuild ≡ Some cf)) shell
-    c.ask_copy-lost.ensures.second)
-    c.ask_copy-lost.ensures.stopped behind (ap (λ (r : Room). r.left) c.requires.room)
-    (grind arith)
-    ∙ ap (λ (a : Ask g.row.E-Cmd.Denot). judged meaning form (behind_marks meaning form machine (marks_in lost))
-    by a) (sym calls))
+    c.ask_copy-lost.ensures.first) (subst (λ (s : Shell). IfSome lost.second (λ (cf : CfId). fresh_of s.rebuild ≡ Some
+    cf)) shell c.ask_copy-lost.ensures.second) c.ask_copy-lost.ensures.stopped behind
+    (ap (λ (r : Room). r.left) c.requires.room) (grind arith) ∙ ap (λ (a : Ask g.row.E-Cmd.Denot). judged meaning
+    form (behind_marks meaning form machine (marks_in lost)) by a) (sym calls))
 
 -- a copy changes no bit, unless a loss ends the structure
 

@@ -1,17 +1,11 @@
--- What a lost facility makes of the parts is what the mark's step makes of the machine.
+-- The parts behind a lost facility are of the form.
 use Rattle.struct_machine.proofs.Imports.{arith, ap, ◌∙◌, StrForm, mark_outcome, kept_of}
 use Rattle.struct_machine.proofs.KeptLaws.{kept_stands}
-use Rattle.struct_machine.proofs.LossLaws.{ending, held_lost, kept_lost, lost_same}
+use Rattle.struct_machine.proofs.LossLaws.{ending, kept_lost}
 use Rattle.struct_machine.proofs.losing.lose.Goals as goal
 
 pub end_lost-requires-clause-ending : goal.end_lost-requires-clause-ending
 end_lost-requires-clause-ending g c κs within = grind (arith, ending)
-
-pub returns-clause-machine : goal.returns-clause-machine
-returns-clause-machine g c = grind (arith, lost_same)
-
-pub returns-clause-told : goal.returns-clause-told
-returns-clause-told g c = grind arith
 
 pub returns-clause-of_form : goal.returns-clause-of_form
 returns-clause-of_form g c =
@@ -24,6 +18,3 @@ returns-clause-of_form g c =
     kept_lost g.E.Engine.meaning c.args.form.now c.args.shell.now kept of c.args.cf c.lost-told.result tells
     c.lost-told.new.self (kept_of g.E.Engine.held c.end_lost.new.content) c.lost-told.ensures.form came
     c.end_lost.ensures.kept (kept_stands g.E.Engine.held c.end_lost.new.content)
-
-pub returns-clause-same : goal.returns-clause-same
-returns-clause-same g c = grind (arith, held_lost)

@@ -6,9 +6,8 @@ use Rattle.vec_world.proofs.machine.run.Goals as goal
 pub loop-step-preserved : goal.loop-step-preserved
 loop-step-preserved c =
     let steps = c.args.steps.now in
-    let within : c.loop-step.step-index < length steps = c.loop-step-test.true in (
-      world_of-more c.args.words c.args.passes steps c.loop-step.step-index _ c.loop-step.world c.act.new.self within
-          c.loop-step.invariant.0 c.in_ok-act.ensures.ok,
+    let within = c.loop-step-test.true in (
+      world_of-more _ _ _ _ _ _ _ within c.loop-step.invariant.0 c.in_ok-act.ensures.ok,
       All-more FitsHalf steps c.loop-step.step-index _ within c.loop-step.invariant.1 c.in_ok-act.ensures.fits,
     )
 

@@ -19,9 +19,7 @@ returns-clause-bits c =
     let both = gains_falls (stands made) (stands alone) (stands later) c.set.new.out.bits.items
     c.drop_name.new.out.bits.items c.end_regs.new.out.bits.items
     (falls_filter p made) (falls_filter q alone) second third in
-    rw (c.end_regs.ensures.regs, c.drop_name.ensures.regs, c.set.ensures.regs)
-    (gains_then_falls c.args.by c.args.index c.args.name.now c.args.regs.now.regs later
-    c.args.out.now.bits.items c.set.new.out.bits.items c.end_regs.new.out.bits.items
-    (stands_kept_twice p q c.args.by c.args.index c.args.name.now c.args.regs.now.regs
-    (own_spared c.args.by c.args.index c.args.name.now) (ap not c.requires.spared))
-    (falls_twice p q made) first both)
+    rw (c.end_regs.ensures.regs, c.drop_name.ensures.regs, c.set.ensures.regs) (gains_then_falls c.args.by
+    c.args.index c.args.name.now c.args.regs.now.regs later c.args.out.now.bits.items c.set.new.out.bits.items
+    c.end_regs.new.out.bits.items (stands_kept_twice p q c.args.by c.args.index c.args.name.now c.args.regs.now.regs
+    (own_spared c.args.by c.args.index c.args.name.now) (ap not c.requires.spared)) (falls_twice p q made) first both)

@@ -5,12 +5,11 @@ pub drop_conn-requires : goal.drop_conn-requires
 drop_conn-requires c = grind (arith, length-filter-le)
 
 pub invariant_of-self : goal.invariant_of-self
-invariant_of-self c =
-    record {
-      cache = c.self.invariant.cache;
-      caps = c.self.invariant.caps;
-      content = rw (c.release.ensures.rows, c.drop_conn.ensures.regs) (content-without c.self.inside.caps
-          (content_of c.self.inside) c.args.conn c.self.invariant.content);
-      vector = c.drop_conn.ensures.len ∙ c.self.invariant.vector;
-      elements = c.release.ensures.elements ∙ c.self.invariant.elements;
-    }
+invariant_of-self c = record {
+  cache = c.self.invariant.cache;
+  caps = c.self.invariant.caps;
+  content = rw (c.release.ensures.rows, c.drop_conn.ensures.regs) (content-without c.self.inside.caps
+      (content_of c.self.inside) c.args.conn c.self.invariant.content);
+  vector = c.drop_conn.ensures.len ∙ c.self.invariant.vector;
+  elements = c.release.ensures.elements ∙ c.self.invariant.elements;
+}

@@ -21,12 +21,11 @@ invariant_of-self c =
     record {
       cache = c.self.invariant.cache;
       caps = c.self.invariant.caps;
-      content =
-          either_way (λ (l : List CacheItem). IsContent c.self.inside.caps
-          (record { rows = l; regs = c.self.inside.regs.regs })) c.push.result
-          c.self.inside.rows.rows (c.self.inside.rows.rows ++ c.args.item ∷ []) c.push.new.self.rows c.push.ensures.ok
-          c.push.ensures.err
-          placed c.self.invariant.content;
+      content = either_way (λ (l : List CacheItem). IsContent c.self.inside.caps (record {
+        rows = l;
+        regs = c.self.inside.regs.regs;
+      })) c.push.result c.self.inside.rows.rows (c.self.inside.rows.rows ++
+          c.args.item ∷ []) c.push.new.self.rows c.push.ensures.ok c.push.ensures.err placed c.self.invariant.content;
       vector = c.self.invariant.vector;
       elements = c.push.ensures.elements ∙ c.self.invariant.elements;
     }

@@ -2,21 +2,21 @@ use Rattle.cache_core.proofs.Imports.{arith, ◌≡◌, sym, subst, ◌∙◌, C
 use Rattle.cache_core.proofs.NextLaws.{unplaced}
 use Rattle.cache_core.proofs.engine.CacheEngineEngine.unplace.Goals as goal
 
-left : (c : goal.After-pop)
-    → record { rows = c.pop.new.self.rows; regs = c.self.inside.regs.regs }
-    ≡ content_without_last (content_of c.self.inside)
+left : (c : goal.After-pop) → record {
+  rows = c.pop.new.self.rows;
+  regs = c.self.inside.regs.regs;
+} ≡ content_without_last (content_of c.self.inside)
 left c = grind (arith, unplaced)
 
 pub invariant_of-self : goal.invariant_of-self
-invariant_of-self c =
-    record {
-      cache = c.self.invariant.cache;
-      caps = c.self.invariant.caps;
-      content = subst (λ (content : Content). IsContent c.self.inside.caps content) (sym (left c))
-          (content-without_last c.self.inside.caps (content_of c.self.inside) c.self.invariant.content);
-      vector = c.self.invariant.vector;
-      elements = c.pop.ensures.elements ∙ c.self.invariant.elements;
-    }
+invariant_of-self c = record {
+  cache = c.self.invariant.cache;
+  caps = c.self.invariant.caps;
+  content = subst (λ (content : Content). IsContent c.self.inside.caps content) (sym (left c))
+      (content-without_last c.self.inside.caps (content_of c.self.inside) c.self.invariant.content);
+  vector = c.self.invariant.vector;
+  elements = c.pop.ensures.elements ∙ c.self.invariant.elements;
+}
 
 pub returns : goal.returns
 returns c = grind (arith, left)

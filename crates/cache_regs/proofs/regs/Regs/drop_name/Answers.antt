@@ -1,25 +1,19 @@
-use Rattle.cache_regs.proofs.Imports.{◌≡◌, ◌≤◌, ◌+◌, ◌-◌, min, not, length, filter, sym, subst, arith, list_all-filter, Registration, ends_with_name, Registry, is_callers, is_within}
+use Rattle.cache_regs.proofs.Imports.{◌≡◌, ◌≤◌, ◌+◌, ◌-◌, min, not, length, filter, subst, arith, list_all-filter, Registration, ends_with_name, Registry}
 use Rattle.cache_regs.proofs.RegLaws.{registry-filter}
 use Rattle.cache_regs.proofs.EndLaws.{fits_few, left_counted}
 use Rattle.cache_regs.proofs.regs.Regs.drop_name.Goals as goal
 
 pub end_name-requires-clause-room : goal.end_name-requires-clause-room
-end_name-requires-clause-room c =
-    fits_few (ends_with_name c.args.name.now c.args.spare) c.self.inside.maps.regs c.args.out.now.bits.room
-    (subst (λ (r : Registry). length (filter (ends_with_name c.args.name.now c.args.spare) r.regs)
-    ≤ c.args.out.now.bits.room) (sym c.self.view_is) c.requires)
+end_name-requires-clause-room c = fits_few _ _ _ (grind arith)
 
 pub invariant_of-self : goal.invariant_of-self
 invariant_of-self c =
     let stays = λ (reg : Registration). not (ends_with_name c.args.name.now c.args.spare reg) in
-    let fewer = (left_counted (ends_with_name c.args.name.now c.args.spare) _ _ _ _ _ _ c.end_name.ensures.ended).0 in
+    let fewer = (left_counted _ _ _ _ _ _ _ c.end_name.ensures.ended).0 in
     record {
-      registry = rw c.end_name.ensures.ended.gone (registry-filter stays c.self.inside.maps.regs
-          c.self.invariant.registry);
-      callers = rw c.end_name.ensures.ended.gone (list_all-filter is_callers stays c.self.inside.maps.regs
-          c.self.invariant.callers);
-      within = rw c.end_name.ensures.ended.gone (list_all-filter (is_within c.self.inside.len) stays
-          c.self.inside.maps.regs c.self.invariant.within);
+      registry = rw c.end_name.ensures.ended.gone (registry-filter _ _ c.self.invariant.registry);
+      callers = grind (arith, list_all-filter);
+      within = grind (arith, list_all-filter);
       few = omega (arith, fewer, c.self.invariant.few);
     }
 
@@ -31,9 +25,8 @@ overflow_sub-result c =
 pub returns-clause-count : goal.returns-clause-count
 returns-clause-count c =
     let fewer = (left_counted (ends_with_name c.args.name.now c.args.spare) _ _ _ _ _ _ c.end_name.ensures.ended).0 in
-    subst (λ (r : Registry). c.len-before.result - c.len.result ≡ length
-    (filter (ends_with_name c.args.name.now c.args.spare) r.regs)) c.self.view_is
-    (omega (arith, fewer, c.len.ensures, c.len-before.ensures))
+    subst (λ (r : Registry). c.len-before.result - c.len.result ≡ length (filter (ends_with_name
+    c.args.name.now c.args.spare) r.regs)) c.self.view_is (omega (arith, fewer, c.len.ensures, c.len-before.ensures))
 
 pub returns-clause-room : goal.returns-clause-room
 returns-clause-room c =

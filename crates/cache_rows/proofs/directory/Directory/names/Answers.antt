@@ -1,11 +1,8 @@
-use Rattle.cache_rows.proofs.Imports.{◌++◌, ◌∙◌, ap, List, Name16}
+use Rattle.cache_rows.proofs.Imports.{arith, ◌++◌, ◌∙◌}
 use Rattle.cache_reclaim.specs.LastUse as last_use
 use Rattle.cache_rows.proofs.IndexedLaws.{names_are}
 use Rattle.cache_rows.proofs.directory.Directory.names.Goals as goal
 
 pub returns-clause-names : goal.returns-clause-names
-returns-clause-names c =
-    rw (← c.self.view_is)
-    (names_are _ _ c.self.inside.classes.names c.self.inside.order.order c.self.invariant _
-    (c.in_ok-push_names.ensures
-    ∙ ap (λ (l : List Name16). l ++ last_use.names_in c.self.inside.order.order) c.in_ok-names.ensures))
+returns-clause-names c = rw (← c.self.view_is)
+    (names_are _ _ c.self.inside.classes.names c.self.inside.order.order c.self.invariant _ (grind arith))

@@ -14,20 +14,14 @@ write-requires-clause-fits c = grind arith
 left : (c : goal.After-write)
     → IsIndexed (rows_replaced (item_with c.args.label.now (Some c.args.body.now)) (listed_of c.self.inside).rows)
     (row_at c.write.new.self.entries) c.index_row.new.classes.names c.index_row.new.order.order
-left c =
-    replaced (listed_of c.self.inside).rows (row_at c.self.inside.store.entries) (row_at c.write.new.self.entries)
-    c.self.inside.classes.names c.unindex.new.classes.names c.index_row.new.classes.names
-    c.self.inside.order.order c.unindex.new.order.order c.index_row.new.order.order
-    (item_with c.args.label.now (Some c.args.body.now))
-    c.self.invariant c.write.ensures.writes c.unindex.ensures.classes c.unindex.ensures.order
-    c.index_row.ensures.classes c.index_row.ensures.order
+left c = replaced _ _ _ _ _ _ _ _ _ _ c.self.invariant c.write.ensures.writes
+    c.unindex.ensures.classes c.unindex.ensures.order c.index_row.ensures.classes c.index_row.ensures.order
 
 pub invariant_of-self : goal.invariant_of-self
 invariant_of-self c = listed _ _ _ _ (left c)
 
 pub returns-clause-rows : goal.returns-clause-rows
-returns-clause-rows c =
-    listed_is _ _ _ _ (left c)
+returns-clause-rows c = listed_is _ _ _ _ (left c)
     ∙ ap (λ (l : Listed). rows_replaced (item_with c.args.label.now (Some c.args.body.now)) l.rows) c.self.view_is
 
 pub returns-clause-free : goal.returns-clause-free

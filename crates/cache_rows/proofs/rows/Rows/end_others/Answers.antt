@@ -6,6 +6,5 @@ pub loop-name-preserved : goal.loop-name-preserved
 loop-name-preserved c = grind (arith, but-more)
 
 pub returns-clause-rows : goal.returns-clause-rows
-returns-clause-rows c =
-    but-all c.args.spared.now c.args.names.now c.loop-name.self.rows _ c.loop-name.name-index (omega arith)
-    c.loop-name.invariant.0
+returns-clause-rows c = but-all c.args.spared.now c.args.names.now c.loop-name.self.rows _
+    c.loop-name.name-index (omega arith) c.loop-name.invariant.0

@@ -1,4 +1,4 @@
-use Rattle.cache_rows.proofs.Imports.{arith, sym}
+use Rattle.cache_rows.proofs.Imports.{arith}
 use Rattle.cache_rows.proofs.TallyLaws.{absent, there}
 use Rattle.cache_rows.proofs.rows.Rows.has.Goals as goal
 
@@ -6,5 +6,4 @@ pub returns-in-Some : goal.returns-in-Some
 returns-in-Some c = grind (arith, there)
 
 pub returns-in-None : goal.returns-in-None
-returns-in-None c =
-    rw (← c.self.view_is) (sym (absent c.args.name.now c.self.inside.directory.rows (sym c.in-None.ensures.row)))
+returns-in-None c = grind (arith, absent)

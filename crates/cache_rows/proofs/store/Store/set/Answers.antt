@@ -6,5 +6,4 @@ pub returns-clause-writes : goal.returns-clause-writes
 returns-clause-writes c =
     let label = c.args.label.now in
     let chains = c.self.inside.pool.chains in
-    rw (← c.self.view_is)
-    (grind (arith, shown_writes, set_items, shown_at))
+    rw (← c.self.view_is) (grind (arith, shown_writes, set_items, shown_at))

@@ -6,8 +6,7 @@ pub split_seat-turns-requires : goal.split_seat-turns-requires
 split_seat-turns-requires g c = let seat = c.second.inside.seat in (
   c.second.view_is ∙ (c.requires.second ∙ sym (ap (λ l. l.name) c.self.view_is)),
   search rules,
-  splits
-      g.F.Keeps.stands (g.F.Keeps.key_of c.self.inside.table.shared.key.value) seat.id seat.me.0,
+  splits g.F.Keeps.stands (g.F.Keeps.key_of c.self.inside.table.shared.key.value) seat.id seat.me.0,
 )
 
 pub join_seat-requires : goal.join_seat-requires
@@ -34,6 +33,5 @@ load-requires g c =
     let two : 1 < seat.me.0.turns = omega arith in (
       joined.0 ∙ (c.first.view_is ∙ (c.requires.first ∙ here)),
       search rules,
-      never g.F.Keeps.stands
-          (g.F.Keeps.key_of c.self.inside.table.shared.key.value) _ seat.id seat.me two,
+      never g.F.Keeps.stands (g.F.Keeps.key_of c.self.inside.table.shared.key.value) _ seat.id seat.me two,
     )

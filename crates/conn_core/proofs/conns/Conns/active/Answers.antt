@@ -9,11 +9,9 @@ use Rattle.conn_core.proofs.conns.Conns.active.Goals as goal
 
 -- the active ones up to this number
 one_more : (conns : Connections) (n : ℕ) (set new : List ConnId) → set ≡ filter (is_active conns) (conns_from 0 n)
-    → (active : Bool) → active ≡ is_active conns (record { 0 = n })
-    → new ≡ cond active (with_member (record { 0 = n }) set) set → new ≡ filter (is_active conns)
-    (conns_from 0 (n + 1))
-one_more conns n set new so_far active is added =
-    rw (filter-from_zero_more (is_active conns) n, ← is, ← so_far) added
+    → (active : Bool) → active ≡ is_active conns (record { 0 = n }) → new ≡ cond
+    active (with_member (record { 0 = n }) set) set → new ≡ filter (is_active conns) (conns_from 0 (n + 1))
+one_more conns n set new so_far active is added = rw (filter-from_zero_more (is_active conns) n, ← is, ← so_far) added
 
 all_of_them : (conns : Connections) (n : ℕ) (set : List ConnId) → n ≡ CALLERS
     → set ≡ filter (is_active conns) (conns_from 0 n) → set ≡ actives conns

@@ -1,4 +1,4 @@
-use Rattle.list_core.proofs.Imports.{arith, ◌∙◌, content_at}
+use Rattle.list_core.proofs.Imports.{arith, content_at}
 use Rattle.list_core.proofs.FoundLaws.{found-any, found-put_back}
 use Rattle.list_core.proofs.commands.move_record.act.Goals as goal
 

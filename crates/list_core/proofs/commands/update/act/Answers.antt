@@ -1,4 +1,4 @@
-use Rattle.list_core.proofs.Imports.{arith, ◌≡◌, ◌∙◌, ap, sym, subst, Record, record_of, lists_replaced, Bare, renewed, IsOrderly, content_at}
+use Rattle.list_core.proofs.Imports.{arith, ◌∙◌, ap, sym, subst, Record, record_of, lists_replaced, Bare, renewed, IsOrderly, content_at}
 use Rattle.list_core.proofs.FoundLaws.{found-any, found-named, found-renewed}
 use Rattle.list_core.proofs.commands.update.act.Goals as goal
 

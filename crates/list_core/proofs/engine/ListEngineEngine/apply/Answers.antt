@@ -1,4 +1,4 @@
-use Rattle.list_core.proofs.Imports.{◌≡◌, ◌∙◌, refl, arith, gains_none, content-done}
+use Rattle.list_core.proofs.Imports.{refl, arith, gains_none, content-done}
 use Rattle.list_core.proofs.PlanLaws.{plan_taken, plan_accepted, possible}
 use Rattle.list_core.proofs.engine.ListEngineEngine.apply.Goals as goal
 

@@ -27,9 +27,8 @@ place_item-requires c =
     c.self.view_is c.self.invariant.list in
     let placed : IsContent e.shape e.caps (content_with e.kept.content c.args.item) =
     subst (λ (s : EngineView). IsContent s.held.shape s.held.caps (content_with s.held.state c.args.item))
-    (sym c.self.view_is)
-    (content-placed list_meaning is_list IsContent list-fronts held.shape held.state c.args.item c.requires.next
-    held.caps kind c.requires.fits) in
+    (sym c.self.view_is) (content-placed list_meaning is_list
+    IsContent list-fronts held.shape held.state c.args.item c.requires.next held.caps kind c.requires.fits) in
     placeable e.shape e.caps e.kept.elements e.kept.content c.args.item next c.self.invariant.pool placed
 
 pub invariant_of-self : goal.invariant_of-self
@@ -40,17 +39,14 @@ invariant_of-self c =
     c.self.view_is c.self.invariant.list in
     let placed : IsContent e.shape e.caps (content_with e.kept.content c.args.item) =
     subst (λ (s : EngineView). IsContent s.held.shape s.held.caps (content_with s.held.state c.args.item))
-    (sym c.self.view_is)
-    (content-placed list_meaning is_list IsContent list-fronts held.shape held.state c.args.item c.requires.next
-    held.caps kind c.requires.fits) in
+    (sym c.self.view_is) (content-placed list_meaning is_list
+    IsContent list-fronts held.shape held.state c.args.item c.requires.next held.caps kind c.requires.fits) in
     record {
       list = c.self.invariant.list;
       caps = c.self.invariant.caps;
-      content =
-          either_way (λ (k : Content). IsContent e.shape e.caps k) c.place_item.result e.kept.content
-          (content_with e.kept.content c.args.item)
-          c.place_item.new.kept.content c.place_item.ensures.ok c.place_item.ensures.err
-          placed c.self.invariant.content;
+      content = either_way (λ (k : Content). IsContent e.shape e.caps k) c.place_item.result
+          e.kept.content (content_with e.kept.content c.args.item) c.place_item.new.kept.content
+          c.place_item.ensures.ok c.place_item.ensures.err placed c.self.invariant.content;
       pool = c.place_item.ensures.elements ∙ c.self.invariant.pool;
       vector = c.place_item.ensures.vector ∙ c.self.invariant.vector;
     }

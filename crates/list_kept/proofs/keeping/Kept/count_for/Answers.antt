@@ -1,4 +1,4 @@
-use Rattle.list_kept.proofs.Imports.{arith, ◌∙◌, length-map, filter-map}
+use Rattle.list_kept.proofs.Imports.{arith, length-map, filter-map}
 use Rattle.list_kept.proofs.keeping.Kept.count_for.Goals as goal
 
 pub returns : goal.returns

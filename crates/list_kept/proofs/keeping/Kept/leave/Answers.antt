@@ -1,4 +1,4 @@
-use Rattle.list_kept.proofs.Imports.{arith, ◌≡◌, true, if◌then◌else◌, ◌∙◌, list_all, monitors_of-others, is_told}
+use Rattle.list_kept.proofs.Imports.{arith, ◌≡◌, true, list_all, monitors_of-others, is_told}
 use Rattle.list_kept.proofs.ToldLaws.{told-filter, gains-told, content_at}
 use Rattle.list_kept.proofs.keeping.Kept.leave.Goals as goal
 
@@ -17,5 +17,4 @@ returns-clause-bits c =
     let k = c.self.inside in
     rw (← c.self.view_is)
     (gains-told k.store.lists k.store.lists k.watch.rows c.drop_conn.new.self.rows c.args.out.now.bits.items
-    c.drop_conn.new.out.bits.items
-    c.self.invariant.told (still_told c) c.drop_conn.ensures.bits)
+    c.drop_conn.new.out.bits.items c.self.invariant.told (still_told c) c.drop_conn.ensures.bits)

@@ -1,4 +1,4 @@
-use Rattle.list_kept.proofs.Imports.{arith, ◌∙◌}
+use Rattle.list_kept.proofs.Imports.{arith}
 use Rattle.list_kept.proofs.NamedLaws.{named_found}
 use Rattle.list_kept.proofs.keeping.Kept.named.Goals as goal
 

@@ -1,4 +1,4 @@
-use Rattle.list_kept.proofs.Imports.{◌≡◌, ◌-◌, ◌==◌, [], ◌∙◌, arith, first-all}
+use Rattle.list_kept.proofs.Imports.{arith, first-all}
 use Rattle.list_kept.proofs.LastLaws.{none_test, zero_test}
 use Rattle.list_kept.proofs.ToldLaws.{content_at}
 use Rattle.list_kept.proofs.keeping.Kept.pop.Goals as goal

@@ -1,4 +1,4 @@
-use Rattle.list_kept.proofs.Imports.{◌≡◌, ◌-◌, ◌==◌, List, length, take, sym, ap, ◌∙◌, subst, arith, Option, ℕ, Lists, all_records, records_of, lists_without, lists_popped, record_in, AreUsed, AreNamed, monitors-turned, records-elsewhere, first-all, IsOrderly}
+use Rattle.list_kept.proofs.Imports.{◌≡◌, ◌-◌, length, take, sym, ◌∙◌, subst, arith, Lists, all_records, records_of, lists_without, lists_popped, record_in, AreUsed, AreNamed, monitors-turned, records-elsewhere, first-all, IsOrderly}
 use Rattle.list_kept.proofs.NamedLaws.{named_less, taken}
 use Rattle.list_kept.proofs.PlaceLaws.{orderly-without}
 use Rattle.list_kept.proofs.ToldLaws.{told-one, sym_test, content_at}
@@ -20,17 +20,14 @@ invariant_of-self c =
     let with = taken c.in-Some.rec.id lists rec c.pop.ensures.apart c.in-Some.ensures.found in
     record {
       told = grind (arith, told-one, popped, records-elsewhere, sym_test);
-      orderly =
-          subst (IsOrderly c.self.inside.elements) (sym (c.give.ensures.lists ∙ c.in-Some.ensures.without))
+      orderly = subst (IsOrderly c.self.inside.elements) (sym (c.give.ensures.lists ∙ c.in-Some.ensures.without))
           (orderly-without c.self.inside.elements c.in-Some.rec.id lists c.self.invariant.orderly);
-      named =
-          subst (λ (l : Lists). AreNamed c.drop_name.new.names.names (all_records l))
+      named = subst (λ (l : Lists). AreNamed c.drop_name.new.names.names (all_records l))
           (sym (c.give.ensures.lists ∙ c.in-Some.ensures.without))
           (named_less c.self.inside.names.names c.drop_name.new.names.names rec (all_records rest)
           (all_records lists) with c.self.invariant.orderly.one_for_name c.self.invariant.named c.drop_name.ensures);
       used = subst AreUsed (sym (c.give.ensures.loose ∙ sym c.in-Some.ensures.was)) c.self.invariant.used;
-      whole = c.give.ensures.size ∙ ap (λ (l : List (Option (List ℕ))). length l) c.pop.ensures.chains
-          ∙ c.self.invariant.whole;
+      whole = grind arith;
     }
 
 pub returns-in-Some-clause-there : goal.returns-in-Some-clause-there

@@ -1,4 +1,4 @@
-use Rattle.list_kept.proofs.Imports.{arith, ◌≡◌, ℕ, ◌==◌, true, List, sym, ap, ◌∙◌, subst, Option, length, list_any, list_all, false≢true, Lists, all_records, is_id, lists_without, record_in, AreUsed, AreNamed, any_all, unplaced, spot_with, monitors-turned, full-others, IsOrderly, is_told}
+use Rattle.list_kept.proofs.Imports.{arith, ◌≡◌, true, sym, ◌∙◌, subst, list_any, list_all, false≢true, Lists, all_records, is_id, lists_without, record_in, AreUsed, AreNamed, any_all, unplaced, spot_with, monitors-turned, full-others, IsOrderly, is_told}
 use Rattle.list_kept.proofs.NamedLaws.{named_less, taken}
 use Rattle.list_kept.proofs.PlaceLaws.{orderly-without}
 use Rattle.list_kept.proofs.ToldLaws.{told-one, gains-told, sym_test, content_at}
@@ -18,25 +18,21 @@ invariant_of-self c =
     let with = taken c.args.id lists rec c.take-rec.ensures.apart c.take-rec.ensures.«record» in
     record {
       told = still_told c;
-      orderly =
-          subst (IsOrderly c.self.inside.elements) (sym (c.give.ensures.lists ∙ c.take-rec.ensures.lists))
+      orderly = subst (IsOrderly c.self.inside.elements) (sym (c.give.ensures.lists ∙ c.take-rec.ensures.lists))
           (orderly-without c.self.inside.elements c.args.id c.self.inside.store.lists c.self.invariant.orderly);
-      named =
-          subst (λ (l : Lists). AreNamed c.drop_name.new.names.names (all_records l))
+      named = subst (λ (l : Lists). AreNamed c.drop_name.new.names.names (all_records l))
           (sym (c.give.ensures.lists ∙ c.take-rec.ensures.lists))
           (named_less c.self.inside.names.names c.drop_name.new.names.names rec (all_records rest)
           (all_records lists) with c.self.invariant.orderly.one_for_name c.self.invariant.named c.drop_name.ensures);
       used = subst AreUsed (sym (c.give.ensures.loose ∙ sym c.take-rec.ensures.was)) c.self.invariant.used;
-      whole = c.give.ensures.size ∙ ap (λ (l : List (Option (List ℕ))). length l) c.take-rec.ensures.chains
-          ∙ c.self.invariant.whole;
+      whole = grind arith;
     }
 
 pub unreachable-requires : goal.unreachable-requires
 unreachable-requires c =
     let lists = c.self.inside.store.lists in
     let there : list_any (is_id c.args.id) (all_records lists) ≡ true = grind arith in
-    false≢true (sym (unplaced c.args.id lists (sym c.header_of.ensures.header ∙ c.in-None.is))
-    ∙ sym (any_all (is_id c.args.id) lists) ∙ there)
+    false≢true (sym (unplaced c.args.id lists (grind arith)) ∙ sym (any_all (is_id c.args.id) lists) ∙ there)
 
 pub returns-clause-content : goal.returns-clause-content
 returns-clause-content c = grind (arith, content_at, monitors-turned)
@@ -44,7 +40,5 @@ returns-clause-content c = grind (arith, content_at, monitors-turned)
 pub returns-clause-bits : goal.returns-clause-bits
 returns-clause-bits c =
     let k = c.self.inside in
-    rw (← c.self.view_is)
-    (gains-told k.store.lists c.give.new.store.lists k.watch.rows c.turned.new.self.rows
-    c.args.out.now.bits.items c.turned.new.out.bits.items
-    c.self.invariant.told (still_told c) c.turned.ensures.bits)
+    rw (← c.self.view_is) (gains-told k.store.lists c.give.new.store.lists k.watch.rows c.turned.new.self.rows
+    c.args.out.now.bits.items c.turned.new.out.bits.items c.self.invariant.told (still_told c) c.turned.ensures.bits)

@@ -24,13 +24,11 @@ invariant_of-self c =
     let back = came_back c.args.head c.args.header c.args.key c.args.id one.0 lists lt one.1 in
     record {
       told = still_told c;
-      orderly =
-          subst (IsOrderly c.self.inside.elements) (sym c.put_again.ensures.lists) is;
-      named =
-          subst (λ (l : Lists). AreNamed c.self.inside.names.names (all_records l)) (sym c.put_again.ensures.lists)
-          (named_other c.self.inside.names.names one.0 (with_new_key c.args.key one.0) (all_records rest)
-          (all_records lists) (all_records after) with back c.self.invariant.orderly.one_for_name is.one_for_name
-          refl refl c.self.invariant.named);
+      orderly = subst (IsOrderly c.self.inside.elements) (sym c.put_again.ensures.lists) is;
+      named = subst (λ (l : Lists). AreNamed c.self.inside.names.names (all_records l))
+          (sym c.put_again.ensures.lists) (named_other c.self.inside.names.names
+          one.0 (with_new_key c.args.key one.0) (all_records rest) (all_records lists) (all_records after)
+          with back c.self.invariant.orderly.one_for_name is.one_for_name refl refl c.self.invariant.named);
       used = subst AreUsed (sym c.put_again.ensures.loose) c.self.invariant.used;
       whole = ap (λ (l : List (Option (List ℕ))). length l) c.put_again.ensures.chains ∙ c.self.invariant.whole;
     }
@@ -39,8 +37,7 @@ pub unreachable-requires : goal.unreachable-requires
 unreachable-requires c =
     let lists = c.self.inside.store.lists in
     let there : list_any (is_id c.args.id) (all_records lists) ≡ true = grind arith in
-    false≢true (sym (unplaced c.args.id lists (sym c.header_of.ensures.header ∙ c.in-None.is))
-    ∙ sym (any_all (is_id c.args.id) lists) ∙ there)
+    false≢true (sym (unplaced c.args.id lists (grind arith)) ∙ sym (any_all (is_id c.args.id) lists) ∙ there)
 
 pub returns-clause-content : goal.returns-clause-content
 returns-clause-content c = grind (arith, content_at, monitors-turned)
@@ -56,9 +53,6 @@ returns-clause-bits c =
     let first = rw c.turned.ensures.rows at c.turned.ensures.bits in
     let second = rw (c.turned-in-Some.ensures.rows, c.turned.ensures.rows) at c.turned-in-Some.ensures.bits in
     let both = gains_two from c.args.header x y k.watch.rows c.args.out.now.bits.items c.turned.new.out.bits.items
-    c.turned-in-Some.new.out.bits.items
-    same c.turned.ensures.monitors.one_at_index first second in
-    rw (← c.self.view_is)
-    (gains-told k.store.lists later k.watch.rows c.turned-in-Some.new.self.rows c.args.out.now.bits.items
-    c.turned-in-Some.new.out.bits.items
-    c.self.invariant.told (still_told c) (rw (c.turned-in-Some.ensures.rows, c.turned.ensures.rows) both))
+    c.turned-in-Some.new.out.bits.items same c.turned.ensures.monitors.one_at_index first second in
+    rw (← c.self.view_is) (gains-told k.store.lists later k.watch.rows c.turned-in-Some.new.self.rows
+    c.args.out.now.bits.items c.turned-in-Some.new.out.bits.items c.self.invariant.told (still_told c) (grind arith))

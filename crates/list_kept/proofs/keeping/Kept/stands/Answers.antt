@@ -1,4 +1,4 @@
-use Rattle.list_kept.proofs.Imports.{arith, ◌∙◌}
+use Rattle.list_kept.proofs.Imports.{arith}
 use Rattle.list_kept.proofs.ToldLaws.{told-stands}
 use Rattle.list_kept.proofs.keeping.Kept.stands.Goals as goal
 

@@ -1,4 +1,4 @@
-use Rattle.list_kept.proofs.Imports.{arith, ◌≡◌, true, ◌∙◌, list_all, monitors_of-without, is_told}
+use Rattle.list_kept.proofs.Imports.{arith, ◌≡◌, true, list_all, monitors_of-without, is_told}
 use Rattle.list_kept.proofs.ToldLaws.{told-filter, gains-told, content_at}
 use Rattle.list_kept.proofs.keeping.Kept.unmonitor.Goals as goal
 
@@ -14,7 +14,5 @@ returns-clause-content c = grind (arith, content_at, monitors_of-without)
 pub returns-clause-bits : goal.returns-clause-bits
 returns-clause-bits c =
     let k = c.self.inside in
-    rw (← c.self.view_is)
-    (gains-told k.store.lists k.store.lists k.watch.rows c.clear.new.self.rows c.args.out.now.bits.items
-    c.clear.new.out.bits.items
-    c.self.invariant.told (still_told c) c.clear.ensures.bits)
+    rw (← c.self.view_is) (gains-told k.store.lists k.store.lists k.watch.rows c.clear.new.self.rows
+    c.args.out.now.bits.items c.clear.new.out.bits.items c.self.invariant.told (still_told c) c.clear.ensures.bits)

@@ -11,27 +11,23 @@ own : (c : goal.After-add)
 own c = subst (λ (s : StoreView). HasChain s.loose c.args.rec.body) (sym c.self.view_is) c.requires.chain
 
 pub add-requires-clause-alone : goal.add-requires-clause-alone
-add-requires-clause-alone c =
-    sym (any-map (record_in c.self.inside.pool.chains) rec_id record_id (λ x. refl) c.args.rec.id.0
-    c.self.inside.table.lists)
-    ∙ subst (λ (s : StoreView). list_any (is_id c.args.rec.id) (all_records s.lists) ≡ false) (sym c.self.view_is)
-    c.requires.alone
+add-requires-clause-alone c = sym (any-map (record_in c.self.inside.pool.chains) rec_id record_id
+    (λ x. refl) c.args.rec.id.0 c.self.inside.table.lists) ∙ subst (λ (s : StoreView). list_any (is_id c.args.rec.id)
+    (all_records s.lists) ≡ false) (sym c.self.view_is) c.requires.alone
 
 pub invariant_of-self : goal.invariant_of-self
 invariant_of-self c =
     let chains = c.self.inside.pool.chains in
     record {
-      held = subst (λ (l : List (List Rec)). AreHeld chains (all_records l)) (sym c.add.ensures)
-          (added_held chains c.self.inside.table.lists c.self.invariant.held c.args.header c.args.place c.args.rec
-          (within c) (own c));
+      held = subst (λ (l : List (List Rec)). AreHeld chains (all_records l)) (sym c.add.ensures) (added_held chains
+          c.self.inside.table.lists c.self.invariant.held c.args.header c.args.place c.args.rec (within c) (own c));
       whole = c.self.invariant.whole;
     }
 
 pub returns-clause-lists : goal.returns-clause-lists
 returns-clause-lists c =
     let chains = c.self.inside.pool.chains in
-    rw (← c.self.view_is)
-    (ap (λ (l : List (List Rec)). map (map (record_in chains)) l) c.add.ensures
+    rw (← c.self.view_is) (ap (λ (l : List (List Rec)). map (map (record_in chains)) l) c.add.ensures
     ∙ with-map (record_in chains) c.args.header c.args.place c.args.rec c.self.inside.table.lists)
 
 pub returns-clause-loose : goal.returns-clause-loose

@@ -10,13 +10,9 @@ returns-clause-record c =
     ∙ sym (record-map (record_in chains) rec_id record_id (λ x. refl) c.args.id.0 c.self.inside.table.lists))
 
 pub returns-clause-chain : goal.returns-clause-chain
-returns-clause-chain c =
-    rw (← c.self.view_is)
-    (chain_of c.self.inside.pool.chains c.self.inside.table.lists c.self.invariant.held c.args.id.0 c.get.result
-    c.get.ensures.«record»)
+returns-clause-chain c = rw (← c.self.view_is) (chain_of c.self.inside.pool.chains
+    c.self.inside.table.lists c.self.invariant.held c.args.id.0 c.get.result c.get.ensures.«record»)
 
 pub returns-clause-apart : goal.returns-clause-apart
-returns-clause-apart c =
-    rw (← c.self.view_is)
-    (apart-map (record_in c.self.inside.pool.chains) rec_id record_id (λ x. refl) c.self.inside.table.lists
-    ∙ c.get.ensures.apart)
+returns-clause-apart c = rw (← c.self.view_is) (apart-map (record_in c.self.inside.pool.chains)
+    rec_id record_id (λ x. refl) c.self.inside.table.lists ∙ c.get.ensures.apart)

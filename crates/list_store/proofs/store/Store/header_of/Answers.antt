@@ -7,14 +7,10 @@ pub returns-clause-header : goal.returns-clause-header
 returns-clause-header c =
     let chains = c.self.inside.pool.chains in
     let lists = c.self.inside.table.lists in
-    rw (← c.self.view_is)
-    (c.header_of.ensures.header
-    ∙ ap (option_map {T = ℕ × ℕ} {U = ℕ} (λ spot. spot.0))
-    (sym (spot-map (record_in chains) rec_id record_id (λ x. refl) c.args.id.0 lists))
-    ∙ header_is c.args.id (shown chains lists))
+    rw (← c.self.view_is) (c.header_of.ensures.header
+    ∙ ap (option_map {T = ℕ × ℕ} {U = ℕ} (λ spot. spot.0)) (sym (spot-map (record_in chains)
+    rec_id record_id (λ x. refl) c.args.id.0 lists)) ∙ header_is c.args.id (shown chains lists))
 
 pub returns-clause-apart : goal.returns-clause-apart
-returns-clause-apart c =
-    rw (← c.self.view_is)
-    (apart-map (record_in c.self.inside.pool.chains) rec_id record_id (λ x. refl) c.self.inside.table.lists
-    ∙ c.header_of.ensures.apart)
+returns-clause-apart c = rw (← c.self.view_is) (apart-map (record_in c.self.inside.pool.chains)
+    rec_id record_id (λ x. refl) c.self.inside.table.lists ∙ c.header_of.ensures.apart)

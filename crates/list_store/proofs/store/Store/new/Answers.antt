@@ -3,16 +3,14 @@ use Rattle.list_store.proofs.StoreLaws.{shown_none, held_none, whole_none}
 use Rattle.list_store.proofs.store.Store.new.Goals as goal
 
 pub invariant_of-result : goal.invariant_of-result
-invariant_of-result c =
-    record {
-      held = (held_none c.in-Ok.pool.chains c.in_ok-table.table.lists c.args.headers c.in_ok-table.ensures).0;
-      whole = whole_none c.in-Ok.pool.chains c.args.elements c.in-Ok.ensures.chains;
-    }
+invariant_of-result c = record {
+  held = (held_none c.in-Ok.pool.chains c.in_ok-table.table.lists c.args.headers c.in_ok-table.ensures).0;
+  whole = whole_none c.in-Ok.pool.chains c.args.elements c.in-Ok.ensures.chains;
+}
 
 pub returns-in-Ok-clause-lists : goal.returns-in-Ok-clause-lists
-returns-in-Ok-clause-lists c =
-    ap (λ (l : List (List Rec)). map (map (record_in c.in-Ok.pool.chains)) l) c.in_ok-table.ensures
-    ∙ shown_none c.in-Ok.pool.chains c.args.headers
+returns-in-Ok-clause-lists c = ap (λ (l : List (List Rec)). map (map (record_in c.in-Ok.pool.chains)) l)
+    c.in_ok-table.ensures ∙ shown_none c.in-Ok.pool.chains c.args.headers
 
 pub returns-in-Ok-clause-loose : goal.returns-in-Ok-clause-loose
 returns-in-Ok-clause-loose c = grind (arith, held_none)

@@ -1,4 +1,4 @@
-use Rattle.list_store.proofs.Imports.{arith, ◌∙◌, ap, sym, option_map, list_any, false≢true, found_passes, any_is_found, gone, Lists, record_id, is_id, record_in}
+use Rattle.list_store.proofs.Imports.{arith, ◌∙◌, ap, list_any, false≢true, found_passes, any_is_found, gone, Lists, record_id, is_id, record_in}
 use Rattle.list_store.specs.Lists.{all_records}
 use Rattle.list_store.proofs.store.Store.shift.Goals as goal
 
@@ -6,9 +6,7 @@ pub add-requires-clause-alone : goal.add-requires-clause-alone
 add-requires-clause-alone c =
     let rec = record_in c.args.self.now.chains c.in-Some.rec in
     ap (λ (l : Lists). list_any (is_id c.in-Some.rec.id) (all_records l)) c.take.ensures.lists
-    ∙ gone record_id c.args.id.0 c.args.self.now.lists rec
-    (found_passes (is_id c.args.id) (all_records c.args.self.now.lists) rec
-    (sym c.take.ensures.«record» ∙ ap (option_map (record_in c.args.self.now.chains)) c.in-Some.is))
+    ∙ gone record_id c.args.id.0 c.args.self.now.lists rec (grind (arith, found_passes))
 
 pub unreachable-requires : goal.unreachable-requires
 unreachable-requires c = grind (arith, false≢true, any_is_found)

@@ -7,13 +7,9 @@ pub returns-clause-spot : goal.returns-clause-spot
 returns-clause-spot c =
     let chains = c.self.inside.pool.chains in
     let lists = c.self.inside.table.lists in
-    rw (← c.self.view_is)
-    (c.whereabouts.ensures.spot
-    ∙ ap (option_map as_spot) (sym (spot-map (record_in chains) rec_id record_id (λ x. refl) c.args.id.0 lists))
-    ∙ spot_is c.args.id (shown chains lists))
+    rw (← c.self.view_is) (c.whereabouts.ensures.spot ∙ ap (option_map as_spot) (sym (spot-map
+    (record_in chains) rec_id record_id (λ x. refl) c.args.id.0 lists)) ∙ spot_is c.args.id (shown chains lists))
 
 pub returns-clause-apart : goal.returns-clause-apart
-returns-clause-apart c =
-    rw (← c.self.view_is)
-    (apart-map (record_in c.self.inside.pool.chains) rec_id record_id (λ x. refl) c.self.inside.table.lists
-    ∙ c.whereabouts.ensures.apart)
+returns-clause-apart c = rw (← c.self.view_is) (apart-map (record_in c.self.inside.pool.chains)
+    rec_id record_id (λ x. refl) c.self.inside.table.lists ∙ c.whereabouts.ensures.apart)

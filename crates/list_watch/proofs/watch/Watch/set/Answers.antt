@@ -4,23 +4,21 @@ use Rattle.list_watch.proofs.MonitorLaws.{one_elsewhere, rows-with, monitors-wit
 use Rattle.list_watch.proofs.watch.Watch.set.Goals as goal
 
 pub end-requires-clause-room : goal.end-requires-clause-room
-end-requires-clause-room c =
-    omega (
-      arith,
-      one_elsewhere c.args.conn c.args.index c.args.header c.self.inside.rows.items
-          c.self.invariant.monitors.one_for_header,
-      c.requires.room,
-    )
+end-requires-clause-room c = omega (
+  arith,
+  one_elsewhere c.args.conn c.args.index c.args.header c.self.inside.rows.items
+      c.self.invariant.monitors.one_for_header,
+  c.requires.room,
+)
 
 pub put-requires-clause-room : goal.put-requires-clause-room
-put-requires-clause-room c =
-    omega (
-      arith,
-      one_elsewhere c.args.conn c.args.index c.args.header c.self.inside.rows.items
-          c.self.invariant.monitors.one_for_header,
-      c.requires.room,
-      c.end.ensures.room,
-    )
+put-requires-clause-room c = omega (
+  arith,
+  one_elsewhere c.args.conn c.args.index c.args.header c.self.inside.rows.items
+      c.self.invariant.monitors.one_for_header,
+  c.requires.room,
+  c.end.ensures.room,
+)
 
 set_there : (c : goal.After-put) → c.put.new.rows.items ≡ rows_with c.args.conn c.args.index c.args.header c.args.full
     c.self.inside.rows.items
@@ -51,6 +49,5 @@ returns-clause-bits c =
     } in
     let first = rw c.end.ensures.rows at c.end.ensures.bits in
     let second = rw (c.put.ensures.rows, c.end.ensures.rows) at c.put.ensures.bits in
-    rw (← c.self.view_is, c.put.ensures.rows, c.end.ensures.rows)
-    (gains_with new c.self.inside.rows.items c.args.out.now.bits.items c.end.new.out.bits.items
-    c.put.new.out.bits.items first second)
+    rw (← c.self.view_is, c.put.ensures.rows, c.end.ensures.rows) (gains_with new c.self.inside.rows.items
+    c.args.out.now.bits.items c.end.new.out.bits.items c.put.new.out.bits.items first second)

@@ -1,4 +1,4 @@
-use Rattle.lock_core.proofs.Imports.{arith, [], ◌∷◌, ◌∙◌}
+use Rattle.lock_core.proofs.Imports.{arith}
 use Rattle.lock_core.proofs.ReadLaws.{first_of_one, record_refusal-any}
 use Rattle.lock_core.proofs.commands.rt_delete.refusal.Goals as goal
 

@@ -1,4 +1,4 @@
-use Rattle.lock_core.proofs.Imports.{◌≡◌, ◌<◌, ◌+◌, ◌∙◌, arith, content-done, items-done}
+use Rattle.lock_core.proofs.Imports.{arith, content-done, items-done}
 use Rattle.lock_core.proofs.EngineLaws.{taken_is, plan_accepted}
 use Rattle.lock_core.proofs.engine.LockEngineEngine.apply.Goals as goal
 

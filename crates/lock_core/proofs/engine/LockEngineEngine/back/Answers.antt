@@ -1,15 +1,13 @@
-use Rattle.lock_core.proofs.Imports.{◌∙◌, back-content}
+use Rattle.lock_core.proofs.Imports.{arith, ◌∙◌, back-content}
 use Rattle.lock_core.proofs.EngineLaws.{counted-returned}
 use Rattle.lock_core.proofs.engine.LockEngineEngine.back.Goals as goal
 
 pub invariant_of-self : goal.invariant_of-self
-invariant_of-self c =
-    record {
-      lock = c.self.invariant.lock;
-      caps = c.self.invariant.caps;
-      limit = c.back.ensures.limit ∙ c.self.invariant.limit;
-      content = rw c.back.ensures.content (back-content c.self.inside.caps c.self.inside.locks.content c.args.conn
-          c.self.invariant.content);
-      counted = rw c.back.ensures.content (counted-returned c.args.conn c.self.inside.locks.content
-          c.self.invariant.counted);
-    }
+invariant_of-self c = record {
+  lock = c.self.invariant.lock;
+  caps = c.self.invariant.caps;
+  limit = c.back.ensures.limit ∙ c.self.invariant.limit;
+  content = rw c.back.ensures.content (back-content c.self.inside.caps c.self.inside.locks.content c.args.conn
+      c.self.invariant.content);
+  counted = grind (arith, counted-returned);
+}

@@ -6,23 +6,19 @@ pub invariant_of-self : goal.invariant_of-self
 invariant_of-self c =
     let e = c.self.inside in
     let content = e.locks.content in
-    let planned : e.leaving ≡ Some (resources_of c.args.conn content) =
-    subst (λ (s : EngineView). s.leaving ≡ Some (resources_of c.args.conn s.stock.content)) (sym c.self.view_is)
-    c.requires.ready.planned in
+    let planned : e.leaving ≡ Some (resources_of c.args.conn content) = subst (λ (s : EngineView). s.leaving ≡ Some
+    (resources_of c.args.conn s.stock.content)) (sym c.self.view_is) c.requires.ready.planned in
     let rs = resources_of c.args.conn content in
-    let same : c.in-Some.resources ≡ rs = taken_is c.take.result e.leaving c.in-Some.resources rs c.take.ensures.value
-    c.in-Some.is planned in
+    let same : c.in-Some.resources ≡ rs = grind (arith, taken_is) in
     let content_of : List Interest → List Waiter → Content = λ (l : List Interest) (ws : List Waiter).
     record { interests = l; waiters = ws } in
-    let parted : c.leave.new.self.content
-    ≡ content_of (interests_left c.args.conn c.args.keep content.interests)
-    (waiters_without_conn c.args.conn content.waiters) =
+    let parted : c.leave.new.self.content ≡ content_of
+    (interests_left c.args.conn c.args.keep content.interests) (waiters_without_conn c.args.conn content.waiters) =
     ap (λ (l : List Interest). content_of l c.leave.new.self.content.waiters) c.leave.ensures.interests
     ∙ ap (content_of (interests_left c.args.conn c.args.keep content.interests)) c.leave.ensures.waiters in
     let left : c.grant_each.new.locks.content ≡ (departure_of c.args.conn c.args.keep content).content =
-    c.grant_each.ensures.content
-    ∙ ap (λ (l : List Resource). (grant_each l c.leave.new.self.content).content) (c.items.ensures ∙ same)
-    ∙ ap (λ (k : Content). (grant_each rs k).content) parted in
+    c.grant_each.ensures.content ∙ ap (λ (l : List Resource). (grant_each l c.leave.new.self.content).content)
+    (c.items.ensures ∙ same) ∙ ap (λ (k : Content). (grant_each rs k).content) parted in
     let led = led_departed e.caps c.args.conn c.args.keep content c.self.invariant.content in
     record {
       lock = c.self.invariant.lock;

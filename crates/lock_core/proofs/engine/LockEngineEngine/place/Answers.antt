@@ -1,4 +1,4 @@
-use Rattle.lock_core.proofs.Imports.{◌≡◌, ◌++◌, ◌∷◌, IsTrue, sym, ap, subst, ◌∙◌, is_lock, Held, content-placed, Content, IsContent, content_with, items, lock_meaning, lock-fronts, EngineView}
+use Rattle.lock_core.proofs.Imports.{arith, ◌≡◌, ◌++◌, ◌∷◌, IsTrue, sym, ap, subst, ◌∙◌, is_lock, Held, content-placed, Content, IsContent, content_with, items, lock_meaning, lock-fronts, EngineView}
 use Rattle.lock_core.proofs.EngineLaws.{placed-next, kept_either, ok_weaker}
 use Rattle.lock_core.proofs.engine.LockEngineEngine.place.Goals as goal
 
@@ -11,8 +11,7 @@ invariant_of-self c =
     next.first in
     let placed = placed-next next.at e.locks.content next.whole c.args.item next.others next.content first in
     let held = c.args.self.now.held in
-    let kind : IsTrue (is_lock held.shape.kind) = subst (λ (s : EngineView). IsTrue (is_lock s.held.shape.kind))
-    c.self.view_is c.self.invariant.lock in
+    let kind : IsTrue (is_lock held.shape.kind) = grind arith in
     let is : IsContent e.caps (content_with e.locks.content c.args.item) =
     subst (λ (s : EngineView). IsContent s.held.caps (content_with s.held.state c.args.item)) (sym c.self.view_is)
     (content-placed lock_meaning is_lock (λ shape caps content. IsContent caps content) lock-fronts held.shape
@@ -32,9 +31,8 @@ pub returns-clause-ok : goal.returns-clause-ok
 returns-clause-ok c =
     let e = c.self.inside in
     let next = c.requires.next in
-    let first : items next.whole ≡ items e.locks.content ++ c.args.item ∷ next.others =
-    subst (λ (s : EngineView). items next.whole ≡ items s.held.state ++ c.args.item ∷ next.others) (sym c.self.view_is)
-    next.first in
+    let first = subst (λ (s : EngineView). items next.whole ≡ items s.held.state ++ c.args.item ∷ next.others)
+    (sym c.self.view_is) next.first in
     let placed = placed-next next.at e.locks.content next.whole c.args.item next.others next.content first in
     let held : Content → Held Content = λ (k : Content). record {
       shape = e.shape;

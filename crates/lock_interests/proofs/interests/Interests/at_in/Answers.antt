@@ -1,4 +1,4 @@
-use Rattle.lock_interests.proofs.Imports.{arith, ◌∙◌}
+use Rattle.lock_interests.proofs.Imports.{arith}
 use Rattle.lock_interests.proofs.OwnerLaws.{keys-joined}
 use Rattle.lock_interests.proofs.interests.Interests.at_in.Goals as goal
 

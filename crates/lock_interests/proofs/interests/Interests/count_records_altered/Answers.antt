@@ -1,4 +1,4 @@
-use Rattle.lock_interests.proofs.Imports.{arith, ◌≡◌, ◌&&◌, ◌∙◌}
+use Rattle.lock_interests.proofs.Imports.{arith}
 use Rattle.lock_interests.proofs.CountLaws.{counted-given, counted-ungiven}
 use Rattle.lock_interests.proofs.interests.Interests.count_records_altered.Goals as goal
 

@@ -1,4 +1,4 @@
-use Rattle.lock_interests.proofs.Imports.{◌∙◌, arith, length-filter-le}
+use Rattle.lock_interests.proofs.Imports.{arith, length-filter-le}
 use Rattle.lock_interests.proofs.OwnerLaws.{told_left}
 use Rattle.lock_interests.proofs.interests.Interests.count_told.Goals as goal
 

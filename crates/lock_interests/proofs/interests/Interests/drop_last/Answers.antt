@@ -1,4 +1,4 @@
-use Rattle.lock_interests.proofs.Imports.{◌≡◌, ◌<◌, ◌-◌, Some, length, sym, subst, ◌∙◌, arith, slice_get, length-map, AreInterests, interests_without-last, InterestsView, with_record, interests_of}
+use Rattle.lock_interests.proofs.Imports.{◌≡◌, ◌-◌, Some, length, sym, subst, ◌∙◌, arith, slice_get, length-map, AreInterests, interests_without-last, InterestsView, with_record, interests_of}
 use Rattle.lock_interests.proofs.ReadLaws.{last-joined, last_there}
 use Rattle.lock_interests.proofs.interests.Interests.drop_last.Goals as goal
 
@@ -10,9 +10,8 @@ returns-in-Some-clause-interests c =
     (sym c.self.view_is) c.requires.interests in
     let there : slice_get owners (length owners - 1) ≡ Some c.in-Some.last =
     sym c.last.ensures ∙ sym c.copied.ensures ∙ c.in-Some.is in
-    c.remove.ensures.interests
-    ∙ rw (← c.self.view_is) (interests_without-last (interests_of owners records) (with_record records c.in-Some.last)
-    are (last-joined owners records c.in-Some.last there))
+    c.remove.ensures.interests ∙ rw (← c.self.view_is) (interests_without-last (interests_of owners records)
+    (with_record records c.in-Some.last) are (last-joined owners records c.in-Some.last there))
 
 pub returns-in_default-clause-interests : goal.returns-in_default-clause-interests
 returns-in_default-clause-interests c = grind (arith, length-map, last_there)

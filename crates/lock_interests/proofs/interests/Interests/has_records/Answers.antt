@@ -1,4 +1,4 @@
-use Rattle.lock_interests.proofs.Imports.{arith, ◌∙◌}
+use Rattle.lock_interests.proofs.Imports.{arith}
 use Rattle.lock_interests.proofs.OwnerLaws.{any_record-found}
 use Rattle.lock_interests.proofs.interests.Interests.has_records.Goals as goal
 

@@ -1,4 +1,4 @@
-use Rattle.lock_interests.proofs.Imports.{◌≡◌, ◌+◌, ◌++◌, ◌∙◌, arith}
+use Rattle.lock_interests.proofs.Imports.{arith}
 use Rattle.lock_interests.proofs.OwnerLaws.{told_left}
 use Rattle.lock_interests.proofs.interests.Interests.notify.Goals as goal
 

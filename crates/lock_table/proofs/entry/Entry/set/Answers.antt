@@ -10,9 +10,8 @@ put c =
     (rw c.self.view_is c.requires) (sym c.place_of.ensures ∙ c.in-Some.is) (c.put_state.ensures d)
 
 pub invariant_of-self : goal.invariant_of-self
-invariant_of-self c =
-    rw (put c) (masked_same c.self.inside.mask c.self.inside.owners (in_state c.args.r.now c.args.conn c.args.excl)
-    (λ x. refl) c.self.invariant)
+invariant_of-self c = rw (put c) (masked_same c.self.inside.mask
+    c.self.inside.owners (in_state c.args.r.now c.args.conn c.args.excl) (λ x. refl) c.self.invariant)
 
 pub returns-in-Some : goal.returns-in-Some
 returns-in-Some c = rw (← c.self.view_is) (put c)

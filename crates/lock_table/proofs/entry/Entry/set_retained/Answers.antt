@@ -6,15 +6,12 @@ put : (c : goal.After-put_retention)
     → c.put_retention.new.owners ≡ map (in_retention c.args.r.now c.args.conn c.args.retained) c.self.inside.owners
 put c =
     let d : Held = record { r = c.args.r.now; conn = c.args.conn; excl = false; retained = false } in
-    retention_put c.args.r.now c.args.conn c.args.retained c.self.inside.owners c.put_retention.new.owners c.in-Some.at
-    d
-    (rw c.self.view_is c.requires) (sym c.place_of.ensures ∙ c.in-Some.is) (c.put_retention.ensures d)
+    retention_put c.args.r.now c.args.conn c.args.retained c.self.inside.owners c.put_retention.new.owners
+    c.in-Some.at d (rw c.self.view_is c.requires) (sym c.place_of.ensures ∙ c.in-Some.is) (c.put_retention.ensures d)
 
 pub invariant_of-self : goal.invariant_of-self
-invariant_of-self c =
-    rw (put c) (masked_same c.self.inside.mask c.self.inside.owners
-    (in_retention c.args.r.now c.args.conn c.args.retained)
-    (λ x. refl) c.self.invariant)
+invariant_of-self c = rw (put c) (masked_same c.self.inside.mask
+    c.self.inside.owners (in_retention c.args.r.now c.args.conn c.args.retained) (λ x. refl) c.self.invariant)
 
 pub returns-in-Some : goal.returns-in-Some
 returns-in-Some c = rw (← c.self.view_is) (put c)

@@ -5,20 +5,18 @@ use Rattle.plex_agent.proofs.floor.Floor.play.Goals as goal
 pub line-requires-clause-line : goal.line-requires-clause-line
 line-requires-clause-line g c κs within =
     let items = c.items-line-items.ensures in
-    let item : c.line-item.result ≡ get_or c.args.script.now.lines c.loop-line.line-index c.line-item.result =
-    c.line-item.is ∙ ap (λ (lines : List Line). get_or lines c.loop-line.line-index c.line-item.result) items in
-    let long = ap (λ (lines : List Line). length lines) items in
+    let item = c.line-item.is ∙ ap (λ lines. get_or lines c.loop-line.line-index c.line-item.result) items in
+    let long = ap (λ lines. length lines) items in
     let test = c.loop-line-test.true in
     let below : c.loop-line.line-index < length c.args.script.now.lines = omega arith in
-    subst (λ (line : Line). IsPlayable c.args.board.now line) (sym item)
+    subst (λ line. IsPlayable c.args.board.now line) (sym item)
     (c.requires.lines c.loop-line.line-index c.line-item.result below)
 
 pub loop-line-preserved : goal.loop-line-preserved
 loop-line-preserved g c =
     let items = c.items-line-items.ensures in
-    let item : c.line-item.result ≡ get_or c.args.script.now.lines c.loop-line.line-index c.line-item.result =
-    c.line-item.is ∙ ap (λ (lines : List Line). get_or lines c.loop-line.line-index c.line-item.result) items in
-    let long = ap (λ (lines : List Line). length lines) items in
+    let item = c.line-item.is ∙ ap (λ lines. get_or lines c.loop-line.line-index c.line-item.result) items in
+    let long = ap (λ lines. length lines) items in
     let test = c.loop-line-test.true in
     let below : c.loop-line.line-index < length c.args.script.now.lines = omega arith in
     record {

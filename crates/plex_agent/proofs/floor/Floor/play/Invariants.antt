@@ -11,7 +11,6 @@ invariant-loop-line g l = record {
 abbrev pub invariant-loop-before : goal.invariant-loop-before
 invariant-loop-before g l = record {
   fits : IsFloorOf l.board l.self;
-  rest : (after : Floor)
-      → ClosesAll l.board (conns_from (l.before + 1) (length l.script.connectors - l.before)) l.self after
-      → Plays l.board l.script.lines (connectors l.script) after;
+  rest : (after : Floor) → ClosesAll l.board (conns_from (l.before + 1) (length l.script.connectors - l.before))
+      l.self after → Plays l.board l.script.lines (connectors l.script) after;
 }

@@ -4,10 +4,9 @@ use Rattle.plex_agent.proofs.PlayLaws.{plays_counted, plays_uncounted}
 use Rattle.plex_agent.proofs.floor.Floor.turn.Goals as goal
 
 pub returns-then-not-is_counted-clause-played : goal.returns-then-not-is_counted-clause-played
-returns-then-not-is_counted-clause-played g c =
-    plays_uncounted c.args.board.now c.args.line.now c.vector.result c.vector.ensures.form c.is_counted.result
-    c.is_counted.ensures c.requires.turn c.args.self.now c.work.new.self c.if-not-is_counted.true
-    c.work.ensures.turned
+returns-then-not-is_counted-clause-played g c = plays_uncounted
+    c.args.board.now c.args.line.now c.vector.result c.vector.ensures.form c.is_counted.result c.is_counted.ensures
+    c.requires.turn c.args.self.now c.work.new.self c.if-not-is_counted.true c.work.ensures.turned
 
 pub hear-requires-clause-place : goal.hear-requires-clause-place
 hear-requires-clause-place g c κs within = grind (arith, slice_get_within)
@@ -21,16 +20,10 @@ returns-clause-played g c =
     let caller = c.requires.line.caller in
     let inside : c.args.line.now.by.0 < length c.args.self.now.workers = omega arith in
     plays_counted c.args.board.now c.args.line.now c.vector.result c.vector.ensures.form c.is_counted.result
-    c.is_counted.ensures c.requires.turn c.args.self.now c.hear.new.self c.work-2.new.self _
-    c.if-not-is_counted.false inside c.hear.ensures.heard c.work-2.ensures.turned
-    (acted c.self.inside.workers.items c.self.inside.tray c.self.inside.last.items c.work-2.new.self
-    c.self.view_is c.args.line.now.by c.args.line.now.on c.from.result c.from.ensures)
+    c.is_counted.ensures c.requires.turn c.args.self.now c.hear.new.self c.work-2.new.self _ c.if-not-is_counted.false
+    inside c.hear.ensures.heard c.work-2.ensures.turned (acted _ _ _ _ c.self.view_is _ _ _ c.from.ensures)
 
 pub returns-clause-of_board : goal.returns-clause-of_board
-returns-clause-of_board g c =
-    subst (λ (floor : Floor). IsFloorOf c.args.board.now floor)
-    (sym (acted c.self.inside.workers.items c.self.inside.tray c.self.inside.last.items
-    c.work-2.new.self c.self.view_is c.args.line.now.by c.args.line.now.on c.from.result
-    c.from.ensures))
-    (acted_fits c.args.board.now c.work-2.new.self c.work-2.ensures.of_board
-    c.args.line.now.by c.args.line.now.on c.requires.line.caller)
+returns-clause-of_board g c = subst (λ floor. IsFloorOf c.args.board.now floor)
+    (sym (acted _ _ _ _ c.self.view_is _ _ _ c.from.ensures)) (acted_fits c.args.board.now
+    c.work-2.new.self c.work-2.ensures.of_board c.args.line.now.by c.args.line.now.on c.requires.line.caller)

@@ -4,11 +4,10 @@ use Rattle.plex_agent.proofs.PlayLaws.{takes_turn}
 use Rattle.plex_agent.proofs.floor.Floor.work.Goals as goal
 
 pub turn-requires-clause-desk : goal.turn-requires-clause-desk
-turn-requires-clause-desk g c κs within =
-    (has_desk c.self.inside.workers.items c.self.inside.tray c.self.inside.last.items c.args.self.now c.self.view_is
-    c.args.line.now.by c.from.result c.from.ensures c.args.board.now c.worker.inside.desk c.worker.inside.shown
-    c.index_mut-worker.result.now c.requires.floor c.requires.line.caller c.worker.view_is
-    c.index_mut-worker.ensures.value).fits
+turn-requires-clause-desk g c κs within = (has_desk c.self.inside.workers.items c.self.inside.tray
+    c.self.inside.last.items c.args.self.now c.self.view_is c.args.line.now.by c.from.result
+    c.from.ensures c.args.board.now c.worker.inside.desk c.worker.inside.shown c.index_mut-worker.result.now
+    c.requires.floor c.requires.line.caller c.worker.view_is c.index_mut-worker.ensures.value).fits
 
 pub turn-requires-clause-owner : goal.turn-requires-clause-owner
 turn-requires-clause-owner g c κs within =
@@ -22,33 +21,26 @@ turn-requires-clause-owner g c κs within =
     omega arith
 
 pub turn-requires-clause-caller : goal.turn-requires-clause-caller
-turn-requires-clause-caller g c κs within =
-    sym (has_desk c.self.inside.workers.items c.self.inside.tray c.self.inside.last.items c.args.self.now
-    c.self.view_is c.args.line.now.by c.from.result c.from.ensures c.args.board.now c.worker.inside.desk
-    c.worker.inside.shown c.index_mut-worker.result.now c.requires.floor c.requires.line.caller c.worker.view_is
-    c.index_mut-worker.ensures.value).own
+turn-requires-clause-caller g c κs within = sym (has_desk c.self.inside.workers.items c.self.inside.tray
+    c.self.inside.last.items c.args.self.now c.self.view_is c.args.line.now.by c.from.result
+    c.from.ensures c.args.board.now c.worker.inside.desk c.worker.inside.shown c.index_mut-worker.result.now
+    c.requires.floor c.requires.line.caller c.worker.view_is c.index_mut-worker.ensures.value).own
 
 pub returns-clause-turned : goal.returns-clause-turned
-returns-clause-turned g c =
-    takes_turn c.args.board.now c.args.line.now c.args.self.now _ c.worker.inside.desk c.turn.new.desk
-    c.worker.inside.shown c.requires.line.right
-    (has_desk c.self.inside.workers.items c.self.inside.tray c.self.inside.last.items c.args.self.now c.self.view_is
-    c.args.line.now.by c.from.result c.from.ensures c.args.board.now c.worker.inside.desk c.worker.inside.shown
-    c.index_mut-worker.result.now c.requires.floor c.requires.line.caller c.worker.view_is
-    c.index_mut-worker.ensures.value) c.turn.new.shown c.turn.ensures.turned
-    (changed_only c.self.inside.workers.items c.self.inside.tray c.self.inside.last.items c.args.self.now
-    c.self.view_is c.args.line.now.by c.from.result c.from.ensures
-    (record { desk = c.turn.new.desk; shown = c.turn.new.shown }))
+returns-clause-turned g c = takes_turn c.args.board.now c.args.line.now
+    c.args.self.now _ c.worker.inside.desk c.turn.new.desk c.worker.inside.shown c.requires.line.right
+    (has_desk c.self.inside.workers.items c.self.inside.tray c.self.inside.last.items c.args.self.now
+    c.self.view_is c.args.line.now.by c.from.result c.from.ensures c.args.board.now c.worker.inside.desk
+    c.worker.inside.shown c.index_mut-worker.result.now c.requires.floor c.requires.line.caller
+    c.worker.view_is c.index_mut-worker.ensures.value) c.turn.new.shown c.turn.ensures.turned (changed_only
+    c.self.inside.workers.items c.self.inside.tray c.self.inside.last.items c.args.self.now c.self.view_is
+    c.args.line.now.by c.from.result c.from.ensures (record { desk = c.turn.new.desk; shown = c.turn.new.shown }))
 
 pub returns-clause-of_board : goal.returns-clause-of_board
-returns-clause-of_board g c =
-    changed_fits c.args.board.now c.args.self.now _ c.args.line.now.by c.worker.inside.desk c.worker.inside.shown
-    (record { desk = c.turn.new.desk; shown = c.turn.new.shown }) c.requires.floor
-    (has_desk c.self.inside.workers.items c.self.inside.tray c.self.inside.last.items c.args.self.now c.self.view_is
-    c.args.line.now.by c.from.result c.from.ensures c.args.board.now c.worker.inside.desk c.worker.inside.shown
-    c.index_mut-worker.result.now c.requires.floor c.requires.line.caller c.worker.view_is
-    c.index_mut-worker.ensures.value)
-    (changed_only c.self.inside.workers.items c.self.inside.tray c.self.inside.last.items c.args.self.now
-    c.self.view_is c.args.line.now.by c.from.result c.from.ensures
-    (record { desk = c.turn.new.desk; shown = c.turn.new.shown }))
-    c.turn.ensures.of_board c.turn.ensures.owner
+returns-clause-of_board g c = changed_fits _ _ _ _ _ _ _ c.requires.floor
+    (has_desk c.self.inside.workers.items c.self.inside.tray c.self.inside.last.items c.args.self.now
+    c.self.view_is c.args.line.now.by c.from.result c.from.ensures c.args.board.now c.worker.inside.desk
+    c.worker.inside.shown c.index_mut-worker.result.now c.requires.floor c.requires.line.caller
+    c.worker.view_is c.index_mut-worker.ensures.value) (changed_only c.self.inside.workers.items c.self.inside.tray
+    c.self.inside.last.items c.args.self.now c.self.view_is c.args.line.now.by c.from.result c.from.ensures
+    (record { desk = c.turn.new.desk; shown = c.turn.new.shown })) c.turn.ensures.of_board c.turn.ensures.owner

@@ -12,13 +12,13 @@ returns-in-Cache-Cache-Cache-clause-answered g c =
     c.in-Cache-Cache-Cache.is-2 (ap pass_shown c.in-Cache-Cache-Cache.is-1) refl c.call.ensures.answered
 
 pub returns-in-List-List-List-clause-answered : goal.returns-in-List-List-List-clause-answered
-returns-in-List-List-List-clause-answered g c =
-    told_answered OfList ask.List reply.List c.call-in-List-List-List.result c.in-List-List-List.ask c.args.ask
-    (pass_shown c.args.pass.now) (pass_shown (pass.List c.call-in-List-List-List.new.pass)) c.in-List-List-List.pass c.call-in-List-List-List.new.pass
+returns-in-List-List-List-clause-answered g c = told_answered OfList ask.List reply.List
+    c.call-in-List-List-List.result c.in-List-List-List.ask c.args.ask (pass_shown c.args.pass.now) (pass_shown
+    (pass.List c.call-in-List-List-List.new.pass)) c.in-List-List-List.pass c.call-in-List-List-List.new.pass
     c.in-List-List-List.is-2 (ap pass_shown c.in-List-List-List.is-1) refl c.call-in-List-List-List.ensures.answered
 
 pub returns-in-Lock-Lock-Lock-clause-answered : goal.returns-in-Lock-Lock-Lock-clause-answered
-returns-in-Lock-Lock-Lock-clause-answered g c =
-    told_answered OfLock ask.Lock reply.Lock c.call-in-Lock-Lock-Lock.result c.in-Lock-Lock-Lock.ask c.args.ask
-    (pass_shown c.args.pass.now) (pass_shown (pass.Lock c.call-in-Lock-Lock-Lock.new.pass)) c.in-Lock-Lock-Lock.pass c.call-in-Lock-Lock-Lock.new.pass
+returns-in-Lock-Lock-Lock-clause-answered g c = told_answered OfLock ask.Lock reply.Lock
+    c.call-in-Lock-Lock-Lock.result c.in-Lock-Lock-Lock.ask c.args.ask (pass_shown c.args.pass.now) (pass_shown
+    (pass.Lock c.call-in-Lock-Lock-Lock.new.pass)) c.in-Lock-Lock-Lock.pass c.call-in-Lock-Lock-Lock.new.pass
     c.in-Lock-Lock-Lock.is-2 (ap pass_shown c.in-Lock-Lock-Lock.is-1) refl c.call-in-Lock-Lock-Lock.ensures.answered

@@ -11,10 +11,8 @@ pub call-requires-clause-ask : goal.call-requires-clause-ask
 call-requires-clause-ask g c κs within = grind (arith, cell-some, cell-is)
 
 pub call-requires-clause-may : goal.call-requires-clause-may
-call-requires-clause-may g c κs within =
-    subst (λ owner. MayAskAny owner c.args.ask)
-    (sym (place-is _ _ _ _ c.args.on _ _ _ _ (sym c.self.view_is) (sym c.desk.view_is) c.requires.desk
-    c.requires.place
+call-requires-clause-may g c κs within = subst (λ owner. MayAskAny owner c.args.ask) (sym
+    (place-is _ _ _ _ c.args.on _ _ _ _ (sym c.self.view_is) (sym c.desk.view_is) c.requires.desk c.requires.place
     c.from.ensures c.from-2.ensures c.index.ensures c.index_mut.ensures.value).owner_is) c.requires.may
 
 pub returns-clause-answered : goal.returns-clause-answered
@@ -24,9 +22,8 @@ pub returns-clause-full : goal.returns-clause-full
 returns-clause-full g c = grind (arith, full-on, cell-is, changed-at)
 
 pub returns-clause-no_memory : goal.returns-clause-no_memory
-returns-clause-no_memory g c =
-    still-on c.args.desk.now _ _ _ c.call.new.place c.call.result (sym c.desk.view_is) c.index_mut.ensures.value
-    c.call.ensures.no_memory
+returns-clause-no_memory g c = still-on c.args.desk.now _ _
+    _ c.call.new.place (sym c.desk.view_is) c.index_mut.ensures.value c.call.result c.call.ensures.no_memory
 
 pub returns-clause-of_board : goal.returns-clause-of_board
 returns-clause-of_board g c = grind (arith, changed-of_board, call-fixed)

@@ -13,7 +13,5 @@ hear-requires-clause-from g c κs within =
     c.from.ensures c.from-4.ensures c.index.ensures c.index_mut-2.ensures.value).of_cell
 
 pub returns-clause-of_board : goal.returns-clause-of_board
-returns-clause-of_board g c =
-    changed-of_board c.args.self.now c.args.desk.now _ _ _ _ (sym c.desk.view_is) c.requires.desk
-    c.index_mut.ensures.value
-    (ap fixed_of c.hear.ensures.place)
+returns-clause-of_board g c = changed-of_board c.args.self.now c.args.desk.now
+    _ _ _ _ (sym c.desk.view_is) c.requires.desk c.index_mut.ensures.value (ap fixed_of c.hear.ensures.place)

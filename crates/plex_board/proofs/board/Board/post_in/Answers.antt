@@ -19,8 +19,6 @@ pub returns-clause-of_board : goal.returns-clause-of_board
 returns-clause-of_board g c =
     let is = place-is _ _ _ _ c.args.on _ _ _ _ (sym c.self.view_is) (sym c.desk.view_is) c.requires.desk
     c.requires.place c.from.ensures c.from-2.ensures c.index.ensures c.index_mut.ensures.value in
-    subst (IsTrayOf c.args.self.now)
-    (sym (tray-after _ _ c.args.on _ (sym c.tray.view_is) c.from-3.ensures c.post_in.new.slot _
-    c.post_in.ensures.slot))
-    (tray-set c.args.self.now c.args.tray.now c.args.on c.index.result.now c.requires.tray is.cell_is
-    (note_of c.index_mut.result.now) is.of_cell)
+    subst (IsTrayOf c.args.self.now) (sym (tray-after _ _ c.args.on _ (sym c.tray.view_is)
+    c.from-3.ensures c.post_in.new.slot _ c.post_in.ensures.slot)) (tray-set c.args.self.now c.args.tray.now
+    c.args.on c.index.result.now c.requires.tray is.cell_is (note_of c.index_mut.result.now) is.of_cell)

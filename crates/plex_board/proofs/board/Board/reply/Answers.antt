@@ -14,19 +14,15 @@ returns-clause-reply g c =
     c.from.ensures c.from-2.ensures c.index.ensures c.index_mut.ensures.value).pass_is) c.reply.ensures.reply
 
 pub returns-clause-own : goal.returns-clause-own
-returns-clause-own g c =
-    subst (λ (pass : PassShown). IfOk c.reply.result (λ reply. is_some reply
-    ≡ is_some (call_numbered c.args.no pass.calls)))
-    (sym (place-is _ _ _ _ c.args.on _ _ _ _ (sym c.self.view_is) (sym c.desk.view_is) c.requires.desk c.requires.place
+returns-clause-own g c = subst (λ (pass : PassShown). IfOk c.reply.result
+    (λ reply. is_some reply ≡ is_some (call_numbered c.args.no pass.calls))) (sym
+    (place-is _ _ _ _ c.args.on _ _ _ _ (sym c.self.view_is) (sym c.desk.view_is) c.requires.desk c.requires.place
     c.from.ensures c.from-2.ensures c.index.ensures c.index_mut.ensures.value).pass_is) c.reply.ensures.own
 
 pub returns-clause-no_memory : goal.returns-clause-no_memory
-returns-clause-no_memory g c =
-    unread-on c.args.desk.now _ _ _ c.reply.new.place c.reply.result (sym c.desk.view_is) c.index_mut.ensures.value
-    c.reply.ensures.no_memory
+returns-clause-no_memory g c = unread-on c.args.desk.now _ _
+    _ c.reply.new.place (sym c.desk.view_is) c.index_mut.ensures.value c.reply.result c.reply.ensures.no_memory
 
 pub returns-clause-of_board : goal.returns-clause-of_board
-returns-clause-of_board g c =
-    changed-of_board c.args.self.now c.args.desk.now _ _ _ _ (sym c.desk.view_is) c.requires.desk
-    c.index_mut.ensures.value
-    (ap fixed_of c.reply.ensures.later.same)
+returns-clause-of_board g c = changed-of_board c.args.self.now c.args.desk.now
+    _ _ _ _ (sym c.desk.view_is) c.requires.desk c.index_mut.ensures.value (ap fixed_of c.reply.ensures.later.same)

@@ -33,15 +33,13 @@ pub returns-clause-forms : goal.returns-clause-forms
 returns-clause-forms g c = grind (arith, opened-forms, take_all)
 
 pub returns-clause-cells : goal.returns-clause-cells
-returns-clause-cells g c =
-    opened-cells c.loop-form.opening.stations.items (length c.items.result.now) (into_iter_items c.loop-form.left)
-    c.open.result _ c.args.limit (ap length c.items.ensures) c.loop-form.invariant.opening.started
-    c.open.ensures.board
+returns-clause-cells g c = opened-cells c.loop-form.opening.stations.items
+    (length c.items.result.now) (into_iter_items c.loop-form.left) c.open.result _ c.args.limit
+    (ap length c.items.ensures) c.loop-form.invariant.opening.started c.open.ensures.board
 
 pub returns-clause-links : goal.returns-clause-links
-returns-clause-links g c =
-    opened-links c.loop-form.opening.stations.items (length c.items.result.now) (into_iter_items c.loop-form.left)
-    c.open.result _ c.loop-form.invariant.links c.open.ensures.board
+returns-clause-links g c = opened-links c.loop-form.opening.stations.items (length c.items.result.now)
+    (into_iter_items c.loop-form.left) c.open.result _ c.loop-form.invariant.links c.open.ensures.board
 
 pub returns-clause-desks : goal.returns-clause-desks
 returns-clause-desks g c =

@@ -8,7 +8,5 @@ take-requires-after_bounds g c κs within =
     c.from.ensures c.from-2.ensures c.index.ensures c.index_mut.ensures.value).of_cell
 
 pub returns-clause-of_board : goal.returns-clause-of_board
-returns-clause-of_board g c =
-    changed-of_board c.args.self.now c.args.desk.now _ _ _ _ (sym c.desk.view_is) c.requires.desk
-    c.index_mut.ensures.value
-    (ap fixed_of c.take.ensures.later.same)
+returns-clause-of_board g c = changed-of_board c.args.self.now c.args.desk.now
+    _ _ _ _ (sym c.desk.view_is) c.requires.desk c.index_mut.ensures.value (ap fixed_of c.take.ensures.later.same)

@@ -8,10 +8,8 @@ test-requires-clause-place g c κs within =
     c.from.ensures c.from-2.ensures c.index.ensures c.index_mut.ensures.value).of_cell
 
 pub test-requires-clause-caller : goal.test-requires-clause-caller
-test-requires-clause-caller g c κs within =
-    subst (λ owner. 0 < owner.0)
-    (sym (place-is _ _ _ _ c.args.on _ _ _ _ (sym c.self.view_is) (sym c.desk.view_is) c.requires.desk
-    c.requires.place
+test-requires-clause-caller g c κs within = subst (λ owner. 0 < owner.0) (sym
+    (place-is _ _ _ _ c.args.on _ _ _ _ (sym c.self.view_is) (sym c.desk.view_is) c.requires.desk c.requires.place
     c.from.ensures c.from-2.ensures c.index.ensures c.index_mut.ensures.value).owner_is) c.requires.caller
 
 pub test-requires-clause-index : goal.test-requires-clause-index

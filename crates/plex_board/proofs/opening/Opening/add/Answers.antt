@@ -22,7 +22,6 @@ returns-clause-opening g c =
       started = more-started _ _ _ c.push_reserved.ensures.items _ _ old.started
           (started-cell _ _ _ _ _ c.in_ok-station.ensures.cell c.in_ok-station.ensures.words);
       stations_room = subst (λ n. 16 ≤ n) (sym c.push_reserved.ensures.capacity) old.stations_room;
-      desks = more-desks _ _ _ c.push_reserved.ensures.items _ _ _ _ old.desks passes
-          c.deal.ensures.desks;
+      desks = more-desks _ _ _ c.push_reserved.ensures.items _ _ _ _ old.desks passes c.deal.ensures.desks;
       begun = grind (arith, more-homes, empty-home, more-empty);
     }

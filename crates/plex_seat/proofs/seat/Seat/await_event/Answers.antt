@@ -20,9 +20,8 @@ returns-in-Some-clause-asked g c =
 pub loop-preserved : goal.loop-preserved
 loop-preserved g c =
     let asks : AnyAsk = common_ask (type_at c.loop.self) cmd.Next in
-    let kept : (pass_of c.loop.self).known ≤ (pass_of c.next_event.new.self).known =
-    known_more asks c.in-Ok.answer.no c.loop.self c.next_event.new.self c.next_event.ensures.same
-    c.in-Ok.ensures.answer.called in
+    let kept : (pass_of c.loop.self).known ≤ (pass_of c.next_event.new.self).known = known_more asks
+    c.in-Ok.answer.no c.loop.self c.next_event.new.self c.next_event.ensures.same c.in-Ok.ensures.answer.called in
     let more : length (pass_of c.next_event.new.self).calls ≡ length (pass_of c.loop.self).calls + 1 =
     calls_more asks c.in-Ok.answer.no c.loop.self c.next_event.new.self c.in-Ok.ensures.answer.called in
     record {

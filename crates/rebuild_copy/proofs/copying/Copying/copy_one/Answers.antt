@@ -35,10 +35,9 @@ invariant_of-self g c =
       unplace_front = from.unplace_front;
       need_first = from.need_first;
     } in
-    after-place g.E.Engine.meaning g.E.Engine.is_kind g.E.Engine.is_content laws
-    (g.E.Engine.held c.self.inside.fresh) (g.E.Engine.held c.args.old.now)
-    c.self.invariant c.args.self.now c.self.view_is c.requires.copy c.in_ok-item.item (search rules)
-    c.place.result (g.E.Engine.held c.place.new.self) c.place.ensures.ok c.place.ensures.err
+    after-place g.E.Engine.meaning g.E.Engine.is_kind g.E.Engine.is_content laws (g.E.Engine.held c.self.inside.fresh)
+    (g.E.Engine.held c.args.old.now) c.self.invariant c.args.self.now c.self.view_is c.requires.copy c.in_ok-item.item
+    (search rules) c.place.result (g.E.Engine.held c.place.new.self) c.place.ensures.ok c.place.ensures.err
 
 pub returns-clause-ok : goal.returns-clause-ok
 returns-clause-ok g c =
@@ -49,7 +48,6 @@ returns-clause-ok g c =
       need_first = from.need_first;
     } in
     let one = copied-one g.E.Engine.meaning g.E.Engine.is_kind g.E.Engine.is_content laws
-    (g.E.Engine.held c.self.inside.fresh) (g.E.Engine.held c.args.old.now)
-    c.self.invariant c.args.self.now c.self.view_is c.requires.copy c.in_ok-item.item (search rules)
-    (g.E.Engine.held c.place.new.self) in
+    (g.E.Engine.held c.self.inside.fresh) (g.E.Engine.held c.args.old.now) c.self.invariant c.args.self.now
+    c.self.view_is c.requires.copy c.in_ok-item.item (search rules) (g.E.Engine.held c.place.new.self) in
     elim c.match-place.branch [ in-Ok w ↦ search rules | in-Err w ↦ search rules ]

@@ -10,10 +10,8 @@ invariant_of-self g c =
       unplace_front = from.unplace_front;
       need_first = from.need_first;
     } in
-    rw c.unplace.ensures
-    (dropped-filled g.E.Engine.meaning g.E.Engine.is_kind g.E.Engine.is_content laws
-    (g.E.Engine.held c.self.inside.fresh) c.self.invariant
-    (search rules))
+    rw c.unplace.ensures (dropped-filled g.E.Engine.meaning g.E.Engine.is_kind
+    g.E.Engine.is_content laws (g.E.Engine.held c.self.inside.fresh) c.self.invariant (search rules))
 
 pub returns : goal.returns
 returns g c =

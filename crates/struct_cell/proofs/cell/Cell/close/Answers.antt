@@ -11,28 +11,22 @@ pub returns-clause-callers : goal.returns-clause-callers
 returns-clause-callers g c = grind (arith, closed_callers)
 
 pub returns-clause-mine : goal.returns-clause-mine
-returns-clause-mine g c =
-    closed_mine g.L.Link.calls g.L.Link.downs g.L.Link.faults g.E.Engine.meaning c.self.inside.lock.key c.args.self _ _ _
-    c.ended-inside.result.journal.items c.from_vec.result _
-    c.args.passes.items c.ended-inside.ensures c.self.view_is c.from_vec.ensures
-    (same_shown c.ended-inside.result.seat c.args.passes.items c.as_mut_slice.result.now
-    (search rules) c.learn_all.ensures.shown)
+returns-clause-mine g c = closed_mine g.L.Link.calls g.L.Link.downs g.L.Link.faults g.E.Engine.meaning
+    c.self.inside.lock.key c.args.self _ _ _ c.ended-inside.result.journal.items c.from_vec.result
+    _ c.args.passes.items c.ended-inside.ensures c.self.view_is c.from_vec.ensures (same_shown
+    c.ended-inside.result.seat c.args.passes.items c.as_mut_slice.result.now (search rules) c.learn_all.ensures.shown)
 
 pub returns-clause-known : goal.returns-clause-known
-returns-clause-known g c =
-    closed_known g.L.Link.calls g.L.Link.downs g.L.Link.faults g.E.Engine.meaning c.self.inside.lock.key c.args.self _ _ _
-    c.ended-inside.result.journal.items c.from_vec.result _
-    c.args.passes.items c.ended-inside.ensures c.self.view_is c.from_vec.ensures
-    (same_shown c.ended-inside.result.seat c.args.passes.items c.as_mut_slice.result.now
-    (search rules) c.learn_all.ensures.shown)
+returns-clause-known g c = closed_known g.L.Link.calls g.L.Link.downs g.L.Link.faults g.E.Engine.meaning
+    c.self.inside.lock.key c.args.self _ _ _ c.ended-inside.result.journal.items c.from_vec.result
+    _ c.args.passes.items c.ended-inside.ensures c.self.view_is c.from_vec.ensures (same_shown
+    c.ended-inside.result.seat c.args.passes.items c.as_mut_slice.result.now (search rules) c.learn_all.ensures.shown)
 
 pub returns-clause-tests : goal.returns-clause-tests
-returns-clause-tests g c =
-    closed_tests g.L.Link.calls g.L.Link.downs g.L.Link.faults g.E.Engine.meaning c.self.inside.lock.key c.args.self _ _ _
-    c.ended-inside.result.journal.items c.from_vec.result _
-    c.args.passes.items c.ended-inside.ensures c.self.view_is c.from_vec.ensures c.requires.passes
-    (same_shown c.ended-inside.result.seat c.args.passes.items c.as_mut_slice.result.now
-    (search rules) c.learn_all.ensures.shown)
+returns-clause-tests g c = closed_tests g.L.Link.calls g.L.Link.downs g.L.Link.faults g.E.Engine.meaning
+    c.self.inside.lock.key c.args.self _ _ _ c.ended-inside.result.journal.items c.from_vec.result
+    _ c.args.passes.items c.ended-inside.ensures c.self.view_is c.from_vec.ensures c.requires.passes (same_shown
+    c.ended-inside.result.seat c.args.passes.items c.as_mut_slice.result.now (search rules) c.learn_all.ensures.shown)
 
 pub returns-clause-links : goal.returns-clause-links
 returns-clause-links g c = grind (arith, closed_links)

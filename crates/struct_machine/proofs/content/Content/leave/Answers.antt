@@ -10,7 +10,6 @@ invariant_of-self g c =
       content = from.content_leave;
       need = from.need_leave;
     } in
-    left_standing g.E.Engine.meaning g.E.Engine.is_kind g.E.Engine.is_content g.E.Engine.is_order laws
-    (content_of g.E.Engine.held c.self.inside.pair) (content_of g.E.Engine.held c.leave.new.self)
-    c.self.inside.filling c.begin_anew.new.filling c.args.conn c.args.keep c.leave.ensures.content c.begin_anew.ensures
-    c.self.invariant
+    left_standing g.E.Engine.meaning g.E.Engine.is_kind g.E.Engine.is_content g.E.Engine.is_order laws (content_of
+    g.E.Engine.held c.self.inside.pair) (content_of g.E.Engine.held c.leave.new.self) c.self.inside.filling
+    c.begin_anew.new.filling c.args.conn c.args.keep c.leave.ensures.content c.begin_anew.ensures c.self.invariant

@@ -16,9 +16,7 @@ pub store_word-requires-2-clause-once : goal.store_word-requires-2-clause-once
 store_word-requires-2-clause-once c h =
     let word = word_number c.args.vectors.now.len 1 1 in
     let first = word_number c.args.vectors.now.len 1 0 in
-    ⊎_elim
-    (λ (s : Stores word c.begin.new.seat). c.begin.ensures.fresh word s)
+    ⊎_elim (λ (s : Stores word c.begin.new.seat). c.begin.ensures.fresh word s)
     (λ (e : (first ≡ word) × (c.begin.new.seat.number ≡ c.begin.new.seat.number)). let same = e.0 in
-    omega (arith, same))
-    (has_store-store c.begin.new.seat.log first c.stored.result c.begin.new.seat.number word c.begin.new.seat.number
-    (subst (Stores word) c.store_word.ensures h))
+    omega (arith, same)) (has_store-store c.begin.new.seat.log first
+    c.stored.result c.begin.new.seat.number word c.begin.new.seat.number (subst (Stores word) c.store_word.ensures h))

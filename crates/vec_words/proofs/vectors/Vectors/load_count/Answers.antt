@@ -7,8 +7,7 @@ load-requires g c = (
   c.requires.table.0 ∙ sym (ap (λ (t : WordTable). t.id) c.self.view_is),
   omega (arith, c.self.invariant.words_is),
   learns c.self.inside.table.shared.key c.self.inside.table.shared.table_id.slots c.args.seat.now.id
-      c.args.seat.now.me
-      c.requires.pass.0 c.requires.pass.1
+      c.args.seat.now.me c.requires.pass.0 c.requires.pass.1
       (c.requires.table.1 ∙ sym (ap (λ (t : WordTable). t.len) c.self.view_is) ∙ sym c.self.invariant.len_is),
 )
 

@@ -20,13 +20,10 @@ load-found-requires g c =
     let words : id.words ≡ suc all = grind (arith, words_here) in (
       id_of _ _ _ (ap (λ (p : PassSeen g.row.D.Denot). p.table) c.pass.view_is ∙ c.requires.table) c.self.view_is,
       omega (arith, words, within),
-      looks shape id.slots c.pass.inside.seat.id c.pass.inside.seat.me g.A.Asked.asked _ word place (omega arith)
-          within
-          (c.place_of-place.ensures.number ∙ ap (λ (x : ℕ × ℕ). word_number x.0 x.1 place)
+      looks shape id.slots c.pass.inside.seat.id c.pass.inside.seat.me g.A.Asked.asked _ word
+          place (omega arith) within (c.place_of-place.ensures.number ∙ ap (λ (x : ℕ × ℕ). word_number x.0 x.1 place)
           (λ i. (len i, sym (ap (λ (p : PassSeen g.row.D.Denot). p.owner) c.pass.view_is) i)))
           (subst (λ o. 0 < o) (sym (ap (λ (p : PassSeen g.row.D.Denot). p.owner) c.pass.view_is)) c.requires.caller)
-          (subst (λ l. place < words_of l) len c.requires.index)
-          (subst (λ (x : ℕ × ℕ). x.0 ≤ x.1) (λ i. (c.pass.invariant.sure_is i, c.pass.invariant.known_is i))
-          c.pass.invariant.ordered)
-          c.requires.asked,
+          (subst (λ l. place < words_of l) len c.requires.index) (subst (λ (x : ℕ × ℕ). x.0 ≤ x.1)
+          (λ i. (c.pass.invariant.sure_is i, c.pass.invariant.known_is i)) c.pass.invariant.ordered) c.requires.asked,
     )

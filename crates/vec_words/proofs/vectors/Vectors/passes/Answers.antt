@@ -8,6 +8,5 @@ loop-number-preserved g c =
       c.next_pass-pass.ensures.seat,
       c.in_ok-push.ensures.items ∙ ap (λ xs. xs ++ c.next_pass-pass.result ∷ []) c.loop-number.invariant.1
           ∙ ap (λ (x : PassSeen g.row.D.Denot). map (new_pass t) (range_with_len 0 n) ++ x ∷ [])
-          c.next_pass-pass.ensures.pass
-          ∙ sym (map-range_with_len_more (new_pass t) 0 n n (omega arith)),
+          c.next_pass-pass.ensures.pass ∙ sym (map-range_with_len_more (new_pass t) 0 n n (omega arith)),
     )

@@ -9,9 +9,7 @@ store-requires g c =
       c.requires.table ∙ sym (ap (λ (t : WordTable). t.id) c.self.view_is),
       omega (arith, c.self.invariant.words_is),
       publishes c.self.inside.table.shared.key c.self.inside.table.shared.table_id.slots c.args.seat.now.id
-          c.args.seat.now.me
-          c.from.result g.A.About.about c.requires.one.0 c.requires.one.1 c.requires.pass.0 c.requires.pass.1
-          (omega (arith, c.from.ensures))
-          (subst (IsOpen (count_of log) (flying_of log)) (sym c.from.ensures)
-          (open_begun c.args.number log c.requires.number.1 c.requires.number.0)),
+          c.args.seat.now.me c.from.result g.A.About.about c.requires.one.0 c.requires.one.1 c.requires.pass.0
+          c.requires.pass.1 (omega (arith, c.from.ensures)) (subst (IsOpen (count_of log) (flying_of log))
+          (sym c.from.ensures) (open_begun c.args.number log c.requires.number.1 c.requires.number.0)),
     )

@@ -22,8 +22,7 @@ store-requires g c =
       omega (arith, words, within, is),
       puts shape id.slots c.args.seat.now.id c.args.seat.now.me _ _ g.P.Places.word g.P.Places.bits g.P.Places.stamp
           (omega arith) (c.word_of.ensures ∙ λ i. word_of (c.requires.step.1 i) (c.requires.step.2 i))
-          c.requires.log within
-          (grind (arith, bits_fit, open_begun)),
+          c.requires.log within (grind (arith, bits_fit, open_begun)),
     )
   where
     bits_fit : (a b : ℕ) → a ≡ b → a < 2 ^ 32 → b < 2 ^ 32

@@ -18,9 +18,7 @@ loop-at-preserved g c =
     let places = g.C.Changes.places c.args.changes.now in
     let bits = g.C.Changes.bits_in c.args.changes.now in
     let place = c.place-place.result in
-    each-step table.conns table.len bits c.args.seat.now c.loop-at.seat c.store_first.new.seat places c.loop-at.at
-    place
-    c.store_first.result
-    c.place-place.ensures (within-at table.conns table.len places c.loop-at.at place c.place-place.ensures
-    c.requires.within)
+    each-step table.conns table.len bits c.args.seat.now c.loop-at.seat
+    c.store_first.new.seat places c.loop-at.at place c.store_first.result c.place-place.ensures
+    (within-at table.conns table.len places c.loop-at.at place c.place-place.ensures c.requires.within)
     c.loop-at.invariant c.store_first.ensures.first c.store_first.ensures.again

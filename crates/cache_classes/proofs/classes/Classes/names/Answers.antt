@@ -1,7 +1,0 @@
-use Rattle.cache_classes.proofs.Imports.{arith, ◌∙◌, neighbours}
-use Rattle.cache_classes.proofs.NameOrder.{name_order}
-use Rattle.cache_classes.proofs.WalkLaws.{sorted_of}
-use Rattle.cache_classes.proofs.classes.Classes.names.Goals as goal
-
-pub returns : goal.returns
-returns c = grind (arith, sorted_of, neighbours, name_order)
