@@ -15,6 +15,7 @@ import subprocess
 import sys
 from collections import defaultdict
 from dataclasses import dataclass, field
+from functools import cache
 from pathlib import Path
 
 TOP = Path(__file__).resolve().parent.parent
@@ -184,6 +185,13 @@ def handed_on(text):
     return {word.split(" as ")[-1].strip(): home for home, words in lines for word in words.split(",")}
 
 
+@cache
+def handed_on_by(crate):
+    """What a crate's module of imports hands on."""
+    imports = TOP / "crates" / crate / "proofs/Imports.antt"
+    return handed_on(imports.read_text()) if imports.exists() else {}
+
+
 def common_names():
     """What the library's module Common hands on."""
     page = subprocess.run(["rt", "doc"], stdout=subprocess.PIPE, text=True).stdout.strip()
@@ -197,15 +205,15 @@ class Crate:
                       if it.name not in ("Lib.antt", "Imports.antt", "Invariants.antt")]
         self.unfolded = {word for it in self.files for line in it.read_text().split("\n")
                          if line.strip().startswith("unfolding ") for word in line.split()[1:]}
-        imports = self.folder / "proofs/Imports.antt"
-        self.homes = handed_on(imports.read_text()) if imports.exists() else {}
+        self.homes = handed_on_by(name)
 
     def names(self, line):
         found = IMPORT.match(line)
         return [(word.split(" as ")[-1].strip(), found.group(1)) for word in found.group(2).split(",")] if found else []
 
     def is_fact(self, word, home):
-        home = self.homes.get(word, "") if home.endswith(".proofs.Imports") else home
+        while home.endswith(".proofs.Imports"):
+            home = handed_on_by(home.split(".")[1]).get(word, "")
         home = self.common.get(word, "") if home == "Rattle.std.proofs.Common" else home
         return ".proofs." in home or home.startswith(("native.", "lib.", "mathlib."))
 
