@@ -179,10 +179,20 @@ def applications(text, name):
     return found
 
 
+def brought(home, words):
+    """The names that the words in braces of a `use` line bring, each with the module that it is from."""
+    found = {}
+    for word in words.split(","):
+        path, _, other = word.strip().partition(" as ")
+        inner, _, name = path.rpartition(".")
+        found[other or name] = f"{home}.{inner}" if inner else home
+    return found
+
+
 def handed_on(text):
     """The names that a module of `pub use` lines hands on, each with the module that it is from."""
     lines = re.findall(r"^(?:unfoldable )?pub use (\S+?)\.\{(.*)\}", text, re.M)
-    return {word.split(" as ")[-1].strip(): home for home, words in lines for word in words.split(",")}
+    return {name: home for line in lines for name, home in brought(*line).items()}
 
 
 @cache
@@ -209,7 +219,7 @@ class Crate:
 
     def names(self, line):
         found = IMPORT.match(line)
-        return [(word.split(" as ")[-1].strip(), found.group(1)) for word in found.group(2).split(",")] if found else []
+        return list(brought(*found.groups()).items()) if found else []
 
     def is_fact(self, word, home):
         while home.endswith(".proofs.Imports"):

@@ -6,12 +6,9 @@ pub use Rattle.std.proofs.lemmas.Option.{none-some}
 pub use Rattle.std.specs.Option.{option_to_list}
 pub use Rattle.lock_words.specs.declared.view.Hold.{Hold}
 pub use Rattle.plex_board.proofs.DeskLaws.{new_desk-of_board}
-pub use Rattle.plex_board.specs.CfTypes.declared.cache_commands.CacheCmd.{CacheCmd}
-pub use Rattle.plex_board.specs.CfTypes.declared.forms.StrForm.{StrForm}
-pub use Rattle.plex_board.specs.EngineApi.declared.asks.Ask.{Ask}
-pub use Rattle.plex_board.specs.EngineApi.declared.told.Told.{Told}
-pub use Rattle.plex_board.specs.PlexScript.declared.scripts.AnyAsk.{AnyAsk}
-pub use Rattle.plex_board.specs.PlexScript.declared.scripts.Script.{Script}
+pub use Rattle.plex_board.specs.CfTypes.declared.{cache_commands.CacheCmd.CacheCmd, forms.StrForm.StrForm}
+pub use Rattle.plex_board.specs.EngineApi.declared.{asks.Ask.Ask, told.Told.Told}
+pub use Rattle.plex_board.specs.PlexScript.declared.{scripts.AnyAsk.AnyAsk, scripts.Script.Script}
 pub use Rattle.plex_board.specs.StructCell.declared.refused.CallRefused.{CallRefused}
 pub use Rattle.bench_parts.specs.Rounds.{IsFree}
 pub use Rattle.bench_parts.specs.Seats.{IsCacheForm, IsCacheAlone, IsOneCache, IsPool, IsCacheBoard, IsOperated, IsSeated, pool}

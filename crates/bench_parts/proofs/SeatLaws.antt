@@ -1,6 +1,5 @@
 -- What is known at a board of one cache structure, and of the connector's desk there.
 use Rattle.bench_parts.proofs.Imports.{◌≡◌, ℕ, ◌+◌, ◌<◌, ◌≤◌, List, arith, [], ◌∷◌, ◌++◌, length, map, refl, sym, ap, subst, ◌∙◌, All, Option, Some, None, IfSome, Result, Ok, Err, IfOk, IfErr, slice_get, option_to_list, range_with_len, All-nil, All-cons, All-head, StrForm, CacheCmd, IsForm, IsConnector, Ask, Told, Script, AnyAsk, CallRefused, type_of_kind, CellShown, IsAskOf, DeskShown, IsAnsweredOn, IsLaterOn, BoardShown, IsPolicy, IsStarted, IsDeskOf, cell_on, new_desk, new_desk-of_board, IsCacheForm, IsCacheAlone, IsOneCache, IsPool, IsCacheBoard, IsOperated, IsSeated, pool}
-use Rattle.plex_board.specs.PlexScript.declared.scripts.AnyAsk.TheVariants as any_ask
 use Rattle.bench_parts.proofs.LastLaws.{front-of_two, last-of_one, last-some}
 
 -- ---- the script
@@ -104,11 +103,11 @@ module _ {L : Type 0} (board : BoardShown L) where
 
   -- what a cache is asked is for the structure
   pub pool-asked : (asked : Ask CacheCmd) → IsCacheBoard board
-      → IfSome (cell_on board pool) (λ cell. IsAskOf cell (any_ask.Cache asked))
+      → IfSome (cell_on board pool) (λ cell. IsAskOf cell (AnyAsk.Cache asked))
   pool-asked asked cache = go (cell_on board pool) cache.pool_is
     where
       go : (found : Option (CellShown L)) → IfSome found IsPool
-          → IfSome found (λ cell. IsAskOf cell (any_ask.Cache asked))
+          → IfSome found (λ cell. IsAskOf cell (AnyAsk.Cache asked))
       go None is = tt
       go (Some cell) is = sym is.0
 

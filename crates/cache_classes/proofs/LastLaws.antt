@@ -1,7 +1,6 @@
 -- The last name of all.
 use Rattle.cache_classes.proofs.Imports.{◌≡◌, ℕ, zero, suc, ◌+◌, ◌-◌, ◌≤◌, ◌<◌, Bool, true, false, not, cond, List, [], ◌∷◌, Option, None, Some, option_map, slice_get, length, drop, refl, sym, ap, ◌∙◌, arith, list_all, and_parts, not-true, drop_all, Name16, name_before, insertion, pairwise, arranged, in_turn, Changed, name_of, last_name, later, Entry, changed_at, entries_in, classes_in}
-use Rattle.cache_classes.proofs.NameOrder.{name_order}
-use Rattle.cache_classes.proofs.MapLaws.{in_order_in}
+use Rattle.cache_classes.proofs.{NameOrder.name_order, MapLaws.in_order_in}
 
 -- the last of a list, step by step
 abbrev last_after : Name16 → List Changed → Name16

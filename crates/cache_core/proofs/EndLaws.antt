@@ -1,5 +1,5 @@
 -- The registrations for several names end, one name after another.
-use Rattle.cache_core.proofs.Imports.{◌≡◌, ℕ, ◌+◌, ◌-◌, ◌≤◌, ◌<◌, Bool, true, false, not, ◌&&◌, ◌||◌, ◌==◌, List, [], ◌∷◌, ◌++◌, None, Some, length, drop, filter, get_or, add-one, append_assoc, refl, ap, ◌∙◌, arith, range_with_len, drop_more, map-append, drop_all, filter_agree, filter-append, Name16, ConnId, BitChange, Gains, Falls, gains_falls, and_from, eq-eqb, filter-filter, filter_all, list_all_always, length-filter-le, Registration, stands, regs_with, ends_with_name, regs_without_name, same_name-sym, falls_filter, stands_kept, gains_then_falls, CacheItem, is_among, regs_spared, class_counts}
+use Rattle.cache_core.proofs.Imports.{◌≡◌, ℕ, ◌+◌, ◌-◌, ◌≤◌, ◌<◌, Bool, true, false, not, ◌&&◌, ◌||◌, List, [], ◌∷◌, ◌++◌, None, Some, length, drop, filter, get_or, add-one, append_assoc, refl, ap, arith, range_with_len, drop_more, map-append, drop_all, filter_agree, filter-append, Name16, ConnId, BitChange, Gains, Falls, gains_falls, and_from, eq-eqb, filter-filter, filter_all, list_all_always, length-filter-le, Registration, stands, regs_with, ends_with_name, regs_without_name, same_name-sym, falls_filter, stands_kept, gains_then_falls, CacheItem, is_among, regs_spared, class_counts}
 
 test_step : (a b c : Bool) → b ≡ a → not (a && true) && not c ≡ not (b || c)
 test_step true b c e = rw e refl

@@ -1,7 +1,6 @@
 -- What a plan that isn't refused says.
 use Rattle.cache_core.proofs.Imports.{EngineView, arith, ◌≡◌, ℕ, ◌<◌, List, ◌∷◌, cond, leb, Option, None, Some, Result, Ok, Err, refl, sym, ap, ◌∙◌, subst, OnOk, OnErr, cases_lt, le-leb, first_refusal, Caps, ConnId, Refusal, CacheCmd, Read, Write, CacheReply, CacheItem, IsDirectory, Content, cause, request_spared, Plan, plan_unless, plan_for, IsSpared, IsIndexed}
 use Rattle.cache_model.specs.Commands.Read as read
-use Rattle.cache_model.specs.Commands.Write as write
 use Rattle.cache_model.specs.Step.{victims}
 
 -- the plan that is taken is the one that was wanted

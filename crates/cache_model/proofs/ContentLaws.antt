@@ -1,5 +1,5 @@
 -- Every command, departure and end of registrations leads from content to content.
-use Rattle.cache_model.proofs.Imports.{◌≡◌, ℕ, ◌+◌, ◌-◌, ◌≤◌, Bool, true, false, not, ◌&&◌, ◌||◌, cond, List, [], ◌∷◌, Option, Some, None, is_some, is_none, unwrap_or, option_map, length, filter, map, nat_lt, nat_le, ◌⊎◌, inl, inr, refl, sym, ap, ◌∙◌, subst, arith, list_all, and_parts, and_from, or_cases, or_right, not-true, false≢true, ltb-true, leb-true, length-map, any-filter_same, Caps, Name16, ConnId, Refusal, IsChanged, CacheCmd, Read, Write, CrossInval, Castout, Unlock, Delete, CacheReply, same_name, Outcome, first_refusal, unless_refused, list_all-filter, list_all_weaker, list_all_both, list_all-filter_same, length-filter-le, sum_by-filter-le, any_is_found, none-filter, all_found, list_all-insertion, Registration, is_of, regs_with, regs_without, regs_without_name, ends_with_name, IsRegistry, same_name-eq, same_name-refl, registry-with, registry-filter, CacheItem, Holder, Request, is_row_of, elements_of, elements_in, row_of, has_row, rows_without, rows_replaced, new_row, row_or_new, is_sound, IsDirectory, Content, IsContent, IsOrderly, content_without, content_forgotten, without_hold, is_among, rows_spared, regs_spared, victims, has_place, free_elements, room_refusal, entry_refusal, held_refusal, unchanged_refusal, not_held_refusal, is_changed_row, cause, done}
+use Rattle.cache_model.proofs.Imports.{◌≡◌, ℕ, ◌+◌, ◌-◌, ◌≤◌, Bool, true, false, not, ◌&&◌, ◌||◌, cond, List, [], ◌∷◌, Option, Some, None, is_some, is_none, unwrap_or, option_map, length, filter, map, nat_lt, nat_le, ◌⊎◌, inl, inr, refl, sym, ap, ◌∙◌, subst, arith, list_all, and_parts, and_from, or_cases, or_right, not-true, false≢true, ltb-true, leb-true, length-map, any-filter_same, Caps, Name16, ConnId, IsChanged, CacheCmd, Read, Write, CrossInval, Castout, Unlock, Delete, same_name, first_refusal, unless_refused, list_all-filter, list_all_weaker, list_all_both, list_all-filter_same, length-filter-le, sum_by-filter-le, any_is_found, none-filter, all_found, list_all-insertion, Registration, is_of, regs_with, regs_without, regs_without_name, ends_with_name, IsRegistry, same_name-eq, same_name-refl, registry-with, registry-filter, CacheItem, Holder, Request, is_row_of, elements_of, elements_in, row_of, has_row, rows_without, rows_replaced, new_row, row_or_new, is_sound, IsDirectory, Content, IsContent, IsOrderly, content_without, content_forgotten, without_hold, is_among, rows_spared, regs_spared, victims, has_place, free_elements, room_refusal, entry_refusal, held_refusal, unchanged_refusal, not_held_refusal, is_changed_row, cause, done, none_hold, unless_false}
 use Rattle.cache_model.specs.Commands.Read as read
 use Rattle.cache_model.specs.Commands.Write as write
 use Rattle.cache_model.specs.Commands.Castout as castout
@@ -7,18 +7,6 @@ use Rattle.cache_model.specs.Commands.Unlock as unlock
 use Rattle.cache_model.specs.Commands.Delete as delete
 use Rattle.cache_model.proofs.RowLaws.{size, found_named, directory-filter, directory-replaced, length-replaced, elements-replaced, elements-without, length-without, without-absent, has_row_stays, has_row_here, name-row_or_new, sound-row_or_new, or_new_size, directory-without_hold, has_row-without_hold, elements-without_hold}
 use Rattle.cache_model.proofs.RoomLaws.{gone, request_spared, length-spared, elements-spared, row_of-spared, has_row-spared, room_left}
-
--- ---- causes
-
--- none of them holds
-abbrev pub NoneHolds : List (Option Refusal) → Type 0
-NoneHolds [] = Unit {0}
-NoneHolds (cause ∷ causes) = (cause ≡ None) × NoneHolds causes
-
-pub none_hold : (causes : List (Option Refusal)) → first_refusal causes ≡ None → NoneHolds causes
-none_hold [] h = tt
-none_hold (None ∷ causes) h = (refl, none_hold causes h)
-none_hold (Some refusal ∷ causes) h = absurd (cc)
 
 -- ---- a row takes its place in the room that is made
 
@@ -273,16 +261,6 @@ content-replaced caps content name old row is found named size sound =
           row content.rows)) (λ reg k. has_row_stays reg.name row content.rows k) content.regs is.row_each;
     }
 
-pub unless_false : (b : Bool) (refusal : Refusal) → cond b None (Some refusal) ≡ None → b ≡ true
-unless_false true refusal h = refl
-unless_false false refusal h = absurd (cc)
-
-changed_sound : (hold : Bool) (c d : Bool) → c ≡ true → hold && (not c || d) ≡ true → (false || c)
-    && (not c || d) ≡ true
-changed_sound true true d e h = h
-changed_sound true false d e h = absurd (false≢true e)
-changed_sound false c d e h = absurd (false≢true h)
-
 castout_step : (caps : Caps) (content : Content) (by : ConnId) (name : Name16) (o : Option CacheItem)
     → IsContent caps content → row_of name content.rows ≡ o → first_refusal
     (entry_refusal o ∷ held_refusal o ∷ unchanged_refusal o ∷ []) ≡ None → IsContent caps (record content {
@@ -292,16 +270,11 @@ castout_step caps content by name None is found h = absurd (cc)
 castout_step caps content by name (Some row) is found h =
     let none = none_hold (entry_refusal (Some row) ∷ held_refusal (Some row) ∷ unchanged_refusal (Some row) ∷ []) h in
     let sound = all_found (is_row_of name) is_sound content.rows row is.directory.sound found in
-    content-replaced _ _ _ _ _ is found (found_named _ _ _ found) refl (grind (arith, changed_sound, unless_false))
+    content-replaced _ _ _ _ _ is found (found_named _ _ _ found) refl (grind (arith, false≢true, unless_false))
 
 pub content-castout : (caps : Caps) (content : Content) (by : ConnId) (name : Name16) → IsContent caps content
     → first_refusal (castout.causes content.rows name) ≡ None → IsContent caps (castout.after content by name)
 content-castout caps content by name is h = castout_step caps content by name (row_of name content.rows) is refl h
-
-let_go_sound : (b : Bool) (class : Option ℕ) (hold had : Bool) → hold && (not (is_some class) || had) ≡ true
-    → (true || is_some (cond b class None)) && (not (is_some (cond b class None)) || had) ≡ true
-let_go_sound true class hold had h = (and_parts hold (not (is_some class) || had) h).1
-let_go_sound false class hold had h = refl
 
 unlock_step : (caps : Caps) (content : Content) (by : ConnId) (name : Name16) (o : Option CacheItem)
     → IsContent caps content → row_of name content.rows ≡ o
@@ -311,7 +284,7 @@ unlock_step : (caps : Caps) (content : Content) (by : ConnId) (name : Name16) (o
 unlock_step caps content by name None is found h = absurd (cc)
 unlock_step caps content by name (Some row) is found h =
     let sound = all_found (is_row_of name) is_sound content.rows row is.directory.sound found in
-    content-replaced _ _ _ _ _ is found (found_named _ _ _ found) refl (grind (arith, let_go_sound))
+    content-replaced _ _ _ _ _ is found (found_named _ _ _ found) refl (grind (arith, and_parts))
 
 pub content-unlock : (caps : Caps) (content : Content) (by : ConnId) (name : Name16) → IsContent caps content
     → first_refusal (unlock.causes content.rows by name) ≡ None → IsContent caps (unlock.after content name)
@@ -386,13 +359,7 @@ content-done vector caps content by (Unlock name) is h = content-unlock caps con
 content-done vector caps content by (Delete name) is h = content-delete caps content name is
 content-done vector caps content by _ is h = is
 
-unless_step : (caps : Caps) (refusal : Option Refusal) (content : Content) (outcome : Outcome CacheReply Content)
-    → IsContent caps content
-    → (refusal ≡ None → IsContent caps outcome.state) → IsContent caps (unless_refused refusal content outcome).state
-unless_step caps None content outcome is h = h refl
-unless_step caps (Some refusal) content outcome is h = is
-
 pub content-step : (vector : ℕ) (caps : Caps) (content : Content) (by : ConnId) (cmd : CacheCmd)
     → IsContent caps content
     → IsContent caps (unless_refused (cause vector caps content by cmd) content (done caps content by cmd)).state
-content-step vector caps content by cmd is = grind (arith, unless_step, content-done)
+content-step vector caps content by cmd is = grind (arith, content-done)

@@ -1,16 +1,14 @@
 -- A valid bit tells a fresh copy: what a registered connector has at the index is what the name's row has.
-use Rattle.cache_model.proofs.Imports.{◌≡◌, ℕ, Bool, true, false, not, ◌&&◌, ◌||◌, ◌==◌, cond, List, [], ◌∷◌, ◌++◌, Option, Some, None, option_map, unwrap_or, filter, find, map, refl, sym, ap, ◌∙◌, subst, arith, option_and_then, and_parts, or_parts, not-true, false≢true, eqb-true, nat_tests, find-append, Caps, Name16, ConnId, Refusal, CacheCmd, Read, Write, CrossInval, Castout, Unlock, Delete, same_name, unless_refused, insertion, find-filter, find_none, none_filtered, find-insertion_past, find-insertion_here, Registration, is_at, is_replaced, registered_at, stands_before as before, regs_with, ends_with_name, same_name-eq, same_name-refl, same_name-sym, CacheItem, is_row_of, is_changed, row_of, has_row, rows_without, rows_replaced, new_row, row_or_new, IsDirectory, Content, IsContent, no_content, content_without, without_hold, is_among, rows_spared, done, after, Copy, Copies, Deed, after_deed, after_run, row_copy, copy_in, reply_copy, copies_with, copies_done, copies_unless, copies_after, copies_run, Calls, Leaves, Forgets}
-use Rattle.cache_model.specs.Rows.{stands_before}
+use Rattle.cache_model.proofs.Imports.{◌≡◌, ℕ, Bool, true, false, not, ◌&&◌, ◌||◌, ◌==◌, cond, List, [], ◌∷◌, ◌++◌, Option, Some, None, option_map, filter, map, refl, sym, ap, ◌∙◌, subst, arith, option_and_then, and_parts, or_parts, not-true, false≢true, eqb-true, nat_tests, find-append, Caps, Name16, ConnId, Refusal, CacheCmd, Read, Write, CrossInval, Castout, Unlock, Delete, same_name, unless_refused, insertion, find-filter, find_none, none_filtered, find-insertion_past, find-insertion_here, Registration, is_replaced, registered_at, stands_before as before, regs_with, ends_with_name, same_name-eq, same_name-refl, same_name-sym, CacheItem, is_row_of, is_changed, row_of, has_row, rows_without, rows_replaced, row_or_new, IsDirectory, Content, IsContent, no_content, content_without, without_hold, is_among, rows_spared, done, after, Copy, Copies, Deed, after_deed, after_run, row_copy, copy_in, reply_copy, copies_with, copies_done, copies_unless, copies_after, copies_run, Calls, Leaves, Forgets}
+use Rattle.cache_model.specs.{Rows.stands_before, Step.victims}
 use Rattle.cache_model.specs.Commands.Read as read
 use Rattle.cache_model.specs.Commands.Write as write
 use Rattle.cache_model.specs.Commands.Castout as castout
 use Rattle.cache_model.specs.Commands.Unlock as unlock
 use Rattle.cache_model.specs.Commands.Delete as delete
-use Rattle.cache_model.specs.Step.{victims}
-use Rattle.cache_model.proofs.RowLaws.{name-row_or_new}
-use Rattle.cache_model.proofs.RoomLaws.{request_spared, row_of-spared}
-use Rattle.cache_model.proofs.EngineLaws.{content-nothing}
 use Rattle.cache_model.proofs.ContentLaws.{not_both, content-step, content-without, content-forgotten}
+use Rattle.cache_model.proofs.EngineLaws.{content-nothing}
+use Rattle.cache_model.proofs.{RowLaws.name-row_or_new, RoomLaws.request_spared, RoomLaws.row_of-spared}
 
 -- ---- the row of a name after a row is replaced
 
@@ -18,12 +16,9 @@ found_with : (b : Bool) (n : Name16) (row : CacheItem) (rest : List CacheItem)
     → has_row row.name rest ≡ false → (s : Bool) → same_name row.name n ≡ s → row_of
     n (cond b (insertion (stands_before row) row rest) (rest ++ row ∷ [])) ≡ cond s (Some row) (row_of n rest)
 found_with true n row rest alone true e =
-    let none = subst (λ m. has_row m rest ≡ false) (same_name-eq row.name n e) alone in
-    find-insertion_here (is_row_of n) (stands_before row) row rest e none
+    find-insertion_here (is_row_of n) (stands_before row) row rest e (grind (arith, same_name-eq row.name n e))
 found_with true n row rest alone false e = find-insertion_past (is_row_of n) (stands_before row) row rest e
-found_with false n row rest alone true e =
-    let none = subst (λ m. has_row m rest ≡ false) (same_name-eq _ n e) alone in
-    find-append (is_row_of n) rest (row ∷ []) ∙ rw (find_none _ _ none, e) refl
+found_with false n row rest alone true e = grind (arith, same_name-eq row.name n e, find-append, find_none)
 found_with false n row rest alone false e = grind (arith, find-append)
 
 pub other_found : (n name : Name16) (rows : List CacheItem) → same_name name n ≡ false
@@ -55,15 +50,9 @@ pub copy-spared : (n : Name16) (gone : List Name16) (rows : List CacheItem) → 
     → copy_in (rows_spared gone rows) n ≡ copy_in rows n
 copy-spared n gone rows e = ap (λ o. option_and_then row_copy o) (row_of-spared n gone rows e)
 
--- the copy of a row, or of a new one
-or_new_copy : (name : Name16) (stg : ℕ) (o : Option CacheItem) → row_copy (unwrap_or o (new_row name stg)) ≡
-    option_and_then row_copy o
-or_new_copy name stg None = refl
-or_new_copy name stg (Some row) = refl
-
 pub copy-row_or_new : (name : Name16) (stg : ℕ) (rows : List CacheItem) → row_copy (row_or_new name stg rows) ≡
     copy_in rows name
-copy-row_or_new name stg rows = or_new_copy name stg (row_of name rows)
+copy-row_or_new name stg rows = grind arith
 
 reply_of_data : (row : CacheItem) (body : Option (List ℕ)) → reply_copy (read.data_reply row body) ≡ option_map
     (λ b. (b, row.adj)) body
@@ -76,26 +65,15 @@ abbrev pub Each : (Registration → Type 0) → List Registration → Type 0
 Each P [] = Unit {0}
 Each P (reg ∷ regs) = P reg × Each P regs
 
-each_step : (P Q : Registration → Type 0) (q : Registration → Bool) (b : Bool) (reg : Registration)
-    (regs : List Registration) → q reg ≡ b
-    → ((r : Registration) → q r ≡ true → P r → Q r) → P reg → Each Q regs → Each Q (cond b (reg ∷ regs) regs)
-each_step P Q q true reg regs e h p rest = (h reg e p, rest)
-each_step P Q q false reg regs e h p rest = rest
-
 pub each_filter : (P Q : Registration → Type 0) (q : Registration → Bool) → ((r : Registration)
     → q r ≡ true → P r → Q r) → (regs : List Registration) → Each P regs → Each Q (filter q regs)
 each_filter P Q q h [] all = tt
-each_filter P Q q h (reg ∷ regs) all = grind (arith, each_step, each_filter P Q q h regs all.1)
-
-each_place : (P : Registration → Type 0) (b : Bool) (new reg : Registration) (regs zs : List Registration)
-    → P new → P reg → Each P regs → Each P zs → Each P (cond b (reg ∷ zs) (new ∷ reg ∷ regs))
-each_place P true new reg regs zs n p rest ih = (p, ih)
-each_place P false new reg regs zs n p rest ih = (n, (p, rest))
+each_filter P Q q h (reg ∷ regs) all = grind (arith, each_filter P Q q h regs all.1)
 
 pub each_insertion : (P : Registration → Type 0) (first : Registration → Bool)
     (new : Registration) (regs : List Registration) → P new → Each P regs → Each P (insertion first new regs)
 each_insertion P first new [] n all = (n, tt)
-each_insertion P first new (reg ∷ regs) n all = grind (arith, each_place, each_insertion P first new regs n all.1)
+each_insertion P first new (reg ∷ regs) n all = grind (arith, each_insertion P first new regs n all.1)
 
 pub each_weaker : (P Q : Registration → Type 0) → ((r : Registration) → P r → Q r) → (regs : List Registration)
     → Each P regs → Each Q regs
@@ -108,14 +86,11 @@ Fresh rows copies reg = copies reg.conn reg.index ≡ copy_in rows reg.name
 abbrev pub AllFresh : Content → Copies → Type 0
 AllFresh content copies = Each (Fresh content.rows copies) content.regs
 
-turn : (a b : ℕ) → (a == b) ≡ (b == a)
-turn a b = grind (arith, nat_tests)
-
 -- a registration that isn't replaced has another place
 other_place : (by : ConnId) (index : ℕ) (name : Name16) (reg : Registration) (copy : Copy) (copies : Copies)
     → not (is_replaced by index name reg) ≡ true
     → copies_with by index copy copies reg.conn reg.index ≡ copies reg.conn reg.index
-other_place by index name reg copy copies h = grind (arith, or_parts, not-true, turn)
+other_place by index name reg copy copies h = grind (arith, or_parts, not-true, nat_tests)
 
 own_place : (by : ConnId) (index : ℕ) (copy : Copy) (copies : Copies) → copies_with by index copy copies by index ≡
     copy
@@ -194,16 +169,10 @@ delete_fresh : (content : Content) (copies : Copies) (name : Name16) → AllFres
 delete_fresh content copies name all =
     each_filter _ _ _ (λ reg e fresh. fresh ∙ sym (grind (arith, other_found, same_name-sym, not_both))) _ all
 
-released_step : (conn : ConnId) (row : CacheItem) (b : Bool) (x y : Option CacheItem)
-    → option_and_then row_copy x ≡ option_and_then row_copy y → option_and_then
-    row_copy (cond b (Some (without_hold conn row)) x) ≡ option_and_then row_copy (cond b (Some row) y)
-released_step conn row true x y e = refl
-released_step conn row false x y e = e
-
 copy-released : (conn : ConnId) (name : Name16) (rows : List CacheItem) → copy_in (map (without_hold conn) rows)
     name ≡ copy_in rows name
 copy-released conn name [] = refl
-copy-released conn name (row ∷ rows) = grind (arith, released_step, copy-released conn name rows)
+copy-released conn name (row ∷ rows) = grind (arith, copy-released conn name rows)
 
 leave_fresh : (content : Content) (copies : Copies) (conn : ConnId) → AllFresh content copies
     → AllFresh (content_without conn content) copies
@@ -265,21 +234,13 @@ run_fresh vector caps content copies (deed ∷ deeds) is all =
     run_fresh vector caps (after_deed vector caps content deed) (copies_after vector caps content copies deed) deeds
     (content-deed vector caps content deed is) (deed-fresh vector caps content copies deed is.directory all)
 
-fresh_step : (rows : List CacheItem) (copies : Copies) (conn : ConnId) (index : ℕ) (name : Name16)
-    (reg : Registration) (regs : List Registration) (b : Bool) → is_at conn index reg ≡ b
-    → Fresh rows copies reg → (registered_at regs conn index ≡ Some name → copies conn index ≡ copy_in rows name)
-    → option_map (λ (r : Registration). r.name) (cond b (Some reg) (find (is_at conn index) regs)) ≡ Some name
-    → copies conn index ≡ copy_in rows name
-fresh_step rows copies conn index name reg regs true e fresh h k = grind (arith, and_parts, eqb-true)
-fresh_step rows copies conn index name reg regs false e fresh h k = h k
-
 -- where a connector is registered for a name, it has a copy of what the name's row has
 pub fresh-at : (rows : List CacheItem) (copies : Copies) (conn : ConnId) (index : ℕ) (name : Name16)
     (regs : List Registration) → Each (Fresh rows copies) regs
     → registered_at regs conn index ≡ Some name → copies conn index ≡ copy_in rows name
 fresh-at rows copies conn index name [] all h = absurd (cc)
 fresh-at rows copies conn index name (reg ∷ regs) all h =
-    grind (arith, fresh_step, fresh-at rows copies conn index name regs all.1)
+    grind (arith, and_parts, eqb-true, fresh-at rows copies conn index name regs all.1)
 
 -- A valid bit: after every run from the empty content, what a connector has a copy of at an index where it is
 -- registered for a name is what the name's row has

@@ -1,6 +1,5 @@
 -- The laws of the engine's meaning.
-use Rattle.cache_model.proofs.Imports.{◌≡◌, ◌+◌, ◌-◌, ◌≤◌, Bool, IsTrue, true, false, not, ◌&&◌, List, [], ◌∷◌, ◌++◌, append-nil, append_assoc, Option, None, Some, length, length-append, filter, take, drop, slice_get, fold, ◌⊎◌, ⊎_elim, refl, sym, ap, ◌∙◌, arith, list_all, and_parts, or_from, or_left, or_cases, not-true, false≢true, same_name, Name16, filter_all, list_all_weaker, list_all_both, list_all-filter, list_all-filter_same, split_next, length-map, take_all, take_at, take-append-drop, drop_all, slice_get_cases, list_all-append, list_any-append, sum_by-append, is_cache, Caps, Kind, ConnId, Shape, Fits, IsNoMore, IsNoMoreOf, FrontLaws, fronts, pairwise, pairwise_front, Registration, regs_for_others, same_name-eq, same_name-sym, registry-filter, CacheItem, has_row, names_apart, Content, IsContent, no_content, content_without, content_forgotten, content_with, content_without_last, regs_without_row, need_of, cache_meaning}
-use Rattle.cf_types.specs.declared.forms.Kind.TheVariants as kind
+use Rattle.cache_model.proofs.Imports.{◌≡◌, ◌+◌, ◌-◌, Bool, IsTrue, true, false, not, ◌&&◌, List, [], ◌∷◌, ◌++◌, append-nil, append_assoc, Option, None, Some, length, length-append, filter, take, drop, slice_get, fold, ⊎_elim, refl, sym, ap, ◌∙◌, arith, list_all, and_parts, or_from, or_left, or_cases, not-true, false≢true, same_name, Name16, filter_all, list_all_weaker, list_all_both, list_all-filter, list_all-filter_same, split_next, length-map, take_all, take_at, take-append-drop, drop_all, slice_get_cases, list_all-append, list_any-append, sum_by-append, is_cache, Caps, Kind, ConnId, Shape, Fits, IsNoMore, IsNoMoreOf, FrontLaws, fronts, pairwise, pairwise_front, Registration, regs_for_others, same_name-eq, same_name-sym, registry-filter, CacheItem, has_row, names_apart, Content, IsContent, no_content, content_without, content_forgotten, content_with, content_without_last, regs_without_row, need_of, cache_meaning}
 use Rattle.cache_model.proofs.RowLaws.{size, elements-without_hold}
 use Rattle.cache_model.proofs.ContentLaws as laws
 
@@ -24,25 +23,13 @@ made-items rows = made-from no_content rows
 pub need-front : (items others : List CacheItem) → IsNoMore (need_of items) (need_of (items ++ others))
 need-front items others = (omega (arith, length-append items others), omega (arith, sum_by-append size items others))
 
-no_more_of : (kind : Kind) (need other : Caps) → IsNoMore need other → IsNoMoreOf kind need other
-no_more_of kind.Cache need other h = h
-no_more_of (kind.List headers locks refs) need other h = h
-no_more_of kind.Lock need other h = h.1
-
 pub need-leave : (kind : Kind) (content : Content) (conn : ConnId)
     → IsNoMoreOf kind (need_of (content_without conn content).rows) (need_of content.rows)
-need-leave kind content conn = grind (arith, no_more_of, length-map, elements-without_hold)
-
--- a content whose rows fit another capacity is one there, without its registrations
-fits_both : (kind : Kind) (need caps : Caps) → IsTrue (is_cache kind) → Fits kind need caps
-    → (need.entries ≤ caps.entries) × (need.elements ≤ caps.elements)
-fits_both kind.Cache need caps is fits = fits
-fits_both (kind.List headers locks refs) need caps is fits = absurd cc
-fits_both kind.Lock need caps is fits = absurd cc
+need-leave kind content conn = grind (arith, length-map, elements-without_hold)
 
 pub content-moved : (shape : Shape) (caps other : Caps) (content : Content) → IsTrue (is_cache shape.kind) → IsContent
     caps content → Fits shape.kind (need_of content.rows) other → IsContent other (content_forgotten content)
-content-moved shape caps other content kind is fits = grind (arith, fits_both)
+content-moved shape caps other content kind is fits = grind arith
 
 -- ---- a front of the rows
 

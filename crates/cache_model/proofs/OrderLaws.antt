@@ -1,9 +1,9 @@
 -- Whatever is done to a content at whatever capacity, its rows and registrations stay in order.
-use Rattle.cache_model.proofs.Imports.{◌≡◌, ℕ, false, not, ◌&&◌, ◌||◌, List, Option, Some, None, is_none, refl, arith, Caps, Name16, ConnId, Refusal, CacheCmd, Read, Write, same_name, unless_refused, list_all-filter, all_found, regs_with, ends_with_name, registry-with, registry-filter, row_of, has_row, row_or_new, Content, IsContent, IsOrderly, need_of, is_changed_row, cause, done, Deed, after_deed, Calls, Leaves, Forgets}
+use Rattle.cache_model.proofs.Imports.{◌≡◌, ℕ, false, not, ◌&&◌, ◌||◌, List, Option, Some, None, is_none, refl, arith, Caps, Name16, ConnId, Refusal, CacheCmd, Read, Write, same_name, unless_refused, list_all-filter, all_found, regs_with, ends_with_name, registry-with, registry-filter, row_of, has_row, row_or_new, Content, IsContent, IsOrderly, need_of, is_changed_row, cause, done, Deed, after_deed, Calls, Leaves, Forgets, none_hold}
 use Rattle.cache_model.specs.Commands.Read as read
 use Rattle.cache_model.specs.Commands.Write as write
 use Rattle.cache_model.proofs.RowLaws.{name-row_or_new, sound-row_or_new}
-use Rattle.cache_model.proofs.ContentLaws.{orderly_used, orderly-content, each_registered, write_sound, none_hold, unless_true, content-done, content-without, content-forgotten}
+use Rattle.cache_model.proofs.ContentLaws.{orderly_used, orderly-content, each_registered, write_sound, unless_true, content-done, content-without, content-forgotten}
 
 -- a content in order is one at the capacity that it needs itself
 alone : (content : Content) → IsOrderly content → IsContent (need_of content.rows) content

@@ -1,5 +1,5 @@
 -- The rows that are reclaimed, and what room they leave.
-use Rattle.cache_model.proofs.Imports.{arith, ◌≡◌, ℕ, ◌+◌, Bool, true, false, not, ◌&&◌, cond, List, Some, None, length, filter, nat_le, sym, ◌∙◌, subst, list_all, and_parts, and_from, list_all-append, Caps, Name16, DirectoryFull, same_name, pairwise, shortest_prefix, list_any-map, list_all-filter, list_all_weaker, list_all-filter_same, none_from_all, any_is_found, filter-filter, pairwise-filter, pairwise_split, list_all-shortest_prefix, pairwise-shortest_prefix, shortest_prefix-enough, AllFound, found_filter, found_append, found_prefix, sum_by_spared, length_spared, find-spared, apart_sym, same_name-eq, same_name-refl, CacheItem, Request, is_row_of, is_changed, has_storage, elements_in, row_of, has_row, names_apart, IsDirectory, is_among, rows_spared, is_reclaimable, reclaim_order, has_room, victims, elements_refusal, room_refusal}
+use Rattle.cache_model.proofs.Imports.{arith, ◌≡◌, ◌+◌, Bool, true, false, not, List, None, length, filter, sym, ◌∙◌, subst, list_all, and_parts, and_from, list_all-append, Caps, Name16, same_name, pairwise, shortest_prefix, list_any-map, list_all-filter, list_all_weaker, list_all-filter_same, none_from_all, any_is_found, filter-filter, pairwise-filter, pairwise_split, list_all-shortest_prefix, pairwise-shortest_prefix, shortest_prefix-enough, AllFound, found_filter, found_append, found_prefix, sum_by_spared, length_spared, find-spared, apart_sym, same_name-eq, same_name-refl, CacheItem, Request, is_row_of, is_changed, has_storage, elements_in, row_of, has_row, names_apart, IsDirectory, is_among, rows_spared, is_reclaimable, reclaim_order, has_room, victims, room_refusal}
 use Rattle.cache_model.proofs.RowLaws.{name_of, size}
 
 -- the rows that go
@@ -84,12 +84,7 @@ has_row-spared name names rows h = grind (arith, any_is_found, row_of-spared)
 
 -- ---- room
 
-room_step : (place : Bool) (need free entries : ℕ)
-    → cond place (elements_refusal need free) (Some (DirectoryFull entries)) ≡ None → place && nat_le need free ≡ true
-room_step true need free entries h = grind arith
-room_step false need free entries h = absurd (cc)
-
 -- where there is no want of room, the rows that go leave room
 pub room_left : (caps : Caps) (request : Request) (rows : List CacheItem) → room_refusal caps request rows ≡ None
     → has_room caps request rows (gone caps request rows) ≡ true
-room_left caps request rows h = grind (arith, shortest_prefix-enough, room_step)
+room_left caps request rows h = grind (arith, shortest_prefix-enough)

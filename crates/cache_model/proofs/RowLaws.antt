@@ -1,5 +1,5 @@
 -- A directory stays one when a row takes the place of the row of its name.
-use Rattle.cache_model.proofs.Imports.{◌≡◌, ℕ, ◌+◌, ◌≤◌, Bool, true, false, not, ◌&&◌, ◌||◌, cond, List, [], ◌∷◌, ◌++◌, Option, Some, None, is_some, is_none, unwrap_or, length, length-append, filter, map, refl, sym, ap, ◌∙◌, subst, arith, list_all, and_parts, and_from, or_left, not-true, false≢true, list_all-append, list_any-append, list_all-map, fold-map, sum_by_push, any-filter_same, Name16, ConnId, same_name, pairwise, insertion, list_all-filter, list_all_weaker, list_all_always, list_all-filter_same, none_filtered, all_from_none, filter_all, all_found, found_passes, list_all-insertion, list_any-insertion, length-insertion, sum_by-insertion, FindsPlace, pairwise-filter, pairwise_push, pairwise-insertion, pairwise-insertion_any, pairwise-map, sum_by_without, length_without, same_name-eq, same_name-refl, same_name-sym, name_before-trans, name_before-else, CacheItem, is_row_of, is_changed, elements_of, elements_in, row_of, has_row, rows_without, rows_with, rows_replaced, new_row, row_or_new, may_precede, names_apart, is_sound, IsDirectory, without_hold}
+use Rattle.cache_model.proofs.Imports.{◌≡◌, ℕ, ◌+◌, ◌≤◌, Bool, true, false, not, ◌&&◌, ◌||◌, cond, List, [], ◌∷◌, ◌++◌, Option, Some, None, unwrap_or, length, length-append, filter, map, refl, sym, ap, ◌∙◌, subst, arith, list_all, and_parts, and_from, or_left, not-true, false≢true, list_all-append, list_any-append, list_all-map, fold-map, sum_by_push, any-filter_same, Name16, ConnId, same_name, pairwise, insertion, list_all-filter, list_all_weaker, list_all_always, list_all-filter_same, none_filtered, all_from_none, filter_all, all_found, found_passes, list_all-insertion, list_any-insertion, length-insertion, sum_by-insertion, FindsPlace, pairwise-filter, pairwise_push, pairwise-insertion, pairwise-insertion_any, pairwise-map, sum_by_without, length_without, same_name-eq, same_name-refl, same_name-sym, name_before-trans, name_before-else, CacheItem, is_row_of, is_changed, elements_of, elements_in, row_of, has_row, rows_without, rows_with, rows_replaced, new_row, row_or_new, may_precede, names_apart, is_sound, IsDirectory, without_hold}
 use Rattle.cache_model.specs.Rows.{stands_before}
 
 abbrev pub name_of : CacheItem → Name16
@@ -10,24 +10,6 @@ size row = elements_of row.body
 
 -- ---- the order
 
-front_test : (a b n : Bool) → b ≡ true → a && n ≡ true → cond a (cond b n true) (not b) ≡ true
-front_test true true n e h = h
-front_test a false n e h = absurd (false≢true e)
-front_test false true n e h = h
-
-stop_test : (a b n m : Bool) → a ≡ true → b && n ≡ false → (n ≡ false → m ≡ true) → cond a (cond b m true) (not b) ≡
-    true
-stop_test true true n m e h f = f h
-stop_test true false n m e h f = refl
-stop_test false b n m e h f = absurd (false≢true e)
-
-follows_test : (a b c n m k : Bool) → a ≡ true → (n ≡ true → m ≡ true → k ≡ true) → cond a
-    (cond b n true) (not b) ≡ true → cond b (cond c m true) (not c) ≡ true → cond a (cond c k true) (not c) ≡ true
-follows_test true true true n m k e f h g = f h g
-follows_test true false true n m k e f h g = absurd (false≢true g)
-follows_test true b false n m k e f h g = refl
-follows_test false b c n m k e f h g = absurd (false≢true e)
-
 last_test : (a b n : Bool) → a ≡ false → cond b (cond a n true) (not a) ≡ true
 last_test true b n e = absurd (false≢true (sym e))
 last_test false true n e = refl
@@ -35,7 +17,7 @@ last_test false false n e = refl
 
 finds_place : (row : CacheItem) → is_changed row ≡ true
     → FindsPlace may_precede (stands_before row) (λ other. not (same_name other.name row.name)) row
-finds_place row c = grind (arith, front_test, stop_test, name_before-else, not-true, follows_test, name_before-trans)
+finds_place row c = grind (arith, false≢true, name_before-else, not-true, name_before-trans)
 
 -- no row of the name is among the others
 others_apart : (name : Name16) (rows : List CacheItem) → list_all (λ other. not (same_name other.name name))
@@ -152,14 +134,9 @@ or_new_name name stg (Some row) h = h row refl
 pub name-row_or_new : (name : Name16) (stg : ℕ) (rows : List CacheItem) → (row_or_new name stg rows).name ≡ name
 name-row_or_new name stg rows = grind (arith, or_new_name, same_name-eq, found_passes)
 
-or_new_sound : (name : Name16) (stg : ℕ) (o : Option CacheItem)
-    → ((row : CacheItem) → o ≡ Some row → is_sound row ≡ true) → is_sound (unwrap_or o (new_row name stg)) ≡ true
-or_new_sound name stg None h = refl
-or_new_sound name stg (Some row) h = h row refl
-
 pub sound-row_or_new : (name : Name16) (stg : ℕ) (rows : List CacheItem) → IsDirectory rows
     → is_sound (row_or_new name stg rows) ≡ true
-sound-row_or_new name stg rows is = grind (arith, or_new_sound, all_found)
+sound-row_or_new name stg rows is = grind (arith, all_found)
 
 pub or_new_size : (name : Name16) (stg rest all : ℕ) (o : Option CacheItem) → rest ≤ all → ((row : CacheItem) →
     o ≡ Some row → rest + elements_of row.body ≡ all) → elements_of (unwrap_or o (new_row name stg)).body + rest ≤ all
@@ -168,14 +145,9 @@ or_new_size name stg rest all (Some row) le h = omega (arith, h row refl)
 
 -- ---- a connector lets go
 
-hold_sound : (conn : ConnId) (row : CacheItem) (b : Bool) (c : Bool) → (is_none row.holder || c) &&
-    (not c || is_some row.body) ≡ true → (is_none (cond b None row.holder) || c) && (not c || is_some row.body) ≡ true
-hold_sound conn row true c h = grind (arith, and_parts)
-hold_sound conn row false c h = h
-
 pub directory-without_hold : (conn : ConnId) (rows : List CacheItem) → IsDirectory rows
     → IsDirectory (map (without_hold conn) rows)
-directory-without_hold conn rows is = grind (arith, pairwise-map, list_all-map, list_all_weaker, hold_sound)
+directory-without_hold conn rows is = grind (arith, pairwise-map, list_all-map, list_all_weaker, and_parts)
 
 pub has_row-without_hold : (conn : ConnId) (name : Name16) (rows : List CacheItem)
     → has_row name (map (without_hold conn) rows) ≡ has_row name rows

@@ -1,16 +1,15 @@
 -- A row that was written as changed stays, changed and with the data that were written, until it is cast out or
 -- deleted.
-use Rattle.cache_model.proofs.Imports.{arith, ◌≡◌, ℕ, Bool, true, false, not, ◌&&◌, ◌||◌, cond, List, [], ◌∷◌, Option, Some, None, is_some, is_none, unwrap_or, option_map, map, refl, sym, ap, ◌∙◌, subst, list_any, list_all, and_parts, not-true, false≢true, Caps, Name16, ConnId, Refusal, CacheCmd, Read, Write, Castout, Unlock, Delete, same_name, unless_refused, first_refusal, list_any-map, same_name-eq, CacheItem, Holder, Request, is_row_of, is_changed, is_held_by, row_of, rows_without, rows_replaced, new_row, row_or_new, IsDirectory, Content, IsContent, no_content, without_hold, is_among, rows_spared, victims, entry_refusal, not_held_refusal, is_changed_row, cause, done, after, Deed, after_deed, after_run, Calls, Leaves, Forgets, Uncast, Uncasts, uncast_with, uncast_written, uncast_cast, uncast_unlocked, uncast_done, uncast_unless, uncast_after, uncast_run, is_settled, HasWritten, Kept}
+use Rattle.cache_model.proofs.Imports.{arith, ◌≡◌, ℕ, Bool, true, false, not, ◌&&◌, ◌||◌, cond, List, [], ◌∷◌, Option, Some, None, is_some, is_none, unwrap_or, option_map, map, refl, sym, ap, ◌∙◌, subst, list_any, list_all, and_parts, not-true, false≢true, Caps, Name16, ConnId, Refusal, CacheCmd, Read, Write, Castout, Unlock, Delete, same_name, unless_refused, first_refusal, list_any-map, same_name-eq, CacheItem, Holder, Request, is_row_of, is_changed, row_of, rows_without, rows_replaced, new_row, row_or_new, IsDirectory, Content, IsContent, no_content, without_hold, is_among, rows_spared, victims, entry_refusal, not_held_refusal, is_changed_row, cause, done, after, Deed, after_deed, after_run, Calls, Leaves, Forgets, Uncast, Uncasts, uncast_with, uncast_written, uncast_cast, uncast_unlocked, uncast_done, uncast_unless, uncast_after, uncast_run, is_settled, HasWritten, Kept, none_hold, unless_false}
 use Rattle.cache_model.specs.Commands.Read as read
 use Rattle.cache_model.specs.Commands.Write as write
 use Rattle.cache_model.specs.Commands.Castout as castout
 use Rattle.cache_model.specs.Commands.Unlock as unlock
-use Rattle.cache_model.specs.Step.{victims as victims_of}
-use Rattle.cache_model.proofs.RowLaws.{name_of, name-row_or_new}
-use Rattle.cache_model.proofs.RoomLaws.{gone, goes, OnesFound, row_of-spared}
-use Rattle.cache_model.proofs.ContentLaws.{none_hold, unless_true, unless_false}
-use Rattle.cache_model.proofs.EngineLaws.{content-nothing}
+use Rattle.cache_model.proofs.ContentLaws.{unless_true}
 use Rattle.cache_model.proofs.CopyLaws.{other_found, row_of-replaced, content-deed}
+use Rattle.cache_model.proofs.RoomLaws.{gone, goes, OnesFound, row_of-spared}
+use Rattle.cache_model.proofs.{RowLaws.name_of, RowLaws.name-row_or_new, EngineLaws.content-nothing}
+use Rattle.cache_model.specs.Step.{victims as victims_of}
 
 -- ---- rows that are reclaimed
 
@@ -109,19 +108,12 @@ castout_kept by name o None kept = tt
 castout_kept by name None (Some uncast) kept = absurd kept
 castout_kept by name (Some row) (Some uncast) kept = grind arith
 
-unlocked_step : (row : CacheItem) (uncast : Uncast) (holder : Option Holder) (by : ConnId) (cast : Bool)
-    → row.holder ≡ holder → uncast.cast ≡ cast → is_held_by by holder ≡ true
-    → HasWritten row uncast → Kept (Some (unlock.row_without_hold row)) (cond cast None (Some uncast))
-unlocked_step row uncast holder by true e c held has = tt
-unlocked_step row uncast None by false e c held has = absurd (false≢true held)
-unlocked_step row uncast (Some holder) by false e c held has = grind (arith, false≢true)
-
 unlock_kept : (by : ConnId) (name : Name16) (o : Option CacheItem) (p : Option Uncast)
     → first_refusal (entry_refusal o ∷ not_held_refusal by o ∷ []) ≡ None → Kept o p
     → Kept (Some (unlock.row_without_hold (unwrap_or o (new_row name 1)))) (uncast_unlocked p)
 unlock_kept by name o None h kept = tt
 unlock_kept by name None (Some uncast) h kept = absurd kept
-unlock_kept by name (Some row) (Some uncast) h kept = grind (arith, none_hold, unlocked_step, unless_false)
+unlock_kept by name (Some row) (Some uncast) h kept = grind (arith, none_hold, false≢true, unless_false)
 
 delete_step : (n name : Name16) (rows : List CacheItem) (old : Option Uncast) (s : Bool) → same_name name n ≡ s
     → Kept (row_of n rows) old → Kept (row_of n (rows_without name rows)) (cond s None old)
@@ -134,16 +126,10 @@ released_kept conn o None kept = tt
 released_kept conn None (Some uncast) kept = absurd kept
 released_kept conn (Some row) (Some uncast) kept = grind arith
 
-row_of-released_step : (conn : ConnId) (row : CacheItem) (b : Bool) (x y : Option CacheItem)
-    → x ≡ option_map (without_hold conn) y
-    → cond b (Some (without_hold conn row)) x ≡ option_map (without_hold conn) (cond b (Some row) y)
-row_of-released_step conn row true x y e = refl
-row_of-released_step conn row false x y e = e
-
-row_of-released : (conn : ConnId) (n : Name16) (rows : List CacheItem) → row_of n (map (without_hold conn) rows) ≡
+pub row_of-released : (conn : ConnId) (n : Name16) (rows : List CacheItem) → row_of n (map (without_hold conn) rows) ≡
     option_map (without_hold conn) (row_of n rows)
 row_of-released conn n [] = refl
-row_of-released conn n (row ∷ rows) = grind (arith, row_of-released_step, row_of-released conn n rows)
+row_of-released conn n (row ∷ rows) = grind (arith, row_of-released conn n rows)
 
 after_kept : (vector : ℕ) (caps : Caps) (content : Content) (uncast : Uncasts) (by : ConnId) (cmd : CacheCmd)
     → IsDirectory content.rows → cause vector caps content by cmd ≡ None → AllKept content uncast

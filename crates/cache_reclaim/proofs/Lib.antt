@@ -1,5 +1,4 @@
 pub mod Imports
-pub mod NameKeys
 pub mod LastUseLaws
 pub mod MapLaws
 pub mod SlotLaws

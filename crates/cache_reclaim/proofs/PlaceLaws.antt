@@ -1,5 +1,5 @@
 -- Places in one list behind another, and names that are listed one after another.
-use Rattle.cache_reclaim.proofs.Imports.{◌≡◌, ℕ, zero, suc, ◌-◌, ◌≤◌, List, [], ◌∷◌, ◌++◌, Option, Some, None, option_map, slice_get, length, reverse, append_assoc, append-nil, ap, ◌∙◌, arith, reverse-append, Name16, Used, names_in, used_in, name_in}
+use Rattle.cache_reclaim.proofs.Imports.{◌≡◌, ℕ, zero, suc, ◌-◌, ◌≤◌, List, [], ◌∷◌, ◌++◌, Option, Some, None, option_map, slice_get, length, reverse, append_assoc, append-nil, ap, arith, reverse-append, Name16, Used, names_in, used_in, name_in}
 
 pub get_front : {X : Type 0} (xs ys : List X) (k : ℕ) (x : X) → slice_get xs k ≡ Some x
     → slice_get (xs ++ ys) k ≡ Some x

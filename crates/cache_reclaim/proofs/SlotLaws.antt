@@ -1,7 +1,6 @@
 -- A slot that is written, and one that is freed.
-use Rattle.cache_reclaim.proofs.Imports.{◌≡◌, ◌≢◌, ℕ, suc, ◌-◌, ◌<◌, Bool, true, false, not, nat_eq, cond, List, [], ◌∷◌, ◌++◌, reverse, length, filter, get_or, Option, Some, None, IsSome, Result, Ok, Err, OnOk, IsOk, is_some, refl, sym, ap, ◌∙◌, subst, arith, IsDistinct, cons_option, filter_map, keys_of, lookup, lookup_entry, remove_entry, nat_eq_equiv, false≢true, eqb-true, eq-eqb, reverse-append, length-append, length-reverse, take_all, filter_map-append, filter-append, NonePasses, lookup-remove_entry, lookup-none, none_past_head, lookup_from_place, slice_get-get_or, LruCache, lru_cache, put_entries, last_entry, AllocFailed, list_any-IsPermutation, IsPermutation-reverse, Used, Name16, same_name, order_without, order_touched, has_name, is_in_part, used_in, part_of, by_name, IsFree, EndsFree, ends_free, IsTied, IsSlotOf, WritesName}
+use Rattle.cache_reclaim.proofs.Imports.{◌≡◌, ◌≢◌, ℕ, suc, ◌-◌, ◌<◌, Bool, true, false, not, nat_eq, cond, List, [], ◌∷◌, ◌++◌, reverse, length, filter, get_or, Option, Some, None, IsSome, Result, Ok, Err, OnOk, IsOk, is_some, refl, sym, ap, ◌∙◌, subst, arith, IsDistinct, cons_option, filter_map, keys_of, lookup, lookup_entry, remove_entry, nat_eq_equiv, false≢true, eqb-true, eq-eqb, reverse-append, length-append, length-reverse, take_all, filter_map-append, filter-append, NonePasses, lookup-remove_entry, lookup-none, none_past_head, lookup_from_place, slice_get-get_or, LruCache, lru_cache, put_entries, last_entry, AllocFailed, list_any-IsPermutation, IsPermutation-reverse, Used, Name16, same_name, order_without, order_touched, has_name, is_in_part, used_in, part_of, by_name, IsFree, EndsFree, ends_free, IsTied, IsSlotOf, WritesName, same_name-eq, same_name-from, same_name-sym, same_name-ne, both_implied}
 use Rattle.std.proofs.lemmas.List.{append_assoc, append-nil}
-use Rattle.cache_reclaim.proofs.NameKeys.{same_name-eq, same_name-from, same_name-sym, same_name-ne}
 
 -- ---- a slot that is there
 
@@ -92,15 +91,10 @@ reads_back es k w u q = grind (arith, push_reads, or_last, removed_reads)
 
 -- ---- names and slots
 
-same_bool : (a b : Bool) → (a ≡ true → b ≡ true) → (b ≡ true → a ≡ true) → a ≡ b
-same_bool true b f g = sym (f refl)
-same_bool false true f g = g refl
-same_bool false false f g = refl
-
 module _ (es : List (ℕ × Option Used)) (ns : List (List ℕ × ℕ)) (cap : ℕ) (tied : IsTied es ns cap) (name : Name16)
     (k : ℕ) where
   pub slot_named : lookup (by_name name) ns ≡ Some k → IsSlotOf es name k
-  slot_named there j u h = grind (arith, same_bool, same_name-eq, eq-eqb, eqb-true, same_name-from)
+  slot_named there j u h = grind (arith, both_implied, same_name-eq, eq-eqb, eqb-true, same_name-from)
 
   pub slot_there : lookup (by_name name) ns ≡ Some k → IsSome (lookup (nat_eq k) es)
   slot_there there = ap is_some (tied.slotted name k there).1

@@ -1,11 +1,7 @@
 -- Two maps that agree, with one registration less or more.
-use Rattle.cache_regs.proofs.Imports.{arith, ◌≡◌, ℕ, Bool, true, false, not, ◌&&◌, cond, List, [], ◌∷◌, Option, Some, None, is_some, option_map, IfSome, find, refl, sym, ap, ◌∙◌, subst, list_any, list_all, IsDistinct, keys_of, lookup, and_parts, false≢true, Name16, ConnId, insertion, pairwise, find-insertion_past, find-insertion_here, all_from_none, all_found, any_is_found, found_passes, pairwise-insertion, Registration, is_at, is_for, index_for, stands, stands_before, place_eq, named_eq, at_place, at_name, regs_in, WritesPlace, WritesName, IsAgreed, IsAloneFor}
+use Rattle.cache_regs.proofs.Imports.{arith, ◌≡◌, ℕ, Bool, true, false, not, cond, List, [], ◌∷◌, Option, Some, None, is_some, option_map, IfSome, find, refl, sym, ap, ◌∙◌, subst, list_any, list_all, IsDistinct, keys_of, lookup, and_parts, false≢true, Name16, ConnId, insertion, pairwise, find-insertion_past, find-insertion_here, all_from_none, all_found, any_is_found, found_passes, pairwise-insertion, Registration, is_at, is_for, index_for, stands, stands_before, place_eq, named_eq, at_place, at_name, regs_in, WritesPlace, WritesName, IsAgreed, IsAloneFor, both_implied}
 use Rattle.cache_regs.proofs.RegLaws.{finds_place, places_apart}
 use Rattle.cache_regs.proofs.MapLaws.{place_laws, named_laws, same_place, same_named, registration, same_regs, find_in, ordered_in, none_found, same_filter}
-
-kept : {X : Type 0} (b : Bool) (o : Option X) (x : X) → cond b None o ≡ Some x → (b ≡ false) × (o ≡ Some x)
-kept true o x h = absurd (cc)
-kept false o x h = (refl, h)
 
 -- keys of which the parts are the same
 places_same : (c d : ConnId) (i j : ℕ) → place_eq (c.0, i) (d.0, j) ≡ false → c.0 ≡ d.0 → i ≡ j → ⊥
@@ -23,7 +19,7 @@ module _ (places after : List ((ℕ × ℕ) × Name16)) (names later : List ((�
   -- a registration goes from both
   pub removed_agreed : at_place places c i ≡ Some n → WritesPlace places c i None after
       → WritesName names c n None later → IsAgreed after later
-  removed_agreed there first second = grind (arith, kept, name_stays, place_stays)
+  removed_agreed there first second = grind (arith, name_stays, place_stays)
     where
       name_stays : (b : Bool) (d : ConnId) (j : ℕ) (m : Name16) → place_eq (c.0, i) (d.0, j) ≡ false → at_place
           places d j ≡ Some m → named_eq (c.0, n.0) (d.0, m.0) ≡ b → cond b None (at_name names d m) ≡ Some j
@@ -85,12 +81,6 @@ module _ (places after : List ((ℕ × ℕ) × Name16)) (names later : List ((�
 
 -- ---- by name
 
-find_self_step : (b : Bool) (x reg : Registration) (xs : List Registration) → stands_before x reg ≡ true
-    → is_at reg.conn reg.index x ≡ b
-    → find (is_at reg.conn reg.index) xs ≡ Some reg → cond b (Some x) (find (is_at reg.conn reg.index) xs) ≡ Some reg
-find_self_step true x reg xs h e ih = grind (arith, false≢true, places_apart)
-find_self_step false x reg xs h e ih = ih
-
 -- what is found is what is at its own place
 find_self : (p : Registration → Bool) (xs : List Registration) (reg : Registration) → pairwise stands_before xs ≡ true
     → find p xs ≡ Some reg → find (is_at reg.conn reg.index) xs ≡ Some reg
@@ -103,18 +93,13 @@ find_self p (x ∷ xs) reg h f =
         b (Some x) (find p xs) ≡ Some reg → (find p xs ≡ Some reg → find (is_at reg.conn reg.index) xs ≡ Some reg)
         → cond (is_at reg.conn reg.index x) (Some x) (find (is_at reg.conn reg.index) xs) ≡ Some reg
     go true all rest e ih = grind arith
-    go false all rest e ih = grind (arith, find_self_step, all_found)
-
-same_bool : (a b : Bool) → (a ≡ true → b ≡ true) → (b ≡ true → a ≡ true) → a ≡ b
-same_bool true b f g = sym (f refl)
-same_bool false true f g = g refl
-same_bool false false f g = refl
+    go false all rest e ih = grind (arith, false≢true, places_apart, all_found)
 
 module _ (places : List ((ℕ × ℕ) × Name16)) (names : List ((ℕ × List ℕ) × ℕ)) (agreed : IsAgreed places names) where
   -- what a connector has for a name is what it has at that index
   at_or_for : (c : ConnId) (n : Name16) (i : ℕ) → at_name names c n ≡ Some i → (d : ConnId) (j : ℕ) (m : Name16)
       → at_place places d j ≡ Some m → is_at c i (registration d j m) ≡ is_for c n (registration d j m)
-  at_or_for c n i there d j m h = same_bool _ _ (λ e. (let same = same_place _ _ e in
+  at_or_for c n i there d j m h = both_implied _ _ (λ e. (let same = same_place _ _ e in
       let one : Some m ≡ Some n = sym h ∙ ap (λ k. lookup (place_eq k) places) same ∙ agreed.placed c n i there in
       let name : m ≡ n = cc in
       ap (λ k. named_eq (k, m.0) (c.0, n.0)) (ap (λ (k : ℕ × ℕ). k.0) same) ∙ ap (λ (k : Name16). named_eq (c.0, k.0)
@@ -175,9 +160,5 @@ module _ (places : List ((ℕ × ℕ) × Name16)) (names : List ((ℕ × List �
           none_is_some : None ≡ Some i → ⊥
           none_is_some h = absurd (cc)
 
-  some_index : (o : Option Registration) → is_some (option_map (λ reg. reg.index) o) ≡ is_some o
-  some_index None = refl
-  some_index (Some reg) = refl
-
   pub named_law : (c : ConnId) (n : Name16) → is_some (at_name names c n) ≡ list_any (is_for c n) (regs_in places)
-  named_law c n = grind (arith, index_law, some_index, any_is_found)
+  named_law c n = grind (arith, index_law, any_is_found)

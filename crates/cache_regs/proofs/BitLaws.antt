@@ -3,13 +3,10 @@ use Rattle.cache_regs.proofs.Imports.{◌≡◌, ℕ, Bool, true, false, not, �
 
 -- ---- one registration goes or comes
 
-same_test : (a b c d x y : ℕ) → (a == c) && (b == d) ≡ true → not ((a == x) && (b == y)) ≡ not ((x == c) && (y == d))
-same_test a b c d x y e = grind (arith, nat_tests)
-
 -- without what stood at an index
 stands_elsewhere : (regs : List Registration) (by conn : ConnId) (index i : ℕ) → stands (filter
     (λ reg. not (is_at by index reg)) regs) conn i ≡ (not ((by.0 == conn.0) && (index == i)) && stands regs conn i)
-stands_elsewhere regs by conn index i = grind (arith, any-filter_same, same_test)
+stands_elsewhere regs by conn index i = grind (arith, any-filter_same, nat_tests)
 
 stands_with : (new : Registration) (regs : List Registration) (conn : ConnId) (i : ℕ)
     → stands (with_reg new regs) conn i ≡ ((new.conn.0 == conn.0) && (new.index == i))
@@ -37,16 +34,9 @@ pub gains_taken : (conn : ConnId) (index : ℕ) (regs after : List Registration)
 gains_taken conn index regs after told later is stood put =
     grind (arith, stands_elsewhere, self, gains_one, false≢true)
 
--- where the bit stood, nothing changes
-same_pair : (new : Registration) (regs : List Registration) (conn : ConnId) (i : ℕ) (b : Bool)
-    → (new.conn.0 == conn.0) && (new.index == i) ≡ b
-    → stands regs new.conn new.index ≡ true → stands (with_reg new regs) conn i ≡ stands regs conn i
-same_pair new regs conn i true e stood = grind (arith, and_parts, eqb-true, stands_with)
-same_pair new regs conn i false e stood = stands_with-other new regs conn i e
-
 pub gains_stood : (new : Registration) (regs : List Registration) (bits : List BitChange)
     → stands regs new.conn new.index ≡ true → Gains (stands regs) (stands (with_reg new regs)) bits bits
-gains_stood new regs bits stood = grind (arith, gains_none, same_pair)
+gains_stood new regs bits stood = grind (arith, gains_none, and_parts, eqb-true, stands_with, stands_with-other)
 
 -- a registration comes in the place of what stood at its index
 pub gains_set : (new : Registration) (regs after : List Registration) (told later : List BitChange)
@@ -55,11 +45,6 @@ gains_set new regs after told later put is =
     grind (arith, append-nil, gains_stood, stands_with-here, gains_one, false≢true, stands_with-other)
 
 -- ---- a connector's registration for the name at another index ends, and it is registered at the index
-
-spared : (f b : Bool) → b ≡ true → not (f && not b) ≡ true
-spared true true e = refl
-spared false b e = refl
-spared true false e = absurd (false≢true e)
 
 pub gains_with : (new : Registration) (regs : List Registration) (xs ys zs : List BitChange)
     → let middle = filter (λ reg. not (is_for new.conn new.name reg && not (reg.index == new.index))) regs in
@@ -72,8 +57,8 @@ gains_with new regs xs ys zs first second = grind (arith, gains_then, once)
         conn i ≡ stands regs conn i) ⊎ (stands
         (with_reg new (filter (λ reg. not (is_for new.conn new.name reg && not (reg.index == new.index))) regs)) conn
         i ≡ stands (filter (λ reg. not (is_for new.conn new.name reg && not (reg.index == new.index))) regs) conn i)
-    once conn i true e = inl (any-filter_same (is_at conn i) (λ reg. not (is_for new.conn
-        new.name reg && not (reg.index == new.index))) true (grind (arith, eqb-true, and_parts, spared, eq-eqb)) regs)
+    once conn i true e = inl (any-filter_same (is_at conn i) (λ reg. not (is_for new.conn new.name
+        reg && not (reg.index == new.index))) true (grind (arith, eqb-true, and_parts, false≢true, eq-eqb)) regs)
     once conn i false e = grind (arith, stands_with-other)
 
 -- ---- after a registration, others end
@@ -83,13 +68,6 @@ pub stands_kept : (q : Registration → Bool) (by : ConnId) (index : ℕ) (name 
     → q (record { conn = by; index = index; name = name }) ≡ true → stands (filter q (regs_with by index name regs))
     by index ≡ true
 stands_kept q by index name regs h = grind (arith, list_any-insertion_kept, self)
-
-only_falls : (a b c : Bool) → (b ≡ true → a ≡ true) → (c ≡ true → b ≡ true) → (b ≡ a) ⊎ (c ≡ b)
-only_falls false false c h k = inl refl
-only_falls true true c h k = inl refl
-only_falls true false false h k = inr refl
-only_falls true false true h k = absurd (false≢true (k refl))
-only_falls false true c h k = absurd (false≢true (h refl))
 
 -- a connector registers, and then bits fall, but not its own there
 pub gains_then_falls : (by : ConnId) (index : ℕ) (name : Name16) (regs later : List Registration)
@@ -104,7 +82,7 @@ gains_then_falls by index name regs later xs ys zs there falls first second = gr
         let parts = and_parts (by.0 == conn.0) (index == i) e in
         let here : stands later conn i ≡ true = grind (arith, eqb-true) in
         inr (here ∙ sym (falls conn i here))
-    once conn i false e = grind (arith, only_falls, list_any-insertion, any-filter, false≢true)
+    once conn i false e = grind (arith, list_any-insertion, any-filter, false≢true)
 
 -- where registrations end, bits fall
 pub falls_filter : (q : Registration → Bool) (regs : List Registration) → Falls (stands regs) (stands (filter q regs))

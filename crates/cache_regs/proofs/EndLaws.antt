@@ -1,5 +1,5 @@
 -- Ends of registrations, one after another.
-use Rattle.cache_regs.proofs.Imports.{◌≡◌, ℕ, ◌+◌, ◌≤◌, ◌<◌, Bool, true, false, not, ◌&&◌, ◌||◌, ◌==◌, nat_lt, List, [], ◌∷◌, ◌++◌, Option, Some, None, length, filter, refl, sym, ap, ◌∙◌, subst, arith, list_any, list_all, and_parts, false≢true, nat_tests, filter_agree, length-filter_both, BitChange, Name16, ConnId, Falls, gains_none, gains_falls, filter-filter, filter_swap, filter_absorbed, filter_all, all_from_none, none_from_all, list_all_weaker, list_all_both, any_is_found, list_all-filter, list_all-filter_same, length-filter-le, Registration, is_of, is_at, is_for, index_for, ends_with_name, stands, is_elsewhere, is_below, spares, ends_of, ends_below, FitsEnds, HasEnded, IsAloneFor}
+use Rattle.cache_regs.proofs.Imports.{◌≡◌, ℕ, ◌+◌, ◌≤◌, ◌<◌, Bool, true, false, not, ◌&&◌, ◌==◌, nat_lt, List, [], ◌∷◌, ◌++◌, Option, Some, None, length, filter, refl, sym, ap, ◌∙◌, subst, arith, list_any, list_all, and_parts, false≢true, nat_tests, filter_agree, length-filter_both, BitChange, Name16, ConnId, Falls, gains_none, gains_falls, filter-filter, filter_swap, filter_absorbed, filter_all, all_from_none, none_from_all, list_all_weaker, list_all_both, any_is_found, list_all-filter, list_all-filter_same, length-filter-le, Registration, is_of, is_at, is_for, index_for, ends_with_name, stands, is_elsewhere, is_below, spares, ends_of, ends_below, FitsEnds, HasEnded, IsAloneFor}
 use Rattle.cache_regs.proofs.BitLaws.{falls_filter, gains_taken}
 
 -- ---- filters
@@ -12,12 +12,8 @@ both q r s xs h = grind (arith, filter-filter, filter_agree)
 pub filter_within : (w q r : Registration → Bool) (xs : List Registration) → list_all w xs ≡ true
     → ((x : Registration) → w x ≡ true → q x ≡ r x) → filter q xs ≡ filter r xs
 filter_within w q r xs all h = ap (filter q) (sym (filter_all w xs all)) ∙ filter-filter q w xs
-    ∙ filter_agree (λ x. w x && q x) (λ x. w x && r x) (λ x. within (w x) (q x) (r x) (h x)) xs
+    ∙ filter_agree (λ x. w x && q x) (λ x. w x && r x) (grind (arith, h)) xs
     ∙ sym (filter-filter r w xs) ∙ ap (filter r) (filter_all w xs all)
-  where
-    within : (a b c : Bool) → (a ≡ true → b ≡ c) → a && b ≡ a && c
-    within true b c h = h refl
-    within false b c h = refl
 
 pub filter_fewer : (f g : Registration → Bool) (xs : List Registration) → ((x : Registration) → f x ≡ true → g x ≡ true)
     → length (filter f xs) ≤ length (filter g xs)
@@ -147,31 +143,21 @@ pub elsewhere_at : (conn : ConnId) (name : Name16) (at index : ℕ) (xs : List R
     → IsAloneFor conn name at xs
     → filter (λ x. not (is_at conn at x)) xs ≡ filter (λ x. not (is_elsewhere conn index name x)) xs
 elsewhere_at conn name at index xs apart alone = filter_agree (λ x. not (is_at conn at x)) (λ x. not (is_at
-    conn at x && not (x.index == index))) (grind (arith, step)) xs ∙ alone (λ x. not (x.index == index))
-  where
-    step : (b : Bool) (j k n : ℕ) → (k == n) ≡ false → not (b && (j == k)) ≡ not ((b && (j == k)) && not (j == n))
-    step b j k n e = grind (arith, nat_tests)
+    conn at x && not (x.index == index))) (grind (arith, nat_tests)) xs ∙ alone (λ x. not (x.index == index))
 
 -- nothing is elsewhere
 pub elsewhere_here : (conn : ConnId) (name : Name16) (at index : ℕ) (xs : List Registration) → (at == index) ≡ true
     → IsAloneFor conn name at xs
     → filter (λ (x : Registration). not false) xs ≡ filter (λ x. not (is_elsewhere conn index name x)) xs
 elsewhere_here conn name at index xs here alone = filter_agree (λ (x : Registration). not false) (λ x. not (is_at
-    conn at x && not (x.index == index))) (grind (arith, step)) xs ∙ alone (λ x. not (x.index == index))
-  where
-    step : (b : Bool) (j k n : ℕ) → (k == n) ≡ true → true ≡ not ((b && (j == k)) && not (j == n))
-    step b j k n e = grind (arith, nat_tests)
+    conn at x && not (x.index == index))) (grind (arith, nat_tests)) xs ∙ alone (λ x. not (x.index == index))
 
 -- the one for a name
 pub for_at : (conn : ConnId) (name : Name16) (at : ℕ) (xs : List Registration) → IsAloneFor conn name at xs
     → filter (λ x. not (is_at conn at x)) xs ≡ filter (λ x. not (is_for conn name x)) xs
 for_at conn name at xs alone = filter_agree (λ x. not (is_at conn at x))
-    (λ x. not (is_at conn at x && true)) (λ x. step (is_at conn at x)) xs ∙ alone (λ x. true) ∙ filter_agree
-    (λ x. not (is_for conn name x && true)) (λ x. not (is_for conn name x)) (λ x. sym (step (is_for conn name x))) xs
-  where
-    step : (b : Bool) → not b ≡ not (b && true)
-    step true = refl
-    step false = refl
+    (λ x. not (is_at conn at x && true)) (grind arith) xs ∙ alone (λ x. true) ∙ filter_agree
+    (λ x. not (is_for conn name x && true)) (λ x. not (is_for conn name x)) (grind arith) xs
 
 -- ---- what is left
 
@@ -190,16 +176,10 @@ pub unnamed : (conn : ConnId) (index : ℕ) (name : Name16) (xs : List Registrat
 unnamed conn index name xs h =
     let left = filter (λ x. not (is_at conn index x)) xs in
     none_from_all (is_for conn name) left (list_all_weaker (λ x. not (is_elsewhere conn index name x)
-    && not (is_at conn index x)) (λ x. not (is_for conn name x)) (grind (arith, step)) left
+    && not (is_at conn index x)) (λ x. not (is_for conn name x)) (grind (arith, false≢true)) left
     (list_all_both (λ x. not (is_elsewhere conn index name x)) (λ x. not (is_at conn index x))
     left (list_all-filter (λ x. not (is_elsewhere conn index name x)) (λ x. not (is_at conn index x)) xs
     (all_from_none (is_elsewhere conn index name) xs h)) (list_all-filter_same (λ x. not (is_at conn index x)) xs)))
-  where
-    step : (o s b : Bool) → not ((o && s) && not b) && not (o && b) ≡ true → not (o && s) ≡ true
-    step false s b e = refl
-    step true false b e = refl
-    step true true false e = absurd (false≢true e)
-    step true true true e = absurd (false≢true e)
 
 pub ended_fewer : (q : Registration → Bool) (xs after : List Registration) (told later : List BitChange)
     (room left : ℕ) → HasEnded q xs after told later room left → list_any q xs ≡ true → length after < length xs
@@ -215,9 +195,5 @@ for_none conn name xs h = grind (arith, any_is_found)
 pub elsewhere_none : (conn : ConnId) (index : ℕ) (name : Name16) (xs : List Registration)
     → index_for xs conn name ≡ None → list_any (is_elsewhere conn index name) xs ≡ false
 elsewhere_none conn index name xs h = none_from_all (is_elsewhere conn index name) xs (list_all_weaker
-    (λ x. not (is_for conn name x)) (λ x. not (is_elsewhere conn index name x)) (λ x e. step (is_for conn name x)
-    (x.index == index) e) xs (all_from_none (is_for conn name) xs (for_none conn name xs h)))
-  where
-    step : (a b : Bool) → not a ≡ true → not (a && not b) ≡ true
-    step false b e = refl
-    step true b e = absurd (false≢true e)
+    (λ x. not (is_for conn name x)) (λ x. not (is_elsewhere conn index name x)) (grind (arith, false≢true))
+    xs (all_from_none (is_for conn name) xs (for_none conn name xs h)))

@@ -1,5 +1,5 @@
 -- What is true of each registration stays so.
-use Rattle.cache_regs.proofs.Imports.{arith, ◌≡◌, ℕ, Bool, true, List, ◌∙◌, list_all, and_from, Name16, ConnId, list_all-filter, list_all-insertion, Registration, regs_with}
+use Rattle.cache_regs.proofs.Imports.{arith, ◌≡◌, ℕ, Bool, true, List, list_all, and_from, Name16, ConnId, list_all-filter, list_all-insertion, Registration, regs_with}
 
 -- where it is true of the new one
 pub all_with : (p : Registration → Bool) (conn : ConnId) (index : ℕ) (name : Name16) (regs : List Registration)

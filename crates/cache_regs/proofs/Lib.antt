@@ -1,5 +1,4 @@
 pub mod Imports
-pub mod NameLaws
 pub mod RegLaws
 pub mod BitLaws
 mod MapLaws

@@ -1,5 +1,5 @@
 -- Registrations, listed by index and counted by connector.
-use Rattle.cache_regs.proofs.Imports.{◌≡◌, ℕ, ◌+◌, Bool, true, false, not, ◌&&◌, ◌||◌, ◌==◌, nat_lt, cond, List, [], ◌∷◌, ◌++◌, Option, Some, None, option_map, length, filter, find, map, append-nil, refl, sym, ap, ◌∙◌, arith, list_any, list_all, and_parts, nat_tests, filter_agree, length-filter_both, Name16, ConnId, pairwise, filter-filter, filter_none, filter_nothing, none_from_all, list_all_weaker, all_from_none, any_is_found, Registration, is_of, is_at, is_for, registered_at, stands_before, names_apart, ends_with_name, named_at, is_below, ends_of, ends_below, spares}
+use Rattle.cache_regs.proofs.Imports.{◌≡◌, ℕ, ◌+◌, Bool, true, false, not, ◌&&◌, ◌==◌, nat_lt, cond, List, [], ◌∷◌, ◌++◌, Option, Some, None, option_map, length, filter, find, map, append-nil, refl, sym, ap, ◌∙◌, arith, list_any, list_all, and_parts, nat_tests, filter_agree, length-filter_both, Name16, ConnId, pairwise, filter-filter, filter_none, filter_nothing, none_from_all, list_all_weaker, all_from_none, any_is_found, Registration, is_of, is_at, is_for, registered_at, stands_before, names_apart, ends_with_name, named_at, is_below, ends_of, ends_below, spares}
 use Rattle.cache_regs.proofs.RegLaws.{one_for_name}
 use Rattle.cache_regs.proofs.EndLaws.{filter_within, any_counted, of_spare, name_first, below_first}
 
@@ -19,14 +19,9 @@ listed_none conn index xs h = filter_within (λ x. not (is_at conn index x)) (is
     step : (b : Bool) (j k : ℕ) → not (b && (j == k)) ≡ true → b && nat_lt j (k + 1) ≡ b && nat_lt j k
     step b j k e = grind (arith, nat_tests)
 
--- what stands behind one at the index is not below the next
-behind : (b : Bool) (c i d j e k : ℕ) → (c == e) && (i == k) ≡ true → nat_lt c d || ((c == d) && nat_lt i j) ≡ true
-    → not ((d == e) && nat_lt j (k + 1)) ≡ true
-behind b c i d j e k h g = grind (arith, nat_tests)
-
 none_below : (conn : ConnId) (index : ℕ) (x : Registration) (xs : List Registration) → is_at conn index x ≡ true
     → list_all (stands_before x) xs ≡ true → filter (is_below conn (index + 1)) xs ≡ []
-none_below conn index x xs here all = grind (arith, filter_none, none_from_all, list_all_weaker, behind)
+none_below conn index x xs here all = grind (arith, filter_none, none_from_all, list_all_weaker, nat_tests)
 
 fewer_below : (conn : ConnId) (index : ℕ) (xs : List Registration) → filter (is_below conn (index + 1)) xs ≡ []
     → filter (is_below conn index) xs ≡ []

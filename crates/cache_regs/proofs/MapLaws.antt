@@ -1,5 +1,5 @@
 -- The entries of a map by connector and index, in order.
-use Rattle.cache_regs.proofs.Imports.{◌≡◌, ℕ, zero, suc, ◌+◌, Bool, true, false, not, ◌&&◌, ◌||◌, cond, nat_lt, nat_eq, ◌==◌, List, [], ◌∷◌, Option, Some, None, is_some, option_map, length, slice_get, filter, find, refl, sym, ap, ◌∙◌, arith, list_any, list_all, IsDistinct, keys_of, lookup, IsEquivalence, nat_eq_equiv, and_equiv, on_equiv, nat_list_eq_equiv, pointwise, bytes_decides, and_parts, and_from, eqb-true, eq-eqb, nat_tests, lookup-none, none_past_head, option_filter, Name16, ConnId, pairwise, length-insertion, find-insertion_past, find-insertion_here, any_is_found, all_from_none, find_none, none_from_all, list_all_weaker, pairwise-filter, pairwise-insertion, Registration, is_at, registered_at, stands, stands_before, place_eq, named_eq, at_place, reg_of, regs_in, WritesPlace, ordered_same}
+use Rattle.cache_regs.proofs.Imports.{◌≡◌, ℕ, zero, suc, ◌+◌, Bool, true, false, not, ◌&&◌, ◌||◌, cond, nat_lt, nat_eq, ◌==◌, List, [], ◌∷◌, Some, None, is_some, option_map, length, slice_get, filter, find, refl, sym, ap, ◌∙◌, arith, list_any, list_all, IsDistinct, keys_of, lookup, IsEquivalence, nat_eq_equiv, and_equiv, on_equiv, nat_list_eq_equiv, pointwise, bytes_decides, and_parts, and_from, eqb-true, eq-eqb, nat_tests, lookup-none, none_past_head, option_filter, Name16, ConnId, pairwise, length-insertion, find-insertion_past, find-insertion_here, any_is_found, all_from_none, find_none, none_from_all, list_all_weaker, pairwise-filter, pairwise-insertion, Registration, is_at, registered_at, stands, stands_before, place_eq, named_eq, at_place, reg_of, regs_in, WritesPlace, ordered_same}
 use Rattle.cache_regs.proofs.RegLaws.{finds_place, places_apart}
 
 pub place_laws : IsEquivalence place_eq
@@ -77,16 +77,6 @@ ordered_in (e ∷ es) u =
 
 -- ---- what a filter leaves
 
--- one at most is at a place
-filter_step : (q : Registration → Bool) (conn : ConnId) (index : ℕ) (a b : Bool) (x : Registration)
-    (xs : List Registration) → is_at conn index x ≡ a → q x ≡ b → (a ≡ true → find (is_at conn index) xs ≡ None)
-    → find (is_at conn index) (filter q xs) ≡ option_filter q (find (is_at conn index) xs) → find (is_at conn index)
-    (cond b (x ∷ filter q xs) (filter q xs)) ≡ option_filter q (cond a (Some x) (find (is_at conn index) xs))
-filter_step q conn index true true x xs e f none ih = rw (e, f) refl
-filter_step q conn index true false x xs e f none ih = ih ∙ ap (option_filter q) (none refl) ∙ rw f refl
-filter_step q conn index false true x xs e f none ih = rw e ih
-filter_step q conn index false false x xs e f none ih = ih
-
 -- what stands before all others is alone at its place
 none_behind : (x : Registration) (xs : List Registration) (conn : ConnId) (index : ℕ)
     → list_all (stands_before x) xs ≡ true → is_at conn index x ≡ true → find (is_at conn index) xs ≡ None
@@ -97,52 +87,28 @@ pub find-kept : (q : Registration → Bool) (xs : List Registration) → pairwis
 find-kept q [] h conn index = refl
 find-kept q (x ∷ xs) h conn index =
     let parts = and_parts (list_all (stands_before x) xs) (pairwise stands_before xs) h in
-    filter_step q _ _ _ _ x _ refl refl (λ e. none_behind x _ _ _ parts.0 e) (find-kept q xs parts.1 conn index)
+    grind (arith, none_behind x xs conn index parts.0, option_filter, find-kept q xs parts.1 conn index)
 
 -- ---- one registration less
-
-removed_at : (b : Bool) (c d : ConnId) (i j : ℕ) (o : Option Name16) → place_eq (c.0, i) (d.0, j) ≡ b → option_map
-    (registration d j) (cond b None o) ≡ option_filter (λ reg. not (is_at c i reg)) (option_map (registration d j) o)
-removed_at true c d i j None h = refl
-removed_at true c d i j (Some n) h = rw (place_laws.symm (d.0, j) (c.0, i) ∙ h) refl
-removed_at false c d i j None h = refl
-removed_at false c d i j (Some n) h = rw (place_laws.symm (d.0, j) (c.0, i) ∙ h) refl
 
 pub removed_regs : (es fs : List ((ℕ × ℕ) × Name16)) (conn : ConnId) (index : ℕ) → IsDistinct place_eq (keys_of es)
     → IsDistinct place_eq (keys_of fs) → WritesPlace es conn index None fs
     → regs_in fs ≡ filter (λ reg. not (is_at conn index reg)) (regs_in es)
 removed_regs es fs conn index u v updates =
-    grind (arith, same_regs, ordered_in, pairwise-filter, find_in, removed_at, option_filter, find-kept)
-
--- two filters that agree at each entry
-filter_at : (q r : Registration → Bool) (d : ConnId) (j : ℕ) (o : Option Name16)
-    → ((m : Name16) → o ≡ Some m → q (registration d j m) ≡ r (registration d j m))
-    → option_filter q (option_map (registration d j) o) ≡ option_filter r (option_map (registration d j) o)
-filter_at q r d j None h = refl
-filter_at q r d j (Some m) h = rw (h m refl) refl
+    grind (arith, same_regs, ordered_in, pairwise-filter, find_in, option_filter, find-kept)
 
 pub same_filter : (q r : Registration → Bool) (es : List ((ℕ × ℕ) × Name16)) → IsDistinct place_eq (keys_of es)
     → ((d : ConnId) (j : ℕ) (m : Name16) → at_place es d j ≡ Some m → q (registration d j m) ≡ r (registration d j m))
     → filter q (regs_in es) ≡ filter r (regs_in es)
-same_filter q r es u h =
-    grind (arith, ordered_in, same_regs, pairwise-filter, find-kept, option_filter, find_in, filter_at)
-
-name_at : (conn : ConnId) (index : ℕ) (o : Option Name16)
-    → option_map (λ (reg : Registration). reg.name) (option_map (registration conn index) o) ≡ o
-name_at conn index None = refl
-name_at conn index (Some n) = refl
+same_filter q r es u h = grind (arith, ordered_in, same_regs, pairwise-filter, find-kept, option_filter, find_in)
 
 pub at_law : (es : List ((ℕ × ℕ) × Name16)) → IsDistinct place_eq (keys_of es) → (conn : ConnId) (index : ℕ)
     → at_place es conn index ≡ registered_at (regs_in es) conn index
-at_law es u conn index = grind (arith, find_in, name_at)
-
-some_at : (conn : ConnId) (index : ℕ) (o : Option Name16) → is_some (option_map (registration conn index) o) ≡ is_some o
-some_at conn index None = refl
-some_at conn index (Some n) = refl
+at_law es u conn index = grind (arith, find_in)
 
 pub stands_law : (es : List ((ℕ × ℕ) × Name16)) → IsDistinct place_eq (keys_of es) → (conn : ConnId) (index : ℕ)
     → is_some (at_place es conn index) ≡ stands (regs_in es) conn index
-stands_law es u conn index = grind (arith, any_is_found, find_in, some_at)
+stands_law es u conn index = grind (arith, any_is_found, find_in)
 
 -- an entry's place has a registration
 pub entry_stands : (es : List ((ℕ × ℕ) × Name16)) → IsDistinct place_eq (keys_of es) → (k : ℕ) (place : ℕ × ℕ)
@@ -150,15 +116,11 @@ pub entry_stands : (es : List ((ℕ × ℕ) × Name16)) → IsDistinct place_eq 
     → stands (regs_in es) (record { 0 = place.0 }) place.1 ≡ true
 entry_stands es u k place name h = sym (stands_law es u (record { 0 = place.0 }) place.1) ∙ there es k h
   where
-    found : (b : Bool) (n : Name16) (o : Option Name16) → is_some o ≡ true → is_some (cond b (Some n) o) ≡ true
-    found true n o e = refl
-    found false n o e = e
-
     there : (es : List ((ℕ × ℕ) × Name16)) (k : ℕ) → Some (place, name) ≡ slice_get es k
         → is_some (lookup (place_eq place) es) ≡ true
     there [] k h = absurd (cc)
     there (e ∷ es) zero h = grind arith
-    there (e ∷ es) (suc k) h = found (place_eq place e.0) e.1 (lookup (place_eq place) es) (there es k h)
+    there (e ∷ es) (suc k) h = grind (arith, there es k h)
 
 pub removed_len : (es fs : List ((ℕ × ℕ) × Name16)) (n : ℕ) → length fs + n ≡ length es
     → length (regs_in fs) + n ≡ length (regs_in es)

@@ -1,12 +1,7 @@
 -- Registrations stay in order, with one for an index and one for a name.
-use Rattle.cache_regs.proofs.Imports.{◌≡◌, ℕ, ◌≤◌, Bool, true, false, not, ◌&&◌, ◌||◌, ◌==◌, nat_lt, cond, List, [], ◌∷◌, length, filter, refl, ◌∙◌, subst₂, arith, list_all, and_parts, false≢true, eqb-true, nat_tests, filter_agree, Name16, ConnId, same_name, pairwise, filter-filter, filter_none, length-filter-le, none_from_all, list_all_weaker, list_all-filter_same, FindsPlace, pairwise-filter, pairwise-insertion, pairwise-insertion_any, Registration, is_of, is_at, is_for, is_replaced, regs_with, stands_before, names_apart, IsRegistry}
-use Rattle.cache_regs.proofs.NameLaws.{same_name-eq, same_name-sym}
+use Rattle.cache_regs.proofs.Imports.{◌≡◌, ℕ, ◌≤◌, Bool, true, false, not, ◌&&◌, ◌||◌, ◌==◌, nat_lt, cond, List, [], ◌∷◌, length, filter, refl, ◌∙◌, subst₂, arith, list_all, and_parts, false≢true, eqb-true, nat_tests, filter_agree, Name16, ConnId, same_name, pairwise, filter-filter, filter_none, length-filter-le, none_from_all, list_all_weaker, list_all-filter_same, FindsPlace, pairwise-filter, pairwise-insertion, pairwise-insertion_any, Registration, is_of, is_at, is_for, is_replaced, regs_with, stands_before, names_apart, IsRegistry, same_name-eq, same_name-sym}
 
 -- ---- the order
-
-before_follows : (c i d j e k : ℕ) → nat_lt c d || ((c == d) && nat_lt i j) ≡ true → nat_lt d e
-    || ((d == e) && nat_lt j k) ≡ true → nat_lt c e || ((c == e) && nat_lt i k) ≡ true
-before_follows c i d j e k h g = grind (arith, nat_tests)
 
 before_apart : (c i d j : ℕ) → nat_lt c d || ((c == d) && nat_lt i j) ≡ true → not ((d == c) && (j == i)) ≡ true
 before_apart c i d j h = grind (arith, nat_tests)
@@ -18,7 +13,7 @@ places_apart reg other h = before_apart reg.conn.0 reg.index other.conn.0 other.
 
 pub finds_place : (reg : Registration) → FindsPlace stands_before (λ other. stands_before other reg)
     (λ other. not (is_at reg.conn reg.index other)) reg
-finds_place reg = grind (arith, before_follows, nat_tests)
+finds_place reg = grind (arith, nat_tests)
 
 -- ---- what takes the place of others
 
@@ -38,17 +33,8 @@ filter-replaced conn index name regs = filter-filter (λ reg. not (is_at conn in
     reg && not (reg.index == index)) && not (is_at conn index reg)) (λ reg. not (is_replaced conn index name reg))
     (λ reg. split_test (is_of conn reg) (reg.index == index) (same_name reg.name name)) regs
 
-not_at : (c i n : Bool) → not ((c && i) || (c && n)) ≡ true → not (c && i) ≡ true
-not_at true true n h = h
-not_at true false n h = refl
-not_at false i n h = refl
-
 turn : (a b : ℕ) → (a == b) ≡ (b == a)
 turn a b = grind (arith, nat_tests)
-
-not_for : (c i n d m : Bool) → c ≡ d → n ≡ m → not ((c && i) || (c && n)) ≡ true → not (d && m) && not (c && n) ≡ true
-not_for true i n d m e f h = grind (arith, false≢true)
-not_for false i n d m e f h = rw (← e) refl
 
 -- the registrations of a connector that registers are a registry
 pub registry-with : (conn : ConnId) (index : ℕ) (name : Name16) (regs : List Registration) → IsRegistry regs
@@ -59,13 +45,10 @@ registry-with conn index name regs is =
     let spared = list_all-filter_same (λ other. not (is_replaced conn index name other)) regs in
     record {
       ordered = pairwise-insertion stands_before (λ other. stands_before other reg)
-          (λ other. not (is_at conn index other)) reg others (finds_place reg) (grind (
-            arith,
-            list_all_weaker,
-            not_at,
-          )) (pairwise-filter stands_before (λ other. not (is_replaced conn index name other)) regs is.ordered);
+          (λ other. not (is_at conn index other)) reg others (finds_place reg) (grind (arith, list_all_weaker))
+          (pairwise-filter stands_before (λ other. not (is_replaced conn index name other)) regs is.ordered);
       one_for_name =
-          grind (arith, pairwise-insertion_any, pairwise-filter, list_all_weaker, not_for, turn, same_name-sym);
+          grind (arith, pairwise-insertion_any, pairwise-filter, list_all_weaker, false≢true, turn, same_name-sym);
     }
 
 pub registry-filter : (q : Registration → Bool) (regs : List Registration) → IsRegistry regs

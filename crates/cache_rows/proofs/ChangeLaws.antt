@@ -1,17 +1,12 @@
 -- What commands do to the row of a name, and the rows that they end for it.
-use Rattle.cache_rows.proofs.Imports.{◌≡◌, ℕ, ◌+◌, ◌≤◌, Bool, true, false, not, ◌&&◌, ◌||◌, List, [], ◌∷◌, Option, Some, None, unwrap_or, length, drop, get_or, refl, sym, ◌∙◌, subst, arith, or_left, false≢true, drop_more, drop_all, filter_agree, Name16, same_name, filter-filter, filter_all, find-filter, find_none, list_all_always, same_name-eq, CacheItem, is_row_of, row_of, has_row, rows_with, rows_replaced, new_row, row_or_new, is_among, rows_spared, row_with, without-absent, Label, label_of, label_written, item_with, body_of, relabeled, rows_but}
+use Rattle.cache_rows.proofs.Imports.{◌≡◌, ℕ, ◌+◌, ◌≤◌, Bool, true, false, not, ◌&&◌, ◌||◌, List, [], ◌∷◌, Option, Some, None, length, drop, get_or, refl, sym, subst, arith, or_left, false≢true, drop_more, drop_all, filter_agree, Name16, same_name, filter-filter, filter_all, find-filter, find_none, list_all_always, same_name-eq, CacheItem, is_row_of, row_of, has_row, rows_with, rows_replaced, row_or_new, is_among, rows_spared, row_with, without-absent, Label, label_of, label_written, item_with, relabeled, rows_but}
 
 -- ---- rows that go, but for one
-
-but_step : (a b c : Bool) → (a || not (b || false)) && (a || not c) ≡ a || not (b || c)
-but_step true b c = refl
-but_step false true c = refl
-but_step false false c = refl
 
 pub but-more : (spared : Name16) (names : List Name16) (rows all : List CacheItem) (i : ℕ) (d : Name16)
     → i + 1 ≤ length names → rows_but spared (drop i names) rows ≡ all
     → rows_but spared (drop (i + 1) names) (rows_but spared (get_or names i d ∷ []) rows) ≡ all
-but-more spared names rows all i d lt h = grind (arith, drop_more, filter-filter, filter_agree, but_step)
+but-more spared names rows all i d lt h = grind (arith, drop_more, filter-filter, filter_agree)
 
 or_true : (a : Bool) → a || not false ≡ true
 or_true true = refl
@@ -48,13 +43,9 @@ replaced_but row name names rows left e f = grind (arith, filter-filter, filter_
 
 -- ---- a row with the data that it had
 
-new_body : (name : Name16) (stg : ℕ) (o : Option CacheItem) → body_of o ≡ (unwrap_or o (new_row name stg)).body
-new_body name stg None = refl
-new_body name stg (Some row) = refl
-
 pub relabeled_is : (label : Label) (name : Name16) (stg : ℕ) (rows left : List CacheItem) → label.name ≡ name
     → row_of name left ≡ row_of name rows → relabeled label left ≡ item_with label (row_or_new name stg rows).body
-relabeled_is label name stg rows left e f = grind (arith, new_body)
+relabeled_is label name stg rows left e f = grind arith
 
 -- a row with what the directory says of it now, and the data that it had
 pub relabeled_same : (label : Label) (name : Name16) (stg : ℕ) (rows : List CacheItem) → label.name ≡ name

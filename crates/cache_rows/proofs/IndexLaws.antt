@@ -1,5 +1,5 @@
 -- The indexes stay those of the rows.
-use Rattle.cache_rows.proofs.Imports.{◌≡◌, ℕ, ◌≤◌, Bool, true, false, not, ◌&&◌, ◌||◌, cond, List, [], ◌∷◌, ◌++◌, append-nil, Option, Some, None, is_some, unwrap_or, filter, map, refl, sym, ap, ◌∙◌, arith, list_all, and_parts, or_left, or_right, false≢true, map-append, filter-append, Name16, ConnId, name_before, pairwise, insertion, filter_swap, filter_none, none_from_all, list_all_weaker, list_all_always, filter-insertion_out, pairwise-insertion, pairwise_push, Changed, names_without, names_with, names_set, room_taken, Used, order_without, order_touched, same_name-refl, CacheItem, is_changed, has_row, rows_without, stands_before, rows_with, may_precede, names_apart, without_hold, without-absent, alone-next, changed_of, classes_of, used_of, order_of, order_with, changed_first}
+use Rattle.cache_rows.proofs.Imports.{◌≡◌, ℕ, ◌≤◌, Bool, true, false, not, ◌&&◌, cond, List, [], ◌∷◌, ◌++◌, append-nil, Option, Some, None, is_some, unwrap_or, filter, map, refl, sym, ap, ◌∙◌, arith, list_all, and_parts, or_left, or_right, false≢true, map-append, filter-append, Name16, ConnId, name_before, pairwise, insertion, filter_swap, filter_none, none_from_all, list_all_weaker, list_all_always, filter-insertion_out, pairwise-insertion, pairwise_push, Changed, names_without, names_with, names_set, room_taken, order_without, same_name-refl, CacheItem, is_changed, has_row, rows_without, stands_before, rows_with, may_precede, names_apart, without_hold, without-absent, alone-next, changed_of, classes_of, order_of, order_with, changed_first, insertion_behind}
 
 -- ---- filters of maps
 
@@ -66,16 +66,10 @@ classes-put row rows absent h = set-absent row.name row.class
     go true e = sym (classes-insertion row rows e h)
     go false e = sym (classes-last false row rows e ∙ append-nil (classes_of rows))
 
-touched : (b : Bool) (row : CacheItem) (rows : List CacheItem) → has_row row.name rows ≡ false → is_changed row ≡ b
-    → cond b (order_of rows) (order_touched row.name row.stg (order_of rows))
-    ≡ order_of rows ++ cond b [] (used_of row ∷ [])
-touched true row rows absent e = sym (append-nil (order_of rows))
-touched false row rows absent e =
-    ap (λ (l : List Used). l ++ used_of row ∷ []) (grind (arith, order-without, without-absent))
-
 pub order-put : (row : CacheItem) (rows : List CacheItem) → has_row row.name rows ≡ false
     → order_with row (order_of rows) ≡ order_of (rows_with row rows)
-order-put row rows absent = grind (arith, filter-insertion_out, touched, filter-append, map-append)
+order-put row rows absent =
+    grind (arith, filter-insertion_out, append-nil, order-without, without-absent, filter-append, map-append)
 
 pub front-put : (row : CacheItem) (rows : List CacheItem) → pairwise changed_first rows ≡ true
     → pairwise changed_first (rows_with row rows) ≡ true
@@ -89,14 +83,6 @@ front-put row rows h = go (is_changed row) refl
 
 -- ---- a row is put behind the others, where it has its place
 
--- an insertion behind all that stand before it
-insertion_last : {X : Type 0} (before : X → Bool) (x : X) (xs : List X) → list_all before xs ≡ true
-    → insertion before x xs ≡ xs ++ x ∷ []
-insertion_last before x [] h = refl
-insertion_last before x (y ∷ ys) h =
-    let parts = and_parts (before y) (list_all before ys) h in
-    rw parts.0 (ap (λ l. y ∷ l) (insertion_last before x ys parts.1))
-
 last_step : (a b n : Bool) → b ≡ true → cond a (cond b n true) (not b) ≡ true → a && n ≡ true
 last_step true true n e h = h
 last_step false true n e h = absurd (false≢true h)
@@ -105,7 +91,7 @@ last_step a false n e h = absurd (false≢true e)
 -- a row that may follow all others has its place behind them
 pub with-last : (row : CacheItem) (rows : List CacheItem) → list_all (λ other. may_precede other row) rows ≡ true
     → rows_with row rows ≡ rows ++ row ∷ []
-with-last row rows last = grind (arith, insertion_last, list_all_weaker, last_step)
+with-last row rows last = grind (arith, insertion_behind, list_all_weaker, last_step)
 
 -- ---- castout locks are released
 

@@ -1,12 +1,11 @@
 -- A map from names and two indexes hold one list of rows, as rows come and go.
 use Rattle.std.proofs.lemmas.List.Filters.{length-filter_both}
 use Rattle.cache_model.proofs.CopyLaws.{other_found as found_without, row_of-replaced}
-use Rattle.cache_rows.proofs.StoreLaws.{mapped}
-use Rattle.cache_rows.proofs.Imports.{without-absent, ◌≡◌, ℕ, zero, suc, ◌+◌, ◌-◌, ◌≤◌, ◌<◌, Bool, true, false, not, ◌&&◌, cond, List, [], ◌∷◌, ◌++◌, Option, Some, None, option_map, option_to_list, slice_get, is_some, unwrap_or, length, length-append, filter, map, drop, refl, sym, ap, ◌∙◌, subst, arith, list_all, and_parts, map-append, length-map, drop_all, filter-append, slice_get-map, Name16, ConnId, same_name, pairwise, filter-filter, filter_swap, find_none, any_is_found, length-filter-le, found_filter, pairwise-filter, pairwise-map, Changed, names_without, names_set, Writes, Used, order_without, slice_get-front, slice_get-behind, same_name-eq, same_name-refl, CacheItem, is_row_of, is_changed, row_of, has_row, rows_without, rows_with, rows_replaced, new_row, has_storage, without_hold, name_of, apart-with, alone-without, is_unchanged, order_with, changed_first, Label, item_with, body_of, row_or, changed_in, unchanged_in, rows_in, IsIndexed, counts_at, relabeled}
+use Rattle.cache_rows.proofs.IndexLaws.{filter-map, map_same, unchanged_behind, classes-without, order-without, classes-put, order-put, front-put, classes-released, order-released}
+use Rattle.cache_rows.proofs.Imports.{without-absent, ◌≡◌, ℕ, zero, suc, ◌+◌, ◌-◌, ◌≤◌, ◌<◌, Bool, true, false, not, ◌&&◌, cond, List, [], ◌∷◌, ◌++◌, Option, Some, None, option_map, option_to_list, slice_get, is_some, unwrap_or, length, length-append, filter, map, drop, refl, sym, ap, ◌∙◌, subst, arith, list_all, and_parts, map-append, length-map, drop_all, filter-append, slice_get-map, Name16, ConnId, same_name, pairwise, filter-filter, filter_swap, find_none, any_is_found, length-filter-le, found_filter, pairwise-filter, pairwise-map, Changed, names_without, names_set, Writes, Used, order_without, slice_get-front, slice_get-behind, same_name-eq, same_name-refl, CacheItem, is_row_of, is_changed, row_of, has_row, rows_without, rows_with, rows_replaced, new_row, has_storage, without_hold, name_of, apart-with, alone-without, is_unchanged, order_with, changed_first, Label, item_with, body_of, row_or, changed_in, unchanged_in, rows_in, IsIndexed, counts_at, relabeled, row_of-released}
 use Rattle.cache_classes.specs.Castout as castout
 use Rattle.cache_reclaim.specs.LastUse as last_use
-use Rattle.cache_rows.proofs.IndexLaws.{filter-map, map_same, unchanged_behind, classes-without, order-without, classes-put, order-put, front-put, classes-released, order-released}
-use Rattle.cache_rows.proofs.LookupLaws.{AreFound}
+use Rattle.cache_rows.proofs.{LookupLaws.AreFound}
 
 -- ---- the list is the changed rows, and then the others
 
@@ -81,9 +80,6 @@ module _ (rows : List CacheItem) (at : Name16 → Option CacheItem) (names : Lis
       e ∙ sym (slice_get-map (λ (one : Used). one.name) used (k - length names)) ∙ ap (λ n. slice_get
       (last_use.names_in used) (k - n)) (sym long) ∙ sym (grind (arith, slice_get-behind)) ∙ sym (row_at_place k)
 
-  fewer_changed : length names ≤ length rows
-  fewer_changed = grind (arith, length-map, length-filter-le)
-
   pub fewer_unchanged : length used ≤ length rows
   fewer_unchanged = grind (arith, length-map, length-filter-le)
 
@@ -92,7 +88,7 @@ module _ (rows : List CacheItem) (at : Name16 → Option CacheItem) (names : Lis
       → name ≡ option_map (λ (changed : Changed). changed.name) (slice_get names (length names - 1))
       → name ≡ option_map name_of (slice_get rows (n - 1))
   last_in_front n name all some le e =
-      grind (arith, fewer_changed, length-map, slice_get-map, slice_get-front, row_at_place)
+      grind (arith, length-filter-le, length-map, slice_get-map, slice_get-front, row_at_place)
 
   -- ---- how many rows are of a storage class
 
@@ -189,16 +185,11 @@ relabeled_in rows at next names left names' used rest used' label is writes e f 
 
 -- ---- castout locks are released
 
-released_found : (conn : ConnId) (q : Name16) (rows : List CacheItem)
-    → row_of q (map (without_hold conn) rows) ≡ option_map (without_hold conn) (row_of q rows)
-released_found conn q [] = refl
-released_found conn q (row ∷ rows) = grind (arith, mapped, released_found conn q rows)
-
 pub released : (rows : List CacheItem) (at next : Name16 → Option CacheItem) (names : List Changed) (used : List Used)
     (conn : ConnId) → IsIndexed rows at names used → ((q : Name16) → next q ≡ option_map (without_hold conn) (at q))
     → IsIndexed (map (without_hold conn) rows) next names used
 released rows at next names used conn is moved =
-    grind (arith, pairwise-map, classes-released, order-released, released_found)
+    grind (arith, pairwise-map, classes-released, order-released, row_of-released)
 
 -- ---- what functions are proved by
 

@@ -1,5 +1,5 @@
 -- What the indexes tell of the rows.
-use Rattle.cache_rows.proofs.Imports.{IfOk-weaker, ◌≡◌, ℕ, ◌==◌, Bool, true, not, ◌&&◌, List, [], ◌∷◌, ◌++◌, Option, Some, None, option_map, slice_get, length, filter, map, suc, zero, ◌-◌, ◌+◌, ◌<◌, take, refl, sym, ap, ◌∙◌, subst, arith, map-append, length-map, drop_all, filter_agree, slice_get-map, Name16, same_name, pairwise, filter-filter, filter_all, list_all_always, any_is_found, split_next, AllFound, found_filter, found_append, Used, same_name-eq, same_name-refl, CacheItem, is_changed, row_of, has_row, rows_without, has_class, has_storage, names_apart, rows_of_class, name_of, is_unchanged, changed_of, classes_of, used_of, order_of, reclaimed_for}
+use Rattle.cache_rows.proofs.Imports.{IfOk-weaker, ◌≡◌, ℕ, Bool, true, not, List, [], ◌∷◌, ◌++◌, Option, Some, None, option_map, slice_get, length, filter, map, suc, zero, ◌-◌, ◌+◌, ◌<◌, take, refl, sym, ap, ◌∙◌, subst, arith, map-append, length-map, drop_all, filter_agree, slice_get-map, Name16, same_name, pairwise, filter-filter, filter_all, list_all_always, any_is_found, split_next, AllFound, found_filter, found_append, Used, same_name-eq, same_name-refl, CacheItem, is_changed, row_of, has_row, rows_without, has_class, has_storage, names_apart, rows_of_class, name_of, is_unchanged, changed_of, classes_of, used_of, order_of, reclaimed_for}
 use Rattle.cache_classes.specs.Castout as castout
 use Rattle.cache_reclaim.specs.LastUse as last_use
 use Rattle.cache_rows.proofs.IndexLaws.{filter-map, map_same, without-last}

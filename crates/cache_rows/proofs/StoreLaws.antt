@@ -9,30 +9,17 @@ Rows = Name16 → Option DirRow
 
 -- ---- a change at a place where other data begin
 
-has_set : (chains : Chains) (stored : Option Chain) (at : ℕ) (o : Option (List ℕ)) → (head_of stored ≡ Some at → ⊥)
-    → HasData chains stored → HasData (set chains at o) stored
-has_set chains None at o away h = tt
-has_set chains (Some chain) at o away h = grind (arith, get-set_other)
-
-body_set : (chains : Chains) (stored : Option Chain) (at : ℕ) (o : Option (List ℕ)) → (head_of stored ≡ Some at → ⊥)
-    → body_in (set chains at o) stored ≡ body_in chains stored
-body_set chains None at o away = refl
-body_set chains (Some chain) at o away = get_or-set_other chains at chain.head o None (λ e. away (ap Some e))
-
 item_set : (chains : Chains) (row : Option DirRow) (at : ℕ) (o : Option (List ℕ)) → (head_of (chain_of row) ≡ Some at
     → ⊥) → option_map (item_in (set chains at o)) row ≡ option_map (item_in chains) row
 item_set chains None at o away = refl
-item_set chains (Some row) at o away = grind (arith, body_set)
+item_set chains (Some row) at o away = grind (arith, get_or-set_other)
 
 abbrev pub IsUnused : Rows → ℕ → Type 0
 IsUnused rows at = (name : Name16) → head_of (chain_of (rows name)) ≡ Some at → ⊥
 
 stored_set : (chains : Chains) (rows : Rows) (at : ℕ) (o : Option (List ℕ)) → IsUnused rows at
     → AreStored chains rows → AreStored (set chains at o) rows
-stored_set chains rows at o unused is = grind (arith, has_set)
-
-nothing_there : (o : Option (Option (List ℕ))) (bytes : List ℕ) → o ≡ Some (Some bytes) → o ≡ Some None → ⊥
-nothing_there o bytes e f = cc
+stored_set chains rows at o unused is = grind (arith, get-set_other)
 
 no_head : (at : ℕ) → head_of None ≡ Some at → ⊥
 no_head at e = cc
@@ -47,15 +34,10 @@ unused_less : (chains : Chains) (rows next : Rows) (name : Name16) (at : ℕ) �
     → Writes rows name None next → head_of (chain_of (rows name)) ≡ Some at → IsUnused next at
 unused_less chains rows next name at is writes e q f = grind (arith, left_head, false≢true)
 
-moved : (f : DirRow → CacheItem) (b : Bool) (new old : Option DirRow)
-    → option_map f (cond b new old) ≡ cond b (option_map f new) (option_map f old)
-moved f true new old = refl
-moved f false new old = refl
-
 items_same : (chains : Chains) (rows next : Rows) (name : Name16) (row : Option DirRow) → Writes rows name row next
     → (q : Name16) → option_map (item_in chains) (next q)
     ≡ cond (same_name name q) (option_map (item_in chains) row) (option_map (item_in chains) (rows q))
-items_same chains rows next name row writes q = grind (arith, moved)
+items_same chains rows next name row writes q = grind arith
 
 module _ (chains after : Chains) (rows next : Rows) (name : Name16) (stored : Option Chain)
     (is : AreStored chains rows) (writes : Writes rows name None next) (had : stored ≡ chain_of (rows name))
@@ -104,7 +86,7 @@ module _ (chains after : Chains) (rows next : Rows) (label : Label) (chain : Cha
     (put : after ≡ set chains chain.head (Some bytes)) (has : HasBytes after chain bytes)
     (writes : Writes rows label.name (Some (row_of_label label (Some chain))) next) where
   unused : IsUnused rows chain.head
-  unused = grind (arith, no_head, nothing_there)
+  unused = grind (arith, no_head)
 
   pub written_stored : AreStored after next
   written_stored = stored_more after rows next label.name (row_of_label label (Some chain)) (subst (λ l. AreStored l
@@ -119,24 +101,15 @@ module _ (chains after : Chains) (rows next : Rows) (label : Label) (chain : Cha
 
 -- ---- a row with the data that it had
 
-cond_twice : {X : Type 0} (b : Bool) (x y z : X) → cond b x z ≡ cond b x (cond b y z)
-cond_twice true x y z = refl
-cond_twice false x y z = refl
-
 pub writes_twice : {X : Type 0} (before middle after : Name16 → Option X) (name : Name16) (row : X)
     → Writes before name None middle → Writes middle name (Some row) after → Writes before name (Some row) after
-writes_twice before middle after name row e f q = grind (arith, cond_twice)
-
-same_data : (chains : Chains) (label : Label) (row : Option DirRow)
-    → item_in chains (row_of_label label (chain_of row)) ≡ item_with label (body_of (option_map (item_in chains) row))
-same_data chains label None = refl
-same_data chains label (Some row) = refl
+writes_twice before middle after name row e f q = grind arith
 
 module _ (chains : Chains) (rows next : Rows) (label : Label)
     (writes : Writes rows label.name (Some (row_of_label label (chain_of (rows label.name)))) next) where
   pub set_items : (q : Name16) → option_map (item_in chains) (next q) ≡ cond (same_name label.name q) (Some (item_with
       label (body_of (option_map (item_in chains) (rows label.name))))) (option_map (item_in chains) (rows q))
-  set_items q = grind (arith, items_same, same_data)
+  set_items q = grind (arith, items_same)
 
 -- ---- castout locks are released
 

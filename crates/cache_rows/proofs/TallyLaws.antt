@@ -1,23 +1,8 @@
 -- What is counted of rows, as rows come and go.
 use Rattle.std.proofs.lemmas.List.Sums.{length-filter, count_by-le-length, sum_by-le-sum_by}
-use Rattle.cache_rows.proofs.Imports.{◌≡◌, ℕ, ◌+◌, ◌*◌, ◌≤◌, ◌<◌, Bool, true, false, ◌&&◌, cond, List, [], ◌∷◌, ◌++◌, Option, Some, None, is_some, is_none, length, length-append, filter, map, sum_by, refl, sym, ap, ◌∙◌, subst, arith, list_all, and_parts, and_from, leb-true, length-map, list_all-append, list_all-map, fold-map, sum_by-cons, sum_by_push, Name16, ConnId, same_name, pairwise, insertion, any_is_found, list_all-filter, filter-filter, filter_swap, length-insertion, sum_by-insertion, list_all-insertion, sum_by_without, length_without, same_name-eq, same_name-refl, CacheItem, is_row_of, elements_of, elements_in, row_of, has_row, rows_without, stands_before, rows_with, names_apart, is_reclaimable, without_hold, name_of, size, without-absent, Tally, is_unchanged, one_unchanged, elements_unchanged, is_small, tally_of, tally_with, IsTally, CanGrow, CanShrink}
+use Rattle.cache_rows.proofs.Imports.{◌≡◌, ℕ, ◌+◌, ◌*◌, ◌≤◌, ◌<◌, Bool, true, false, cond, List, [], ◌∷◌, Option, Some, None, is_some, is_none, length, length-append, filter, map, sum_by, refl, sym, ap, ◌∙◌, subst, arith, list_all, and_parts, and_from, leb-true, length-map, list_all-append, list_all-map, fold-map, sum_by-cons, sum_by_push, Name16, ConnId, same_name, pairwise, any_is_found, list_all-filter, filter-filter, filter_swap, length-insertion, sum_by-insertion, list_all-insertion, sum_by_without, length_without, same_name-eq, same_name-refl, CacheItem, is_row_of, elements_of, elements_in, row_of, has_row, rows_without, rows_with, names_apart, is_reclaimable, without_hold, name_of, size, without-absent, Tally, is_unchanged, one_unchanged, elements_unchanged, is_small, tally_of, tally_with, IsTally, CanGrow, CanShrink}
 
 -- ---- sums of a row more, and of a row less
-
-sum_with : (f : CacheItem → ℕ) (b : Bool) (row : CacheItem) (rows : List CacheItem)
-    → sum_by f (cond b (insertion (stands_before row) row rows) (rows ++ row ∷ [])) ≡ f row + sum_by f rows
-sum_with f true row rows = sum_by-insertion f (stands_before row) row rows
-sum_with f false row rows = omega (arith, sum_by_push f rows row)
-
-long_with : (b : Bool) (row : CacheItem) (rows : List CacheItem)
-    → length (cond b (insertion (stands_before row) row rows) (rows ++ row ∷ [])) ≡ length rows + 1
-long_with true row rows = length-insertion (stands_before row) row rows
-long_with false row rows = length-append rows (row ∷ [])
-
-all_with : (p : CacheItem → Bool) (b : Bool) (row : CacheItem) (rows : List CacheItem) → p row ≡ true
-    → list_all p rows ≡ true → list_all p (cond b (insertion (stands_before row) row rows) (rows ++ row ∷ [])) ≡ true
-all_with p true row rows e h = grind (arith, list_all-insertion, and_from)
-all_with p false row rows e h = grind (arith, list_all-append, and_from)
 
 module _ (name : Name16) (rows : List CacheItem) (row : CacheItem) (apart : pairwise names_apart rows ≡ true)
     (h : row_of name rows ≡ Some row) where
@@ -41,7 +26,17 @@ none_less name rows h = without-absent name rows (absent name rows h)
 
 pub tally_come : (tally after : Tally) (row : CacheItem) (rows left : List CacheItem) → IsTally tally rows
     → after ≡ tally_with row tally → is_small row ≡ true → left ≡ rows_with row rows → IsTally after left
-tally_come tally after row rows left is e small f = grind (arith, long_with, sum_with, size, all_with)
+tally_come tally after row rows left is e small f = grind (
+  arith,
+  length-insertion,
+  length-append,
+  sum_by-insertion,
+  sum_by_push,
+  size,
+  list_all-insertion,
+  and_from,
+  list_all-append,
+)
 
 pub tally_released : (tally : Tally) (conn : ConnId) (rows : List CacheItem) → IsTally tally rows
     → IsTally tally (map (without_hold conn) rows)
@@ -59,12 +54,8 @@ small_sum (row ∷ rows) h =
 ones_sum : (rows : List CacheItem) → sum_by one_unchanged rows ≤ length rows
 ones_sum rows = count_by-le-length is_unchanged rows
 
-at_most : (b : Bool) (n : ℕ) → cond b n 0 ≤ n
-at_most true n = omega arith
-at_most false n = omega arith
-
 part_sum : (rows : List CacheItem) → sum_by elements_unchanged rows ≤ elements_in rows
-part_sum rows = grind (arith, sum_by-le-sum_by, size, at_most)
+part_sum rows = grind (arith, sum_by-le-sum_by, size)
 
 pub can_grow : (tally : Tally) (rows : List CacheItem) → IsTally tally rows → tally.rows < 4294967295 → CanGrow tally
 can_grow tally rows is few = grind (arith, small_sum, ones_sum, part_sum)

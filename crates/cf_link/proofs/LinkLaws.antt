@@ -1,10 +1,9 @@
 -- Links that were asked many times.
-use Rattle.std.proofs.Common.{◌≡◌, ℕ, ◌+◌, ◌<◌, ◌≤◌, Bool, true, false, List, [], ◌∷◌, ◌++◌, length, refl, sym, ap, subst, ◌∙◌, arith}
-use Rattle.std.specs.Prelude.{Option, None, Some, option_map, filter, ◌↔◌, ◌^◌, ◌-◌}
+use Rattle.std.proofs.Common.{◌≡◌, ℕ, Bool, true, false, List, [], ◌∷◌, ◌++◌, length, refl, sym, ap, subst, ◌∙◌, arith}
+use Rattle.std.specs.Prelude.{Option, None, Some, option_map, filter}
 use Rattle.cf_io.specs.Count.{IsListed, RisesBy}
-use Rattle.cf_link.specs.Asks.{IsAsked}
-use Rattle.cf_link.specs.Tells.{TellsEnough}
 use Rattle.cf_link.specs.Links.{calls_after, Telling, IsAsTold, IsAskedAll, Tells}
+use Rattle.cf_link.specs.{Asks.IsAsked, Tells.TellsEnough}
 
 module _ {L : Type 0} (calls : L → Option ℕ) (downs : L → Option (List ℕ)) (faults : L → ℕ) where
   -- what was asked, and what was asked behind it
@@ -63,5 +62,3 @@ module _ {L : Type 0} (calls : L → Option ℕ) (downs : L → Option (List ℕ
       → Tells calls downs faults told old → IsAskedAll calls downs faults answers old new → IsAsTold told answers
   asked_told told answers old new enough tells asked front answer more e =
       grind (arith, cut_asked, asked_downs, asked_calls, none_listed)
-
--- ---- the counts in numbers

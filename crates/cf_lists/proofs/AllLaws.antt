@@ -1,5 +1,5 @@
 -- Lists of lists: all records, one list replaced, the last record gone.
-use Rattle.cf_lists.proofs.Imports.{◌≡◌, ℕ, ◌+◌, ◌-◌, ◌<◌, Bool, true, false, not, ◌&&◌, ◌||◌, cond, List, [], ◌∷◌, ◌++◌, length, map, filter, get_or, take, drop, set, position, Option, Some, None, is_some, refl, sym, ap, ◌∙◌, arith, suc, zero, list_any, list_all, position_or_len, option_or, and_parts, and_from, false≢true, append_assoc, map-append, length-map, length-append, nil_from_length, take_all, list_any-append, list_all-append, filter-append, pairwise, records_of, all_records, IsLastFull}
+use Rattle.cf_lists.proofs.Imports.{◌≡◌, ℕ, ◌-◌, ◌<◌, Bool, true, false, not, ◌&&◌, List, [], ◌∷◌, ◌++◌, length, map, filter, get_or, take, drop, set, position, Option, Some, None, is_some, refl, ap, arith, suc, zero, list_any, list_all, position_or_len, option_or, and_parts, and_from, false≢true, append_assoc, map-append, length-map, length-append, nil_from_length, take_all, list_any-append, list_all-append, filter-append, pairwise, records_of, all_records, IsLastFull, unwrap_or-slice_get, lists_with, take-append-drop}
 use Rattle.cf_lists.proofs.FilterLaws.{none_from_all, list_all_weaker}
 
 module _ {X : Type 0} where
@@ -8,14 +8,12 @@ module _ {X : Type 0} where
   list_of header lists = records_of lists header
 
   pub list_of-get_or : (lists : List (List X)) (h : ℕ) → list_of h lists ≡ get_or lists h []
-  list_of-get_or [] h = refl
-  list_of-get_or (recs ∷ lists) zero = refl
-  list_of-get_or (recs ∷ lists) (suc h) = list_of-get_or lists h
+  list_of-get_or lists h = unwrap_or-slice_get lists h []
 
   position_or_len-map : {Y : Type 0} (p : Y → Bool) (f : X → Y) (xs : List X)
       → position_or_len p (map f xs) ≡ position_or_len (λ x. p (f x)) xs
   position_or_len-map p f [] = refl
-  position_or_len-map p f (x ∷ xs) = ap (λ (n : ℕ). cond (not (p (f x))) (1 + n) 0) (position_or_len-map p f xs)
+  position_or_len-map p f (x ∷ xs) = rw (position_or_len-map p f xs) refl
 
   pub position-map : {Y : Type 0} (p : Y → Bool) (f : X → Y) (xs : List X)
       → position p (map f xs) ≡ position (λ x. p (f x)) xs
@@ -64,15 +62,24 @@ module _ {X : Type 0} where
   all-split (l ∷ lists) zero lt = refl
   all-split (l ∷ lists) (suc h) lt = grind (arith, append_assoc, all-split lists h (omega (arith, lt)))
 
+  -- one record more
+  pub all_with : (h p : ℕ) (rec : X) (lists : List (List X)) → h < length lists → (front : List X) × (back : List X)
+      × (all_records lists ≡ front ++ back) × (all_records (lists_with h p rec lists) ≡ front ++ rec ∷ back)
+  all_with h p rec lists lt =
+      let recs = records_of lists h in
+      let front = all_records (take h lists) in
+      let back = all_records (drop (suc h) lists) in (
+        front ++ take p recs,
+        drop p recs ++ back,
+        grind (arith, all-split lists h lt, take-append-drop p recs, append_assoc),
+        grind (arith, all-set, append_assoc),
+      )
+
   pub pairwise_back : (relation : X → X → Bool) (xs ys : List X) → pairwise relation (xs ++ ys) ≡ true
       → pairwise relation ys ≡ true
   pairwise_back relation [] ys h = h
-  pairwise_back relation (x ∷ xs) ys h = grind (
-    arith,
-    and_parts,
-    pairwise_back relation xs
-        ys (and_parts (list_all (relation x) (xs ++ ys)) (pairwise relation (xs ++ ys)) h).1,
-  )
+  pairwise_back relation (x ∷ xs) ys h =
+      pairwise_back relation xs ys (and_parts (list_all (relation x) (xs ++ ys)) _ h).1
 
   -- the first n records, by header and place
   abbrev pub first_records : ℕ → List (List X) → List (List X)
@@ -81,12 +88,7 @@ module _ {X : Type 0} where
 
   pub none-first : (lists : List (List X)) → all_records lists ≡ [] → first_records 0 lists ≡ lists
   none-first [] e = refl
-  none-first (recs ∷ lists) e =
-      let long = ap (λ (l : List X). length l) e in
-      let here : length recs ≡ 0 = omega (arith, long, length-append recs (all_records lists)) in
-      let rest : length (all_records lists) ≡ 0 = omega (arith, long, length-append recs (all_records lists)) in
-      let none : 0 - length recs ≡ 0 = omega arith in
-      rw (none, none-first lists (nil_from_length (all_records lists) rest)) (grind (arith, nil_from_length))
+  none-first (recs ∷ lists) e = grind (arith, ap length e, length-append, nil_from_length, none-first lists)
 
   pub popped : (lists : List (List X)) (h : ℕ) → IsLastFull h lists → set lists
       h (take (length (list_of h lists) - 1) (list_of h lists)) ≡ first_records (length (all_records lists) - 1) lists
@@ -94,17 +96,7 @@ module _ {X : Type 0} where
   popped (recs ∷ lists) zero is = grind (arith, length-append, none-first)
   popped (recs ∷ lists) (suc h) is =
       let rest : IsLastFull h lists = record { within = omega (arith, is.within); full = is.full; last = is.last } in
-      let some : 0 < length (all_records lists) = omega (
-        arith,
-        is.full,
-        ap (λ (l : List X). length l) (all-split lists h (omega (arith, is.within))),
-        length-append (all_records (take h lists)) (list_of h lists ++ all_records (drop (suc h) lists)),
-        length-append (list_of h lists) (all_records (drop (suc h) lists)),
-      ) in
-      let left : (length (recs ++ all_records lists) - 1) - length recs ≡ length (all_records lists) - 1 =
-      omega (arith, some, length-append recs (all_records lists)) in
-      let whole : take (length (recs ++ all_records lists) - 1) recs ≡ recs = grind (arith, take_all, length-append) in
-      rw (left, whole) (ap (λ (l : List (List X)). recs ∷ l) (popped lists h rest))
+      grind (arith, is.full, all-split lists h (omega (arith, is.within)), length-append, take_all, popped lists h rest)
 
 module _ {X Y : Type 0} (f : X → Y) where
   pub all-map : (lists : List (List X)) → all_records (map (map f) lists) ≡ map f (all_records lists)

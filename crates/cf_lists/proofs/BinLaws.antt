@@ -1,10 +1,8 @@
 -- What is kept in table entries is seen in order, and a change of one entry is a change of what is seen.
-use Rattle.cf_lists.proofs.Imports.{◌≡◌, ◌≢◌, ℕ, zero, suc, ◌<◌, ◌==◌, Bool, true, false, not, List, [], ◌∷◌, ◌++◌, filter, length, get_or, set, refl, sym, ap, ◌∙◌, arith, list_all, eqb-true, eq-eqb, not-true, false≢true, append-nil, get_or-set_same, get_or-set_other, filter-append, pairwise, is_keyed, in_turn, arranged, joined, AreAtHome, IsKeyOrder}
+use Rattle.cf_lists.proofs.Imports.{◌≡◌, ◌≢◌, ℕ, zero, suc, ◌<◌, ◌==◌, Bool, true, false, not, List, [], ◌∷◌, filter, length, get_or, set, refl, sym, ap, ◌∙◌, arith, list_all, eqb-true, eq-eqb, not-true, false≢true, append-nil, get_or-set_same, get_or-set_other, filter-append, pairwise, is_keyed, in_turn, arranged, joined, AreAtHome, IsKeyOrder}
 use Rattle.cf_lists.proofs.FilterLaws.{filter_none, none_from_all, list_all_weaker, list_all_always}
-use Rattle.cf_lists.proofs.PairwiseLaws.{FindsPlace, pairwise-insertion}
-use Rattle.cf_lists.proofs.InsertionLaws.{filter-insertion_out}
-use Rattle.cf_lists.proofs.EntryPlaceLaws.{filter-insertion_ahead}
-use Rattle.cf_lists.proofs.TieLaws.{ordered_filters}
+use Rattle.cf_lists.proofs.{InsertionLaws.filter-insertion_out, EntryPlaceLaws.filter-insertion_ahead}
+use Rattle.cf_lists.proofs.{PairwiseLaws.FindsPlace, PairwiseLaws.pairwise-insertion, TieLaws.ordered_filters}
 
 -- ---- one entry of all
 
@@ -12,8 +10,9 @@ joined_out : {X : Type 0} (p : X → Bool) (bins : List (List X))
     → ((j : ℕ) → list_all (λ x. not (p x)) (get_or bins j []) ≡ true) → filter p (joined bins) ≡ []
 unfolding joined
 joined_out p [] h = refl
-joined_out p (bin ∷ bins) h = filter-append p bin (joined bins)
-    ∙ rw (filter_none p bin (none_from_all p bin (h 0)), joined_out p bins (λ j. h (suc j))) refl
+joined_out p (bin ∷ bins) h =
+    let first = h 0 in
+    grind (arith, filter-append, filter_none, none_from_all, first, joined_out p bins (λ j. h (suc j)))
 
 -- what passes lies in one entry
 joined_home : {X : Type 0} (p : X → Bool) (at : ℕ → X → Bool) (i : ℕ) (bins : List (List X))
@@ -21,12 +20,14 @@ joined_home : {X : Type 0} (p : X → Bool) (at : ℕ → X → Bool) (i : ℕ) 
     → ((j : ℕ) (x : X) → j ≢ i → at j x ≡ true → p x ≡ false) → filter p (joined bins) ≡ filter p (get_or bins i [])
 unfolding joined
 joined_home p at i [] h out = refl
-joined_home p at zero (bin ∷ bins) h out = filter-append p bin (joined bins)
-    ∙ ap (λ l. filter p bin ++ l) (joined_out p bins (λ j. list_all_weaker (at (suc j)) (λ x. not (p x))
-    (λ x e. ap not (out (suc j) x (λ z. cc) e)) (get_or bins j []) (h (suc j)))) ∙ append-nil (filter p bin)
-joined_home p at (suc i) (bin ∷ bins) h out = filter-append p bin (joined bins) ∙ ap (λ l. l ++ filter
-    p (joined bins)) (filter_none p bin (none_from_all p bin (list_all_weaker (at 0) (λ x. not (p x)) (λ x e. ap not
-    (out 0 x (λ z. cc) e)) bin (h 0)))) ∙ joined_home p (λ j. at (suc j)) i bins (λ j. h (suc j)) (grind arith)
+joined_home p at zero (bin ∷ bins) h out =
+    let others = joined_out p bins (λ j. list_all_weaker (at (suc j)) (λ x. not (p x))
+    (λ x e. ap not (out (suc j) x (λ z. cc) e)) (get_or bins j []) (h (suc j))) in
+    grind (arith, filter-append, others, append-nil)
+joined_home p at (suc i) (bin ∷ bins) h out =
+    let none = filter_none p bin (none_from_all p bin (list_all_weaker (at 0) (λ x. not (p x))
+    (λ x e. ap not (out 0 x (λ z. cc) e)) bin (h 0))) in
+    grind (arith, filter-append, none, joined_home p (λ j. at (suc j)) i bins (λ j. h (suc j)) (grind arith))
 
 module _ {X K : Type 0} (key : X → K) (same before : K → K → Bool) (slot : K → ℕ) (is : IsKeyOrder same before) where
   -- ---- the order
@@ -52,15 +53,10 @@ module _ {X K : Type 0} (key : X → K) (same before : K → K → Bool) (slot :
 
   -- ---- what is seen of a key lies in its entry
 
-  elsewhere : (k : K) (j : ℕ) (x : X) (b : Bool) → j ≢ slot k → (slot (key x) == j) ≡ true → same (key x) k ≡ b
-      → b ≡ false
-  elsewhere k j x true n h e = grind (arith, eqb-true)
-  elsewhere k j x false n h e = refl
-
   pub keyed_home : (k : K) (bins : List (List X)) → AreAtHome key slot bins → filter (is_keyed key same k)
       (arranged key before (joined bins)) ≡ filter (is_keyed key same k) (get_or bins (slot k) [])
-  keyed_home k bins h = keyed-arranged k (joined bins) ∙ joined_home (is_keyed key same k)
-      (λ j x. slot (key x) == j) (slot k) bins h (λ j x n e. elsewhere k j x (same (key x) k) n e refl)
+  keyed_home k bins h = keyed-arranged k (joined bins) ∙ joined_home
+      (is_keyed key same k) (λ j x. slot (key x) == j) (slot k) bins h (grind (arith, eqb-true, false≢true))
 
   -- ---- one entry changes
 

@@ -1,5 +1,5 @@
 -- Resources in order.
-use Rattle.cf_lists.proofs.Imports.{arith, ◌≡◌, Bool, true, false, not, refl, sym, ap, ◌∙◌, Ordering, Less, Equal, Greater, is_lt, is_eq, ordering_reverse, not-true, not_from_false, false≢true, Resource, same_resource, resource_cmp, resource_before, resource_up_to, same_resource-eq, same_resource-refl, resource_cmp_total, resource_up_to-trans, resource_up_to-either, same_resource-is, IsKeyOrder}
+use Rattle.cf_lists.proofs.Imports.{arith, ◌≡◌, Bool, true, false, not, refl, sym, ap, ◌∙◌, Ordering, Less, Equal, Greater, is_lt, is_eq, ordering_reverse, not-true, not_from_false, false≢true, Resource, same_resource, resource_before, resource_up_to, same_resource-eq, same_resource-refl, resource_cmp_total, resource_up_to-trans, resource_up_to-either, same_resource-is, IsKeyOrder, true_from_ne_false}
 
 equal_from : (o : Ordering) → is_lt o ≡ false → is_lt (ordering_reverse o) ≡ false → is_eq o ≡ true
 equal_from Less h e = absurd (false≢true (sym h))
@@ -13,7 +13,7 @@ not_equal Greater h = refl
 
 -- of two resources neither of which is before the other
 tied : (a b : Resource) → resource_before a b ≡ false → resource_before b a ≡ false → same_resource b a ≡ true
-tied a b h e = cc (same_resource-is b a, equal_from _ e (sym (ap is_lt (resource_cmp_total.antisymm a b)) ∙ h))
+tied a b h e = grind (arith, same_resource-is, equal_from, resource_cmp_total)
 
 once : (a : Resource) (t : Bool) → resource_before a a ≡ t → t ≡ false
 once a false e = refl
@@ -32,11 +32,7 @@ resource_order = record {
 
 -- ---- what stands in front of a resource
 
-before_step : (a b r : Resource) (t : Bool) → resource_up_to a b ≡ true → resource_before b r ≡ true
-    → resource_before a r ≡ t → t ≡ true
-before_step a b r true h e f = refl
-before_step a b r false h e f = grind (arith, not-true, resource_up_to-trans, not_from_false)
-
 pub before_front : (r a b : Resource) → resource_up_to a b ≡ true → resource_before b r ≡ true
     → resource_before a r ≡ true
-before_front r a b h e = before_step a b r (resource_before a r) h e refl
+before_front r a b h e = true_from_ne_false (resource_before a r)
+    (λ f. false≢true (sym (resource_order.follows r a b f (not-true (resource_before b a) h)) ∙ e))

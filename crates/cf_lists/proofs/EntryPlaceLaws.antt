@@ -1,5 +1,5 @@
 -- Filters of a list with one more element in its place.
-use Rattle.cf_lists.proofs.Imports.{arith, ◌≡◌, Bool, true, false, not, cond, List, [], ◌∷◌, ◌++◌, filter, refl, sym, ap, list_all, and_parts, false≢true, insertion, pairwise}
+use Rattle.cf_lists.proofs.Imports.{arith, ◌≡◌, Bool, true, false, List, [], ◌∷◌, ◌++◌, filter, refl, list_all, and_parts, false≢true, insertion, pairwise}
 use Rattle.cf_lists.proofs.FilterLaws.{filter_none, none_from_all, list_all_weaker}
 
 -- a filter that keeps the element, where behind one that it doesn't stand behind nor is kept none is kept
@@ -10,19 +10,11 @@ filter-insertion_in r p b x [] e past h = rw e refl
 filter-insertion_in r p b x (y ∷ ys) e past h =
     grind (arith, and_parts, filter_none, none_from_all, list_all_weaker, filter-insertion_in r p b x ys e past)
 
-ahead_step : {X : Type 0} (p b : X → Bool) (s t : Bool) (x y : X) (ys zs : List X) → b y ≡ s → p y ≡ t → p x ≡ true
-    → (t ≡ true → s ≡ false) → filter p zs ≡ x ∷ filter p ys
-    → filter p (cond s (y ∷ zs) (x ∷ y ∷ ys)) ≡ x ∷ cond t (y ∷ filter p ys) (filter p ys)
-ahead_step p b true true x y ys zs e f g none ih = absurd (false≢true (sym (none refl)))
-ahead_step p b true false x y ys zs e f g none ih = rw f ih
-ahead_step p b false true x y ys zs e f g none ih = rw (f, g) refl
-ahead_step p b false false x y ys zs e f g none ih = rw (f, g) refl
-
 -- a filter that keeps the element, and none that stands before it
 pub filter-insertion_ahead : {X : Type 0} (p b : X → Bool) (x : X) (ys : List X) → p x ≡ true
     → ((y : X) → p y ≡ true → b y ≡ false) → filter p (insertion b x ys) ≡ x ∷ filter p ys
 filter-insertion_ahead p b x [] e none = rw e refl
-filter-insertion_ahead p b x (y ∷ ys) e none = grind (arith, ahead_step, filter-insertion_ahead p b x ys e none)
+filter-insertion_ahead p b x (y ∷ ys) e none = grind (arith, false≢true, filter-insertion_ahead p b x ys e none)
 
 -- behind all
 pub insertion_behind : {X : Type 0} (b : X → Bool) (x : X) (ys : List X) → list_all b ys ≡ true
@@ -30,13 +22,8 @@ pub insertion_behind : {X : Type 0} (b : X → Bool) (x : X) (ys : List X) → l
 insertion_behind b x [] h = refl
 insertion_behind b x (y ∷ ys) h = grind (arith, and_parts, insertion_behind b x ys)
 
-agree_step : {X : Type 0} (b c : X → Bool) (s : Bool) (x y : X) (ys : List X) → c y ≡ s
-    → insertion b x ys ≡ insertion c x ys → cond s (y ∷ insertion b x ys) (x ∷ y ∷ ys) ≡ insertion c x (y ∷ ys)
-agree_step b c true x y ys e ih = rw e (ap (λ l. y ∷ l) ih)
-agree_step b c false x y ys e ih = rw e refl
-
 -- places that agree on what is kept
 pub insertion_agree : {X : Type 0} (p b c : X → Bool) (x : X) (ys : List X) → list_all p ys ≡ true
     → ((y : X) → p y ≡ true → b y ≡ c y) → insertion b x ys ≡ insertion c x ys
 insertion_agree p b c x [] h same = refl
-insertion_agree p b c x (y ∷ ys) h same = grind (arith, and_parts, agree_step, insertion_agree p b c x ys)
+insertion_agree p b c x (y ∷ ys) h same = grind (arith, and_parts, insertion_agree p b c x ys)

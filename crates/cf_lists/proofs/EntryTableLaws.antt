@@ -1,25 +1,15 @@
 -- Table entries: what is seen of a resource lies in its entry, and a change of that entry is a change of what is seen.
-use Rattle.cf_lists.proofs.Imports.{arith, ◌≡◌, ◌≢◌, ℕ, zero, suc, ◌-◌, ◌<◌, ◌≤◌, ◌==◌, Bool, true, false, not, ◌&&◌, List, [], ◌∷◌, ◌++◌, Option, Some, None, filter, find, map, length, get_or, set, slice_get, option_map, replicate, position, is_some, ◌+◌, refl, sym, ap, ◌∙◌, subst, list_any, list_all, prefix_len, remove, and_parts, and_from, eqb-true, eq-eqb, not-true, false≢true, length-replicate, length-set, get_or_default, Resource, Part, same_part, same_resource, resource_before, resource_up_to, same_resource-eq, same_resource-refl, same_part-eq, same_part-refl, same_part_comm, insertion, pairwise, in_turn, arranged, joined, AreAtHome, resource_by, is_on, is_part, are_apart, slot_in, seen_in, IsTable}
-use Rattle.cf_lists.proofs.FilterLaws.{list_all_weaker, list_all_always, list_all-filter, all_from_none, filter_all, find-filter, filter_swap, filter_absorbed, any_is_found}
-use Rattle.cf_lists.proofs.KeyLaws.{remove_placed, length_without}
-use Rattle.cf_lists.proofs.PairwiseLaws.{pairwise-filter, pairwise-insertion_any, pairwise-map}
-use Rattle.cf_lists.proofs.InsertionLaws.{list_all-insertion}
-use Rattle.cf_lists.proofs.EntryKeyLaws.{resource_order}
-use Rattle.cf_lists.proofs.EntryPlaceLaws.{insertion_behind}
+use Rattle.cf_lists.proofs.Imports.{arith, ◌≡◌, ◌≢◌, ℕ, zero, suc, ◌-◌, ◌<◌, ◌≤◌, ◌==◌, Bool, true, false, not, ◌&&◌, List, [], ◌∷◌, ◌++◌, Option, Some, None, filter, find, map, length, get_or, set, slice_get, option_map, replicate, position, is_some, ◌+◌, refl, sym, ap, ◌∙◌, subst, list_any, list_all, prefix_len, remove, and_parts, and_from, eqb-true, eq-eqb, not-true, false≢true, length-replicate, length-set, get_or_default, Resource, Part, same_part, same_resource, resource_before, resource_up_to, same_resource-eq, same_resource-refl, same_part-eq, same_part-refl, same_part_comm, insertion, pairwise, in_turn, arranged, joined, AreAtHome, resource_by, is_on, is_part, are_apart, slot_in, seen_in, IsTable, slice_get-map, list_all-map, cases_Bool}
 use Rattle.cf_lists.proofs.BinLaws.{arranged_in_turn, keyed_home, home_kept, seen}
-use Rattle.cf_lists.proofs.OpLaws.{filtered, mapped, inserted}
-use Rattle.cf_lists.proofs.RunLaws.{at_run, order_insertion}
-use Rattle.cf_lists.proofs.EntrySpotLaws.{any_kept}
+use Rattle.cf_lists.proofs.FilterLaws.{list_all_weaker, list_all_always, list_all-filter, all_from_none, none_from_all, filter_none, filter_all, find-filter, filter_swap, filter_absorbed, any_is_found}
+use Rattle.cf_lists.proofs.PairwiseLaws.{pairwise-filter, pairwise-insertion_any, pairwise-map}
 use Rattle.cf_lists.proofs.ViewLaws.{by_key, length_in, mapped_pairs}
-
-get_mapped : {X Y : Type 0} (f : X → Y) (xs : List X) (k : ℕ) → slice_get (map f xs) k ≡ option_map f (slice_get xs k)
-get_mapped f [] k = refl
-get_mapped f (x ∷ xs) zero = refl
-get_mapped f (x ∷ xs) (suc k) = get_mapped f xs k
+use Rattle.cf_lists.proofs.{EntryKeyLaws.resource_order, EntryPlaceLaws.insertion_behind, EntrySpotLaws.any_kept}
+use Rattle.cf_lists.proofs.{KeyLaws.remove_placed, KeyLaws.length_without, InsertionLaws.list_all-insertion}
+use Rattle.cf_lists.proofs.{OpLaws.filtered, OpLaws.mapped, OpLaws.inserted, RunLaws.at_run, RunLaws.order_insertion}
 
 turned : (b : Bool) → not b ≡ false → b ≡ true
-turned true e = refl
-turned false e = absurd (false≢true (sym e))
+turned b e = grind (arith, cases_Bool b)
 
 module _ {X : Type 0} (part_of : X → Part) where
   -- ---- what is seen
@@ -48,9 +38,7 @@ module _ {X : Type 0} (part_of : X → Part) where
 
   other_apart : (x y : X) (s : Bool) → same_resource (part_of y).0 (part_of x).0 ≡ false
       → same_resource (part_of x).0 (part_of y).0 ≡ s → not (s && ((part_of x).1.0 == (part_of y).1.0)) ≡ true
-  other_apart x y false e f = refl
-  other_apart x y true e f = absurd (false≢true (sym e ∙ subst (λ r. same_resource (part_of y).0 r ≡ true)
-      (sym (same_resource-eq (part_of x).0 (part_of y).0 f)) (same_resource-refl (part_of y).0)))
+  other_apart x y s e f = grind (arith, same_resource-eq (part_of x).0 (part_of y).0, same_resource-refl, false≢true)
 
   module _ (bins : List (List X)) (order : List Resource) (is : IsTable part_of bins order) (i : ℕ) (d : List X)
       (within : i < length bins) where
@@ -64,20 +52,12 @@ module _ {X : Type 0} (part_of : X → Part) where
         → pairwise (are_apart part_of) (filter (is_on part_of k) (get_or bins i [])) ≡ true
     lacks k true e = rw (seen (resource_by part_of) same_resource resource_before (slot_in (length bins))
         resource_order k i bins is.home (eqb-true (slot_in (length bins) k) i e)) (grind (arith, pairwise-filter))
-    lacks k false e = rw (none (get_or bins i []) (is.home i)) refl
+    lacks k false e =
+        rw (filter_none (is_on part_of k) (get_or bins i []) (none_from_all (is_on part_of k) _ (list_all_weaker
+        (λ x. slot_in (length bins) (part_of x).0 == i) (λ x. not (is_on part_of k x)) other _ (is.home i)))) refl
       where
-        other : (x : X) (t : Bool) → (slot_in (length bins) (part_of x).0 == i) ≡ true
-            → same_resource (part_of x).0 k ≡ t → t ≡ false
-        other x true g h = grind (arith, false≢true, same_resource-eq)
-        other x false g h = refl
-
-        none : (xs : List X) → list_all (λ x. slot_in (length bins) (part_of x).0 == i) xs ≡ true
-            → filter (is_on part_of k) xs ≡ []
-        none [] g = refl
-        none (x ∷ xs) g =
-            let parts = and_parts (slot_in (length bins) (part_of x).0 == i)
-            (list_all (λ y. slot_in (length bins) (part_of y).0 == i) xs) g in
-            rw (other x (same_resource (part_of x).0 k) parts.0 refl) (none xs parts.1)
+        other : (x : X) → (slot_in (length bins) (part_of x).0 == i) ≡ true → not (is_on part_of k x) ≡ true
+        other x g = grind (arith, false≢true, same_resource-eq (part_of x).0 k)
 
     pub entry_apart : pairwise (are_apart part_of) (get_or bins i d) ≡ true
     entry_apart = rw default (by_key (resource_by part_of) same_resource (are_apart part_of)
@@ -157,17 +137,22 @@ module _ {X : Type 0} (part_of : X → Part) where
       changed_seen = rw (put, default) (mapped (resource_by part_of) same_resource resource_before
           (slot_in (length bins)) resource_order i bins is.home within f (λ x. ap (λ p. p.0) (kept x)) others)
 
-      keeps_home : (xs : List X) → list_all (λ x. slot_in (length bins) (part_of x).0 == i) xs ≡ true
-          → list_all (λ x. slot_in (length bins) (part_of x).0 == i) (map f xs) ≡ true
-      keeps_home [] h = refl
-      keeps_home (x ∷ xs) h = grind (arith, and_parts, and_from, keeps_home xs)
-
       keeps_keys : (xs : List X) → map (resource_by part_of) xs ≡ map (resource_by part_of) (map f xs)
       keeps_keys [] = refl
-      keeps_keys (x ∷ xs) = grind (arith, keeps_keys xs)
+      keeps_keys (x ∷ xs) = cc (kept x, keeps_keys xs)
 
       pub changed_table : IsTable part_of (set bins i new) order
-      changed_table = grind (arith, length-set, home_set, default, keeps_home, changed_seen, pairwise-map, keeps_keys)
+      changed_table = grind (
+        arith,
+        length-set,
+        home_set,
+        default,
+        list_all-map,
+        list_all_weaker,
+        changed_seen,
+        pairwise-map,
+        keeps_keys,
+      )
 
   -- the order of what is seen serves
   pub of_seen : (bins : List (List X)) (order : List Resource) → IsTable part_of bins order
@@ -177,12 +162,12 @@ module _ {X : Type 0} (part_of : X → Part) where
   -- where a part goes, one element goes
   pub one_less : (p : Part) (xs : List X) → pairwise (are_apart part_of) xs ≡ true
       → list_any (is_part part_of p) xs ≡ true → length (filter (λ x. not (is_part part_of p x)) xs) + 1 ≡ length xs
-  one_less p xs u any = go (find (is_part part_of p) xs) refl
+  one_less p xs u any = grind (arith, any_is_found, go)
     where
-      go : (o : Option X) → find (is_part part_of p) xs ≡ o
+      go : (o : Option X) → find (is_part part_of p) xs ≡ o → is_some o ≡ true
           → length (filter (λ x. not (is_part part_of p x)) xs) + 1 ≡ length xs
-      go None e = absurd (false≢true (sym (any_is_found (is_part part_of p) xs ∙ ap is_some e) ∙ any))
-      go (Some y) e = length_without part_of same_part same_part-eq same_part-refl p xs y u e
+      go None e some = absurd (false≢true some)
+      go (Some y) e some = length_without part_of same_part same_part-eq same_part-refl p xs y u e
 
   -- an element of another entry isn't this part
   pub not_here : (bins : List (List X)) (i : ℕ) (p : Part) → i ≡ slot_in (length bins) p.0 → (x : X)
@@ -193,7 +178,7 @@ module _ {X : Type 0} (part_of : X → Part) where
 
   pub last_front : (x y : X) → not (resource_before (part_of x).0 (part_of y).0) ≡ true
       → resource_before (part_of x).0 (part_of y).0 ≡ false
-  last_front x y e = not-true (resource_before (part_of x).0 (part_of y).0) e
+  last_front x y e = not-true _ e
 
   pub last_stop : (x y : X) → not (resource_before (part_of x).0 (part_of y).0) ≡ false
       → resource_before (part_of y).0 (part_of x).0 ≡ false
@@ -201,8 +186,7 @@ module _ {X : Type 0} (part_of : X → Part) where
 
   pub last_agree : (x y : X) → same_resource (part_of y).0 (part_of x).0 ≡ true
       → not (resource_before (part_of x).0 (part_of y).0) ≡ true
-  last_agree x y e = ap not (subst (λ k. resource_before (part_of x).0 k ≡ false)
-      (sym (same_resource-eq (part_of y).0 (part_of x).0 e)) (resource_order.once (part_of x).0))
+  last_agree x y e = grind (arith, same_resource-eq (part_of y).0 (part_of x).0, resource_order.once (part_of x).0)
 
   pub last_put : (x : X) (bin : List X) → bin ++ x ∷ [] ≡ insertion (λ y. true) x bin
   last_put x bin = sym (insertion_behind (λ y. true) x bin (list_all_always (λ y. true) (λ y. refl) bin))
@@ -221,12 +205,12 @@ module _ {X : Type 0} (part_of : X → Part) where
 
   pub none_past : (bins : List (List X)) (order : List Resource) (k : ℕ) → IsTable part_of bins order
       → slice_get order k ≡ None → None ≡ slice_get (seen_in part_of bins) k
-  none_past bins order k is h = grind (arith, get_mapped)
+  none_past bins order k is h = grind (arith, slice_get-map)
 
   pub at_is : (bins : List (List X)) (order : List Resource) (k n : ℕ) (r : Resource) → IsTable part_of bins order
       → slice_get order k ≡ Some r → n ≡ prefix_len (λ other. resource_before other r) order → slice_get (filter
       (is_on part_of r) (get_or bins (slot_in (length bins) r) [])) (k - n) ≡ slice_get (seen_in part_of bins) k
-  at_is bins order k n r is h e = grind (arith, found, go, get_mapped)
+  at_is bins order k n r is h e = grind (arith, found, go, slice_get-map)
     where
       go : (o : Option X) → slice_get (seen_in part_of bins) k ≡ o → option_map (resource_by part_of) o ≡ Some r
           → slice_get (filter (is_on part_of r) (seen_in part_of bins)) (k - prefix_len (λ other. resource_before

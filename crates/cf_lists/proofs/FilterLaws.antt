@@ -1,5 +1,8 @@
 -- Filters, and what holds of all elements, of some, or of the first that passes.
-use Rattle.cf_lists.proofs.Imports.{◌≡◌, ℕ, ◌≤◌, Bool, true, false, not, ◌&&◌, ◌||◌, cond, List, [], ◌∷◌, Option, Some, None, length, filter, find, sum_by, is_some, map, refl, ap, ◌∙◌, subst, arith, list_any, list_all, and_parts, and_from, or_right, false≢true, filter_agree, length-filter_both, sum_by-filter_both}
+use Rattle.cf_lists.proofs.Imports.{◌≡◌, ℕ, ◌≤◌, Bool, true, false, not, ◌&&◌, ◌||◌, List, [], ◌∷◌, Some, None, length, filter, find, sum_by, is_some, map, refl, ap, ◌∙◌, arith, list_any, list_all, and_parts, and_from, or_right, false≢true, filter_agree, length-filter_both, sum_by-filter_both, suc, ◌+◌, or_parts}
+
+pub next : (n : ℕ) → 1 + n ≡ suc n
+next n = omega arith
 
 -- ---- two filters
 
@@ -24,16 +27,11 @@ pub filter_all : {X : Type 0} (p : X → Bool) (xs : List X) → list_all p xs �
 filter_all p [] h = refl
 filter_all p (x ∷ xs) h = grind (arith, and_parts, false≢true, filter_all p xs)
 
-kept_step : {X : Type 0} (p : X → Bool) (b : Bool) (x : X) (ys : List X) → p x ≡ true → list_all p ys ≡ true
-    → list_all p (cond b (x ∷ ys) ys) ≡ true
-kept_step p true x ys e ih = and_from (p x) (list_all p ys) e ih
-kept_step p false x ys e ih = ih
-
 -- a filter keeps what holds of all elements
 pub list_all-filter : {X : Type 0} (p q : X → Bool) (xs : List X) → list_all p xs ≡ true
     → list_all p (filter q xs) ≡ true
 list_all-filter p q [] h = refl
-list_all-filter p q (x ∷ xs) h = grind (arith, and_parts, kept_step, list_all-filter p q xs)
+list_all-filter p q (x ∷ xs) h = grind (arith, and_parts, and_from, list_all-filter p q xs)
 
 -- what each element of a list has, and what follows from that
 pub list_all_weaker : {X : Type 0} (p q : X → Bool) → ((x : X) → p x ≡ true → q x ≡ true) → (xs : List X)
@@ -79,17 +77,18 @@ pub filter_nothing : {X : Type 0} (xs : List X) → filter (λ x. false) xs ≡ 
 filter_nothing [] = refl
 filter_nothing (x ∷ xs) = filter_nothing xs
 
--- ---- some element
+-- a map that changes only what passes
+pub map_same : {X : Type 0} (p : X → Bool) (f : X → X) (xs : List X) → list_any p xs ≡ false
+    → ((x : X) → p x ≡ false → f x ≡ x) → map f xs ≡ xs
+map_same p f [] h same = refl
+map_same p f (x ∷ xs) h same = grind (arith, or_parts, map_same p f xs)
 
-any_step : {X : Type 0} (p : X → Bool) (b : Bool) (x : X) (ys : List X) (c : Bool) → (list_any p ys ≡ true → c ≡ true)
-    → list_any p (cond b (x ∷ ys) ys) ≡ true → p x || c ≡ true
-any_step p true x ys c ih h = grind arith
-any_step p false x ys c ih h = or_right (p x) c (ih h)
+-- ---- some element
 
 -- what a filter kept was there
 pub any-filter : {X : Type 0} (p q : X → Bool) (xs : List X) → list_any p (filter q xs) ≡ true → list_any p xs ≡ true
 any-filter p q [] h = h
-any-filter p q (x ∷ xs) h = any_step p (q x) x (filter q xs) (list_any p xs) (any-filter p q xs) h
+any-filter p q (x ∷ xs) h = grind (arith, or_right, any-filter p q xs)
 
 -- nothing new comes by a filter
 pub none-filter : {X : Type 0} (p q : X → Bool) (xs : List X) → list_any p xs ≡ false
@@ -103,14 +102,10 @@ list_any-map p f (y ∷ ys) = ap (λ b. p (f y) || b) (list_any-map p f ys)
 
 -- ---- the first element that passes
 
-found_step : {X : Type 0} (b c : Bool) (x : X) (o : Option X) → c ≡ is_some o → b || c ≡ is_some (cond b (Some x) o)
-found_step true c x o e = refl
-found_step false c x o e = e
-
 -- something passes exactly where it is found
 pub any_is_found : {X : Type 0} (p : X → Bool) (xs : List X) → list_any p xs ≡ is_some (find p xs)
 any_is_found p [] = refl
-any_is_found p (x ∷ xs) = found_step (p x) (list_any p xs) x (find p xs) (any_is_found p xs)
+any_is_found p (x ∷ xs) = grind (arith, any_is_found p xs)
 
 -- what is looked for is kept
 pub find-filter : {X : Type 0} (p q : X → Bool) → ((x : X) → p x ≡ true → q x ≡ true) → (xs : List X)

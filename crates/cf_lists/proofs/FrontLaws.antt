@@ -1,9 +1,8 @@
 -- The records up to one of them, and with that one.
-use Rattle.cf_lists.proofs.Imports.{◌≡◌, ℕ, zero, suc, ◌+◌, ◌<◌, ◌≤◌, ◌||◌, not, Bool, true, false, List, [], ◌∷◌, ◌++◌, length, take, drop, set, replicate, slice_get, Some, refl, sym, ap, ◌∙◌, arith, list_any, false≢true, eq-eqb, append_assoc, take_all, length-replicate, list_any-append, pairwise, all_records, records_of, is_id, ids_apart, front, emptied}
-use Rattle.cf_lists.proofs.TakeLaws.{take_next, split_next}
+use Rattle.cf_lists.proofs.Imports.{◌≡◌, ℕ, zero, suc, ◌+◌, ◌<◌, ◌≤◌, not, Bool, true, false, List, [], ◌∷◌, ◌++◌, length, drop, set, replicate, slice_get, Some, refl, sym, ap, arith, list_any, false≢true, eq-eqb, append_assoc, take_all, length-replicate, list_any-append, pairwise, all_records, records_of, is_id, ids_apart, front, emptied}
 use Rattle.cf_lists.proofs.AllLaws.{none_behind, any_all, pairwise_back}
-use Rattle.cf_lists.proofs.IdLaws.{once}
 use Rattle.cf_lists.proofs.RecordSpotLaws.{any_at, any_there}
+use Rattle.cf_lists.proofs.{TakeLaws.take_next, TakeLaws.split_next, IdLaws.once}
 
 module _ {X : Type 0} where
   empties : (lists : List (List X)) → emptied lists ≡ replicate (length lists) []
@@ -55,21 +54,8 @@ module _ {X : Type 0} (id_of : X → ℕ) where
       → list_any (is_id id_of (id_of x)) (all_records (front h n lists)) ≡ false
   front_alone [] h n x a e = absurd (cc)
   front_alone (l ∷ ls) zero n x a e =
-      let p = is_id id_of (id_of x) in
-      let whole = ap (λ r. r ++ all_records ls) (split_next l n x e)
-      ∙ append_assoc (take n l) (x ∷ drop (n + 1) l) (all_records ls) in
-      let here = any_at p (x ∷ drop (n + 1) l ++ all_records ls) 0 x refl (eq-eqb (id_of x) (id_of x) refl) in
-      let none : list_any p (take n l) ≡ false = grind (arith, none_before, once) in
-      list_any-append p (take n l) (all_records (emptied ls))
-      ∙ ap (λ b. b || list_any p (all_records (emptied ls))) none ∙ none_in p ls
-  front_alone (l ∷ ls) (suc h) n x a e = grind (
-    arith,
-    any_all,
-    any_there,
-    eq-eqb,
-    none_before,
-    once,
-    list_any-append,
-    pairwise_back,
-    front_alone ls h n x (pairwise_back (ids_apart id_of) l (all_records ls) a) e,
-  )
+      let here = any_at (is_id id_of (id_of x)) (x ∷ drop (n + 1) l ++ all_records ls) 0 x in
+      grind (arith, split_next l n x e, append_assoc, here, eq-eqb, none_before, once, list_any-append, none_in)
+  front_alone (l ∷ ls) (suc h) n x a e =
+      let rest = front_alone ls h n x (pairwise_back (ids_apart id_of) l (all_records ls) a) e in
+      grind (arith, any_all, any_there, eq-eqb, none_before, once, list_any-append, rest)

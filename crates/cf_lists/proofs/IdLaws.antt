@@ -1,19 +1,15 @@
 -- Lists of records with ids: one with an id is in one place at most.
-use Rattle.cf_lists.proofs.Imports.{◌≡◌, ℕ, ◌+◌, ◌<◌, ◌≤◌, Bool, true, false, not, ◌&&◌, ◌||◌, ◌==◌, if◌then◌else◌, cond, List, [], ◌∷◌, ◌++◌, length, map, filter, take, drop, set, slice_get, refl, sym, ap, ◌∙◌, subst, arith, suc, list_any, list_all, position_or_len, remove, and_parts, false≢true, eq-eqb, eqb-true, nat_tests, append_assoc, take-append-drop, find-append, find_at, pairwise, all_records, is_id, has_id, record_of, lists_without, lists_with, lists_replaced, replaced_by, ids_apart}
-use Rattle.cf_lists.proofs.FilterLaws.{any_is_found, find_none, none_filtered, list_all_weaker, filter_all, all_from_none}
+use Rattle.cf_lists.proofs.Imports.{◌≡◌, ℕ, ◌<◌, ◌≤◌, Bool, true, false, not, ◌&&◌, ◌==◌, List, [], ◌∷◌, length, map, filter, take, drop, set, slice_get, refl, sym, ap, ◌∙◌, subst, arith, suc, list_any, list_all, position_or_len, remove, false≢true, eq-eqb, eqb-true, nat_tests, find-append, find_at, pairwise, all_records, is_id, has_id, record_of, lists_without, lists_with, lists_replaced, replaced_by, ids_apart, cond_both, cases_Bool}
+use Rattle.cf_lists.proofs.FilterLaws.{next, map_same, any_is_found, find_none, none_filtered, list_all_weaker, filter_all, all_from_none}
 use Rattle.cf_lists.proofs.KeyLaws.{any_is_placed, remove_placed}
 use Rattle.cf_lists.proofs.PairwiseLaws.{pairwise_front, pairwise_weaker, pairwise-filter, pairwise-map}
-use Rattle.cf_lists.proofs.AllLaws.{list_of, none_behind, any_all, option_left, all-filter, all-map, pairwise_middle, all-set, all-split, pairwise_back}
+use Rattle.cf_lists.proofs.AllLaws.{all_with, list_of, none_behind, any_all, option_left, all-filter, all-map, pairwise_middle, all-split, pairwise_back}
+use Rattle.cf_lists.proofs.TableLaws.{set_later}
 
 module _ {X : Type 0} (id_of : X → ℕ) where
   pub once : (id : ℕ) (x y : X) → (is_id id_of) id x ≡ true → (ids_apart id_of) x y ≡ true
       → not ((is_id id_of) id y) ≡ true
   once id x y h e = grind (arith, nat_tests)
-
-  pub map_same : (id : ℕ) (f : List X → List X) → ((recs : List X) → (has_id id_of) id recs ≡ false → f recs ≡ recs)
-      → (lists : List (List X)) → list_any (has_id id_of id) lists ≡ false → map f lists ≡ lists
-  map_same id f same [] h = refl
-  map_same id f same (recs ∷ lists) h = grind (arith, false≢true, map_same id f same lists)
 
   -- what changes the list that has the id alone changes that one list
   pub only_there : (id : ℕ) (f : List X → List X) → ((recs : List X) → (has_id id_of) id recs ≡ false → f recs ≡ recs)
@@ -21,27 +17,13 @@ module _ {X : Type 0} (id_of : X → ℕ) where
       → list_any (has_id id_of id) lists ≡ true → set lists (position_or_len (has_id id_of id) lists)
       (f (list_of (position_or_len (has_id id_of id) lists) lists)) ≡ map f lists
   only_there id f same [] h e = absurd (false≢true e)
-  only_there id f same (recs ∷ lists) h e = grind (arith, go, behind, only_there id f same lists (behind recs h))
-    where
-      behind : (xs : List X) → pairwise (ids_apart id_of) (xs ++ all_records lists) ≡ true → pairwise (ids_apart id_of)
-          (all_records lists) ≡ true
-      behind [] k = k
-      behind (x ∷ xs) k = behind xs (and_parts (list_all (ids_apart id_of x) (xs ++ all_records lists))
-          (pairwise (ids_apart id_of) (xs ++ all_records lists)) k).1
-
-      later : (k : ℕ) → set (recs ∷ lists) (1 + k) (f (list_of (1 + k) (recs ∷ lists)))
-          ≡ recs ∷ set lists k (f (list_of k lists))
-      later k = let s : 1 + k ≡ suc k = omega arith in rw s refl
-
-      go : (b : Bool) → (has_id id_of) id recs ≡ b → b || list_any (has_id id_of id) lists ≡ true
-          → (list_any (has_id id_of id) lists ≡ true → set lists (position_or_len (has_id id_of id) lists)
-          (f (list_of (position_or_len (has_id id_of id) lists) lists)) ≡ map f lists)
-          → set (recs ∷ lists) (cond (not b) (1 + position_or_len (has_id id_of id) lists) 0) (f (list_of
-          (cond (not b) (1 + position_or_len (has_id id_of id) lists) 0) (recs ∷ lists))) ≡ f recs ∷ map f lists
-      go true here e rest =
-          let none = sym (any_all (is_id id_of id) lists) ∙ none_behind _ _ (once _) _ _ h here in
-          ap (λ l. f recs ∷ l) (sym (map_same _ f same _ none))
-      go false apart e rest = grind (arith, later)
+  only_there id f same (recs ∷ lists) h e =
+      let rest = only_there id f same lists (pairwise_back (ids_apart id_of) recs _ h) in
+      cond_both (not (has_id id_of id recs)) _ 0 (λ n. set (recs ∷ lists)
+      n (f (list_of n (recs ∷ lists))) ≡ map f (recs ∷ lists)) (λ t. grind (arith, set_later, next, same, rest)) (λ t.
+      let here : has_id id_of id recs ≡ true = grind (arith, cases_Bool (has_id id_of id recs)) in
+      let none = sym (any_all (is_id id_of id) lists) ∙ none_behind _ _ (once id) _ _ h here in
+      ap (λ l. f recs ∷ l) (sym (map_same (has_id id_of id) f lists none same)))
 
   pub found_there : (id : ℕ) (lists : List (List X)) → list_any (has_id id_of id) lists ≡ true
       → (record_of id_of) id lists ≡ slice_get (list_of (position_or_len (has_id id_of id) lists) lists)
@@ -73,11 +55,12 @@ module _ {X : Type 0} (id_of : X → ℕ) where
 
   pub apart-list : (lists : List (List X)) (h : ℕ) → h < length lists
       → pairwise (ids_apart id_of) (all_records lists) ≡ true → pairwise (ids_apart id_of) (list_of h lists) ≡ true
-  apart-list lists h lt apart =
-      let split : pairwise (ids_apart id_of) (all_records (take h lists)
-      ++ (list_of h lists ++ all_records (drop (suc h) lists))) ≡ true = grind (arith, all-split) in
-      pairwise_front (ids_apart id_of) (list_of h lists) (all_records (drop (suc h) lists))
-      (grind (arith, pairwise_back, list_of))
+  apart-list lists h lt apart = grind (
+    arith,
+    all-split lists h lt,
+    pairwise_back (ids_apart id_of) (all_records (take h lists)),
+    pairwise_front (ids_apart id_of) (list_of h lists) (all_records (drop (suc h) lists)),
+  )
 
   pub record_there : (id : ℕ) (lists : List (List X)) (h p : ℕ) → IsPlaced id lists h p
       → (record_of id_of) id lists ≡ slice_get (list_of h lists) p
@@ -106,29 +89,22 @@ module _ {X : Type 0} (id_of : X → ℕ) where
 
   pub without_absent : (id : ℕ) (lists : List (List X)) → list_any (has_id id_of id) lists ≡ false
       → (lists_without id_of) id lists ≡ lists
-  without_absent id lists e = grind (arith, map_same, without_none)
+  without_absent id lists e = map_same (has_id id_of id) _ lists e (without_none id)
 
   pub unchanged : (rec : X) (recs : List X) → (has_id id_of) (id_of rec) recs ≡ false
       → map (replaced_by id_of rec) recs ≡ recs
-  unchanged rec [] e = refl
-  unchanged rec (x ∷ xs) e = grind (arith, false≢true, unchanged rec xs)
+  unchanged rec recs e = map_same (is_id id_of (id_of rec)) (replaced_by id_of rec) recs e (grind arith)
 
   pub apart-with : (lists : List (List X)) (h p : ℕ) (rec : X) → h < length lists → p ≤ length (list_of h lists)
       → pairwise (ids_apart id_of) (all_records lists) ≡ true → list_any ((is_id id_of) (id_of rec))
       (all_records lists) ≡ false → pairwise (ids_apart id_of) (all_records (lists_with h p rec lists)) ≡ true
   apart-with lists h p rec lt within apart alone =
-      let recs = list_of h lists in
-      let front = all_records (take h lists) in
-      let back = all_records (drop (suc h) lists) in
-      let split = all-split _ h lt ∙ ap (λ l. front ++ (l ++ back)) (sym (take-append-drop p recs))
-      ∙ ap (λ l. front ++ l) (append_assoc (take p recs) (drop p recs) back) ∙ sym (grind (arith, append_assoc)) in
-      let made : all_records (lists_with h p rec lists) ≡ (front ++ take p recs) ++ rec ∷ (drop p recs ++ back) =
-      grind (arith, all-set, append_assoc) in
-      ap (λ l. pairwise (ids_apart id_of) l) made ∙ pairwise_middle (ids_apart id_of)
-      (front ++ take p recs) (drop p recs ++ back) rec (ap (λ l. pairwise (ids_apart id_of) l) (sym split) ∙ apart)
-      (ap (λ l. list_all (λ x. (ids_apart id_of) rec x && (ids_apart id_of) x rec) l) (sym split) ∙ list_all_weaker
-      (λ x. not ((is_id id_of) (id_of rec) x)) (λ x. (ids_apart id_of) rec x && (ids_apart id_of) x rec)
-      (grind (arith, nat_tests)) _ (all_from_none ((is_id id_of) (id_of rec)) (all_records lists) alone))
+      let split = all_with h p rec lists lt in
+      let apart_all : X → Bool = λ x. (ids_apart id_of) rec x && (ids_apart id_of) x rec in
+      ap (λ l. pairwise (ids_apart id_of) l) split.3 ∙ pairwise_middle (ids_apart id_of) split.0 split.1 rec
+      (ap (λ l. pairwise (ids_apart id_of) l) (sym split.2) ∙ apart) (ap (λ l. list_all apart_all l) (sym split.2)
+      ∙ list_all_weaker (λ x. not ((is_id id_of) (id_of rec) x)) apart_all (grind (arith, nat_tests)) _
+      (all_from_none ((is_id id_of) (id_of rec)) (all_records lists) alone))
 
   -- no record has an id that was taken out
   pub gone : (id : ℕ) (lists : List (List X)) (rec : X) → (is_id id_of) id rec ≡ true
@@ -146,7 +122,7 @@ module _ {X : Type 0} (id_of : X → ℕ) where
   pub replaced_twice : (a b : X) → id_of a ≡ id_of b → (lists : List (List X))
       → lists_replaced id_of b (lists_replaced id_of a lists) ≡ lists_replaced id_of b lists
   replaced_twice a b e [] = refl
-  replaced_twice a b e (l ∷ ls) = grind (arith, replaced_again, replaced_twice a b e ls)
+  replaced_twice a b e (l ∷ ls) = cc (replaced_again a b e l, replaced_twice a b e ls)
 
   -- the ids that are there stay
   same_ids : (a : X) (xs : List X) (id : ℕ)

@@ -1,8 +1,9 @@
 -- A list with one more element in its place.
-use Rattle.cf_lists.proofs.Imports.{◌≡◌, ℕ, ◌+◌, Bool, true, false, ◌&&◌, ◌||◌, cond, List, [], ◌∷◌, Some, length, filter, find, sum_by, refl, sym, ◌∙◌, arith, suc, list_any, list_all, prefix_len, insert, false≢true, or_right, sum_by-cons, insertion}
+use Rattle.cf_lists.proofs.Imports.{◌≡◌, ℕ, ◌+◌, Bool, true, false, ◌&&◌, ◌||◌, List, [], ◌∷◌, Some, length, filter, find, sum_by, refl, arith, list_any, list_all, prefix_len, insert, false≢true, or_right, sum_by-cons, insertion}
+use Rattle.cf_lists.proofs.FilterLaws.{next}
 
 insert_later : {X : Type 0} (x y : X) (xs : List X) (i : ℕ) → insert (y ∷ xs) (1 + i) x ≡ y ∷ insert xs i x
-insert_later x y xs i = let e : 1 + i ≡ suc i = omega arith in rw e refl
+insert_later x y xs i = rw (next i) refl
 
 -- an insertion behind the longest front that stands before it
 pub insert-prefix_len : {X : Type 0} (before : X → Bool) (x : X) (xs : List X)
@@ -10,15 +11,10 @@ pub insert-prefix_len : {X : Type 0} (before : X → Bool) (x : X) (xs : List X)
 insert-prefix_len before x [] = refl
 insert-prefix_len before x (y ∷ xs) = grind (arith, insert_later, insert-prefix_len before x xs)
 
-all_step : {X : Type 0} (p : X → Bool) (b : Bool) (x y : X) (ys zs : List X) → list_all p zs ≡ p x && list_all p ys
-    → list_all p (cond b (y ∷ zs) (x ∷ y ∷ ys)) ≡ p x && (p y && list_all p ys)
-all_step p true x y ys zs ih = grind arith
-all_step p false x y ys zs ih = refl
-
 pub list_all-insertion : {X : Type 0} (p before : X → Bool) (x : X) (xs : List X)
     → list_all p (insertion before x xs) ≡ p x && list_all p xs
 list_all-insertion p before x [] = refl
-list_all-insertion p before x (y ∷ ys) = grind (arith, all_step, list_all-insertion p before x ys)
+list_all-insertion p before x (y ∷ ys) = grind (arith, list_all-insertion p before x ys)
 
 pub list_any-insertion : {X : Type 0} (p before : X → Bool) (x : X) (xs : List X)
     → list_any p (insertion before x xs) ≡ p x || list_any p xs
@@ -30,15 +26,16 @@ pub length-insertion : {X : Type 0} (before : X → Bool) (x : X) (xs : List X) 
 length-insertion before x [] = refl
 length-insertion before x (y ∷ ys) = grind (arith, length-insertion before x ys)
 
-sum_step : {X : Type 0} (f : X → ℕ) (b : Bool) (x y : X) (ys zs : List X) → sum_by f zs ≡ f x + sum_by f ys
-    → sum_by f (cond b (y ∷ zs) (x ∷ y ∷ ys)) ≡ f x + sum_by f (y ∷ ys)
-sum_step f true x y ys zs ih = omega (arith, ih, sum_by-cons f y zs, sum_by-cons f y ys)
-sum_step f false x y ys zs ih = sum_by-cons f x (y ∷ ys)
-
 pub sum_by-insertion : {X : Type 0} (f : X → ℕ) (before : X → Bool) (x : X) (xs : List X)
     → sum_by f (insertion before x xs) ≡ f x + sum_by f xs
 sum_by-insertion f before x [] = sum_by-cons f x []
-sum_by-insertion f before x (y ∷ ys) = grind (arith, sum_step, sum_by-insertion f before x ys)
+sum_by-insertion f before x (y ∷ ys) = grind (
+  arith,
+  sum_by-cons f x (y ∷ ys),
+  sum_by-cons f y ys,
+  sum_by-cons f y (insertion before x ys),
+  sum_by-insertion f before x ys,
+)
 
 -- a filter that doesn't keep the element
 pub filter-insertion_out : {X : Type 0} (p before : X → Bool) (x : X) (xs : List X) → p x ≡ false
@@ -52,26 +49,14 @@ pub find-insertion_past : {X : Type 0} (p before : X → Bool) (x : X) (xs : Lis
 find-insertion_past p before x [] e = rw e refl
 find-insertion_past p before x (y ∷ ys) e = grind (arith, find-insertion_past p before x ys e)
 
-here_step : {X : Type 0} (p : X → Bool) (a b c : Bool) (x y : X) (ys zs : List X) → p x ≡ true → p y ≡ a
-    → a || c ≡ false → (c ≡ false → find p zs ≡ Some x) → find p (cond b (y ∷ zs) (x ∷ y ∷ ys)) ≡ Some x
-here_step p true b c x y ys zs e f h ih = absurd (false≢true (sym h))
-here_step p false true c x y ys zs e f h ih = rw f (ih h)
-here_step p false false c x y ys zs e f h ih = rw e refl
-
 -- a search for the element, where no other passes
 pub find-insertion_here : {X : Type 0} (p before : X → Bool) (x : X) (xs : List X) → p x ≡ true
     → list_any p xs ≡ false → find p (insertion before x xs) ≡ Some x
 find-insertion_here p before x [] e h = rw e refl
-find-insertion_here p before x (y ∷ ys) e h = grind (arith, here_step, find-insertion_here p before x ys e)
-
-kept_step : {X : Type 0} (p q : X → Bool) (a b : Bool) (x y : X) (ys zs : List X) → p x ≡ true → q x ≡ true
-    → list_any p (filter q zs) ≡ true → q y ≡ b → list_any p (filter q (cond a (y ∷ zs) (x ∷ y ∷ ys))) ≡ true
-kept_step p q true true x y ys zs e f ih g = rw g (or_right (p y) (list_any p (filter q zs)) ih)
-kept_step p q true false x y ys zs e f ih g = rw g ih
-kept_step p q false b x y ys zs e f ih g = rw (f, e) refl
+find-insertion_here p before x (y ∷ ys) e h = grind (arith, false≢true, find-insertion_here p before x ys e)
 
 -- a filter that keeps the element
 pub list_any-insertion_kept : {X : Type 0} (p q before : X → Bool) (x : X) (xs : List X) → p x ≡ true → q x ≡ true
     → list_any p (filter q (insertion before x xs)) ≡ true
 list_any-insertion_kept p q before x [] e f = rw (f, e) refl
-list_any-insertion_kept p q before x (y ∷ ys) e f = grind (arith, kept_step, list_any-insertion_kept p q before x ys e)
+list_any-insertion_kept p q before x (y ∷ ys) e f = grind (arith, or_right, list_any-insertion_kept p q before x ys e)

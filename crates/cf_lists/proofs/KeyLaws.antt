@@ -1,24 +1,20 @@
 -- Lists whose elements have keys of their own.
-use Rattle.cf_lists.proofs.Imports.{◌≡◌, ℕ, ◌+◌, Bool, true, false, not, ◌&&◌, ◌||◌, cond, List, [], ◌∷◌, ◌++◌, map, Some, None, length, filter, find, sum_by, position, nat_lt, refl, sym, ap, ◌∙◌, subst, arith, suc, list_any, list_all, position_or_len, remove, and_parts, not-true, false≢true, lt-ltb, nat_tests, filter_agree, sum_by-cons, pairwise, shortest_prefix}
+use Rattle.cf_lists.proofs.Imports.{◌≡◌, ℕ, ◌+◌, Bool, true, false, not, List, [], ◌∷◌, ◌++◌, map, Some, None, length, filter, find, sum_by, position, nat_lt, refl, ap, subst, arith, list_any, list_all, position_or_len, remove, and_parts, not-true, false≢true, lt-ltb, nat_tests, filter_agree, sum_by-cons, pairwise, shortest_prefix}
 use Rattle.cf_lists.proofs.PairwiseLaws.{pairwise-filter}
-use Rattle.cf_lists.proofs.FilterLaws.{filter_all, filter-filter, find-filter, list_all-filter, list_all_always, none_from_all, all_from_none, list_all_weaker}
-
-any_step : (b c : Bool) (k n : ℕ) → c ≡ nat_lt k n → b || c ≡ nat_lt (cond (not b) (1 + k) 0) (suc n)
-any_step true c k n e = sym (lt-ltb 0 (suc n) (omega arith))
-any_step false c k n e = grind (arith, nat_tests)
+use Rattle.cf_lists.proofs.FilterLaws.{next, filter_all, filter-filter, find-filter, list_all-filter, list_all_always, none_from_all, all_from_none, list_all_weaker}
 
 -- something passes exactly where its place is within the list
 pub any_is_placed : {X : Type 0} (p : X → Bool) (xs : List X) → list_any p xs ≡ nat_lt (position_or_len p xs)
     (length xs)
 any_is_placed p [] = refl
-any_is_placed p (x ∷ xs) = any_step (p x) (list_any p xs) (position_or_len p xs) (length xs) (any_is_placed p xs)
+any_is_placed p (x ∷ xs) = grind (arith, lt-ltb, nat_tests, any_is_placed p xs)
 
 -- no place, and nothing passes
 pub none_placed : {X : Type 0} (p : X → Bool) (xs : List X) → position p xs ≡ None → list_any p xs ≡ false
 none_placed p xs h = grind (arith, any_is_placed)
 
 remove_later : {X : Type 0} (x : X) (xs : List X) (i : ℕ) → remove (x ∷ xs) (1 + i) ≡ x ∷ remove xs i
-remove_later x xs i = let e : 1 + i ≡ suc i = omega arith in rw e refl
+remove_later x xs i = rw (next i) refl
 
 module _ {X K : Type 0} (key : X → K) (same : K → K → Bool)
     (same-eq : (a b : K) → same a b ≡ true → a ≡ b) (same-refl : (a : K) → same a a ≡ true) where
@@ -63,17 +59,11 @@ module _ {X K : Type 0} (key : X → K) (same : K → K → Bool)
 
   -- ---- lengths and sums without the one with a key
 
-  sum_step : (f : X → ℕ) (k : K) (x y : X) (xs : List X) → pairwise apart (x ∷ xs) ≡ true
-      → (find (is_keyed k) xs ≡ Some y → sum_by f (filter (λ z. not (is_keyed k z)) xs) + f y ≡ sum_by f xs)
-      → (b : Bool) → same (key x) k ≡ b → find (is_keyed k) (x ∷ xs) ≡ Some y
-      → sum_by f (filter (λ z. not (is_keyed k z)) (x ∷ xs)) + f y ≡ sum_by f (x ∷ xs)
-  sum_step f k x y xs u ih true e h = grind (arith, filter_all, all_from_none, none_behind, sum_by-cons)
-  sum_step f k x y xs u ih false e h = grind (arith, sum_by-cons)
-
   pub sum_by_without : (f : X → ℕ) (k : K) (xs : List X) (y : X) → pairwise apart xs ≡ true
       → find (is_keyed k) xs ≡ Some y → sum_by f (filter (λ z. not (is_keyed k z)) xs) + f y ≡ sum_by f xs
   sum_by_without f k [] y u h = absurd (cc)
-  sum_by_without f k (x ∷ xs) y u h = sum_step f k x y _ u (sum_by_without f k xs y (later_apart x _ u)) _ refl h
+  sum_by_without f k (x ∷ xs) y u h =
+      grind (arith, filter_all, all_from_none, none_behind, sum_by-cons, sum_by_without f k xs y (later_apart x _ u))
 
   pub length_without : (k : K) (xs : List X) (y : X) → pairwise apart xs ≡ true → find (is_keyed k) xs ≡ Some y
       → length (filter (λ z. not (is_keyed k z)) xs) + 1 ≡ length xs
@@ -107,16 +97,13 @@ module _ {X K : Type 0} (key : X → K) (same : K → K → Bool)
   spared-nil : (xs : List X) → spared [] xs ≡ xs
   spared-nil xs = grind (arith, filter_all, list_all_always)
 
-  apart_filter : (q : X → Bool) (xs : List X) → pairwise apart xs ≡ true → pairwise apart (filter q xs) ≡ true
-  apart_filter q xs u = pairwise-filter apart q xs u
-
   pub sum_by_spared : (f : X → ℕ) (vs xs : List X) → pairwise apart xs ≡ true
       → pairwise apart vs ≡ true → AllFound vs xs → sum_by f (spared (map key vs) xs) + sum_by f vs ≡ sum_by f xs
   sum_by_spared f [] xs u w h = rw (spared-nil xs) (omega arith)
   sum_by_spared f (v ∷ vs) xs u w h =
-      let rest = filter (λ x. not (is_keyed (key v) x)) xs in
       let later = and_parts (list_all (apart v) vs) (pairwise apart vs) w in
-      let ih = sum_by_spared f vs rest (grind (arith, apart_filter)) later.1 (found_without v vs xs later.0 h.1) in
+      let ih = sum_by_spared f vs (filter (λ x. not (is_keyed (key v) x)) xs) (pairwise-filter _ _ xs u) later.1
+      (found_without v vs xs later.0 h.1) in
       let one = sum_by_without f (key v) xs v u h.0 in
       rw (← spared-cons (key v) (map key vs) xs) (omega (arith, ih, one, sum_by-cons f v vs))
 
@@ -124,11 +111,10 @@ module _ {X K : Type 0} (key : X → K) (same : K → K → Bool)
       → length (spared (map key vs) xs) + length vs ≡ length xs
   length_spared [] xs u w h = rw (spared-nil xs) (omega arith)
   length_spared (v ∷ vs) xs u w h =
-      let rest = filter (λ x. not (is_keyed (key v) x)) xs in
       let later = and_parts (list_all (apart v) vs) (pairwise apart vs) w in
-      let ih = length_spared vs rest (grind (arith, apart_filter)) later.1 (found_without v vs xs later.0 h.1) in
-      let one = length_without (key v) xs v u h.0 in
-      rw (← spared-cons (key v) (map key vs) xs) (omega (arith, ih, one))
+      let ih = length_spared vs (filter (λ x. not (is_keyed (key v) x)) xs) (pairwise-filter _ _ xs u) later.1
+      (found_without v vs xs later.0 h.1) in
+      rw (← spared-cons (key v) (map key vs) xs) (omega (arith, ih, length_without (key v) xs v u h.0))
 
   -- what has another key is found as before
   pub find-spared : (k : K) (ks : List K) (xs : List X) → is_among ks k ≡ false → find (is_keyed k) (spared ks xs) ≡
@@ -139,14 +125,10 @@ module _ {X K : Type 0} (key : X → K) (same : K → K → Bool)
   found_behind x [] xs e h = tt
   found_behind x (w ∷ ws) xs e h = grind (arith, and_parts, not-true, found_behind x ws xs)
 
-  found_step : (b : Bool) (x : X) (ws xs : List X) → AllFound ws (x ∷ xs) → AllFound (cond b (x ∷ ws) ws) (x ∷ xs)
-  found_step true x ws xs h = (rw (same-refl (key x)) refl, h)
-  found_step false x ws xs h = h
-
   -- what a filter keeps is found
   pub found_filter : (p : X → Bool) (xs : List X) → pairwise apart xs ≡ true → AllFound (filter p xs) xs
   found_filter p [] u = tt
-  found_filter p (x ∷ xs) u = grind (arith, and_parts, found_step, found_behind, list_all-filter, found_filter p xs)
+  found_filter p (x ∷ xs) u = grind (arith, and_parts, found_behind, list_all-filter, found_filter p xs)
 
   pub found_append : (vs ws xs : List X) → AllFound vs xs → AllFound ws xs → AllFound (vs ++ ws) xs
   found_append [] ws xs h k = k

@@ -1,11 +1,10 @@
 -- What an entry loses, gets or changes is lost, got or changed in what is seen.
-use Rattle.cf_lists.proofs.Imports.{arith, ◌≡◌, ◌≢◌, ℕ, ◌<◌, ◌==◌, Bool, true, false, List, [], ◌∷◌, filter, map, length, get_or, set, refl, sym, ap, ◌∙◌, list_all, and_parts, and_from, eq-eqb, not-true, false≢true, list_all-map, insertion, pairwise, is_keyed, in_turn, arranged, joined, AreAtHome, IsKeyOrder}
-use Rattle.cf_lists.proofs.FilterLaws.{list_all_weaker, list_all_always, list_all-filter, filter_swap, filter_absorbed, list_all-filter_same}
-use Rattle.cf_lists.proofs.ImageLaws.{map-filtered}
-use Rattle.cf_lists.proofs.PairwiseLaws.{FindsPlace, pairwise-insertion, pairwise-filter, pairwise-map}
-use Rattle.cf_lists.proofs.InsertionLaws.{filter-insertion_out, list_all-insertion}
+use Rattle.cf_lists.proofs.Imports.{arith, ◌≡◌, ◌≢◌, ℕ, ◌<◌, ◌==◌, Bool, true, false, List, [], ◌∷◌, filter, map, length, get_or, set, refl, sym, ap, ◌∙◌, list_all, and_parts, and_from, eq-eqb, not-true, false≢true, list_all-map, insertion, pairwise, is_keyed, in_turn, arranged, joined, AreAtHome, IsKeyOrder, cases_Bool}
 use Rattle.cf_lists.proofs.EntryPlaceLaws.{filter-insertion_in, insertion_agree}
-use Rattle.cf_lists.proofs.BinLaws.{arranged_in_turn, changed, seen}
+use Rattle.cf_lists.proofs.FilterLaws.{list_all_weaker, list_all_always, list_all-filter, filter_swap, filter_absorbed, list_all-filter_same}
+use Rattle.cf_lists.proofs.InsertionLaws.{filter-insertion_out, list_all-insertion}
+use Rattle.cf_lists.proofs.PairwiseLaws.{FindsPlace, pairwise-insertion, pairwise-filter, pairwise-map}
+use Rattle.cf_lists.proofs.{ImageLaws.map-filtered, BinLaws.arranged_in_turn, BinLaws.changed, BinLaws.seen}
 
 map_same : {X : Type 0} (p : X → Bool) (f : X → X) (xs : List X) → list_all p xs ≡ true
     → ((x : X) → p x ≡ true → f x ≡ x) → map f xs ≡ xs
@@ -18,8 +17,7 @@ module _ {X K : Type 0} (key : X → K) (same before : K → K → Bool) (slot :
 
   stays : (q : X → Bool) (k : K) (x : X) (b : Bool)
       → (q x ≡ false → slot (key x) ≡ i) → slot k ≢ i → same (key x) k ≡ true → q x ≡ b → b ≡ true
-  stays q k x true near off e f = refl
-  stays q k x false near off e f = absurd (off (sym (ap slot (is.equal (key x) k e)) ∙ near f))
+  stays q k x b near off e f = grind (arith, cases_Bool b, is.equal (key x) k)
 
   pub filtered : (q : X → Bool) → ((x : X) → q x ≡ false → slot (key x) ≡ i) → arranged key
       before (joined (set bins i (filter q (get_or bins i [])))) ≡ filter q (arranged key before (joined bins))
@@ -63,26 +61,22 @@ module _ {X K : Type 0} (key : X → K) (same before : K → K → Bool) (slot :
 
   past : (b : X → Bool) (x y z : X) (t : Bool) → ((y : X) → b y ≡ false → before (key y) (key x) ≡ false) → b
       y ≡ false → same (key y) (key x) ≡ false → before (key z) (key y) ≡ false → same (key z) (key x) ≡ t → t ≡ false
-  past b x y z false stop e f g s = refl
-  past b x y z true stop e f g s = grind arith
+  past b x y z t stop e f g s = grind (arith, cases_Bool t)
 
   come_here : (b c : X → Bool) (x : X) → slot (key x) ≡ i → ((y : X) → b y ≡ false → before (key y) (key x) ≡ false)
       → ((y : X) → same (key y) (key x) ≡ true → b y ≡ c y) → ((y : X) → same (key y) (key x) ≡ false → c y ≡ true)
       → filter (is_keyed key same (key x)) (insertion c x (get_or bins i [])) ≡ filter
       (is_keyed key same (key x)) (insertion b x (arranged key before (joined bins)))
   come_here b c x at stop agree others =
-      let view = arranged key before (joined bins) in
-      let bin = get_or bins i [] in
       let p = is_keyed key same (key x) in
-      filter-insertion_in (λ y z. true) p c x _ (is.itself (key x)) (grind (arith, false≢true)) (every bin)
-      ∙ sym (insertion_agree p b c x _ (list_all-filter_same p _) agree)
+      filter-insertion_in (λ y z. true) p c x _ (is.itself (key x)) (grind (arith, false≢true))
+      (every (get_or bins i [])) ∙ sym (insertion_agree p b c x _ (list_all-filter_same p _) agree)
       ∙ ap (insertion b x) (seen key same before slot is (key x) i bins h at) ∙ sym (filter-insertion_in _ p b x
       _ (is.itself (key x)) (grind (arith, past, not-true)) (arranged_in_turn key same before slot is (joined bins)))
     where
       every : (ys : List X) → pairwise (λ y z. true) ys ≡ true
       every [] = refl
-      every (y ∷ ys) = and_from (list_all (λ z. true) ys) (pairwise (λ y z. true) ys)
-          (list_all_always (λ z. true) (λ z. refl) ys) (every ys)
+      every (y ∷ ys) = grind (arith, and_from, list_all_always, every ys)
 
   come_step : (b c : X → Bool) (x : X) (k : K) (t : Bool) → same (key x) k ≡ t
       → filter (is_keyed key same (key x)) (insertion c x (get_or bins i [])) ≡ filter (is_keyed key same (key x))
@@ -93,8 +87,7 @@ module _ {X K : Type 0} (key : X → K) (same before : K → K → Bool) (slot :
   come_step b c x k false e here same_as = grind (arith, filter-insertion_out)
 
   apart_step : (x : X) (k : K) (t : Bool) → slot (key x) ≡ i → slot k ≢ i → same (key x) k ≡ t → t ≡ false
-  apart_step x k true at off e = absurd (off (sym (ap slot (is.equal (key x) k e)) ∙ at))
-  apart_step x k false at off e = refl
+  apart_step x k t at off e = grind (arith, cases_Bool t, is.equal (key x) k)
 
   -- in the entry it is put behind all of other keys, and among those of its own as in what is seen
   pub inserted : (b c : X → Bool) (x : X) → slot (key x) ≡ i → ((y : X) → b y ≡ true → before (key x) (key y) ≡ false)

@@ -1,5 +1,5 @@
 -- Lists in order by key are equal where they are found alike.
-use Rattle.cf_lists.proofs.Imports.{arith, ◌≡◌, Bool, true, false, List, [], ◌∷◌, Some, None, find, refl, sym, ap, ◌∙◌, subst, list_all, and_parts, pairwise}
+use Rattle.cf_lists.proofs.Imports.{arith, ◌≡◌, Bool, true, false, List, [], ◌∷◌, Some, None, find, refl, sym, ◌∙◌, list_all, and_parts, pairwise}
 use Rattle.cf_lists.proofs.FilterLaws.{all_found, find_none, none_from_all, list_all_weaker}
 
 module _ {X K : Type 0} (key : X → K) (same : K → K → Bool) (before : X → X → Bool)
@@ -31,11 +31,9 @@ module _ {X K : Type 0} (key : X → K) (same : K → K → Bool) (before : X �
       let left = and_parts (list_all (before x) xs) (pairwise before xs) h in
       let right = and_parts (list_all (before y) ys) (pairwise before ys) g in
       let first : x ≡ y = first_same _ _ x y xs ys refl refl left.0 right.0 (f (key x)) (f (key y)) in
-      let here : list_all (before x) ys ≡ true = subst (λ z. list_all (before z) ys ≡ true) (sym first) right.0 in
-      let rest : xs ≡ ys = ordered_same xs ys left.1 right.1 (grind (arith, found_front, none_at)) in
-      ap (λ z. z ∷ xs) first ∙ ap (λ zs. y ∷ zs) rest
+      let here : list_all (before x) ys ≡ true = cc in
+      cc (first, ordered_same xs ys left.1 right.1 (grind (arith, found_front, none_at)))
     where
       none_at : (k : K) (x : X) (xs : List X) → list_all (before x) xs ≡ true → is_keyed k x ≡ true
           → find (is_keyed k) xs ≡ None
-      none_at k x xs h e = subst (λ j. find (is_keyed j) xs ≡ None)
-          (same-eq (key x) k e) (grind (arith, find_none, none_from_all, list_all_weaker))
+      none_at k x xs h e = grind (arith, same-eq (key x) k e, find_none, none_from_all, list_all_weaker)

@@ -1,18 +1,13 @@
 -- What holds between each element of a list and each later one.
-use Rattle.cf_lists.proofs.Imports.{arith, ◌≡◌, Bool, true, false, not, ◌&&◌, cond, List, [], ◌∷◌, ◌++◌, filter, map, refl, sym, ap, ◌∙◌, list_all, and_parts, and_from, list_all-append, list_all-map, insertion, pairwise}
+use Rattle.cf_lists.proofs.Imports.{arith, ◌≡◌, Bool, true, false, not, ◌&&◌, cond, List, [], ◌∷◌, ◌++◌, filter, map, refl, list_all, and_parts, and_from, list_all-append, list_all-map, insertion, pairwise}
 use Rattle.cf_lists.proofs.FilterLaws.{list_all-filter, list_all_both, list_all_weaker}
 use Rattle.cf_lists.proofs.InsertionLaws.{list_all-insertion}
-
-filter_step : {X : Type 0} (relation : X → X → Bool) (b : Bool) (x : X) (ys : List X)
-    → list_all (relation x) ys ≡ true → pairwise relation ys ≡ true → pairwise relation (cond b (x ∷ ys) ys) ≡ true
-filter_step relation true x ys first rest = and_from (list_all (relation x) ys) (pairwise relation ys) first rest
-filter_step relation false x ys first rest = rest
 
 pub pairwise-filter : {X : Type 0} (relation : X → X → Bool) (q : X → Bool) (xs : List X)
     → pairwise relation xs ≡ true → pairwise relation (filter q xs) ≡ true
 pairwise-filter relation q [] h = refl
 pairwise-filter relation q (x ∷ xs) h =
-    grind (arith, and_parts, filter_step, list_all-filter, pairwise-filter relation q xs)
+    grind (arith, and_parts, and_from, list_all-filter, pairwise-filter relation q xs)
 
 pub pairwise_weaker : {X : Type 0} (r s : X → X → Bool) → ((x y : X) → r x y ≡ true → s x y ≡ true) → (xs : List X)
     → pairwise r xs ≡ true → pairwise s xs ≡ true
@@ -91,14 +86,14 @@ cross : {X : Type 0} (relation : X → X → Bool) → ((x y : X) → relation x
 cross relation turn s [] h = refl
 cross relation turn s (x ∷ xs) h =
     let parts = and_parts (list_all (relation x) xs) (pairwise relation xs) h in
-    cross_step relation turn (s x) x (filter s xs) (filter (λ z. not (s z)) xs) (list_all-filter (relation x)
-    s xs parts.0) (list_all-filter (relation x) (λ z. not (s z)) xs parts.0) (cross relation turn s xs parts.1)
+    cross_step relation turn (s x) x _ _ (list_all-filter _ s xs parts.0)
+    (list_all-filter _ (λ z. not (s z)) xs parts.0) (cross relation turn s xs parts.1)
 
 pub pairwise_split : {X : Type 0} (relation : X → X → Bool) → ((x y : X) → relation x y ≡ true → relation y x ≡ true)
     → (s : X → Bool)
     (xs : List X) → pairwise relation xs ≡ true → pairwise relation (filter s xs ++ filter (λ x. not (s x)) xs) ≡ true
-pairwise_split relation turn s xs h = pairwise_append relation (filter s xs) (filter (λ x. not (s x)) xs)
-    (pairwise-filter relation s xs h) (pairwise-filter relation (λ x. not (s x)) xs h) (cross relation turn s xs h)
+pairwise_split relation turn s xs h = pairwise_append relation _ _
+    (pairwise-filter _ s xs h) (pairwise-filter _ (λ x. not (s x)) xs h) (cross relation turn s xs h)
 
 -- ---- a map
 

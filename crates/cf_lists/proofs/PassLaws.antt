@@ -1,11 +1,9 @@
 -- What goes over all: a list whose elements go from its front to its end, one after another, and all entries.
-use Rattle.cf_lists.proofs.Imports.{◌≡◌, ℕ, zero, suc, ◌+◌, ◌-◌, ◌<◌, ◌≤◌, ◌==◌, Bool, true, ◌&&◌, cond, List, [], ◌∷◌, ◌++◌, filter, map, length, take, drop, get_or, refl, sym, ap, ◌∙◌, arith, list_all, append_assoc, append-nil, take-append-le, drop-append-le, map-append, length-map, length-append, drop_all, take_all, filter-append, list_all-map, Resource, Part, resource_before, arranged, joined, resource_by, are_apart, seen_in, IsTable}
+use Rattle.cf_lists.proofs.Imports.{◌≡◌, ℕ, zero, suc, ◌+◌, ◌-◌, ◌<◌, ◌≤◌, Bool, true, cond, List, [], ◌∷◌, ◌++◌, filter, map, length, take, drop, get_or, refl, sym, ap, ◌∙◌, arith, list_all, append_assoc, append-nil, take-append-le, drop-append-le, map-append, length-map, length-append, drop_all, take_all, filter-append, list_all-map, Resource, Part, resource_before, arranged, joined, resource_by, are_apart, seen_in, IsTable, list_all-append}
 use Rattle.std.proofs.lemmas.List.{length-drop}
-use Rattle.cf_lists.proofs.FilterLaws.{list_all-filter, list_all_weaker}
-use Rattle.cf_lists.proofs.ImageLaws.{map-insertion}
-use Rattle.cf_lists.proofs.PairwiseLaws.{pairwise-filter, pairwise-map}
-use Rattle.cf_lists.proofs.EntryKeyLaws.{resource_order}
 use Rattle.cf_lists.proofs.SortLaws.{arranged-filter}
+use Rattle.cf_lists.proofs.{FilterLaws.list_all-filter, FilterLaws.list_all_weaker, ImageLaws.map-insertion}
+use Rattle.cf_lists.proofs.{PairwiseLaws.pairwise-filter, PairwiseLaws.pairwise-map, EntryKeyLaws.resource_order}
 
 -- ---- one element after another
 
@@ -90,7 +88,7 @@ module _ {X : Type 0} (part_of : X → Part) (bins : List (List X)) (order : Lis
     joined_changed : (bs : List (List X)) → joined (map (map f) bs) ≡ map f (joined bs)
     unfolding joined
     joined_changed [] = refl
-    joined_changed (b ∷ bs) = ap (λ l. map f b ++ l) (joined_changed bs) ∙ sym (map-append f b (joined bs))
+    joined_changed (b ∷ bs) = grind (arith, map-append, joined_changed bs)
 
     arranged_changed : (xs : List X) → arranged (resource_by part_of) resource_before (map f xs)
         ≡ map f (arranged (resource_by part_of) resource_before xs)
@@ -106,16 +104,12 @@ module _ {X : Type 0} (part_of : X → Part) (bins : List (List X)) (order : Lis
     all_changed_table =
         grind (arith, length-map, over_at, list_all-map, all_changed_seen, pairwise-map, list_all_weaker)
 
-all_parts : {X : Type 0} (p : X → Bool) (xs ys : List X) → list_all p (xs ++ ys) ≡ list_all p xs && list_all p ys
-all_parts p [] ys = refl
-all_parts p (x ∷ xs) ys = grind (arith, all_parts p xs ys)
-
 -- a test that all of an entry pass
 pub all_next : {X : Type 0} (p : X → Bool) (bins : List (List X)) (i : ℕ) (bin : List X) (all : Bool) → i < length bins
     → bin ≡ get_or bins i bin → list_all p bin ≡ true → list_all p (joined (drop i bins)) ≡ all
     → list_all p (joined (drop (i + 1) bins)) ≡ all
 all_next p bins i bin all within is passes h =
-    cc (joined_next bins i bin within, all_parts p bin (joined (drop (i + 1) bins)))
+    cc (joined_next bins i bin within, list_all-append p bin (joined (drop (i + 1) bins)))
 
 -- each entry in turn was changed
 pub mapped_whole : {X : Type 0} (f : X → X) (xs ys : List X) (i : ℕ) → length ys ≤ i → length xs ≤ i
@@ -129,9 +123,7 @@ module _ {X : Type 0} (size : List X → ℕ) (parts : (xs ys : List X) → size
       → bin ≡ get_or bins i bin → n ≡ size bin → count + size (joined (drop i bins)) ≡ all
       → (count + n) + size (joined (drop (i + 1) bins)) ≡ all
   counted_next bins i count n all bin within is e h =
-      let split = ap size (joined_next _ i _ within ∙ ap (λ b. b ++ joined (drop (i + 1) bins)) (sym is))
-      ∙ parts bin (joined (drop (i + 1) bins)) in
-      omega (arith, split, e, h)
+      grind (arith, joined_next bins i bin within, is, parts bin (joined (drop (i + 1) bins)), e, h)
 
   pub counted_past : (bins : List (List X)) (i count all : ℕ) → length bins ≤ i → size [] ≡ 0
       → count + size (joined (drop i bins)) ≡ all → count ≡ all

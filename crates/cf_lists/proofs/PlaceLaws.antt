@@ -1,23 +1,13 @@
 -- A place in a list in order.
-use Rattle.cf_lists.proofs.Imports.{nat_lt, ◌≡◌, ℕ, zero, suc, ◌<◌, ◌≤◌, Bool, true, false, List, [], ◌∷◌, length, get_or, refl, sym, arith, list_all, prefix_len, IsPartitionPoint, IsPartitionedBy, and_parts, nat_tests, prefix_len_is, pairwise}
-
-all_at : {X : Type 0} (p : X → Bool) (xs : List X) (i : ℕ) (d : X) → list_all p xs ≡ true → i < length xs
-    → p (get_or xs i d) ≡ true
-all_at p [] i d h within = absurd (omega (arith, within))
-all_at p (x ∷ xs) zero d h within = (and_parts (p x) (list_all p xs) h).0
-all_at p (x ∷ xs) (suc i) d h within = all_at p xs i d (and_parts (p x) (list_all p xs) h).1 (omega (arith, within))
+use Rattle.cf_lists.proofs.Imports.{nat_lt, ◌≡◌, ℕ, zero, suc, ◌<◌, ◌≤◌, Bool, true, false, List, [], ◌∷◌, length, get_or, refl, sym, arith, list_all, prefix_len, IsPartitionPoint, IsPartitionedBy, and_parts, nat_tests, prefix_len_is, pairwise, AllPass-from_list_all}
 
 pair_at : {X : Type 0} (relation : X → X → Bool) (xs : List X) (i j : ℕ) (d : X) → pairwise relation xs ≡ true
     → i < j → j < length xs → relation (get_or xs i d) (get_or xs j d) ≡ true
 pair_at relation [] i j d h less within = absurd (omega (arith, within))
 pair_at relation (x ∷ xs) i zero d h less within = absurd (omega (arith, less))
-pair_at relation (x ∷ xs) zero (suc j) d h less within = grind (arith, all_at, and_parts)
-pair_at relation (x ∷ xs) (suc i) (suc j) d h less within = grind (
-  arith,
-  and_parts,
-  pair_at relation xs i j
-      d (and_parts (list_all (relation x) xs) (pairwise relation xs) h).1 (omega (arith, less)) (omega (arith, within)),
-)
+pair_at relation (x ∷ xs) zero (suc j) d h less within = grind (arith, and_parts, AllPass-from_list_all)
+pair_at relation (x ∷ xs) (suc i) (suc j) d h less within =
+    pair_at relation xs i j d (and_parts (list_all (relation x) xs) _ h).1 (omega (arith, less)) (omega (arith, within))
 
 -- a test that what stands in front of one that passes it passes too
 pub partitioned : {X : Type 0} (relation : X → X → Bool) (p : X → Bool) (xs : List X)

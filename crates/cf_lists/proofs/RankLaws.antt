@@ -1,12 +1,10 @@
 -- The element at a place, found by its resource; and the last of all.
-use Rattle.cf_lists.proofs.Imports.{◌≡◌, ℕ, zero, suc, ◌+◌, ◌-◌, ◌<◌, ◌≤◌, nat_lt, Bool, true, false, not, ◌&&◌, cond, if◌then◌else◌, drop, get_or, List, [], ◌∷◌, ◌++◌, Option, Some, None, is_some, filter, length, slice_get, refl, sym, ap, ◌∙◌, subst, arith, list_all, and_parts, not-true, false≢true, lt-ltb, nat_tests, Resource, Part, same_resource, resource_before, same_resource-eq, same_resource-refl, insertion, pairwise, in_turn, arranged, joined, is_on, placed_on, later_of, last_of, seen_in}
+use Rattle.cf_lists.proofs.Imports.{◌≡◌, ℕ, zero, suc, ◌+◌, ◌-◌, ◌<◌, ◌≤◌, nat_lt, Bool, true, false, not, cond, drop, get_or, List, [], ◌∷◌, ◌++◌, Option, Some, None, is_some, filter, length, slice_get, refl, sym, ap, ◌∙◌, arith, list_all, and_parts, not-true, false≢true, lt-ltb, nat_tests, Resource, Part, same_resource, resource_before, same_resource-eq, same_resource-refl, insertion, pairwise, in_turn, arranged, joined, is_on, placed_on, later_of, last_of, seen_in, cases_Bool}
 use Rattle.cf_lists.proofs.FilterLaws.{filter_none, none_from_all, list_all_weaker}
-use Rattle.cf_lists.proofs.InsertionLaws.{list_all-insertion}
-use Rattle.cf_lists.proofs.EntryKeyLaws.{resource_order}
-use Rattle.cf_lists.proofs.SortLaws.{arranged-filter}
-use Rattle.cf_lists.proofs.ViewLaws.{length_arranged}
-use Rattle.cf_lists.proofs.BinLaws.{arranged_in_turn}
 use Rattle.cf_lists.proofs.PassLaws.{joined_next, joined_past}
+use Rattle.cf_lists.proofs.{InsertionLaws.list_all-insertion, EntryKeyLaws.resource_order, SortLaws.arranged-filter}
+use Rattle.cf_lists.proofs.{ViewLaws.length_arranged, BinLaws.arranged_in_turn}
+use Rattle.cf_lists.proofs.RecordSpotLaws.{all_at}
 
 module _ {X : Type 0} (part_of : X → Part) where
   abbrev key : X → Resource
@@ -33,21 +31,13 @@ module _ {X : Type 0} (part_of : X → Part) where
 
   -- one that is before a resource isn't on it
   off : (r : Resource) (y : X) (t : Bool) → is_before r y ≡ true → is_on part_of r y ≡ t → t ≡ false
-  off r y false e f = refl
-  off r y true e f = absurd (false≢true
-      (sym (resource_order.once r) ∙ subst (λ a. resource_before a r ≡ true) (same_resource-eq (key y) r f) e))
-
-  -- behind one that is behind a resource none is on it
-  past : (r : Resource) (y z : X) (t : Bool) → is_before r y ≡ false → is_on part_of r y ≡ false → follows y z ≡ true
-      → is_on part_of r z ≡ t → t ≡ false
-  past r y z false e f g h = refl
-  past r y z true e f g h =
-      let ahead = subst (λ a. resource_before a (key y) ≡ false) (same_resource-eq _ r h) (not-true _ g) in
-      absurd (false≢true (sym f ∙ resource_order.ties r (key y) ahead e))
+  off r y t e f = grind (arith, resource_order.once r, same_resource-eq (key y) r, false≢true)
 
   none_past : (r : Resource) (y : X) (ys : List X) → is_before r y ≡ false → is_on part_of r y ≡ false
       → list_all (follows y) ys ≡ true → filter (is_on part_of r) ys ≡ []
-  none_past r y ys e f h = grind (arith, filter_none, none_from_all, list_all_weaker, past)
+  none_past r y ys e f h =
+      filter_none _ ys (none_from_all _ ys (list_all_weaker (follows y) (λ z. not (is_on part_of r z))
+      (λ z g. grind (arith, not-true, false≢true, same_resource-eq (key z) r, resource_order.ties r (key y))) ys h))
 
   -- ---- an element found by its resource stands at the place
 
@@ -71,22 +61,12 @@ module _ {X : Type 0} (part_of : X → Part) where
       let parts = and_parts (list_all (follows y) ys) (pairwise follows ys) turn in
       here_step r k x y _ _ _ refl refl parts.0 (λ i m g. here r ys i x parts.1 m g) most h
 
-  placed_cases : (r : Resource) (xs : List X) (k : ℕ) (x : X) (b : Bool)
-      → nat_lt k (count_before r xs) ≡ b → pairwise follows xs ≡ true → (if b then None else
-      slice_get (filter (is_on part_of r) xs) (k - count_before r xs)) ≡ Some x → slice_get xs k ≡ Some x
-  placed_cases r xs k x true e turn h = absurd (let gone : None ≡ Some x = h in cc)
-  placed_cases r xs k x false e turn h = here r xs k x turn (grind (arith, nat_tests)) h
-
   pub placed_here : (r : Resource) (xs : List X) (k : ℕ) (x : X) → pairwise follows xs ≡ true
       → placed_on part_of r k xs ≡ Some x → slice_get xs k ≡ Some x
-  placed_here r xs k x turn h = placed_cases r xs k x (nat_lt k (count_before r xs)) refl turn h
+  placed_here r xs k x turn h =
+      grind (arith, here r xs k x turn, nat_tests, cases_Bool (nat_lt k (count_before r xs)))
 
   -- ---- the element at a place is found by its resource
-
-  got : (p : X → Bool) (xs : List X) (k : ℕ) (x : X) → list_all p xs ≡ true → slice_get xs k ≡ Some x → p x ≡ true
-  got p [] k x h e = absurd (let gone : None ≡ Some x = e in cc)
-  got p (y ∷ ys) zero x h e = grind (arith, and_parts)
-  got p (y ∷ ys) (suc k) x h e = got p ys k x (and_parts (p y) (list_all p ys) h).1 e
 
   pub record IsFound (xs : List X) (k : ℕ) (x : X) : Type 0 where
     most : count_before (key x) xs ≤ k
@@ -106,18 +86,9 @@ module _ {X : Type 0} (part_of : X → Part) where
   found_at : (xs : List X) (k : ℕ) (x : X) → pairwise follows xs ≡ true → slice_get xs k ≡ Some x → IsFound xs k x
   found_at [] k x turn e = absurd (let gone : None ≡ Some x = e in cc)
   found_at (y ∷ ys) zero x turn e =
-      let same : y ≡ x = cc in
-      let parts = and_parts (list_all (follows y) ys) (pairwise follows ys) turn in
-      subst (λ z. IsFound (y ∷ ys) 0 z) same (first (resource_order.once (key y)) parts.0)
-    where
-      first : is_before (key y) y ≡ false → list_all (follows y) ys ≡ true → IsFound (y ∷ ys) 0 y
-      first once turns = grind (arith, none_before, behind, same_resource-refl)
-  found_at (y ∷ ys) (suc k) x turn e = grind (arith, and_parts, found_step, got, found_at ys k x)
-
-  placed_own : (xs : List X) (k : ℕ) (x : X) (b : Bool) → nat_lt k (count_before (key x) xs) ≡ b → IsFound xs k x
-      → (if b then None else slice_get (filter (is_on part_of (key x)) xs) (k - count_before (key x) xs)) ≡ Some x
-  placed_own xs k x true e is = absurd (let most = is.most in grind (arith, nat_tests))
-  placed_own xs k x false e is = is.found
+      let same : y ≡ x =
+      cc in grind (arith, same, and_parts, resource_order.once (key y), none_before, behind, same_resource-refl)
+  found_at (y ∷ ys) (suc k) x turn e = grind (arith, and_parts, found_step, all_at, found_at ys k x)
 
   all_arranged : (p : X → Bool) (xs : List X) → list_all p (arranged key resource_before xs) ≡ list_all p xs
   unfolding arranged
@@ -132,13 +103,17 @@ module _ {X : Type 0} (part_of : X → Part) where
       turn : pairwise follows (seen_in part_of bins) ≡ true
       turn = arranged_in_turn key same_resource resource_before (λ r. 0) resource_order (joined bins)
 
+      missed : X → Bool
+      missed z = not (is_some (placed_on part_of (key z) k (seen_in part_of bins)))
+
       go : (o : Option X) → slice_get (seen_in part_of bins) k ≡ o → None ≡ o
       go None e = refl
       go (Some x) e =
-          let there = placed_own _ k x _ refl (found_at _ k x turn e) in
-          let none = got (λ z. not (is_some (placed_on part_of (key z) k (seen_in part_of bins)))) _
-          k x (all_arranged (λ z. not (is_some (placed_on part_of (key z) k (seen_in part_of bins)))) _ ∙ h) e in
-          absurd (false≢true (sym (ap (λ o. not (is_some o)) there) ∙ none))
+          let is = found_at _ k x turn e in
+          let none = all_at missed _ k x (all_arranged missed _ ∙ h) e in
+          let most = is.most in
+          let found = is.found in
+          absurd (grind (arith, nat_tests, most, found, none, false≢true))
 
   -- as many of all are before a resource
   pub counted_before : (r : Resource) (bins : List (List X))
@@ -165,18 +140,11 @@ module _ {X : Type 0} (part_of : X → Part) where
   later_assoc None b c = refl
   later_assoc (Some x) None c = refl
   later_assoc (Some x) (Some y) None = grind arith
-  later_assoc (Some x) (Some y) (Some z) = grind (arith, go)
-    where
-      go : (s t u : Bool) → resource_before (key y) (key x) ≡ s
-          → resource_before (key z) (key y) ≡ t → resource_before (key z) (key x) ≡ u → later_of
-          part_of (if s then Some x else Some y) (Some z) ≡ later_of part_of (Some x) (if t then Some y else Some z)
-      go true true true e f g = rw (e, g) refl
-      go true true false e f g = absurd (false≢true
-          (sym (resource_order.follows (key x) (key z) (key y) g (resource_order.asym (key z) (key y) f)) ∙ e))
-      go true false u e f g = refl
-      go false true u e f g = rw (e, f) refl
-      go false false true e f g = absurd (false≢true (sym (resource_order.follows (key x) (key y) (key z) e f) ∙ g))
-      go false false false e f g = rw (f, g) refl
+  later_assoc (Some x) (Some y) (Some z) =
+      let lower = resource_order.follows (key x) (key z) (key y) in
+      let upper = resource_order.follows (key x) (key y) (key z) in
+      let other = resource_order.asym (key z) (key y) in
+      grind (arith, false≢true, lower, upper, other)
 
   pub last_append : (xs ys : List X)
       → last_of part_of (xs ++ ys) ≡ later_of part_of (last_of part_of xs) (last_of part_of ys)
@@ -195,26 +163,12 @@ module _ {X : Type 0} (part_of : X → Part) where
   end_step b x y [] true e turn is ih = rw (sym (is y) ∙ e) refl
   end_step b x y [] false e turn is ih = rw (sym (is y) ∙ e) refl
   end_step b x y (z ∷ zs) true e turn is ih = grind arith
-  end_step b x y (z ∷ zs) false e turn is ih =
-      sym (stays (z ∷ zs) (behind (key x) y (z ∷ zs) (sym (is y) ∙ e) turn) some)
+  end_step b x y (z ∷ zs) false e turn is ih = sym (stays z zs (behind (key x) y (z ∷ zs) (sym (is y) ∙ e) turn))
     where
-      some : (o : X) × (end_of (z ∷ zs) ≡ Some o)
-      some = ends z zs
-        where
-          ends : (z : X) (zs : List X) → (o : X) × (end_of (z ∷ zs) ≡ Some o)
-          ends z [] = (z, refl)
-          ends z (w ∷ ws) = ends w ws
-
-      passes : (p : X → Bool) (ws : List X) (o : X) → list_all p ws ≡ true → end_of ws ≡ Some o → p o ≡ true
-      passes p [] o h g = absurd (let gone : None ≡ Some o = g in cc)
-      passes p (w ∷ []) o h g = grind (arith, and_parts)
-      passes p (w ∷ v ∷ vs) o h g = passes p (v ∷ vs) o (and_parts (p w) (list_all p (v ∷ vs)) h).1 g
-
-      stays : (ws : List X) → list_all (λ w. not (is_before (key x) w)) ws ≡ true
-          → (o : X) × (end_of ws ≡ Some o) → later_of part_of (Some x) (end_of ws) ≡ end_of ws
-      stays ws h o =
-          let last = not-true (is_before (key x) o.0) (passes (λ w. not (is_before (key x) w)) ws o.0 h o.1) in
-          rw (o.1, last) refl
+      stays : (z : X) (ws : List X) → list_all (λ w. not (is_before (key x) w)) (z ∷ ws) ≡ true
+          → later_of part_of (Some x) (end_of (z ∷ ws)) ≡ end_of (z ∷ ws)
+      stays z [] h = grind (arith, and_parts, not-true)
+      stays z (w ∷ ws) h = stays w ws (and_parts (not (is_before (key x) z)) _ h).1
 
   end_insertion : (x : X) (ys : List X) → pairwise follows ys ≡ true
       → end_of (insertion (λ y. resource_before (key y) (key x)) x ys) ≡ later_of part_of (Some x) (end_of ys)
@@ -231,7 +185,6 @@ module _ {X : Type 0} (part_of : X → Part) where
   end_at [] = refl
   end_at (x ∷ []) = refl
   end_at (x ∷ y ∷ ys) =
-      let n : length (y ∷ ys) ≡ suc (length ys) = refl in
       let less : suc (suc (length ys)) - 1 ≡ suc (suc (length ys) - 1) = omega arith in
       end_at (y ∷ ys) ∙ sym (ap (λ i. slice_get (x ∷ y ∷ ys) i) less)
 
@@ -244,11 +197,14 @@ module _ {X : Type 0} (part_of : X → Part) where
   pub last_next : (bins : List (List X)) (i : ℕ) (bin : List X) (a new all : Option X) → i < length bins
       → bin ≡ get_or bins i bin → new ≡ later_of part_of a (last_of part_of bin) → later_of part_of a (last_of part_of
       (joined (drop i bins))) ≡ all → later_of part_of new (last_of part_of (joined (drop (i + 1) bins))) ≡ all
-  last_next bins i bin a new all within is put h =
-      let rest = joined (drop (i + 1) bins) in
-      ap (λ o. later_of part_of o (last_of part_of rest)) put ∙ later_assoc a (last_of part_of bin) (last_of part_of
-      rest) ∙ ap (later_of part_of a) (sym (last_append bin rest)) ∙ ap (λ b. later_of part_of a (last_of part_of
-      (b ++ rest))) is ∙ ap (λ l. later_of part_of a (last_of part_of l)) (sym (joined_next bins i bin within)) ∙ h
+  last_next bins i bin a new all within is put h = cc (
+    put,
+    later_assoc a (last_of part_of bin) (last_of part_of (joined (drop (i + 1) bins))),
+    last_append bin (joined (drop (i + 1) bins)),
+    joined_next bins i bin within,
+    is,
+    h,
+  )
 
   pub last_past : (bins : List (List X)) (i : ℕ) (a all : Option X) → length bins ≤ i
       → later_of part_of a (last_of part_of (joined (drop i bins))) ≡ all → a ≡ all

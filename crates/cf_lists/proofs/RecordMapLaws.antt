@@ -1,28 +1,15 @@
 -- What a change of the lists is, seen through a map of the records that keeps ids.
-use Rattle.cf_lists.proofs.Imports.{◌≡◌, ℕ, ◌+◌, ◌-◌, Bool, ◌||◌, ◌&&◌, ◌==◌, nat_lt, if◌then◌else◌, List, [], ◌∷◌, ◌++◌, length, map, find, take, drop, set, slice_get, option_map, refl, sym, ap, ◌∙◌, arith, suc, zero, list_any, list_all, position_or_len, remove, pairwise, map-append, length-map, map-set, all_records, records_of, is_id, has_id, record_of, spot_of, lists_with, lists_without, lists_replaced, replaced_by, ids_apart, with_records, IsLastFull}
-use Rattle.cf_lists.proofs.ImageLaws.{map-filtered}
-use Rattle.cf_lists.proofs.AllLaws.{all-map, position-map}
+use Rattle.cf_lists.proofs.Imports.{◌≡◌, ℕ, ◌-◌, List, [], ◌∷◌, length, map, find, take, drop, set, slice_get, option_map, refl, ap, ◌∙◌, arith, suc, list_any, remove, pairwise, map-append, length-map, map-set, all_records, records_of, is_id, has_id, record_of, spot_of, lists_with, lists_without, lists_replaced, replaced_by, ids_apart, with_records, IsLastFull, slice_get-map, slice_get_cases, position}
+use Rattle.cf_lists.proofs.{ImageLaws.map-filtered, AllLaws.all-map, AllLaws.position-map}
+use Rattle.std.proofs.lemmas.List.{take-map, drop-map}
+use Rattle.cf_lists.proofs.{FilterLaws.list_any-map, ViewLaws.mapped_pairs}
 
 module _ {X Y : Type 0} (f : X → Y) where
   pub records_of-map : (lists : List (List X)) (h : ℕ) → records_of (map (map f) lists) h ≡ map f (records_of lists h)
-  records_of-map [] h = refl
-  records_of-map (l ∷ ls) zero = refl
-  records_of-map (l ∷ ls) (suc h) = records_of-map ls h
+  records_of-map lists h = grind (arith, slice_get-map, slice_get_cases)
 
   pub get-map : (xs : List X) (k : ℕ) → slice_get (map f xs) k ≡ option_map f (slice_get xs k)
-  get-map [] k = refl
-  get-map (x ∷ xs) zero = refl
-  get-map (x ∷ xs) (suc k) = get-map xs k
-
-  pub take-map : (n : ℕ) (xs : List X) → map f (take n xs) ≡ take n (map f xs)
-  take-map zero xs = refl
-  take-map (suc n) [] = refl
-  take-map (suc n) (x ∷ xs) = ap (λ (l : List Y). f x ∷ l) (take-map n xs)
-
-  pub drop-map : (n : ℕ) (xs : List X) → map f (drop n xs) ≡ drop n (map f xs)
-  drop-map zero xs = refl
-  drop-map (suc n) [] = refl
-  drop-map (suc n) (x ∷ xs) = drop-map n xs
+  get-map xs k = slice_get-map f xs k
 
   pub with-map : (h p : ℕ) (x : X) (lists : List (List X))
       → map (map f) (lists_with h p x lists) ≡ lists_with h p (f x) (map (map f) lists)
@@ -41,14 +28,9 @@ module _ {X Y : Type 0} (f : X → Y) where
   last-map lists h is = record {
     within = omega (arith, is.within, length-map lists (map f));
     full = omega (arith, is.full, length-map_of lists h);
-    last = ap (λ (l : List (List Y)). all_records l) (sym (rest (suc h) lists))
+    last = ap (λ (l : List (List Y)). all_records l) (drop-map (map f) (suc h) lists)
         ∙ all-map f (drop (suc h) lists) ∙ ap (λ (l : List X). map f l) is.last;
   }
-    where
-      rest : (n : ℕ) (ls : List (List X)) → map (map f) (drop n ls) ≡ drop n (map (map f) ls)
-      rest zero ls = refl
-      rest (suc n) [] = refl
-      rest (suc n) (l ∷ ls) = rest n ls
 
   pub none-map : (lists : List (List X)) → all_records lists ≡ [] → all_records (map (map f) lists) ≡ []
   none-map lists e = all-map f lists ∙ ap (λ (l : List X). map f l) e
@@ -75,6 +57,9 @@ module _ {X Y : Type 0} (f : X → Y) where
     replaced-map x [] = refl
     replaced-map x (l ∷ ls) = grind (arith, replaced_list, replaced-map x ls)
 
+    ids : (λ (x : X). id_at (f x)) ≡ id_of
+    ids i x = same x i
+
     find-map : (id : ℕ) (xs : List X) → find (is_id id_at id) (map f xs) ≡ option_map f (find (is_id id_of id) xs)
     find-map id [] = refl
     find-map id (x ∷ xs) = grind (arith, find-map id xs)
@@ -84,30 +69,23 @@ module _ {X Y : Type 0} (f : X → Y) where
     record-map id lists = ap (λ l. find (is_id id_at id) l) (all-map f lists) ∙ find-map id (all_records lists)
 
     any_id-map : (id : ℕ) (xs : List X) → has_id id_at id (map f xs) ≡ has_id id_of id xs
-    any_id-map id [] = refl
-    any_id-map id (x ∷ xs) = grind (arith, any_id-map id xs)
+    any_id-map id xs = list_any-map (is_id id_at id) f xs ∙ ap (λ (g : X → ℕ). list_any (is_id g id) xs) ids
 
     pub any-map : (id : ℕ) (lists : List (List X))
         → list_any (is_id id_at id) (all_records (map (map f) lists)) ≡ list_any (is_id id_of id) (all_records lists)
     any-map id lists = ap (λ l. list_any (is_id id_at id) l) (all-map f lists) ∙ any_id-map id (all_records lists)
 
-    apart_one : (x : X) (xs : List X) → list_all (ids_apart id_at (f x)) (map f xs) ≡ list_all (ids_apart id_of x) xs
-    apart_one x [] = refl
-    apart_one x (y ∷ ys) = grind (arith, apart_one x ys)
-
     apart_each : (xs : List X) → pairwise (ids_apart id_at) (map f xs) ≡ pairwise (ids_apart id_of) xs
-    apart_each [] = refl
-    apart_each (x ∷ xs) = grind (arith, apart_one, apart_each xs)
+    apart_each xs = mapped_pairs f (ids_apart id_at) xs ∙ ap (λ (g : X → ℕ). pairwise (ids_apart g) xs) ids
 
     -- ids that are apart stay so
     pub apart-map : (lists : List (List X)) → pairwise (ids_apart id_at)
         (all_records (map (map f) lists)) ≡ pairwise (ids_apart id_of) (all_records lists)
     apart-map lists = ap (λ l. pairwise (ids_apart id_at) l) (all-map f lists) ∙ apart_each (all_records lists)
 
-    position_or_len_agree : {Z : Type 0} (p q : Z → Bool) → ((z : Z) → p z ≡ q z) → (zs : List Z)
-        → position_or_len p zs ≡ position_or_len q zs
-    position_or_len_agree p q h [] = refl
-    position_or_len_agree p q h (z ∷ zs) = grind (arith, position_or_len_agree p q h zs)
-
     pub spot-map : (id : ℕ) (lists : List (List X)) → spot_of id_at id (map (map f) lists) ≡ spot_of id_of id lists
-    spot-map id lists = grind (arith, position-map, nat_lt, length, position_or_len_agree, any_id-map, records_of-map)
+    spot-map id lists =
+        let heads = position-map (has_id id_at id) (map f) lists ∙ (λ i. position (λ l. any_id-map id l i) lists) in
+        let places =
+        λ (l : List X). position-map (is_id id_at id) f l ∙ ap (λ (g : X → ℕ). position (is_id g id) l) ids in
+        grind (arith, heads, places, records_of-map)

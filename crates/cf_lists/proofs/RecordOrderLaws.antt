@@ -1,18 +1,10 @@
 -- Keys that stand in the orders of headers.
-use Rattle.cf_lists.proofs.Imports.{◌≡◌, ◌≢◌, ◌⊎◌, inl, inr, ℕ, ◌+◌, ◌<◌, Bool, true, false, ◌||◌, ◌==◌, List, [], ◌∷◌, ◌++◌, length, map, take, drop, set, slice_get, get_or, Some, refl, sym, ap, ◌∙◌, arith, suc, zero, list_any, insert, remove, or_right, false≢true, eq-eqb, eqb-true, eqb_tells, take-append-drop, list_any-append, records_of, all_records, stands}
+use Rattle.cf_lists.proofs.Imports.{◌≡◌, ◌≢◌, ◌⊎◌, inl, inr, ℕ, ◌+◌, ◌<◌, Bool, true, ◌==◌, List, [], ◌∷◌, length, map, take, drop, set, slice_get, get_or, Some, refl, sym, ap, ◌∙◌, arith, suc, zero, list_any, insert, remove, or_right, false≢true, eq-eqb, eqb-true, eqb_tells, take-append-drop, list_any-append, records_of, all_records, stands, or_cases, or_left, cases_Bool}
 use Rattle.std.proofs.Common.{get_or-set_same, get_or-set_other}
-use Rattle.cf_lists.proofs.TakeLaws.{split_next}
-use Rattle.cf_lists.proofs.AllLaws.{list_of-get_or}
 use Rattle.cf_lists.proofs.RecordSpotLaws.{any_at, header_within}
+use Rattle.cf_lists.proofs.{TakeLaws.split_next, AllLaws.list_of-get_or}
 
 -- ---- one list
-
-or_cases : (a b : Bool) → a || b ≡ true → (a ≡ true) ⊎ (b ≡ true)
-or_cases true b h = inl refl
-or_cases false b h = inr h
-
-or_left : (a b : Bool) → a ≡ true → a || b ≡ true
-or_left a b h = rw h refl
 
 -- a passing element is at some place
 pub place_any : {X : Type 0} (q : X → Bool) (xs : List X) → list_any q xs ≡ true
@@ -27,47 +19,35 @@ inserted_old : (xs : List ℕ) (p key other : ℕ) → list_any (λ k. k == othe
     → list_any (λ k. k == other) (insert xs p key) ≡ true
 inserted_old xs p key other h =
     let q : ℕ → Bool = λ k. k == other in
-    let halves = sym (list_any-append q (take p xs) (drop p xs)) ∙ ap (list_any q) (take-append-drop p xs) ∙ h in
-    list_any-append q (take p xs) (key ∷ drop p xs) ∙ elim (or_cases _ _ halves) [
-      | inl e ↦ or_left _ _ e
-      | inr e ↦ or_right (list_any q (take p xs)) _ (or_right (q key) (list_any q (drop p xs)) e)
-    ]
+    let halves = list_any-append q (take p xs) (drop p xs) in
+    let whole = list_any-append q (take p xs) (key ∷ drop p xs) in
+    grind (arith, halves, whole, take-append-drop p xs, or_cases, or_left, or_right)
 
 inserted_either : (xs : List ℕ) (p key other : ℕ) → list_any (λ k. k == other) (insert xs p key) ≡ true
     → (other ≡ key) ⊎ (list_any (λ k. k == other) xs ≡ true)
 inserted_either xs p key other h =
     let q : ℕ → Bool = λ k. k == other in
-    let back = sym (ap (list_any q) (take-append-drop p xs)) ∙ list_any-append q (take p xs) (drop p xs) in
-    elim (or_cases _ _ (sym (list_any-append q (take p xs) (key ∷ drop p xs)) ∙ h)) [
-      | inl e ↦ inr (back ∙ or_left (list_any q (take p xs)) _ e)
-      | inr f ↦ grind (arith, or_cases, eqb-true, or_right)
-    ]
-
-drop_next : (p : ℕ) (xs : List ℕ) → drop (p + 1) xs ≡ drop (suc p) xs
-drop_next p xs = let e : p + 1 ≡ suc p = omega arith in rw e refl
+    let halves = list_any-append q (take p xs) (drop p xs) in
+    let whole = list_any-append q (take p xs) (key ∷ drop p xs) in
+    grind (arith, halves, whole, take-append-drop p xs, or_cases, eqb-true, or_left, or_right)
 
 removed_old : (xs : List ℕ) (p key other : ℕ) → slice_get xs p ≡ Some key
     → other ≢ key → list_any (λ k. k == other) xs ≡ true → list_any (λ k. k == other) (remove xs p) ≡ true
 removed_old xs p key other at ne h =
     let q : ℕ → Bool = λ k. k == other in
-    let split : xs ≡ take p xs ++ key ∷ drop (suc p) xs = split_next xs p key at
-    ∙ ap (λ l. take p xs ++ key ∷ l) (drop_next p xs) in
-    let halves = sym (list_any-append q (take p xs) (key ∷ drop (suc p) xs)) ∙ sym (ap (list_any q) split) ∙ h in
-    list_any-append q (take p xs) (drop (suc p) xs) ∙ elim (or_cases _ _ halves) [
-      | inl e ↦ or_left (list_any q (take p xs)) _ e
-      | inr f ↦ grind (arith, or_cases, eqb-true, or_right)
-    ]
+    let on : p + 1 ≡ suc p = omega arith in
+    let left = list_any-append q (take p xs) (drop (suc p) xs) in
+    let all = ap (list_any q) (split_next xs p key at) ∙ list_any-append q (take p xs) (key ∷ drop (p + 1) xs) in
+    grind (arith, left, all, eqb-true, cases_Bool (list_any q (take p xs)), cases_Bool (key == other))
 
 removed_back : (xs : List ℕ) (p key other : ℕ) → slice_get xs p ≡ Some key
     → list_any (λ k. k == other) (remove xs p) ≡ true → list_any (λ k. k == other) xs ≡ true
 removed_back xs p key other at h =
     let q : ℕ → Bool = λ k. k == other in
-    let split = split_next xs p key at ∙ ap (λ l. take p xs ++ key ∷ l) (drop_next p xs) in
-    ap (list_any q) split ∙ list_any-append q (take p xs) (key ∷ drop (suc p) xs) ∙ elim (or_cases (list_any
-    q (take p xs)) (list_any q (drop (suc p) xs)) (sym (list_any-append q (take p xs) (drop (suc p) xs)) ∙ h)) [
-      | inl e ↦ or_left _ _ e
-      | inr e ↦ or_right _ _ (or_right _ _ e)
-    ]
+    let on : p + 1 ≡ suc p = omega arith in
+    let left = list_any-append q (take p xs) (drop (suc p) xs) in
+    let all = ap (list_any q) (split_next xs p key at) ∙ list_any-append q (take p xs) (key ∷ drop (p + 1) xs) in
+    grind (arith, left, all, cases_Bool (list_any q (take p xs)), cases_Bool (key == other))
 
 -- ---- all orders
 
@@ -155,9 +135,9 @@ any_key {X} f q (o ∷ os) e = elim (or_cases (list_any q (map f o)) (list_any q
 
 twice_one : {X Y : Type 0} (f : ℕ → X) (g : X → Y) (xs : List ℕ) → map (λ k. g (f k)) xs ≡ map g (map f xs)
 twice_one f g [] = refl
-twice_one {Y = Y} f g (x ∷ xs) = ap (λ (l : List Y). g (f x) ∷ l) (twice_one f g xs)
+twice_one f g (x ∷ xs) = cc (twice_one f g xs)
 
 pub twice : {X Y : Type 0} (f : ℕ → X) (g : X → Y) (orders : List (List ℕ))
     → map (map (λ k. g (f k))) orders ≡ map (map g) (map (map f) orders)
 twice f g [] = refl
-twice {Y = Y} f g (o ∷ os) = grind (arith, twice_one, twice f g os)
+twice f g (o ∷ os) = cc (twice_one f g o, twice f g os)

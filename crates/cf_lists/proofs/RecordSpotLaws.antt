@@ -1,8 +1,7 @@
 -- A record with an id that stands somewhere: that is where it is found.
-use Rattle.cf_lists.proofs.Imports.{◌≡◌, ℕ, ◌+◌, ◌<◌, Bool, true, false, not, ◌==◌, cond, List, [], ◌∷◌, ◌++◌, length, slice_get, Some, None, refl, sym, ◌∙◌, arith, suc, zero, list_any, list_all, position_or_len, and_parts, or_right, false≢true, eq-eqb, eqb-true, pairwise, all_records, is_id, has_id, spot_of, ids_apart}
-use Rattle.cf_lists.proofs.KeyLaws.{any_is_placed}
-use Rattle.cf_lists.proofs.AllLaws.{list_of, none_behind, any_all}
+use Rattle.cf_lists.proofs.Imports.{◌≡◌, ℕ, ◌<◌, Bool, true, false, List, [], ◌∷◌, length, slice_get, Some, None, refl, arith, suc, zero, list_any, list_all, position_or_len, and_parts, or_right, false≢true, eq-eqb, eqb-true, pairwise, all_records, is_id, has_id, spot_of, ids_apart, slice_get_within}
 use Rattle.cf_lists.proofs.IdLaws.{IsPlaced, once, apart-list}
+use Rattle.cf_lists.proofs.{KeyLaws.any_is_placed, AllLaws.list_of, AllLaws.none_behind, AllLaws.any_all, AllLaws.pairwise_back, FilterLaws.next}
 
 module _ {X : Type 0} where
   pub all_at : (p : X → Bool) (xs : List X) (k : ℕ) (x : X) → list_all p xs ≡ true → slice_get xs k ≡ Some x
@@ -18,9 +17,7 @@ module _ {X : Type 0} where
   any_at p (y ∷ ys) (suc k) x e t = or_right (p y) (list_any p ys) (any_at p ys k x e t)
 
   pub get_within : (xs : List X) (k : ℕ) (x : X) → slice_get xs k ≡ Some x → k < length xs
-  get_within [] k x e = absurd (cc)
-  get_within (y ∷ ys) zero x e = omega arith
-  get_within (y ∷ ys) (suc k) x e = omega (arith, get_within ys k x e)
+  get_within xs k x e = slice_get_within xs k x e
 
   pub header_within : (lists : List (List X)) (h k : ℕ) (x : X) → slice_get (list_of h lists) k ≡ Some x
       → h < length lists
@@ -46,21 +43,17 @@ module _ {X : Type 0} (id_of : X → ℕ) where
       → slice_get (list_of h lists) p ≡ Some x → id_of x ≡ id → position_or_len (has_id id_of id) lists ≡ h
   header_is id [] h p x a e i = absurd (cc)
   header_is id (l ∷ ls) zero p x a e i = grind (arith, any_at, eq-eqb)
-  header_is id (l ∷ ls) (suc h) p x a e i = go (has_id id_of id l)
-      refl a (any_there (is_id id_of id) ls h p x e (eq-eqb (id_of x) id i)) (header_is id ls h p x (behind l a) e i)
-    where
-      behind : (xs : List X) → pairwise (ids_apart id_of) (xs ++ all_records ls) ≡ true
-          → pairwise (ids_apart id_of) (all_records ls) ≡ true
-      behind [] k = k
-      behind (y ∷ xs) k = behind xs (and_parts (list_all (ids_apart id_of y) (xs ++ all_records ls))
-          (pairwise (ids_apart id_of) (xs ++ all_records ls)) k).1
-
-      go : (b : Bool) → has_id id_of id l ≡ b → pairwise (ids_apart id_of) (l ++ all_records ls) ≡ true
-          → list_any (has_id id_of id) ls ≡ true → position_or_len (has_id id_of id) ls ≡ h
-          → cond (not b) (1 + position_or_len (has_id id_of id) ls) 0 ≡ suc h
-      go true t k any r =
-          absurd (false≢true (sym (grind (arith, none_behind, once)) ∙ any_all (is_id id_of id) ls ∙ any))
-      go false t k any r = omega (arith, r)
+  header_is id (l ∷ ls) (suc h) p x a e i =
+      let any = any_there (is_id id_of id) ls h p x e (eq-eqb (id_of x) id i) in
+      grind (
+        arith,
+        none_behind,
+        once,
+        any_all,
+        false≢true,
+        next,
+        header_is id ls h p x (pairwise_back (ids_apart id_of) l _ a) e i,
+      )
 
   -- where records are apart, one that stands somewhere is the first with its id
   pub placed_at : (id : ℕ) (lists : List (List X)) (h p : ℕ) (x : X) → pairwise (ids_apart id_of)

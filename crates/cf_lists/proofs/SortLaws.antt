@@ -1,23 +1,11 @@
 -- A sort of keys gives the keys of what is seen.
-use Rattle.cf_lists.proofs.Imports.{◌≡◌, ℕ, suc, ◌+◌, ◌<◌, Bool, true, false, cond, List, [], ◌∷◌, filter, map, length, get_or, sum_by, refl, sym, ap, ◌∙◌, arith, list_all, IsPermutation, and_parts, and_from, not-true, sum_by-cons, sum_by-IsPermutation, insertion, pairwise, in_turn, arranged, IsKeyOrder}
-use Rattle.cf_lists.proofs.FilterLaws.{list_all_weaker, list_all-filter_same, filter_swap}
-use Rattle.cf_lists.proofs.PairwiseLaws.{pairwise-filter}
-use Rattle.cf_lists.proofs.TieLaws.{ordered_filters}
+use Rattle.cf_lists.proofs.Imports.{◌≡◌, ℕ, suc, ◌+◌, ◌<◌, Bool, true, false, cond, List, [], ◌∷◌, filter, map, length, get_or, sum_by, refl, ◌∙◌, arith, list_all, IsPermutation, and_parts, and_from, not-true, sum_by-cons, sum_by-IsPermutation, insertion, pairwise, in_turn, arranged, IsKeyOrder, length-filter}
 use Rattle.cf_lists.proofs.BinLaws.{arranged_in_turn, keyed-arranged}
-use Rattle.cf_lists.proofs.ViewLaws.{mapped_pairs}
+use Rattle.cf_lists.proofs.FilterLaws.{list_all_weaker, list_all-filter_same, filter_swap}
+use Rattle.cf_lists.proofs.{PairwiseLaws.pairwise-filter, TieLaws.ordered_filters, ViewLaws.mapped_pairs}
 
-abbrev one : Bool → ℕ
-one true = 1
-one false = 0
-
-length_counts : {X : Type 0} (p : X → Bool) (xs : List X) → length (filter p xs) ≡ sum_by (λ x. one (p x)) xs
-length_counts p [] = refl
-length_counts p (x ∷ xs) = sym (sum_by-cons (λ x. one (p x)) x xs ∙ step (p x) (length_counts p xs))
-  where
-    step : (b : Bool) → length (filter p xs) ≡ sum_by (λ x. one (p x)) xs
-        → one b + sum_by (λ x. one (p x)) xs ≡ length (cond b (x ∷ filter p xs) (filter p xs))
-    step true e = grind arith
-    step false e = grind arith
+length_counts : {X : Type 0} (p : X → Bool) (xs : List X) → length (filter p xs) ≡ sum_by (λ x. cond (p x) 1 0) xs
+length_counts p xs = length-filter p xs
 
 module _ {K : Type 0} (same before : K → K → Bool) (is : IsKeyOrder same before) where
   -- as many of one key are the same
@@ -34,30 +22,20 @@ module _ {K : Type 0} (same before : K → K → Bool) (is : IsKeyOrder same bef
   neighbours [] h = refl
   neighbours (x ∷ []) h = refl
   neighbours (x ∷ y ∷ ys) h =
+      let rest = neighbours (y ∷ ys) (λ k d lt. let e = h (suc k) d (omega (arith, lt)) in grind arith) in
       let first : before y x ≡ false = h 0 x (omega arith) in
-      let rest : pairwise (in_turn (λ k. k) before) (y ∷ ys) ≡ true = neighbours (y ∷ ys) (grind (arith, shifted)) in
-      let parts = and_parts (list_all (in_turn (λ k. k) before y) ys) (pairwise (in_turn (λ k. k) before) ys) rest in
-      and_from (list_all (in_turn (λ k. k) before x) (y ∷ ys)) (pairwise (in_turn (λ k. k) before) (y ∷ ys))
-      (grind (arith, and_from, list_all_weaker, not-true)) rest
-    where
-      shifted : (k : ℕ) (d : K) → before (get_or (x ∷ y ∷ ys) (suc k + 1) d) (get_or (y ∷ ys) k d) ≡ false
-          → before (get_or (y ∷ ys) (k + 1) d) (get_or (y ∷ ys) k d) ≡ false
-      shifted k d e = grind arith
-
-  counted_step : (f : K → ℕ) (k j : K) (t : Bool) (ks ls : List K) → sum_by f ls ≡ f k + sum_by f ks
-      → sum_by f (cond t (j ∷ ls) (k ∷ j ∷ ks)) ≡ f k + sum_by f (j ∷ ks)
-  counted_step f k j true ks ls e = omega (arith, sum_by-cons f j ls, sum_by-cons f j ks, e)
-  counted_step f k j false ks ls e = sum_by-cons f k (j ∷ ks)
-
-  mapped_if : {X : Type 0} (key : X → K) (t : Bool) (xs ys : List X)
-      → map key (cond t xs ys) ≡ cond t (map key xs) (map key ys)
-  mapped_if key true xs ys = refl
-  mapped_if key false xs ys = refl
+      grind (arith, and_parts, and_from, list_all_weaker, not-true, first, rest)
 
   counted : {X : Type 0} (key : X → K) (f : K → ℕ) (b : X → Bool) (x : X) (ys : List X)
       → sum_by f (map key (insertion b x ys)) ≡ f (key x) + sum_by f (map key ys)
   counted key f b x [] = sum_by-cons f (key x) []
-  counted key f b x (y ∷ ys) = grind (arith, mapped_if, counted_step, counted key f b x ys)
+  counted key f b x (y ∷ ys) = grind (
+    arith,
+    sum_by-cons f (key x) (key y ∷ map key ys),
+    sum_by-cons f (key y) (map key ys),
+    sum_by-cons f (key y) (map key (insertion b x ys)),
+    counted key f b x ys,
+  )
 
   same_counts : {X : Type 0} (key : X → K) (f : K → ℕ) (xs : List X)
       → sum_by f (map key (arranged key before xs)) ≡ sum_by f (map key xs)
@@ -79,6 +57,5 @@ module _ {X K : Type 0} (key : X → K) (same before : K → K → Bool) (is : I
   pub arranged-filter : (q : X → Bool) (xs : List X)
       → arranged key before (filter q xs) ≡ filter q (arranged key before xs)
   arranged-filter q xs = ordered_filters key same (λ x y. before (key x) (key y)) is.itself
-      (λ x y. is.ties (key x) (key y)) (arranged key before (filter q xs)) (filter q (arranged key before xs))
-      (arranged_in_turn key same before (λ k. 0) is (filter q xs)) (pairwise-filter (in_turn key before) q (arranged
-      key before xs) (arranged_in_turn key same before (λ k. 0) is xs)) (grind (arith, keyed-arranged, filter_swap))
+      (λ x y. is.ties (key x) (key y)) _ _ (arranged_in_turn key same before (λ k. 0) is (filter q xs)) (pairwise-filter
+      _ q _ (arranged_in_turn key same before (λ k. 0) is xs)) (grind (arith, keyed-arranged, filter_swap))

@@ -1,8 +1,8 @@
 -- All records with one more, one less, or one in place of another: the records before it and behind it.
-use Rattle.cf_lists.proofs.Imports.{arith, ◌≡◌, ℕ, ◌<◌, Bool, true, false, ◌==◌, cond, List, [], ◌∷◌, ◌++◌, length, map, find, take, drop, slice_get, Some, refl, sym, ap, ◌∙◌, subst, suc, zero, list_all, insert, and_parts, append_assoc, take-append-drop, pairwise, all_records, records_of, lists_with, records_without, is_id, replaced_by, ids_apart}
+use Rattle.cf_lists.proofs.Imports.{arith, ◌≡◌, ℕ, Bool, true, false, cond, List, [], ◌∷◌, ◌++◌, map, find, slice_get, Some, refl, subst, suc, zero, list_all, and_parts, pairwise, all_records, records_of, records_without, is_id, replaced_by, ids_apart}
 use Rattle.cf_lists.proofs.FilterLaws.{none_from_all, list_all_weaker, filter_all}
-use Rattle.cf_lists.proofs.AllLaws.{all-split, all-set}
-use Rattle.cf_lists.proofs.IdLaws.{once, unchanged}
+use Rattle.cf_lists.proofs.{IdLaws.once, IdLaws.unchanged}
+pub use Rattle.cf_lists.proofs.AllLaws.{all_with}
 
 module _ {X : Type 0} where
   -- each of them
@@ -33,25 +33,10 @@ module _ {X : Type 0} where
   every_found P q [] x h e = absurd (cc)
   every_found P q (y ∷ ys) x h e = grind (arith, every_found P q ys x h.1)
 
-  -- one record more
-  pub all_with : (h p : ℕ) (rec : X) (lists : List (List X)) → h < length lists → (front : List X) × (back : List X)
-      × (all_records lists ≡ front ++ back) × (all_records (lists_with h p rec lists) ≡ front ++ rec ∷ back)
-  all_with h p rec lists lt =
-      let recs = records_of lists h in
-      let front = all_records (take h lists) in
-      let back = all_records (drop (suc h) lists) in (
-        front ++ take p recs,
-        drop p recs ++ back,
-        all-split lists h lt ∙ ap (λ (l : List X). front ++ (l ++ back)) (sym (take-append-drop p recs)) ∙ ap (λ (l :
-            List X). front ++ l) (append_assoc (take p recs) (drop p recs) back) ∙ sym (grind (arith, append_assoc)),
-        all-set lists h (insert recs p rec) lt ∙ ap (λ (l : List X). front ++ l) (append_assoc (take p recs)
-            (rec ∷ drop p recs) back) ∙ sym (append_assoc front (take p recs) (rec ∷ (drop p recs ++ back))),
-      )
-
 module _ {X Y : Type 0} (f g : X → Y) where
   agree_each : (xs : List X) → Every (λ x. f x ≡ g x) xs → map f xs ≡ map g xs
   agree_each [] h = refl
-  agree_each (x ∷ xs) h = ap (λ (y : Y). y ∷ map f xs) h.0 ∙ ap (λ (l : List Y). g x ∷ l) (agree_each xs h.1)
+  agree_each (x ∷ xs) h = cc (h.0, agree_each xs h.1)
 
   -- maps that agree on all records
   pub agree_all : (lists : List (List X)) → Every (λ x. f x ≡ g x) (all_records lists)
@@ -81,10 +66,4 @@ module _ {X : Type 0} (id_of : X → ℕ) where
       go true t e apart rest = grind (arith, list_all_weaker, once, none_from_all, filter_all, unchanged)
       go false t e apart rest =
           let r = rest e in
-          record {
-            front = y ∷ r.front;
-            back = r.back;
-            whole = ap (λ (l : List X). y ∷ l) r.whole;
-            less = rw t (ap (λ (l : List X). y ∷ l) r.less);
-            other = grind arith;
-          }
+          record { front = y ∷ r.front; back = r.back; whole = grind arith; less = grind arith; other = grind arith }

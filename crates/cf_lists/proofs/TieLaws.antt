@@ -1,5 +1,5 @@
 -- Lists in order by key, with several elements of one key, are equal where their filters per key are.
-use Rattle.cf_lists.proofs.Imports.{arith, ◌≡◌, Bool, true, false, not, List, [], ◌∷◌, filter, refl, sym, ap, ◌∙◌, subst, list_all, and_parts, false≢true, not-true, pairwise}
+use Rattle.cf_lists.proofs.Imports.{arith, ◌≡◌, Bool, true, false, not, List, [], ◌∷◌, filter, refl, list_all, and_parts, false≢true, not-true, pairwise}
 use Rattle.cf_lists.proofs.FilterLaws.{list_all-filter}
 
 module _ {X K : Type 0} (key : X → K)
@@ -14,8 +14,7 @@ module _ {X K : Type 0} (key : X → K)
 
   -- what begins a filter of a list has what all of the list have
   heads : (q p : X → Bool) (x : X) (zs ys : List X) → list_all q ys ≡ true → x ∷ zs ≡ filter p ys → q x ≡ true
-  heads q p x zs ys h e =
-      (and_parts (q x) (list_all q zs) (subst (λ l. list_all q l ≡ true) (sym e) (list_all-filter q p ys h))).0
+  heads q p x zs ys h e = grind (arith, and_parts, list_all-filter q p ys h)
 
   first_tied : (b c : Bool) (x y : X) (xs ys : List X) → is_keyed (key x) y ≡ b → is_keyed (key y) x ≡ c
       → list_all (in_turn x) xs ≡ true → list_all (in_turn y) ys ≡ true → filter (is_keyed (key x)) (x ∷ xs) ≡ filter
@@ -38,5 +37,4 @@ module _ {X K : Type 0} (key : X → K)
       let left = and_parts (list_all (in_turn x) xs) (pairwise in_turn xs) h in
       let right = and_parts (list_all (in_turn y) ys) (pairwise in_turn ys) g in
       let first : x ≡ y = first_tied _ _ x y xs ys refl refl left.0 right.0 (f (key x)) (f (key y)) in
-      let rest : xs ≡ ys = ordered_filters xs ys left.1 right.1 (grind (arith, rest_tied)) in
-      ap (λ z. z ∷ xs) first ∙ ap (λ zs. y ∷ zs) rest
+      cc (first, ordered_filters xs ys left.1 right.1 (grind (arith, rest_tied)))

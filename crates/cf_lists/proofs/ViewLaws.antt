@@ -1,5 +1,5 @@
 -- What is seen of table entries, and lists by key.
-use Rattle.cf_lists.proofs.Imports.{◌≡◌, ℕ, zero, suc, ◌+◌, ◌≤◌, Bool, true, false, ◌&&◌, cond, List, [], ◌∷◌, filter, map, length, get_or, refl, ap, ◌∙◌, arith, list_all, and_parts, and_from, length-append, length-map, pairwise, is_keyed, arranged, joined}
+use Rattle.cf_lists.proofs.Imports.{◌≡◌, ℕ, zero, suc, ◌≤◌, Bool, true, false, cond, List, [], ◌∷◌, filter, map, length, get_or, refl, arith, list_all, and_parts, and_from, length-append, length-map, pairwise, is_keyed, arranged, joined, list_all-map}
 use Rattle.cf_lists.proofs.InsertionLaws.{length-insertion}
 
 pub length_arranged : {X K : Type 0} (key : X → K) (before : K → K → Bool) (xs : List X)
@@ -18,15 +18,10 @@ pub length_in : {X K : Type 0} (key : X → K) (before : K → K → Bool) (i : 
     → length (get_or bins i []) ≤ length (map key (arranged key before (joined bins)))
 length_in key before i bins = grind (arith, length-map, length_arranged, length_joined)
 
-all_mapped : {X Y : Type 0} (f : X → Y) (p : Y → Bool) (xs : List X)
-    → list_all p (map f xs) ≡ list_all (λ x. p (f x)) xs
-all_mapped f p [] = refl
-all_mapped f p (x ∷ xs) = ap (λ b. p (f x) && b) (all_mapped f p xs)
-
 pub mapped_pairs : {X Y : Type 0} (f : X → Y) (relation : Y → Y → Bool) (xs : List X)
     → pairwise relation (map f xs) ≡ pairwise (λ x y. relation (f x) (f y)) xs
 mapped_pairs f relation [] = refl
-mapped_pairs f relation (x ∷ xs) = rw (all_mapped f (relation (f x)) xs, mapped_pairs f relation xs) refl
+mapped_pairs f relation (x ∷ xs) = rw (list_all-map (relation (f x)) f xs, mapped_pairs f relation xs) refl
 
 -- a relation of those of one key alone holds of all pairs where it holds of all pairs of each key
 pub by_key : {X K : Type 0} (key : X → K) (same : K → K → Bool) (relation : X → X → Bool) → ((k : K) → same k k ≡ true)
@@ -42,20 +37,10 @@ by_key key same relation itself apart (x ∷ xs) h = and_from (list_all (relatio
     later : (b : Bool) (k : _) → same (key x) k ≡ b → pairwise relation
         (cond (same (key x) k) (x ∷ filter (is_keyed key same k) xs) (filter (is_keyed key same k) xs)) ≡ true
         → pairwise relation (filter (is_keyed key same k) xs) ≡ true
-    later true k e g = (and_parts (list_all (relation x) (filter (is_keyed key same k) xs))
-        (pairwise relation (filter (is_keyed key same k) xs)) (rw e at g)).1
+    later true k e g = grind (arith, and_parts)
     later false k e g = rw e at g
-
-    step : (b : Bool) (y : _) (ys : _) → same (key y) (key x) ≡ b → list_all (relation x)
-        (cond b (y ∷ filter (is_keyed key same (key x)) ys) (filter (is_keyed key same (key x)) ys)) ≡ true
-        → (list_all (relation x) (filter (is_keyed key same (key x)) ys) ≡ true → list_all (relation x) ys ≡ true)
-        → list_all (relation x) (y ∷ ys) ≡ true
-    step true y ys e g ih =
-        let parts = and_parts (relation x y) (list_all (relation x) (filter (is_keyed key same (key x)) ys)) g in
-        and_from (relation x y) (list_all (relation x) ys) parts.0 (ih parts.1)
-    step false y ys e g ih = and_from (relation x y) (list_all (relation x) ys) (apart x y e) (ih g)
 
     each : (ys : _) → list_all (relation x) (filter (is_keyed key same (key x)) ys) ≡ true
         → list_all (relation x) ys ≡ true
     each [] g = refl
-    each (y ∷ ys) g = step (same (key y) (key x)) y ys refl g (each ys)
+    each (y ∷ ys) g = grind (arith, and_parts, and_from, each ys)

@@ -1,5 +1,5 @@
 -- Sets of connectors: what a member more or less changes, and how the bits that a set is kept as follow.
-use Rattle.cf_types.proofs.Imports.{◌≡◌, ◌≢◌, ℕ, zero, suc, ◌+◌, ◌*◌, ◌/◌, ◌%◌, ◌^◌, ◌<◌, ◌≤◌, Bool, true, false, cond, not, ◌&&◌, ◌⊎◌, ◌==◌, filter, List, [], ◌∷◌, ◌++◌, length, bit_and, bit_or, count_ones, refl, sym, ap, ◌∙◌, ⊎_elim, arith, add-one, add-zero, zero-add, eq-eqb, ne_eqb, lt-ltb, le-ltb, and_right, cases_eq, cases_order, append-nil, filter-append, shr-shr, mod-pow-add, ones-le, one_shl, pow_pos, or_lt, and_pow, bit_at-lt, bit_at-zero, bit_at_set_same, bit_at_set_other, bit_at_clear_same, bit_at_clear_other, mod-one, zero-mul, bit_at, bit_not, w128, ones_step, SET_NUMBERS, conns_from, is_member, with_member, without_member, members, ConnId}
+use Rattle.cf_types.proofs.Imports.{◌≡◌, ◌≢◌, ℕ, zero, suc, ◌+◌, ◌*◌, ◌/◌, ◌%◌, ◌^◌, ◌<◌, ◌≤◌, Bool, true, false, cond, not, ◌&&◌, ◌==◌, filter, List, [], ◌∷◌, ◌++◌, length, bit_and, bit_or, count_ones, refl, sym, ap, ◌∙◌, ⊎_elim, arith, add-one, add-zero, zero-add, eq-eqb, ne_eqb, lt-ltb, le-ltb, and_right, cases_eq, cases_order, append-nil, filter-append, shr-shr, mod-pow-add, ones-le, one_shl, pow_pos, or_lt, and_pow, bit_at-lt, bit_at-zero, bit_at_set_same, bit_at_set_other, bit_at_clear_same, bit_at_clear_other, mod-one, zero-mul, bit_at, bit_not, w128, ones_step, SET_NUMBERS, conns_from, is_member, with_member, without_member, members, ConnId}
 
 -- ---- the connectors of a range that pass a test
 
@@ -210,5 +210,3 @@ has_bit bits conn within =
 pub bits_set-lt : (bits : ℕ) (conn : ConnId)
     → bits < 2 ^ SET_NUMBERS → bit_or bits (1 * 2 ^ conn.0 % 2 ^ SET_NUMBERS) < 2 ^ SET_NUMBERS
 bits_set-lt bits conn small = or_lt SET_NUMBERS _ _ small (omega arith)
-
--- ---- members of a set with one more, or one less

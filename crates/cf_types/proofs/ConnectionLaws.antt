@@ -155,5 +155,3 @@ pub gone-from_none_defined : (conns : Connections) → defined_count conns ≡ 0
     → state_of conns conn ≡ None
 gone-from_none_defined conns none conn =
     grind (arith, ⊎_elim, state_of-get_or, none_counted, get_or-le-sum_by, state_of_past, cases_lt)
-
--- ---- what stays true

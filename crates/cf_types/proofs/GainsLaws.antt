@@ -28,7 +28,7 @@ pub gains_then : (before middle after : Bits) (xs ys zs : List BitChange)
 gains_then before middle after xs ys zs once first second = grind (arith, append_assoc, told-append, difference_then)
 
 -- bits that only fall, twice
-only_falls : (a b c : Bool) → (b ≡ true → a ≡ true) → (c ≡ true → b ≡ true) → (b ≡ a) ⊎ (c ≡ b)
+pub only_falls : (a b c : Bool) → (b ≡ true → a ≡ true) → (c ≡ true → b ≡ true) → (b ≡ a) ⊎ (c ≡ b)
 only_falls false false c h k = inl refl
 only_falls true true c h k = inl refl
 only_falls true false false h k = inr refl

@@ -1,5 +1,5 @@
--- Resources as keys, and their order.
-use Rattle.cf_types.proofs.Imports.{◌≡◌, ℕ, ◌==◌, ◌&&◌, Bool, true, false, List, refl, sym, ap, ◌∙◌, subst, arith, nat_eq, nat_tests, Ordering, Less, Equal, Greater, nat_cmp, is_lt, is_gt, is_eq, ordering_reverse, ordering_then, IsTotalOrder, bytes_decides, pointwise, slice_cmp, nat_list_cmp_total, upto, on_total, then_total, nat_cmp_total, same_from_slice_cmp, and_parts, and_from, eqb-true, eq-eqb, not-true, false≢true, Name16, ConnId, Resource, same_name, same_resource, resource_cmp, resource_before, resource_up_to, Part, same_part}
+-- Names and resources as keys, and their order.
+use Rattle.cf_types.proofs.Imports.{◌≡◌, ◌≢◌, ℕ, ◌==◌, ◌&&◌, Bool, true, false, List, refl, sym, ap, ◌∙◌, subst, arith, nat_eq, nat_tests, Ordering, Less, Equal, Greater, nat_cmp, is_lt, is_gt, is_eq, ordering_reverse, ordering_then, IsTotalOrder, bytes_decides, pointwise, slice_cmp, nat_list_cmp_total, upto, on_total, then_total, nat_cmp_total, same_from_slice_cmp, and_parts, and_from, eqb-true, eq-eqb, not-true, false≢true, Name16, ConnId, Resource, same_name, name_before, texts_ties, same_resource, resource_cmp, resource_before, resource_up_to, Part, same_part}
 
 -- names with the same bytes are the same
 pub same_name-eq : (a b : Name16) → same_name a b ≡ true → a ≡ b
@@ -7,8 +7,22 @@ same_name-eq a b h =
     let named : List ℕ → Name16 = λ (bytes : List ℕ). record { 0 = bytes } in
     ap named ((bytes_decides a.0 b.0).0 h)
 
+pub same_name-from : (a b : Name16) → a ≡ b → same_name a b ≡ true
+same_name-from a b e = (bytes_decides a.0 b.0).1 (ap (λ (n : Name16). n.0) e)
+
 pub same_name-refl : (a : Name16) → same_name a a ≡ true
-same_name-refl a = (bytes_decides a.0 a.0).1 refl
+same_name-refl a = same_name-from a a refl
+
+pub same_name-ne : (a b : Name16) → a ≢ b → same_name a b ≡ false
+same_name-ne a b ne = grind (arith, same_name-eq)
+
+pub both_implied : (s t : Bool) → (s ≡ true → t ≡ true) → (t ≡ true → s ≡ true) → s ≡ t
+both_implied true t f g = sym (f refl)
+both_implied false true f g = g refl
+both_implied false false f g = refl
+
+pub same_name-sym : (a b : Name16) → same_name a b ≡ same_name b a
+same_name-sym a b = grind (arith, both_implied, same_name-from, same_name-eq)
 
 pub same_resource-eq : (a b : Resource) → same_resource a b ≡ true → a ≡ b
 same_resource-eq a b h =
@@ -31,31 +45,51 @@ pub same_part-refl : (a : Part) → same_part a a ≡ true
 same_part-refl a =
     and_from (same_resource a.0 a.0) (a.1.0 == a.1.0) (same_resource-refl a.0) (eq-eqb a.1.0 a.1.0 refl)
 
--- ---- the order
+-- ---- the order of names
+
+is_less : (o : Ordering) → is_lt o ≡ true → o ≡ Less
+is_less Less h = refl
+is_less Equal h = absurd (false≢true h)
+is_less Greater h = absurd (false≢true h)
+
+pub name_before-trans : (a b c : Name16) → name_before a b ≡ true → name_before b c ≡ true → name_before a c ≡ true
+name_before-trans a b c h k = ap is_lt (nat_list_cmp_total.trans a.0 b.0 c.0 (is_less _ h) (is_less _ k))
+
+other_way : (o p : Ordering) (same : Bool) → o ≡ ordering_reverse p → same ≡ is_eq p → same ≡ false → is_lt p ≡ false
+    → is_lt o ≡ true
+other_way o Less same e f g h = absurd (false≢true (sym h))
+other_way o Equal same e f g h = absurd (false≢true (sym g ∙ f))
+other_way o Greater same e f g h = rw e refl
+
+-- of two names one is before the other, or they are the same
+pub name_before-else : (a b : Name16) → same_name a b ≡ false → name_before a b ≡ false → name_before b a ≡ true
+name_before-else a b apart h = other_way _ _ _ (nat_list_cmp_total.antisymm b.0 a.0) (texts_ties a.0 b.0) apart h
+
+-- ---- the order of resources
 
 pub resource_cmp_total : IsTotalOrder resource_cmp
 resource_cmp_total = then_total (on_total (λ r. r.name.0) nat_list_cmp_total) (on_total (λ r. r.hash) nat_cmp_total)
 
-turned : (o : Ordering) → is_lt (ordering_reverse o) ≡ is_gt o
-turned Less = refl
-turned Equal = refl
-turned Greater = refl
+pub is_lt-reverse : (o : Ordering) → is_lt (ordering_reverse o) ≡ is_gt o
+is_lt-reverse Less = refl
+is_lt-reverse Equal = refl
+is_lt-reverse Greater = refl
 
 before_back : (a b : Resource) → resource_before b a ≡ is_gt (resource_cmp a b)
-before_back a b = ap is_lt (resource_cmp_total.antisymm b a) ∙ turned (resource_cmp a b)
+before_back a b = ap is_lt (resource_cmp_total.antisymm b a) ∙ is_lt-reverse (resource_cmp a b)
 
 pub resource_up_to-trans : (a b c : Resource) → resource_up_to a b ≡ true → resource_up_to b c ≡ true
     → resource_up_to a c ≡ true
 resource_up_to-trans a b c ab bc = grind (arith, before_back, not-true, upto, resource_cmp_total)
 
-not_both : (o : Ordering) → is_lt o ≡ true → is_gt o ≡ false
-not_both Less h = refl
-not_both Equal h = refl
-not_both Greater h = absurd (false≢true h)
+pub lt_not_gt : (o : Ordering) → is_lt o ≡ true → is_gt o ≡ false
+lt_not_gt Less h = refl
+lt_not_gt Equal h = refl
+lt_not_gt Greater h = absurd (false≢true h)
 
 -- of two resources one isn't behind the other
 pub resource_up_to-either : (a b : Resource) → resource_up_to a b ≡ false → resource_up_to b a ≡ true
-resource_up_to-either a b h = grind (arith, before_back, not_both, false≢true)
+resource_up_to-either a b h = grind (arith, before_back, lt_not_gt, false≢true)
 
 -- ---- the order and sameness
 

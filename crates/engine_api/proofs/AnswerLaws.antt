@@ -1,13 +1,9 @@
 -- What a legal history tells of the answers of links, turn by turn.
-use Rattle.engine_api.proofs.Imports.{◌≡◌, ℕ, ◌+◌, ◌==◌, Bool, List, [], ◌∷◌, ◌++◌, length, refl, sym, ap, ◌∙◌, arith, append_assoc, append-nil, length-append, fold, filter, Option, None, Some, fold_push, filter-append, CfId, Entry, links_asked, asked_unless, Asks, AreDistinct, answers_to, StrForm, Refusal, Meaning, Machine, opening, Turn, replay, next_mark, with_mark, with_marks, after_turn, IsLegal, Reading, begun, read_entry, read_all, answers_in, answers_from, answers, marks_at, trues}
+use Rattle.engine_api.proofs.Imports.{◌≡◌, ◌+◌, Bool, List, [], ◌∷◌, ◌++◌, refl, ap, ◌∙◌, arith, append_assoc, append-nil, length-append, fold, Option, fold_push, filter-append, CfId, Entry, links_asked, asked_unless, Asks, AreDistinct, answers_to, StrForm, Refusal, Meaning, Machine, opening, Turn, replay, next_mark, with_mark, with_marks, after_turn, IsLegal, Reading, begun, read_entry, read_all, answers_from, answers, marks_at, trues}
 use Rattle.engine_api.proofs.AskLaws.{answers_marked, times, marked_once, distinct_apart}
 use Rattle.engine_api.proofs.HistoryLaws.{replay-push, by_turns}
 
 module _ {C R I S : Type 0} (meaning : Meaning C R I S) (form : StrForm) where
-  read-push : (history : List (Entry C R)) (entry : Entry C R)
-      → read_all meaning form (history ++ entry ∷ []) ≡ read_entry meaning form (read_all meaning form history) entry
-  read-push history entry = fold_push (read_entry meaning form) (begun (opening meaning form)) history entry
-
   from-append : (reading : Reading (Machine S)) (xs ys : List (Entry C R)) (cf : CfId)
       → answers_from meaning form reading (xs ++ ys) cf ≡ answers_from meaning form reading
       xs cf ++ answers_from meaning form (fold (read_entry meaning form) reading xs) ys cf
@@ -20,11 +16,6 @@ module _ {C R I S : Type 0} (meaning : Meaning C R I S) (form : StrForm) where
       cf ≡ answers meaning form xs cf ++ answers_from meaning form (read_all meaning form xs) ys cf
   answers-append xs ys cf = from-append (begun (opening meaning form)) xs ys cf
 
-  answers-push : (history : List (Entry C R)) (entry : Entry C R) (cf : CfId)
-      → answers meaning form (history ++ entry ∷ []) cf ≡ answers
-      meaning form history cf ++ answers_in meaning form (read_all meaning form history) entry.by entry.what cf
-  answers-push history entry cf = grind (arith, answers-append, append-nil)
-
   -- ---- marks
 
   abbrev at : Machine S → List CfId → Machine S → Reading (Machine S)
@@ -33,14 +24,12 @@ module _ {C R I S : Type 0} (meaning : Meaning C R I S) (form : StrForm) where
   read-marks : (marks some : List CfId) (history : List (Entry C R)) (began : Machine S) → read_all
       meaning form history ≡ at began some (replay meaning form history) → read_all meaning form (with_marks meaning
       form history marks) ≡ at began (some ++ marks) (replay meaning form (with_marks meaning form history marks))
-  read-marks [] some history began e =
-      e ∙ ap (λ (all : List CfId). at began all (replay meaning form history)) (sym (append-nil some))
+  read-marks [] some history began e = grind (arith, append-nil)
   read-marks (cf ∷ marks) some history began e =
       let mark : Entry C R = next_mark meaning form history cf in
       let one : read_all meaning form (with_mark meaning form history cf)
       ≡ at began (some ++ cf ∷ []) (replay meaning form (with_mark meaning form history cf)) =
-      read-push history mark ∙ ap (λ (reading : Reading (Machine S)). read_entry meaning form reading mark) e
-      ∙ ap (at began (some ++ cf ∷ [])) (sym (replay-push meaning form history mark)) in
+      grind (arith, fold_push, replay-push) in
       read-marks marks (some ++ cf ∷ []) (with_mark meaning form history cf) began one
       ∙ ap (λ (all : List CfId). at began all (replay meaning form (with_marks meaning form history (cf ∷ marks))))
       (append_assoc some (cf ∷ []) marks)
@@ -49,7 +38,7 @@ module _ {C R I S : Type 0} (meaning : Meaning C R I S) (form : StrForm) where
       → answers meaning form (with_marks meaning form history marks) cf ≡ answers meaning form history cf
   answers-marks [] history cf = refl
   answers-marks (lost ∷ marks) history cf =
-      grind (arith, answers-push, append-nil, answers-marks marks (with_mark meaning form history lost) cf)
+      grind (arith, answers-append, append-nil, answers-marks marks (with_mark meaning form history lost) cf)
 
   -- ---- turns
 
@@ -65,7 +54,7 @@ module _ {C R I S : Type 0} (meaning : Meaning C R I S) (form : StrForm) where
 
   pub group-turn : (history : List (Entry C R)) (turn : Turn C) → IsAtGroup history
       → IsAtGroup (after_turn meaning form history turn)
-  group-turn history turn e = grind (arith, read-push, read-marked, replay-push)
+  group-turn history turn e = grind (arith, fold_push, read-marked, replay-push)
 
   pub legal_group : (history : List (Entry C R)) → IsLegal meaning form history → IsAtGroup history
   legal_group history legal = by_turns meaning form IsAtGroup refl (λ h turn fine e. group-turn h turn e) history legal
@@ -74,36 +63,28 @@ module _ {C R I S : Type 0} (meaning : Meaning C R I S) (form : StrForm) where
   pub answers-turn : (history : List (Entry C R)) (turn : Turn C) (cf : CfId) → IsAtGroup history
       → answers meaning form (after_turn meaning form history turn) cf ≡ answers meaning form
       history cf ++ answers_to turn.down (links_asked meaning form (replay meaning form history) turn.by turn.ask) cf
-  answers-turn history turn cf e = grind (arith, answers-push, read-marked, answers-marks, answers_marked)
+  answers-turn history turn cf e = grind (arith, answers-append, append-nil, read-marked, answers-marks, answers_marked)
 
   -- ---- how many marks there are
 
   marks-append : (xs ys : List (Entry C R)) (cf : CfId) → marks_at (xs ++ ys) cf ≡ marks_at xs cf + marks_at ys cf
   marks-append xs ys cf = grind (arith, filter-append, length-append)
 
-  one-mark : (history : List (Entry C R)) (mark cf : CfId)
-      → marks_at (next_mark meaning form history mark ∷ []) cf ≡ times cf (mark ∷ [])
-  one-mark history mark cf = grind (arith, times)
-
   marks-marks : (marks : List CfId) (history : List (Entry C R)) (cf : CfId)
       → marks_at (with_marks meaning form history marks) cf ≡ marks_at history cf + times cf marks
   marks-marks [] history cf = omega arith
-  marks-marks (mark ∷ marks) history cf =
-      let here : marks_at (with_mark meaning form history mark) cf ≡ marks_at history cf + times cf (mark ∷ []) =
-      marks-append history (next_mark meaning form history mark ∷ []) cf
-      ∙ ap (λ (n : ℕ). marks_at history cf + n) (one-mark history mark cf) in
-      let all : times cf (mark ∷ marks) ≡ times cf (mark ∷ []) + times cf marks =
-      ap length (filter-append (λ (x : CfId). x.0 == cf.0) (mark ∷ []) marks)
-      ∙ length-append (filter (λ (x : CfId). x.0 == cf.0) (mark ∷ [])) (filter (λ (x : CfId). x.0 == cf.0) marks) in
-      let rest : marks_at (with_marks meaning form (with_mark meaning form history mark) marks) cf
-      ≡ marks_at (with_mark meaning form history mark) cf + times cf marks =
-      marks-marks marks (with_mark meaning form history mark) cf in
-      omega arith
+  marks-marks (mark ∷ marks) history cf = grind (
+    arith,
+    times,
+    marks-append,
+    filter-append,
+    length-append,
+    marks-marks marks (with_mark meaning form history mark) cf,
+  )
 
   pub asked_distinct : (cause : Option Refusal) (asks : Asks)
       → (let it = asked_unless cause asks in AreDistinct it.links)
-  asked_distinct None asks = distinct_apart asks.links
-  asked_distinct (Some refusal) asks = tt
+  asked_distinct cause asks = grind (arith, distinct_apart)
 
   trues-append : (xs ys : List Bool) → trues (xs ++ ys) ≡ trues xs + trues ys
   trues-append xs ys = grind (arith, filter-append, length-append)

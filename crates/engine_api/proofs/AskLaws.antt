@@ -1,7 +1,5 @@
 -- Which links are asked, and which marks that makes.
-use Rattle.engine_api.proofs.Imports.{◌≡◌, ◌≤◌, ℕ, ◌==◌, Bool, true, false, ◌&&◌, ◌||◌, List, [], ◌∷◌, length, refl, ◌∙◌, arith, filter, if◌then◌else◌, Option, None, Some, ◌++◌, eq-eqb, eqb-true, CfId, StrForm, ConnId, Refusal, ShellCmd, Ask, Meaning, Machine, fresh_of, Shell, listed, asks_of_command, asks_of, asked_unless, links_asked, Asks, has, AreDistinct, apart, reached, reached_in, marks_of, answers_to, trues}
-use Rattle.cf_types.specs.declared.shell_commands.ShellCmd.TheVariants as cmd
-use Rattle.engine_api.specs.declared.asks.Ask.TheVariants as ask
+use Rattle.engine_api.proofs.Imports.{◌≡◌, ◌≤◌, ℕ, ◌==◌, Bool, true, false, ◌||◌, List, [], ◌∷◌, length, refl, arith, filter, Option, ◌++◌, eq-eqb, eqb-true, CfId, StrForm, ConnId, Refusal, Ask, Meaning, Machine, Shell, listed, asks_of, asked_unless, links_asked, Asks, has, AreDistinct, apart, reached, reached_in, marks_of, answers_to, trues}
 
 pub same_cf : (x y : CfId) → x.0 == y.0 ≡ true → x ≡ y
 same_cf x y e = grind (arith, eqb-true)
@@ -10,16 +8,12 @@ pub itself : (x : CfId) → x.0 == x.0 ≡ true
 itself x = eq-eqb x.0 x.0 refl
 
 pub or_true : (b : Bool) → b || true ≡ true
-or_true true = refl
-or_true false = refl
+or_true b = grind arith
 
 -- ---- answers that agree where links are asked
 
 abbrev pub Agree : List CfId → (CfId → Bool) → (CfId → Bool) → Type 0
 Agree xs d e = (cf : CfId) → has xs cf ≡ true → d cf ≡ e cf
-
-agree_head : (x : CfId) (xs : List CfId) (d e : CfId → Bool) → Agree (x ∷ xs) d e → d x ≡ e x
-agree_head x xs d e agree = agree x (rw (itself x) refl)
 
 pub agree_tail : (x : CfId) (xs : List CfId) (d e : CfId → Bool) → Agree (x ∷ xs) d e → Agree xs d e
 agree_tail x xs d e agree cf h = agree cf (rw h (or_true (x.0 == cf.0)))
@@ -27,12 +21,11 @@ agree_tail x xs d e agree cf h = agree cf (rw h (or_true (x.0 == cf.0)))
 pub reached_agree : (stops : Bool) (d e : CfId → Bool) (xs : List CfId) → Agree (reached stops d xs) d e
     → reached stops d xs ≡ reached stops e xs
 reached_agree stops d e [] agree = refl
-reached_agree stops d e (x ∷ xs) agree = grind (arith, agree_head, agree_tail, reached_agree stops d e xs)
+reached_agree stops d e (x ∷ xs) agree = grind (arith, agree_tail, reached_agree stops d e xs)
 
 pub filter_agreed : (d e : CfId → Bool) (xs : List CfId) → Agree xs d e → filter d xs ≡ filter e xs
 filter_agreed d e [] agree = refl
-filter_agreed d e (x ∷ xs) agree =
-    rw (agree_head x xs d e agree, filter_agreed d e xs (agree_tail x xs d e agree)) refl
+filter_agreed d e (x ∷ xs) agree = grind (arith, agree_tail, itself, filter_agreed d e xs (agree_tail x xs d e agree))
 
 -- the marks depend on the links that are asked alone
 pub marks_agree : (asks : Asks) (d e : CfId → Bool) → Agree (reached_in d asks) d e
@@ -114,19 +107,12 @@ apart_few (x ∷ xs) = grind (arith, filter_few, apart_few xs)
 two_listed : (first second : Option CfId) → length (listed first ++ listed second) ≤ 2
 two_listed first second = grind arith
 
-two_of_command : (shell : Shell) (command : ShellCmd)
-    → (let asks = asks_of_command shell command in length asks.links ≤ 2)
-two_of_command shell (cmd.Copy n) = two_listed shell.instances.primary (fresh_of shell.rebuild)
-two_of_command shell command = omega arith
-
 two_of : {C : Type 0} (shell : Shell) (asked : Ask C) → (let asks = asks_of shell asked in length asks.links ≤ 2)
-two_of shell (ask.Shell command) = two_of_command shell command
-two_of shell (ask.Content command) = two_listed shell.instances.primary shell.instances.secondary
+two_of shell asked = grind (arith, two_listed)
 
 two_unless : (cause : Option Refusal) (asks : Asks) → length asks.links ≤ 2
     → (let asked = asked_unless cause asks in length asked.links ≤ 2)
-two_unless None asks few = omega (arith, apart_few asks.links)
-two_unless (Some refusal) asks few = omega arith
+two_unless cause asks few = grind (arith, apart_few)
 
 -- a call asks two links at most
 pub two_asked : {C R I S : Type 0} (meaning : Meaning C R I S) (form : StrForm) (machine : Machine S) (by : ConnId)

@@ -1,6 +1,6 @@
 -- What the first items of a content make: what follows from the laws on it, and how it follows from laws on one item
 -- that is placed behind others.
-use Rattle.engine_api.proofs.Imports.{arith, ◌≡◌, Bool, IsTrue, List, [], ◌∷◌, ◌++◌, sym, ap, ◌∙◌, subst, append-nil, append_assoc, fold-append, Caps, Kind, Shape, Fits, IsAlone, IsNextItem, content_of_items, Meaning}
+use Rattle.engine_api.proofs.Imports.{arith, ◌≡◌, Bool, IsTrue, List, [], ◌∷◌, ◌++◌, sym, ◌∙◌, subst, append-nil, append_assoc, fold-append, Caps, Kind, Shape, Fits, IsAlone, IsNextItem, content_of_items, Meaning}
 
 module _ {C R I S : Type 0} (meaning : Meaning C R I S) (is_kind : Kind → Bool)
     (IsContent : Shape → Caps → S → Type 0) where
@@ -20,10 +20,6 @@ module _ {C R I S : Type 0} (meaning : Meaning C R I S) (is_kind : Kind → Bool
         → IsContent shape caps state → meaning.items shape state ≡ front ++ item ∷ others
         → meaning.unplace shape (made shape (front ++ item ∷ [])) ≡ made shape front
 
-  made_push : (shape : Shape) (front : List I) (item : I)
-      → made shape (front ++ item ∷ []) ≡ meaning.place shape (made shape front) item
-  made_push shape front item = fold-append (meaning.place shape) (meaning.empty shape) front (item ∷ [])
-
   -- ---- what follows
 
   module _ (laws : FrontLaws) where
@@ -37,7 +33,7 @@ module _ {C R I S : Type 0} (meaning : Meaning C R I S) (is_kind : Kind → Bool
 
     module _ (shape : Shape) (state : S) (item : I) (next : IsNextItem meaning IsContent shape state item) where
       placed_so : made shape (meaning.items shape state ++ item ∷ []) ≡ meaning.place shape state item
-      placed_so = grind (arith, made_push)
+      placed_so = grind (arith, fold-append)
 
       split : meaning.items shape next.whole ≡ (meaning.items shape state ++ item ∷ []) ++ next.others
       split = next.first ∙ sym (append_assoc (meaning.items shape state) (item ∷ []) next.others)
@@ -78,9 +74,6 @@ module _ {C R I S : Type 0} (meaning : Meaning C R I S) (is_kind : Kind → Bool
       content : IsContent shape caps (made shape front)
       items : meaning.items shape (made shape front) ≡ front
 
-    no_front : (shape : Shape) (caps : Caps) → IsFront shape caps []
-    no_front shape caps = record { content = laws.content_empty shape caps; items = laws.items_empty shape }
-
     module _ (shape : Shape) (caps : Caps) (whole : S) (content : IsContent shape caps whole) where
       next_of : (front : List I) (item : I) (others : List I) → meaning.items shape whole ≡ front ++ item ∷ others
           → meaning.items shape (made shape front) ≡ front → ComesNext shape caps (made shape front) item
@@ -88,7 +81,7 @@ module _ {C R I S : Type 0} (meaning : Meaning C R I S) (is_kind : Kind → Bool
 
       front_with : (front : List I) (item : I) (others : List I) → meaning.items shape whole ≡ front ++ item ∷ others
           → IsFront shape caps front → IsFront shape caps (front ++ item ∷ [])
-      front_with front item others split is = grind (arith, next_of, split, made_push)
+      front_with front item others split is = grind (arith, next_of, split, fold-append)
 
       front_longer : (front rest others : List I) → meaning.items shape whole ≡ front ++ (rest ++ others)
           → IsFront shape caps front → IsFront shape caps (front ++ rest)
@@ -98,26 +91,20 @@ module _ {C R I S : Type 0} (meaning : Meaning C R I S) (is_kind : Kind → Bool
           ∙ sym (append_assoc front (item ∷ []) (rest ++ others))) (front_with front item (rest ++ others) split is))
 
       front_of : (front others : List I) → meaning.items shape whole ≡ front ++ others → IsFront shape caps front
-      front_of front others split = front_longer [] front others split (no_front shape caps)
-
-      -- what the first items make has no registrations
-      forgotten : (front : List I) → IsFront shape caps front → meaning.forget (made shape front) ≡ made shape front
-      forgotten front is = sym (laws.made_again shape caps (made shape front) is.content) ∙ ap (made shape) is.items
+      front_of front others split = front_longer [] front others split (grind arith)
 
       moved_front : (other : Caps) (front others : List I) → IsTrue (is_kind shape.kind) → meaning.items shape whole
           ≡ front ++ others → Fits shape.kind (meaning.need front) other → IsContent shape other (made shape front)
-      moved_front other front others kind split fits = grind (arith, front_of, split, forgotten)
+      moved_front other front others kind split fits = grind (arith, front_of, split)
 
       unplaced_front : (front : List I) (item : I) (others : List I) → meaning.items shape
           whole ≡ front ++ item ∷ others → meaning.unplace shape (made shape (front ++ item ∷ [])) ≡ made shape front
-      unplaced_front front item others split = grind (arith, front_of, split, made_push, next_of)
+      unplaced_front front item others split = grind (arith, front_of, split, fold-append, next_of)
 
     pub fronts : FrontLaws
     fronts = record {
       made_again = laws.made_again;
       items_front = λ shape caps state front others is split. (front_of shape caps state is front others split).items;
-      content_front = λ shape caps other state front others kind is split fits.
-          moved_front shape caps state is other front others kind split fits;
-      unplace_front = λ shape caps state front item others is split.
-          unplaced_front shape caps state is front item others split;
+      content_front = grind (arith, split, moved_front);
+      unplace_front = grind (arith, split, unplaced_front);
     }

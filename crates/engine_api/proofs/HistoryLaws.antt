@@ -1,7 +1,6 @@
 -- Legal histories: what one more turn does to one, and what is known of each of its entries.
-use Rattle.engine_api.proofs.Imports.{◌≡◌, ℕ, zero, suc, ◌+◌, ◌<◌, ◌≤◌, inl, inr, List, [], ◌∷◌, ◌++◌, length, take, slice_get, Some, refl, sym, ap, subst, ◌∙◌, arith, append_assoc, append-nil, length-append, fold, take-append-le, length-take, slice_get_within, fold_push, filter_map-append, CfId, What, Entry, StrForm, Meaning, opening, step, Call, Turn, call_of, calls, machine_after, replay, next_mark, next_entry, with_mark, with_marks, marks_by, after_turn, IsLegal, IsNext, IsNextAs, IsEachNext, Continues}
+use Rattle.engine_api.proofs.Imports.{◌≡◌, ℕ, suc, ◌+◌, ◌≤◌, inl, inr, List, [], ◌∷◌, ◌++◌, length, take, slice_get, Some, refl, sym, ap, subst, ◌∙◌, arith, append_assoc, append-nil, length-append, fold, take-append-le, length-take, slice_get_within, fold_push, filter_map-append, CfId, Entry, StrForm, Meaning, opening, step, Call, Turn, call_of, calls, machine_after, replay, next_mark, next_entry, with_mark, with_marks, marks_by, after_turn, IsLegal, IsNext, IsEachNext, Continues}
 use Rattle.std.proofs.lemmas.List as lists
-use Rattle.engine_api.specs.declared.asks.What.TheVariants as what
 use Rattle.engine_api.proofs.Pushed.{Each, each_none, each_push, cut_push}
 
 -- ---- calls
@@ -25,8 +24,7 @@ module _ {C R I S : Type 0} (meaning : Meaning C R I S) (form : StrForm) where
       → IsLegal meaning form (after_turn meaning form history turn)
   legal_turn history turn legal = record {
     turns = legal.turns ++ turn ∷ [];
-    made = ap (λ (h : List (Entry C R)). after_turn meaning form h turn) legal.made
-        ∙ sym (fold_push (after_turn meaning form) [] legal.turns turn);
+    made = grind (arith, fold_push);
   }
 
   -- what holds of no entries, and of one turn more, holds of a legal history
@@ -53,8 +51,8 @@ module _ {C R I S : Type 0} (meaning : Meaning C R I S) (form : StrForm) where
       → P (history ++ entry ∷ [])) → (history : List (Entry C R)) → IsLegal meaning form history → P history
   by_entries P none more history legal = by_turns P none (λ h turn fine p.
       let marked : List (Entry C R) = with_marks meaning form h (marks_by meaning form turn.down h turn.by turn.ask) in
-      more marked (next_entry meaning form marked turn.by turn.ask) (by_marks P (λ some cf q. more some (next_mark
-      meaning form some cf) q refl) (marks_by meaning form turn.down h turn.by turn.ask) h p) refl) history legal
+      more marked (next_entry meaning form marked turn.by turn.ask)
+      (by_marks P (grind arith) (marks_by meaning form turn.down h turn.by turn.ask) h p) refl) history legal
 
   -- ---- each entry
 
@@ -63,15 +61,10 @@ module _ {C R I S : Type 0} (meaning : Meaning C R I S) (form : StrForm) where
   each_next history legal = by_entries
       (Each (IsNext meaning form)) (each_none (IsNext meaning form)) (each_push (IsNext meaning form)) history legal
 
-  number-next : (history : List (Entry C R)) (entry : Entry C R) (told : What C)
-      → IsNextAs meaning form history entry told → entry.no ≡ length history + 1
-  number-next history entry (what.Call ask) e = ap (λ (it : Entry C R). it.no) e
-  number-next history entry (what.Lost cf) e = ap (λ (it : Entry C R). it.no) e
-
   -- the numbers count from 1
   pub number_legal : (history : List (Entry C R)) → IsLegal meaning form history → (i : ℕ) (entry : Entry C R)
       → slice_get history i ≡ Some entry → entry.no ≡ i + 1
-  number_legal history legal i entry e = grind (arith, slice_get_within, length-take, number-next, each_next)
+  number_legal history legal i entry e = grind (arith, slice_get_within, length-take, each_next)
 
   -- ---- calls
 

@@ -8,3 +8,4 @@ pub mod PointLaws
 pub mod ShellLaws
 pub mod ReadyLaws
 pub mod FrontLaws
+pub mod CauseLaws

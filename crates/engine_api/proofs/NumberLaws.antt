@@ -1,15 +1,9 @@
 -- The numbers of calls, where marks stand between them.
-use Rattle.engine_api.proofs.Imports.{◌≡◌, ℕ, ◌+◌, ◌*◌, ◌<◌, ◌≤◌, ◌⊎◌, inl, inr, Bool, true, false, nat_lt, List, [], ◌∷◌, ◌++◌, length, fold, filter, map, refl, sym, ap, subst, ◌∙◌, arith, append-nil, length-append, Contains, if◌then◌else◌, cases_lt, nat_tests, map-append, fold_push, filter-append, Contains-push_cases, CfId, Entry, links_asked, Asks, marks_of, StrForm, ConnId, Ask, Meaning, Machine, Call, Turn, calls, replay, with_mark, with_marks, marks_by, after_turn, IsLegal, numbers, IsPoint, last_number, last_call_below, IsNumbered}
+use Rattle.engine_api.proofs.Imports.{◌≡◌, ℕ, ◌+◌, ◌*◌, ◌<◌, ◌≤◌, ◌⊎◌, inl, inr, List, [], ◌∷◌, ◌++◌, length, sym, subst, ◌∙◌, arith, append-nil, length-append, Contains, cases_lt, nat_tests, map-append, fold_push, filter-append, Contains-push_cases, CfId, Entry, links_asked, StrForm, ConnId, Ask, Meaning, Machine, Call, Turn, calls, with_mark, with_marks, marks_by, after_turn, IsLegal, numbers, IsPoint, last_call_below, IsNumbered}
 use Rattle.engine_api.proofs.AskLaws.{marks_few, two_asked}
 use Rattle.engine_api.proofs.HistoryLaws.{by_turns, calls-turn, call_added}
 
 module _ {C R : Type 0} where
-  below_push : (n : ℕ) (all : List (Call C R)) (call : Call C R) (b : Bool) → nat_lt call.no n ≡ b
-      → filter (λ (c : Call C R). nat_lt c.no n) (all ++ call ∷ []) ≡ filter (λ (c : Call C R). nat_lt c.no n) all ++
-      (if b then call ∷ [] else [])
-  below_push n all call true is = filter-append (λ (c : Call C R). nat_lt c.no n) all (call ∷ []) ∙ rw is refl
-  below_push n all call false is = filter-append (λ (c : Call C R). nat_lt c.no n) all (call ∷ []) ∙ rw is refl
-
   pub numbered_none : IsNumbered {C = C} {R = R} []
   numbered_none = grind arith
 
@@ -34,29 +28,18 @@ module _ {C R I S : Type 0} (meaning : Meaning C R I S) (form : StrForm) where
 
     pub last_below-turn : (n : ℕ) → n ≤ number_added
         → last_call_below (after_turn meaning form history turn) n ≡ last_call_below history n
-    last_below-turn n low =
-        let call : Call C R = call_added meaning form history turn in
-        let is : nat_lt call.no n ≡ false = grind (arith, nat_tests) in
-        ap (fold last_number 0) (ap (filter (λ (c : Call C R). nat_lt c.no n)) (calls-turn meaning form history turn)
-        ∙ below_push n (calls history) call false is
-        ∙ append-nil (filter (λ (c : Call C R). nat_lt c.no n) (calls history)))
+    last_below-turn n low = grind (arith, call_added, nat_tests, calls-turn, append-nil, filter-append)
 
     pub last_below-past : (n : ℕ) → number_added < n
         → last_call_below (after_turn meaning form history turn) n ≡ number_added
-    last_below-past n past =
-        let call : Call C R = call_added meaning form history turn in
-        let is : nat_lt call.no n ≡ true = grind (arith, nat_tests) in
-        ap (fold last_number 0) (ap (filter (λ (c : Call C R). nat_lt c.no n)) (calls-turn meaning form history turn)
-        ∙ below_push n (calls history) call true is)
-        ∙ fold_push last_number 0 (filter (λ (c : Call C R). nat_lt c.no n) (calls history)) call
+    last_below-past n past = grind (arith, call_added, nat_tests, calls-turn, fold_push, filter-append)
 
     pub point_cases : (n : ℕ)
         → IsPoint (after_turn meaning form history turn) n → IsPoint history n ⊎ (number_added ≡ n)
     point_cases n (inl none) = inl (inl none)
     point_cases n (inr there) =
         let all : numbers (after_turn meaning form history turn) ≡ numbers history ++ number_added ∷ [] =
-        ap (map (λ (call : Call C R). call.no)) (calls-turn meaning form history turn)
-        ∙ map-append (λ (call : Call C R). call.no) (calls history) (call_added meaning form history turn ∷ []) in
+        grind (arith, calls-turn, map-append, call_added) in
         elim (Contains-push_cases (numbers history) number_added n
         (subst (λ (ns : List ℕ). Contains ns n) all there)) [ inl old ↦ inl (inr old) | inr new ↦ inr new ]
 
@@ -113,18 +96,8 @@ module _ {C R I S : Type 0} (meaning : Meaning C R I S) (form : StrForm) where
   pub length_calls : ((state : Machine S) (by : ConnId) (ask : Ask C)
       → (let asks = links_asked meaning form state by ask in length asks.links ≤ 2))
       → (history : List (Entry C R)) → IsLegal meaning form history → length history ≤ 3 * length (calls history)
-  length_calls two history legal =
-      by_turns meaning form (λ h. length h ≤ 3 * length (calls h)) (omega arith) (λ h turn fine few.
-      let asks : Asks = links_asked meaning form (replay meaning form h) turn.by turn.ask in
-      let marks : List CfId = marks_of turn.down asks in
-      let pair : length asks.links ≤ 2 = two (replay meaning form h) turn.by turn.ask in
-      let all : length (with_marks meaning form h marks) ≡ length h + length marks = length-marks marks h in
-      let whole : length (after_turn meaning form h turn) ≡ length (with_marks meaning form h marks) + 1 =
-      length-turn h turn in
-      let more : length (calls (after_turn meaning form h turn)) ≡ length (calls h) + 1 =
-      ap length (calls-turn meaning form h turn) ∙ length-append (calls h) (call_added meaning form h turn ∷ []) in
-      let fewer : length marks ≤ length asks.links = marks_few turn.down asks in
-      omega arith) history legal
+  length_calls two history legal = by_turns meaning form (λ h. length h ≤ 3 * length (calls h)) (omega arith) (
+      grind (arith, length-marks, length-turn, calls-turn, length-append, call_added, marks_few)) history legal
 
   pub three_each : (history : List (Entry C R)) → IsLegal meaning form history
       → length history ≤ 3 * length (calls history)

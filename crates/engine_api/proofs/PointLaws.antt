@@ -1,6 +1,5 @@
 -- Legality by turns, and point by point.
-use Rattle.engine_api.proofs.Imports.{◌≡◌, ℕ, ◌+◌, ◌≤◌, ◌==◌, ◌⊎◌, inl, inr, Bool, true, false, ◌&&◌, ◌||◌, List, [], ◌∷◌, ◌++◌, length, take, slice_get, Some, refl, sym, ap, subst, ◌∙◌, arith, take_at, append_assoc, append-nil, filter, if◌then◌else◌, fold_push, CfId, What, Entry, links_asked, asks_of, Asks, AreDistinct, has, reached, marks_of, StrForm, ConnId, Reply, Meaning, Machine, room_of, call_cause, Turn, replay, next_mark, next_entry, with_mark, with_marks, with_call, after_turn, IsLegal, IsNextAs, Reading, read_all, AreSome, AreMarksOf, MayEnd, IsReplied, IsByPoints}
-use Rattle.engine_api.specs.declared.asks.What.TheVariants as what
+use Rattle.engine_api.proofs.Imports.{◌≡◌, ℕ, ◌+◌, ◌≤◌, ◌==◌, ◌⊎◌, inl, inr, Bool, true, false, ◌||◌, List, [], ◌∷◌, ◌++◌, length, take, slice_get, Some, refl, sym, ap, subst, ◌∙◌, arith, take_at, append_assoc, append-nil, filter, fold_push, CfId, What, Entry, links_asked, asks_of, Asks, AreDistinct, has, reached, marks_of, StrForm, ConnId, Reply, Meaning, Machine, room_of, call_cause, Turn, replay, next_mark, next_entry, with_marks, after_turn, IsLegal, IsNextAs, Reading, read_all, AreSome, AreMarksOf, MayEnd, IsReplied, IsByPoints}
 use Rattle.engine_api.proofs.Pushed.{Each, each_none, each_push}
 use Rattle.engine_api.proofs.AskLaws.{Agree, agree_tail, itself, or_true, same_cf}
 use Rattle.engine_api.proofs.HistoryLaws.{by_turns, by_marks, each_next, number_legal, legal_none, legal_turn}
@@ -19,9 +18,6 @@ some_down stops d (x ∷ xs) = grind (arith, some_none, some_down stops d xs)
 one_down : (d : CfId → Bool) (xs : List CfId) → length (filter d (reached true d xs)) ≤ 1
 one_down d [] = omega arith
 one_down d (x ∷ xs) = grind (arith, one_down d xs)
-
-marks_made : (down : CfId → Bool) (asks : Asks) → AreMarksOf asks (marks_of down asks)
-marks_made down asks = grind (arith, some_down, one_down)
 
 some_has : (ms xs : List CfId) (cf : CfId) → AreSome ms xs → has xs cf ≡ false → has ms cf ≡ false
 some_has ms [] cf some none = rw some refl
@@ -56,19 +52,10 @@ marks_back stops d ms (x ∷ xs) distinct some one agree = elim some [
 
     short : (rest : List CfId) → ms ≡ x ∷ rest → length ms ≤ 1 → rest ≡ []
     short [] e le = refl
-    short (y ∷ rest) e le =
-        let long : length ms ≡ length (x ∷ y ∷ rest) = ap length e in absurd (omega (arith, le))
+    short (y ∷ rest) e le = grind arith
 
     apart : (rest : List CfId) → ms ≡ x ∷ rest → Agree xs d (has rest)
-    apart rest e cf h = agree cf (rw h (or_true (x.0 == cf.0)))
-        ∙ (let same : has ms cf ≡ x.0 == cf.0 || has rest cf = ap (λ (some : List CfId). has some cf) e in
-        same ∙ other (x.0 == cf.0) refl)
-      where
-        other : (b : Bool) → x.0 == cf.0 ≡ b → b || has rest cf ≡ has rest cf
-        other false at = refl
-        other true at =
-            let it : x ≡ cf = same_cf x cf at in
-            absurd (let there : has xs x ≡ true = rw it h in let none : has xs x ≡ false = distinct.0 in cc)
+    apart rest e cf h = grind (arith, or_true, same_cf)
 
     taken : (t : Bool) → (t ≡ true → length ms ≤ 1) → (rest : List CfId) → ms ≡ x ∷ rest → d x ≡ true
         → (Agree xs d (has rest) → filter d (reached false d xs) ≡ rest) → filter d (reached t d (x ∷ xs)) ≡ ms
@@ -84,8 +71,7 @@ get_seam (y ∷ front) x back = get_seam front x back
 module _ {C R I S : Type 0} (meaning : Meaning C R I S) (form : StrForm) where
   replied : (history : List (Entry C R)) (entry : Entry C R) (told : What C) → IsNextAs meaning
       form history entry told → IsReplied meaning form (replay meaning form history) entry.by entry.reply told
-  replied history entry (what.Call ask) e = ap (λ (it : Entry C R). it.reply) e
-  replied history entry (what.Lost cf) e = (ap (λ (it : Entry C R). it.by) e, ap (λ (it : Entry C R). it.reply) e)
+  replied history entry told e = grind arith
 
   abbrev EndsWell : List (Entry C R) → Entry C R → Type 0
   EndsWell before entry = MayEnd meaning form (read_all meaning form before) entry.by entry.what
@@ -99,9 +85,7 @@ module _ {C R I S : Type 0} (meaning : Meaning C R I S) (form : StrForm) where
         let marked : List (Entry C R) = with_marks meaning form h marks in
         each_push EndsWell marked (next_entry meaning form marked turn.by turn.ask) (by_marks meaning form
         (Each EndsWell) (λ some cf all. each_push EndsWell some (next_mark meaning form some cf) all tt) marks h each)
-        (subst (λ (reading : Reading (Machine S)). MayEnd meaning form reading turn.by (what.Call turn.ask))
-        (sym (read-marked meaning form h marks (legal_group meaning form h fine))) (marks_made turn.down asks)))
-        history legal;
+        (grind (arith, read-marked, legal_group, some_down, one_down))) history legal;
     ended = ap (λ (reading : Reading (Machine S)). reading.marks) (legal_group meaning form history legal);
     replies = λ i entry e. replied (take i history) entry entry.what (each_next meaning form history legal i entry e);
   }
@@ -115,26 +99,20 @@ module _ {C R I S : Type 0} (meaning : Meaning C R I S) (form : StrForm) where
     legal : IsLegal meaning form began
     is : history ≡ with_marks meaning form began marks
 
-  read_so_far : (history : List (Entry C R)) (far : IsSoFar history) → read_all meaning form
-      history ≡ record { began = replay meaning form far.began; marks = far.marks; now = replay meaning form history }
-  read_so_far history far = grind (arith, read-marked, legal_group)
-
   one_more : (history : List (Entry C R)) (number' : ℕ) (by : ConnId) (reply : Reply R) (told : What C)
       → IsSoFar history → number' ≡ length history + 1 → MayEnd meaning form (read_all meaning form history) by told
       → IsReplied meaning form (replay meaning form history) by reply told
       → IsSoFar (history ++ record { no = number'; by = by; what = told; reply = reply } ∷ [])
-  one_more history number' by reply (what.Lost cf) far number ends replies = record {
+  one_more history number' by reply (What.Lost cf) far number ends replies = record {
     began = far.began;
     marks = far.marks ++ cf ∷ [];
     legal = far.legal;
-    is = rw (number, replies.0, replies.1) (ap (λ (h : List (Entry C R)). with_mark meaning form h cf) far.is
-        ∙ sym (fold_push (with_mark meaning form) far.began far.marks cf));
+    is = grind (arith, fold_push);
   }
-  one_more history number' by reply (what.Call asked) far number ends replies =
+  one_more history number' by reply (What.Call asked) far number ends replies =
       let asks : Asks = links_asked meaning form (replay meaning form far.began) by asked in
       let marks : List CfId = far.marks in
-      let fits : AreMarksOf asks marks = subst (λ (reading : Reading (Machine S)). MayEnd meaning
-      form reading by (what.Call asked)) (read_so_far history far) ends in
+      let fits : AreMarksOf asks marks = grind (arith, read-marked, legal_group) in
       let state : Machine S = replay meaning form far.began in
       let same : marks_of (has marks) asks ≡ marks = marks_back asks.stops (has marks) marks
       asks.links (asked_distinct meaning form (call_cause form (room_of meaning form state) state.shell by asked)
@@ -144,9 +122,7 @@ module _ {C R I S : Type 0} (meaning : Meaning C R I S) (form : StrForm) where
         began = after_turn meaning form far.began turn;
         marks = [];
         legal = legal_turn meaning form far.began turn far.legal;
-        is = rw (number, replies) (ap (λ (h : List (Entry C R)). with_call meaning form h by asked) far.is
-            ∙ ap (λ (some : List CfId). with_call meaning form (with_marks meaning form far.began some) by asked)
-            (sym same));
+        is = grind arith;
       }
 
   so_far : (history front back : List (Entry C R)) → IsByPoints meaning form history → history ≡ front ++ back
@@ -156,17 +132,12 @@ module _ {C R I S : Type 0} (meaning : Meaning C R I S) (form : StrForm) where
       let at : slice_get history (length front) ≡ Some entry = rw e (get_seam front entry back) in
       let before : take (length front) history ≡ front = rw e (take_at front (entry ∷ back) (length front) refl) in
       so_far history (front ++ entry ∷ []) back points (e ∙ sym (append_assoc front (entry ∷ []) back))
-      (one_more front entry.no entry.by entry.reply entry.what far (points.numbered (length front) entry at)
-      (subst (λ (h : List (Entry C R)). EndsWell h entry) before (points.groups (length front) entry at)) (subst
-      (λ (h : List (Entry C R)). IsReplied meaning form (replay meaning form h) entry.by entry.reply entry.what)
-      before (points.replies (length front) entry at)))
+      (grind (arith, one_more))
 
   -- the two are the same
   pub legal_from_points : (history : List (Entry C R)) → IsByPoints meaning form history → IsLegal meaning form history
   legal_from_points history points =
-      let far : IsSoFar history =
-      so_far history [] history
+      let far : IsSoFar history = so_far history [] history
       points refl (record { began = []; marks = []; legal = legal_none meaning form; is = refl }) in
-      let none : far.marks ≡ [] =
-      sym (ap (λ (reading : Reading (Machine S)). reading.marks) (read_so_far history far)) ∙ points.ended in
+      let none : far.marks ≡ [] = sym (grind (arith, read-marked, legal_group)) ∙ points.ended in
       subst (IsLegal meaning form) (sym (far.is ∙ ap (with_marks meaning form far.began) none)) far.legal

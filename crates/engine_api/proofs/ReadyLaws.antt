@@ -14,5 +14,4 @@ pub room-cases : {C : Type 0} (Holds : Wish C → Effects → Type 0) → ((by :
     → IsRoomLaw (Holds (ForCmd by cmd))) → ((conn : ConnId) → IsRoomLaw (Holds (ForLeave conn)))
     → IsRoomLaw (Holds ForForget) → (wish : Wish C) → IsRoomLaw (Holds wish)
 room-cases Holds commands departures end (ForCmd by cmd) = commands by cmd
-room-cases Holds commands departures end (ForLeave conn) = departures conn
-room-cases Holds commands departures end ForForget = end
+room-cases x0 commands departures end wish = grind arith

@@ -1,5 +1,5 @@
 -- The mailboxes of a structure, one of which changes or is added.
-use Rattle.event_mail.proofs.Imports.{◌≡◌, ℕ, ◌+◌, ◌<◌, ◌≤◌, List, [], ◌∷◌, ◌++◌, length, get_or, set, map, slice_set, sym, ap, ◌∙◌, ⊎_elim, ◌≢◌, arith, map-set, set-get_or, get_or-set_other, get_or-map, cases_eq, get_or-set_at, unwrap_or-slice_get, ConnId, Mailbox, Mailboxes, no_events, mailbox_of, Box, mailboxes_of}
+use Rattle.event_mail.proofs.Imports.{◌≡◌, ℕ, ◌<◌, ◌≤◌, List, length, get_or, set, map, slice_set, sym, ap, ◌∙◌, ⊎_elim, ◌≢◌, arith, map-set, set-get_or, get_or-set_other, get_or-map, cases_eq, get_or-set_at, unwrap_or-slice_get, ConnId, Mailbox, Mailboxes, no_events, mailbox_of, Box, mailboxes_of}
 
 -- one mailbox changes
 pub mailboxes_of-set : (boxes : List Box) (mail : Mailboxes)

@@ -1,26 +1,18 @@
 -- What the closed board says of the structure, of its links, and of the reader's last test.
 use Rattle.std.proofs.Common.{◌≡◌, ℕ, ◌+◌, ◌<◌, ◌++◌, List, [], ◌∷◌, length, map, Some, slice_get, get_or, sym, ap, subst, ◌∙◌, arith}
-use Rattle.std.specs.Prelude.{All, Bool, Option}
+use Rattle.std.specs.Prelude.{Bool, Option}
 use Rattle.std.specs.Option.{option_map, unwrap_or}
 use Rattle.std.specs.List.{flat_map, range_with_len}
-use Rattle.std.proofs.Math.Seq.{get_or-append_seam}
-use Rattle.std.proofs.lemmas.List.{length-append}
+use Rattle.std.proofs.lemmas.List.Elements.{All-pop}
 use Rattle.std.proofs.lemmas.Option.{slice_get_within, slice_get-get_or, slice_get-map, get_or_from_slice_get}
-use Rattle.plex_board.specs.CfLink.declared.links.Links.{Links}
-use Rattle.plex_board.specs.CfLink.declared.list_link.ListLink.{ListLink}
-use Rattle.plex_board.specs.CfLink.Links.{AreAsked, IsAskedAll, IsAsTold, calls_after}
-use Rattle.plex_board.proofs.CfLink.LinkLaws.{asked_calls, asked_told}
-use Rattle.plex_board.specs.CfTypes.declared.forms.StrForm.{StrForm}
-use Rattle.plex_board.specs.CfTypes.declared.numbers.ConnId.{ConnId}
-use Rattle.plex_board.specs.PlexScript.declared.asks.AnyHistory.{AnyHistory}
-use Rattle.plex_board.specs.PlexScript.declared.asks.AnyHistory.TheVariants as history
-use Rattle.plex_board.specs.PlexScript.declared.scripts.Script.{Script}
-use Rattle.plex_board.specs.VecWords.declared.logged.Tested.{Tested}
-use Rattle.plex_board.specs.Kinds.{any_answers}
-use Rattle.plex_board.specs.Cells.{CellShown, IsAnyTold}
-use Rattle.plex_board.specs.Desks.{DeskShown, pass_at}
+use Rattle.plex_board.specs.CfLink.declared.{links.Links.Links, list_link.ListLink.ListLink}
 use Rattle.plex_board.specs.Boards.{BoardShown, IsAccount, AreClosed, AreEachAsked, AreLinksAsked, links_of, four_of, new_desk}
-use Rattle.plex_board.proofs.DeskLaws.{desk-pass_owner}
+use Rattle.plex_board.proofs.{CfLink.LinkLaws.asked_calls, CfLink.LinkLaws.asked_told, DeskLaws.desk-pass_owner}
+use Rattle.plex_board.specs.CfTypes.declared.{forms.StrForm.StrForm, numbers.ConnId.ConnId}
+use Rattle.plex_board.specs.PlexScript.declared.{asks.AnyHistory.AnyHistory, scripts.Script.Script}
+use Rattle.plex_board.specs.VecWords.declared.logged.Tested.{Tested}
+use Rattle.plex_board.specs.CfLink.Links.{AreAsked, IsAskedAll, IsAsTold, calls_after}
+use Rattle.plex_board.specs.{Kinds.any_answers, Cells.CellShown, Cells.IsAnyTold, Desks.DeskShown, Desks.pass_at}
 use Rattle.failover.specs.Failing.{AreDownOnce, IsDownAt}
 use Rattle.failover.specs.Members.{HasPool, AreSeated, HasTested, gbp, sight_of}
 use Rattle.failover.specs.Outcome.{IsOpened, IsOutcome, WasAsked, reader, cf1, cf2, down_once}
@@ -89,14 +81,6 @@ first_told (c ∷ cells) (e ∷ histories) spare links cell entries there first 
     subst (λ (x : CellShown ListLink). AreTold x.form entries links) same (subst (λ (h : AnyHistory). AreTold c.form
     h links) alike (four_told c.form e c.links asked.0 asked.1 links down asked.2 asked.3))
 
--- ---- the test
-
--- what holds of each holds of the last
-all_last : {A : Type 0} (P : A → Type 0) (front all : List A) (x : A) → all ≡ front ++ x ∷ [] → All P all → P x
-all_last P front all x are each =
-    let below : length front < length all = omega (arith, ap length are, length-append front (x ∷ [])) in
-    subst P (ap (λ l. get_or l (length front) x) are ∙ get_or-append_seam front x [] x) (each (length front) x below)
-
 -- ---- the whole
 
 module _ (board : BoardShown ListLink) (script : Script) (histories : List AnyHistory) (desks : List DeskShown)
@@ -106,10 +90,10 @@ module _ (board : BoardShown ListLink) (script : Script) (histories : List AnyHi
       downs_of faults_of board histories links → HasTested desks tested → IsOutcome script histories links tested
   outcome forms down are closed asked has =
       let pool = are.pool in
-      let entries : AnyHistory = get_or histories 0 (history.Cache []) in
+      let entries : AnyHistory = get_or histories 0 (AnyHistory.Cache []) in
       let some : 0 < length board.cells = slice_get_within board.cells 0 pool.cell pool.there in
       let first : slice_get histories 0 ≡ Some entries =
-      slice_get-get_or histories 0 (history.Cache []) (omega (arith, some, closed.structures)) in
+      slice_get-get_or histories 0 (AnyHistory.Cache []) (omega (arith, some, closed.structures)) in
       let says = closed.closed gbp pool.cell entries pool.there first in
       let desk : DeskShown = has.desk in
       let here : desk ≡ get_or desks 2 desk = sym (get_or_from_slice_get desks 2 desk desk has.there) in
@@ -133,8 +117,8 @@ module _ (board : BoardShown ListLink) (script : Script) (histories : List AnyHi
         first_asked = told.first_asked;
         second_asked = told.second_asked;
         told = subst (λ owner. IsAnyTold pool.cell.form entries owner (sight_of tested has.sure)) whose
-            (all_last (IsAnyTold pool.cell.form entries (pass_at desk gbp).owner) has.before (pass_at desk gbp).tests
-            (sight_of tested has.sure) has.tests account.tests);
+            (All-pop (IsAnyTold pool.cell.form entries (pass_at desk gbp).owner) (pass_at desk gbp).tests has.before
+            (Some (sight_of tested has.sure)) has.tests account.tests).1;
       }
 
 -- ---- as the board begins

@@ -8,18 +8,13 @@ use Rattle.std.proofs.lemmas.Option.{slice_get_within, slice_get_read}
 use Rattle.std.proofs.lemmas.List.FromFn.{length-range_with_len, length-map-range_with_len, get_or-range_with_len}
 use Rattle.std.proofs.lemmas.List.{get_or-map}
 use Rattle.std.proofs.lemmas.List.Elements.{All-nil, All-cons, All-same, All-set}
-use Rattle.plex_board.specs.CfTypes.declared.forms.Kind.{Kind}
-use Rattle.plex_board.specs.CfTypes.declared.forms.Kind.TheVariants as kind
-use Rattle.plex_board.specs.CfTypes.declared.numbers.ConnId.{ConnId}
+use Rattle.plex_board.specs.CfTypes.declared.{forms.Kind.Kind, numbers.ConnId.ConnId}
 use Rattle.plex_board.specs.PlexScript.declared.scripts.Script.{Script}
-use Rattle.plex_board.specs.PlexScript.Scripts.{IsScript}
+use Rattle.plex_board.specs.Boards.{BoardShown, IsPolicy, IsDeskOf, cell_on, new_desk}
 use Rattle.plex_board.proofs.PlexScript.FormedLines.{script-formed}
 use Rattle.plex_board.specs.VecWords.declared.logged.Tested.{Tested}
-use Rattle.plex_board.specs.Types.{type_of_kind}
-use Rattle.plex_board.specs.Passes.{PassShown}
-use Rattle.plex_board.specs.Cells.{CellShown}
 use Rattle.plex_board.specs.Desks.{DeskShown, pass_at, with_pass}
-use Rattle.plex_board.specs.Boards.{BoardShown, IsPolicy, IsDeskOf, cell_on, new_desk}
+use Rattle.plex_board.specs.{PlexScript.Scripts.IsScript, Types.type_of_kind, Passes.PassShown, Cells.CellShown}
 use Rattle.plex_board.proofs.DeskLaws.{new_desk-of_board, desk-length, pass_at-with_pass_same}
 use Rattle.failover.specs.Members.{HasPool, AreSeated, HasTested, gbp, owner_of, sight_of}
 
@@ -70,8 +65,7 @@ module _ {L : Type 0} (board : BoardShown L) where
         let below : who < board.callers + 1 = omega (arith, two, low) in
         ap owner_of is ∙ sym (get_or-map owner_of desks who desk 0 (seat_within who low))
         ∙ ap (λ (owners : List ℕ). get_or owners who 0) are.owners
-        ∙ get_or-range_with_len 0 (board.callers + 1) who 0 below
-        ∙ (let same : 0 + who ≡ who = omega arith in same)
+        ∙ get_or-range_with_len 0 (board.callers + 1) who 0 below ∙ (let same : 0 + who ≡ who = omega arith in same)
 
     pub seat_is : (who : ConnId) (at : ℕ) (desk : DeskShown) → who.0 ≤ 2 → at ≡ who.0 → desk ≡ get_or desks at desk
         → desk.owner ≡ who
@@ -91,7 +85,7 @@ module _ {L : Type 0} (board : BoardShown L) where
 -- a structure that is there, a cache with vectors of some length
 module _ {L : Type 0} (board : BoardShown L) where
   pub pool_there : (form : Kind) (vector : ℕ) → 0 < length board.cells
-      → IfSome (cell_on board gbp) (λ cell. cell.str_type ≡ type_of_kind form) → form ≡ kind.Cache
+      → IfSome (cell_on board gbp) (λ cell. cell.str_type ≡ type_of_kind form) → form ≡ Kind.Cache
       → IfSome (cell_on board gbp) (λ cell. cell.words.len ≡ vector) → 0 < vector → HasPool board
   pool_there form vector some kinds is lens long = go board.cells refl some kinds lens
     where

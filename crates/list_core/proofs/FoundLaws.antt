@@ -21,3 +21,5 @@ pub found-renewed : (lists : Lists) (at : At) (body adj : Option (List ℕ)) →
     → renewed (updated_with adj (the_record lists at)) body (record_of (the_record lists at).id lists)
     ≡ with_new_data body adj (the_record lists at)
 found-renewed lists at body adj is = grind (arith, false≢true)
+
+pub ruleset found_told = (found-put_back, found-named, found-renewed)

@@ -113,6 +113,7 @@ impl Engine for ListEngine {
         Ok(())
     }
 
+    #[tactic(auto, using(crate::proofs::PlanLaws::possible, crate::proofs::PlanLaws::done_told))]
     fn apply(
         &mut self,
         by: ConnId,

@@ -42,6 +42,7 @@ fn has_controls(shape: Shape, kept: &Kept) -> bool
 }
 
 /// How many items there are.
+#[tactic(auto, using(crate::proofs::RowLaws::items_told))]
 pub(crate) fn count_items(shape: Shape, kept: &Kept) -> u32
     requires { count_of kept.now.content.lists < 4294967295 }
     ensures { result ≡ length (items_of shape kept.now.content) }
@@ -76,6 +77,7 @@ fn watches_of(alloc: Global, rows: &[Watched]) -> Result<Vec<(ConnId, u32, u32)>
 }
 
 // The controls.
+#[tactic(auto, using(crate::proofs::RowLaws::placed_told))]
 fn controls(alloc: Global, kept: &Kept) -> Result<ListItem, NoMemory>
     ensures { IfOk result (λ item. item ≡ controls_of kept.now.content) }
 {
@@ -108,6 +110,7 @@ fn row(alloc: Global, kept: &Kept, header: u32, rec: &Rec) -> Result<ListItem, N
 }
 
 // A copy of the record at a place of a header.
+#[tactic(auto, using(crate::proofs::RowLaws::rows_told))]
 fn row_at(alloc: Global, kept: &Kept, header: u32, place: u32) -> Result<ListItem, NoMemory>
     requires { place < length (records_of kept.now.content.lists header) }
     ensures { IfOk result (λ item. option_map (row_of header)
@@ -120,6 +123,7 @@ fn row_at(alloc: Global, kept: &Kept, header: u32, place: u32) -> Result<ListIte
 }
 
 // A copy of a record, counted from 0.
+#[tactic(auto, using(crate::proofs::RowLaws::rows_told))]
 fn copy_row(alloc: Global, kept: &Kept, k: u32) -> Result<ListItem, NoMemory>
     requires { k < count_of kept.now.content.lists }
     ensures { IfOk result (λ item. slice_get (rows_from 0 kept.now.content.lists) k ≡ Some item) }
@@ -136,6 +140,7 @@ fn copy_row(alloc: Global, kept: &Kept, k: u32) -> Result<ListItem, NoMemory>
 }
 
 /// A copy of an item, counted from 0.
+#[tactic(auto, using(crate::proofs::RowLaws::items_told))]
 pub(crate) fn copy_item(
     alloc: Global,
     shape: Shape,
@@ -231,6 +236,7 @@ ghost use Rattle.list_kept.specs.Data.{with_data};
 ghost use Rattle.list_kept.specs.Orderly.{IsOrderly};
 
 /// Puts an item behind the others; want of memory hands it back.
+#[tactic(auto, using(crate::proofs::RowLaws::placed_told))]
 pub(crate) fn place_item(alloc: Global, kept: &mut Kept, item: ListItem) -> Result<(), ListItem>
     requires { IsPlaceable kept.old.elements kept.old.content item }
     ensures ok { OnOk result (kept.new.content ≡ content_with kept.old.content item) }

@@ -1,5 +1,6 @@
 -- The names of records stay right where a record comes, goes or stands in place of another.
-use Rattle.list_kept.proofs.Imports.{find-append, ◌≡◌, ℕ, ◌+◌, ◌<◌, Bool, true, false, not, cond, List, [], ◌∷◌, ◌++◌, length, Option, Some, None, find, option_map, is_some, refl, sym, ap, ◌∙◌, subst, arith, IfSome, list_any, and_parts, eqb-true, false≢true, length-map, Name16, EntryId, Name, same_name-eq, same_name-refl, pairwise, none_from_all, list_all_weaker, find_none, found_passes, any_is_found, filter_all, all_from_none, Named, id_of, Key16, all-map, split_found, Record, Lists, record_id, is_id, ids_apart, all_records, records_of, with_records, record_of, records_without, lists_without, lists_replaced, has_name, names_apart, elements_in, elements_of, with_record, with_new_key, IsWith, with-pairwise, with-records, with-insertion, with-push, sum-with, in-found, all-without, names_apart-sym, size, with-without, record_of-at, put_back, is_its, AreNamed, WritesIts}
+use Rattle.list_kept.proofs.Imports.{find-append, ◌≡◌, ℕ, ◌+◌, ◌<◌, Bool, true, false, not, cond, List, [], ◌∷◌, ◌++◌, length, Option, Some, None, find, option_map, is_some, refl, sym, ap, ◌∙◌, subst, arith, IfSome, list_any, and_parts, eqb-true, false≢true, length-map, Name16, EntryId, Name, same_name-eq, same_name-refl, pairwise, none_from_all, list_all_weaker, find_none, found_passes, any_is_found, filter_all, all_from_none, Named, id_of, Key16, all-map, split_found, Record, Lists, record_id, is_id, ids_apart, all_records, records_of, with_records, record_of, records_without, lists_without, lists_replaced, has_name, names_apart, elements_in, elements_of, with_record, with_new_key, IsWith, with-pairwise, with-records, with-insertion, with-push, sum-with, in-found, all-without, names_apart-sym, size, with-without, record_of-at, put_back, is_its, AreNamed, WritesIts, filter-map, one-records, first-all, prefix_len-le-length}
+use Rattle.list_kept.proofs.ToldLaws.{told-stands}
 
 -- what is found among records with one more
 find_front : (p : Record → Bool) (rec : Record) (front back : List Record) → (p rec ≡ true → list_any
@@ -74,8 +75,7 @@ named_new names rec xs ys w h are = go rec.name refl
     go None e = tt
     go (Some name) e =
         let its : has_name name rec ≡ true = grind (arith, has_is, same_name-refl) in
-        are name
-        ∙ ap (option_map {T = Record} {U = EntryId} (λ r. r.id))
+        are name ∙ ap (option_map {T = Record} {U = EntryId} (λ r. r.id))
         (find_none (has_name name) xs (alone_by name rec xs ys w h its))
 
 -- ---- all records, with one more or less
@@ -156,3 +156,8 @@ elements_absent id lists e =
     let all = all_records lists in
     ap elements_in (filter_all (λ rec. not (is_id id rec)) all
     (all_from_none (is_id id) all (any_is_found (is_id id) all ∙ ap is_some e)))
+
+-- what the store tells of a list
+pub ruleset kept_told = (told-stands, one-records, first-all, false≢true)
+
+pub ruleset fewer = (length-map, filter-map, prefix_len-le-length)

@@ -1,5 +1,5 @@
 -- Where a record comes to stand among records in order.
-use Rattle.list_kept.proofs.Imports.{◌≡◌, ℕ, ◌≤◌, Bool, true, false, not, Option, List, [], length, replicate, zero, suc, refl, sym, ap, ◌∙◌, arith, list_all, false≢true, get_or_past, Key16, EntryId, pairwise, pairwise_weaker, pairwise-filter, goes_first, list_of-get_or, Record, Lists, records_of, all_records, lists_without, all-replicate, key_up_to, may_precede, elements_in, key_up_to-trans, all-without, ordered_without, comes_behind, Named, AreNamed, IsOrderly}
+use Rattle.list_kept.proofs.Imports.{◌≡◌, ℕ, ◌≤◌, Bool, true, false, not, Option, List, [], length, replicate, refl, sym, ap, ◌∙◌, arith, false≢true, get_or_past, Key16, EntryId, pairwise, pairwise_weaker, pairwise-filter, goes_first, list_of-get_or, Record, Lists, records_of, all_records, lists_without, all-replicate, key_up_to, may_precede, elements_in, key_up_to-trans, all-without, ordered_without, comes_behind, Named, AreNamed, IsOrderly, all_ordered}
 use Rattle.list_kept.proofs.ReadLaws.{elements_fewer}
 
 behind_too : (head : Bool) (key : Option Key16) (x y : Record) → may_precede x y ≡ true
@@ -27,12 +27,8 @@ no_elements n = ap elements_in (all-replicate {X = Record} n)
 pub named_none : (names : Named) (n : ℕ) → names ≡ [] → AreNamed names (all_records (replicate n []))
 named_none names n e name = grind (arith, all-replicate)
 
-no_order : (n : ℕ) → list_all (pairwise may_precede) (replicate n []) ≡ true
-no_order zero = refl
-no_order (suc n) = no_order n
-
 pub orderly-none : (elements n : ℕ) → IsOrderly elements (replicate n [])
-orderly-none elements n = grind (arith, no_order, all-replicate, no_elements)
+orderly-none elements n = grind (arith, all_ordered, all-replicate, no_elements)
 
 -- no header, no records
 pub none_past : (lists : Lists) (header : ℕ) → length lists ≤ header → records_of lists header ≡ []

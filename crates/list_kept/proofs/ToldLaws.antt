@@ -1,5 +1,5 @@
 -- The bits that connectors were told stay those that stand.
-use Rattle.list_kept.proofs.Imports.{list_all_weaker, ◌≡◌, ℕ, Bool, true, false, not, ◌||◌, ◌==◌, Option, Some, List, [], ◌∷◌, filter, refl, arith, list_all, and_parts, and_from, false≢true, eqb-true, nat_tests, list_all-append, ConnId, BitChange, Gains, list_all-filter, Lists, all_records, ids_apart, record_of, spot_of, lists_without, Monitor, Watched, monitors_of, bit_of, rows_turned, rows_with, differs, Content, has_records, Key16, EntryId, pairwise, Spot, full-elsewhere, full-others, put_back, is_told}
+use Rattle.list_kept.proofs.Imports.{list_all_weaker, ◌≡◌, ℕ, Bool, true, false, not, ◌||◌, ◌==◌, Option, Some, List, [], ◌∷◌, filter, refl, arith, list_all, and_parts, and_from, false≢true, eqb-true, nat_tests, list_all-append, ConnId, BitChange, Gains, list_all-filter, Lists, all_records, ids_apart, record_of, spot_of, lists_without, Monitor, Watched, monitors_of, bit_of, rows_turned, rows_with, differs, Content, has_records, Key16, EntryId, pairwise, Spot, full-elsewhere, full-others, put_back, is_told, monitors_of-others, monitors_of-with, monitors-turned, monitors_of-without}
 use Rattle.list_watch.specs.Monitors as watch
 
 -- ---- the bits that stand
@@ -91,3 +91,6 @@ pub full-put_back : (head : Bool) (id : EntryId) (header : ℕ)
     (put_back head header key (record_of id lists) (lists_without id lists)) other ≡ has_records lists other
 full-put_back head id header key lists spot other apart there e f =
     grind (arith, full-others, sym_test, full-elsewhere)
+
+-- what a step does to the rows it does to the monitors
+pub ruleset monitors_told = (monitors_of-others, monitors_of-with, monitors_of-without, monitors-turned)

@@ -53,6 +53,7 @@ fn push_copy(
 }
 
 // Copies of a header's records, where those of the headers before are there.
+#[tactic(auto, using(cf_lists::proofs::FrontLaws::front_long, list_store::proofs::TiedLaws::none_within, list_store::proofs::StoreLaws::none_shown, cf_lists::proofs::FrontLaws::front_whole))]
 fn copy_header(alloc: Global, store: &Store, header: u32, copy: &mut Store) -> Result<(), NoMemory>
     requires header { header < length store.now.lists }
     requires before { copy.old.lists ≡ front header 0 store.now.lists }

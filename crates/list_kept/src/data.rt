@@ -33,6 +33,7 @@ pub(crate) fn record(bare: Bare, chain: Option<Chain>) -> Rec
 }
 
 // Puts data, where there are any, into a new chain, where there are elements.
+#[tactic(auto, using(list_store::proofs::HeldLaws::set_twice, cf_lists::proofs::TableLaws::set_same))]
 pub(crate) fn try_data(store: &mut Store, body: &Option<Body>) -> Result<Option<Chain>, NoElements>
     ensures refused { IsErr result ↔ store.old.free < elements_of body.now }
     ensures chain { IfOk result (λ chain. HasChain store.new.loose chain) }

@@ -243,6 +243,7 @@ impl Kept {
 
     /// Where a record with a key comes to stand in a header, before its equals at the head and
     /// behind them at the tail; 0 where there is no such header.
+    #[tactic(auto, using(crate::proofs::NamedLaws::kept_told, crate::proofs::PlaceLaws::none_past))]
     pub fn place_of(&self, header: u32, head: bool, key: Key16) -> u32
         ensures place { result ≡ prefix_len (comes_behind head (Some key))
             (records_of self.now.content.lists header) }
@@ -267,6 +268,7 @@ impl Kept {
     }
 
     /// The record with a name, in whichever header; none where there is no such record.
+    #[tactic(auto, using(crate::proofs::NamedLaws::named_found))]
     pub fn named(&self, name: &Name16) -> Option<&Rec>
         ensures record { option_map (λ rec. record_in self.now.chains rec.now) result
             ≡ find (has_name name.now) (all_records self.now.content.lists) }
@@ -279,6 +281,7 @@ impl Kept {
     }
 
     /// How many elements of 256 bytes the data of all records take.
+    #[tactic(auto, using(crate::proofs::DataLaws::free_elements))]
     pub fn elements(&self) -> u32
         ensures { result ≡ elements_in (all_records self.now.content.lists) }
     {
@@ -361,6 +364,7 @@ impl Kept {
     }
 
     /// How many monitors of a header a connector has: 0 or 1.
+    #[tactic(auto, using(crate::proofs::NamedLaws::fewer))]
     pub fn count_for(&self, conn: ConnId, header: u32) -> u32
         ensures { result ≡ length (filter (is_for conn header) self.now.content.monitors) }
     {
@@ -377,6 +381,7 @@ impl Kept {
 
     /// Whether the bit of a connector's vector at an index stands: a header that the connector
     /// monitors there has records.
+    #[tactic(auto, using(crate::proofs::NamedLaws::kept_told))]
     pub fn stands(&self, conn: ConnId, index: u32) -> bool
         ensures { result ≡ stands self.now.content conn index }
     {
@@ -394,6 +399,7 @@ impl Kept {
     /// that its key leaves it among. The header is there, no record has its id, the records stay in
     /// order, there is room, and there are elements for the data, so that they take no memory. The
     /// next id goes up by 1, and `out` is told the bits that change.
+    #[tactic(auto, using(crate::proofs::ToldLaws::content_at, crate::proofs::ToldLaws::monitors_told))]
     pub fn write(
         &mut self,
         header: u32,
@@ -446,6 +452,7 @@ impl Kept {
     }
 
     /// Takes away the record with an id, which is there. `out` is told the bits that change.
+    #[tactic(auto, using(crate::proofs::ToldLaws::content_at, crate::proofs::ToldLaws::monitors_told))]
     pub fn remove(&mut self, id: EntryId, out: &mut Effects)
         requires room { IsRoomy self.old out.old.bits.room }
         requires there { list_any (is_id id) (all_records self.old.content.lists) ≡ true }
@@ -473,6 +480,7 @@ impl Kept {
     /// Takes the record with an id, which is there, to its place in a header, with a new key if one
     /// is given: at the head or the tail of the records that the key leaves it among. The header is
     /// there, the records stay in order, and there is room. `out` is told the bits that change.
+    #[tactic(auto, using(crate::proofs::ToldLaws::content_at, crate::proofs::ToldLaws::monitors_told))]
     pub fn shift(
         &mut self,
         id: EntryId,
@@ -533,6 +541,7 @@ impl Kept {
     /// A connector monitors a header at an index of its vector: its monitor at that index, and its
     /// monitor of that header at another index, end. There is room. `out` is told the bits that
     /// change.
+    #[tactic(auto, using(crate::proofs::ToldLaws::content_at, crate::proofs::ToldLaws::monitors_told))]
     pub fn monitor(&mut self, conn: ConnId, index: u32, header: u32, out: &mut Effects)
         requires caller { IsCaller conn }
         requires index { index < self.old.vector }
@@ -552,6 +561,7 @@ impl Kept {
 
     /// A connector monitors a header no more, if it did. `out`, which has room for a bit of each
     /// monitor, is told the bit that changes.
+    #[tactic(auto, using(crate::proofs::ToldLaws::content_at, crate::proofs::ToldLaws::monitors_told))]
     pub fn unmonitor(&mut self, conn: ConnId, header: u32, out: &mut Effects)
         requires { length self.old.content.monitors ≤ out.old.bits.room }
         ensures content { self.new.content ≡ record self.old.content {
@@ -661,6 +671,7 @@ impl Kept {
     }
 
     // Takes the last record away, and tells whether there was one.
+    #[tactic(auto, using(crate::proofs::ToldLaws::content_at, crate::proofs::NamedLaws::kept_told))]
     fn pop_record(&mut self) -> bool
         ensures there { result ≡ not (count_of self.old.content.lists == 0) }
         ensures content { self.new.content ≡ record self.old.content {
@@ -684,6 +695,7 @@ impl Kept {
 
     /// Takes the last record away, of the last header that has records. Where there are no records,
     /// limits, list locks, monitors and the next id become those of a new structure of the shape.
+    #[tactic(auto, using(crate::proofs::LastLaws::none_test, crate::proofs::LastLaws::zero_test, crate::proofs::ToldLaws::content_at, crate::proofs::NamedLaws::kept_told))]
     pub fn pop(&mut self, shape: Shape)
         requires limits { length self.old.content.limits ≡ headers_of shape.kind }
         requires locks { length self.old.content.locks ≡ locks_of shape.kind }
@@ -699,6 +711,7 @@ impl Kept {
     /// A connector departs: its monitors end, and its list locks are free, unless `keep` says that
     /// they are kept for it. `out`, which has room for a bit of each monitor, is told the bits that
     /// change.
+    #[tactic(auto, using(crate::proofs::ToldLaws::content_at, crate::proofs::ToldLaws::monitors_told))]
     pub fn leave(&mut self, conn: ConnId, keep: bool, out: &mut Effects)
         requires { length self.old.content.monitors ≤ out.old.bits.room }
         ensures content { self.new.content ≡ content_without self.old.content conn keep }

@@ -45,6 +45,7 @@ fn up_to(key: Option<Key16>, other: Option<Key16>) -> bool
 
 // Whether the record at a place of a header, in which those that stand before one that comes are
 // the first ones, is one of those.
+#[tactic(auto, using(list_store::proofs::TiedLaws::none_within, list_store::proofs::StoreLaws::none_shown, cf_lists::proofs::RecordPrefixLaws::passes_first, crate::proofs::PlaceLaws::ordered_first))]
 fn stands_at(store: &Store, header: u32, place: u32, head: bool, key: Option<Key16>) -> bool
     requires header { header < length store.now.lists }
     requires place { place < length (records_of store.now.lists header) }
@@ -59,6 +60,7 @@ fn stands_at(store: &Store, header: u32, place: u32, head: bool, key: Option<Key
 }
 
 /// Where a record comes to stand in a header whose records are in order by key: a binary search.
+#[tactic(auto, using(crate::proofs::NamedLaws::fewer))]
 pub(crate) fn place_of(store: &Store, header: u32, head: bool, key: Option<Key16>) -> u32
     requires header { header < length store.now.lists }
     requires ordered { IsTrue (pairwise may_precede (records_of store.now.lists header)) }
@@ -87,6 +89,7 @@ pub(crate) fn has_records(store: &Store, header: u32) -> bool
 }
 
 /// Takes out the record with an id, which is there; no record has its chain then.
+#[tactic(auto, using(crate::proofs::NamedLaws::kept_told, cf_lists::proofs::FilterLaws::any_is_found))]
 pub(crate) fn take(store: &mut Store, id: EntryId) -> Rec
     requires { list_any (is_id id) (all_records store.old.lists) ≡ true }
     ensures record { record_of id store.old.lists ≡ Some (record_in store.old.chains result) }
@@ -221,6 +224,7 @@ pub(crate) fn renew(store: &mut Store, bare: Bare, body: &Option<Body>)
 }
 
 /// Takes out the record with an id, and puts it in a header, with a new key if one is given.
+#[tactic(auto, using(list_model::proofs::ContentLaws::ordered_without))]
 pub(crate) fn put_again(store: &mut Store, id: EntryId, header: u32, head: bool, key: Option<Key16>)
     requires room { 1 ≤ store.old.room }
     requires header { header < length store.old.lists }

@@ -10,6 +10,7 @@ use cf_types::{At, EntryId, Key16};
 use list_store::Rec;
 
 /// How many elements of 256 bytes the data of all records take, but for the record with an id.
+#[tactic(auto, using(crate::proofs::NamedLaws::elements_absent))]
 pub fn elements_of_others(kept: &Kept, id: EntryId) -> u32
     ensures { result ≡ elements_in (records_without id (all_records kept.now.content.lists)) }
 {
@@ -20,6 +21,7 @@ pub fn elements_of_others(kept: &Kept, id: EntryId) -> u32
 }
 
 /// How many records there are, in all headers: fewer than 2^32.
+#[tactic(auto, using(crate::proofs::ReadLaws::count_more))]
 pub fn count(kept: &Kept) -> u32
     requires { count_of kept.now.content.lists < 2 ^ 32 }
     ensures { result ≡ count_of kept.now.content.lists }
@@ -42,6 +44,7 @@ fn has_key(kept: &Kept, rec: &Rec, key: &Key16) -> bool
 }
 
 // The first record of a header with a key: by the order of the keys.
+#[tactic(auto, using(crate::proofs::KeyedLaws::find_keyed, crate::proofs::KeyedLaws::keyed))]
 fn keyed_in<'a>(kept: &'a Kept, header: u32, key: &Key16) -> Option<&'a Rec>
     ensures record { option_map (λ rec. record_in kept.now.chains rec.now) result
         ≡ find (has_key key.now) (records_of kept.now.content.lists header) }

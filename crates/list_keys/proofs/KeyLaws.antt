@@ -1,19 +1,14 @@
 -- Keys in order: those that stand before a new one are the first of them.
-use Rattle.std.proofs.Common.{◌≡◌, Bool, true, false, not, Ordering, Less, Equal, Greater, is_lt, is_gt, nat_cmp, refl, sym, ap, ◌∙◌}
-use Rattle.std.specs.Ordering.{ordering_reverse}
+use Rattle.std.proofs.Common.{◌≡◌, Bool, true, false, not, is_lt, is_gt, nat_cmp, refl, sym, ap, ◌∙◌}
 use Rattle.std.specs.Cmp.Lexicographic.{slice_cmp, nat_list_cmp_total}
 use Rattle.std.proofs.lemmas.Bool.{not-true, false≢true}
 use Rattle.std.proofs.lemmas.Cmp.{upto}
 use Rattle.cf_types.specs.declared.names.Key16.{Key16}
 use Rattle.list_keys.specs.KeyOrder.{key_before, keys_up_to, stands_before}
-
-turned : (o : Ordering) → is_lt (ordering_reverse o) ≡ is_gt o
-turned Less = refl
-turned Equal = refl
-turned Greater = refl
+use Rattle.cf_types.proofs.ResourceLaws.{is_lt-reverse}
 
 back : (a b : Key16) → key_before b a ≡ is_gt (slice_cmp nat_cmp a.0 b.0)
-back a b = ap is_lt (nat_list_cmp_total.antisymm b.0 a.0) ∙ turned (slice_cmp nat_cmp a.0 b.0)
+back a b = ap is_lt (nat_list_cmp_total.antisymm b.0 a.0) ∙ is_lt-reverse (slice_cmp nat_cmp a.0 b.0)
 
 keys_up_to-trans : (a b c : Key16) → keys_up_to a b ≡ true → keys_up_to b c ≡ true → keys_up_to a c ≡ true
 keys_up_to-trans a b c ab bc =

@@ -1,7 +1,5 @@
 -- Every command and departure leads from content to content.
-use Rattle.list_model.proofs.Imports.{◌≡◌, ℕ, ◌+◌, ◌-◌, ◌<◌, ◌≤◌, ◌==◌, ◌&&◌, Bool, true, false, not, cond, List, [], ◌∷◌, ◌++◌, Option, Some, None, is_some, is_none, unwrap_or, length, filter, find, map, set, length-set, nat_lt, nat_le, sum_by, refl, sym, ap, ◌∙◌, subst, arith, list_all, option_or, and_parts, and_from, not-true, false≢true, nat_tests, length-map, filter-append, list_all-map, sum_by-cons, Caps, Refs, At, Cond, ListCmd, Write, Update, Read, Move, Delete, ReadList, LockSet, LockReset, LockTest, LControls, SetLimit, Unmonitor, Key16, Name16, ConnId, EntryId, Refusal, Shape, first_refusal, insertion, pairwise, list_all-filter, list_all_weaker, list_all_always, list_all-filter_same, filter_all, length-filter-le, sum_by-filter-le, any_is_found, all_from_none, pairwise-filter, pairwise-map, Record, Lists, records_of, all_records, is_id, records_without, lists_without, replaced_by, lists_replaced, ids_apart, is_of, is_for, monitors_with, AreMonitors, has_name, elements_of, next_version, is_reference, is_known, names_apart, may_precede, record_at, the_record, no_record, stands_before, with_record, Content, IsContent, is_given, headers_of, locks_of, refs_of, is_within, content_without, holder_without, header_refusal, new_key_refusal, record_refusal, taken_refusal, name_refusal, entries_refusal, elements_refusal, index_refusal, cause, done}
-use Rattle.cf_types.specs.declared.forms.Refs.TheVariants as refs
-use Rattle.cf_types.specs.declared.list_commands.At.TheVariants as ref
+use Rattle.list_model.proofs.Imports.{◌≡◌, ℕ, ◌+◌, ◌-◌, ◌<◌, ◌≤◌, ◌==◌, ◌&&◌, Bool, true, false, not, cond, List, [], ◌∷◌, ◌++◌, Option, Some, None, is_some, unwrap_or, length, filter, find, map, set, length-set, nat_lt, sum_by, refl, sym, ap, ◌∙◌, subst, arith, list_all, option_or, and_parts, and_from, not-true, false≢true, nat_tests, length-map, filter-append, list_all-map, sum_by-cons, Caps, Refs, At, Cond, ListCmd, Write, Update, Move, Delete, LockSet, LockReset, SetLimit, Unmonitor, Key16, Name16, ConnId, EntryId, Shape, first_refusal, insertion, pairwise, list_all-filter, list_all_weaker, list_all_always, list_all-filter_same, filter_all, length-filter-le, sum_by-filter-le, any_is_found, all_from_none, pairwise-filter, pairwise-map, Record, Lists, records_of, all_records, is_id, records_without, lists_without, replaced_by, lists_replaced, ids_apart, is_of, is_for, monitors_with, AreMonitors, has_name, elements_of, next_version, is_known, names_apart, may_precede, record_at, the_record, no_record, stands_before, with_record, Content, IsContent, is_given, headers_of, locks_of, refs_of, is_within, content_without, holder_without, header_refusal, new_key_refusal, record_refusal, taken_refusal, name_refusal, entries_refusal, elements_refusal, index_refusal, cause, done, none_hold, unless_false}
 use Rattle.cf_types.specs.declared.list_commands.ListCmd.TheVariants.{Monitor}
 use Rattle.list_watch.specs.declared.monitors.Monitor as watched
 use Rattle.list_model.specs.Commands.Write as write
@@ -9,7 +7,6 @@ use Rattle.list_model.specs.Commands.Update as update
 use Rattle.list_model.specs.Commands.Move as move
 use Rattle.list_model.specs.Commands.Monitor as monitor
 use Rattle.list_model.specs.Commands.Unmonitor as unmonitor
-use Rattle.list_model.specs.Commands.SetLimit as set_limit
 use Rattle.list_model.proofs.RecordLaws.{ordered-with, ids_apart-sym, is_id-refl, names_apart-sym}
 use Rattle.list_model.proofs.ListLaws.{IsWith, with-insertion, with-map, all-with, length-with, sum-with, pairwise-with, with-all, with-pairwise, IsIn, in-found, in-place, in-header, with-records, each-records, one-records, all-without, all-map}
 use Rattle.list_model.proofs.MonitorLaws.{monitors-filter, monitors-with, all-monitors_with}
@@ -18,19 +15,6 @@ abbrev pub size : Record → ℕ
 size rec = elements_of rec.body
 
 -- ---- causes
-
--- none of them holds
-abbrev pub NoneHolds : List (Option Refusal) → Type 0
-NoneHolds [] = Unit {0}
-NoneHolds (cause ∷ causes) = (cause ≡ None) × NoneHolds causes
-
-pub none_hold : (causes : List (Option Refusal)) → first_refusal causes ≡ None → NoneHolds causes
-none_hold [] h = tt
-none_hold (cause ∷ causes) h = grind (arith, none_hold causes)
-
-unless_false : (b : Bool) (refusal : Refusal) → cond b None (Some refusal) ≡ None → b ≡ true
-unless_false true refusal h = refl
-unless_false false refusal h = absurd (cc)
 
 below_test : (a b : ℕ) → b < a → nat_lt b a ≡ true
 below_test a b h = grind (arith, nat_tests)
@@ -57,11 +41,11 @@ is_there (Some rec) h = refl
 
 pub record_at-in : (lists : Lists) (at : At) (rec : Record) → record_at lists at ≡ Some rec
     → IsIn rec (all_records lists)
-record_at-in lists (ref.Id id) rec h = in-found (is_id id) (all_records lists) rec h
-record_at-in lists (ref.Name name) rec h = in-found (has_name name) (all_records lists) rec h
-record_at-in lists (ref.Head header) rec h = in-header rec lists header (in-place _ 0 rec h)
-record_at-in lists (ref.Tail header) rec h = in-header rec lists header (in-place _ _ rec h)
-record_at-in lists (ref.Key header key) rec h = in-header rec lists header (in-found _ _ rec h)
+record_at-in lists (At.Id id) rec h = in-found (is_id id) (all_records lists) rec h
+record_at-in lists (At.Name name) rec h = in-found (has_name name) (all_records lists) rec h
+record_at-in lists (At.Head header) rec h = in-header rec lists header (in-place _ 0 rec h)
+record_at-in lists (At.Tail header) rec h = in-header rec lists header (in-place _ _ rec h)
+record_at-in lists (At.Key header key) rec h = in-header rec lists header (in-found _ _ rec h)
 
 pub the_record-in : (lists : Lists) (at : At) → record_refusal (record_at lists at) ≡ None
     → IsIn (the_record lists at) (all_records lists)
@@ -317,7 +301,7 @@ content-without shape caps content id is = grind (
 moved_known : (refs : Refs) (key : Option Key16) (rec : Record)
     → new_key_refusal refs key ≡ None → is_known refs rec ≡ true → is_known refs (move.with_new_key key rec) ≡ true
 moved_known refs None rec h known = known
-moved_known refs.Keys (Some key) rec h known = grind (arith, and_parts)
+moved_known Refs.Keys (Some key) rec h known = grind (arith, and_parts)
 moved_known _ (Some key) rec h known = absurd (cc)
 
 pub content-move : (shape : Shape) (caps : Caps) (content : Content) (by : ConnId) (at : At)

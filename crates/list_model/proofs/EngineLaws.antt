@@ -1,12 +1,10 @@
 -- The laws of the engine's meaning.
-use Rattle.list_model.proofs.Imports.{take_all, list_all-append, ◌&&◌, ◌≡◌, ℕ, zero, suc, ◌+◌, ◌-◌, ◌<◌, ◌≤◌, IsTrue, ◌==◌, ◌||◌, Bool, true, false, not, cond, List, [], ◌∷◌, ◌++◌, Option, None, is_some, length, length-append, length-take, map, take, drop, take-append-drop, replicate, sum_by, ◌⊎◌, inl, inr, refl, sym, ap, ◌∙◌, subst, append_assoc, arith, list_all, list_any, and_parts, and_from, or_from, nat_tests, length-replicate, sum_by-cons, sum_by-append, slice_get_within, is_list, Caps, Kind, ConnId, Key16, Name16, EntryId, Shape, Fits, IsNoMore, IsNoMoreOf, IsNextItem, content_of_items, FrontLaws, pairwise, pairwise_front, take_next, none_from_all, list_all_weaker, Record, Lists, all_records, count_of, ids_apart, records_of, with_records, is_id, ListItem, Row, elements_in, may_precede, first_records, Content, IsContent, no_content, headers_of, locks_of, content_without, has_controls, controls_of, row_of, rows_from, items_of, content_with, content_without_last, entries_for, elements_for, need_of, list_meaning}
-use Rattle.cf_types.specs.declared.forms.Kind.TheVariants as kind
+use Rattle.list_model.proofs.Imports.{◌≡◌, ℕ, zero, suc, ◌+◌, ◌-◌, ◌<◌, ◌≤◌, IsTrue, ◌==◌, Bool, true, false, not, List, [], ◌∷◌, ◌++◌, Option, None, is_some, length, length-append, length-take, map, take, drop, take-append-drop, replicate, sum_by, ◌⊎◌, inl, inr, refl, sym, ap, ◌∙◌, append_assoc, arith, list_all, list_any, and_parts, nat_tests, length-replicate, sum_by-cons, sum_by-append, slice_get_within, is_list, Caps, Kind, ConnId, Key16, Name16, EntryId, Shape, Fits, IsNoMore, IsNoMoreOf, IsNextItem, content_of_items, FrontLaws, pairwise, pairwise_front, take_next, none_from_all, list_all_weaker, Record, Lists, all_records, count_of, ids_apart, records_of, with_records, is_id, ListItem, Row, elements_in, may_precede, first_records, Content, IsContent, no_content, headers_of, locks_of, content_without, has_controls, controls_of, row_of, rows_from, items_of, content_with, content_without_last, entries_for, elements_for, need_of, list_meaning}
 use Rattle.engine_api.proofs.FrontLaws as front
-use Rattle.list_model.proofs.RecordLaws.{ids_apart-sym}
-use Rattle.list_model.proofs.ListLaws.{IsWith, with-push, with-records, with-pairwise}
 use Rattle.list_model.proofs.ItemLaws.{next-row, record_in, header_in, content_front, controls_in, items-front, made-again, place-next, take_append, controls-placed, first-none, first-first, first-all, count-first, length-rows, ComesFirst, ComesNext, item-comes}
+use Rattle.list_model.proofs.ListLaws.{with-push, with-records, with-pairwise}
+use Rattle.list_model.proofs.{RecordLaws.ids_apart-sym, ContentLaws.size}
 use Rattle.list_model.proofs.ContentLaws as laws
-use Rattle.list_model.proofs.ContentLaws.{size}
 
 -- ---- an empty content
 
@@ -18,7 +16,7 @@ no_rows : (n header : ℕ) → rows_from header (replicate n []) ≡ []
 no_rows zero header = refl
 no_rows (suc n) header = no_rows n (header + 1)
 
-all_ordered : (n : ℕ) → list_all (pairwise may_precede) (replicate n []) ≡ true
+pub all_ordered : (n : ℕ) → list_all (pairwise may_precede) (replicate n []) ≡ true
 all_ordered zero = refl
 all_ordered (suc n) = all_ordered n
 
@@ -160,9 +158,9 @@ pub need-items : (shape : Shape) (content : Content) → need_of (items_of shape
 need-items shape content = grind (arith, sum_by-cons, entries_of_rows, elements_of_rows)
 
 same_need : (kind : Kind) (need other : Caps) → need ≡ other → IsNoMoreOf kind need other
-same_need kind.Cache need other e = grind arith
-same_need (kind.List headers locks refs) need other e = grind arith
-same_need kind.Lock need other e = grind arith
+same_need Kind.Cache need other e = grind arith
+same_need (Kind.List headers locks refs) need other e = grind arith
+same_need Kind.Lock need other e = grind arith
 
 pub need-leave : (shape : Shape) (content : Content) (conn : ConnId) (keep : Bool) → IsNoMoreOf
     shape.kind (need_of (items_of shape (content_without content conn keep))) (need_of (items_of shape content))
@@ -171,7 +169,7 @@ need-leave shape content conn keep = grind (arith, same_need, need-items)
 -- a content whose items fit another capacity is one there
 fits_both : (kind : Kind) (need caps : Caps) → IsTrue (is_list kind) → Fits kind need caps
     → (need.entries ≤ caps.entries) × (need.elements ≤ caps.elements)
-fits_both (kind.List headers locks refs) need caps is fits = fits
+fits_both (Kind.List headers locks refs) need caps is fits = fits
 fits_both _ need caps is fits = absurd cc
 
 pub content-moved : (shape : Shape) (caps other : Caps) (content : Content) → IsTrue (is_list shape.kind) → IsContent
@@ -294,8 +292,7 @@ without_step : (shape : Shape) (caps : Caps) (content : Content) → IsContent s
     → (n : ℕ) → count_of content.lists ≡ n → IsContent shape caps (content_without_last shape content)
 without_step shape caps content is zero h = rw (
   without_none shape content h,
-  sym
-      (first-all 0 content.lists (omega (arith, h))),
+  sym (first-all 0 content.lists (omega (arith, h))),
   first-none content.lists,
   is.headers,
 ) (content-nothing shape caps)

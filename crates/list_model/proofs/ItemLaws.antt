@@ -1,5 +1,5 @@
 -- The items of a content, and the content that the first of them make.
-use Rattle.list_model.proofs.Imports.{take_more, get_or_append_left, slice_get-get_or, ◌≡◌, ℕ, zero, suc, ◌+◌, ◌-◌, ◌<◌, ◌≤◌, ◌==◌, ◌||◌, Bool, true, false, not, cond, min, List, [], ◌∷◌, ◌++◌, Option, Some, None, is_some, option_map, length, length-append, length-take, map, nat_lt, take, replicate, slice_get, fold, ◌⊎◌, inr, refl, sym, ap, ◌∙◌, subst, arith, list_any, or_parts, false≢true, eqb-true, nat_tests, length-map, take_all, take-take, take-map, fold-append, slice_get-map, Caps, ConnId, Shape, take_next, Record, Lists, records_of, with_records, all_records, count_of, Monitor, ListItem, Controls, Row, no_record, first_records, Content, IsContent, no_content, headers_of, locks_of, triple_of, monitor_of, has_controls, controls_of, row_of, rows_from, items_of, content_with}
+use Rattle.list_model.proofs.Imports.{◌≡◌, ℕ, zero, suc, ◌+◌, ◌-◌, ◌<◌, ◌≤◌, ◌==◌, Bool, true, false, not, cond, min, List, [], ◌∷◌, ◌++◌, Option, Some, None, is_some, option_map, length, length-append, length-take, map, nat_lt, take, replicate, slice_get, fold, ◌⊎◌, inr, refl, sym, ap, ◌∙◌, subst, arith, list_any, or_parts, false≢true, nat_tests, length-map, take_all, take-take, take-map, fold-append, slice_get-map, Caps, ConnId, Shape, take_next, Record, Lists, records_of, with_records, count_of, Monitor, ListItem, Controls, Row, no_record, first_records, Content, IsContent, no_content, headers_of, triple_of, monitor_of, has_controls, controls_of, row_of, rows_from, items_of, content_with}
 
 -- ---- lists
 

@@ -1,5 +1,5 @@
 -- Lists of records for each header: a record more, one taken out, one changed.
-use Rattle.list_model.proofs.Imports.{drop, take, list_all-append, position_or_len, find_at, pairwise_middle, split_next, append-nil, ◌≡◌, ℕ, zero, suc, ◌+◌, ◌<◌, ◌&&◌, Bool, true, false, cond, List, [], ◌∷◌, ◌++◌, Option, Some, length, length-append, find, map, slice_get, sum_by, refl, sym, ap, ◌∙◌, subst, append_assoc, arith, list_all, and_parts, and_from, map-append, filter-append, sum_by-cons, sum_by-append, EntryId, insertion, pairwise, list_all_weaker, Record, Lists, records_of, with_records, all_records, records_without, lists_without}
+use Rattle.list_model.proofs.Imports.{drop, take, list_all-append, position_or_len, find_at, pairwise_middle, split_next, append-nil, ◌≡◌, ℕ, zero, suc, ◌+◌, ◌<◌, ◌&&◌, Bool, true, List, [], ◌∷◌, ◌++◌, Some, length, length-append, find, map, slice_get, sum_by, refl, sym, ap, ◌∙◌, append_assoc, arith, list_all, and_parts, and_from, map-append, filter-append, sum_by-cons, sum_by-append, EntryId, insertion, pairwise, list_all_weaker, Record, Lists, records_of, with_records, all_records, records_without, lists_without}
 
 -- ---- a list with one more element somewhere
 

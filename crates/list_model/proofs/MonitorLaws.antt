@@ -1,5 +1,5 @@
 -- Monitors: one more, and fewer.
-use Rattle.list_model.proofs.Imports.{arith, ◌≡◌, ℕ, ◌&&◌, ◌||◌, Bool, true, false, not, List, [], ◌∷◌, filter, refl, ◌∙◌, list_all, and_from, false≢true, list_all-append, ConnId, list_all-filter, list_all-filter_same, list_all_weaker, pairwise-filter, pairwise_push, Monitor, is_replaced, monitors_with, AreMonitors}
+use Rattle.list_model.proofs.Imports.{arith, ◌≡◌, ℕ, ◌||◌, Bool, true, false, not, List, filter, refl, list_all, and_from, false≢true, list_all-append, ConnId, list_all-filter, list_all-filter_same, list_all_weaker, pairwise-filter, pairwise_push, Monitor, is_replaced, monitors_with, AreMonitors}
 
 neither : (a b : Bool) → not (a || b) ≡ true → (not a ≡ true) × (not b ≡ true)
 neither true b h = absurd (false≢true h)

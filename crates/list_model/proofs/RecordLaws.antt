@@ -1,23 +1,13 @@
 -- Records: the order of their keys, and names and ids apart.
-use Rattle.list_model.proofs.Imports.{◌≡◌, ℕ, ◌==◌, Bool, true, false, not, List, Option, Some, None, Ordering, Less, Equal, Greater, is_lt, is_gt, nat_cmp, refl, sym, ap, ◌∙◌, subst, arith, ordering_reverse, slice_cmp, nat_list_cmp_total, not-true, false≢true, nat_tests, upto, Key16, Name16, same_name, same_name-eq, same_name-refl, insertion, pairwise, list_all_always, FindsPlace, pairwise-insertion, Record, is_id, ids_apart, key_before, key_up_to, names_apart, may_precede, stands_before}
+use Rattle.list_model.proofs.Imports.{◌≡◌, ℕ, ◌==◌, Bool, true, false, not, List, Option, Some, None, is_lt, is_gt, nat_cmp, refl, sym, ap, ◌∙◌, arith, slice_cmp, nat_list_cmp_total, not-true, false≢true, nat_tests, upto, Key16, insertion, pairwise, list_all_always, FindsPlace, pairwise-insertion, Record, is_id, ids_apart, key_before, key_up_to, names_apart, may_precede, stands_before, same_name-sym, is_lt-reverse, lt_not_gt}
 
 -- ---- the order of keys
 
-turned : (o : Ordering) → is_lt (ordering_reverse o) ≡ is_gt o
-turned Less = refl
-turned Equal = refl
-turned Greater = refl
-
 pub key_back : (a b : Key16) → key_before b a ≡ is_gt (slice_cmp nat_cmp a.0 b.0)
-key_back a b = ap is_lt (nat_list_cmp_total.antisymm b.0 a.0) ∙ turned (slice_cmp nat_cmp a.0 b.0)
+key_back a b = ap is_lt (nat_list_cmp_total.antisymm b.0 a.0) ∙ is_lt-reverse (slice_cmp nat_cmp a.0 b.0)
 
 keys-trans : (a b c : Key16) → not (key_before b a) ≡ true → not (key_before c b) ≡ true → not (key_before c a) ≡ true
 keys-trans a b c ab bc = grind (arith, key_back, upto, nat_list_cmp_total)
-
-not_both : (o : Ordering) → is_lt o ≡ true → is_gt o ≡ false
-not_both Less h = refl
-not_both Equal h = refl
-not_both Greater h = absurd (false≢true h)
 
 pub key_up_to-trans : (a b c : Option Key16) → key_up_to a b ≡ true → key_up_to b c ≡ true → key_up_to a c ≡ true
 key_up_to-trans None b c ab bc = refl
@@ -29,7 +19,7 @@ key_up_to-trans (Some a) b None ab bc = grind (arith, false≢true)
 pub key_up_to-either : (a b : Option Key16) → key_up_to a b ≡ false → key_up_to b a ≡ true
 key_up_to-either None b h = absurd (false≢true (sym h))
 key_up_to-either (Some a) None h = refl
-key_up_to-either (Some a) (Some b) h = grind (arith, key_back, not_both, false≢true)
+key_up_to-either (Some a) (Some b) h = grind (arith, key_back, lt_not_gt, false≢true)
 
 pub not_false : (b : Bool) → not b ≡ false → b ≡ true
 not_false true h = refl
@@ -63,17 +53,6 @@ ids_apart-sym rec other = ap not (turn other.id.0 rec.id.0)
 
 pub is_id-refl : (rec : Record) → is_id rec.id rec ≡ true
 is_id-refl rec = grind (arith, nat_tests)
-
-implied : (s t : Bool) → (s ≡ true → t ≡ true) → (t ≡ true → s ≡ true) → s ≡ t
-implied true t f g = sym (f refl)
-implied false true f g = g refl
-implied false false f g = refl
-
-name_turned : (a b : Name16) → same_name a b ≡ true → same_name b a ≡ true
-name_turned a b h = subst (λ (n : Name16). same_name n a ≡ true) (same_name-eq a b h) (same_name-refl a)
-
-pub same_name-sym : (a b : Name16) → same_name a b ≡ same_name b a
-same_name-sym a b = implied (same_name a b) (same_name b a) (name_turned a b) (name_turned b a)
 
 pub names_apart-sym : (rec other : Record) → names_apart rec other ≡ names_apart other rec
 names_apart-sym rec other = grind (arith, same_name-sym)

@@ -1,10 +1,9 @@
 -- What an engine over a store of records goes by: the record that is named by its id, where a record comes to stand,
 -- which headers have records then, and how many records and elements there are.
-use Rattle.list_model.proofs.Imports.{list_any-append, get_or-set_other, list_of-get_or, ◌≡◌, ℕ, zero, suc, ◌==◌, ◌&&◌, ◌||◌, Bool, true, false, not, List, [], ◌∷◌, ◌++◌, Option, Some, None, length, find, map, position, refl, sym, ap, ◌∙◌, subst, arith, list_all, list_any, prefix_len, and_parts, not-true, or_right, false≢true, nat_tests, length-map, Caps, At, EntryId, Shape, pairwise, none_from_all, list_all_weaker, filter_all, all_from_none, any_is_placed, insert-prefix_len, Record, Spot, Lists, records_of, with_records, all_records, is_id, has_id, record_of, spot_in, spot_of, records_without, lists_without, lists_with, replaced_by, lists_replaced, ids_apart, none_behind, pairwise_back, once, record_at, stands_before, with_record, Content, IsContent, has_records}
+use Rattle.list_model.proofs.Imports.{list_any-append, get_or-set_other, list_of-get_or, ◌≡◌, ℕ, zero, suc, ◌==◌, Bool, true, false, not, List, [], ◌∷◌, ◌++◌, Option, Some, None, length, find, map, position, refl, sym, ap, ◌∙◌, arith, list_all, list_any, prefix_len, and_parts, false≢true, nat_tests, length-map, Caps, At, EntryId, Shape, pairwise, none_from_all, list_all_weaker, filter_all, all_from_none, any_is_placed, insert-prefix_len, Record, Spot, Lists, records_of, with_records, all_records, is_id, has_id, record_of, spot_in, spot_of, records_without, lists_without, lists_with, replaced_by, lists_replaced, ids_apart, none_behind, pairwise_back, once, record_at, stands_before, with_record, Content, IsContent, has_records}
 use Rattle.list_model.specs.Commands.Write as write
-use Rattle.list_model.proofs.RecordLaws.{is_id-refl, ids_apart-sym}
-use Rattle.list_model.proofs.ListLaws.{with-pairwise, IsIn}
 use Rattle.list_model.proofs.ContentLaws.{record_at-in}
+use Rattle.list_model.proofs.{RecordLaws.is_id-refl, RecordLaws.ids_apart-sym, ListLaws.with-pairwise, ListLaws.IsIn}
 
 -- ---- the record that is named, by its id
 
@@ -109,5 +108,3 @@ placed-with head header rec lists = grind (arith, insert-prefix_len)
 pub new-alone : (shape : Shape) (caps : Caps) (content : Content) → IsContent shape caps content
     → list_any (is_id (write.new_id content)) (all_records content.lists) ≡ false
 new-alone shape caps content is = grind (arith, none_from_all, list_all_weaker, nat_tests)
-
--- ---- records and elements

@@ -2,7 +2,7 @@
 pub use Rattle.cf_types.proofs.Imports.{eqb_tells, list_all-append, position-Some, sum_by-set, sum_by-cons, get_or_from_slice_get, slice_get-get_or, list_any, list_all, remove, vec_len, vec_capacity}
 pub use Rattle.cf_lists.proofs.Imports.{records_of, all_records, record_of, lists_with, lists_without, lists_replaced, replaced_by, ids_apart, IsLastFull, stands, pairwise}
 pub use Rattle.cf_pool.proofs.Imports.{need_of, IsChain, need_at, Chains, need_in, with_chain, without_chain}
-pub use Rattle.std.proofs.Common.{◌≡◌, ◌≢◌, ℕ, zero, suc, ◌+◌, List, [], ◌∷◌, ◌++◌, set, get_or, slice_get, sum_by, Option, None, Some, refl, sym, ap, ◌∙◌, subst, arith, get_or-set_other, true, false, option_map, position, ◌-◌, ◌<◌, not, map, replicate, length, is_some, Result, Ok, Err, Bor, IfSome, IfNone, IfOk, OnErr, nat_le, ◌≤◌, inl, inr, Bool, cond, ◌==◌, take, unwrap_or, IsSome, slice_index_or, ◌&&◌, drop}
+pub use Rattle.std.proofs.Common.{◌≡◌, ◌≢◌, ℕ, zero, suc, ◌+◌, List, [], ◌∷◌, ◌++◌, set, get_or, slice_get, sum_by, Option, None, Some, refl, sym, ap, ◌∙◌, subst, arith, get_or-set_other, true, false, option_map, position, ◌-◌, ◌<◌, not, map, replicate, length, is_some, Result, Ok, Err, Bor, IfSome, IfNone, IfOk, OnErr, nat_le, ◌≤◌, inl, inr, Bool, cond, ◌==◌, take, unwrap_or, IsSome, slice_index_or, drop}
 pub use Rattle.std.proofs.lemmas.Bool.{false≢true, and_from, and_parts, le-leb, leb-true, eq-eqb, eqb-true, ltb-true, lt-ltb}
 pub use Rattle.std.proofs.lemmas.List.{length-map, drop_all, append-nil, get_or-map, map-set, set-get_or, take_more_set, drop_more, nil_from_length, length-replicate}
 pub use Rattle.std.proofs.lemmas.List.Edits.{length-remove}
@@ -17,8 +17,7 @@ pub use Rattle.cf_lists.proofs.RecordOrderLaws.{stands_new, stands_more, stands_
 pub use Rattle.cf_lists.proofs.RecordSpotLaws.{get_within, placed_at, spot_there, no_spot, header_within}
 pub use Rattle.cf_lists.proofs.SplitLaws.{Every, every_at, every_found, all_with, agree_all, IsSplit, split_found}
 pub use Rattle.cf_lists.proofs.TableLaws.{get-set_other}
-pub use Rattle.cf_pool.specs.declared.chain.Chain.{Chain}
-pub use Rattle.cf_pool.specs.declared.no_elements.NoElements.{NoElements}
+pub use Rattle.cf_pool.specs.declared.{chain.Chain.Chain, no_elements.NoElements.NoElements}
 pub use Rattle.cf_types.specs.declared.numbers.EntryId.{EntryId}
 pub use Rattle.slab.specs.Slab.{Slab, get, Updates}
 pub use Rattle.list_store.specs.Lists.{Lists, record_id, is_id, has_id, spot_of, spot_in, with_records}
@@ -29,5 +28,4 @@ pub use Rattle.list_store.specs.Spots.{as_spot}
 pub use Rattle.list_store.specs.StoreView.{StoreView}
 pub use Rattle.list_store.specs.TableView.{TableView}
 pub use Rattle.list_store.specs.Tied.{rec_id, no_rec, rec_at, lists_at, spot_for, Writes, IsHeld, IsFound, IsTied}
-pub use Rattle.list_store.specs.declared.records.Rec.{Rec}
-pub use Rattle.list_store.specs.declared.records.Spot.{Spot}
+pub use Rattle.list_store.specs.declared.{records.Rec.Rec, records.Spot.Spot}

@@ -1,11 +1,29 @@
 -- What a call does to the records that are shown, and to the chains that no record has.
-use Rattle.list_store.proofs.Imports.{◌≡◌, ℕ, zero, suc, ◌+◌, ◌-◌, ◌<◌, true, false, not, List, [], ◌∷◌, ◌++◌, map, set, slice_get, replicate, sum_by, length, Option, None, Some, is_some, option_map, Result, Ok, Err, refl, sym, ap, ◌∙◌, subst, arith, Bor, IfSome, IfNone, IfOk, OnErr, nat_le, ◌≤◌, get_or, sum_by-cons, pairwise, all_records, records_of, record_of, lists_with, lists_without, lists_replaced, replaced_by, ids_apart, list_any, list_all, any_is_found, any_all, all-filter, all-map, without_absent, every_at, every_found, all_with, agree_all, IsSplit, split_found, Chain, NoElements, need_of, Chains, IsChain, need_at, need_in, with_chain, without_chain, Rec, TableView, rec_id, Record, record_in, HasChain, chains_less, loose_in, is_data, AreHeld, elements_in, StoreView, and_from, and_parts, le-leb, leb-true, get_or_from_slice_get, get_within}
+use Rattle.list_store.proofs.Imports.{◌≡◌, ℕ, zero, suc, ◌+◌, ◌-◌, ◌<◌, true, false, not, List, [], ◌∷◌, ◌++◌, map, set, slice_get, replicate, sum_by, length, Option, None, Some, is_some, option_map, Result, Ok, Err, refl, sym, ap, ◌∙◌, subst, arith, Bor, IfSome, IfNone, IfOk, OnErr, nat_le, ◌≤◌, get_or, sum_by-cons, pairwise, all_records, records_of, record_of, lists_with, lists_without, lists_replaced, replaced_by, ids_apart, list_any, list_all, any_is_found, any_all, all-filter, all-map, without_absent, every_at, every_found, all_with, agree_all, IsSplit, split_found, Chain, NoElements, need_of, Chains, IsChain, need_at, need_in, with_chain, without_chain, Rec, TableView, rec_id, Record, record_in, HasChain, chains_less, loose_in, is_data, AreHeld, elements_in, StoreView, and_from, and_parts, le-leb, leb-true, get_or_from_slice_get, get_within, apart-map, record-map, any-map, without-map, record_id}
 use Rattle.cf_lists.specs.Lists.{is_id, has_id}
 use Rattle.list_store.proofs.VecLaws.{list_all-set, list_all-get_or}
 use Rattle.list_store.proofs.HeldLaws.{less_swap, has_swap, loose_middle, held_middle, loose_sub, each_chain, elsewhere_fresh, elsewhere_loose, loose_change, held_change, record_change, counted, loose_fresh}
 
 abbrev pub shown : List (Option (List ℕ)) → List (List Rec) → List (List Record)
 shown chains lists = map (map (record_in chains)) lists
+
+-- what is told of records is told of what they show
+module _ (chains : List (Option (List ℕ))) (lists : List (List Rec)) where
+  pub shown_apart : pairwise (ids_apart rec_id) (all_records lists) ≡ true
+      → pairwise (ids_apart record_id) (all_records (shown chains lists)) ≡ true
+  shown_apart apart = apart-map (record_in chains) rec_id record_id (λ x. refl) lists ∙ apart
+
+  pub shown_record : (id : ℕ)
+      → record_of record_id id (shown chains lists) ≡ option_map (record_in chains) (record_of rec_id id lists)
+  shown_record id = record-map (record_in chains) rec_id record_id (λ x. refl) id lists
+
+  pub shown_any : (id : ℕ) → list_any (is_id record_id id) (all_records (shown chains lists))
+      ≡ list_any (is_id rec_id id) (all_records lists)
+  shown_any id = any-map (record_in chains) rec_id record_id (λ x. refl) id lists
+
+  pub shown_without : (id : ℕ)
+      → shown chains (lists_without rec_id id lists) ≡ lists_without record_id id (shown chains lists)
+  shown_without id = without-map (record_in chains) rec_id record_id (λ x. refl) id lists
 
 sum_by-map : {X Y : Type 0} (g : Y → ℕ) (f : X → Y) (xs : List X) → sum_by g (map f xs) ≡ sum_by (λ x. g (f x)) xs
 sum_by-map g f [] = refl

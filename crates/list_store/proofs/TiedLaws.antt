@@ -1,7 +1,7 @@
 -- A record more or less in the slab, the orders and the map at once.
 use Rattle.list_store.proofs.Imports.{◌≡◌, ◌≢◌, inl, inr, ℕ, ◌<◌, ◌≤◌, Bool, true, false, cond, ◌==◌, List, [], ◌∷◌, ◌-◌, length, map, set, take, replicate, slice_get, zero, suc, Option, Some, None, is_some, option_map, unwrap_or, refl, sym, ap, ◌∙◌, subst, arith, IsSome, IfSome, IfNone, slice_index_or, list_all, list_any, remove, false≢true, eq-eqb, eqb-true, ltb-true, eqb_tells, length-map, drop_all, append-nil, Slab, get, Updates, pairwise, find_none, all_records, records_of, record_of, lists_with, lists_without, lists_replaced, replaced_by, ids_apart, stands, any_all, list_of-get_or, IsPlaced, record_there, taken_there, without_absent, apart-with, apart-without, apart-changed, gone, placed_at, spot_there, no_spot, header_within, records_of-map, get-map, with-map, removed-map, stands_new, stands_more, stands_either, stands_at, stands_still, stands_before, place_stands, agree, any_stands, any_key, twice, Rec, rec_id, no_rec, rec_at, lists_at, spot_for, Writes, IsHeld, IsFound, IsTied, is_few}
 use Rattle.cf_lists.specs.Lists.{is_id, spot_of}
-use Rattle.list_store.proofs.VecLaws.{list_all-get_or}
+use Rattle.list_store.proofs.VecLaws.{list_all-get_or, all-replicate}
 
 -- the record under a key
 pub at_is : (slab : Slab Rec) (k : ℕ) (rec : Rec) → get slab k ≡ Some rec → rec_at slab k ≡ rec
@@ -320,16 +320,12 @@ pub no_lists : (slab : Slab Rec) (n : ℕ) → lists_at slab (replicate n []) �
 no_lists slab zero = refl
 no_lists slab (suc n) = ap (λ (l : List (List Rec)). [] ∷ l) (no_lists slab n)
 
-no_all : {X : Type 0} (n : ℕ) → all_records {X = X} (replicate n []) ≡ []
-no_all zero = refl
-no_all (suc n) = no_all n
-
 pub new_tied : (slab : Slab Rec) (orders : List (List ℕ)) (spots : List (ℕ × (ℕ × ℕ))) (n : ℕ)
     → orders ≡ replicate n [] → spots ≡ [] → IsTied slab orders spots
 new_tied slab orders spots n o s = subst (λ (l : List (List ℕ)). IsTied slab l spots) (sym o)
     (subst (λ (l : List (ℕ × (ℕ × ℕ))). IsTied slab (replicate n []) l) (sym s) (record {
       apart = ap (λ (l : List (List Rec)). pairwise (ids_apart rec_id) (all_records l)) (no_lists slab n)
-          ∙ ap (λ (l : List Rec). pairwise (ids_apart rec_id) l) (no_all n);
+          ∙ ap (λ (l : List Rec). pairwise (ids_apart rec_id) l) (all-replicate n);
       held = λ h k st. absurd (no_keys n h k st);
       found = λ id h k f. absurd (no_spot_left None (h, k) refl f);
     }))

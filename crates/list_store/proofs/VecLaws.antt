@@ -78,3 +78,6 @@ few-removed lists h p new lt within made few = grind (
   lt-ltb,
   ltb-true,
 )
+
+-- the orders of the lists as one is changed
+pub ruleset orders_told = (list_of-in, orders_in-set, orders_in-kept, few-more, few-removed, place-less, places-more)

@@ -19,6 +19,7 @@ fn insert_at(keys: &mut Vec<u32>, at: usize, key: u32)
 }
 
 /// A key comes to a place of a header.
+#[tactic(auto, using(crate::proofs::VecLaws::orders_told))]
 pub(crate) fn put(lists: &mut Vec<Vec<u32>>, header: usize, place: usize, key: u32)
     requires header { header < vec_len lists.old }
     requires place { place ≤ length (records_of (orders_in lists.old.items) header) }
@@ -33,6 +34,7 @@ pub(crate) fn put(lists: &mut Vec<Vec<u32>>, header: usize, place: usize, key: u
 }
 
 /// Takes out the key at a place of a header.
+#[tactic(auto, using(crate::proofs::VecLaws::orders_told))]
 pub(crate) fn take_at(lists: &mut Vec<Vec<u32>>, header: usize, place: usize) -> u32
     requires header { header < vec_len lists.old }
     requires place { place < length (records_of (orders_in lists.old.items) header) }
@@ -63,6 +65,7 @@ fn reserve_one(keys: &mut Vec<u32>) -> Result<(), NoMemory>
 }
 
 /// Takes room for one key more in each header.
+#[tactic(auto, using(crate::proofs::VecLaws::orders_told))]
 pub(crate) fn reserve(lists: &mut Vec<Vec<u32>>) -> Result<(), NoMemory>
     ensures lists { orders_in lists.new.items ≡ orders_in lists.old.items }
     ensures len { vec_len lists.new ≡ vec_len lists.old }

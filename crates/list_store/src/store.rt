@@ -35,6 +35,7 @@ impl Model for Store {
 
 impl Store {
     /// No records, in so many headers, and so many elements, all free.
+    #[tactic(auto, using(crate::proofs::StoreLaws::held_none))]
     pub fn new(alloc: Global, _entries: u32, elements: u32, headers: u32) -> Result<Store, NoMemory>
         ensures lists { IfOk result (λ store. store.lists ≡ replicate headers []) }
         ensures chains { IfOk result (λ store. store.chains ≡ replicate elements None) }
@@ -145,6 +146,7 @@ impl Store {
     }
 
     /// Takes out the record with an id; no record has its chain then.
+    #[tactic(auto, using(crate::proofs::StoreLaws::shown_record))]
     pub fn take(&mut self, id: EntryId) -> Option<Rec>
         ensures record { option_map (record_in self.old.chains) result
             ≡ record_of id self.old.lists }
@@ -209,6 +211,7 @@ impl Store {
     }
 
     /// Puts bytes into a new chain, which no record has. It takes no memory.
+    #[tactic(auto, using(crate::proofs::StoreLaws::new_fresh))]
     pub fn put_body(&mut self, bytes: &[u8]) -> Result<Chain, NoElements>
         requires some { 1 ≤ length bytes.now }
         requires few { length bytes.now ≤ 4096 }
@@ -237,6 +240,7 @@ impl Store {
     }
 
     /// The bytes of a chain, 1 to 4,096 of them.
+    #[tactic(auto, using(crate::proofs::StoreLaws::data_size))]
     pub fn read_body(&self, alloc: Global, chain: &Chain) -> Result<Vec<u8>, NoMemory>
         requires { IsChain self.now.chains chain.now.head }
         ensures bytes { IfOk result (λ bytes. slice_get self.now.chains chain.now.head

@@ -250,6 +250,7 @@ pub(crate) fn put_in_place(
 }
 
 /// Takes out the record with an id.
+#[tactic(auto, using(cf_lists::proofs::RecordSpotLaws::get_within))]
 pub(crate) fn take_out(
     slab: &mut Slab<Rec>,
     orders: &mut Vec<Vec<u32>>,

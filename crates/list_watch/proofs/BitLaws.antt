@@ -1,5 +1,5 @@
 -- The bits that change when monitors come, turn and end.
-use Rattle.list_watch.proofs.Imports.{◌≡◌, ℕ, Bool, true, false, not, ◌&&◌, ◌||◌, ◌==◌, if◌then◌else◌, List, [], ◌∷◌, ◌++◌, filter, map, refl, sym, ap, ◌∙◌, inl, inr, ◌⊎◌, arith, list_any, list_all, and_parts, false≢true, eqb-true, nat_tests, list_all-map, list_any-append, any-filter_same, ConnId, BitChange, Gains, bits_told, difference, gains_none, gains_one, gains_then, pairwise, none_from_all, list_all_weaker, Watched, is_at, is_for, places_apart, monitors_of, is_lit, bit_of, row_turned, change_to, differs, turn_changes, rows_put}
+use Rattle.list_watch.proofs.Imports.{◌≡◌, ℕ, Bool, true, false, not, ◌&&◌, ◌||◌, ◌==◌, if◌then◌else◌, List, [], ◌∷◌, ◌++◌, filter, map, refl, sym, ap, ◌∙◌, inl, ◌⊎◌, arith, list_any, list_all, and_parts, false≢true, eqb-true, nat_tests, list_all-map, list_any-append, any-filter_same, ConnId, BitChange, Gains, bits_told, difference, gains_none, gains_one, gains_then, pairwise, none_from_all, list_all_weaker, Watched, is_at, is_for, places_apart, monitors_of, is_lit, bit_of, row_turned, change_to, differs, turn_changes, rows_put}
 
 -- ---- one monitor at most at an index
 
@@ -66,23 +66,14 @@ gains_ended p rows bits apart = grind (arith, ended_told)
 same_monitor : (header : ℕ) (full : Bool) (row : Watched) → (row_turned header full row).monitor ≡ row.monitor
 same_monitor header full row = grind arith
 
-turned_step : (header : ℕ) (full : Bool) (conn : ConnId) (index : ℕ) (row : Watched) (rows : List Watched)
-    (a b c : Bool) → stands_at conn index row ≡ a → (row.monitor.header == header) ≡ b → row.full ≡ c
-    → (a ≡ true → list_any (stands_at conn index) rows ≡ false) → bits_told (turn_changes header full rows)
-    conn index ≡ difference (bit_of rows conn index) (bit_of (map (row_turned header full) rows) conn index)
-    → bits_told (turn_changes header full (row ∷ rows)) conn index ≡ difference
-    (bit_of (row ∷ rows) conn index) (bit_of (map (row_turned header full) (row ∷ rows)) conn index)
-turned_step header full conn index row rows false b c e f g none ih = grind (arith, same_monitor)
-turned_step header true conn index row rows true b c e f g none ih = grind (arith, quiet, dark, dark_map, same_monitor)
-turned_step header false conn index row rows true b c e f g none ih = grind (arith, quiet, dark, dark_map, same_monitor)
-
 turned_told : (header : ℕ) (full : Bool) (conn : ConnId) (index : ℕ) (rows : List Watched)
     → pairwise places_apart (monitors_of rows) ≡ true → bits_told (turn_changes header full rows)
     conn index ≡ difference (bit_of rows conn index) (bit_of (map (row_turned header full) rows) conn index)
 turned_told header full conn index [] apart = refl
-turned_told header full conn index (row ∷ rows) apart = turned_step header full conn index
-    row rows (stands_at conn index row) (row.monitor.header == header) row.full refl refl
-    refl (none_later row rows conn index apart) (turned_told header full conn index rows (rest_apart row rows apart))
+turned_told header true conn index (row ∷ rows) apart =
+    grind (arith, quiet, dark, dark_map, same_monitor, none_later, rest_apart, turned_told header true conn index rows)
+turned_told header false conn index (row ∷ rows) apart =
+    grind (arith, quiet, dark, dark_map, same_monitor, none_later, rest_apart, turned_told header false conn index rows)
 
 pub gains_turned : (header : ℕ) (full : Bool) (rows : List Watched) (bits : List BitChange) → pairwise places_apart
     (monitors_of rows) ≡ true
@@ -175,25 +166,18 @@ two_once : (a b : ℕ) (x y : Bool) → ((a == b) ≡ true → y ≡ x)
     → (bit_of (map (row_turned a x) rows) conn index ≡ bit_of rows conn index) ⊎ (bit_of
     (map (row_turned b y) (map (row_turned a x) rows)) conn index ≡ bit_of (map (row_turned a x) rows) conn index)
 two_once a b x y same conn index [] apart = inl refl
-two_once a b x y same conn index (row ∷ rows) apart = go (stands_at conn index row) refl (none_later row rows
-    conn index apart) (two_once a b x y same conn index rows (rest_apart row rows apart)) (row_two a b x y same row)
-  where
-    go : (s : Bool) → stands_at conn index row ≡ s → (s ≡ true → list_any (stands_at conn index) rows ≡ false)
-        → (bit_of (map (row_turned a x) rows) conn index ≡ bit_of rows conn index)
-        ⊎ (bit_of (map (row_turned b y) (map (row_turned a x) rows))
-        conn index ≡ bit_of (map (row_turned a x) rows) conn index) → ((row_turned a x row).full ≡ row.full)
-        ⊎ ((row_turned b y (row_turned a x row)).full ≡ (row_turned a x row).full) → (bit_of (map
-        (row_turned a x) (row ∷ rows)) conn index ≡ bit_of (row ∷ rows) conn index) ⊎ (bit_of (map (row_turned b y)
-        (map (row_turned a x) (row ∷ rows))) conn index ≡ bit_of (map (row_turned a x) (row ∷ rows)) conn index)
-    go true e none rest (inl h) =
-        let dark0 = dark conn index rows (none refl) in
-        let dark1 = dark_map (row_turned a x) (same_monitor a x) conn index rows (none refl) in inl (grind arith)
-    go true e none rest (inr h) =
-        let there = stands_map (row_turned a x) (same_monitor a x) conn index rows ∙ none refl in
-        let dark1 = dark conn index (map (row_turned a x) rows) there in
-        let dark2 = dark_map (row_turned b y) (same_monitor b y) conn index (map (row_turned a x) rows) there in
-        inr (grind (arith, same_monitor))
-    go false e none rest own = grind (arith, same_monitor)
+two_once a b x y same conn index (row ∷ rows) apart =
+    let rest = rest_apart row rows apart in
+    grind (
+      arith,
+      dark,
+      dark_map,
+      stands_map,
+      same_monitor,
+      none_later,
+      row_two a b x y same row,
+      two_once a b x y same conn index rows rest,
+    )
 
 -- no bit changes twice, also where both are one header
 pub gains_two : (a b : ℕ) (x y : Bool) (rows : List Watched) (xs ys zs : List BitChange) → ((a == b) ≡ true → y ≡ x)

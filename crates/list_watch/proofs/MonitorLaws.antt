@@ -1,5 +1,5 @@
 -- Monitors stay one for an index and one for a header.
-use Rattle.list_watch.proofs.Imports.{◌≡◌, ℕ, ◌≤◌, Bool, true, not, ◌&&◌, ◌==◌, List, [], ◌∷◌, ◌++◌, filter, map, length, find, option_map, refl, sym, subst, arith, list_all, and_parts, nat_tests, map-append, list_all-map, ConnId, pairwise, list_all_weaker, list_all-filter_same, filter_none, none_from_all, pairwise-filter, pairwise_push, Monitor, Watched, is_for, is_replaced, monitors_with, monitors_without, monitors_of_others, places_apart, headers_apart, AreMonitors, monitors_of, rows_turned, rows_with, rows_without, rows_of_others, rows_put}
+use Rattle.list_watch.proofs.Imports.{◌≡◌, ℕ, ◌≤◌, Bool, true, not, ◌&&◌, ◌==◌, List, [], ◌∷◌, ◌++◌, filter, map, length, find, option_map, refl, sym, subst, arith, list_all, and_parts, nat_tests, map-append, list_all-map, ConnId, pairwise, list_all_weaker, list_all-filter_same, filter_none, none_from_all, pairwise-filter, pairwise_push, mapped_pairs, Monitor, Watched, is_for, is_replaced, monitors_with, monitors_without, monitors_of_others, places_apart, headers_apart, AreMonitors, monitors_of, rows_turned, rows_with, rows_without, rows_of_others, rows_put, length-filter-le}
 use Rattle.list_watch.proofs.BitLaws.{is_elsewhere, monitors-turned}
 
 -- ---- rows as monitors
@@ -14,14 +14,9 @@ pub filter-map : {X Y : Type 0} (p : Y → Bool) (f : X → Y) (xs : List X) →
 filter-map p f [] = refl
 filter-map {Y = Y} p f (x ∷ xs) = grind (arith, filter-map p f xs)
 
-pub pairwise-of_map : {X Y : Type 0} (relation : Y → Y → Bool) (f : X → Y) (xs : List X)
-    → pairwise relation (map f xs) ≡ pairwise (λ x y. relation (f x) (f y)) xs
-pairwise-of_map relation f [] = refl
-pairwise-of_map relation f (x ∷ xs) = grind (arith, list_all-map, pairwise-of_map relation f xs)
-
 pub monitors-filter : (p : Watched → Bool) (rows : List Watched) → AreMonitors (monitors_of rows)
     → AreMonitors (monitors_of (filter p rows))
-monitors-filter p rows are = grind (arith, pairwise-of_map, pairwise-filter)
+monitors-filter p rows are = grind (arith, mapped_pairs, pairwise-filter)
 
 pub monitors-turn : (header : ℕ) (full : Bool) (rows : List Watched) → AreMonitors (monitors_of rows)
     → AreMonitors (monitors_of (rows_turned header full rows))
@@ -99,3 +94,5 @@ monitors_of-without conn header rows = grind (arith, filter-map)
 pub monitors_of-others : (conn : ConnId) (rows : List Watched)
     → monitors_of (rows_of_others conn rows) ≡ monitors_of_others conn (monitors_of rows)
 monitors_of-others conn rows = grind (arith, filter-map)
+
+pub ruleset fewer = (length-filter-le)

@@ -219,6 +219,7 @@ impl Watch {
     }
 
     /// Ends a connector's monitor of a header, and tells whether there was one. Its bit is cleared.
+    #[tactic(auto, using(crate::proofs::MonitorLaws::fewer))]
     pub fn clear(&mut self, conn: ConnId, header: u32, out: &mut Effects) -> bool
         requires { length self.old.rows ≤ out.old.bits.room }
         ensures found { result ≡ list_any (λ row. is_for conn header row.monitor) self.old.rows }
@@ -235,6 +236,7 @@ impl Watch {
     }
 
     /// A header has records from now on, or has none: the bits of its monitors become so.
+    #[tactic(auto, using(crate::proofs::MonitorLaws::fewer, crate::proofs::BitLaws::gains_turned))]
     pub fn turned(&mut self, header: u32, full: bool, out: &mut Effects)
         requires { length self.old.rows ≤ out.old.bits.room }
         ensures rows { self.new.rows ≡ rows_turned header full self.old.rows }
@@ -258,6 +260,7 @@ impl Watch {
     }
 
     /// Ends a connector's monitors. The bit of each is cleared.
+    #[tactic(auto, using(crate::proofs::MonitorLaws::fewer))]
     pub fn drop_conn(&mut self, conn: ConnId, out: &mut Effects)
         requires { length self.old.rows ≤ out.old.bits.room }
         ensures rows { self.new.rows ≡ rows_of_others conn self.old.rows }

@@ -1,5 +1,5 @@
 -- What the engine keeps of its content.
-use Rattle.lock_core.proofs.Imports.{◌≡◌, ◌+◌, ◌≤◌, ◌<◌, ◌∷◌, List, Option, Some, None, false, Result, Ok, Err, OnOk, OnErr, ◌++◌, length, length-append, sym, ap, ◌∙◌, arith, length-map, length-take, Caps, ConnId, LockCmd, Waiter, Interest, Content, IsContent, records_in, items, need_of, content_with, content_without_last, with_returned, with_retained, cause, items_in, elements-items, entries-items, Plan, plan_for, LockItem, Owner, Waits, owner-next, waiter-next, content_placed, IsCounted}
+use Rattle.lock_core.proofs.Imports.{◌≡◌, ◌+◌, ◌≤◌, ◌<◌, ◌∷◌, List, Option, Some, None, false, Result, Ok, Err, OnOk, OnErr, ◌++◌, length, length-append, sym, ap, ◌∙◌, arith, length-map, length-take, Caps, ConnId, LockCmd, Waiter, Interest, Content, IsContent, records_in, items, need_of, content_with, content_without_last, with_returned, with_retained, cause, items_in, elements-items, entries-items, Plan, plan_for, LockItem, Owner, Waits, owner-next, waiter-next, content_placed, IsCounted, content-done, items-done}
 
 -- the need of a content is the number of its interests, and of its record data
 pub need-content : (content : Content)
@@ -49,3 +49,5 @@ kept_either caps result content now item placed same few next is counted = grind
 pub ok_weaker : (result : Result (Unit {0}) LockItem) {P Q : Type 0} → (P → Q) → OnOk result P → OnOk result Q
 ok_weaker (Ok u) h p = h p
 ok_weaker (Err back) h p = p
+
+pub ruleset done_told = (taken_is, plan_accepted, content-done, items-done)

@@ -1,5 +1,5 @@
 -- Waiters that are granted one after another.
-use Rattle.lock_core.proofs.Imports.{arith, ◌≡◌, ◌+◌, Bool, true, false, cond, ◌∷◌, [], List, Option, Some, None, length, filter, find, refl, sym, ap, ◌∙◌, subst, ◌≤◌, Resource, Part, same_part, same_part-eq, same_part-refl, length-filter-le, sum_by-filter-le, ConnId, Waiter, IsQueue, waiters_without_conn, is_on, waiter_of, first_of, waiters_without, may_own, Content, records_of, records_waiting, settlement_of, with_letters_before, grants, grant, held_by, content_granted, granted_letter, waiters_of-first, if_grantable, next_of}
+use Rattle.lock_core.proofs.Imports.{arith, ◌≡◌, ◌+◌, Bool, true, false, cond, ◌∷◌, [], List, Option, Some, None, length, filter, find, refl, sym, ap, ◌∙◌, subst, ◌≤◌, Resource, Part, same_part, same_part-eq, same_part-refl, length-filter-le, sum_by-filter-le, ConnId, Waiter, IsQueue, waiters_without_conn, is_on, waiter_of, first_of, waiters_without, may_own, Content, records_of, records_waiting, settlement_of, with_letters_before, grants, grant, held_by, content_granted, granted_letter, waiters_of-first, if_grantable, next_of, append-nil, waiters_without-last}
 use Rattle.cf_lists.proofs.KeyLaws as keys
 
 abbrev part_of : Waiter → Part
@@ -77,3 +77,7 @@ grant-none content r h = none_step content r (first_of r content.waiters) refl h
 pub fewer-left : (conn : ConnId) (waiters : List Waiter) → (length (waiters_without_conn conn waiters) ≤ length
     waiters) × (records_waiting (waiters_without_conn conn waiters) ≤ records_waiting waiters)
 fewer-left conn waiters = grind (arith, length-filter-le, sum_by-filter-le)
+
+pub ruleset grant_told = (grant-next, grant-none, append-nil)
+
+pub ruleset waits_told = (length-waits, records-waits, waiters_without-last)

@@ -1,32 +1,27 @@
 -- What proofs here name of other crates, and of this one's definitions. Declares nothing.
 pub use Rattle.cf_types.proofs.Imports.{length-map, length-take, slice_get-get_or, is_lock, Part, same_part}
 pub use Rattle.engine_api.proofs.Imports.{first_refusal, Held}
-pub use Rattle.lock_model.proofs.Imports.{settlement_of, with_letters_before, grants, grant, held_by, content_granted, granted_letter, Settlement, grant_each, lock_meaning, cause, OwnersAreCompatible, is_due, AreInterests, records_refusal}
-pub use Rattle.lock_queue.proofs.Imports.{IsQueue, waiters_without_conn, is_on, is_waiter, waiter_of, first_of, waiters_without, waiters_of, waiters_with, recorded_by, recorded_of, recorded_in}
-pub use Rattle.std.proofs.Common.{◌≡◌, ◌+◌, ◌-◌, ◌≤◌, ◌<◌, [], ◌∷◌, List, Option, Some, None, false, Result, Ok, Err, OnOk, OnErr, ◌++◌, length, length-append, sym, ap, subst, ◌∙◌, arith, Bool, true, cond, filter, find, refl, if◌then◌else◌, ◌||◌, is_some, option_map, drop, fold, IsTrue, append_assoc, append-nil, get_or}
-pub use Rattle.std.proofs.lemmas.List.Sums.{sum_by-cons, prefix_len-le-length, fold-append}
+pub use Rattle.lock_model.proofs.Imports.{settlement_of, with_letters_before, grants, grant, held_by, content_granted, granted_letter, Settlement, grant_each, lock_meaning, cause, OwnersAreCompatible, records_refusal}
+pub use Rattle.lock_queue.proofs.Imports.{IsQueue, waiters_without_conn, is_on, waiter_of, first_of, waiters_without, waiters_of, waiters_with, recorded_by, recorded_of, recorded_in}
+pub use Rattle.std.proofs.Common.{◌≡◌, ◌+◌, ◌-◌, ◌≤◌, ◌<◌, [], ◌∷◌, List, Option, Some, None, false, Result, Ok, Err, OnOk, OnErr, ◌++◌, length, length-append, sym, ap, subst, ◌∙◌, arith, Bool, true, cond, filter, find, refl, if◌then◌else◌, drop, fold, append_assoc, append-nil, get_or}
+pub use Rattle.std.proofs.lemmas.List.Sums.{sum_by-cons, prefix_len-le-length}
 pub use Rattle.std.specs.List.{list_any, slice_get}
-pub use Rattle.cf_lists.proofs.FilterLaws.{length-filter-le, sum_by-filter-le, filter_swap, any_is_found}
+pub use Rattle.cf_lists.proofs.FilterLaws.{length-filter-le, sum_by-filter-le, filter_swap}
 pub use Rattle.cf_lists.proofs.InsertionLaws.{insert-prefix_len}
 pub use Rattle.cf_types.proofs.ResourceLaws.{same_part-eq, same_part-refl}
-pub use Rattle.cf_types.specs.declared.forms.Caps.{Caps}
-pub use Rattle.cf_types.specs.declared.lock_commands.Decision.TheVariants.{Deny}
-pub use Rattle.cf_types.specs.declared.lock_commands.LockCmd.{LockCmd}
-pub use Rattle.cf_types.specs.declared.numbers.ConnId.{ConnId}
-pub use Rattle.cf_types.specs.declared.refusals.Refusal.{Refusal}
-pub use Rattle.cf_types.specs.declared.refusals.Refusal.TheVariants.{NoRecord}
 pub use Rattle.cf_types.specs.declared.resources.Resource.{Resource}
+pub use Rattle.cf_types.specs.declared.{forms.Caps.Caps, lock_commands.Decision.TheVariants.Deny}
+pub use Rattle.cf_types.specs.declared.{lock_commands.LockCmd.LockCmd, numbers.ConnId.ConnId}
+pub use Rattle.cf_types.specs.declared.{refusals.Refusal.Refusal, refusals.Refusal.TheVariants.NoRecord}
 pub use Rattle.engine_api.proofs.FrontLaws.{content-placed}
-pub use Rattle.engine_api.proofs.ReadyLaws.{le-trans}
-pub use Rattle.lock_interests.proofs.ReadLaws.{records_of_within}
-pub use Rattle.lock_model.proofs.CommandLaws.{content-done, items-done, none_hold}
+pub use Rattle.lock_model.proofs.CommandLaws.{content-done, items-done}
 pub use Rattle.lock_model.proofs.ContentLaws.{items_in}
 pub use Rattle.lock_model.proofs.DepartureLaws.{led_departed, content-returned}
 pub use Rattle.lock_model.proofs.EngineLaws.{elements-items, entries-items, back-content}
 pub use Rattle.lock_model.proofs.ItemLaws.{owner-next, waiter-next, waiters_of-first, lock-fronts, content-without_last, waiters_without-last}
 pub use Rattle.lock_model.specs.Contents.{Content, IsContent, records_in, items, need_of, content_with, content_without_last, records_of, records_waiting}
 pub use Rattle.lock_model.specs.Departures.{with_returned, with_retained, resources_with, departure_of, interests_left, resources_of}
-pub use Rattle.lock_model.specs.Interests.{Interest, may_own, manager_of, interests_without}
+pub use Rattle.lock_model.specs.Interests.{Interest, may_own, interests_without}
 pub use Rattle.lock_model.specs.Refusals.{record_refusal}
 pub use Rattle.lock_model.specs.declared.items.LockItem.{LockItem}
 pub use Rattle.lock_model.specs.declared.items.LockItem.TheVariants.{Owner, Waits}
@@ -36,3 +31,4 @@ pub use Rattle.lock_core.specs.EngineView.{IsCounted, EngineView}
 pub use Rattle.lock_core.specs.Plans.{plan_for}
 pub use Rattle.lock_core.specs.Stock.{content_placed, if_grantable, next_of, HasRoom, Stock}
 pub use Rattle.lock_core.specs.declared.plans.Plan.{Plan}
+pub use Rattle.engine_api.proofs.CauseLaws.{none_hold}

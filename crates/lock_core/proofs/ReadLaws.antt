@@ -1,12 +1,7 @@
 -- What is read of waiters and of interests, and what is found among them.
-use Rattle.lock_core.proofs.Imports.{◌≡◌, ◌+◌, ◌≤◌, Bool, if◌then◌else◌, List, [], ◌∷◌, Option, Some, None, is_some, option_map, filter, find, refl, arith, list_any, sum_by-cons, any_is_found, Waiter, waiter_of, waiters_with, recorded_by, recorded_of, recorded_in, IsQueue, recorded_less, recorded_more, Interest, records_of, records_waiting, record_refusal, Refusal, NoRecord, first_refusal}
+use Rattle.lock_core.proofs.Imports.{◌≡◌, ◌+◌, ◌≤◌, Bool, if◌then◌else◌, List, [], ◌∷◌, Option, Some, None, filter, refl, arith, list_any, sum_by-cons, Waiter, waiter_of, waiters_with, recorded_by, recorded_of, recorded_in, IsQueue, recorded_less, recorded_more, Interest, records_of, records_waiting, record_refusal, Refusal, NoRecord, first_refusal, prefix_len-le-length, insert-prefix_len, length-filter-le, sum_by-filter-le}
 
 -- ---- one that is found
-
--- something passes where what was found of it is some
-pub any_by : {X Y : Type 0} (f : X → Y) (p : Y → Bool) (o : Option X) (ys : List Y) → option_map f o ≡ find p ys
-    → is_some o ≡ list_any p ys
-any_by f p o ys e = grind (arith, any_is_found)
 
 pub record_refusal-any : (p : Interest → Bool) (is : List Interest) → record_refusal (filter p is) ≡
     (if list_any p is then None else Some NoRecord)
@@ -41,3 +36,9 @@ pub waiting-without : (w : Waiter) (waiters : List Waiter) → IsQueue waiters
     → recorded_of (waiter_of w.r w.conn waiters) ≤ records_waiting waiters
 waiting-without w waiters queue =
     omega (arith, recorded_less w.r w.conn waiters queue.one_each, recorded-waiting waiters)
+
+pub ruleset refusal_told = (first_of_one, record_refusal-any)
+
+pub ruleset waiting_told = (waiting-counted_with, waiting-without)
+
+pub ruleset fewer = (length-filter-le, sum_by-filter-le, insert-prefix_len, prefix_len-le-length)

@@ -25,6 +25,7 @@ fn place_of(list: &[Resource], r: &Resource) -> usize
 }
 
 // A resource, in its place.
+#[tactic(auto, using(crate::proofs::ReadLaws::fewer))]
 fn insert(list: &mut Vec<Resource>, r: &Resource) -> Result<(), NoMemory>
     ensures { OnOk result (list.new.items ≡ insertion (λ other. resource_before other r.now) r.now
         list.old.items) }

@@ -122,6 +122,7 @@ impl Engine for LockEngine {
         Ok(())
     }
 
+    #[tactic(auto, using(crate::proofs::EngineLaws::done_told))]
     fn apply(
         &mut self,
         by: ConnId,

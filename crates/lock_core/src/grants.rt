@@ -8,6 +8,7 @@ use crate::locks::Locks;
 use cf_types::{Effects, Resource};
 
 /// The grant rule for a resource.
+#[tactic(auto, using(crate::proofs::GrantLaws::grant_told))]
 pub(crate) fn grant(locks: &mut Locks, r: &Resource, out: &mut Effects)
     requires room { HasRoom 0 locks.old }
     requires letters { length (grant r.now locks.old.content).letters ≤ out.old.mail.room }

@@ -123,7 +123,7 @@ fn records_brought(w: Option<&Waiter>) -> usize
 }
 
 // How many have record data once one more waits.
-#[tactic(auto, using(lock_interests::proofs::ReadLaws::records_of_within))]
+#[tactic(auto, using(lock_interests::proofs::ReadLaws::records_of_within, crate::proofs::ReadLaws::waiting_told))]
 fn count_waiting_with(queue: &Queue, w: &Waiter) -> usize
     ensures count { result ≡ records_waiting (waiters_with w.now queue.now.waiters) }
     ensures few { result ≤ 4294967296 }
@@ -164,6 +164,7 @@ impl Locks {
     }
 
     /// A waiter is granted, and told so.
+    #[tactic(auto, using(crate::proofs::GrantLaws::waits_told))]
     pub(crate) fn grant_one(&mut self, w: &Waiter, out: &mut Effects)
         requires waits { waiter_of w.now.r w.now.conn self.old.content.waiters ≡ Some w.now }
         requires queue { IsQueue self.old.content.waiters }
@@ -229,6 +230,7 @@ impl Locks {
     }
 
     /// A waiter is denied, and told so.
+    #[tactic(auto, using(crate::proofs::ReadLaws::fewer))]
     pub(crate) fn deny(&mut self, r: &Resource, conn: ConnId, out: &mut Effects)
         requires room { HasRoom 1 self.old }
         requires letter { 1 ≤ out.old.mail.room }
@@ -248,6 +250,7 @@ impl Locks {
     }
 
     /// A connector neither owns a resource nor waits for it any more.
+    #[tactic(auto, using(crate::proofs::ReadLaws::fewer))]
     pub(crate) fn end_part(&mut self, r: &Resource, conn: ConnId)
         ensures content { self.new.content ≡ rt_delete.content_unowned r.now conn self.old.content }
         ensures room { HasRoom 1 self.old → HasRoom 0 self.new }
@@ -468,6 +471,7 @@ impl Locks {
     }
 
     // The last waiter goes.
+    #[tactic(auto, using(crate::proofs::GrantLaws::waits_told))]
     fn drop_last_waiter(&mut self)
         requires { 0 < length self.old.content.waiters }
         ensures content { self.new.content ≡ record self.old.content

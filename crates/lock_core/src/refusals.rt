@@ -19,7 +19,7 @@ use lock_queue::{Queue, Waiter};
 pub(crate) type Judged = Result<(), Refusal>;
 
 // Whether a connector waits for a resource.
-#[tactic(auto, using(crate::proofs::ReadLaws::any_by))]
+#[tactic(auto, using(lock_interests::proofs::OwnerLaws::found_any))]
 fn waits(queue: &Queue, r: &Resource, conn: ConnId) -> bool
     ensures { result ≡ waits r.now conn queue.now.waiters }
 {

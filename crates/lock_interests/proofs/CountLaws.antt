@@ -1,8 +1,8 @@
 -- Record data are as many as the interests that have them, where each is of an owner.
-use Rattle.lock_interests.proofs.Imports.{◌≡◌, ℕ, suc, ◌+◌, Bool, true, false, not, ◌&&◌, ◌||◌, ◌==◌, cond, List, [], ◌∷◌, Option, Some, None, is_some, option_map, filter, find, map, length, refl, sym, ap, ◌∙◌, subst, arith, list_any, list_all, and_parts, and_from, false≢true, filter_agree, length-filter_both, ConnId, Resource, Part, same_part, resource_up_to, same_part-eq, same_part-refl, same_part_comm, filter_nothing, any_is_found, find-filter, list_any-map, list_all_weaker, list_all-filter, list_all-insertion, list_any-insertion, length-insertion, none_later, length_without, Held, is_interest, has_interest, owners_with, owners_without, in_state, in_retention_of, IsOwners, owners-with, owners-in_state, Waiter, Record, is_record, is_of, record_of, has_record, records_with, records_without, records_without_conn, AreRecords, records-filter, records-with, Interest, interests_with, interests_changed, records_of, records_owned, stays, with_alteration, with_record, interests_of, records_put, records_given, AreOwned}
+use Rattle.lock_interests.proofs.Imports.{◌≡◌, ℕ, suc, ◌+◌, Bool, true, false, not, ◌&&◌, ◌||◌, cond, List, [], ◌∷◌, Option, Some, None, is_some, option_map, filter, find, map, length, refl, sym, ap, ◌∙◌, subst, arith, list_any, list_all, and_parts, and_from, false≢true, filter_agree, length-filter_both, ConnId, Resource, Part, same_part, same_part-eq, same_part-refl, same_part_comm, filter_nothing, any_is_found, find-filter, list_any-map, list_all_weaker, list_all-filter, list_all-insertion, list_any-insertion, length-insertion, none_later, length_without, Held, is_interest, has_interest, owners_with, owners_without, in_state, in_retention_of, IsOwners, owners-with, owners-in_state, Waiter, Record, is_record, record_of, has_record, records_with, records_without, records_without_conn, AreRecords, records-filter, records-with, Interest, interests_with, interests_changed, records_of, records_owned, stays, with_alteration, with_record, interests_of, records_put, records_given, AreOwned}
 use Rattle.lock_model.specs.Interests as interests
-use Rattle.lock_interests.proofs.JoinLaws.{joined-with, joined-changed}
-use Rattle.lock_interests.proofs.ReadLaws.{records-joined}
+use Rattle.lock_interests.proofs.{JoinLaws.joined-with, JoinLaws.joined-changed, ReadLaws.records-joined}
+use Rattle.lock_interests.proofs.JoinLaws.{joined-without, joined-unrecorded}
 
 -- whose an interest is, and whose record data are
 abbrev pub part_of : Held → Part
@@ -23,8 +23,7 @@ either_step false false x us vs ws h e = e
 count_either : {X : Type 0} (a b : X → Bool) → ((x : X) → a x ≡ true → b x ≡ false) → (xs : List X)
     → length (filter (λ x. a x || b x) xs) ≡ length (filter a xs) + length (filter b xs)
 count_either a b h [] = refl
-count_either a b h (x ∷ xs) =
-    either_step (a x) (b x) x (filter (λ y. a y || b y) xs) (filter a xs) (filter b xs) (h x) (count_either a b h xs)
+count_either a b h (x ∷ xs) = grind (arith, either_step, count_either a b h xs)
 
 some_found : {X : Type 0} (o : Option X) → is_some o ≡ true → (x : X) × (o ≡ Some x)
 some_found None e = absurd (false≢true e)
@@ -52,17 +51,13 @@ counted_once : (owners : List Held) (records : List Record) → IsOwners owners 
     → AreOwned owners records → length (filter (λ held. has_record held.r held.conn records) owners) ≡ length records
 counted_once owners [] are kept owned = ap length (filter_nothing owners)
 counted_once owners (x ∷ xs) are kept owned =
-    let here = and_parts (has_interest x.r x.conn owners)
-    (list_all (λ (y : Record). has_interest y.r y.conn owners) xs) owned in
-    let split = count_either (λ (held : Held). same_part (datum_part x) (part_of held)) (λ (held : Held). has_record
-    held.r held.conn xs) (λ held e. subst (λ (p : Part). has_record p.0 p.1 xs ≡ false) (same_part-eq (datum_part x)
-    (part_of held) e) (none_later datum_part same_part same_part-eq same_part-refl x xs kept.one_each)) owners in
-    let mine : length (filter (λ (held : Held). same_part (datum_part x) (part_of held)) owners) ≡ 1 =
-    ap length (filter_agree (λ (held : Held). same_part (datum_part x) (part_of held)) (is_interest x.r x.conn)
-    (λ held. same_part_comm (datum_part x) (part_of held)) owners) ∙ one_owner (datum_part x) owners are here.0 in
+    let here = and_parts _ _ owned in
+    let split = count_either _ _ (λ held e. subst (λ (p : Part). has_record p.0 p.1 xs ≡ false) (grind
+    (arith, same_part-eq)) (none_later datum_part same_part same_part-eq same_part-refl x xs kept.one_each)) owners in
+    let mine =
+    ap length (filter_agree _ _ (λ held. same_part_comm _ (part_of held)) owners) ∙ one_owner _ owners are here.0 in
     let rest = counted_once owners xs are (later kept) here.1 in
-    split ∙ finish (length (filter (λ (held : Held). same_part (datum_part x) (part_of held)) owners))
-    (length (filter (λ (held : Held). has_record held.r held.conn xs) owners)) mine rest
+    split ∙ finish _ _ mine rest
   where
     finish : (m n : ℕ) → m ≡ 1 → n ≡ length xs → m + n ≡ suc (length xs)
     finish m n e f = omega (arith, e, f)
@@ -72,9 +67,8 @@ counted_once owners (x ∷ xs) are kept owned =
 
 pub records_counted : (owners : List Held) (records : List Record) → IsOwners owners → AreRecords records
     → AreOwned owners records → length records ≡ records_owned (interests_of owners records)
-records_counted owners records are kept owned = sym (counted_once owners records are kept owned) ∙ ap length
-    (filter_agree (λ (held : Held). has_record held.r held.conn records) (λ (held : Held). is_some (record_of
-    held.r held.conn records)) (λ held. sym (has_is_some records held)) owners) ∙ records-joined owners records
+records_counted owners records are kept owned = sym (counted_once _ _ are kept owned) ∙ ap length
+    (grind (arith, filter_agree, has_is_some)) ∙ records-joined owners _
 
 -- ---- each is of an owner, as owners and record data come, change and go
 
@@ -106,8 +100,7 @@ others_part r conn x other held same = subst (λ (p : Part). not (same_part p (r
 -- fewer record data
 pub owned-unrecorded : (r : Resource) (conn : ConnId) (owners : List Held) (records : List Record)
     → AreOwned owners records → AreOwned owners (records_without r conn records)
-owned-unrecorded r conn owners records owned =
-    list_all-filter (λ (x : Record). has_interest x.r x.conn owners) (λ x. not (is_record r conn x)) records owned
+owned-unrecorded r conn owners records owned = grind (arith, list_all-filter)
 
 -- a part goes, on both sides
 pub owned-without : (r : Resource) (conn : ConnId) (owners : List Held) (records : List Record)
@@ -136,11 +129,9 @@ owned_put : (held : Held) (rec : Option (List ℕ)) (owners : List Held) (record
     → AreOwned (owners_with held owners) (records_without held.r held.conn records)
     → AreOwned (owners_with held owners) (records_put held.r held.conn rec records)
 owned_put held None owners records owned = owned
-owned_put held (Some rec) owners records owned =
-    owned-recorded (record { r = held.r; conn = held.conn; rec = rec }) (owners_with held owners)
-    records (list_any-insertion (is_interest held.r held.conn) (λ (other : Held). resource_up_to other.r held.r)
-    held (owners_without held.r held.conn owners) ∙ or_left (is_interest held.r held.conn held) (list_any
-    (is_interest held.r held.conn) (owners_without held.r held.conn owners)) (same_part-refl (part_of held))) owned
+owned_put held (Some rec) owners records owned = owned-recorded _ (owners_with held owners)
+    records (list_any-insertion (is_interest held.r held.conn) _ held (owners_without held.r held.conn owners)
+    ∙ or_left (is_interest held.r held.conn held) _ (same_part-refl (part_of held))) owned
 
 pub owned-with : (held : Held) (rec : Option (List ℕ)) (owners : List Held) (records : List Record)
     → AreOwned owners records → AreOwned (owners_with held owners) (records_put held.r held.conn rec records)
@@ -155,8 +146,7 @@ owned-changed f same owners records owned = grind (arith, list_all_weaker, list_
 
 pub owned-retained : (conn : ConnId) (retained : Bool) (owners : List Held) (records : List Record)
     → AreOwned owners records → AreOwned (map (in_retention_of conn retained) owners) records
-owned-retained conn retained owners records owned =
-    owned-changed (in_retention_of conn retained) (λ r other held. refl) owners records owned
+owned-retained conn retained owners records owned = grind (arith, owned-changed)
 
 owned_given : (r : Resource) (conn : ConnId) (rec : Option (List ℕ)) (owners : List Held) (records : List Record)
     → has_interest r conn owners ≡ true → AreOwned owners records → AreOwned owners (records_given r conn rec records)
@@ -175,9 +165,7 @@ owned-altered r conn excl rec owners records has owned = grind (arith, owned-cha
 -- record data are there for whom they are
 all_have : (records : List Record) → list_all (λ (x : Record). has_record x.r x.conn records) records ≡ true
 all_have [] = refl
-all_have (x ∷ xs) =
-    and_from (has_record x.r x.conn (x ∷ xs)) (list_all (λ (y : Record). has_record y.r y.conn (x ∷ xs)) xs)
-    (or_left (is_record x.r x.conn x) (list_any (is_record x.r x.conn) xs) (same_part-refl (datum_part x)))
+all_have (x ∷ xs) = and_from _ _ (or_left _ _ (same_part-refl (datum_part x)))
     (list_all_weaker (λ (y : Record). has_record y.r y.conn xs) (λ (y : Record). has_record y.r y.conn (x ∷ xs))
     (λ y has. or_right (is_record y.r y.conn x) (list_any (is_record y.r y.conn) xs) has) xs (all_have xs))
 
@@ -185,32 +173,25 @@ and_both : {X : Type 0} (p q r : X → Bool) → ((x : X) → p x ≡ true → q
     → list_all p xs ≡ true → list_all q xs ≡ true → list_all r xs ≡ true
 and_both p q r h [] e f = refl
 and_both p q r h (x ∷ xs) e f =
-    let left = and_parts (p x) (list_all p xs) e in
-    let right = and_parts (q x) (list_all q xs) f in
-    and_from (r x) (list_all r xs) (h x left.0 right.0) (and_both p q r h xs left.1 right.1)
+    let left = and_parts _ _ e in
+    let right = and_parts _ _ f in
+    and_from _ _ (h x left.0 right.0) (and_both p q r h xs left.1 right.1)
 
 pub owned-kept : (conn : ConnId) (owners : List Held) (records : List Record) → AreOwned owners records → AreOwned
     (map (in_retention_of conn true) (filter (λ held. stays conn true (with_record records held)) owners)) records
 owned-kept conn owners records owned =
-    let left = filter (λ (held : Held). stays conn true (with_record records held)) owners in
-    owned-retained conn true left records (and_both (λ (x : Record). has_record x.r x.conn records)
-    (λ (x : Record). has_interest x.r x.conn owners) (λ (x : Record). has_interest x.r x.conn left)
-    (λ x has owns. found_kept x.r x.conn (λ (held : Held). stays conn true (with_record records held))
-    owners (λ held same. or_right (not (held.conn.0 == conn.0)) (is_some (record_of held.r held.conn records))
-    (has_is_some records held ∙ subst (λ (p : Part). has_record p.0 p.1 records ≡ true)
-    (sym (same_part-eq (part_of held) (datum_part x) same)) has)) owns) records (all_have records) owned)
+    let left = filter (λ held. stays conn true (with_record records held)) owners in
+    owned-retained conn true left _ (and_both _ _ _ (λ x has owns. found_kept x.r x.conn _
+    owners (λ held same. or_right _ _ (has_is_some _ held ∙ subst (λ p. has_record p.0 p.1 records ≡ true)
+    (sym (same_part-eq _ _ same)) has)) owns) records (all_have records) owned)
 
 pub owned-gone : (conn : ConnId) (owners : List Held) (records : List Record) → AreOwned owners records
     → AreOwned (map (in_retention_of conn true)
     (filter (λ held. stays conn false (with_record records held)) owners)) (records_without_conn conn records)
 owned-gone conn owners records owned =
-    let left = filter (λ (held : Held). stays conn false (with_record records held)) owners in
-    owned-retained conn true left (records_without_conn conn records) (all_filtered (λ (x : Record). has_interest x.r
-    x.conn owners) (λ (x : Record). has_interest x.r x.conn left) (λ x. not (is_of conn x))
-    (λ x other owns. found_kept x.r x.conn (λ (held : Held). stays conn false (with_record records held)) owners
-    (λ held same. or_left (not (held.conn.0 == conn.0)) (false && is_some (record_of held.r held.conn records)) (subst
-    (λ (p : Part). not (p.1.0 == conn.0) ≡ true) (sym (same_part-eq (part_of held) (datum_part x) same)) other)) owns)
-    records owned)
+    let left = filter (λ held. stays conn false (with_record records held)) owners in
+    owned-retained _ _ _ (records_without_conn conn records) (
+    grind (arith, all_filtered, found_kept, or_left, same_part-eq))
 
 -- ---- how many there are after a grant
 
@@ -227,10 +208,9 @@ records_put-kept r conn (Some rec) records kept = records-with (record { r = r; 
 pub counted-with : (held : Held) (rec : Option (List ℕ)) (owners : List Held) (records : List Record) → IsOwners
     owners → AreRecords records → AreOwned owners records → length (records_without held.r held.conn records) +
     records_of rec ≡ records_owned (interests_with (record { held = held; rec = rec }) (interests_of owners records))
-counted-with held rec owners records are kept owned = sym (length_put held.r held.conn rec records)
-    ∙ records_counted (owners_with held owners) (records_put held.r held.conn rec records)
-    (owners-with held owners are) (records_put-kept held.r held.conn rec records kept)
-    (owned-with held rec owners records owned) ∙ ap records_owned (joined-with held rec owners records)
+counted-with held rec owners records are kept owned = sym (length_put _ _ rec _)
+    ∙ records_counted _ _ (owners-with _ _ are) (records_put-kept _ _ rec _ kept) (owned-with _ rec _ _ owned)
+    ∙ ap records_owned (joined-with held rec _ _)
 
 given_kept : (r : Resource) (conn : ConnId) (rec : Option (List ℕ)) (records : List Record)
     → AreRecords records → AreRecords (records_given r conn rec records)
@@ -241,10 +221,8 @@ given_kept r conn (Some rec) records kept = records-with (record { r = r; conn =
 pub counted-altered : (w : Waiter) (owners : List Held) (records : List Record) → IsOwners owners → AreRecords records
     → AreOwned owners records → has_interest w.r w.conn owners ≡ true → length (records_given w.r w.conn
     w.rec records) ≡ records_owned (interests_changed w.r w.conn (with_alteration w) (interests_of owners records))
-counted-altered w owners records are kept owned has = records_counted (map (in_state w.r w.conn w.excl) owners)
-    (records_given w.r w.conn w.rec records) (owners-in_state w.r w.conn w.excl owners are)
-    (given_kept w.r w.conn w.rec records kept) (owned-altered w.r w.conn w.excl w.rec owners records has owned)
-    ∙ ap records_owned (joined-changed w owners records)
+counted-altered w owners records are kept owned has = records_counted _ _ (owners-in_state w.r _ _ _ are)
+    (given_kept w.r _ _ _ kept) (owned-altered w.r _ _ _ _ _ has owned) ∙ ap records_owned (joined-changed w owners _)
 
 -- and where there is none
 none_step : (b : Bool) (f : Interest → Interest) (x : Interest) (xs ys : List Interest) (c : Bool) → b || c ≡ false
@@ -290,3 +268,8 @@ pub counted-ungiven : (w : Waiter) (owners : List Held) (records : List Record)
     → length records ≡ records_owned (interests_changed w.r w.conn (with_alteration w) (interests_of owners records))
 counted-ungiven w owners records are kept owned ungiven =
     grind (arith, none_given, without_right, counted-altered, has-joined, records_counted, changed_none)
+
+-- what a command does to owners and record data it does to interests
+pub ruleset changes_told = (joined-with, owned-with, joined-without, owned-without, joined-unrecorded, owned-unrecorded)
+
+pub ruleset counts_told = (counted-given, counted-ungiven)

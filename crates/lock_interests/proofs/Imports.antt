@@ -1,8 +1,8 @@
 -- What proofs here name of other crates, and of this one's definitions. Declares nothing.
 pub use Rattle.cf_types.proofs.Imports.{YieldsList-from_first, append_assoc, length-map, filter_agree, length-filter_both, sum_by-cons, option_or, Part, same_part, resource_up_to, same_resource}
 pub use Rattle.cf_lists.proofs.Imports.{insertion, pairwise}
-pub use Rattle.lock_model.proofs.Imports.{records_of, records_owned, stays, with_retained, interests_left, with_alteration, held_by}
-pub use Rattle.lock_record.proofs.Imports.{stands_before, is_record, is_of, record_of, has_record, records_with, records_without, records_without_conn, AreRecords}
+pub use Rattle.lock_model.proofs.Imports.{records_of, records_owned, stays, with_retained, interests_left, with_alteration}
+pub use Rattle.lock_record.proofs.Imports.{is_record, is_of, record_of, has_record, records_with, records_without, records_without_conn, AreRecords}
 pub use Rattle.lock_table.proofs.Imports.{owners_left, is_interest, has_interest, owners_with, owners_without, in_state, in_retention_of, IsOwners, is_on, is_by, owners_of, owners_retained, owners_without_active, in_retention, are_apart, resource_of}
 pub use Rattle.std.proofs.Common.{◌≡◌, ℕ, suc, ◌+◌, Bool, true, false, not, ◌&&◌, ◌||◌, ◌==◌, cond, List, [], ◌∷◌, Option, Some, None, is_some, option_map, filter, find, map, length, refl, sym, ap, ◌∙◌, subst, arith, zero, ◌<◌, ◌++◌, drop, get_or, if◌then◌else◌, option_to_list, ◌≤◌, ◌-◌, subst₂, rules, tests}
 pub use Rattle.std.proofs.lemmas.Bool.{and_parts, and_from, false≢true, eqb-true}
@@ -13,10 +13,9 @@ pub use Rattle.cf_lists.proofs.FilterLaws.{filter_nothing, any_is_found, find-fi
 pub use Rattle.cf_lists.proofs.ImageLaws.{map-filtered, map-insertion, map-either, map-both}
 pub use Rattle.cf_lists.proofs.InsertionLaws.{list_all-insertion, list_any-insertion, length-insertion, find-insertion_past, find-insertion_here}
 pub use Rattle.cf_lists.proofs.KeyLaws.{none_later, length_without, later_apart, AllFound, found_filter}
-pub use Rattle.cf_types.proofs.ResourceLaws.{same_part-eq, same_part-refl, same_part_comm, same_resource_comm}
-pub use Rattle.cf_types.specs.declared.events.Letter.{Letter}
-pub use Rattle.cf_types.specs.declared.numbers.ConnId.{ConnId}
+pub use Rattle.cf_types.proofs.ResourceLaws.{same_part-eq, same_part-refl, same_part_comm, same_resource_comm, both_implied}
 pub use Rattle.cf_types.specs.declared.resources.Resource.{Resource}
+pub use Rattle.cf_types.specs.declared.{events.Event.Event, events.Letter.Letter, numbers.ConnId.ConnId}
 pub use Rattle.lock_model.proofs.ItemLaws.{interests_without-last}
 pub use Rattle.lock_model.specs.Commands.RtDelete.{without_record}
 pub use Rattle.lock_model.specs.Interests.{Interest, interests_with, interests_changed, interests_without, are_compatible, may_own, manager_of, interest_of, AreInterests}

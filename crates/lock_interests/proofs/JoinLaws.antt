@@ -1,6 +1,5 @@
 -- Interests with their record data, as owners and record data come, change and go.
-use Rattle.lock_interests.proofs.Imports.{arith, ◌≡◌, ℕ, Bool, true, false, not, ◌&&◌, ◌||◌, cond, List, Option, Some, None, option_map, filter, map, refl, sym, ap, subst, ◌∙◌, option_or, false≢true, ConnId, Resource, Part, same_part, resource_up_to, same_part-eq, same_part-refl, same_part_comm, insertion, find-filter, find_none, none_filtered, find-insertion_past, find-insertion_here, Held, is_interest, owners_with, owners_without, in_state, in_retention_of, Waiter, Record, stands_before, is_record, record_of, records_with, records_without, records_without_conn, Interest, interests_with, interests_without, interests_changed, with_alteration, stays, with_retained, interests_left, without_record, with_record, interests_of, records_put, records_given, map-filtered, map-insertion, map-either, map-both}
-use Rattle.lock_model.specs.Interests as interests
+use Rattle.lock_interests.proofs.Imports.{arith, ◌≡◌, ℕ, Bool, true, false, not, ◌&&◌, ◌||◌, cond, List, Option, Some, None, option_map, filter, map, refl, sym, ap, subst, ◌∙◌, option_or, false≢true, ConnId, Resource, Part, same_part, resource_up_to, same_part-eq, same_part-refl, same_part_comm, insertion, find-filter, find_none, none_filtered, find-insertion_past, find-insertion_here, Held, is_interest, owners_with, owners_without, in_state, in_retention_of, Waiter, Record, is_record, record_of, records_with, records_without, records_without_conn, Interest, interests_with, interests_without, interests_changed, with_alteration, stays, with_retained, interests_left, without_record, with_record, interests_of, records_put, records_given, map-filtered, map-insertion, map-either, map-both}
 
 -- ---- record data of one part, and of others
 
@@ -24,14 +23,12 @@ own_without r conn records = ap data_of
 
 other_with : (new : Record) (held : Held) (records : List Record) → is_interest new.r new.conn held ≡ false
     → record_of held.r held.conn (records_with new records) ≡ record_of held.r held.conn records
-other_with new held records h = ap data_of (find-insertion_past
-    (is_record held.r held.conn) (λ other. stands_before other new) new (records_without new.r new.conn records)
-    (same_part_comm (new.r, new.conn) (held.r, held.conn) ∙ h)) ∙ other_without new.r new.conn held records h
+other_with new held records h = ap data_of (find-insertion_past (is_record held.r held.conn)
+    _ new _ (same_part_comm (new.r, new.conn) (held.r, held.conn) ∙ h)) ∙ other_without new.r new.conn held records h
 
 own_with : (new : Record) (records : List Record) → record_of new.r new.conn (records_with new records) ≡ Some new.rec
-own_with new records =
-    ap data_of (find-insertion_here (is_record new.r new.conn) (λ other. stands_before other new) new (records_without
-    new.r new.conn records) (same_part-refl (new.r, new.conn)) (none_filtered (is_record new.r new.conn) records))
+own_with new records = ap data_of (find-insertion_here (is_record new.r new.conn) _ new _
+    (same_part-refl (new.r, new.conn)) (none_filtered _ records))
 
 other_put : (r : Resource) (conn : ConnId) (rec : Option (List ℕ)) (held : Held) (records : List Record)
     → is_interest r conn held ≡ false
@@ -69,8 +66,7 @@ without_others r conn owners records others h = grind (arith, map-filtered, fals
 pub joined-without : (r : Resource) (conn : ConnId) (owners : List Held) (records : List Record)
     → interests_of (owners_without r conn owners) (records_without r conn records) ≡ interests_without r conn
     (interests_of owners records)
-joined-without r conn owners records = without_others r conn
-    owners records (records_without r conn records) (λ held h. other_without r conn held records h)
+joined-without r conn owners records = without_others r _ _ _ _ (λ held h. other_without r _ held _ h)
 
 -- one interest more
 pub joined-with : (held : Held) (rec : Option (List ℕ)) (owners : List Held) (records : List Record)
@@ -79,21 +75,17 @@ pub joined-with : (held : Held) (rec : Option (List ℕ)) (owners : List Held) (
 joined-with held rec owners records =
     let others = records_put held.r held.conn rec records in
     let ahead : Interest → Bool = λ other. resource_up_to other.held.r held.r in
-    map-insertion (with_record others)
-    (λ other. resource_up_to other.r held.r) ahead held (λ y. refl) (owners_without held.r held.conn owners)
-    ∙ ap (λ i. insertion ahead i (interests_of (owners_without held.r held.conn owners) others)) (ap
-    (interest held) (own_put held.r held.conn rec records)) ∙ ap (insertion ahead (interest held rec)) (without_others
-    held.r held.conn owners records others (λ other h. other_put held.r held.conn rec other records h))
+    map-insertion _ _ ahead held (λ y. refl) _ ∙ ap (λ i. insertion
+    ahead i (interests_of (owners_without held.r held.conn owners) others)) (ap (interest held) (own_put _ _ rec _)) ∙
+    ap (insertion ahead (interest held rec)) (without_others _ _ _ _ _ (λ other h. other_put held.r _ rec other _ h))
 
 changed_step : (b : Bool) (w : Waiter) (held : Held) (records : List Record) → is_interest w.r w.conn held ≡ b
     → interest (record held { excl = cond b w.excl held.excl }) (record_of held.r held.conn (records_given
     w.r w.conn w.rec records)) ≡ cond b (with_alteration w (with_record records held)) (with_record records held)
 changed_step true w held records h =
-    let part : same_part (held.r, held.conn) (w.r, w.conn) ≡ true = h in
-    let given : record_of held.r held.conn (records_given w.r w.conn w.rec records) ≡ option_or
-    w.rec (record_of held.r held.conn records) = subst (λ (p : Part). record_of p.0
-    p.1 (records_given w.r w.conn w.rec records) ≡ option_or w.rec (record_of p.0 p.1 records))
-    (sym (same_part-eq (held.r, held.conn) (w.r, w.conn) part)) (own_given w.r w.conn w.rec records) in
+    let part = h in
+    let given = subst (λ p. record_of p.0 p.1 (records_given w.r w.conn w.rec records) ≡ option_or
+    w.rec (record_of p.0 p.1 records)) (sym (same_part-eq _ _ part)) (own_given w.r _ _ _) in
     ap (interest (record held { excl = w.excl })) given
 changed_step false w held records h = ap (interest held) (other_given w.r w.conn w.rec held records h)
 
@@ -107,17 +99,15 @@ unrecorded_step : (b : Bool) (r : Resource) (conn : ConnId) (held : Held) (recor
     → is_interest r conn held ≡ b → with_record (records_without r conn records) held ≡ cond
     b (without_record (with_record records held)) (with_record records held)
 unrecorded_step true r conn held records h =
-    let part : same_part (held.r, held.conn) (r, conn) ≡ true = h in
-    ap (interest held) (subst (λ (p : Part). record_of p.0 p.1 (records_without r conn records) ≡ None)
-    (sym (same_part-eq (held.r, held.conn) (r, conn) part)) (own_without r conn records))
+    let part = h in
+    ap (interest held) (subst (λ p. record_of p.0 p.1 (records_without r conn records) ≡ None)
+    (sym (same_part-eq _ _ part)) (own_without r _ _))
 unrecorded_step false r conn held records h = ap (interest held) (other_without r conn held records h)
 
 -- the record data of an interest go
 pub joined-unrecorded : (r : Resource) (conn : ConnId) (owners : List Held) (records : List Record) → interests_of
     owners (records_without r conn records) ≡ interests_changed r conn without_record (interests_of owners records)
-joined-unrecorded r conn owners records = map-both (with_record (records_without r conn records))
-    (with_record records) (λ i. cond (interests.is_of r conn i) (without_record i) i)
-    (λ held. unrecorded_step (is_interest r conn held) r conn held records refl) owners
+joined-unrecorded r conn owners records = map-both _ _ _ (λ held. unrecorded_step _ r _ _ _ refl) _
 
 -- a connector's interests are retained or not
 pub joined-retained : (conn : ConnId) (retained : Bool) (owners : List Held) (records : List Record)
@@ -145,7 +135,7 @@ pub joined-gone : (conn : ConnId) (owners : List Held) (records : List Record) �
     (records_without_conn conn records) ≡ interests_left conn false (interests_of owners records)
 joined-gone conn owners records =
     let others = records_without_conn conn records in
-    joined-retained conn true (filter (λ held. stays conn false (with_record records held)) owners) others
-    ∙ ap (map (with_retained conn true))
-    (map-filtered (with_record others) (with_record records) (λ held. stays conn false (with_record records held))
-    (stays conn false) (λ held e. ap (interest held) (other_conn conn held records e)) (λ held. refl) owners)
+    joined-retained _ _ _ _ ∙ ap (map (with_retained conn true)) (map-filtered _ _ (λ held. stays
+    conn false (with_record records held)) _ (λ held e. ap (interest held) (other_conn _ held _ e)) (λ held. refl) _)
+
+pub ruleset joined_told = (joined-retained, joined-changed)

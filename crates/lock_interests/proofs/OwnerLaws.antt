@@ -1,12 +1,12 @@
 -- What is read of the owners of one resource, and of the resources of one connector; and what a departure leaves.
-use Rattle.lock_interests.proofs.Imports.{◌≡◌, ℕ, zero, suc, ◌+◌, ◌<◌, ◌++◌, arith, length, drop, get_or, Bool, true, false, not, ◌&&◌, ◌||◌, ◌==◌, cond, if◌then◌else◌, List, [], ◌∷◌, Option, Some, None, is_some, option_map, filter, find, map, refl, sym, ap, ◌∙◌, subst, option_to_list, list_any, list_all, filter_map, cons_option, append_assoc, filter_agree, and_parts, and_from, eqb-true, false≢true, ConnId, Resource, Part, same_part, same_resource, same_part-eq, same_part-refl, same_resource_comm, pairwise, any_is_found, all_found, found_passes, filter_swap, filter_absorbed, none_later, later_apart, AllFound, found_filter, Held, is_on, is_by, is_interest, has_interest, owners_of, owners_retained, owners_without_active, in_retention, in_retention_of, are_apart, resource_of, Record, is_record, is_of, has_record, record_of, Interest, stays, with_record, interests_of, letters_told, record_read, records_read, held_read, read_in, is_held_retained, retained_at, retained_all, AreOwned}
+use Rattle.lock_interests.proofs.Imports.{◌≡◌, ℕ, zero, suc, ◌+◌, ◌<◌, ◌++◌, arith, length, drop, get_or, Bool, true, false, not, ◌&&◌, ◌||◌, ◌==◌, cond, if◌then◌else◌, List, [], ◌∷◌, Option, Some, None, is_some, option_map, filter, find, map, refl, sym, ap, ◌∙◌, subst, option_to_list, list_any, list_all, filter_map, cons_option, append_assoc, filter_agree, and_parts, and_from, eqb-true, false≢true, ConnId, Resource, Part, same_part, same_resource, same_part-eq, same_part-refl, same_resource_comm, pairwise, any_is_found, all_found, found_passes, filter_swap, filter_absorbed, none_later, later_apart, AllFound, found_filter, Held, is_on, is_by, is_interest, has_interest, owners_of, owners_retained, owners_without_active, in_retention, in_retention_of, are_apart, resource_of, Record, is_record, is_of, has_record, record_of, Interest, stays, with_record, interests_of, letters_told, record_read, records_read, held_read, read_in, is_held_retained, retained_at, retained_all, AreOwned, length-filter-le, both_implied}
 use Rattle.std.proofs.Common.{slice_get}
 use Rattle.lock_model.specs.Interests as interests
 use Rattle.lock_model.specs.Commands.Decide as decide
 use Rattle.lock_model.specs.Commands.RtRead as rt_read
 use Rattle.lock_model.specs.Commands.RtDelete as rt_delete
-use Rattle.lock_interests.proofs.CountLaws.{has_is_some, some_mapped, part_of, datum_part}
-use Rattle.lock_interests.proofs.ReadLaws.{recorded-joined, any_recorded-joined, told-joined}
+use Rattle.lock_interests.proofs.CountLaws.{has_is_some, some_mapped, part_of, datum_part, has-joined}
+use Rattle.lock_interests.proofs.ReadLaws.{recorded-joined, any_recorded-joined, told-joined, part-joined, manager-joined, read-joined}
 
 -- ---- the interest of a connector among the owners of a resource
 
@@ -107,14 +107,9 @@ record-found r conn owners records owned = sym (sym (recorded-joined r conn owne
 same_conn : (a c : ConnId) → a.0 ≡ c.0 → a ≡ c
 same_conn a c e = let of : ℕ → ConnId = λ n. record { 0 = n } in ap of e
 
-both_ways : (a b : Bool) → (a ≡ true → b ≡ true) → (b ≡ true → a ≡ true) → a ≡ b
-both_ways true b f g = sym (f refl)
-both_ways false true f g = g refl
-both_ways false false f g = refl
-
 pub any_record-found : (conn : ConnId) (owners : List Held) (records : List Record) → AreOwned owners records
     → list_any (is_of conn) records ≡ list_any (rt_read.is_recorded conn) (interests_of owners records)
-any_record-found conn owners records owned = grind (arith, both_ways, there, back, any_recorded-joined)
+any_record-found conn owners records owned = grind (arith, both_implied, there, back, any_recorded-joined)
   where
     there : list_any (is_of conn) records ≡ true
         → list_any (λ held. (held.conn.0 == conn.0) && is_some (record_of held.r held.conn records)) owners ≡ true
@@ -149,8 +144,7 @@ told_of r conn owners = grind (arith, filter_swap, filter_absorbed, told_on)
 
 pub told_left : (r : Resource) (conn : ConnId) (owners : List Held) (records : List Record) (xs : List Held)
     → xs ≡ owners_of r owners → letters_told r conn xs ≡ decide.notify_letters r conn (interests_of owners records)
-told_left r conn owners records xs e =
-    ap (letters_told r conn) e ∙ told_of r conn owners ∙ told-joined r conn owners records
+told_left r conn owners records xs e = grind (arith, told_of, told-joined)
 
 -- ---- the resources of a connector's interests
 
@@ -197,8 +191,7 @@ left_step : (conn : ConnId) (s : Held → Bool) (b t : Bool) (x : Held) (xs ys :
     → filter (λ held. not (is_by conn held && not held.retained)) xs ≡ map (in_retention_of conn true) ys
     → filter (λ held. not (is_by conn held && not held.retained)) (marked conn s x ∷ xs)
     ≡ map (in_retention_of conn true) (cond (not b || t) (x ∷ ys) ys)
-left_step conn s true true x xs ys e f ih =
-    let of : Bool → Held = λ t. record x { retained = t } in rw (e, f) (ap (λ l. of true ∷ l) ih)
+left_step conn s true true x xs ys e f ih = grind arith
 left_step conn s true false x xs ys e f ih = rw (e, f) ih
 left_step conn s false t x xs ys e f ih = rw e (ap (λ l. x ∷ l) ih)
 
@@ -315,3 +308,10 @@ pub read_more : (f : Resource → Option (Resource × Bool × List ℕ)) (rs : L
 read_more f rs i d list new all within put h = ap (λ l. l ++ filter_map f (drop (i + 1) rs)) put
     ∙ append_assoc list (option_to_list (f (get_or rs i d))) (filter_map f (drop (i + 1) rs))
     ∙ ap (λ l. list ++ l) (sym (next_read f rs i d within)) ∙ h
+
+-- what is read of owners and record data is read of interests
+pub ruleset reads_told = (keys-joined, keys_by-joined, manager-joined, part-joined, read-joined, has-joined)
+
+pub ruleset records_told = (record-found, any_record-found)
+
+pub ruleset letters_fewer = (told_left, length-filter-le)

@@ -1,11 +1,9 @@
 -- What is read of interests is read of their owners and their record data.
-use Rattle.lock_interests.proofs.Imports.{◌≡◌, ℕ, ◌+◌, ◌≤◌, ◌<◌, ◌-◌, get_or, Bool, true, false, not, ◌&&◌, ◌||◌, ◌==◌, cond, List, [], ◌∷◌, Option, Some, None, is_some, option_map, length, filter, find, map, refl, sym, ap, ◌∙◌, arith, list_any, list_all, filter_map, cons_option, slice_get, false≢true, sum_by-cons, length-map, slice_get-map, slice_get-get_or, ConnId, Resource, same_resource_comm, list_any-map, Held, is_interest, owners_of, Record, record_of, Interest, are_compatible, may_own, manager_of, interest_of, records_of, records_owned, Letter, Inside, InterestsView, interests_view, with_record, interests_of, letters_told, record_read, records_read}
-use Rattle.lock_model.specs.Interests as interests
+use Rattle.lock_interests.proofs.Imports.{◌≡◌, ℕ, ◌+◌, ◌≤◌, ◌<◌, ◌-◌, get_or, Bool, true, false, not, ◌&&◌, ◌||◌, ◌==◌, cond, List, [], ◌∷◌, Option, Some, None, is_some, option_map, length, filter, find, map, refl, sym, ap, ◌∙◌, arith, list_any, list_all, filter_map, cons_option, slice_get, false≢true, sum_by-cons, length-map, slice_get-map, slice_get-get_or, ConnId, Resource, same_resource_comm, list_any-map, Held, is_interest, owners_of, Record, record_of, Interest, are_compatible, may_own, manager_of, interest_of, records_of, records_owned, Letter, Inside, InterestsView, interests_view, with_record, interests_of, letters_told, record_read, records_read, Event}
 use Rattle.lock_model.specs.Interests.{is_by}
 use Rattle.lock_model.specs.Commands.RtRead as rt_read
 use Rattle.lock_model.specs.Commands.RtDelete as rt_delete
 use Rattle.lock_model.specs.Commands.Decide as decide
-use Rattle.cf_types.specs.declared.events.Event.TheVariants as events
 
 all_step : (p : Held → Bool) (b : Bool) (x : Held) (xs : List Held) (c : Bool) → list_all p xs ≡ c
     → list_all p (cond b (x ∷ xs) xs) ≡ (not b || p x) && c
@@ -64,8 +62,7 @@ recorded-joined r conn owners records = sym (list_any-map (rt_delete.is_recorded
 pub retained-joined : (r : Resource) (conn : ConnId) (owners : List Held) (records : List Record)
     → list_any (λ held. is_interest r conn held && held.retained) owners ≡ rt_delete.is_retained r conn
     (interests_of owners records)
-retained-joined r conn owners records =
-    sym (list_any-map (λ (i : Interest). interests.is_of r conn i && i.held.retained) (with_record records) owners)
+retained-joined r conn owners records = grind (arith, list_any-map)
 
 -- ---- how many have record data
 
@@ -81,19 +78,17 @@ counted : (f : Held → Option (List ℕ)) (g : Held → Interest) → ((x : Hel
     → length (filter (λ x. is_some (f x)) owners) ≡ records_owned (map g owners)
 counted f g h [] = refl
 counted f g h (x ∷ xs) =
-    let same : records_of (g x).rec ≡ records_of (f x) = ap records_of (h x) in
+    let same = ap records_of (h x) in
     omega (
       arith,
-      one_step (is_some (f x)) (f x) x (filter (λ y. is_some (f y)) xs) (records_owned (map g xs)) refl
-          (counted f g h xs),
-      sum_by-cons (λ (i : Interest). records_of i.rec) (g x) (map g xs),
+      one_step _ (f x) x _ _ refl (counted f g h xs),
+      sum_by-cons (λ i. records_of i.rec) (g x) (map g xs),
       same,
     )
 
 pub records-joined : (owners : List Held) (records : List Record) → length (filter
     (λ held. is_some (record_of held.r held.conn records)) owners) ≡ records_owned (interests_of owners records)
-records-joined owners records =
-    counted (λ held. record_of held.r held.conn records) (with_record records) (λ x. refl) owners
+records-joined owners records = counted _ _ (λ x. refl) owners
 
 pub records_of_within : (rec : Option (List ℕ)) → records_of rec ≤ 1
 records_of_within None = omega arith
@@ -102,7 +97,7 @@ records_of_within (Some rec) = omega arith
 -- ---- what owners are told, and what is read of them
 
 abbrev told : Resource → ConnId → Held → Letter
-told r conn held = record { to = held.conn; event = events.Notify r conn }
+told r conn held = record { to = held.conn; event = Event.Notify r conn }
 
 told_step : (r : Resource) (conn : ConnId) (b : Bool) (x : Held) (rec : Option (List ℕ)) (xs : List Held)
     (is : List Interest) → map (told r conn) xs ≡ map (decide.notify_letter r conn) is → map (told r conn)

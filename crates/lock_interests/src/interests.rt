@@ -100,6 +100,7 @@ impl Interests {
     }
 
     /// The resources that a connector has an interest in, in their order.
+    #[tactic(auto, using(crate::proofs::OwnerLaws::reads_told))]
     pub fn of(&self, alloc: Global, conn: ConnId) -> Result<Vec<Resource>, NoMemory>
         ensures { IfOk result (λ list. list.items ≡ map (λ interest. interest.held.r)
             (filter (is_by conn) self.now.interests)) }
@@ -118,6 +119,7 @@ impl Interests {
 
     /// The manager of a resource: its first owner that isn't retained. None where there is no such
     /// owner.
+    #[tactic(auto, using(crate::proofs::OwnerLaws::reads_told))]
     pub fn manager_of(&self, r: &Resource) -> Option<ConnId>
         ensures { result ≡ manager_of r.now self.now.interests }
     {
@@ -126,6 +128,7 @@ impl Interests {
 
     /// A connector's interest in a resource, without its record data. None where the connector has
     /// no interest in it.
+    #[tactic(auto, using(crate::proofs::OwnerLaws::find_both, crate::proofs::OwnerLaws::reads_told))]
     pub fn held_of(&self, r: &Resource, conn: ConnId) -> Option<&Held>
         ensures { option_map (λ held. held.now) result
             ≡ option_map (λ interest. interest.held) (interest_of r.now conn self.now.interests) }
@@ -134,6 +137,7 @@ impl Interests {
     }
 
     /// Whether a connector has an interest with record data, in whatever resource.
+    #[tactic(auto, using(crate::proofs::OwnerLaws::records_told))]
     pub fn has_records(&self, conn: ConnId) -> bool
         ensures { result ≡ list_any (rt_read.is_recorded conn) self.now.interests }
     {
@@ -141,6 +145,7 @@ impl Interests {
     }
 
     /// Whether a connector has an interest in a resource, with record data.
+    #[tactic(auto, using(crate::proofs::OwnerLaws::record_some, crate::proofs::OwnerLaws::records_told))]
     pub fn has_record(&self, r: &Resource, conn: ConnId) -> bool
         ensures { result ≡ list_any (rt_delete.is_recorded r.now conn) self.now.interests }
     {
@@ -156,6 +161,7 @@ impl Interests {
     }
 
     /// How many letters `notify` sends.
+    #[tactic(auto, using(crate::proofs::OwnerLaws::letters_fewer))]
     pub fn count_told(&self, r: &Resource, conn: ConnId) -> usize
         ensures { result ≡ length (decide.notify_letters r.now conn self.now.interests) }
     {
@@ -165,6 +171,7 @@ impl Interests {
 
     /// Tells each owner of a resource that isn't retained that the connector `conn` waits for it,
     /// by a letter; `conn` itself gets none. `out` must have room for these letters.
+    #[tactic(auto, using(crate::proofs::OwnerLaws::letters_fewer))]
     pub fn notify(&self, r: &Resource, conn: ConnId, out: &mut Effects)
         requires { length (decide.notify_letters r.now conn self.now.interests) ≤
             out.old.mail.room }
@@ -179,6 +186,7 @@ impl Interests {
 
     /// A connector's interests with record data, by resource: each resource, whether the connector
     /// owns it exclusively, and the record data.
+    #[tactic(auto, using(crate::proofs::OwnerLaws::reads_told))]
     pub fn read(
         &self,
         alloc: Global,
@@ -208,6 +216,7 @@ impl Interests {
 
     /// The interest at a place, from 0, with its record data, found by the order of all. None past
     /// the end.
+    #[tactic(auto, using(crate::proofs::OwnerLaws::reads_told))]
     pub fn at_in(&self, order: &[Resource], k: u32) -> Option<LockItem>
         requires { order.now ≡ map (λ interest. interest.held.r) self.now.interests }
         ensures { result ≡ option_map owner (slice_get self.now.interests k) }
@@ -222,6 +231,7 @@ impl Interests {
     }
 
     /// How many interests have record data.
+    #[tactic(auto, using(crate::proofs::CountLaws::records_counted))]
     pub fn count_records(&self) -> usize
         ensures count { result ≡ records_owned self.now.interests }
         ensures few { result < 4294967296 }
@@ -254,6 +264,7 @@ impl Interests {
     }
 
     // How many interests would have record data once this waiter's interest is altered.
+    #[tactic(auto, using(crate::proofs::CountLaws::counts_told))]
     fn count_records_altered(&self, w: &Waiter) -> usize
         ensures count { result ≡ records_owned (interests_changed w.now.r w.now.conn
             (with_alteration w.now) self.now.interests) }
@@ -276,6 +287,7 @@ impl Interests {
     }
 
     // Whether a connector has an interest in a resource.
+    #[tactic(auto, using(crate::proofs::OwnerLaws::found_any, crate::proofs::OwnerLaws::find_both, crate::proofs::OwnerLaws::reads_told))]
     fn has_interest(&self, r: &Resource, conn: ConnId) -> bool
         ensures { result ≡ has_interest r.now conn self.now.interests }
     {
@@ -305,6 +317,7 @@ impl Interests {
     /// takes the place of the connector's own interest in that resource, if there is one, and of
     /// its record data. There must be room for one interest more, and for record data where they
     /// are given.
+    #[tactic(auto, using(crate::proofs::CountLaws::changes_told))]
     pub fn put(&mut self, held: Held, rec: Option<Adjunct>)
         requires owner_room { 1 ≤ self.old.owner_room }
         requires record_room { records_of rec ≤ self.old.record_room }
@@ -319,6 +332,7 @@ impl Interests {
     }
 
     /// A connector's interest in a resource takes a state, and record data where they are given.
+    #[tactic(auto, using(crate::proofs::JoinLaws::joined_told, crate::proofs::CountLaws::changed_none))]
     fn change(&mut self, w: &Waiter)
         requires { records_of w.now.rec ≤ self.old.record_room }
         ensures interests { self.new.interests ≡ interests_changed w.now.r w.now.conn
@@ -354,6 +368,7 @@ impl Interests {
 
     /// A connector's interest in a resource goes, with its record data. Where there is none,
     /// nothing changes.
+    #[tactic(auto, using(crate::proofs::CountLaws::changes_told))]
     pub fn remove(&mut self, r: &Resource, conn: ConnId)
         ensures interests { self.new.interests ≡ interests_without r.now conn self.old.interests }
         ensures limit { self.new.limit ≡ self.old.limit }
@@ -378,6 +393,7 @@ impl Interests {
 
     /// The record data of a connector's interest in a resource go, and the interest stays. Where
     /// there are none, nothing changes.
+    #[tactic(auto, using(crate::proofs::CountLaws::changes_told))]
     pub fn unrecord(&mut self, r: &Resource, conn: ConnId)
         ensures interests { self.new.interests ≡ interests_changed r.now conn without_record
             self.old.interests }
@@ -389,6 +405,7 @@ impl Interests {
     }
 
     /// A connector's interests are retained no more, in whatever resource.
+    #[tactic(auto, using(crate::proofs::JoinLaws::joined_told))]
     pub fn back(&mut self, conn: ConnId)
         ensures interests { self.new.interests ≡ map (with_retained conn false) self.old.interests }
         ensures limit { self.new.limit ≡ self.old.limit }
@@ -534,6 +551,7 @@ fn retain_own(owners: &mut Table, r: &Resource, by: ConnId, conn: ConnId)
 }
 
 // A connector's interests with record data are retained.
+#[tactic(auto, using(crate::proofs::OwnerLaws::retained_next))]
 fn retain_recorded(owners: &mut Table, records: &Records, conn: ConnId)
     ensures owners { owners.new.owners ≡ retained_all conn records.now.entries owners.old.owners }
     ensures room { owners.new.room ≡ owners.old.room }
@@ -637,6 +655,7 @@ fn read_each(
 }
 
 // The interests of a connector with record data.
+#[tactic(auto, using(crate::proofs::OwnerLaws::read_each))]
 fn read(
     alloc: Global,
     owners: &Table,

@@ -1,26 +1,16 @@
 -- Every command leads from content to content.
-use Rattle.lock_model.proofs.Imports.{◌≡◌, ℕ, ◌+◌, ◌≤◌, Bool, true, false, not, cond, List, [], ◌∷◌, Option, Some, None, is_some, length, map, refl, ◌∙◌, arith, list_all, and_parts, and_from, not-true, leb-true, length-map, Caps, ConnId, Refusal, StillPending, Resource, Decision, Keep, Deny, Notify, LockCmd, Obtain, Alter, Release, Decide, RtRead, RtDelete, same_part, first_refusal, list_all-filter, list_all-filter_same, list_all_always, all_from_none, any_is_found, length-filter-le, sum_by-filter-le, list_all-insertion, length-insertion, Waiter, is_waiter, waits, waiters_without, stands_before, Interest, is_of, has_interest, interests_with, interests_without, interests_changed, may_own, Content, IsContent, is_due, records_of, records_in, settlement_of, held_by, interests_granted, grant, interested_refusal, interest_refusal, records_refusal, content_asked, wait_settlement, cause, done, queue-filter, queue-with}
+use Rattle.lock_model.proofs.Imports.{◌≡◌, ℕ, ◌+◌, ◌≤◌, Bool, true, false, not, cond, List, Option, Some, None, is_some, length, map, refl, ◌∙◌, arith, list_all, and_parts, and_from, not-true, leb-true, length-map, Caps, ConnId, Refusal, Resource, Decision, Keep, Deny, Notify, LockCmd, Obtain, Alter, Release, Decide, RtRead, RtDelete, list_all-filter, list_all-filter_same, list_all_always, all_from_none, any_is_found, length-filter-le, sum_by-filter-le, list_all-insertion, length-insertion, Waiter, is_waiter, waits, waiters_without, stands_before, Interest, is_of, has_interest, interests_with, interests_without, interests_changed, may_own, Content, IsContent, is_due, records_of, records_in, settlement_of, held_by, grant, interested_refusal, records_refusal, content_asked, wait_settlement, cause, done, queue-filter, queue-with, none_hold}
 use Rattle.lock_model.specs.Grants as grants
 use Rattle.lock_model.specs.Commands.Obtain as obtain
 use Rattle.lock_model.specs.Commands.Alter as alter
 use Rattle.lock_model.specs.Commands.Release as release
 use Rattle.lock_model.specs.Commands.Decide as decide
 use Rattle.lock_model.specs.Commands.RtDelete as rt_delete
-use Rattle.lock_model.proofs.InterestLaws.{interests-same, KeepsState, has-without, has-map, interests-filter, records-map, interests-map, state_same}
+use Rattle.lock_model.proofs.InterestLaws.{interests-same, KeepsState, has-without, has-map, interests-filter, records-map}
 use Rattle.lock_model.proofs.GrantLaws.{waiter_part}
 use Rattle.lock_model.proofs.ContentLaws.{items_in, led_grant, due_all, owners-granted, has-granted}
 
 -- ---- causes
-
--- none of them holds
-abbrev pub NoneHolds : List (Option Refusal) → Type 0
-NoneHolds [] = Unit {0}
-NoneHolds (cause ∷ causes) = (cause ≡ None) × NoneHolds causes
-
-pub none_hold : (causes : List (Option Refusal)) → first_refusal causes ≡ None → NoneHolds causes
-none_hold [] h = tt
-none_hold (None ∷ causes) h = (refl, none_hold causes h)
-none_hold (Some refusal ∷ causes) h = absurd (cc)
 
 unrefused : (b : Bool) (refusal : Refusal) → cond b (Some refusal) None ≡ None → b ≡ false
 unrefused b refusal h = grind arith
@@ -207,32 +197,26 @@ altered_items : (caps : Caps) (w : Waiter) (content : Content)
     → IsContent caps content → waits w.r w.conn content.waiters ≡ false
     → (b : Bool) → alter.at_once w content ≡ b → records_refusal caps (content_asked b w content) ≡ None → items_in
     (cond b (grant w.r (content_asked true w content)) (wait_settlement w content)).content ≤ items_in content + 1
-altered_items caps w content is out true e few = omega (
-  arith,
-  asked_items true w content,
-  (led_grant caps w.r (content_asked true w content) (content-at_once caps w content is out e few)).items,
-)
+altered_items caps w content is out true e few =
+    let led = led_grant caps w.r _ (content-at_once caps w content is out e few) in
+    omega (arith, asked_items true w content, led.items)
 altered_items caps w content is out false e few = asked_items false w content
 
 deleted_items : (caps : Caps) (r : Resource) (conn : ConnId) (content : Content) → IsContent caps content → (b : Bool)
     → items_in (cond b (grant r (rt_delete.content_unowned r conn content))
     (settlement_of (rt_delete.content_unrecorded r conn content))).content ≤ items_in content + 1
-deleted_items caps r conn content is true = omega (
-  arith,
-  length-filter-le (λ x. not (is_of r conn x)) content.interests,
-  length-filter-le (λ v. not (is_waiter r conn v)) content.waiters,
-  (led_grant caps r (rt_delete.content_unowned r conn content) (content-unowned caps r conn content is)).items,
-)
+deleted_items caps r conn content is true =
+    let led = led_grant caps r _ (content-unowned caps r conn content is) in
+    let few = length-filter-le (λ x. not (is_of r conn x)) content.interests in
+    omega (arith, few, length-filter-le (λ v. not (is_waiter r conn v)) content.waiters, led.items)
 deleted_items caps r conn content is false = omega (arith, length-map content.interests (unrecorded r conn))
 
 decided_items : (caps : Caps) (r : Resource) (conn : ConnId) (content : Content) → IsContent caps content
     → (how : Decision) → items_in (decide.after how r conn content).content ≤ items_in content + 1
 decided_items caps r conn content is Keep = omega arith
-decided_items caps r conn content is Deny = omega (
-  arith,
-  length-filter-le (λ v. not (is_waiter r conn v)) content.waiters,
-  (led_grant caps r (decide.content_denied r conn content) (content-denied caps r conn content is)).items,
-)
+decided_items caps r conn content is Deny =
+    let led = led_grant caps r _ (content-denied caps r conn content is) in
+    omega (arith, length-filter-le (λ v. not (is_waiter r conn v)) content.waiters, led.items)
 decided_items caps r conn content is Notify = omega arith
 
 pub items-done : (caps : Caps) (content : Content) (by : ConnId) (cmd : LockCmd) → IsContent caps content

@@ -1,7 +1,7 @@
 -- The grant rule leads from content to content, with no more record data and no more items.
-use Rattle.lock_model.proofs.Imports.{◌≡◌, ℕ, ◌+◌, ◌≤◌, Bool, true, false, not, ◌&&◌, cond, List, [], ◌∷◌, Some, length, find, refl, ap, ◌∙◌, arith, list_all, and_parts, not-true, length-map, Caps, Letter, Resource, same_part, same_part-eq, same_part-refl, same_part_comm, pairwise, list_all-filter, list_all-filter_same, list_all_weaker, list_all_both, pairwise-filter, Waiter, is_on, is_waiter, waiters_of, waiters_without, are_apart, Interest, AreInterests, has_interest, interests_with, interests_changed, may_own, parts_apart, Content, IsContent, is_due, records_of, records_owned, records_in, held_by, with_alteration, interests_granted, content_granted, granted_letter, Settlement, settlement_of, with_letters_before, grants, grant, grant_each, queue-filter, list_any-insertion, sum_by-insertion, sum_by-filter-le, length-insertion, length-filter-le}
+use Rattle.lock_model.proofs.Imports.{◌≡◌, ℕ, ◌+◌, ◌≤◌, Bool, true, false, not, ◌&&◌, cond, List, [], ◌∷◌, Some, length, find, refl, ap, ◌∙◌, arith, list_all, and_parts, not-true, length-map, Caps, Letter, Resource, same_part, same_part-eq, same_part-refl, same_part_comm, pairwise, list_all-filter, list_all-filter_same, list_all_weaker, list_all_both, pairwise-filter, Waiter, is_on, is_waiter, waiters_of, waiters_without, are_apart, Interest, AreInterests, has_interest, interests_with, interests_changed, may_own, parts_apart, Content, IsContent, is_due, records_of, records_owned, records_in, held_by, with_alteration, interests_granted, content_granted, granted_letter, Settlement, settlement_of, with_letters_before, grants, grant, grant_each, queue-filter, sum_by-insertion, sum_by-filter-le, length-insertion, length-filter-le}
 use Rattle.cf_lists.proofs.KeyLaws as keys
-use Rattle.lock_model.proofs.InterestLaws.{has-with, has-map, interests-with, has-filter, other_part}
+use Rattle.lock_model.proofs.InterestLaws.{has-with, has-map, interests-with}
 use Rattle.lock_model.proofs.GrantLaws.{waiter_part as part_of, alteration, alteration-keeps, interests-altered, records-altered}
 
 -- ---- a content that another one leads to
@@ -99,14 +99,13 @@ led_grants caps (w ∷ ws) content is found u =
     let later = and_parts (list_all (are_apart w) ws) (pairwise are_apart ws) u in
     led_step caps (may_own (held_by w) content.interests) content (granted_letter w ∷ [])
     (grants ws (content_granted w content)) is (λ may. let one = led_granted caps w content is found.0 may in
-    led_on caps content (content_granted w content) (grants ws (content_granted w content)).content one
-    (grind (
+    led_on caps content (content_granted w content) (grants ws (content_granted w content)).content one (grind (
       arith,
       part_of,
       same_part-eq,
       same_part-refl,
-      led_grants caps ws (content_granted w content) one.content
-          (keys.found_without part_of same_part same_part-eq same_part-refl w ws content.waiters later.0 found.1) later.1,
+      led_grants caps ws (content_granted w content) one.content (keys.found_without part_of
+          same_part same_part-eq same_part-refl w ws content.waiters later.0 found.1) later.1,
     )))
 
 pub led_grant : (caps : Caps) (r : Resource) (content : Content) → IsContent caps content

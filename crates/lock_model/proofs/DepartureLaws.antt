@@ -1,9 +1,9 @@
 -- A departure leads from content to content, with no more record data and no more items; so does the return of a
 -- connection.
-use Rattle.lock_model.proofs.Imports.{◌≡◌, ◌≤◌, Bool, true, false, not, ◌&&◌, ◌==◌, List, filter, sum_by, map, refl, ◌∙◌, arith, and_parts, or_left, eqb-true, length-map, Caps, ConnId, list_all-filter, list_all-filter_same, list_all_always, sum_by-filter-le, length-filter-le, Waiter, Interest, is_of, Content, IsContent, is_due, records_of, records_in, grant_each, stays, with_retained, interests_left, resources_of, departure_of, with_returned, queue-filter, waiters_without_conn}
-use Rattle.lock_model.proofs.InterestLaws.{interests-same, KeepsState, has-filter, has-map, interests-filter, records-map, interests-map, state_same}
-use Rattle.lock_queue.specs.Waiters.{is_by as is_by_waiter}
+use Rattle.lock_model.proofs.Imports.{◌≡◌, ◌≤◌, Bool, true, false, not, List, filter, sum_by, map, refl, ◌∙◌, arith, and_parts, or_left, eqb-true, length-map, Caps, ConnId, list_all-filter, list_all-filter_same, list_all_always, sum_by-filter-le, length-filter-le, Waiter, Interest, is_of, Content, IsContent, is_due, records_of, records_in, stays, with_retained, interests_left, resources_of, departure_of, with_returned, queue-filter, waiters_without_conn}
+use Rattle.lock_model.proofs.InterestLaws.{interests-same, KeepsState, has-filter, has-map, interests-filter, records-map}
 use Rattle.lock_model.proofs.ContentLaws.{Led, led_on, led_grant_each, due_all}
+use Rattle.lock_queue.specs.Waiters.{is_by as is_by_waiter}
 
 -- ---- retained, or not any more
 

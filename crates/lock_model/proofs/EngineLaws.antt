@@ -1,6 +1,5 @@
 -- The laws of the engine's meaning.
-use Rattle.lock_model.proofs.Imports.{◌≡◌, ◌-◌, ◌≤◌, Bool, true, false, List, [], ◌∷◌, ◌++◌, append-nil, append_assoc, length, length-append, fold, map, sum_by, refl, sym, ap, ◌∙◌, arith, list_any, or_right, false≢true, map-append, take_at, list_any-append, sum_by-append, sum_by-cons, Caps, Kind, ConnId, is_lock, Shape, Fits, IsNoMore, IsNoMoreOf, Waiter, LockItem, Owner, Waits, Interest, Content, IsContent, no_content, records_of, records_in, owner, items, content_with, content_without_last, without_last, entries_of_item, records_of_item, need_of, with_returned, lock_meaning}
-use Rattle.cf_types.specs.declared.forms.Kind.TheVariants as kind
+use Rattle.lock_model.proofs.Imports.{◌≡◌, ◌-◌, ◌≤◌, Bool, true, false, List, [], ◌∷◌, ◌++◌, append-nil, append_assoc, length, length-append, fold, map, sum_by, refl, sym, ap, ◌∙◌, arith, list_any, or_right, false≢true, map-append, take_at, list_any-append, sum_by-append, sum_by-cons, Caps, Kind, ConnId, is_lock, Shape, Fits, IsNoMore, IsNoMoreOf, Waiter, LockItem, Owner, Waits, Interest, Content, IsContent, no_content, records_in, owner, items, content_with, content_without_last, without_last, entries_of_item, records_of_item, need_of, with_returned, lock_meaning, ℕ}
 use Rattle.lock_model.proofs.DepartureLaws as departures
 
 pub content-nothing : (caps : Caps) → IsContent caps no_content
@@ -112,25 +111,11 @@ unplace-place content whole (Waits w) others first = waiter_away content.interes
 pub need-front : (xs others : List LockItem) → IsNoMore (need_of xs) (need_of (xs ++ others))
 need-front xs others = grind (arith, sum_by-append)
 
-records_owners : (interests : List Interest)
-    → sum_by records_of_item (map owner interests) ≡ sum_by (λ (x : Interest). records_of x.rec) interests
-records_owners [] = refl
-records_owners (x ∷ xs) = omega (
-  arith,
-  records_owners xs,
-  sum_by-cons records_of_item (owner x) (map owner xs),
-  sum_by-cons (λ (y : Interest). records_of y.rec) x xs,
-)
-
-records_waiters : (waiters : List Waiter)
-    → sum_by records_of_item (map Waits waiters) ≡ sum_by (λ (w : Waiter). records_of w.rec) waiters
-records_waiters [] = refl
-records_waiters (w ∷ ws) = omega (
-  arith,
-  records_waiters ws,
-  sum_by-cons records_of_item (Waits w) (map Waits ws),
-  sum_by-cons (λ (v : Waiter). records_of v.rec) w ws,
-)
+sum_by-map : {X : Type 0} (size : LockItem → ℕ) (f : X → LockItem) (xs : List X)
+    → sum_by size (map f xs) ≡ sum_by (λ x. size (f x)) xs
+sum_by-map size f [] = refl
+sum_by-map size f (x ∷ xs) =
+    omega (arith, sum_by-cons size (f x) (map f xs), sum_by-cons (λ y. size (f y)) x xs, sum_by-map size f xs)
 
 entries_owners : (interests : List Interest) → sum_by entries_of_item (map owner interests) ≡ length interests
 entries_owners [] = refl
@@ -142,7 +127,12 @@ entries_waiters (w ∷ ws) = omega (arith, entries_waiters ws, sum_by-cons entri
 
 -- the record data of the items are those of the content, and the entries are its interests
 pub elements-items : (content : Content) → (need_of (items content)).elements ≡ records_in content
-elements-items content = grind (arith, sum_by-append, records_owners, records_waiters)
+elements-items content = omega (
+  arith,
+  sum_by-append records_of_item (map owner content.interests) (map Waits content.waiters),
+  sum_by-map records_of_item owner content.interests,
+  sum_by-map records_of_item Waits content.waiters,
+)
 
 pub entries-items : (content : Content) → (need_of (items content)).entries ≡ length content.interests
 entries-items content = grind (arith, sum_by-append, entries_owners, entries_waiters)
@@ -150,9 +140,9 @@ entries-items content = grind (arith, sum_by-append, entries_owners, entries_wai
 -- of a lock structure the elements decide
 no_more_of : (of : Kind) (need other : Caps) → is_lock of ≡ true → need.elements ≤ other.elements
     → IsNoMoreOf of need other
-no_more_of kind.Cache need other h less = absurd (false≢true h)
-no_more_of (kind.List headers locks refs) need other h less = absurd (false≢true h)
-no_more_of kind.Lock need other h less = less
+no_more_of Kind.Cache need other h less = absurd (false≢true h)
+no_more_of (Kind.List headers locks refs) need other h less = absurd (false≢true h)
+no_more_of Kind.Lock need other h less = less
 
 pub need-leave : (shape : Shape) (caps : Caps) (content : Content) (conn : ConnId) (keep : Bool)
     → is_lock shape.kind ≡ true → IsContent caps content → IsNoMoreOf

@@ -1,7 +1,7 @@
 -- The grant rule leads from content to content, and to no more record data and no more items.
-use Rattle.lock_model.proofs.Imports.{◌≡◌, ℕ, ◌+◌, ◌≤◌, Bool, true, false, ◌&&◌, ◌||◌, ◌==◌, cond, List, [], ◌∷◌, Option, Some, None, map, refl, sym, ap, ◌∙◌, subst, arith, list_any, list_all, option_or, and_parts, or_parts, or_right, false≢true, eq-eqb, sum_by-cons, Part, same_part, same_part-eq, same_part-refl, pairwise, Held, Waiter, Interest, AreInterests, is_of, has_interest, interests_changed, may_coexist, may_own, parts_apart, owners_agree, records_of, records_owned, held_by, with_alteration}
+use Rattle.lock_model.proofs.Imports.{◌≡◌, ℕ, ◌+◌, ◌≤◌, Bool, true, false, cond, List, [], ◌∷◌, Option, map, refl, ap, subst, arith, list_any, list_all, option_or, and_parts, or_parts, or_right, false≢true, eq-eqb, sum_by-cons, Part, same_part, same_part-eq, same_part-refl, pairwise, Held, Waiter, Interest, AreInterests, is_of, has_interest, interests_changed, may_coexist, may_own, parts_apart, owners_agree, records_of, records_owned, held_by, with_alteration}
 use Rattle.cf_lists.proofs.KeyLaws as keys
-use Rattle.lock_model.proofs.InterestLaws.{part_of, KeepsPart, interests-map, agree_sym, agree_parts}
+use Rattle.lock_model.proofs.InterestLaws.{part_of, KeepsPart, interests-map, agree_sym}
 
 -- the resource and the connector
 abbrev pub waiter_part : Waiter → Part

@@ -1,6 +1,6 @@
 -- Interests that are added, changed or taken away stay in their order, one for a connector and resource, and
 -- compatible.
-use Rattle.lock_model.proofs.Imports.{◌≡◌, ℕ, ◌+◌, ◌≤◌, Bool, true, false, not, ◌&&◌, ◌||◌, ◌==◌, List, [], ◌∷◌, length, filter, map, refl, sym, ap, ◌∙◌, subst, arith, list_all, and_parts, and_from, nat_tests, list_all-map, sum_by-cons, any-filter_same, ConnId, Resource, resource_up_to, Part, same_part, same_part-eq, same_part_comm, same_resource_comm, resource_up_to-either, resource_up_to-trans, pairwise, list_all-filter, list_all-filter_same, list_all_weaker, list_all_both, list_all_always, sum_by-filter-le, length-filter-le, list_any-insertion, sum_by-insertion, length-insertion, FindsPlace, pairwise-filter, pairwise-insertion, pairwise-insertion_any, pairwise-map, Held, Interest, AreInterests, is_of, has_interest, interests_without, interests_with, may_coexist, may_own, stands_up_to, parts_apart, owners_agree, records_of, records_owned}
+use Rattle.lock_model.proofs.Imports.{◌≡◌, ℕ, ◌≤◌, Bool, true, false, not, ◌&&◌, ◌||◌, ◌==◌, List, [], ◌∷◌, filter, map, refl, sym, ap, ◌∙◌, subst, arith, list_all, and_parts, and_from, nat_tests, list_all-map, sum_by-cons, any-filter_same, ConnId, Resource, resource_up_to, Part, same_part, same_part-eq, same_part_comm, same_resource_comm, resource_up_to-either, resource_up_to-trans, pairwise, list_all-filter, list_all-filter_same, list_all_weaker, list_all_both, list_all_always, list_any-insertion, FindsPlace, pairwise-filter, pairwise-insertion, pairwise-insertion_any, pairwise-map, Held, Interest, AreInterests, is_of, has_interest, interests_without, interests_with, may_coexist, may_own, stands_up_to, parts_apart, owners_agree, records_of, records_owned}
 
 -- ---- two interests
 

@@ -1,10 +1,9 @@
 -- Items that come and go one after another: what a content is meanwhile, and where the one that is added or taken
 -- away stands.
-use Rattle.lock_model.proofs.Imports.{◌≡◌, ◌+◌, ◌-◌, Bool, true, false, not, cond, List, [], ◌∷◌, ◌++◌, append-nil, append_assoc, Some, length, filter, map, take, drop, refl, sym, ap, ◌∙◌, subst, arith, list_all, slice_get, and_parts, and_from, false≢true, take-append-drop, take_all, take_more, filter-append, list_all-append, sum_by-append, get_or_from_slice_get, is_lock, Caps, Resource, same_part, same_part-eq, same_part-refl, FrontLaws, fronts, pairwise, insertion, filter_all, filter_swap, all_from_none, pairwise-filter, pairwise_front, Waiter, is_on, is_waiter, waiters_of, waiters_without, waiters_with, stands_before, are_apart, IsQueue, LockItem, Owner, Waits, Interest, AreInterests, is_of, interests_with, interests_without, stands_up_to, parts_apart, Content, IsContent, owner, items, content_with, content_without_last, without_last, lock_meaning}
+use Rattle.lock_model.proofs.Imports.{◌≡◌, ◌+◌, ◌-◌, Bool, true, not, cond, List, [], ◌∷◌, ◌++◌, append-nil, append_assoc, Some, length, filter, map, take, refl, sym, ap, ◌∙◌, subst, arith, list_all, slice_get, and_parts, and_from, take-append-drop, take_all, take_more, filter-append, list_all-append, sum_by-append, get_or_from_slice_get, is_lock, Caps, Resource, same_part, same_part-eq, same_part-refl, FrontLaws, fronts, pairwise, insertion, filter_all, filter_swap, all_from_none, pairwise-filter, pairwise_front, Waiter, is_on, is_waiter, waiters_of, waiters_without, waiters_with, stands_before, are_apart, IsQueue, LockItem, Owner, Waits, Interest, AreInterests, is_of, interests_with, interests_without, stands_up_to, parts_apart, Content, IsContent, owner, items, content_with, content_without_last, without_last, lock_meaning, insertion_behind}
 use Rattle.cf_lists.proofs.KeyLaws as keys
-use Rattle.lock_model.proofs.InterestLaws.{part_of}
-use Rattle.lock_model.proofs.GrantLaws.{waiter_part}
 use Rattle.lock_model.proofs.EngineLaws.{behind_owners, behind_items, nobody, content-nothing, made-items, content-moved, items-place, unplace-place}
+use Rattle.lock_model.proofs.{InterestLaws.part_of, GrantLaws.waiter_part}
 
 -- ---- the first items of a content
 
@@ -20,13 +19,9 @@ without_last_of : (caps : Caps) (interests : List Interest) (waiters : List Wait
     → IsContent caps (record { interests = interests; waiters = waiters })
     → IsContent caps (content_without_last (record { interests = interests; waiters = waiters }))
 without_last_of caps interests [] is =
-    let n = length interests - 1 in
-    front-interests caps (record { interests = interests; waiters = [] }) (take n interests) (drop n interests) is
-    (sym (take-append-drop n interests))
+    front-interests caps _ _ _ is (sym (take-append-drop (length interests - 1) interests))
 without_last_of caps interests (w ∷ ws) is =
-    let n = length (w ∷ ws) - 1 in
-    front-waiters caps (record { interests = interests; waiters = w ∷ ws }) (take n (w ∷ ws)) (drop n (w ∷ ws)) is
-    (sym (take-append-drop n (w ∷ ws)))
+    front-waiters caps _ _ _ is (sym (take-append-drop (length (w ∷ ws) - 1) (w ∷ ws)))
 
 -- without its last item
 pub content-without_last : (caps : Caps) (content : Content) → IsContent caps content
@@ -145,19 +140,6 @@ lock-fronts = fronts lock_meaning is_lock (λ shape caps content. IsContent caps
 
 -- ---- where items stand
 
--- an element that all others stand before
-insertion_last : {X : Type 0} (before : X → Bool) (x : X) (xs : List X) → list_all before xs ≡ true
-    → insertion before x xs ≡ xs ++ x ∷ []
-insertion_last before x [] h = refl
-insertion_last {X} before x (y ∷ ys) h =
-    let parts = and_parts (before y) (list_all before ys) h in
-    first (before y) parts.0 (insertion_last before x ys parts.1)
-  where
-    first : (b : Bool) → b ≡ true → {zs : List X} → zs ≡ ys ++ x ∷ []
-        → cond b (y ∷ zs) (x ∷ y ∷ ys) ≡ y ∷ ys ++ x ∷ []
-    first true e ih = ap (λ (l : List X). y ∷ l) ih
-    first false e ih = absurd (false≢true e)
-
 -- each of the first ones is related to the next one
 before_next : {X : Type 0} (relation : X → X → Bool) (xs more : List X) (x : X)
     → pairwise relation (xs ++ x ∷ more) ≡ true → list_all (λ y. relation y x) xs ≡ true
@@ -175,7 +157,7 @@ pub interests_with-next : (interests more : List Interest) (x : Interest) → Ar
 interests_with-next interests more x are =
     let same : interests_without x.held.r x.held.conn interests ≡ interests = filter_all
     (λ y. not (is_of x.held.r x.held.conn y)) interests (before_next parts_apart interests more x are.one_each) in
-    ap (λ (l : List Interest). insertion (λ other. stands_up_to other x) x l) same ∙ insertion_last
+    ap (λ (l : List Interest). insertion (λ other. stands_up_to other x) x l) same ∙ insertion_behind
     (λ other. stands_up_to other x) x interests (before_next stands_up_to interests more x are.ordered)
 
 pub waiters_with-next : (waiters more : List Waiter) (w : Waiter) → IsQueue (waiters ++ w ∷ more)
@@ -184,28 +166,22 @@ waiters_with-next waiters more w is =
     let same : waiters_without w.r w.conn waiters ≡ waiters =
     filter_all (λ v. not (is_waiter w.r w.conn v)) waiters (before_next are_apart waiters more w is.one_each) in
     ap (λ (l : List Waiter). insertion (λ other. stands_before other w) w l) same
-    ∙ insertion_last (λ other. stands_before other w) w waiters (before_next stands_before waiters more w is.ordered)
+    ∙ insertion_behind (λ other. stands_before other w) w waiters (before_next stands_before waiters more w is.ordered)
 
 -- what a content with the next item is, by the commands' own words
 pub owner-next : (caps : Caps) (content whole : Content) (x : Interest) (others : List LockItem)
     → IsContent caps whole → items whole ≡ items content ++ owner x ∷ others
     → content_with content (owner x) ≡ record content { interests = interests_with x content.interests }
 owner-next caps content whole x others is e =
-    let first = front_owners whole content.interests content.waiters (owner x ∷ others) e in
-    let are : AreInterests (content.interests ++ x ∷ owners_among others) = subst
-    (λ (l : List Interest). AreInterests l) first is.owners in
-    ap (λ (l : List Interest). record content { interests = l })
-    (sym (interests_with-next content.interests (owners_among others) x are))
+    let are = rw (front_owners whole content.interests content.waiters (owner x ∷ others) e) at is.owners in
+    ap (λ (l : List Interest). record content { interests = l }) (sym (interests_with-next _ _ x are))
 
 pub waiter-next : (caps : Caps) (content whole : Content) (w : Waiter) (others : List LockItem) → IsContent caps whole
     → items whole ≡ items content ++ Waits w ∷ others
     → content_with content (Waits w) ≡ record content { waiters = waiters_with w content.waiters }
 waiter-next caps content whole w others is e =
-    let first = front_waiters whole content.interests content.waiters (Waits w ∷ others) e in
-    let queue : IsQueue (content.waiters ++ w ∷ waiters_among others) = subst (λ (l : List Waiter). IsQueue l) first
-    is.queue in
-    ap (λ (l : List Waiter). record content { waiters = l })
-    (sym (waiters_with-next content.waiters (waiters_among others) w queue))
+    let queue = rw (front_waiters whole content.interests content.waiters (Waits w ∷ others) e) at is.queue in
+    ap (λ (l : List Waiter). record content { waiters = l }) (sym (waiters_with-next _ _ w queue))
 
 -- ---- the last one goes
 
@@ -228,8 +204,7 @@ pub waiters_without-last : (waiters : List Waiter) (w : Waiter) → IsQueue wait
     → slice_get waiters (length waiters - 1) ≡ Some w → waiters_without w.r w.conn waiters ≡ without_last waiters
 waiters_without-last waiters w is h =
     let e = last_behind waiters w h in
-    let u : pairwise are_apart (without_last waiters ++ w ∷ []) ≡ true = subst
-    (λ (l : List Waiter). pairwise are_apart l ≡ true) e is.one_each in
+    let u = subst (λ (l : List Waiter). pairwise are_apart l ≡ true) e is.one_each in
     ap (λ (l : List Waiter). waiters_without w.r w.conn l) e
     ∙ without_keyed_last waiter_part same_part same_part-refl (without_last waiters) w u
 
@@ -237,8 +212,7 @@ pub interests_without-last : (interests : List Interest) (x : Interest) → AreI
     (length interests - 1) ≡ Some x → interests_without x.held.r x.held.conn interests ≡ without_last interests
 interests_without-last interests x are h =
     let e = last_behind interests x h in
-    let u : pairwise parts_apart (without_last interests ++ x ∷ []) ≡ true =
-    subst (λ (l : List Interest). pairwise parts_apart l ≡ true) e are.one_each in
+    let u = subst (λ (l : List Interest). pairwise parts_apart l ≡ true) e are.one_each in
     ap (λ (l : List Interest). interests_without x.held.r x.held.conn l) e
     ∙ without_keyed_last part_of same_part same_part-refl (without_last interests) x u
 

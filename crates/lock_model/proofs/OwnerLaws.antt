@@ -1,5 +1,5 @@
 -- Any two owners of one resource are compatible.
-use Rattle.lock_model.proofs.Imports.{arith, ◌≡◌, Bool, true, false, not, ◌&&◌, ◌||◌, ◌==◌, List, [], ◌∷◌, Contains, refl, ◌∙◌, list_all, and_parts, and_from, or_right, eq-eqb, false≢true, All-contains, AllPass-from_list_all, Caps, same_resource, pairwise, list_all_weaker, list_all_both, Interest, are_compatible, owners_agree, Content, IsContent, OwnersAreCompatible}
+use Rattle.lock_model.proofs.Imports.{arith, ◌≡◌, Bool, true, not, ◌&&◌, ◌||◌, List, [], ◌∷◌, Contains, refl, ◌∙◌, list_all, and_parts, and_from, or_right, eq-eqb, false≢true, All-contains, AllPass-from_list_all, Caps, pairwise, list_all_weaker, list_all_both, Interest, owners_agree, Content, IsContent, OwnersAreCompatible}
 use Rattle.lock_model.proofs.InterestLaws.{agree_sym}
 
 -- a relation with no direction, between each element and itself too

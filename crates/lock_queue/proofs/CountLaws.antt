@@ -1,5 +1,5 @@
 -- How many interests there are.
-use Rattle.lock_queue.proofs.Imports.{◌≡◌, ℕ, ◌+◌, ◌<◌, ◌≤◌, Bool, true, false, not, Option, Some, None, is_some, sum_by, List, [], ◌∷◌, ◌++◌, map, filter, drop, get_or, length, refl, sym, ap, ◌∙◌, arith, append_assoc, append-nil, map-append, drop_all, filter-append, arranged, joined, joined_next, ConnId, Resource, insertion, pairwise, length-insertion, sum_by-insertion, sum_by_without, any_is_found, length-filter-le, list_any, sum_by-append, sum_by-cons, same_part, resource_before, same_part-eq, same_part-refl, one_less, none_out, Waiter, is_waiter, waits, waiter_of, waiters_without, waiters_with, are_apart, recorded_by, recorded_of, recorded_in, part_of, resource_of, waiters_in, one_where}
+use Rattle.lock_queue.proofs.Imports.{◌≡◌, ℕ, ◌+◌, ◌<◌, ◌≤◌, Bool, true, false, not, Option, Some, None, is_some, sum_by, List, [], ◌∷◌, ◌++◌, map, filter, drop, get_or, length, refl, sym, ap, ◌∙◌, arith, append_assoc, append-nil, map-append, filter-append, arranged, joined, joined_next, joined_past, ConnId, Resource, insertion, pairwise, length-insertion, sum_by-insertion, sum_by_without, any_is_found, length-filter-le, list_any, sum_by-append, sum_by-cons, same_part, resource_before, same_part-eq, same_part-refl, one_less, none_out, Waiter, is_waiter, waits, waiter_of, waiters_without, waiters_with, are_apart, recorded_by, recorded_of, recorded_in, part_of, resource_of, waiters_in, one_where, length-append, insert-prefix_len, length-map}
 
 pub less_one : (r : Resource) (conn : ConnId) (waiters : List Waiter) (b : Bool) → b ≡ waits r conn waiters
     → pairwise are_apart waiters ≡ true → length (waiters_without r conn waiters) + one_where b ≡ length waiters
@@ -14,43 +14,24 @@ pub one_more : (before : Waiter → Bool) (waiter : Waiter) (waiters : List Wait
 one_more before waiter waiters n true h = grind (arith, length-insertion)
 one_more before waiter waiters n false h = grind (arith, length-insertion)
 
--- ---- the resources of all entries
+-- ---- the resources of all entries, and of those of a connector
 
-pub keys_more : (entries : List (List Waiter)) (keys new : List Resource)
-    (i : ℕ) (entry : List Waiter) (all : List Resource) → i < length entries → entry ≡ get_or entries i entry
-    → new ≡ keys ++ map resource_of entry → keys ++ map resource_of (joined (drop i entries)) ≡ all
-    → new ++ map resource_of (joined (drop (i + 1) entries)) ≡ all
-keys_more entries keys new i entry all within is put h =
-    ap (λ l. l ++ map resource_of (joined (drop (i + 1) entries))) put ∙ append_assoc keys (map resource_of entry)
-    (map resource_of (joined (drop (i + 1) entries))) ∙ ap (λ l. keys ++ l) (sym (map-append resource_of entry
-    (joined (drop (i + 1) entries)))) ∙ ap (λ l. keys ++ map resource_of (l ++ joined (drop (i + 1) entries))) is
-    ∙ ap (λ l. keys ++ map resource_of l) (sym (joined_next entries i entry within)) ∙ h
+pub resources_by : (q : Waiter → Bool) (xs ys : List Waiter)
+    → map resource_of (filter q (xs ++ ys)) ≡ map resource_of (filter q xs) ++ map resource_of (filter q ys)
+resources_by q xs ys = grind (arith, filter-append, map-append)
 
-pub keys_end : (entries : List (List Waiter)) (keys : List Resource) (i : ℕ) (all : List Resource) → length entries ≤ i
-    → keys ++ map resource_of (joined (drop i entries)) ≡ all → keys ≡ all
-unfolding joined
-keys_end entries keys i all past h =
-    sym (append-nil keys) ∙ sym (ap (λ l. keys ++ map resource_of (joined l)) (drop_all i entries past)) ∙ h
+module _ (of : List Waiter → List Resource) (parts : (xs ys : List Waiter) → of (xs ++ ys) ≡ of xs ++ of ys) where
+  pub keys_more : (entries : List (List Waiter)) (keys new : List Resource) (i : ℕ) (entry : List Waiter)
+      (all : List Resource) → i < length entries → entry ≡ get_or entries i entry → new ≡ keys ++ of entry
+      → keys ++ of (joined (drop i entries)) ≡ all → new ++ of (joined (drop (i + 1) entries)) ≡ all
+  keys_more entries keys new i entry all within is put h =
+      let split = ap of (joined_next entries i entry within ∙ ap (λ l. l ++ joined (drop (i + 1) entries)) (sym is))
+      ∙ parts entry (joined (drop (i + 1) entries)) in
+      grind (arith, split, append_assoc)
 
--- ---- the resources of a connector's waiters
-
-pub keys_more_by : (q : Waiter → Bool) (entries : List (List Waiter)) (keys new : List Resource)
-    (i : ℕ) (entry : List Waiter) (all : List Resource) → i < length entries → entry ≡ get_or entries i entry
-    → new ≡ keys ++ map resource_of (filter q entry) → keys ++ map resource_of (filter
-    q (joined (drop i entries))) ≡ all → new ++ map resource_of (filter q (joined (drop (i + 1) entries))) ≡ all
-keys_more_by q entries keys new i entry all within is put h = ap (λ l. l ++ map resource_of (filter q (joined
-    (drop (i + 1) entries)))) put ∙ append_assoc keys (map resource_of (filter q entry)) (map resource_of (filter
-    q (joined (drop (i + 1) entries)))) ∙ ap (λ l. keys ++ l) (sym (map-append resource_of (filter q entry) (filter
-    q (joined (drop (i + 1) entries))))) ∙ ap (λ l. keys ++ map resource_of l) (sym (filter-append q entry (joined
-    (drop (i + 1) entries)))) ∙ ap (λ l. keys ++ map resource_of (filter q (l ++ joined (drop (i + 1) entries)))) is
-    ∙ ap (λ l. keys ++ map resource_of (filter q l)) (sym (joined_next entries i entry within)) ∙ h
-
-pub keys_end_by : (q : Waiter → Bool) (entries : List (List Waiter)) (keys : List Resource) (i : ℕ)
-    (all : List Resource)
-    → length entries ≤ i → keys ++ map resource_of (filter q (joined (drop i entries))) ≡ all → keys ≡ all
-unfolding joined
-keys_end_by q entries keys i all past h =
-    sym (append-nil keys) ∙ sym (ap (λ l. keys ++ map resource_of (filter q (joined l))) (drop_all i entries past)) ∙ h
+  pub keys_end : (entries : List (List Waiter)) (keys : List Resource) (i : ℕ) (all : List Resource)
+      → of [] ≡ [] → length entries ≤ i → keys ++ of (joined (drop i entries)) ≡ all → keys ≡ all
+  keys_end entries keys i all none past h = grind (arith, joined_past, append-nil)
 
 -- ---- record data that waiters bring
 
@@ -104,3 +85,5 @@ recorded_more w waiters u = grind (arith, counted_more, recorded_less)
 
 pub few_with : (w : Waiter) (waiters : List Waiter) → length (waiters_with w waiters) ≤ length waiters + 1
 few_with w waiters = grind (arith, length-insertion, length-filter-le)
+
+pub ruleset fewer = (length-filter-le, length-map, length-append, insert-prefix_len)

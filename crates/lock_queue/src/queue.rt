@@ -119,6 +119,7 @@ fn spot_in(waiters: &Waiting, waiter: &Waiter) -> usize
 }
 
 // Puts a waiter into its place, in a spare node; answers how many for its resource stand before it.
+#[tactic(auto, using(crate::proofs::CountLaws::fewer))]
 fn put_in(waiters: &mut Waiting, spare: &mut Waiting, waiter: Waiter) -> usize
     requires few { linked_list_len waiters.old + 1 < 2 ^ 63 }
     requires spare { 1 ≤ linked_list_len spare.old }
@@ -284,6 +285,7 @@ fn count_on(entries: &[Waiting], r: &Resource) -> usize
 }
 
 // A connector waits for nothing more.
+#[tactic(auto, using(cf_lists::proofs::PassLaws::mapped_whole))]
 fn take_out_conn(entries: &mut [Waiting], spare: &mut Waiting, conn: ConnId)
     ensures entries { entries.new ≡ map (waiters_without_conn conn) entries.old }
     ensures spare { linked_list_len spare.old ≤ linked_list_len spare.new }
@@ -294,6 +296,7 @@ fn take_out_conn(entries: &mut [Waiting], spare: &mut Waiting, conn: ConnId)
 }
 
 // How many waiters there are.
+#[tactic(auto, using(cf_lists::proofs::PassLaws::counted_next, crate::proofs::CountLaws::fewer))]
 fn count_all(entries: &[Waiting]) -> usize
     requires { length (joined entries.now) < 4294967296 }
     ensures { result ≡ length (joined entries.now) }
@@ -354,6 +357,7 @@ fn count_all_ahead(entries: &[Waiting], r: &Resource) -> usize
 }
 
 // The waiter at a place, where it waits for this resource.
+#[tactic(auto, using(cf_lists::proofs::RankLaws::placed_none))]
 fn at_on<'a>(entries: &'a [Waiting], r: &Resource, k: usize) -> Option<&'a Waiter>
     requires entries { AreEntries entries.now }
     requires few { length (joined entries.now) < 4294967296 }
@@ -457,6 +461,7 @@ fn take_out(entries: &mut [Waiting], spare: &mut Waiting, r: &Resource, conn: Co
 
 // One waiter more, where its connector doesn't wait for its resource; answers its place among those
 // that do, from 1.
+#[tactic(auto, using(cf_lists::proofs::EntryTableLaws::few_in, crate::proofs::CountLaws::fewer))]
 fn put_new(entries: &mut [Waiting], spare: &mut Waiting, waiter: Waiter) -> usize
     requires kept { AreEntries entries.old }
     requires none { waits waiter.r waiter.conn (waiters_in entries.old) ≡ false }
@@ -497,6 +502,7 @@ fn put(entries: &mut [Waiting], spare: &mut Waiting, waiter: Waiter) -> (usize, 
 }
 
 // How many record data waiters bring with one more.
+#[tactic(auto, using(crate::proofs::CountLaws::recorded_more, crate::proofs::CountLaws::recorded_few, crate::proofs::CountLaws::few_with))]
 fn put_recorded(entries: &[Waiting], recorded: u32, waiter: &Waiter) -> u32
     requires kept { AreEntries entries.now }
     requires few { length (waiters_in entries.now) < 4294967295 }
@@ -508,6 +514,7 @@ fn put_recorded(entries: &[Waiting], recorded: u32, waiter: &Waiter) -> u32
 }
 
 // How many record data waiters bring without one.
+#[tactic(auto, using(crate::proofs::CountLaws::recorded_less))]
 fn take_recorded(entries: &[Waiting], recorded: u32, r: &Resource, conn: ConnId) -> u32
     requires kept { AreEntries entries.now }
     requires recorded { recorded ≡ recorded_in (waiters_in entries.now) }
@@ -726,6 +733,7 @@ impl Queue {
     }
 
     /// How many wait for a resource.
+    #[tactic(auto, using(crate::proofs::CountLaws::fewer))]
     pub fn count_of(&self, r: &Resource) -> usize
         ensures count { result ≡ length (waiters_of r.now self.now.waiters) }
         ensures few { result < 4294967296 }

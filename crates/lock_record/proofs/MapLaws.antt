@@ -1,7 +1,6 @@
 -- The entries of a map by connector and resource, in order.
-use Rattle.lock_record.proofs.Imports.{arith, ◌≡◌, ℕ, ◌+◌, Bool, true, false, not, ◌&&◌, cond, List, [], ◌∷◌, Option, Some, None, is_some, option_map, length, filter, find, map, refl, sym, ap, ◌∙◌, subst, nat_eq, option_to_list, IsDistinct, keys_of, lookup, IsEquivalence, nat_eq_equiv, and_equiv, on_equiv, nat_list_eq_equiv, pointwise, false≢true, length-map, lookup-none, none_past_head, ConnId, Part, same_part, same_part-eq, same_part-refl, insertion, pairwise, filter_all, filter_absorbed, filter-filter, filter_nothing, filter_swap, any_is_found, all_from_none, list_all_always, list_all_weaker, map-filtered, filter-insertion_out, length_without, pairwise-filter, pairwise-insertion, pairwise-insertion_any, arranged, in_turn, arranged_in_turn, keyed-arranged, arranged-filter, ordered_filters, length_arranged, Record, Key, key_eq, key_of, part_at, recorded, records_in, Writes, is_of, record_of, has_record, part_of, part_before, records_with, records_without, records_without_conn, are_apart, AreRecords}
-use Rattle.lock_record.proofs.PartLaws.{part_order}
-use Rattle.lock_record.proofs.RecordLaws.{apart_both, finds_place}
+use Rattle.lock_record.proofs.Imports.{arith, ◌≡◌, ℕ, ◌+◌, Bool, true, false, not, ◌&&◌, cond, List, [], ◌∷◌, Option, Some, None, is_some, option_map, length, filter, find, map, refl, sym, ap, ◌∙◌, subst, nat_eq, option_to_list, IsDistinct, keys_of, lookup, IsEquivalence, and_equiv, on_equiv, nat_list_eq_equiv, false≢true, length-map, lookup-none, none_past_head, ConnId, Part, same_part, same_part-eq, same_part-refl, insertion, pairwise, filter_all, filter_absorbed, filter-filter, filter_nothing, filter_swap, any_is_found, all_from_none, list_all_always, list_all_weaker, map-filtered, filter-insertion_out, length_without, pairwise-filter, pairwise-insertion, pairwise-insertion_any, arranged, in_turn, arranged_in_turn, keyed-arranged, arranged-filter, ordered_filters, length_arranged, Record, Key, key_eq, key_of, part_at, recorded, records_in, Writes, is_of, record_of, has_record, part_of, part_before, records_with, records_without, records_without_conn, are_apart, AreRecords}
+use Rattle.lock_record.proofs.{PartLaws.part_order, RecordLaws.apart_both, RecordLaws.finds_place}
 
 -- ---- keys
 

@@ -1,5 +1,5 @@
 -- Entries one after another.
-use Rattle.lock_record.proofs.Imports.{◌≡◌, ℕ, zero, suc, ◌+◌, ◌<◌, ◌==◌, ◌||◌, ◌&&◌, Bool, true, false, List, [], ◌∷◌, ◌++◌, option_map, slice_get, length, drop, map, filter, refl, sym, ap, ◌∙◌, arith, if◌then◌else◌, list_any, list_all, IsPermutation, and_parts, and_from, nat_tests, ConnId, Resource, resource_before, same_part, same_resource, insertion, pairwise, list_all-filter_same, list_all-insertion, list_any-insertion, arranged, in_turn, resource_order, insertion_agree, arranged-filter, sorted_is, Record, Key, recorded, records_in, is_of, is_part_by, part_of, part_before, resource_at, resource_of, resources_by, same_part-refl, same_part-eq}
+use Rattle.lock_record.proofs.Imports.{◌≡◌, ℕ, zero, suc, ◌+◌, ◌<◌, Bool, true, false, List, [], ◌∷◌, ◌++◌, option_map, slice_get, length, drop, map, filter, refl, sym, ap, ◌∙◌, arith, list_any, list_all, IsPermutation, and_parts, and_from, ConnId, Resource, resource_before, same_part, same_resource, insertion, pairwise, list_all-filter_same, list_all-insertion, list_any-insertion, arranged, in_turn, resource_order, insertion_agree, arranged-filter, sorted_is, Record, Key, recorded, records_in, is_of, is_part_by, part_of, part_before, resource_at, resource_of, resources_by}
 use Rattle.lock_record.proofs.PartLaws.{part_order}
 
 -- what some of them have

@@ -110,48 +110,27 @@ pub none_out : (r : Resource) (conn : ConnId) (owners : List Held) → list_any 
 none_out r conn owners h =
     sym (filter_all (λ held. not (is_interest r conn held)) owners (all_from_none (is_interest r conn) owners h))
 
--- ---- an interest takes a state
+-- ---- an interest takes a state, or is retained
+
+module _ (r : Resource) (conn : ConnId) (f : Held → Held)
+    (others : (x : Held) → is_interest r conn x ≡ false → f x ≡ x) (owners : List Held) where
+  pub changed_put : (g : Held → Held) (new : List Held) (i : ℕ) (d : Held)
+      → ((x : Held) → is_interest r conn x ≡ true → g x ≡ f x) → pairwise are_apart owners ≡ true
+      → position (is_interest r conn) owners ≡ Some i → new ≡ set owners i (g (get_or owners i d)) → new ≡ map f owners
+  changed_put g new i d here u h e =
+      e ∙ ap (set owners i) (here (get_or owners i d) (position-Some (is_interest r conn) owners i d h).1)
+      ∙ set_placed part_of same_part same_part-eq same_part-refl (r, conn) f d owners i u others h
+
+  pub changed_none : list_any (is_interest r conn) owners ≡ false → owners ≡ map f owners
+  changed_none h = map_placed part_of same_part same_part-eq same_part-refl (r, conn) f owners others h
 
 pub state_else : (r : Resource) (conn : ConnId) (excl : Bool) (x : Held) → is_interest r conn x ≡ false
     → in_state r conn excl x ≡ x
 state_else r conn excl x e = rw e refl
 
-state_here : (r : Resource) (conn : ConnId) (excl : Bool) (x : Held) → is_interest r conn x ≡ true
-    → record x { excl = excl } ≡ in_state r conn excl x
-state_here r conn excl x e = rw e refl
-
-pub state_put : (r : Resource) (conn : ConnId) (excl : Bool) (owners new : List Held) (i : ℕ) (d : Held)
-    → pairwise are_apart owners ≡ true → position (is_interest r conn) owners ≡ Some i
-    → new ≡ set owners i (record (get_or owners i d) { excl = excl }) → new ≡ map (in_state r conn excl) owners
-state_put r conn excl owners new i d u h e = e ∙ ap (set owners i) (state_here r conn excl
-    (get_or owners i d) (position-Some (is_interest r conn) owners i d h).1) ∙ set_placed part_of
-    same_part same_part-eq same_part-refl (r, conn) (in_state r conn excl) d owners i u (state_else r conn excl) h
-
-pub state_none : (r : Resource) (conn : ConnId) (excl : Bool) (owners : List Held)
-    → list_any (is_interest r conn) owners ≡ false → owners ≡ map (in_state r conn excl) owners
-state_none r conn excl owners h = map_placed part_of same_part
-    same_part-eq same_part-refl (r, conn) (in_state r conn excl) owners (state_else r conn excl) h
-
 pub retention_else : (r : Resource) (conn : ConnId) (retained : Bool) (x : Held) → is_interest r conn x ≡ false
     → in_retention r conn retained x ≡ x
 retention_else r conn retained x e = rw e refl
-
-retention_here : (r : Resource) (conn : ConnId) (retained : Bool) (x : Held) → is_interest r conn x ≡ true
-    → record x { retained = retained } ≡ in_retention r conn retained x
-retention_here r conn retained x e = rw e refl
-
-pub retention_put : (r : Resource) (conn : ConnId) (retained : Bool) (owners new : List Held) (i : ℕ) (d : Held)
-    → pairwise are_apart owners ≡ true → position (is_interest r conn) owners ≡ Some i → new ≡ set
-    owners i (record (get_or owners i d) { retained = retained }) → new ≡ map (in_retention r conn retained) owners
-retention_put r conn retained owners new i d u h e = e ∙ ap (set owners i)
-    (retention_here r conn retained (get_or owners i d) (position-Some (is_interest r conn) owners i d h).1)
-    ∙ set_placed part_of same_part same_part-eq same_part-refl
-    (r, conn) (in_retention r conn retained) d owners i u (retention_else r conn retained) h
-
-pub retention_none : (r : Resource) (conn : ConnId) (retained : Bool) (owners : List Held)
-    → list_any (is_interest r conn) owners ≡ false → owners ≡ map (in_retention r conn retained) owners
-retention_none r conn retained owners h = map_placed part_of same_part
-    same_part-eq same_part-refl (r, conn) (in_retention r conn retained) owners (retention_else r conn retained) h
 
 pub none_by : (mask : List ConnId) (owners : List Held) (conn : ConnId) → IsMasked mask owners
     → nat_lt conn.0 SET_NUMBERS && not (is_member conn mask) ≡ true → filter (is_by conn) owners ≡ []
@@ -172,11 +151,7 @@ none_retained mask owners conn retained h e =
     unchanged : (xs : List Held) → list_all (λ x. not (is_by conn x)) xs ≡ true
         → xs ≡ map (in_retention_of conn retained) xs
     unchanged [] g = refl
-    unchanged (x ∷ xs) g =
-        let parts = and_parts (not (is_by conn x)) (list_all (λ y. not (is_by conn y)) xs) g in
-        let other : is_by conn x ≡ false = not-true (is_by conn x) parts.0 in
-        ap (λ l. x ∷ l) (unchanged xs parts.1)
-        ∙ ap (λ y. y ∷ map (in_retention_of conn retained) xs) (sym (rw other refl))
+    unchanged (x ∷ xs) g = grind (arith, and_parts, not-true, unchanged xs)
 
 pub none_active : (mask : List ConnId) (owners : List Held) (conn : ConnId) → IsMasked mask owners
     → nat_lt conn.0 SET_NUMBERS && not (is_member conn mask) ≡ true → owners ≡ owners_without_active conn owners

@@ -132,6 +132,7 @@ fn put_retention(entries: &mut [Entry], r: &Resource, conn: ConnId, retained: bo
 }
 
 // All interests of a connector are retained or not.
+#[tactic(auto, using(cf_lists::proofs::PassLaws::mapped_whole))]
 fn put_retentions(entries: &mut [Entry], conn: ConnId, retained: bool)
     ensures { entries.new ≡ map (owners_retained_of conn retained) entries.old }
 {
@@ -141,6 +142,7 @@ fn put_retentions(entries: &mut [Entry], conn: ConnId, retained: bool)
 }
 
 // A connector's interests that aren't retained go.
+#[tactic(auto, using(cf_lists::proofs::PassLaws::mapped_whole))]
 fn take_active(entries: &mut [Entry], spare: &mut Spare, conn: ConnId)
     ensures entries { entries.new ≡ map (owners_without_active conn) entries.old }
     ensures spare { linked_list_len spare.old ≤ linked_list_len spare.new }
@@ -202,6 +204,7 @@ fn count_before(entries: &[Entry], r: &Resource) -> usize
 }
 
 // The interest at a place, where it is in this resource.
+#[tactic(auto, using(cf_lists::proofs::RankLaws::placed_none))]
 fn at_on<'a>(entries: &'a [Entry], r: &Resource, k: usize) -> Option<&'a Held>
     requires entries { AreEntries entries.now }
     requires few { length (joined entries.now) < 4294967296 }

@@ -20,8 +20,5 @@ pub use Rattle.lock_words.specs.Hands.{HandSeen, LocksSeen, hand_seen, IsHand, I
 pub use Rattle.lock_words.specs.Rule.{total, IsSpent, IsOwn, IsAnswered, IsLive, AllFit, Kept}
 pub use Rattle.lock_words.specs.Values.{tally, AreCompatible, says_excl, held_as, noted, IsValue, Admits, Adds, is_hold}
 pub use Rattle.lock_words.specs.View.{grant, spent_view, joined, hold, reading, looked, granted, tried, released, Becomes, without_right, next_view, fresh_view}
-pub use Rattle.lock_words.specs.declared.view.Grant.{Grant}
-pub use Rattle.lock_words.specs.declared.view.Hold.{Hold}
-pub use Rattle.lock_words.specs.declared.view.Reading.{Reading}
-pub use Rattle.lock_words.specs.declared.view.Size.{Size}
 pub use Rattle.lock_words.specs.declared.view.View.{View}
+pub use Rattle.lock_words.specs.declared.{view.Grant.Grant, view.Hold.Hold, view.Reading.Reading, view.Size.Size}

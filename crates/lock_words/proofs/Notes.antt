@@ -1,5 +1,5 @@
 -- What a hand's notes tell of the locks that it holds.
-use Rattle.lock_words.proofs.Imports.{◌≡◌, ◌≢◌, ◌==◌, ◌+◌, ◌*◌, ◌<◌, ℕ, suc, Bool, true, false, not, List, [], ◌∷◌, ◌++◌, length, set, get_or, filter, Option, Some, None, refl, sym, ap, ◌∙◌, subst, arith, if◌then◌else◌, get_or-set_same, get_or-set_other, length-set, All-push, dite, ℕ_discrete, Me, TableId, Hold, Reading, Grant, View, tally, held_as, noted, says_excl, hold, reading, grant, looked, granted, tried, released, Becomes, Size, IsHand, IsLocks, HandSeen, LocksSeen, hand_seen}
+use Rattle.lock_words.proofs.Imports.{◌≡◌, ◌≢◌, ◌==◌, ◌+◌, ◌*◌, ◌<◌, ℕ, suc, Bool, true, false, not, List, [], ◌∷◌, ◌++◌, length, set, get_or, filter, Option, Some, None, refl, sym, ap, ◌∙◌, subst, arith, get_or-set_same, get_or-set_other, length-set, All-push, dite, ℕ_discrete, Me, TableId, Hold, Reading, Grant, View, tally, held_as, noted, says_excl, hold, reading, grant, looked, granted, tried, released, Becomes, Size, IsHand, IsLocks, HandSeen, LocksSeen, hand_seen}
 use Rattle.lock_words.proofs.Tallies.{one, tally-push, one-other, one-same, one-opposite, tally-released, tally-spared, held-as}
 
 module _ (notes : List (Option Bool)) (table : TableId) (me : Me ℕ View) (hand : IsHand notes table me) where
@@ -30,8 +30,7 @@ module _ (notes : List (Option Bool)) (table : TableId) (me : Me ℕ View) (hand
   pub share-is : (word : ℕ) (said : Option Bool) (share : ℕ) → said ≡ get_or notes word None
       → share ≡ noted false said + noted true said * 9223372036854775808
       → share ≡ tally word false me.0.held + tally word true me.0.held * 9223372036854775808
-  share-is word said share is e = e ∙ (λ i. noted false (is i) + noted true (is i) * 9223372036854775808)
-      ∙ sym (λ i. hand.notes_are word false i + hand.notes_are word true i * 9223372036854775808)
+  share-is word said share is e = grind arith
 
   pub hand-looked : (here : TableId) (after : Me ℕ View) (word value : ℕ)
       → here ≡ table → Becomes me (looked me.0 word value) after → IsHand notes here after
@@ -77,12 +76,7 @@ module _ (notes : List (Option Bool)) (table : TableId) (me : Me ℕ View) (hand
             counts-none word e none,
             noted-here e excl,
             ap (noted e) (get_or-set_same notes word (Some excl) None below),
-          ))) (λ (ne : k ≢ word). omega (
-            arith,
-            hand.notes_are k e,
-            one-other word k e excl (λ q. ne (sym q)),
-            ap (noted e) (get_or-set_other notes word k (Some excl) None ne),
-          ))
+          ))) (grind (arith, one-other, get_or-set_other))
 
   pub hand-released : (here : TableId) (after : Me ℕ View) (word : ℕ) → word < length notes → here ≡ table
       → Becomes me (released me.0 word) after → IsHand (set notes word None) here after
@@ -94,10 +88,10 @@ module _ (notes : List (Option Bool)) (table : TableId) (me : Me ℕ View) (hand
 
       counts : (k : ℕ) (e : Bool) → tally k e (filter (λ (x : Hold). not (x.word == word)) me.0.held)
           ≡ noted e (get_or (set notes word None) k None)
-      counts k e = dite (ℕ_discrete k word) (λ (same : k ≡ word). subst (λ j. tally j
-          e (filter (λ (x : Hold). not (x.word == word)) me.0.held) ≡ noted e (get_or (set notes word None) j None))
-          (sym same) (tally-released word e me.0.held ∙ sym (ap (noted e) (get_or-set_same notes word None None below)
-          ∙ nothing e))) (λ (ne : k ≢ word). tally-spared word k e me.0.held ne
+      counts k e = dite (ℕ_discrete k word) (λ (same : k ≡ word). subst (λ j. tally
+          j e (filter (λ (x : Hold). not (x.word == word)) me.0.held) ≡ noted e (get_or (set notes word None) j None))
+          (sym same) (tally-released word e me.0.held ∙ sym (grind (arith, get_or-set_same, nothing))))
+          (λ (ne : k ≢ word). tally-spared word k e me.0.held ne
           ∙ hand.notes_are k e ∙ sym (ap (noted e) (get_or-set_other notes word k None None ne)))
 
 -- a hand at the locks' table, as a call begins

@@ -1,5 +1,5 @@
 -- A seat is split, and a seat takes in another.
-use Rattle.lock_words.proofs.Imports.{◌≡◌, ◌≢◌, ◌+◌, ◌<◌, ◌≤◌, ◌⊎◌, ℕ, zero, suc, Bool, true, false, List, [], ◌∷◌, ◌++◌, length, set, get_or, Contains, refl, sym, ap, ◌∙◌, subst, inl, inr, ⊎_elim, arith, true≢false, length-append, length-set, sum_by_push, All-weaker, All-nil, All-cons, All-append, Contains-append_left, Contains-append_right, some, some-injective, some-ne-none, dite, ℕ_discrete, get_elem?, Me, Allows, Splits, Joins, at_set, set_here, set_else, at_longer, Hold, Reading, Grant, View, Size, tally, grant, spent_view, without_right, next_view, joined, total, IsSpent, IsOwn, IsAnswered, IsLive, AllFit, Kept}
+use Rattle.lock_words.proofs.Imports.{◌≡◌, ◌≢◌, ◌+◌, ◌<◌, ◌⊎◌, ℕ, zero, suc, Bool, true, false, List, [], ◌∷◌, ◌++◌, length, set, get_or, Contains, refl, sym, ◌∙◌, inl, inr, ⊎_elim, arith, true≢false, length-append, length-set, sum_by_push, All-weaker, All-nil, All-cons, All-append, Contains-append_left, Contains-append_right, some, some-injective, some-ne-none, dite, ℕ_discrete, get_elem?, Me, Allows, Splits, Joins, at_set, set_here, set_else, at_longer, Hold, Reading, Grant, View, Size, tally, grant, spent_view, without_right, next_view, joined, total, IsSpent, IsOwn, IsAnswered, IsLive, AllFit, Kept}
 use Rattle.lock_words.proofs.Tallies.{tally-append, sum-set, value-same, value-sum}
 use Rattle.lock_words.proofs.Steps.{within, same-at, not-spent, moved, fit-set}
 
@@ -9,20 +9,21 @@ at-end : (vs : List View) (w u : View) (j : ℕ) → get_elem? (vs ++ w ∷ []) 
 at-end [] w u zero e = inr (refl, some-injective w u e)
 at-end [] w u (suc j) e = absurd (some-ne-none u (sym e))
 at-end (x ∷ xs) w u zero e = inl e
-at-end (x ∷ xs) w u (suc j) e = ⊎_elim (λ (t : get_elem? xs j ≡ some u). inl t)
-    (λ (t : (j ≡ length xs) × (w ≡ u)). inr (ap suc t.0, t.1)) (at-end xs w u j e)
+at-end (x ∷ xs) w u (suc j) e = grind (arith, ⊎_elim, get_elem?, at-end xs w u j e)
 
 one-more : (vs : List View) (w : View) → length (vs ++ w ∷ []) ≡ suc (length vs)
 one-more vs w = omega (arith, length-append vs (w ∷ []))
+
+live : (views : List View) (seat : ℕ) (v : View) → 0 < v.number → (v ≡ spent_view) ⊎ IsLive views seat v
+    → IsLive views seat v
+live views seat v pos f =
+    ⊎_elim (λ (z : v ≡ spent_view). absurd (not-spent v pos (sym z))) (λ (f : IsLive views seat v). f) f
 
 -- the hand that has the right makes the next one
 pub splits : (size : Size) (id : ℕ) (v : View) → 0 < v.number → v.right ≡ true → v.number < size.hands
     → Splits (Kept size) id v (without_right v) (next_view v)
 splits size id v pos has room s kept at = grind (arith, live, length-set, one-more, value-same, sums, fit)
   where
-    live : (v ≡ spent_view) ⊎ IsLive s.views id v → IsLive s.views id v
-    live f = ⊎_elim (λ (z : v ≡ spent_view). absurd (not-spent v pos (sym z))) (λ (f : IsLive s.views id v). f) f
-
     sums : (k : ℕ) (e : Bool) → total k e s.views ≡ total k e (set s.views id (without_right v) ++ next_view v ∷ [])
     sums k e = grind (arith, sum-set, sum_by_push)
 
@@ -35,8 +36,7 @@ splits size id v pos has room s kept at = grind (arith, live, length-set, one-mo
 
     answered : (r : Reading) → IsAnswered (set s.views id (without_right v)) r
         → IsAnswered (set s.views id (without_right v) ++ next_view v ∷ []) r
-    answered r answer some_value = let a = answer some_value in
-        (a.0, a.1, a.2, at_longer (set s.views id (without_right v)) (next_view v ∷ []) a.0 a.1 a.3, a.4, a.5)
+    answered r answer some_value = grind (arith, at_longer)
 
     fit : suc id ≡ length (set s.views id (without_right v)) → v.number ≡ suc id
         → AllFit (set s.views id (without_right v) ++ next_view v ∷ [])
@@ -44,21 +44,9 @@ splits size id v pos has room s kept at = grind (arith, live, length-set, one-mo
         let views = set s.views id (without_right v) in
         let views' = set s.views id (without_right v) ++ next_view v ∷ [] in
         ⊎_elim (λ (t : get_elem? views seat ≡ some u). ⊎_elim (λ (z : u ≡ spent_view). inl z)
-        (λ (f : IsLive views seat u). inr (moved views views' seat u spent answered
-        (λ r q. absurd (true≢false (sym r ∙ ap (λ (x : View). x.right) (same-at views seat id u (without_right v)
-        (omega arith) t (set_here s.views id (without_right v) (within s.views id v at)))))) f)) (before seat u t))
-        (λ (t : (seat ≡ length views) × (next_view v ≡ u)).
-        let place : seat ≡ length views = t.0 in
-        let next_number : v.number + 1 ≡ suc seat = omega (arith, count, number) in
-        inr (subst (IsLive views' seat) t.1 record {
-          number = next_number;
-          own = (0, omega arith, refl);
-          right = λ _. omega (arith, one-more views (next_view v));
-          gathered = All-cons (IsOwn views' seat) (v.number + 1) [] (inl next_number) (All-nil (IsOwn views' seat));
-          ever = All-nil (λ (g : Grant). IsOwn views' seat g.hand);
-          held = All-nil (λ (x : Hold). (hand : ℕ) × Contains [] (grant hand x.word x.excl));
-          read = All-nil (IsAnswered views');
-        })) (at-end views (next_view v) u seat e)
+        (λ (f : IsLive views seat u). inr (
+        grind (arith, moved, spent, answered, true≢false, same-at, set_here, within))) (before seat u t))
+        (grind (arith, one-more, All-cons, All-nil)) (at-end views (next_view v) u seat e)
 
 -- a hand takes in another
 pub joins : (size : Size) (id : ℕ) (v : View) (other : ℕ) (w : View) → 0 < v.number → 0 < w.number
@@ -79,22 +67,16 @@ joins size id v other w pos pos' s kept at apart there = grind (arith, lengths, 
       tally-append k e v.held w.held,
     )
 
-    live : (v ≡ spent_view) ⊎ IsLive s.views id v → IsLive s.views id v
-    live f = ⊎_elim (λ (z : v ≡ spent_view). absurd (not-spent v pos (sym z))) (λ (f : IsLive s.views id v). f) f
-
     -- the other seat's place, the first seat's, and any other
     at-other : get_elem? (set (set s.views id (joined v w)) other spent_view) other ≡ some spent_view
-    at-other = set_here (set s.views id (joined v w)) other spent_view
-        (within (set s.views id (joined v w)) other w there)
+    at-other = grind (arith, set_here, within)
 
     at-first : get_elem? (set (set s.views id (joined v w)) other spent_view) id ≡ some (joined v w)
-    at-first = set_else (set s.views id (joined v w)) other id spent_view (λ e. apart (sym e))
-        ∙ set_here s.views id (joined v w) (within s.views id v at)
+    at-first = grind (arith, set_else, set_here, within)
 
     at-else : (j : ℕ) (u : View) → j ≢ id → j ≢ other → get_elem? s.views j ≡ some u
         → get_elem? (set (set s.views id (joined v w)) other spent_view) j ≡ some u
-    at-else j u far off e = set_else (set s.views id (joined v w)) other j spent_view off
-        ∙ (set_else s.views id j (joined v w) far ∙ e)
+    at-else j u far off e = grind (arith, set_else)
 
     spent : (k : ℕ) → IsSpent s.views k → IsSpent (set (set s.views id (joined v w)) other spent_view) k
     spent k t = grind (arith, dite, ℕ_discrete, get_elem?, at-other, at-else, not-spent, same-at)
@@ -120,35 +102,32 @@ joins size id v other w pos pos' s kept at apart there = grind (arith, lengths, 
       right = λ r. f.right r ∙ sym lengths;
       gathered = All-append (IsOwn (set (set s.views id (joined v w)) other spent_view) id) v.gathered
           w.gathered (All-weaker (IsOwn s.views id) (IsOwn (set (set s.views id (joined v w)) other spent_view) id)
-          own v.gathered f.gathered) (All-weaker (IsOwn s.views other) (IsOwn
-          (set (set s.views id (joined v w)) other spent_view) id) (λ k o. inr (gone k o)) w.gathered h.gathered);
+          own v.gathered f.gathered) (grind (arith, All-weaker, gone));
       ever = All-append (λ (g : Grant). IsOwn (set (set s.views id (joined v w)) other spent_view) id g.hand)
           v.ever w.ever (All-weaker (λ (g : Grant). IsOwn s.views id g.hand)
           (λ (g : Grant). IsOwn (set (set s.views id (joined v w)) other spent_view) id g.hand) (λ g. own g.hand)
-          v.ever f.ever) (All-weaker (λ (g : Grant). IsOwn s.views other g.hand) (λ (g : Grant). IsOwn (set
-          (set s.views id (joined v w)) other spent_view) id g.hand) (λ g o. inr (gone g.hand o)) w.ever h.ever);
+          v.ever f.ever) (grind (arith, All-weaker, gone));
       held = All-append Has v.held w.held (All-weaker (λ (x : Hold). (hand : ℕ) × Contains v.ever (grant hand x.word
           x.excl)) Has (λ x t. (t.0, Contains-append_left v.ever w.ever (grant t.0 x.word x.excl) t.1)) v.held f.held)
           (All-weaker (λ (x : Hold). (hand : ℕ) × Contains w.ever (grant hand x.word x.excl))
           Has (λ x t. (t.0, Contains-append_right v.ever w.ever (grant t.0 x.word x.excl) t.1)) w.held h.held);
       read = All-append (IsAnswered (set (set s.views id (joined v w)) other spent_view)) v.read
-          w.read (All-weaker (IsAnswered s.views) (IsAnswered (set (set s.views id (joined v w)) other spent_view))
-          answered v.read f.read) (All-weaker (IsAnswered s.views)
-          (IsAnswered (set (set s.views id (joined v w)) other spent_view)) answered w.read h.read);
+          w.read (grind (arith, All-weaker, answered)) (grind (arith, All-weaker, answered));
     }
 
     fit : AllFit (set (set s.views id (joined v w)) other spent_view)
     fit seat u e =
         let views = set s.views id (joined v w) in
         let views' = set (set s.views id (joined v w)) other spent_view in
-        ⊎_elim (λ (t : (seat ≡ other) × (spent_view ≡ u)). inl (sym t.1))
-        (λ (t : (seat ≢ other) × (get_elem? views seat ≡ some u)). ⊎_elim
-        (λ (x : (seat ≡ id) × (joined v w ≡ u)). inr (subst (λ (p : ℕ × View). IsLive views' p.0 p.1) (λ i. (
-          sym x.0 i,
-          x.1 i,
-        )) (both (live (kept.fit id v at)) (⊎_elim (λ (z : w ≡ spent_view). absurd (not-spent w pos' (sym z)))
-        (λ (f : IsLive s.views other w). f) (kept.fit other w was)))))
-        (λ (x : (seat ≢ id) × (get_elem? s.views seat ≡ some u)). ⊎_elim (λ (z : u ≡ spent_view). inl z)
+        ⊎_elim (λ (t : (seat ≡ other) × (spent_view ≡ u)). inl (sym t.1)) (λ
+        (t : (seat ≢ other) × (get_elem? views seat ≡ some u)). ⊎_elim (grind (
+          arith,
+          both,
+          live,
+          ⊎_elim,
+          not-spent,
+          was,
+        )) (λ (x : (seat ≢ id) × (get_elem? s.views seat ≡ some u)). ⊎_elim (λ (z : u ≡ spent_view). inl z)
         (λ (f : IsLive s.views seat u). inr (moved s.views views' seat u spent answered (λ r q. q ∙ sym lengths) f))
         (kept.fit seat u x.1)) (at_set s.views id seat (joined v w) u t.1)) (at_set views other seat spent_view u e)
 

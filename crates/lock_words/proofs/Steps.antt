@@ -35,8 +35,7 @@ module _ (views : List View) (id : ℕ) (v w : View) (at : get_elem? views id �
         a.2,
         set_here views id w (within views id v at),
         a.4,
-        more (grant a.2 r.word (says_excl r.value)) (subst (λ (u : View). Contains u.ever
-            (grant a.2 r.word (says_excl r.value))) (same-at views a.0 id a.1 v e a.3 at) a.5),
+        more (grant a.2 r.word (says_excl r.value)) (grind (arith, same-at)),
       )) (λ (ne : a.0 ≢ id). (a.0, a.1, a.2, set_else views id a.0 w ne ∙ a.3, a.4, a.5))
 
   -- one hand's step
@@ -49,8 +48,7 @@ module _ (views : List View) (id : ℕ) (v w : View) (at : get_elem? views id �
       (λ (f : IsLive views seat u). inr (here seat u f)) (fit seat u t.1)) (at_set views id seat w u e)
     where
       here : (seat : ℕ) (u : View) → IsLive views seat u → IsLive (set views id w) seat u
-      here seat u f = moved views (set views id w) seat u spent-set (answered-set more)
-          (λ _ q. q ∙ sym (length-set views id w)) f
+      here seat u f = grind (arith, moved, spent-set, answered-set, length-set)
 
 -- what a hand finds in a word that it doesn't hold is another's
 pub answers : (size : Size) (s : State ℕ View) (id word : ℕ) (v : View) → Kept size s → get_elem? s.views id ≡ some v
@@ -59,8 +57,7 @@ pub answers : (size : Size) (s : State ℕ View) (id word : ℕ) (v : View) → 
 answers size s id word v kept at pos no_share no_excl some_value =
     let n = get_or s.words word 0 in
     let b = says_excl n in
-    let there = somewhere (λ u. tally word b u.held) s.views (some_of
-    b (value-state (total word false s.views) (total word true s.views) n (kept.words word) some_value b refl)) in
+    let there = somewhere (λ u. tally word b u.held) s.views (grind (arith, some_of, value-state)) in
     go there.0 there.1 b there.2 there.3 (kept.fit there.0 there.1 there.2)
   where
     some_of : (b : Bool) → 0 < cond b (total word true s.views) (total word false s.views) → 0 < total word b s.views
@@ -78,8 +75,7 @@ answers size s id word v kept at pos no_share no_excl some_value =
     go : (seat : ℕ) (u : View) (b : Bool) → get_elem? s.views seat ≡ some u
         → 0 < tally word b u.held → (u ≡ spent_view) ⊎ IsLive s.views seat u → (j : ℕ) × (x : View)
         × (hand : ℕ) × (get_elem? s.views j ≡ some x) × (hand ≢ v.number) × Contains x.ever (grant hand word b)
-    go seat u b there has (inl z) =
-        let e : tally word b u.held ≡ 0 = ap (λ (x : View). tally word b x.held) z in absurd (omega arith)
+    go seat u b there has (inl z) = grind arith
     go seat u b there has (inr f) =
         let got = counted (λ x. (hand : ℕ) × Contains u.ever (grant hand x.word x.excl)) word b u.held f.held has in (
           seat,
@@ -158,8 +154,7 @@ looks size slots id i me below pos no_share no_excl s kept width at small =
       tt,
       stepped-kept size s id i n v w kept at pos (omega arith) (λ g h. h) (live-looked
           (set s.views id w) id v i n (answered-set s.views id v w at pos (λ g h. h) (reading v.number i n)
-          (answers size s id i v kept at pos no_share no_excl))) (λ k e ne. refl) (value-same
-          (total i false s.views) (total i true s.views) n _ _ _ (sums n false) (sums n true) refl (kept.words i)),
+          (answers size s id i v kept at pos no_share no_excl))) (λ k e ne. refl) (grind (arith, value-same, sums)),
       (refl, refl),
     )
   where
@@ -218,8 +213,7 @@ tries size slots id i old new excl me below pos no_share no_excl admits adds s k
             arith,
             tally-push k e me.0.held (hold i excl),
             one-other i k e excl (λ q. ne (sym q)),
-          )) (value-same _ _ new _ _ _ (sym (sums n false))
-          (sym (sums n true)) refl (value excl refl admits adds.1 n (eqb-true n old is) (kept.words i))),
+          )) (grind (arith, value-same, sums, value, eqb-true)),
       (ap (λ e. granted (looked me.0 i n) i e) (sym adds.0), refl),
     ))
     go false is = subst Goal (sym is) (let n = get_or s.words i 0 in let w = looked me.0 i n in (

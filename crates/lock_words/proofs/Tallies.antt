@@ -1,5 +1,5 @@
 -- Counts of items over one list and over all seats.
-use Rattle.lock_words.proofs.Imports.{◌≡◌, ◌≢◌, ◌==◌, ◌+◌, ◌-◌, ◌*◌, ◌%◌, ◌^◌, ◌<◌, ◌≤◌, ◌&&◌, ℕ, zero, suc, Bool, true, false, not, cond, List, [], ◌∷◌, ◌++◌, length, set, get_or, filter, All, AllPairs, Option, Some, None, sum_by, refl, sym, ap, ◌∙◌, subst, inl, inr, ⊎_elim, arith, eq-eqb, ne_eqb, eq-zero-or-pos, if◌then◌else◌, eqb-true, eqb-false, get_or-set_same, get_or-set_other, sum_by-cons, sum_by-append, sum_by_push, get_or-le-sum_by, All-head, All-tail, some, some-injective, some-ne-none, dite, ℕ_discrete, get_elem?, Hold, View, is_hold, tally, IsValue, AreCompatible, held_as, says_excl, noted, hold, total}
+use Rattle.lock_words.proofs.Imports.{◌≡◌, ◌≢◌, ◌==◌, ◌+◌, ◌-◌, ◌*◌, ◌%◌, ◌^◌, ◌<◌, ◌≤◌, ◌&&◌, ℕ, zero, suc, Bool, true, false, not, cond, List, [], ◌∷◌, ◌++◌, length, set, get_or, filter, All, AllPairs, Option, Some, None, sum_by, refl, sym, ap, ◌∙◌, subst, ⊎_elim, arith, eq-eqb, ne_eqb, eq-zero-or-pos, if◌then◌else◌, eqb-true, eqb-false, get_or-set_same, get_or-set_other, sum_by-cons, sum_by-append, sum_by_push, get_or-le-sum_by, All-head, All-tail, some, some-injective, some-ne-none, dite, ℕ_discrete, get_elem?, Hold, View, is_hold, tally, IsValue, AreCompatible, held_as, says_excl, noted, hold, total}
 
 abbrev bit : Bool → ℕ
 bit b = cond b 1 0
@@ -71,8 +71,7 @@ held-as w o (x ∷ xs) p q = go (λ o f t. held-as w o xs f t) (x.word == w) x.e
     go : ((o : Option Bool) → tally w false xs ≡ noted false o → tally w true xs ≡ noted true o → held_as xs w ≡ o)
         → (b c : Bool) → (x.word == w) ≡ b → x.excl ≡ c → (o : Option Bool) → tally w false (x ∷ xs) ≡ noted false o
         → tally w true (x ∷ xs) ≡ noted true o → held_as (x ∷ xs) w ≡ o
-    go more false c p q o f t = ap (λ t. if t then Some x.excl else held_as xs w) p
-        ∙ more o (omega (arith, parts false c false p q, f)) (omega (arith, parts false c true p q, t))
+    go more false c p q o f t = grind (arith, parts)
     go more true true p q (Some true) f t = here true p q
     go more true false p q (Some false) f t = here false p q
     go more true true p q (Some false) f t = absurd (omega (arith, parts true true true p q, t))
@@ -85,8 +84,7 @@ pub sum-set : (f : View → ℕ) (vs : List View) (i : ℕ) (v w : View) → get
     → sum_by f (set vs i w) + f v ≡ sum_by f vs + f w
 sum-set f [] i v w e = absurd (some-ne-none v (sym e))
 sum-set f (x ∷ xs) zero v w e = omega (arith, sum_by-cons f x xs, sum_by-cons f w xs, ap f (some-injective x v e))
-sum-set f (x ∷ xs) (suc i) v w e =
-    omega (arith, sum_by-cons f x xs, sum_by-cons f x (set xs i w), sum-set f xs i v w e)
+sum-set f (x ∷ xs) (suc i) v w e = grind (arith, sum_by-cons, sum-set f xs i v w e)
 
 -- some seat has a part of a sum above 0
 pub somewhere : (f : View → ℕ) (vs : List View) → 0 < sum_by f vs
@@ -121,16 +119,14 @@ pub value-sum : (s x n : ℕ) → IsValue s x n → (n ≡ s + x * 9223372036854
 value-sum s x n v = grind (arith, ⊎_elim)
 
 pub value-is : (s x n : ℕ) → n ≡ s + x * 9223372036854775808 → s + x * 65535 ≤ 65535 → IsValue s x n
-value-is s x n sum most = ⊎_elim (λ (z : x ≡ 0). inl (z, omega arith, omega arith))
-    (λ (p : 0 < x). inr (omega arith, omega arith, omega arith)) (eq-zero-or-pos x)
+value-is s x n sum most = grind (arith, ⊎_elim, eq-zero-or-pos)
 
 pub value-same : (s x n s' x' n' : ℕ) → s ≡ s' → x ≡ x' → n ≡ n' → IsValue s x n → IsValue s' x' n'
 value-same s x n s' x' n' p q r = subst (λ (t : ℕ × ℕ × ℕ). IsValue t.0 t.1 t.2) (λ i. (p i, q i, r i))
 
 -- a value above 0 has a holder of its state
 pub value-state : (s x n : ℕ) → IsValue s x n → 0 < n → (b : Bool) → says_excl n ≡ b → 0 < cond b x s
-value-state s x n v pos true is =
-    let t = value-sum s x n v in let e = eqb-true n 9223372036854775808 is in omega (arith, t.0, t.1, e)
+value-state s x n v pos true is = grind (arith, value-sum, eqb-true)
 value-state s x n v pos false is = grind (arith, value-sum, eqb-false, ⊎_elim)
 
 -- one seat's change, seen from the words
@@ -172,12 +168,9 @@ compatible-in xs values i j d lt within same =
         x + one y.word false y ≤ tally y.word false xs → one y.word true x + one y.word true y ≤ tally y.word true xs
         → tally y.word false xs + tally y.word true xs * 65535 ≤ 65535 → (x.excl ≡ false) × (y.excl ≡ false)
     go x y false false same p q f t most = (p, q)
-    go x y true true same p q f t most =
-        absurd (omega (arith, one-of x y.word true same p, one-of y y.word true refl q, t, most))
-    go x y true false same p q f t most =
-        absurd (omega (arith, one-of x y.word true same p, one-of y y.word false refl q, f, t, most))
-    go x y false true same p q f t most =
-        absurd (omega (arith, one-of x y.word false same p, one-of y y.word true refl q, f, t, most))
+    go x y true true same p q f t most = grind (arith, one-of)
+    go x y true false same p q f t most = grind (arith, one-of)
+    go x y false true same p q f t most = grind (arith, one-of)
 
 -- a step of a hand takes its share off a word
 pub taken-off : (n k : ℕ) → k ≤ n → n < 18446744073709551616 → (n + (2 ^ 64 - k)) % 2 ^ 64 ≡ n - k

@@ -143,6 +143,7 @@ impl LockWords {
     }
 
     /// Reads the words out.
+    #[tactic(auto, using(crate::proofs::Gathering::read_told))]
     fn end(self, seat: Seat<u8, View>) -> Vec<u64>
         requires { seat.table_id ≡ self.table }
         ensures count { length result.items ≡ self.words }

@@ -1,11 +1,9 @@
 -- An instance stands where the first link of a call on the content is asked.
 use Rattle.std.proofs.Common.{◌≡◌, ◌++◌, ◌∷◌, ◌||◌, Bool, true, false, List, [], refl, ap, subst, arith}
 use Rattle.std.specs.Prelude.{Option, None, Some, All, get_or}
-use Rattle.engine_api.specs.CfTypes.declared.numbers.CfId.{CfId}
-use Rattle.engine_api.specs.CfTypes.declared.refusals.Refusal.{Refusal}
-use Rattle.engine_api.specs.CfTypes.Forms.{IsFacility}
-use Rattle.engine_api.specs.Instances.{is_at}
+use Rattle.engine_api.specs.CfTypes.declared.{numbers.CfId.CfId, refusals.Refusal.Refusal}
 use Rattle.engine_api.specs.LinkAsks.{Asks, apart, asked_unless, listed}
+use Rattle.engine_api.specs.{CfTypes.Forms.IsFacility, Instances.is_at}
 use Rattle.engine_api.proofs.AskLaws.{itself}
 
 -- the links of these two places, unless the call is refused

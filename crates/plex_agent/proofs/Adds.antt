@@ -1,25 +1,21 @@
 -- What each kind of item does to a pass: calls, tests, posts and takes.
-use Rattle.plex_agent.proofs.Imports.{◌≡◌, ℕ, ◌+◌, ◌*◌, ◌^◌, ◌≤◌, ◌<◌, ◌==◌, ◌&&◌, nat_lt, Bool, true, false, List, [], ◌∷◌, ◌++◌, map, Some, None, refl, sym, ◌∙◌, arith, append-nil, slice_get, cond, All, bit_at, ltb-false, map-append, All-head, All-tail, StrForm, ConnId, StrNo, Entry, Told, Meaning, Tells, cache_meaning, list_meaning, lock_meaning, AnyAsk, AnyHistory, Shown, AnyCall, surest_on, seen_on, TellsBit, TellsWord, place_of, Sight, bit_in, sight, indices_of, IsTold, AnyReply, PassShown, IsLater, with_call, IsAnyTold, told_past, each_sight, bit_in_word, AnyTells, all_bits}
-use Rattle.plex_board.specs.PlexScript.declared.asks.AnyHistory.TheVariants as history
-use Rattle.plex_board.specs.PlexScript.declared.transcripts.Shown.TheVariants as shown
-use Rattle.plex_agent.proofs.Fronts.{front_same, front_more}
+use Rattle.plex_agent.proofs.Imports.{◌≡◌, ℕ, ◌+◌, ◌*◌, ◌^◌, ◌≤◌, ◌<◌, ◌==◌, ◌&&◌, nat_lt, Bool, true, false, List, [], ◌∷◌, ◌++◌, map, Some, None, refl, sym, ◌∙◌, arith, append-nil, slice_get, cond, All, bit_at, ltb-false, map-append, All-head, StrForm, ConnId, StrNo, Entry, Told, Meaning, Tells, cache_meaning, list_meaning, lock_meaning, AnyAsk, AnyHistory, Shown, AnyCall, surest_on, seen_on, TellsBit, TellsWord, place_of, Sight, bit_in, sight, indices_of, IsTold, AnyReply, PassShown, IsLater, with_call, IsAnyTold, told_past, each_sight, bit_in_word, AnyTells, all_bits}
 use Rattle.plex_agent.proofs.Passes.{Caller, IsOf, IsShown, IsWithin, Adds}
-use Rattle.plex_agent.proofs.Spots.{is_same}
-use Rattle.plex_agent.proofs.Lookups.{all_behind}
+use Rattle.plex_agent.proofs.{Fronts.front_same, Fronts.front_more, Spots.is_same, Lookups.all_behind}
 
 -- ---- readings
 
 of_item : (item : Shown) → IsOf (place_of item) item
-of_item (shown.Call place number) = grind arith
-of_item (shown.Test place index bit at) =
+of_item (Shown.Call place number) = grind arith
+of_item (Shown.Test place index bit at) =
     record { numbers = λ other apart. refl; seen = λ other apart. rw apart refl; sure = λ other apart. refl }
-of_item (shown.Word place word bits at) =
+of_item (Shown.Word place word bits at) =
     record { numbers = λ other apart. refl; seen = λ other apart. rw apart refl; sure = λ other apart. refl }
-of_item (shown.BadIndex place index word len) =
+of_item (Shown.BadIndex place index word len) =
     record { numbers = λ other apart. refl; seen = λ other apart. refl; sure = λ other apart. refl }
-of_item (shown.Posted place sure) =
+of_item (Shown.Posted place sure) =
     record { numbers = λ other apart. refl; seen = λ other apart. rw apart refl; sure = λ other apart. rw apart refl }
-of_item (shown.Took place sure) =
+of_item (Shown.Took place sure) =
     record { numbers = λ other apart. refl; seen = λ other apart. rw apart refl; sure = λ other apart. rw apart refl }
 
 -- a number that is read of an item of this structure is the one that the item shows
@@ -38,9 +34,9 @@ module _ {C R I S : Type 0} (meaning : Meaning C R I S) (form : StrForm) (entrie
 told_tells : (form : StrForm) (entries : AnyHistory) (conn : ConnId) (test : Sight) (sure : ℕ)
     → IsAnyTold form entries conn test
     → test.index < form.vector → sure ≤ test.sure → AnyTells form entries test.at sure conn test.index test.bit
-told_tells form (history.Cache entries) conn test sure = tells_less cache_meaning form entries conn test sure
-told_tells form (history.List entries) conn test sure = tells_less list_meaning form entries conn test sure
-told_tells form (history.Lock entries) conn test sure = tells_less lock_meaning form entries conn test sure
+told_tells form (AnyHistory.Cache entries) conn test sure = tells_less cache_meaning form entries conn test sure
+told_tells form (AnyHistory.List entries) conn test sure = tells_less list_meaning form entries conn test sure
+told_tells form (AnyHistory.Lock entries) conn test sure = tells_less lock_meaning form entries conn test sure
 
 -- ---- words
 
@@ -76,7 +72,7 @@ module _ (form : StrForm) (entries : AnyHistory) (conn : ConnId) (on : StrNo) (b
 
 module _ (me : Caller) (on : StrNo) (pass : PassShown) where
   pub call_adds : (asked : AnyAsk) (told : Told) (reply : AnyReply) → pass.known < told.no
-      → Adds me on pass (with_call asked told reply pass) (shown.Call on told.no)
+      → Adds me on pass (with_call asked told reply pass) (Shown.Call on told.no)
   call_adds asked told reply above = grind (arith, is_same, of_item, front_more, front_same, map-append, number_read)
 
   abbrev pub with_test : ℕ → Bool → ℕ → PassShown
@@ -86,7 +82,7 @@ module _ (me : Caller) (on : StrNo) (pass : PassShown) where
   }
 
   pub test_adds : (index : ℕ) (bit : Bool) (at : ℕ) → pass.known ≤ at → ((form : StrForm) → slice_get me.forms
-      on.0 ≡ Some form → index < form.vector) → Adds me on pass (with_test index bit at) (shown.Test on index bit at)
+      on.0 ≡ Some form → index < form.vector) → Adds me on pass (with_test index bit at) (Shown.Test on index bit at)
   test_adds index bit at later inside = record {
     of = of_item _;
     owner = refl;
@@ -118,9 +114,9 @@ module _ (me : Caller) (on : StrNo) (pass : PassShown) where
       record pass { known = at; tests = pass.tests ++ map (sight bits at pass.sure) (indices_of word) }
 
   pub word_adds : (word bits at : ℕ) → bits < 2 ^ 32 → pass.known ≤ at
-      → Adds me on pass (with_word word bits at) (shown.Word on word bits at)
+      → Adds me on pass (with_word word bits at) (Shown.Word on word bits at)
   word_adds word bits at small later = record {
-    of = of_item (shown.Word on word bits at);
+    of = of_item (Shown.Word on word bits at);
     owner = refl;
     calls = front_same pass.calls;
     tests = front_more pass.tests _;
@@ -138,12 +134,12 @@ module _ (me : Caller) (on : StrNo) (pass : PassShown) where
     );
   }
 
-  pub bad_adds : (index : ℕ) (word : Bool) (len : ℕ) → Adds me on pass pass (shown.BadIndex on index word len)
+  pub bad_adds : (index : ℕ) (word : Bool) (len : ℕ) → Adds me on pass pass (Shown.BadIndex on index word len)
   bad_adds index word len = grind (arith, of_item, front_same, append-nil)
 
-  pub post_adds : pass.sure ≤ pass.known → Adds me on pass pass (shown.Posted on pass.sure)
+  pub post_adds : pass.sure ≤ pass.known → Adds me on pass pass (Shown.Posted on pass.sure)
   post_adds ordered = grind (arith, of_item, front_same, append-nil, number_read)
 
   pub take_adds : (pass' : PassShown) → IsLater pass pass' → pass'.sure ≤ pass'.known
-      → Adds me on pass pass' (shown.Took on pass'.sure)
+      → Adds me on pass pass' (Shown.Took on pass'.sure)
   take_adds pass' later ordered = grind (arith, of_item, append-nil, number_read)

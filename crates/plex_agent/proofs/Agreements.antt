@@ -1,6 +1,5 @@
 -- What the run by the machine alone has to do with what was done at a structure.
-use Rattle.plex_agent.proofs.Imports.{◌≡◌, ◌≢◌, ℕ, ◌≤◌, ◌==◌, max, List, [], ◌∷◌, ◌++◌, Option, None, Some, sym, ap, ◌∙◌, arith, unwrap_or, filter_map-append, fold-append, ConnId, StrNo, AnyHistory, Shown, Transcript, AnyCall, any_take, end_of, shown_on, seen_on, PassShown, NoteShown, cond, refl}
-use Rattle.plex_board.specs.PlexScript.declared.transcripts.AgentEnd.TheVariants as ended
+use Rattle.plex_agent.proofs.Imports.{◌≡◌, ◌≢◌, ℕ, ◌≤◌, ◌==◌, max, List, [], ◌∷◌, ◌++◌, Option, None, Some, sym, ap, ◌∙◌, arith, unwrap_or, filter_map-append, fold-append, ConnId, StrNo, AnyHistory, Shown, Transcript, AnyCall, any_take, end_of, shown_on, seen_on, PassShown, NoteShown, cond, AgentEnd}
 use Rattle.plex_agent.proofs.Spots.{conn, str, put, put_all, same_number, other_number, Spot, is_same, is_other, put_same}
 
 -- ---- what items show
@@ -20,10 +19,7 @@ pub record ShowsNumber (on n : ℕ) (item : Shown) : Type 0 where
 
 pub number_shown : (on n : ℕ) (item : Shown) → ((x : ℕ) → shown_on (str x) item ≡ cond (on == x) (Some n) None)
     → ShowsNumber on n item
-number_shown on n item reads = record {
-  here = reads on ∙ rw (is_same on) refl;
-  elsewhere = λ x apart. reads x ∙ rw (is_other on x (λ e. apart (sym e))) refl;
-}
+number_shown on n item reads = grind (arith, is_same, is_other)
 
 -- ---- agreement
 
@@ -46,7 +42,7 @@ pub record AgreesAt (callers : ℕ) (entries : AnyHistory) (x : ℕ) (shows : �
     (transcripts : ℕ → Transcript) (history : Option AnyHistory) (number : Option ℕ) : Type 0 where
   pub history_is : history ≡ Some (any_take (end_of spot.events) entries)
   pub front_is : spot.front ≡ end_of spot.events
-  pub seen : (c : ℕ) → c ≤ callers → (transcripts c).end ≡ ended.Done
+  pub seen : (c : ℕ) → c ≤ callers → (transcripts c).end ≡ AgentEnd.Done
       → IsSeen (str x) (spot.passes c) (transcripts c).items (shows c)
   pub lasts : (c : ConnId) → spot.last ≡ Some c → (spot.passes c.0).sure ≡ spot.front
   pub number_is : number ≡ Some (sure_in spot.note)
@@ -63,12 +59,11 @@ pub agrees_put : (callers : ℕ) (entries : AnyHistory) (x : ℕ) (shows shows' 
     (pass : PassShown) (note : Option NoteShown) (last : Option ConnId) (events : List AnyCall) (front : ℕ)
     (transcript : Transcript) → AgreesAt callers entries x shows spot transcripts history number → history' ≡ Some
     (any_take (end_of events) entries) → number' ≡ Some (sure_in note) → known_in note ≡ sure_in note → front ≡ end_of
-    events → (transcript.end ≡ ended.Done → IsSeen (str x) pass transcript.items (shows' by)) → ((c : ℕ)
+    events → (transcript.end ≡ AgentEnd.Done → IsSeen (str x) pass transcript.items (shows' by)) → ((c : ℕ)
     → c ≢ by → shows' c → shows c) → ((c : ConnId) → last ≡ Some c → (put by pass spot.passes c.0).sure ≡ front)
     → AgreesAt callers entries x shows' (record {
       passes = put by pass spot.passes;
-      note =
-          note;
+      note = note;
       last = last;
       events = events;
       front = front;
@@ -80,17 +75,17 @@ agrees_put callers entries x shows shows' by spot transcripts history history' n
 pub agrees_elsewhere : (callers : ℕ) (entries : AnyHistory) (x : ℕ) (shows shows' : ℕ → Type 0) (by : ℕ) (spot : Spot)
     (transcripts : ℕ → Transcript) (history : Option AnyHistory) (number : Option ℕ) (transcript : Transcript)
     → by ≤ callers → AgreesAt callers entries x shows spot transcripts history number
-    → (transcript.end ≡ ended.Done → (transcripts by).end ≡ ended.Done)
+    → (transcript.end ≡ AgentEnd.Done → (transcripts by).end ≡ AgentEnd.Done)
     → seen_on (str x) transcript.items ≡ seen_on (str x) (transcripts by).items → ((c : ℕ) → shows' c → shows c)
     → AgreesAt callers entries x shows' spot (put by transcript transcripts) history number
 agrees_elsewhere callers entries x shows shows' by spot transcripts history number transcript caller agrees works same
     less = grind (arith, put_all, str)
 
 pub last_is : (by : ℕ) (c : ConnId) → Some (conn by) ≡ Some c → c.0 ≡ by
-last_is by c e = sym (ap (λ (o : Option ConnId). (unwrap_or o (conn 0)).0) e)
+last_is by c e = sym (ap (λ o. (unwrap_or o (conn 0)).0) e)
 
 -- who acted last has seen complete what its new pass has
 pub lasts_put : (by : ℕ) (pass : PassShown) (passes : ℕ → PassShown) (front : ℕ) → pass.sure ≡ front → (c : ConnId)
     → Some (conn by) ≡ Some c → (put by pass passes c.0).sure ≡ front
-lasts_put by pass passes front complete c is = ap (λ (n : ℕ). (put by pass passes n).sure) (last_is by c is)
-    ∙ ap (λ (p : PassShown). p.sure) (put_same by pass passes) ∙ complete
+lasts_put by pass passes front complete c is = ap (λ n. (put by pass passes n).sure) (last_is by c is)
+    ∙ ap (λ p. p.sure) (put_same by pass passes) ∙ complete

@@ -1,5 +1,5 @@
 -- A caller that hears of nobody between its turns.
-use Rattle.plex_agent.proofs.Imports.{arith, ◌≡◌, ℕ, ◌+◌, ◌==◌, List, [], ◌∷◌, sym, ap, subst, Line, CellShown, BoardShown, AtWork, Hears, DoesLines, DepartsEach, Serves}
+use Rattle.plex_agent.proofs.Imports.{arith, ℕ, ◌+◌, List, [], ◌∷◌, sym, ap, subst, Line, CellShown, BoardShown, AtWork, Hears, DoesLines, DepartsEach, Serves}
 use Rattle.plex_board.specs.Callers as alone
 use Rattle.plex_agent.proofs.Hearings.{hears_none}
 use Rattle.plex_agent.proofs.Keeping.{Keeps, keeps_same, keeps_then, turns_keep}
@@ -19,7 +19,7 @@ lines_alone board (line ∷ lines) before after (cell, there, (between, turn, re
 
 lines_keep : {L : Type 0} (board : BoardShown L) (lines : List Line) (before after : AtWork)
     → alone.DoesLines board lines before after → Keeps before.desk after.desk
-lines_keep board [] before after same = keeps_same before.desk after.desk (ap (λ (w : AtWork). w.desk) same)
+lines_keep board [] before after same = keeps_same before.desk after.desk (ap (λ w. w.desk) same)
 lines_keep board (line ∷ lines) before after (cell, there, (between, turn, rest)) =
     grind (arith, keeps_then, turns_keep, lines_keep board lines between after rest)
 

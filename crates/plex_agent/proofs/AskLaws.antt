@@ -1,12 +1,9 @@
 -- The calls of a line, put together from its steps.
-use Rattle.plex_agent.proofs.Imports.{◌≡◌, ◌≢◌, ℕ, ◌<◌, ◌≤◌, List, [], ◌∷◌, ◌++◌, length, map, Option, refl, ap, subst, ◌∙◌, append-nil, append_assoc, arith, IfSome, set-set, Kind, StrNo, CallRefused, Step, AnyAsk, AgentEnd, Shown, most_asks, step_after, IsReady, PassShown, with_call, DeskShown, pass_at, with_pass, IsLaterOn, BoardShown, IsDeskOf, cell_on, pass_at-with_pass_same, with_pass-pass_at, desk-length, AtWork, Asks, Steps, EndsAt, Halts, call_item, IsAsked, at_work, asks_some, fewer_asks, ready_after}
-use Rattle.plex_board.specs.StructCell.declared.refused.CallRefused.TheVariants as refused
-use Rattle.plex_board.specs.PlexScript.declared.agents.Step.TheVariants as step
-use Rattle.plex_board.specs.PlexScript.declared.transcripts.AgentEnd.TheVariants as ended
+use Rattle.plex_agent.proofs.Imports.{◌≡◌, ◌≢◌, ℕ, ◌<◌, ◌≤◌, List, [], ◌∷◌, ◌++◌, length, map, Option, refl, ap, subst, ◌∙◌, append-nil, append_assoc, arith, IfSome, set-set, Kind, StrNo, CallRefused, Step, AnyAsk, AgentEnd, Shown, most_asks, IsReady, PassShown, DeskShown, pass_at, with_pass, IsLaterOn, BoardShown, IsDeskOf, cell_on, pass_at-with_pass_same, with_pass-pass_at, desk-length, AtWork, Asks, EndsAt, Halts, call_item, IsAsked, at_work, asks_some, fewer_asks, ready_after}
 use Rattle.plex_agent.specs.Calls.{end_of}
 use Rattle.plex_agent.proofs.CellLaws.{some_is, cell_there}
 
-with_pass_twice : (on : StrNo) (first second : PassShown) (desk : DeskShown)
+pub with_pass_twice : (on : StrNo) (first second : PassShown) (desk : DeskShown)
     → with_pass on second (with_pass on first desk) ≡ with_pass on second desk
 with_pass_twice on first second desk = grind (arith, set-set)
 
@@ -23,15 +20,7 @@ module _ (limit : ℕ) (kind : Kind) (line : Option AnyAsk) (on : StrNo) where
         tolds = told ∷ rest.tolds;
         last = rest.last;
         pass = rest.pass;
-        steps = (
-          one.asked,
-          one.asks,
-          one.later,
-          one.reply,
-          subst (λ pass. Steps kind line (step_after now told) pass rest.tolds rest.last rest.pass)
-              passes (subst (λ at. Steps kind line at (pass_at between.desk on) rest.tolds rest.last rest.pass)
-              one.next_is rest.steps),
-        );
+        steps = grind arith;
         items = rest.items ∙ ap (λ items. items ++ map (call_item on) rest.tolds) one.items
             ∙ append_assoc before.shown.items (call_item on told ∷ []) (map (call_item on) rest.tolds);
         ends = subst (λ d. EndsAt limit kind line on rest.last d after.desk after.shown.end) twice rest.ends;
@@ -44,9 +33,9 @@ module _ (limit : ℕ) (kind : Kind) (line : Option AnyAsk) (on : StrNo) where
 
   -- the call wasn't made
   pub asks_refused : (now : Step) (refusal : CallRefused) (end : AgentEnd) (before : AtWork)
-      (after : DeskShown) (items : List Shown) → IsReady line now → now ≢ step.Rest → IsLaterOn on before.desk after
-      → (pass_at after on).sure ≤ (pass_at after on).known → (refusal ≢ refused.NoMemory → limit
-      ≤ (pass_at after on).known) → (refusal ≡ refused.NoMemory → after ≡ before.desk) → items ≡ before.shown.items
+      (after : DeskShown) (items : List Shown) → IsReady line now → now ≢ Step.Rest → IsLaterOn on before.desk after
+      → (pass_at after on).sure ≤ (pass_at after on).known → (refusal ≢ CallRefused.NoMemory → limit
+      ≤ (pass_at after on).known) → (refusal ≡ CallRefused.NoMemory → after ≡ before.desk) → items ≡ before.shown.items
       → end ≡ end_of on refusal → Asks limit kind line on now before (at_work after items end)
   asks_refused now refusal end before after items ready goes later ordered full still same ends =
       grind (arith, by_refusal)
@@ -56,11 +45,11 @@ module _ (limit : ℕ) (kind : Kind) (line : Option AnyAsk) (on : StrNo) where
           let some = asks_some _ _ _ ready goes in
           record { asked = some.0; next = some.1; later = later; ordered = ordered }
 
-      by_refusal : (refusal : CallRefused) → (refusal ≢ refused.NoMemory → limit ≤ (pass_at after on).known)
-          → (refusal ≡ refused.NoMemory → after ≡ before.desk)
+      by_refusal : (refusal : CallRefused) → (refusal ≢ CallRefused.NoMemory → limit ≤ (pass_at after on).known)
+          → (refusal ≡ CallRefused.NoMemory → after ≡ before.desk)
           → Asks limit kind line on now before (at_work after items (end_of on refusal))
-      by_refusal (refused.JournalFull most) full still = asks_end _ _ _ (refl, halts, full (λ is. cc)) same
-      by_refusal refused.NoMemory full still = asks_end _ _ _ (halts, still refl) same
+      by_refusal (CallRefused.JournalFull most) full still = asks_end _ _ _ (refl, halts, full (λ is. cc)) same
+      by_refusal CallRefused.NoMemory full still = asks_end _ _ _ (halts, still refl) same
 
 -- ---- a step of a line at a board's structure
 
@@ -73,11 +62,11 @@ module _ {L : Type 0} (board : BoardShown L) (on : StrNo) where
     asked_here : IsAsked (cell_there board on there).0.form.kind line on now next before after
     asked_here = grind (arith, cell_there, some_is)
 
-    pub asked_fewer : now ≢ step.Rest → most_asks next < most_asks now
+    pub asked_fewer : now ≢ Step.Rest → most_asks next < most_asks now
     asked_fewer goes = grind (arith, asked_here, fewer_asks)
 
     pub asked_ready : IsReady line now → IsReady line next
     asked_ready ready = grind (arith, asked_here, ready_after)
 
     pub asked_owner : after.desk.owner ≡ before.desk.owner
-    asked_owner = ap (λ (d : DeskShown). d.owner) (asked_here).desk
+    asked_owner = ap (λ d. d.owner) (asked_here).desk

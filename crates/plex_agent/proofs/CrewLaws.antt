@@ -1,10 +1,8 @@
 -- The callers of a board, each at work on its own: as they begin, and what their work shows.
 use Rattle.plex_agent.proofs.Imports.{◌≡◌, ℕ, ◌+◌, ◌≤◌, ◌<◌, List, length, Some, slice_get, get_or, sym, ap, subst, ◌∙◌, arith, All, range_with_len, All-map, All-same, All-weaker, length-range_with_len, get_or-range_with_len, CONNECTORS, AnyHistory, Line, Script, Transcript, ShowsHistories, DeskShown, BoardShown, AreClosed, new_desk, AtWork, IsLineFor, no_items, new_desk-of_board, AreCallersOf, IsPlayable, IsBoardOf, IsIdle, IsServed, WorkEach, idle_worker, crew_of}
 use Rattle.plex_board.specs.Callers.{Serves}
-use Rattle.plex_agent.proofs.ServeLaw.{serves_right}
-use Rattle.plex_agent.proofs.Alone.{alone_serves}
-use Rattle.plex_agent.proofs.SeatedLaws.{crew_at, new_callers}
 use Rattle.plex_agent.proofs.RunLaws.{HadMemory, had_memory}
+use Rattle.plex_agent.proofs.{ServeLaw.serves_right, Alone.alone_serves, SeatedLaws.crew_at, SeatedLaws.new_callers}
 
 -- the callers have desks of the board
 pub crew_is_idle : {L : Type 0} (board : BoardShown L) (crew : List AtWork) → crew ≡ crew_of board
@@ -47,7 +45,7 @@ pub served_shows : {L : Type 0} (limit : ℕ) (script : Script) (board : BoardSh
 served_shows limit script board histories desks shown is served closed had =
     let lines = script.lines in
     subst (ShowsHistories limit script histories) (sym served.shown_are) (serves_right limit script board
-    histories served.workers is.forms is.cells (subst (λ (desks : List DeskShown). AreClosed board desks histories)
+    histories served.workers is.forms is.cells (subst (λ desks. AreClosed board desks histories)
     served.desks_are closed) ((worked-callers board lines served.workers served.work).callers ∙ ap (λ n. n + 1)
     is.callers) (λ c worker there. alone_serves board lines (record { desk = new_desk board c; shown = no_items })
     worker (serves board lines served.workers served.work c worker there))

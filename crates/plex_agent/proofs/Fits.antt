@@ -1,6 +1,6 @@
 -- What the histories that are left at the end have to do with what was done at a structure so far.
-use Rattle.plex_agent.proofs.Imports.{◌≡◌, ℕ, ◌≤◌, ◌<◌, ◌==◌, List, [], ◌∷◌, ◌++◌, fold, Option, None, Some, sym, ap, subst, ◌∙◌, arith, append_assoc, All, if◌then◌else◌, StrForm, ConnId, CfId, Telling, Told, AnyAsk, AnyHistory, AnyCall, any_calls, any_length, IsAnyLegal, AreAnyAsTold, any_take, any_next, any_told, any_numbers, end_of, last_number, IsNextOf, next_call, IsFrontOf, front_of, numbers_of, numbers_any, IsBefore, AreMadeBelow, AnyReply, PassShown, with_call, note_of, IsAnyTold, with_note, NoteShown}
-use Rattle.plex_agent.proofs.Spots.{conn, put, same_number, Spot, IsKnown, LastKnows, event, called}
+use Rattle.plex_agent.proofs.Imports.{◌≡◌, ℕ, ◌≤◌, ◌<◌, ◌==◌, List, [], ◌∷◌, ◌++◌, fold, Option, None, Some, sym, ap, subst, ◌∙◌, arith, append_assoc, All, if◌then◌else◌, StrForm, ConnId, CfId, Telling, Told, AnyAsk, AnyHistory, AnyCall, any_calls, any_length, IsAnyLegal, AreAnyAsTold, any_take, any_next, any_told, any_numbers, end_of, last_number, next_call, IsFrontOf, front_of, numbers_of, numbers_any, IsBefore, AreMadeBelow, AnyReply, PassShown, with_call, note_of, IsAnyTold, with_note}
+use Rattle.plex_agent.proofs.Spots.{conn, put, same_number, Spot, IsKnown, LastKnows, event, called, changed}
 
 pub put_back : {X : Type 0} (P : ℕ → X → Type 0) (at : ℕ) (x : X) (xs : ℕ → X) → (P at x → P at (xs at))
     → (other : ℕ) → P other (put at x xs other) → P other (xs other)
@@ -24,20 +24,14 @@ before_less low high [] least before = tt
 before_less low high (call ∷ more) least before = omega (arith, before)
 
 -- a pass changed, and the front didn't fall
-pub fits_put : (form : StrForm) (entries : AnyHistory) (callers by : ℕ) (spot : Spot) (pass : PassShown)
-    (note : Option NoteShown) (last : Option ConnId) (front : ℕ) → spot.front ≤ front → (All
-    (IsAnyTold form entries (conn by)) pass.tests → All (IsAnyTold form entries (conn by)) (spot.passes by).tests)
-    → FitsAt form entries callers (record {
-      passes = put by pass spot.passes;
-      note = note;
-      last = last;
-      events = spot.events;
-      front = front;
-    }) → FitsAt form entries callers spot
-fits_put form entries callers by spot pass note last front later tests fits = record {
+pub fits_put : (form : StrForm) (entries : AnyHistory) (callers by : ℕ) (spot rest : Spot) (pass : PassShown)
+    → rest.events ≡ spot.events → spot.front ≤ rest.front → (All (IsAnyTold form entries (conn by)) pass.tests
+    → All (IsAnyTold form entries (conn by)) (spot.passes by).tests)
+    → FitsAt form entries callers (changed by pass rest spot) → FitsAt form entries callers spot
+fits_put form entries callers by spot rest pass same later tests fits = record {
   more = fits.more;
-  calls = fits.calls;
-  before = before_less spot.front front fits.more later fits.before;
+  calls = fits.calls ∙ ap (λ calls. calls ++ fits.more) same;
+  before = before_less spot.front rest.front fits.more later fits.before;
   tests = λ c within. put_back (λ c pass. All (IsAnyTold form entries (conn c)) pass.tests)
       by pass spot.passes tests c (fits.tests c within);
 }

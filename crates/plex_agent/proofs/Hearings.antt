@@ -1,5 +1,5 @@
 -- Hearings: none, and one after another.
-use Rattle.plex_agent.proofs.Imports.{refl, ◌∙◌, arith, PassShown, IsLater, pass_at, AtWork, Hears}
+use Rattle.plex_agent.proofs.Imports.{refl, arith, PassShown, IsLater, pass_at, AtWork, Hears}
 
 pub later_same : (pass : PassShown) → IsLater pass pass
 later_same pass = record { known = omega arith; sure = omega arith; same = refl }

@@ -1,7 +1,6 @@
 -- What the links of a closed board have to do with its histories: structure by structure, link by link.
-use Rattle.plex_agent.proofs.Imports.{◌≡◌, ℕ, zero, suc, ◌+◌, ◌*◌, ◌-◌, ◌≤◌, ◌<◌, List, [], ◌∷◌, ◌++◌, length, map, slice_get, Option, Some, refl, sym, ap, subst, ◌∙◌, arith, append_assoc, unwrap_or, flat_map, length-map, slice_get_within, IsFacility, StrForm, CfId, Links, Telling, AreAsked, IsAskedAll, link_at, TellsEnough, asked_faults, asked_calls, asked_told, trues, marks_counted, cache_meaning, list_meaning, lock_meaning, AnyHistory, IsAnyLegal, AreAnyAsTold, any_answers, any_marks_at, links_told, link_place, AreTelling, IsLinkOf, AreRunLinks, CellShown, BoardShown, AreEachAsked, AreLinksAsked, four_of, links_of}
+use Rattle.plex_agent.proofs.Imports.{◌≡◌, ℕ, zero, suc, ◌+◌, ◌*◌, ◌-◌, ◌≤◌, ◌<◌, List, [], ◌∷◌, ◌++◌, length, map, slice_get, Option, Some, refl, sym, ap, subst, ◌∙◌, arith, append_assoc, flat_map, length-map, slice_get_within, IsFacility, StrForm, CfId, Links, Telling, AreAsked, IsAskedAll, link_at, TellsEnough, asked_faults, asked_calls, asked_told, trues, marks_counted, cache_meaning, list_meaning, lock_meaning, AnyHistory, IsAnyLegal, AreAnyAsTold, any_answers, any_marks_at, links_told, link_place, AreTelling, IsLinkOf, AreRunLinks, CellShown, BoardShown, AreEachAsked, AreLinksAsked, four_of, links_of}
 use Rattle.plex_board.specs.CfLink.Links.{Tells}
-use Rattle.plex_board.specs.PlexScript.declared.asks.AnyHistory.TheVariants as history
 use Rattle.plex_agent.proofs.Lookups.{some_same, get_mapped}
 
 -- ---- places
@@ -55,8 +54,7 @@ module _ {L : Type 0} where
     asked_at : (cells : List (CellShown L)) (histories : List AnyHistory) (spare new : List L) → AreEachAsked
         calls downs faults cells histories spare new → (x : ℕ) (cell : CellShown L) (entries : AnyHistory)
         → slice_get cells x ≡ Some cell → slice_get histories x ≡ Some entries → IsAskedAt cell entries x new
-    asked_at [] histories spare new each x cell entries there kept =
-        absurd (omega (arith, slice_get_within [] x cell there))
+    asked_at [] histories spare new each x cell entries there kept = grind (arith, slice_get_within)
     asked_at (first ∷ cells) [] spare new each x cell entries there kept = absurd each
     asked_at (first ∷ cells) (one ∷ histories) spare new each zero cell entries there kept =
         let same = some_same _ _ there in
@@ -71,8 +69,7 @@ module _ {L : Type 0} where
         record {
           asked = rest.asked;
           are = rest.are;
-          at = λ cf is. ap (λ links. slice_get links (link_place (suc x) cf)) each.2 ∙ place_later _ _ x _
-              ∙ rest.at cf is;
+          at = grind (arith, place_later);
         }
 
     each_size : (cells : List (CellShown L)) (histories : List AnyHistory) (spare new : List L)
@@ -97,9 +94,9 @@ module _ {L : Type 0} where
 -- a history of whatever kind has as many marks of a facility as its link answered Down
 any_marks_counted : (form : StrForm) (entries : AnyHistory) → IsAnyLegal form entries → (cf : CfId)
     → any_marks_at entries cf ≡ trues (any_answers form entries cf)
-any_marks_counted form (history.Cache entries) legal cf = marks_counted cache_meaning form entries legal cf
-any_marks_counted form (history.List entries) legal cf = marks_counted list_meaning form entries legal cf
-any_marks_counted form (history.Lock entries) legal cf = marks_counted lock_meaning form entries legal cf
+any_marks_counted form (AnyHistory.Cache entries) legal cf = marks_counted cache_meaning form entries legal cf
+any_marks_counted form (AnyHistory.List entries) legal cf = marks_counted list_meaning form entries legal cf
+any_marks_counted form (AnyHistory.Lock entries) legal cf = marks_counted lock_meaning form entries legal cf
 
 module _ {L : Type 0} (calls : L → Option ℕ) (downs : L → Option (List ℕ)) (faults : L → ℕ)
     (enough : (link : L) → TellsEnough (calls link) (downs link)) where
@@ -111,11 +108,11 @@ module _ {L : Type 0} (calls : L → Option ℕ) (downs : L → Option (List ℕ
   any_links_told : (form : StrForm) (told : CfId → Telling) (entries : AnyHistory) (old new : Links L)
       → ((cf : CfId) → IsFacility cf → Tells calls downs faults (told cf) (link_at old cf))
       → AreAsked calls downs faults (any_answers form entries) old new → AreAnyAsTold form told entries
-  any_links_told form told (history.Cache entries) old new tells asked =
+  any_links_told form told (AnyHistory.Cache entries) old new tells asked =
       links_told cache_meaning form told calls downs faults entries old new enough tells asked
-  any_links_told form told (history.List entries) old new tells asked =
+  any_links_told form told (AnyHistory.List entries) old new tells asked =
       links_told list_meaning form told calls downs faults entries old new enough tells asked
-  any_links_told form told (history.Lock entries) old new tells asked =
+  any_links_told form told (AnyHistory.Lock entries) old new tells asked =
       links_told lock_meaning form told calls downs faults entries old new enough tells asked
 
   module _ (board : BoardShown L) (forms : List StrForm) (histories : List AnyHistory) (old new : List L)
@@ -152,11 +149,7 @@ module _ {L : Type 0} (calls : L → Option ℕ) (downs : L → Option (List ℕ
           let here = asked_here x cell.0 entries cell.1 kept in
           let one_is = some_same _ _ (sym (old_at x cell.0 cf cell.1 is) ∙ before) in
           let other_is = some_same _ _ (sym (here.at cf is) ∙ after) in
-          subst (λ f. IsLinkOf calls downs faults f entries cf one other) cell.2
-          (subst (λ l. IsLinkOf calls downs faults cell.0.form entries cf l other) one_is
-          (subst (λ l. IsLinkOf calls downs faults cell.0.form entries cf (link_at cell.0.links cf) l) other_is
-          (link_of cell.0.form entries cf (link_at cell.0.links cf) (link_at here.asked cf)
-          (legal x cell.0 entries cell.1 kept) (here.are.asked cf is))));
+          rw (← cell.2) (grind (arith, link_of));
       others = λ x form entries cf formed kept other.
           let cell = cell_at x form formed in
           let here = asked_here x cell.0 entries cell.1 kept in

@@ -1,22 +1,22 @@
 -- What a caller at work does to its desk and its transcript, at one structure and at all.
-use Rattle.plex_agent.proofs.Imports.{◌≡◌, ◌≢◌, ℕ, ◌<◌, ◌==◌, Bool, true, false, List, [], ◌++◌, length, refl, sym, ap, subst, ◌∙◌, arith, append-nil, append_assoc, nat_tests, get_or-set_same, get_or-set_other, StrNo, Shown, Transcript, PassShown, DeskShown, no_pass, pass_at, with_pass, AtWork, Hears, pass_at-with_pass_same}
+use Rattle.plex_agent.proofs.Imports.{◌≡◌, ◌≢◌, ℕ, ◌<◌, ◌==◌, false, List, [], ◌++◌, length, sym, ap, subst, ◌∙◌, arith, append-nil, append_assoc, nat_tests, get_or-set_other, StrNo, Shown, Transcript, PassShown, DeskShown, pass_at, with_pass, AtWork, Hears, pass_at-with_pass_same, Each}
 use Rattle.std.proofs.lemmas.List.{length-set}
-use Rattle.plex_agent.proofs.ShownItems.{Each}
 use Rattle.plex_agent.proofs.Passes.{Caller, IsShown, IsGood, IsWithin, Advances, advances_later}
-use Rattle.plex_agent.proofs.Spots.{same_number}
+use Rattle.plex_agent.proofs.{Spots.same_number}
 
 -- ---- one pass of a desk is replaced
 
 pub other_number : (x y : ℕ) → x == y ≡ false → y ≢ x
 other_number x y apart = grind (arith, nat_tests)
 
-pub same_place : (on other : StrNo) → on.0 == other.0 ≡ true → on ≡ other
-same_place on other same = ap (λ (n : ℕ). (let it : StrNo = record { 0 = n } in it)) (same_number on.0 other.0 same)
+-- what holds at one structure, and at each other one
+by_structure : (P : StrNo → Type 0) (on : StrNo) → P on → ((other : StrNo) → on.0 == other.0 ≡ false → P other)
+    → (other : StrNo) → P other
+by_structure P on here rest other = grind (arith, same_number)
 
 pub pass_elsewhere : (on other : StrNo) (pass : PassShown) (desk : DeskShown) → on.0 == other.0 ≡ false
     → pass_at (with_pass on pass desk) other ≡ pass_at desk other
-pass_elsewhere on other pass desk apart =
-    get_or-set_other desk.passes on.0 other.0 pass no_pass (other_number on.0 other.0 apart)
+pass_elsewhere on other pass desk apart = grind (arith, get_or-set_other, other_number)
 
 module _ (me : Caller) where
   -- ---- at one structure
@@ -72,30 +72,20 @@ module _ (me : Caller) where
 
   pub moves_go : (on : StrNo) (before after : AtWork) (part : List Shown) → Moves on before after part
       → Goes before after part
-  moves_go on before after part moves = grind (arith, owners, back, by_here)
-    where
-      owners : (other : StrNo) (b : Bool) → on.0 == other.0 ≡ b
-          → (pass_at after.desk other).owner ≡ (pass_at before.desk other).owner
-      owners other true same = grind (arith, same_place)
-      owners other false apart = ap (λ p. p.owner) (moves.rest other apart)
-
-      back : AreWithin after.desk → (other : StrNo) (b : Bool) → on.0 == other.0 ≡ b
-          → IsWithin me other (pass_at before.desk other)
-      back within other true same = grind (arith, IsWithin, same_place)
-      back within other false apart = subst (IsWithin me other) (moves.rest other apart) (within other)
-
-      shows : IsTranscript before → IsShown on (pass_at after.desk on) (before.shown.items ++ part) → (other : StrNo)
-          (b : Bool) → on.0 == other.0 ≡ b → IsShown other (pass_at after.desk other) after.shown.items
-      shows is here other true same = subst (λ place. IsShown place (pass_at after.desk place) after.shown.items)
-          (same_place _ _ same) (subst (IsShown on (pass_at after.desk on)) (sym moves.items) here)
-      shows is here other false apart = grind (arith, IsShown)
-
-      by_here : AreWithin after.desk → IsShown on (pass_at after.desk on) (before.shown.items ++ part)
-          × Each (IsGood me) (before.shown.items ++ part) → IsTranscript before → IsTranscript after
-      by_here within (here, each) is = record {
-        shows = λ other. shows is here other (on.0 == other.0) refl;
-        each = subst (Each (IsGood me)) (sym moves.items) each;
-      }
+  moves_go on before after part moves = record {
+    items = moves.items;
+    owner = moves.owner;
+    passes = moves.passes;
+    owners = grind (arith, by_structure);
+    back = grind (arith, by_structure, IsWithin);
+    forth = λ within is.
+        let here = moves.here.forth (within on) before.shown.items (is.shows on) is.each in
+        rw moves.items (record {
+          shows = by_structure (λ other. IsShown other (pass_at after.desk other) (before.shown.items ++ part))
+              on here.0 (grind arith);
+          each = here.1;
+        });
+  }
 
   -- ---- hearings
 
@@ -108,9 +98,7 @@ module _ (me : Caller) where
     owners = λ on. ap (λ (p : PassShown). p.owner) (hears.later on).same;
     back = λ within on. (advances on).back (within on);
     forth = λ within is. record {
-      shows = λ on. subst (λ (t : Transcript). IsShown on (pass_at after.desk on) t.items) (sym hears.shown)
-          (subst (IsShown on (pass_at after.desk on)) (append-nil before.shown.items)
-          ((advances on).forth (within on) before.shown.items (is.shows on) is.each).0);
+      shows = grind (arith, IsShown, append-nil, advances);
       each = subst (λ (t : Transcript). Each (IsGood me) t.items) (sym hears.shown) is.each;
     };
   }

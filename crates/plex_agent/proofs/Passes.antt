@@ -1,8 +1,21 @@
 -- What a caller's pass to a structure has to do with the items that it was shown, and goes on having as both grow.
-use Rattle.plex_agent.proofs.Imports.{◌≡◌, ℕ, ◌≤◌, ◌==◌, false, List, [], ◌∷◌, ◌++◌, length, map, take, Some, None, refl, sym, ap, subst, ◌∙◌, arith, append-nil, append_assoc, slice_get, All, filter_map-append, All-take, All-same, StrForm, ConnId, StrNo, AnyHistory, Shown, own_calls, calls_on, length_on, number_on, numbers_on, sure_on, surest_on, IsNote, shown_on, seen_on, TellsOf, place_of, PassShown, IsLater, IsAnyTold}
+use Rattle.plex_agent.proofs.Imports.{◌≡◌, ℕ, ◌≤◌, ◌==◌, false, List, [], ◌∷◌, ◌++◌, length, map, take, Some, None, refl, sym, ap, subst, ◌∙◌, arith, append-nil, append_assoc, slice_get, All, filter_map-append, All-take, All-same, StrForm, ConnId, StrNo, AnyHistory, Shown, own_calls, calls_on, length_on, number_on, numbers_on, sure_on, surest_on, IsNote, shown_on, seen_on, TellsOf, place_of, PassShown, IsLater, IsAnyTold, each_push, Each, max, fold, Option, filter_map, fold-append}
 use Rattle.plex_agent.proofs.Fronts.{IsFront, front_same, front_then, take_front}
-use Rattle.plex_agent.proofs.ShownItems.{Each, each_push, greatest_push, unread_push}
 use Rattle.plex_agent.proofs.Hearings.{later_same}
+
+-- ---- the greatest number that a reading gives
+
+abbrev pub greatest : {X : Type 0} → (X → Option ℕ) → List X → ℕ
+greatest reading xs = fold max 0 (filter_map reading xs)
+
+pub greatest_push : {X : Type 0} (reading : X → Option ℕ) (xs : List X) (y : X) (most most' : ℕ) → greatest reading
+    xs ≤ most → most ≤ most' → ((n : ℕ) → reading y ≡ Some n → n ≤ most') → greatest reading (xs ++ y ∷ []) ≤ most'
+greatest_push {X} reading xs y most most' before grows here = grind (arith, filter_map-append, fold-append)
+
+-- an item that a reading doesn't read
+pub unread_push : {X : Type 0} {Y : Type 0} (reading : X → Option Y) (xs : List X) (y : X) → reading y ≡ None
+    → filter_map reading (xs ++ y ∷ []) ≡ filter_map reading xs
+unread_push reading xs y none = filter_map-append reading xs (y ∷ []) ∙ rw none (append-nil (filter_map reading xs))
 
 -- ---- items of one structure
 
@@ -69,7 +82,7 @@ module _ (me : Caller) where
       by_first : (before : List Shown) → IsShown on second (before ++ part) × Each (IsGood me) (before ++ part)
           → IsWithin me on third
           → IsShown on third (before ++ (part ++ more)) × Each (IsGood me) (before ++ (part ++ more))
-      by_first before (is, each) within = subst (λ (t : List Shown). IsShown on third t × Each (IsGood me) t)
+      by_first before (is, each) within = subst (λ t. IsShown on third t × Each (IsGood me) t)
           (append_assoc before part more) (two.forth within (before ++ part) is each)
 
   -- ---- one item
@@ -114,7 +127,7 @@ module _ (me : Caller) where
       shows : (before : List Shown) → IsShown on pass before → IsShown on pass' (before ++ item ∷ [])
       shows before is = record {
         numbers = filter_map-append (number_on on) before (item ∷ [])
-            ∙ ap (λ (t : List ℕ). t ++ numbers_on on (item ∷ [])) is.numbers ∙ sym adds.numbers;
+            ∙ ap (λ t. t ++ numbers_on on (item ∷ [])) is.numbers ∙ sym adds.numbers;
         seen = greatest_push (shown_on on) before item pass.known pass'.known is.seen adds.known adds.seen_now;
         sure = greatest_push (sure_on on) before item (surest_on on before) pass'.sure (omega arith)
             (adds.sure (surest_on on before) is.sure is.reached) adds.sure_now;

@@ -1,32 +1,24 @@
 -- A script that may be run, and the board that was started for it.
-use Rattle.plex_agent.proofs.Imports.{Vec, Global, ◌≡◌, ◌≢◌, ℕ, ◌≤◌, List, length, map, Option, Some, None, Result, Ok, Err, IfOk, IsOkAnd, All, slice_get, refl, sym, ◌∙◌, ap, subst, arith, length-map, get_or-map, All-get_or, slice_get-map, slice_get_within, get_or_from_slice_get, Kind, StrForm, NoMemory, CfId, ConnId, Telling, TellsEnough, AnyAsk, Act, Line, Script, AnyHistory, Transcript, IsRunnable, IsRunnableLine, IsRunnableAct, AreTelling, AreRunLinks, serial_run, type_of_kind, type_of_ask, CellShown, DeskShown, BoardShown, IsStarted, AreClosed, AreLinksAsked, links_of, AtWork, MayAct, Finished, IsPlayable, IsBoardOf, IsPlayed, ShowsHistories}
-use Rattle.std.specs.Option.{option_map}
-use Rattle.plex_board.specs.CfTypes.declared.forms.Kind.TheVariants as kind
-use Rattle.plex_board.specs.PlexScript.declared.scripts.AnyAsk.TheVariants as ask
-use Rattle.plex_board.specs.PlexScript.declared.scripts.Act.TheVariants as act
-use Rattle.plex_board.specs.PlexScript.declared.transcripts.AgentEnd.TheVariants as ended
+use Rattle.plex_agent.proofs.Imports.{Vec, Global, ◌≡◌, ◌≢◌, ℕ, ◌≤◌, List, length, map, Option, Result, Ok, Err, IfOk, IsOkAnd, All, slice_get, refl, sym, ◌∙◌, ap, subst, arith, length-map, get_or-map, Kind, StrForm, NoMemory, CfId, ConnId, Telling, TellsEnough, AnyAsk, Act, Line, Script, AnyHistory, Transcript, IsRunnable, IsRunnableLine, IsRunnableAct, AreTelling, AreRunLinks, serial_run, type_of_kind, type_of_ask, CellShown, DeskShown, BoardShown, IsStarted, AreClosed, AreLinksAsked, links_of, AtWork, MayAct, Finished, IsPlayable, IsBoardOf, IsPlayed, ShowsHistories, AgentEnd}
 use Rattle.plex_board.specs.Kinds.{IsAskOf}
-use Rattle.plex_agent.proofs.ExactLaw.{exact}
-use Rattle.plex_agent.proofs.LinkRuns.{run_links, run_told}
-use Rattle.plex_agent.proofs.Schedules.{serial_shows}
 use Rattle.plex_agent.proofs.Lookups.{get_mapped, all_get}
+use Rattle.plex_agent.proofs.{ExactLaw.exact, LinkRuns.run_links, LinkRuns.run_told, Schedules.serial_shows}
 
 -- ---- lines
 
 -- an ask of a kind is one of that kind's type
 ask_type : (kind : Kind) (asked : AnyAsk) → IsAskOf kind asked → type_of_ask asked ≡ type_of_kind kind
-ask_type kind.Cache (ask.Cache asked) is = refl
-ask_type (kind.List headers locks refs) (ask.List asked) is = refl
-ask_type kind.Lock (ask.Lock asked) is = refl
+ask_type Kind.Cache (AnyAsk.Cache asked) is = refl
+ask_type (Kind.List headers locks refs) (AnyAsk.List asked) is = refl
+ask_type Kind.Lock (AnyAsk.Lock asked) is = refl
 ask_type kind asked is = absurd is
 
 -- what a script's line does, its caller may do at the structure that was started for it
 may_act : {L : Type 0} (cell : CellShown L) (form : StrForm) (by : ConnId) (a : Act) → cell.form ≡ form
     → cell.str_type ≡ type_of_kind cell.form.kind → IsRunnableAct form by a → MayAct cell by a
-may_act cell form by (act.Call asked) form_is type_is may =
-    (ask_type form.kind asked may.0 ∙ ap (λ (f : StrForm). type_of_kind f.kind) (sym form_is) ∙ sym type_is, may.1)
-may_act cell form by (act.Test index) form_is type_is may = may.0
-may_act cell form by (act.TestWord word) form_is type_is may = may.0
+may_act cell form by (Act.Call asked) form_is type_is may = grind (arith, ask_type)
+may_act cell form by (Act.Test index) form_is type_is may = may.0
+may_act cell form by (Act.TestWord word) form_is type_is may = may.0
 may_act cell form by done form_is type_is may = tt
 
 -- a line of the script can be played at the board that was started for it
@@ -54,7 +46,7 @@ lines_playable limit script board is may = λ k d below. line_playable limit scr
 
 -- nobody's work ended for want of memory
 abbrev pub HadMemory : List Transcript → Type 0
-HadMemory transcripts = All (λ (transcript : Transcript). transcript.end ≢ ended.NoMemory) transcripts
+HadMemory transcripts = All (λ (transcript : Transcript). transcript.end ≢ AgentEnd.NoMemory) transcripts
 
 -- what holds of the histories, and of what was shown where nobody lacked memory, holds of a run that is left
 pub finished_is : (finished : Result Finished NoMemory) (shown : Result (Vec Transcript Global) NoMemory)
@@ -68,8 +60,8 @@ finished_is (Ok it) (Err e) histories Shows Holds same items had shows law = abs
 finished_is (Err e) shown histories Shows Holds same items had shows law = tt
 
 pub had_memory : (workers : List AtWork) → HadMemory (map (λ worker. worker.shown) workers)
-    → All (λ (worker : AtWork). worker.shown.end ≢ ended.NoMemory) workers
-had_memory workers had k d below = subst (λ (transcript : Transcript). transcript.end ≢ ended.NoMemory)
+    → All (λ (worker : AtWork). worker.shown.end ≢ AgentEnd.NoMemory) workers
+had_memory workers had k d below = subst (λ (transcript : Transcript). transcript.end ≢ AgentEnd.NoMemory)
     (get_or-map (λ (worker : AtWork). worker.shown) workers k d d.shown below)
     (had k d.shown (omega (arith, below, length-map workers (λ (worker : AtWork). worker.shown))))
 
@@ -91,10 +83,10 @@ module _ {L : Type 0} (limit : ℕ) (script : Script) (board : BoardShown L) (hi
         → (told : ℕ → CfId → Telling) → AreTelling calls downs faults told (length script.structures) old →
         (histories ≡ (serial_run limit told script).histories) × (shown ≡ (serial_run limit told script).transcripts)
     played_exact desks shown may played closed had told telling =
-        let law = exact limit told script board played.floor histories may is.forms is.cells
-        is.callers played.plays (had_memory played.floor.workers (subst HadMemory played.shown_are had))
+        let law = exact limit told script board played.floor histories may is
         (subst (λ (ds : List DeskShown). AreClosed board ds histories) played.desks_are closed) (run_told
-        calls downs faults enough board script.structures histories old new old_are is.forms asked told telling) in
+        calls downs faults enough board script.structures histories old new old_are is.forms asked told telling)
+        played.plays (had_memory played.floor.workers (subst HadMemory played.shown_are had)) in
         (law.0, played.shown_are ∙ law.1)
 
   -- what it shows, with the histories of the closed board
@@ -104,5 +96,5 @@ module _ {L : Type 0} (limit : ℕ) (script : Script) (board : BoardShown L) (hi
       let playable : All (IsPlayable board) script.lines = lines_playable limit script board is may in
       subst (λ (ts : List Transcript). ShowsHistories limit script histories ts) (sym played.shown_are)
       (serial_shows limit script board played.floor histories is.forms is.cells is.callers
-      (λ k d below. (playable k d below).caller) played.plays (had_memory played.floor.workers (subst HadMemory
-      played.shown_are had)) (subst (λ (ds : List DeskShown). AreClosed board ds histories) played.desks_are closed))
+      (λ k d below. (playable k d below).caller) played.plays (grind (arith, had_memory))
+      (subst (λ (ds : List DeskShown). AreClosed board ds histories) played.desks_are closed))

@@ -1,17 +1,12 @@
 -- A script's work on one thread is one schedule: each caller's lines and departures are a chain of turns, before each of
 -- which it hears of others.
-use Rattle.plex_agent.proofs.Imports.{◌≡◌, ◌≢◌, ℕ, zero, suc, ◌+◌, ◌≤◌, ◌<◌, ◌==◌, inl, Bool, true, false, MatchBool, List, [], ◌∷◌, length, map, fold, replicate, Option, None, Some, get_or, set, refl, sym, ap, subst, ◌∙◌, arith, All, range_with_len, nat_tests, length-map, get_or-set_same, get_or-set_other, All-head, All-tail, length-map-range_with_len, get_or-map-range_with_len, slice_get_within, get_or_from_slice_get, StrForm, ConnId, StrNo, Act, Line, Script, AnyHistory, numbers_from, connectors, ShowsHistories, PassShown, NoteShown, IsLater, note_of, unused_pass, CellShown, with_note, with_any_note, no_pass, pass_at, with_pass, BoardShown, IsStarted, AreClosed, cell_on, new_desk, note_in, AtWork, Takes, Acts, Turns, is_done_as, with_item, lines_by, no_items, Floor, Plays, PlaysLines, PlaysLine, PlaysAct, ClosesOne, ClosesAll, new_floor, no_worker, worker_of, told_by, heard_from, heard_from_last, heard_all, is_working, with_worker, last_after, worker_ready, worker_after_take, Hears, HearsThen, DoesLines, DepartsEach, Serves, cases_lt, inr}
+use Rattle.plex_agent.proofs.Imports.{◌≡◌, ◌≢◌, ℕ, zero, suc, ◌+◌, ◌≤◌, ◌<◌, ◌==◌, inl, Bool, true, false, MatchBool, List, [], ◌∷◌, length, map, fold, replicate, Option, None, Some, get_or, set, refl, sym, ap, subst, ◌∙◌, arith, All, range_with_len, nat_tests, length-map, get_or-set_same, get_or-set_other, All-head, All-tail, length-map-range_with_len, get_or-map-range_with_len, slice_get_within, get_or_from_slice_get, StrForm, ConnId, StrNo, Act, Line, Script, AnyHistory, numbers_from, connectors, ShowsHistories, PassShown, NoteShown, IsLater, note_of, unused_pass, CellShown, with_note, with_any_note, no_pass, pass_at, BoardShown, IsStarted, AreClosed, new_desk, note_in, AtWork, Takes, Acts, Turns, is_done_as, lines_by, no_items, Floor, Plays, PlaysLines, PlaysAct, ClosesOne, ClosesAll, new_floor, no_worker, worker_of, told_by, heard_from, heard_from_last, heard_all, is_working, with_worker, last_after, worker_ready, worker_after_take, Hears, HearsThen, DoesLines, DepartsEach, Serves, cases_lt, AgentEnd}
 use Rattle.std.proofs.lemmas.List.{length-set}
-use Rattle.plex_board.specs.PlexScript.declared.scripts.Act.TheVariants as act
-use Rattle.plex_board.specs.PlexScript.declared.transcripts.AgentEnd.TheVariants as ended
-use Rattle.plex_board.specs.PlexScript.declared.transcripts.Shown.TheVariants as shown
 use Rattle.plex_board.specs.Callers as alone
-use Rattle.plex_agent.proofs.Hearings.{hears_none, hears_then, later_same}
-use Rattle.plex_agent.proofs.Moves.{other_number}
-use Rattle.plex_agent.proofs.Keeping.{any_set, IsInOrder, IsOrdered, IsNoteOrdered, Keeps, turns_keep, departs_each_keep}
-use Rattle.plex_agent.proofs.Alone.{departs_heard}
-use Rattle.plex_agent.proofs.ServeLaw.{serves_right}
-use Rattle.plex_agent.proofs.Spots.{same_number, conn, str}
+use Rattle.plex_agent.proofs.Keeping.{IsInOrder, IsOrdered, IsNoteOrdered, Keeps, turns_keep, departs_each_keep}
+use Rattle.plex_agent.proofs.{Alone.departs_heard, Lookups.any_set, Lookups.any_map, ServeLaw.serves_right}
+use Rattle.plex_agent.proofs.{Spots.same_number, Spots.conn, Spots.str}
+use Rattle.plex_agent.proofs.{Hearings.hears_none, Hearings.hears_then, Hearings.later_same, Moves.other_number}
 
 later_set : (xs : List PassShown) (i : ℕ) (pass : PassShown) → IsLater (get_or xs i no_pass) pass → (j : ℕ)
     → IsLater (get_or xs j no_pass) (get_or (set xs i pass) j no_pass)
@@ -100,11 +95,11 @@ pub record Worked (by : ConnId) (act : AtWork → AtWork → Type 0) (before aft
 module _ (by : ConnId) (act : AtWork → AtWork → Type 0) (before after : Floor) (worked : Worked by act before after)
   where
     worker_here : by.0 < length before.workers → worker_of after by ≡ worked.worker
-    worker_here within = ap (λ (t : List AtWork). get_or t by.0 no_worker) worked.workers
+    worker_here within = ap (λ t. get_or t by.0 no_worker) worked.workers
         ∙ get_or-set_same before.workers by.0 worked.worker no_worker within
 
     worker_there : (c : ℕ) → by.0 == c ≡ false → worker_of after (conn c) ≡ worker_of before (conn c)
-    worker_there c apart = ap (λ (t : List AtWork). get_or t c no_worker) worked.workers
+    worker_there c apart = ap (λ t. get_or t c no_worker) worked.workers
         ∙ get_or-set_other before.workers by.0 c worked.worker no_worker (other_number by.0 c apart)
 
     worked_mine : by.0 < length before.workers → HearsThen act (worker_of before by) (worker_of after by)
@@ -117,17 +112,17 @@ module _ (by : ConnId) (act : AtWork → AtWork → Type 0) (before after : Floo
       worked_size c inside true same =
           let here : by.0 ≡ c = same_number by.0 c same in
           let within : by.0 < length before.workers = omega (arith, here, inside, orderly.workers) in
-          ap (λ (n : ℕ). length (worker_of after (conn n)).desk.passes) (sym here)
-          ∙ ap (λ (w : AtWork). length w.desk.passes) (worker_here within) ∙ worked.keeps.size ∙ worked.hears.0.passes
+          ap (λ n. length (worker_of after (conn n)).desk.passes) (sym here)
+          ∙ ap (λ w. length w.desk.passes) (worker_here within) ∙ worked.keeps.size ∙ worked.hears.0.passes
           ∙ orderly.sizes by.0 (omega (arith, here, inside))
       worked_size c inside false apart =
-          ap (λ (w : AtWork). length w.desk.passes) (worker_there c apart) ∙ orderly.sizes c inside
+          ap (λ w. length w.desk.passes) (worker_there c apart) ∙ orderly.sizes c inside
 
       worked_orderly : IsOrderly board after
       worked_orderly = record {
         workers = ap length worked.workers ∙ length-set before.workers by.0 worked.worker ∙ orderly.workers;
         sizes = λ c inside. worked_size c inside (by.0 == c) refl;
-        ordered = λ c. subst (λ (t : List AtWork). IsOrdered (get_or t c no_worker).desk) (sym worked.workers)
+        ordered = λ c. subst (λ t. IsOrdered (get_or t c no_worker).desk) (sym worked.workers)
             (any_set (λ (w : AtWork). IsOrdered w.desk) no_worker before.workers by.0 worked.worker
             (worked.keeps.ordered (worked.hears.1 (orderly.ordered by.0))) orderly.ordered c);
         notes = worked.notes;
@@ -144,54 +139,35 @@ module _ {L : Type 0} (board : BoardShown L) where
 
   -- a note that is posted or taken, before which nothing is heard
   note_worked : (cell : CellShown L) (line : Line) (done : Act) (before after : Floor) (worker : AtWork)
-      → line.act ≡ done → is_working before line.by ≡ true → Acts cell.limit cell.form line.on line.retry
-      done (worker_of before line.by) worker → after.workers ≡ set before.workers line.by.0 worker → ((x : ℕ)
-      → IsNoteOrdered (note_in after.tray (str x))) → Worked line.by (Turns cell.limit cell.form line) before after
-  note_worked cell line done before after worker is working acts workers notes =
+      (tray : List (Option NoteShown)) → line.act ≡ done → is_working before line.by ≡ true → Acts cell.limit cell.form
+      line.on line.retry done (worker_of before line.by) worker → ((x : ℕ) → IsNoteOrdered (note_in tray (str x)))
+      → after ≡ record (with_worker line.by worker before) { tray = tray }
+      → Worked line.by (Turns cell.limit cell.form line) before after
+  note_worked cell line done before after worker tray is working acts notes same =
       let was : AtWork = worker_of before line.by in
       let here : Acts cell.limit cell.form line.on line.retry line.act was worker =
       subst (λ (a : Act). Acts cell.limit cell.form line.on line.retry a was worker) (sym is) acts in
       let turns : Turns cell.limit cell.form line was worker = rw working here in
-      record {
-        ready = was;
-        worker = worker;
-        hears = well_none was;
-        acted = turns;
-        keeps = turns_keep cell.limit cell.form line was worker turns;
-        workers = workers;
-        notes = notes;
-      }
+      grind (arith, well_none, turns_keep)
 
   -- what a line's caller does, where its work goes on
   act_worked : (cell : CellShown L) (line : Line) (done : Act) (before after : Floor) → line.act ≡ done
       → is_working before line.by ≡ true → length (worker_of before line.by).desk.passes ≡ length board.cells
       → line.on.0 < length board.cells → IsOrderly board before
       → PlaysAct cell line done before after → Worked line.by (Turns cell.limit cell.form line) before after
-  act_worked cell line act.Post before after is working size within orderly (worker, posts, same) =
-      note_worked cell line act.Post before after worker is working (inl posts) (ap (λ (f : Floor). f.workers) same)
-      (λ x. subst (λ (t : List (Option NoteShown)). IsNoteOrdered (get_or t x None))
-      (sym (ap (λ (f : Floor). f.tray) same)) (any_set IsNoteOrdered None before.tray line.on.0 (Some (note_of
-      (pass_at (worker_of before line.by).desk line.on))) (orderly.ordered line.by.0 line.on.0) orderly.notes x))
-  act_worked cell line act.Take before after is working size within orderly same =
+  act_worked cell line Act.Post before after is working size within orderly (worker, posts, same) = note_worked
+      cell line Act.Post before after worker _ is working (inl posts) (any_set IsNoteOrdered None before.tray line.on.0
+      (Some (note_of (pass_at (worker_of before line.by).desk line.on))) (orderly.ordered line.by.0 line.on.0)
+      orderly.notes) same
+  act_worked cell line Act.Take before after is working size within orderly same =
       let was : AtWork = worker_of before line.by in
       let note : Option NoteShown = note_in before.tray line.on in
       let pass : PassShown = with_any_note note (pass_at was.desk line.on) in
       let worker : AtWork = worker_after_take line.on note was in
       let here : pass_at worker.desk line.on ≡ pass =
       get_or-set_same was.desk.passes line.on.0 pass no_pass (omega (arith, within, size)) in
-      let takes : Takes line.on was worker = record {
-        later = record {
-          later = subst (IsLater (pass_at was.desk line.on)) (sym here)
-              (any_note_later note (pass_at was.desk line.on));
-          rest = ap (λ (p : PassShown). with_pass line.on p was.desk) (sym here);
-        };
-        known = subst IsInOrder (sym here) (any_note_order note
-            (pass_at was.desk line.on) (orderly.notes line.on.0) (orderly.ordered line.by.0 line.on.0));
-        shown = ap (λ (p : PassShown). with_item (shown.Took line.on p.sure) was.shown) (sym here);
-      } in
-      note_worked cell line act.Take before after worker is working (inl takes) (ap (λ (f : Floor). f.workers) same)
-      (λ x. subst (λ (t : List (Option NoteShown)). IsNoteOrdered (get_or t x None))
-      (sym (ap (λ (f : Floor). f.tray) same)) (orderly.notes x))
+      let takes : Takes line.on was worker = grind (arith, any_note_later, IsInOrder, any_note_order) in
+      note_worked cell line Act.Take before after worker before.tray is working (inl takes) orderly.notes same
     where
       any_note_later : (note : Option NoteShown) (pass : PassShown) → IsLater pass (with_any_note note pass)
       any_note_later None pass = later_same pass
@@ -204,52 +180,37 @@ module _ {L : Type 0} (board : BoardShown L) where
   act_worked cell line done before after is working size within orderly (worker, turns, same) =
       turn_worked cell line before after orderly worker turns same
 
-  -- a line of a caller is a turn of it, before which it may hear; the others do nothing
-  pub record LineGoes (line : Line) (c : ℕ) (before after : Floor) : Type 0 where
+  -- ---- one caller at work, where its work goes on
+
+  -- one caller did this; the others did nothing
+  pub record Did (Does : AtWork → AtWork → Type 0) (by : ConnId) (c : ℕ) (before after : Floor) : Type 0 where
     pub orderly : IsOrderly board after
-    pub cell : CellShown L
-    pub there : cell_on board line.on ≡ Some cell
-    pub mine : line.by.0 == c ≡ true
-        → HearsThen (Turns cell.limit cell.form line) (worker_of before (conn c)) (worker_of after (conn c))
-    pub other : line.by.0 == c ≡ false → worker_of after (conn c) ≡ worker_of before (conn c)
+    pub mine : by.0 == c ≡ true → Does (worker_of before (conn c)) (worker_of after (conn c))
+    pub other : by.0 == c ≡ false → worker_of after (conn c) ≡ worker_of before (conn c)
 
-  line_goes : (line : Line) (c : ℕ) (before after : Floor) → line.by.0 ≤ board.callers → IsOrderly board before
-      → PlaysLine board line before after → LineGoes line c before after
-  line_goes line c before after caller orderly (cell, there, plays) = by_end (is_working before line.by) refl plays
-    where
-      stopped : is_working before line.by ≡ false → after ≡ before → LineGoes line c before after
-      stopped rests same = record {
-        orderly = subst (IsOrderly board) (sym same) orderly;
-        cell = cell;
-        there = there;
-        mine = λ is. (let here : line.by.0 ≡ c = same_number line.by.0 c is in
-            let ended : is_done_as (worker_of before (conn c)).shown.end ≡ false =
-            ap (λ (n : ℕ). is_done_as (worker_of before (conn n)).shown.end) (sym here) ∙ rests in (
-              worker_of before (conn c),
-              hears_none (worker_of before (conn c)),
-              rw ended (ap (λ (f : Floor). worker_of f (conn c)) same),
-            ));
-        other = λ apart. ap (λ (f : Floor). worker_of f (conn c)) same;
-      }
+  module _ (Made Does : AtWork → AtWork → Type 0)
+      (rests : (worker : AtWork) → is_done_as worker.shown.end ≡ false → Does worker worker)
+      (heard : (before after : AtWork) → HearsThen Made before after → Does before after) (by : ConnId) (c : ℕ)
+      (before after : Floor) (caller : by.0 ≤ board.callers) (orderly : IsOrderly board before) where
+    nothing_done : is_working before by ≡ false → after ≡ before → Did Does by c before after
+    nothing_done ended same = grind (arith, conn, rests, same_number)
 
-      goes : Worked line.by (Turns cell.limit cell.form line) before after → LineGoes line c before after
-      goes worked =
-          let within : line.by.0 < length before.workers = omega (arith, caller, orderly.workers) in
-          record {
-            orderly = worked_orderly line.by (Turns cell.limit cell.form line) before after worked board orderly;
-            cell = cell;
-            there = there;
-            mine = λ is. subst (λ (n : ℕ). HearsThen (Turns cell.limit cell.form line)
-                (worker_of before (conn n)) (worker_of after (conn n))) (same_number line.by.0 c is)
-                (worked_mine line.by (Turns cell.limit cell.form line) before after worked within);
-            other = λ apart. worker_there line.by (Turns cell.limit cell.form line) before after worked c apart;
-          }
+    something_done : Worked by Made before after → Did Does by c before after
+    something_done worked =
+        let within : by.0 < length before.workers = omega (arith, caller, orderly.workers) in
+        record {
+          orderly = worked_orderly by Made before after worked board orderly;
+          mine = λ is. subst (λ n. Does (worker_of before (conn n)) (worker_of after (conn n)))
+              (same_number by.0 c is) (heard _ _ (worked_mine by Made before after worked within));
+          other = worker_there by Made before after worked c;
+        }
 
-      by_end : (b : Bool) → is_working before line.by ≡ b
-          → MatchBool b (PlaysAct cell line line.act before after) (after ≡ before) → LineGoes line c before after
-      by_end true working acts = goes (act_worked cell line line.act before after refl working
-          (orderly.sizes line.by.0 caller) (slice_get_within board.cells line.on.0 cell there) orderly acts)
-      by_end false rests same = stopped rests same
+    work_done : (Acts : Type 0) → (is_working before by ≡ true → Acts → Worked by Made before after) → (b : Bool)
+        → is_working before by ≡ b → MatchBool b Acts (after ≡ before) → Did Does by c before after
+    work_done Acts works true working acts = something_done (works working acts)
+    work_done Acts works false ended same = nothing_done ended same
+
+  -- ---- lines
 
   abbrev AreCallers : List Line → Type 0
   AreCallers lines = All (λ line. line.by.0 ≤ board.callers) lines
@@ -258,23 +219,29 @@ module _ {L : Type 0} (board : BoardShown L) where
       → AreCallers lines → IsOrderly board before → PlaysLines board lines before after → IsOrderly board after
       × DoesLines board (lines_by (conn c) lines) (worker_of before (conn c)) (worker_of after (conn c))
   lines_serve [] c before after callers orderly same = grind (arith, conn, hears_none)
-  lines_serve (line ∷ lines) c before after callers orderly (between, first, rest) =
+  lines_serve (line ∷ lines) c before after callers orderly (between, (cell, there, plays), rest) =
       by_test (line.by.0 == c) refl (lines_serve lines c between
-      after (All-tail (λ (l : Line). l.by.0 ≤ board.callers) line lines callers) goes.orderly rest)
+      after (All-tail (λ (l : Line). l.by.0 ≤ board.callers) line lines callers) did.orderly rest)
     where
-      goes : LineGoes line c before between
-      goes = line_goes line c
-          before between (All-head (λ (l : Line). l.by.0 ≤ board.callers) line lines callers) orderly first
+      caller : line.by.0 ≤ board.callers
+      caller = All-head (λ (l : Line). l.by.0 ≤ board.callers) line lines callers
+
+      did : Did (HearsThen (Turns cell.limit cell.form line)) line.by c before between
+      did = work_done (Turns cell.limit cell.form line) (HearsThen (Turns cell.limit cell.form line))
+          (λ worker ended. (worker, hears_none worker, rw ended refl)) (λ worker after acted. acted)
+          line.by c before between caller orderly (PlaysAct cell line line.act before between)
+          (λ working. act_worked cell line line.act before between refl working (orderly.sizes line.by.0 caller)
+          (slice_get_within board.cells line.on.0 cell there) orderly) (is_working before line.by) refl plays
 
       by_test : (b : Bool) → line.by.0 == c ≡ b → IsOrderly board after × DoesLines board
           (lines_by (conn c) lines) (worker_of between (conn c)) (worker_of after (conn c)) → IsOrderly board after
           × DoesLines board (lines_by (conn c) (line ∷ lines)) (worker_of before (conn c)) (worker_of after (conn c))
       by_test true is (right, others) =
-          (right, rw is (goes.cell, goes.there, (worker_of between (conn c), goes.mine is, others)))
+          (right, rw is (cell, there, (worker_of between (conn c), did.mine is, others)))
       by_test false apart (right, others) = (
         right,
-        rw apart (subst (λ (w : AtWork). DoesLines board (lines_by (conn c) lines) w (worker_of after (conn c)))
-            (goes.other apart) others),
+        rw apart (subst (λ w. DoesLines board (lines_by (conn c) lines) w (worker_of after (conn c)))
+            (did.other apart) others),
       )
 
   -- ---- closings
@@ -289,44 +256,18 @@ module _ {L : Type 0} (board : BoardShown L) where
   abbrev Departures : AtWork → AtWork → Type 0
   Departures = alone.DepartsEach 0 board.cells
 
-  close_worked : (by : ConnId) (before after : Floor) → IsOrderly board before → (worker : AtWork)
-      → Departures (heard_all board before by) worker → after ≡ record (with_worker by worker before)
-      { last = replicate (length board.cells) (Some by) } → Worked by Departures before after
-  close_worked by before after orderly worker departs same =
-      grind (arith, hears_all, departs_each_keep, IsNoteOrdered)
+  close_worked : (by : ConnId) (before after : Floor) → IsOrderly board before → (worker : AtWork) × Departures
+      (heard_all board before by) worker × (after ≡ record (with_worker by worker before) {
+        last = replicate (length board.cells) (Some by);
+      }) → Worked by Departures before after
+  close_worked by before after orderly closes = grind (arith, hears_all, departs_each_keep, IsNoteOrdered)
 
-  pub record CloseGoes (by c : ℕ) (before after : Floor) : Type 0 where
-    pub orderly : IsOrderly board after
-    pub mine : by == c ≡ true → DepartsEach 0 board.cells (worker_of before (conn c)) (worker_of after (conn c))
-    pub other : by == c ≡ false → worker_of after (conn c) ≡ worker_of before (conn c)
-
-  close_goes : (by c : ℕ) (before after : Floor) → by ≤ board.callers → IsOrderly board before
-      → ClosesOne board (conn by) before after → CloseGoes by c before after
-  close_goes by c before after caller orderly closes = by_end (is_working before (conn by)) refl closes
-    where
-      stopped : is_working before (conn by) ≡ false → after ≡ before → CloseGoes by c before after
-      stopped rests same = grind (arith, conn, departs_not, same_number)
-
-      goes : Worked (conn by) Departures before after → CloseGoes by c before after
-      goes worked =
-          let within : by < length before.workers = omega (arith, caller, orderly.workers) in
-          let done : HearsThen Departures (worker_of before (conn by)) (worker_of after (conn by)) =
-          worked_mine (conn by) Departures before after worked within in
-          record {
-            orderly = worked_orderly (conn by) Departures before after worked board orderly;
-            mine = λ is. subst (λ (n : ℕ). DepartsEach 0 board.cells (worker_of before (conn n))
-                (worker_of after (conn n))) (same_number by c is) (departs_heard 0 board.cells
-                (worker_of before (conn by)) done.0 (worker_of after (conn by)) done.1 done.2);
-            other = λ apart. worker_there (conn by) Departures before after worked c apart;
-          }
-
-      by_end : (b : Bool) → is_working before (conn by) ≡ b → MatchBool b ((worker : AtWork) × Departures
-          (heard_all board before (conn by)) worker × (after ≡ record (with_worker (conn by) worker before) {
-            last = replicate (length board.cells) (Some (conn by));
-          })) (after ≡ before) → CloseGoes by c before after
-      by_end true working (worker, departs, same) =
-          goes (close_worked (conn by) before after orderly worker departs same)
-      by_end false rests same = stopped rests same
+  closing_done : (by : ConnId) (c : ℕ) (before after : Floor) → by.0 ≤ board.callers → IsOrderly board before
+      → ClosesOne board by before after → Did (DepartsEach 0 board.cells) by c before after
+  closing_done by c before after caller orderly closes =
+      work_done Departures (DepartsEach 0 board.cells) (departs_not 0 board.cells)
+      (λ worker after acted. departs_heard 0 board.cells worker acted.0 after acted.1 acted.2) by c before
+      after caller orderly _ (λ working. close_worked by before after orderly) (is_working before by) refl closes
 
   abbrev conns : ℕ → ℕ → List ConnId
   conns first n = map conn (numbers_from first n)
@@ -336,24 +277,12 @@ module _ {L : Type 0} (board : BoardShown L) where
       → ClosesAll board (conns first n) before after
       → IsOrderly board after × (c < first → worker_of after (conn c) ≡ worker_of before (conn c))
       × (first ≤ c → c < first + n → DepartsEach 0 board.cells (worker_of before (conn c)) (worker_of after (conn c)))
-  closes_run first zero c before after most orderly same = (
-    subst (IsOrderly board) (sym same) orderly,
-    λ past. ap (λ (f : Floor). worker_of f (conn c)) same,
-    λ above below. absurd (omega (arith, above, below)),
-  )
+  closes_run first zero c before after most orderly same = grind (arith, conn)
   closes_run first (suc n) c before after most orderly (between, one, rest) =
-      let goes : CloseGoes first c before between =
-      close_goes first c before between (omega (arith, most)) orderly one in
+      let goes : Did (DepartsEach 0 board.cells) (conn first) c before between =
+      closing_done (conn first) c before between (omega (arith, most)) orderly one in
       let behind = closes_run (first + 1) n c between after (omega (arith, most)) goes.orderly rest in (
-        behind.0,
-        λ past. behind.1 (omega (arith, past)) ∙ goes.other (grind (arith, nat_tests)),
-        λ above below. elim (cases_lt first c) [
-          | inl higher ↦ subst (λ (w : AtWork). DepartsEach 0 board.cells w (worker_of after (conn c)))
-              (goes.other (grind (arith, nat_tests))) (behind.2 (omega (arith, higher)) (omega (arith, below)))
-          | inr least ↦ subst (DepartsEach 0 board.cells (worker_of before (conn c)))
-              (sym (behind.1 (omega (arith, least)))) (goes.mine (grind (arith, nat_tests)))
-        ],
-      )
+      grind (arith, nat_tests, cases_lt, conn))
 
   -- ---- as the floor begins
 
@@ -361,18 +290,12 @@ module _ {L : Type 0} (board : BoardShown L) where
   idle owner = record { desk = new_desk board owner; shown = no_items }
 
   new_ordered : (owner : ℕ) → IsOrdered (new_desk board owner)
-  new_ordered owner = go board.cells
-    where
-      go : (cells : List (CellShown L)) (x : ℕ)
-          → IsInOrder (get_or (map (λ cell. unused_pass cell.str_type cell.words owner) cells) x no_pass)
-      go [] x = omega arith
-      go (cell ∷ cells) zero = omega arith
-      go (cell ∷ cells) (suc x) = go cells x
+  new_ordered owner = any_map IsInOrder no_pass (λ cell. unused_pass cell.str_type cell.words owner) board.cells
+      (omega arith) (λ cell. omega arith)
 
-  idle_ordered : (first n c : ℕ) → IsOrdered (get_or (map idle (range_with_len first n)) c no_worker).desk
-  idle_ordered first zero c = λ x. omega arith
-  idle_ordered first (suc n) zero = new_ordered first
-  idle_ordered first (suc n) (suc c) = idle_ordered (first + 1) n c
+  idle_ordered : (c : ℕ) → IsOrdered (worker_of (new_floor board) (conn c)).desk
+  idle_ordered = any_map (λ (w : AtWork). IsOrdered w.desk) no_worker idle (range_with_len 0 (board.callers + 1))
+      (λ x. omega arith) new_ordered
 
   no_notes_ordered : (n x : ℕ) → IsNoteOrdered (get_or (replicate n None) x None)
   no_notes_ordered zero x = tt
@@ -384,13 +307,7 @@ module _ {L : Type 0} (board : BoardShown L) where
       get_or-map-range_with_len idle 0 (board.callers + 1) c c no_worker (omega (arith, inside)) (omega arith)
 
   begins_orderly : IsOrderly board (new_floor board)
-  begins_orderly = record {
-    workers = length-map-range_with_len idle 0 (board.callers + 1);
-    sizes = λ c inside. ap (λ (w : AtWork). length w.desk.passes) (begins_as c inside)
-        ∙ length-map board.cells (λ (cell : CellShown L). unused_pass cell.str_type cell.words c);
-    ordered = λ c. idle_ordered 0 (board.callers + 1) c;
-    notes = λ x. no_notes_ordered (length board.cells) x;
-  }
+  begins_orderly = grind (arith, length-map-range_with_len, begins_as, length-map, idle_ordered, no_notes_ordered)
 
   plays_orderly : (script : Script) (floor : Floor) → board.callers ≡ length script.connectors
       → AreCallers script.lines → Plays board script.lines (connectors script) floor → IsOrderly board floor
@@ -427,15 +344,13 @@ pub serial_shows : {L : Type 0} (limit : ℕ) (script : Script) (board : BoardSh
     (histories : List AnyHistory) → map (λ cell. cell.form) board.cells ≡ script.structures
     → All (IsStarted (length script.connectors) limit) board.cells → board.callers ≡ length script.connectors
     → All (λ line. line.by.0 ≤ board.callers) script.lines → Plays board script.lines (connectors script) floor
-    → All (λ worker. worker.shown.end ≢ ended.NoMemory) floor.workers → AreClosed board (map (λ worker. worker.desk)
+    → All (λ worker. worker.shown.end ≢ AgentEnd.NoMemory) floor.workers → AreClosed board (map (λ worker. worker.desk)
     floor.workers) histories → ShowsHistories limit script histories (map (λ worker. worker.shown) floor.workers)
 serial_shows limit script board floor histories forms started callers lines plays memory closed =
     let right : IsOrderly board floor = ends_orderly in
     serves_right limit script
-    board histories floor.workers forms started closed (right.workers ∙ ap (λ n. n + 1) callers) (λ c worker there.
-    let inside : c ≤ board.callers = omega (arith, slice_get_within floor.workers c worker there, right.workers) in
-    subst (Serves board script.lines (record { desk = new_desk board c; shown = no_items })) (get_or_from_slice_get
-    floor.workers c worker no_worker there) (plays_serve board script floor c callers lines plays inside)) memory
+    board histories floor.workers forms started closed (right.workers ∙ ap (λ n. n + 1) callers) (
+    grind (arith, slice_get_within, get_or_from_slice_get, plays_serve)) memory
   where
     ends_orderly : IsOrderly board floor
     ends_orderly = plays_orderly board script floor callers lines plays

@@ -1,5 +1,5 @@
 -- The callers of a board, each at its own desk: as they begin, as one of them changes, and the desks that they leave.
-use Rattle.plex_agent.proofs.Imports.{◌≡◌, ℕ, zero, suc, ◌+◌, ◌<◌, ◌⊎◌, inl, inr, ◌≤◌, List, [], ◌∷◌, length, map, Some, slice_get, get_or, set, refl, sym, ◌∙◌, ap, subst, arith, range_with_len, All-map, All-same, length-map-range_with_len, get_or-map-range_with_len, slice_get_within, slice_get-get_or, get_or_from_slice_get, map-map, ConnId, DeskShown, BoardShown, IsDeskOf, new_desk, AtWork, no_worker, new_desk-of_board, AreCallersOf, AreDesksOf, idle_worker, crew_of}
+use Rattle.plex_agent.proofs.Imports.{◌≡◌, ℕ, zero, suc, ◌+◌, ◌<◌, ◌⊎◌, inl, inr, ◌≤◌, List, [], ◌∷◌, length, map, Some, slice_get, get_or, set, refl, sym, ◌∙◌, ap, arith, range_with_len, All-map, All-same, length-map-range_with_len, get_or-map-range_with_len, slice_get_within, slice_get-get_or, get_or_from_slice_get, map-map, ConnId, DeskShown, BoardShown, IsDeskOf, new_desk, AtWork, no_worker, new_desk-of_board, AreCallersOf, AreDesksOf, idle_worker, crew_of}
 use Rattle.std.proofs.Math.ListN.{length-set}
 
 abbrev pub desk_of : AtWork → DeskShown
@@ -38,7 +38,7 @@ module _ {L : Type 0} (board : BoardShown L) (workers : List AtWork) (are : AreC
       let counted = are.callers in
       let inside : by.0 < length workers = omega arith in
       let own = are.each by.0 (get_or workers by.0 no_worker) (slice_get-get_or workers by.0 no_worker inside) in
-      (own.0, ap (λ (n : ℕ). (let it : ConnId = record { 0 = n } in it)) own.1)
+      (own.0, ap (λ n. (let it : ConnId = record { 0 = n } in it)) own.1)
 
   -- one of them changed, and is at its own desk still
   pub callers-set : (by : ConnId) (worker : AtWork) → IsDeskOf board worker.desk → worker.desk.owner ≡ by
@@ -46,10 +46,7 @@ module _ {L : Type 0} (board : BoardShown L) (workers : List AtWork) (are : AreC
   callers-set by worker fits own = record {
     callers = length-set workers by.0 worker ∙ are.callers;
     each = λ c some at. elim (slice_get-set workers by.0 c worker some at) [
-      | inl both ↦ (
-        subst (λ (it : AtWork). IsDeskOf board it.desk) (sym both.1) fits,
-        ap (λ (it : AtWork). it.desk.owner.0) both.1 ∙ ap (λ (conn : ConnId). conn.0) own ∙ sym both.0,
-      )
+      | inl both ↦ (grind arith)
       | inr there ↦ are.each c some there
     ];
   }

@@ -1,12 +1,9 @@
 -- Callers at work at one board, whatever the schedule was: each works at its own desk, and what is known of the
 -- others is what the histories say.
-use Rattle.plex_agent.proofs.Imports.{◌≡◌, ◌≢◌, ℕ, ◌+◌, ◌≤◌, ◌<◌, inl, inr, List, [], length, map, Some, None, Option, refl, sym, ap, subst, ◌∙◌, arith, append-nil, slice_get, All, cases_lt, length-map, get_or_past, All-nil, slice_get_within, get_within, StrForm, ConnId, StrNo, AnyHistory, Script, Shown, Transcript, AnyCall, any_calls, any_length, own_calls, calls_of, calls_on, length_of, length_on, AgreesWith, numbers_on, TestsTell, EndsRight, IsHistoryOf, ShowsHistories, CellShown, IsAnyTold, Rising, calls_rise, DeskShown, no_pass, pass_at, BoardShown, IsStarted, IsClosed, IsAccount, AreClosed, new_desk, AtWork, no_items, Serves, WorkEnds, ShowsWork}
-use Rattle.plex_board.specs.PlexScript.declared.transcripts.AgentEnd.TheVariants as ended
-use Rattle.plex_agent.proofs.Passes.{Caller, IsWithin}
-use Rattle.plex_agent.proofs.Moves.{AreWithin, IsTranscript}
-use Rattle.plex_agent.proofs.Lines.{IsSetting}
+use Rattle.plex_agent.proofs.Imports.{◌≡◌, ◌≢◌, ℕ, ◌+◌, ◌≤◌, ◌<◌, inl, inr, List, length, map, Some, None, Option, sym, ap, subst, ◌∙◌, arith, append-nil, slice_get, All, cases_lt, length-map, get_or_past, All-nil, slice_get_within, get_within, StrForm, ConnId, StrNo, AnyHistory, Script, Transcript, AnyCall, any_calls, any_length, own_calls, calls_of, calls_on, length_of, length_on, AgreesWith, numbers_on, TestsTell, EndsRight, IsHistoryOf, ShowsHistories, CellShown, IsAnyTold, Rising, calls_rise, DeskShown, no_pass, pass_at, BoardShown, IsStarted, IsClosed, IsAccount, AreClosed, new_desk, AtWork, no_items, Serves, WorkEnds, ShowsWork, AgentEnd}
 use Rattle.plex_agent.proofs.Lookups.{get_map, get_mapped, all_get, kind_of_type}
 use Rattle.plex_agent.proofs.Work.{caller_of, begins_long, begins_owning, begins_shown, Finished, finishes}
+use Rattle.plex_agent.proofs.{Passes.Caller, Passes.IsWithin, Moves.AreWithin, Moves.IsTranscript, Lines.IsSetting}
 
 module _ {L : Type 0} (limit : ℕ) (script : Script) (board : BoardShown L) (histories : List AnyHistory)
     (workers : List AtWork) (forms_are : map (λ cell. cell.form) board.cells ≡ script.structures)
@@ -30,16 +27,13 @@ module _ {L : Type 0} (limit : ℕ) (script : Script) (board : BoardShown L) (hi
   form_there x cell there = grind (arith, get_map)
 
   -- the cell and the history of a structure
-  cell_there : (x : ℕ) → x < length board.cells → (cell : CellShown L) × (slice_get board.cells x ≡ Some cell)
-  cell_there x within = get_within board.cells x within
-
   history_there : (x : ℕ) → x < length board.cells → (entries : AnyHistory) × (slice_get histories x ≡ Some entries)
   history_there x within = get_within histories x (omega (arith, within, closed.structures))
 
   cell_within : (x : ℕ) (entries : AnyHistory) → slice_get histories x ≡ Some entries → (cell : CellShown L)
       × (slice_get board.cells x ≡ Some cell)
   cell_within x entries there =
-      cell_there x (omega (arith, slice_get_within histories x entries there, closed.structures))
+      get_within board.cells x (omega (arith, slice_get_within histories x entries there, closed.structures))
 
   closed_at : (on : StrNo) (cell : CellShown L) (entries : AnyHistory) → slice_get board.cells on.0 ≡ Some cell
       → slice_get histories on.0 ≡ Some entries → IsClosed cell entries
@@ -77,21 +71,18 @@ module _ {L : Type 0} (limit : ℕ) (script : Script) (board : BoardShown L) (hi
     calls_mine : (on : StrNo) (entries : AnyHistory) → on.0 < length board.cells → slice_get
         histories on.0 ≡ Some entries → (pass_at worker.desk on).calls ≡ own_calls (calls_on histories on) conn
     calls_mine on entries within kept =
-        let cell = cell_there on.0 within in
+        let cell = get_within board.cells on.0 within in
         (account on cell.0 entries cell.1 kept).mine ∙ ap (own_calls (any_calls entries)) (owns on within)
-        ∙ ap (λ (o : Option AnyHistory). own_calls (calls_of o) conn) (sym kept)
+        ∙ ap (λ o. own_calls (calls_of o) conn) (sym kept)
 
     within_board : (on : StrNo) → on.0 < length board.cells → IsWithin me on (pass_at worker.desk on)
     within_board on within =
-        let cell = cell_there on.0 within in
+        let cell = get_within board.cells on.0 within in
         let kept = history_there on.0 within in
         let known : IsAccount cell.0 kept.0 (pass_at worker.desk on) = account on cell.0 kept.0 cell.1 kept.1 in
         let reached : length_on histories on ≡ any_length kept.0 = ap length_of kept.1 in
         record {
-          calls = record {
-            more = [];
-            behind = sym (calls_mine on kept.0 within kept.1) ∙ sym (append-nil (pass_at worker.desk on).calls);
-          };
+          calls = grind (arith, calls_mine, append-nil);
           known = omega (arith, known.known, reached);
           tests = λ form entries found kept'. by_names form
               entries cell.0 kept.0 (sym (form_there on.0 cell.0 cell.1) ∙ found) (sym kept.1 ∙ kept') known.tests;
@@ -111,11 +102,7 @@ module _ {L : Type 0} (limit : ℕ) (script : Script) (board : BoardShown L) (hi
         elim (cases_lt on.0 (length board.cells)) [ inl within ↦ within_board on within | inr past ↦ outside past ]
       where
         outside : length board.cells ≤ on.0 → IsWithin me on (pass_at worker.desk on)
-        outside past = subst (IsWithin me on) (sym (no_such_pass on past)) (record {
-          calls = record { more = own_calls (calls_on histories on) conn; behind = refl };
-          known = omega arith;
-          tests = λ form entries found kept. All-nil (IsAnyTold form entries conn);
-        })
+        outside past = subst (IsWithin me on) (sym (no_such_pass on past)) (grind (arith, All-nil))
 
     goes_with : IsTranscript me worker
     goes_with = finished.goes.forth are_within (begins_shown board me)
@@ -138,14 +125,13 @@ module _ {L : Type 0} (limit : ℕ) (script : Script) (board : BoardShown L) (hi
 
     work : ShowsWork limit script histories conn worker.shown
     work = record {
-      ends = subst (λ (items : List Shown). WorkEnds limit script histories conn items worker.shown.end)
-          (sym finished.goes.items)
+      ends = subst (λ items. WorkEnds limit script histories conn items worker.shown.end) (sym finished.goes.items)
           (finished.shows tt are_within (subst (AgreesWith histories conn) finished.goes.items agrees));
       tests = tests;
     }
 
   -- where memory was found, the items follow the script, or stop at a full journal
-  ends_right : (conn : ConnId) (shown : Transcript) → shown.end ≢ ended.NoMemory
+  ends_right : (conn : ConnId) (shown : Transcript) → shown.end ≢ AgentEnd.NoMemory
       → ShowsWork limit script histories conn shown → EndsRight limit script histories conn shown.items shown.end
   ends_right conn shown found work = grind arith
 
@@ -159,12 +145,7 @@ module _ {L : Type 0} (limit : ℕ) (script : Script) (board : BoardShown L) (hi
       let start : IsStarted (length script.connectors) limit cell.0 = starts x cell.0 cell.1 in
       let both : Some cell.0.form ≡ Some form = sym (form_there x cell.0 cell.1) ∙ known in
       let same : cell.0.form ≡ form = cc in
-      subst (λ (f : StrForm). IsHistoryOf script f entries) same (record {
-        kind = kind_of_type cell.0.form.kind entries (is.history_type ∙ start.type_is);
-        legal = is.legal;
-        callers = subst (λ (n : ℕ). All (λ (call : AnyCall). call.by.0 ≤ n) (any_calls entries)) start.callers_is
-            is.callers;
-      })
+      subst (λ f. IsHistoryOf script f entries) same (grind (arith, kind_of_type))
 
   -- However a caller's work ended, and whatever the others did: what it was shown are the caller's calls, each once and
   -- in their order, as far as its work came, and tests that tell what stood.
@@ -179,17 +160,17 @@ module _ {L : Type 0} (limit : ℕ) (script : Script) (board : BoardShown L) (hi
   -- tells what stood.
   pub serves_right : length workers ≡ length script.connectors + 1 → ((c : ℕ) (worker : AtWork) → slice_get workers
       c ≡ Some worker → Serves board script.lines (record { desk = new_desk board c; shown = no_items }) worker)
-      → All (λ worker. worker.shown.end ≢ ended.NoMemory) workers
+      → All (λ worker. worker.shown.end ≢ AgentEnd.NoMemory) workers
       → ShowsHistories limit script histories (map (λ worker. worker.shown) workers)
   serves_right as_workers serve found = record {
     structures = closed.structures ∙ as_many;
     histories_right = history_of;
     callers = length-map workers shown_of ∙ as_workers;
     ends = λ c transcript shown'. (let it = get_mapped shown_of workers c transcript shown' in
-        subst (λ (t : Transcript). EndsRight limit script histories (record { 0 = c }) t.items t.end)
+        subst (λ t. EndsRight limit script histories (record { 0 = c }) t.items t.end)
         it.2 (ends_right (record { 0 = c }) it.0.shown (all_get (λ (worker : AtWork). worker.shown.end ≢
-        ended.NoMemory) workers c it.0 found it.1) (serve_right c it.0 it.1 (serve c it.0 it.1))));
+        AgentEnd.NoMemory) workers c it.0 found it.1) (serve_right c it.0 it.1 (serve c it.0 it.1))));
     tests = λ c transcript shown'. (let it = get_mapped shown_of workers c transcript shown' in
-        subst (λ (t : Transcript). TestsTell script.structures histories (record { 0 = c }) t.items) it.2
+        subst (λ t. TestsTell script.structures histories (record { 0 = c }) t.items) it.2
         (serve_right c it.0 it.1 (serve c it.0 it.1)).tests);
   }

@@ -1,5 +1,5 @@
 -- What has been done at one structure, by all callers, and what is known of it while a script runs.
-use Rattle.plex_agent.proofs.Imports.{◌≡◌, ◌≢◌, ℕ, ◌+◌, ◌≤◌, ◌<◌, ◌==◌, true, false, cond, List, [], ◌∷◌, ◌++◌, Option, None, Some, refl, sym, ap, ◌∙◌, arith, append-nil, All, nat_tests, All-head, All-tail, All-push, All-weaker, filter-append, ConnId, StrNo, Told, AnyAsk, AnyCall, own_calls, Rising, AnyReply, PassShown, NoteShown, with_call}
+use Rattle.plex_agent.proofs.Imports.{◌≡◌, ◌≢◌, ℕ, ◌≤◌, ◌<◌, ◌==◌, true, false, cond, List, [], ◌∷◌, ◌++◌, Option, None, Some, refl, ap, arith, append-nil, All, nat_tests, All-head, All-tail, All-push, All-weaker, filter-append, ConnId, StrNo, Told, AnyAsk, AnyCall, own_calls, Rising, AnyReply, PassShown, NoteShown, with_call}
 
 abbrev pub conn : ℕ → ConnId
 conn c = record { 0 = c }
@@ -42,11 +42,10 @@ AreBelow front calls = All (λ call. call.no ≤ front) calls
 pub rising_push : (low : ℕ) (calls : List AnyCall) (call : AnyCall) (front : ℕ) → low ≤ front → Rising low calls
     → AreBelow front calls → front < call.no → Rising low (calls ++ call ∷ [])
 rising_push low [] call front least rising below above = (omega arith, tt)
-rising_push low (first ∷ calls) call front least rising below above = (
-  rising.0,
-  rising_push first.no calls call front (All-head (λ (call : AnyCall). call.no ≤ front) first calls below) rising.1
-      (All-tail (λ (call : AnyCall). call.no ≤ front) first calls below) above,
-)
+rising_push low (first ∷ calls) call front least rising below above =
+    let rest = All-tail (λ (call : AnyCall). call.no ≤ front) first calls below in
+    let first_below = All-head (λ (call : AnyCall). call.no ≤ front) first calls below in
+    (rising.0, rising_push first.no calls call front first_below rising.1 rest above)
 
 pub own_push : (calls : List AnyCall) (call : AnyCall) (c : ℕ) → call.by.0 ≡ c
     → own_calls (calls ++ call ∷ []) (conn c) ≡ own_calls calls (conn c) ++ call ∷ []
@@ -92,36 +91,31 @@ pub record IsKnown (callers : ℕ) (spot : Spot) : Type 0 where
 
 -- ---- what a caller does there
 
--- its pass became this, which knows the front
+-- its pass became this, and what else is told of the structure is as in another one
+abbrev pub changed : ℕ → PassShown → Spot → Spot → Spot
+changed by pass rest spot = record rest { passes = put by pass spot.passes }
+
+-- it acted last, and its pass knows the front
+abbrev pub at_front : ℕ → PassShown → Spot → Spot
+at_front by pass spot = record spot { last = Some (conn by); front = pass.known }
+
 abbrev pub moved : ℕ → PassShown → Spot → Spot
-moved by pass spot = record {
-  passes = put by pass spot.passes;
-  note = spot.note;
-  last = Some (conn by);
-  events = spot.events;
-  front = pass.known;
-}
+moved by pass spot = changed by pass (at_front by pass spot) spot
 
--- its pass became this, and it isn't said to have acted
-abbrev pub noticed : ℕ → PassShown → Spot → Spot
-noticed by pass spot = record spot { passes = put by pass spot.passes }
-
--- it posted its numbers
-abbrev pub posted : Option NoteShown → Spot → Spot
-posted note spot = record spot { note = note }
+-- this note lies in the tray, and it isn't said to have acted
+abbrev pub noticed : ℕ → PassShown → Option NoteShown → Spot → Spot
+noticed by pass note spot = changed by pass (record spot { note = note }) spot
 
 abbrev pub event : ℕ → AnyAsk → Told → AnyCall
 event by asked told = record { no = told.no; by = conn by; ask = asked; told = told }
 
 -- it was answered a call
+abbrev pub with_event : ℕ → AnyAsk → Told → Spot → Spot
+with_event by asked told spot = record spot { events = spot.events ++ event by asked told ∷ []; front = told.no }
+
 abbrev pub called : ℕ → AnyAsk → Told → AnyReply → Spot → Spot
-called by asked told reply spot = record {
-  passes = put by (with_call asked told reply (spot.passes by)) spot.passes;
-  note = spot.note;
-  last = spot.last;
-  events = spot.events ++ event by asked told ∷ [];
-  front = told.no;
-}
+called by asked told reply spot =
+    changed by (with_call asked told reply (spot.passes by)) (with_event by asked told spot) spot
 
 note_later : (front front' : ℕ) (note : Option NoteShown) → front ≤ front' → IsKnownNote front note
     → IsKnownNote front' note
@@ -132,25 +126,17 @@ below_later : (front front' : ℕ) (calls : List AnyCall) → front ≤ front' �
     → AreBelow front' calls
 below_later front front' calls later below = grind (arith, All-weaker)
 
-pass_later : (events : List AnyCall) (front front' c : ℕ) (pass : PassShown)
-    → front ≤ front' → IsKnownPass events front c pass → IsKnownPass events front' c pass
-pass_later events front front' c pass later is =
-    record { owner = is.owner; sure = is.sure; within = omega (arith, is.within); calls = is.calls }
-
 pub known_moved : (callers by : ℕ) (spot : Spot) (pass : PassShown) → by ≤ callers → IsKnown callers spot
     → spot.front ≤ pass.known → pass.sure ≤ pass.known → pass.owner ≡ (spot.passes by).owner
     → pass.calls ≡ (spot.passes by).calls → IsKnown callers (moved by pass spot)
 known_moved callers by spot pass caller known later sure owner calls =
-    grind (arith, put_all, pass_later, below_later, put_same, note_later)
+    grind (arith, put_all, below_later, put_same, note_later)
 
-pub known_noticed : (callers by : ℕ) (spot : Spot) (pass : PassShown) → by ≤ callers → IsKnown callers spot
-    → (spot.passes by).known ≤ pass.known → pass.known ≤ spot.front → pass.sure ≤ pass.known →
-    pass.owner ≡ (spot.passes by).owner → pass.calls ≡ (spot.passes by).calls → IsKnown callers (noticed by pass spot)
-known_noticed callers by spot pass caller known later within sure owner calls = grind (arith, put_all)
-
-pub known_posted : (callers : ℕ) (spot : Spot) (note : NoteShown) → IsKnown callers spot → note.sure ≤ note.known
-    → note.known ≤ spot.front → IsKnown callers (posted (Some note) spot)
-known_posted callers spot note known sure within = grind arith
+pub known_noticed : (callers by : ℕ) (spot : Spot) (pass : PassShown) (note : Option NoteShown) → by ≤ callers
+    → IsKnown callers spot → (spot.passes by).known ≤ pass.known → pass.known ≤ spot.front → pass.sure ≤ pass.known
+    → pass.owner ≡ (spot.passes by).owner → pass.calls ≡ (spot.passes by).calls → IsKnownNote spot.front note
+    → IsKnown callers (noticed by pass note spot)
+known_noticed callers by spot pass note caller known later within sure owner calls noted = grind (arith, put_all)
 
 pub known_called : (callers by : ℕ) (spot : Spot) (asked : AnyAsk) (told : Told) (reply : AnyReply) → by ≤ callers
     → IsKnown callers spot
@@ -159,28 +145,13 @@ known_called callers by spot asked told reply caller known last above =
     let call = event by asked told in
     let before = spot.passes by in
     let mine = known.pass by caller in
-    let named =
-    ap (λ o. before.calls ++ record { no = told.no; by = o; ask = asked; told = told } ∷ []) mine.owner in
+    let named = ap (λ o. before.calls ++ record { no = told.no; by = o; ask = asked; told = told } ∷ []) mine.owner in
     record {
-      pass = put_all (λ c pass'. c ≤ callers → IsKnownPass (spot.events ++ call ∷ []) told.no c pass')
-          _ _ _ (λ within. record {
-            owner = mine.owner;
-            sure = omega arith;
-            within = omega arith;
-            calls = named ∙ ap (λ t. t ++ call ∷ []) mine.calls ∙ sym (own_push spot.events call by refl);
-          }) (λ other apart within. record {
-            owner = (known.pass other within).owner;
-            sure = (known.pass other within).sure;
-            within = omega (arith, (known.pass other within).within);
-            calls = (known.pass other within).calls ∙ sym (own_push_other _ _ _ (λ e. apart (sym e)));
-          });
+      pass = grind (arith, put_all, own_push, own_push_other);
       rising = rising_push 0 _ _ _ (omega arith) known.rising known.below above;
       below = All-push (λ call. call.no ≤ told.no) spot.events call
           (below_later _ _ _ (omega arith) known.below) (omega arith);
       by = All-push (λ call. call.by.0 ≤ callers) spot.events call known.by caller;
-      lasts = rw last (
-        caller,
-        ap (λ p. p.known) (put_same by (with_call asked told reply before) spot.passes),
-      );
+      lasts = grind (arith, put_same);
       noted = note_later _ _ _ (omega arith) known.noted;
     }

@@ -1,12 +1,7 @@
 -- A caller's turn at a structure: what it does to desk and transcript, and what its items show by the histories.
-use Rattle.plex_agent.proofs.Imports.{◌≡◌, ℕ, ◌≤◌, ◌<◌, List, [], ◌∷◌, ◌++◌, length, map, Some, Option, refl, sym, ap, subst, ◌∙◌, arith, append-nil, append_assoc, Kind, ConnId, StrNo, Told, Step, AnyAsk, AgentEnd, Shown, step_after, asked_by, AnyCall, call_numbered, calls_on, length_on, IsHeard, Runs, RunsUpTo, AnyReply, PassShown, with_call, Rising, DeskShown, pass_at, with_pass, AtWork, call_item, Steps, Halts, EndsAt, Asks, pass_at-with_pass_same}
-use Rattle.std.proofs.lemmas.List.{length-set}
-use Rattle.plex_board.specs.PlexScript.declared.agents.Step.TheVariants as step
-use Rattle.plex_board.specs.PlexScript.declared.transcripts.AgentEnd.TheVariants as ended
-use Rattle.plex_agent.proofs.Fronts.{own_heard}
+use Rattle.plex_agent.proofs.Imports.{◌≡◌, ℕ, ◌≤◌, ◌<◌, List, [], ◌∷◌, ◌++◌, length, map, Some, Option, refl, sym, ap, subst, ◌∙◌, arith, append-nil, append_assoc, Kind, ConnId, StrNo, Told, Step, AnyAsk, AgentEnd, Shown, step_after, asked_by, AnyCall, call_numbered, calls_on, length_on, IsHeard, Runs, RunsUpTo, AnyReply, PassShown, with_call, Rising, DeskShown, pass_at, with_pass, AtWork, call_item, Steps, Halts, EndsAt, Asks, IsLaterOn, pass_at-with_pass_same}
 use Rattle.plex_agent.proofs.Passes.{Caller, IsWithin, Advances, advances_none, advances_then, advances_one, advances_later}
-use Rattle.plex_agent.proofs.Adds.{call_adds}
-use Rattle.plex_agent.proofs.Moves.{Moves, moves_by, pass_elsewhere}
+use Rattle.plex_agent.proofs.{AskLaws.with_pass_twice, Fronts.own_heard, Adds.call_adds, Moves.Moves, Moves.moves_by}
 
 module _ (me : Caller) where
   -- ---- steps
@@ -15,7 +10,7 @@ module _ (me : Caller) where
       (now : Step) (pass : PassShown) (tolds : List Told) (last : Step) (pass' : PassShown)
       → Steps kind line now pass tolds last pass' → Advances me on pass pass' (map (call_item on) tolds)
   steps_advance kind line on now pass [] last pass' steps =
-      subst (λ (p : PassShown). Advances me on pass p []) (sym steps.1) (advances_none me on pass)
+      subst (λ p. Advances me on pass p []) (sym steps.1) (advances_none me on pass)
   steps_advance kind line on now pass (told ∷ tolds) last pass' (asked, next, above, reply, rest) =
       advances_then _ _ _ _ _ _ _ (advances_one _ _ _ _ _ (call_adds _ _ _ _ _ _ above))
       (steps_advance kind line on (step_after now told) (with_call asked told reply pass) tolds last pass' rest)
@@ -43,42 +38,27 @@ module _ (me : Caller) where
     step_heard now asked told reply pass next owner within = subst (λ o. IsHeard (calls_on me.histories on)
         by o told.no told) (sym next) (call_heard on by asked told reply pass rise owner within)
 
-    steps_run : (now : Step) (pass : PassShown) (tolds : List Told) (last : Step) (pass' : PassShown)
-        → Steps kind line now pass tolds last pass' → pass.owner ≡ by → IsWithin me on pass'
-        → last ≡ step.Rest → Runs kind line (calls_on me.histories on) by on now (map (call_item on) tolds)
-    steps_run now pass [] last pass' steps owner within rests = sym steps.0 ∙ rests
-    steps_run now pass (told ∷ tolds) last pass' (asked, next, above, reply, rest) owner within rests = (
-      told,
-      refl,
-      step_heard now asked told reply pass next owner ((steps_advance
-          kind line on (step_after now told) (with_call asked told reply pass) tolds last pass' rest).back within),
-      steps_run (step_after now told) (with_call asked told reply pass) tolds last pass' rest owner within rests,
-    )
-
-    steps_run_up_to : (now : Step) (pass : PassShown) (tolds : List Told) (last : Step) (pass' : PassShown)
-        → Steps kind line now pass tolds last pass' → pass.owner ≡ by → IsWithin me on pass' → (asked : AnyAsk)
-        → asked_by kind line last ≡ Some asked
-        → RunsUpTo kind line (calls_on me.histories on) by on now (map (call_item on) tolds)
-    steps_run_up_to now pass [] last pass' steps owner within ask asks =
-        (ask, ap (asked_by kind line) (sym steps.0) ∙ asks)
-    steps_run_up_to now pass (told ∷ tolds) last pass' (asked, next, above, reply, rest) owner within ask asks = (
-      told,
-      refl,
-      step_heard now asked told reply pass next owner ((steps_advance
-          kind line on (step_after now told) (with_call asked told reply pass) tolds last pass' rest).back within),
-      steps_run_up_to (step_after now told) (with_call asked told reply pass) tolds last pass'
-          rest owner within ask asks,
-    )
+    -- what steps show, by what holds behind the last of them
+    steps_show : (Shows : Step → List Shown → Type 0) → ((now : Step) (told : Told) (items : List Shown) → AreHeard
+        now told → Shows (step_after now told) items → Shows now (call_item on told ∷ items)) → (now : Step)
+        (pass : PassShown) (tolds : List Told) (last : Step) (pass' : PassShown) → Steps kind line now pass tolds
+        last pass' → pass.owner ≡ by → IsWithin me on pass' → Shows last [] → Shows now (map (call_item on) tolds)
+    steps_show Shows more now pass [] last pass' steps owner within ends = subst (λ at. Shows at []) steps.0 ends
+    steps_show Shows more now pass (told ∷ tolds) last pass' (asked, next, above, reply, rest) owner within ends =
+        more now told (map (call_item on) tolds) (step_heard now asked told reply pass next owner ((steps_advance kind
+        line on (step_after now told) (with_call asked told reply pass) tolds last pass' rest).back within))
+        (steps_show Shows more (step_after now told) (with_call asked told reply pass) tolds last pass' rest owner
+        within ends)
 
   -- ---- turns
 
   -- how a turn ends: all of it was shown, or what comes before a call to a full journal, or before memory was lacking
   abbrev pub EndsAs : ℕ → StrNo → (List Shown → Type 0) → (List Shown → Type 0) → (List Shown → Type 0) → List Shown
       → AgentEnd → Type 0
-  EndsAs limit on Whole UpTo Cut part ended.Done = Whole part
-  EndsAs limit on Whole UpTo Cut part (ended.JournalFull place) =
+  EndsAs limit on Whole UpTo Cut part AgentEnd.Done = Whole part
+  EndsAs limit on Whole UpTo Cut part (AgentEnd.JournalFull place) =
       (place ≡ on) × UpTo part × (limit ≤ length_on me.histories on)
-  EndsAs limit on Whole UpTo Cut part ended.NoMemory = Cut part
+  EndsAs limit on Whole UpTo Cut part AgentEnd.NoMemory = Cut part
 
   pub record Turned (limit : ℕ) (by : ConnId) (on : StrNo) (Whole UpTo Cut : List Shown → Type 0)
       (before after : AtWork) : Type 0 where
@@ -106,50 +86,43 @@ module _ (me : Caller) where
     module _ (tolds : List Told) (last : Step) (pass : PassShown)
         (steps : Steps kind line first (pass_at before.desk on) tolds last pass)
         (desk : DeskShown) (items : List Shown) (shows : items ≡ before.shown.items ++ map (call_item on) tolds) where
+      later : IsLaterOn on (with_pass on pass before.desk) desk → Advances me on pass (pass_at desk on) []
+      later stop = subst (λ p. Advances me on p (pass_at desk on) [])
+          (pass_at-with_pass_same before.desk on pass inside) (advances_later _ _ _ _ stop.later)
+
       halts : (end : AgentEnd) → Halts kind line on last (with_pass on pass before.desk) desk → Moves
           me on before (at_work desk items end) (map (call_item on) tolds) × ((pass_at before.desk on).owner ≡ by
           → IsWithin me on (pass_at desk on) → RunsPart (map (call_item on) tolds))
       halts end stop = (
-        record {
-          items = shows;
-          owner = ap (λ d. d.owner) stop.later.rest;
-          passes = ap (λ d. length d.passes) stop.later.rest ∙ set_twice;
-          here = subst (Advances me on was _) (append-nil (map (call_item on) tolds))
-              (advances_then _ _ _ _ _ _ _ (steps_advance kind line on first was tolds last pass steps) later);
-          rest = λ other apart. ap (λ d. pass_at d other) stop.later.rest ∙ pass_elsewhere on other (pass_at desk on)
-              (with_pass on pass before.desk) apart ∙ pass_elsewhere on other pass before.desk apart;
-        },
-        λ owner within. steps_run_up_to kind line on by rise first was tolds last pass steps owner (later.back within)
-            stop.asked stop.next,
+        moves_by me on before (at_work desk items end) (pass_at desk on) (map (call_item on) tolds)
+            inside (stop.later.rest ∙ with_pass_twice on pass (pass_at desk on) before.desk)
+            shows (subst (Advances me on was _) (append-nil (map (call_item on) tolds)) (advances_then
+            _ _ _ _ _ _ _ (steps_advance kind line on first was tolds last pass steps) (later stop.later))),
+        λ owner within. steps_show kind line on by rise (RunsUpTo kind line (calls_on me.histories on) by on)
+            (λ now told items heard rest. (told, refl, heard, rest)) first was tolds last pass steps owner
+            ((later stop.later).back within) (stop.asked, stop.next),
       )
-        where
-          set_twice : length (with_pass on (pass_at desk on) (with_pass on pass before.desk)).passes
-              ≡ length before.desk.passes
-          set_twice = simp (length-set)
-
-          later : Advances me on pass (pass_at desk on) []
-          later = subst (λ p. Advances me on p (pass_at desk on) [])
-              (pass_at-with_pass_same before.desk on pass inside) (advances_later _ _ _ _ stop.later.later)
 
       ends : (end : AgentEnd) → EndsAt limit kind line on last (with_pass on pass before.desk) desk end
           → Turned limit by on RunsAll RunsPart RunsPart before (at_work desk items end)
-      ends ended.Done (rests, same) = record {
+      ends AgentEnd.Done (rests, same) = record {
         part = map (call_item on) tolds;
-        moves = moves_by me on before (at_work desk items ended.Done) pass (map (call_item on) tolds)
+        moves = moves_by me on before (at_work desk items AgentEnd.Done) pass (map (call_item on) tolds)
             inside same shows (steps_advance kind line on first was tolds last pass steps);
-        shows = λ owner within. steps_run kind line on by rise first was tolds last pass
-            steps owner (subst (IsWithin me on) (ap (λ (d : DeskShown). pass_at d on) same
+        shows = λ owner within. steps_show kind line on by rise (Runs kind line (calls_on me.histories on) by on)
+            (λ now told items heard rest. (told, refl, heard, rest)) first was tolds last pass
+            steps owner (subst (IsWithin me on) (ap (λ d. pass_at d on) same
             ∙ pass_at-with_pass_same before.desk on pass inside) within) rests;
       }
-      ends (ended.JournalFull place) (here, stop, full) =
-          let both = halts (ended.JournalFull place) stop in
+      ends (AgentEnd.JournalFull place) (here, stop, full) =
+          let both = halts (AgentEnd.JournalFull place) stop in
           record {
             part = map (call_item on) tolds;
             moves = both.0;
             shows = λ owner within. (here, both.1 owner within, omega (arith, full, within.known));
           }
-      ends ended.NoMemory (stop, same) =
-          let both = halts ended.NoMemory stop in
+      ends AgentEnd.NoMemory (stop, same) =
+          let both = halts AgentEnd.NoMemory stop in
           record { part = map (call_item on) tolds; moves = both.0; shows = λ owner within. both.1 owner within }
 
     pub asks_turned : (after : AtWork) → Asks limit kind line on first before after

@@ -1,12 +1,10 @@
 -- The whole work of a caller: its lines, and then its closing.
-use Rattle.plex_agent.proofs.Imports.{◌≡◌, ◌≢◌, ℕ, zero, suc, ◌+◌, ◌<◌, ◌==◌, Bool, true, false, List, [], ◌∷◌, ◌++◌, length, map, get_or, refl, sym, ap, subst, ◌∙◌, arith, append-nil, slice_get, MatchBool, length-map, nat_tests, ConnId, AnyHistory, Script, AgentEnd, Shown, Transcript, AnyCall, own_calls, is_linked, calls_on, AgreesWith, ShowsLines, lines_of, numbers_on, PassShown, unused_pass, CellShown, no_pass, pass_at, BoardShown, AtWork, is_done_as, Serves, DepartsEach, Hears, WorkEnds, beginner, take, StrForm, ShowsClosings, inr}
-use Rattle.plex_board.specs.PlexScript.declared.transcripts.AgentEnd.TheVariants as ended
-use Rattle.plex_agent.proofs.Fronts.{take_front}
-use Rattle.plex_agent.proofs.ShownItems.{each_none}
-use Rattle.plex_agent.proofs.Passes.{Caller, IsGood, IsShown}
-use Rattle.plex_agent.proofs.Moves.{AreWithin, IsTranscript, Goes, goes_then, hears_go}
-use Rattle.plex_agent.proofs.Lines.{IsSetting, Owns, owns_still, Played, LinesEnd, own_lines, lines_play, Comes, comes_still}
+use Rattle.plex_agent.proofs.Imports.{◌≡◌, ◌≢◌, ℕ, zero, suc, ◌<◌, ◌==◌, Bool, true, false, List, [], ◌∷◌, ◌++◌, length, map, get_or, refl, sym, ap, subst, ◌∙◌, arith, append-nil, MatchBool, length-map, nat_tests, ConnId, AnyHistory, Script, AgentEnd, AnyCall, own_calls, is_linked, calls_on, AgreesWith, ShowsLines, lines_of, numbers_on, PassShown, unused_pass, CellShown, no_pass, pass_at, BoardShown, AtWork, is_done_as, Serves, DepartsEach, Hears, WorkEnds, beginner, each_none}
 use Rattle.plex_agent.proofs.Closings.{ClosingEnd, Departed, AreLinked, departs_rest, departs_play}
+use Rattle.plex_agent.proofs.Lines.{IsSetting, Owns, owns_still, Played, LinesEnd, own_lines, lines_play, Comes, comes_still}
+use Rattle.plex_agent.proofs.Moves.{AreWithin, IsTranscript, goes_then}
+use Rattle.plex_agent.proofs.{Fronts.take_front, Lookups.any_map, Passes.Caller, Passes.IsGood}
+use Rattle.plex_agent.proofs.Passes.{IsShown}
 
 -- ---- how a caller begins
 
@@ -19,9 +17,7 @@ module _ {L : Type 0} (conn : ConnId) where
 
   no_calls_yet : (cells : List (CellShown L)) (i : ℕ)
       → (get_or (map (λ cell. unused_pass cell.str_type cell.words conn.0) cells) i no_pass).calls ≡ []
-  no_calls_yet [] i = refl
-  no_calls_yet (cell ∷ cells) zero = refl
-  no_calls_yet (cell ∷ cells) (suc i) = no_calls_yet cells i
+  no_calls_yet cells = any_map (λ (pass : PassShown). pass.calls ≡ []) no_pass _ cells refl (λ cell. refl)
 
 pub begins_long : {L : Type 0} (board : BoardShown L) (conn : ConnId)
     → length (beginner board conn).desk.passes ≡ length board.cells
@@ -59,20 +55,13 @@ module _ {L : Type 0} (limit : ℕ) (board : BoardShown L) (script : Script)
   module _ (between worker : AtWork)
       (played : Played limit board me setting (lines_of script conn) (beginner board conn) between) where
     -- what the lines show, where the work went on
-    lines_shown : between.shown.end ≡ ended.Done → AreWithin me between.desk
+    lines_shown : between.shown.end ≡ AgentEnd.Done → AreWithin me between.desk
         → ShowsLines script.structures histories (lines_of script conn) played.part
     lines_shown going within = grind (arith, LinesEnd, begins_owning)
 
-    operator_ends : between.shown.end ≡ ended.Done → Hears between worker → conn.0 == 0 ≡ true → Finished worker
+    operator_ends : between.shown.end ≡ AgentEnd.Done → Hears between worker → conn.0 == 0 ≡ true → Finished worker
     operator_ends going later operator = comes_still me _ _ (beginner board conn) between
-        worker played.part played.goes ended.Done going later (λ given within agrees. record {
-          during = played.part;
-          after = [];
-          shows = sym (append-nil played.part);
-          lines = lines_shown going within;
-          closings = rw operator refl;
-          agrees = agrees;
-        })
+        worker played.part played.goes AgentEnd.Done going later (grind (arith, append-nil, lines_shown))
 
     stopped_ends : (end : AgentEnd) → between.shown.end ≡ end → is_done_as end ≡ false → Hears between worker
         → Finished worker
@@ -83,12 +72,12 @@ module _ {L : Type 0} (limit : ℕ) (board : BoardShown L) (script : Script)
         by_end : (end : AgentEnd) → is_done_as end ≡ false → AgreesWith histories conn played.part
             → LinesEnd limit board me setting (lines_of script conn) played.part end
             → WorkEnds limit script histories conn played.part end
-        by_end ended.Done stopped agrees ends = absurd cc
-        by_end (ended.JournalFull on) stopped agrees ends = grind arith
-        by_end ended.NoMemory stopped agrees ends = grind arith
+        by_end AgentEnd.Done stopped agrees ends = absurd cc
+        by_end (AgentEnd.JournalFull on) stopped agrees ends = grind arith
+        by_end AgentEnd.NoMemory stopped agrees ends = grind arith
 
     -- a connector's departures
-    module _ (going : between.shown.end ≡ ended.Done) (connector : conn.0 == 0 ≡ false)
+    module _ (going : between.shown.end ≡ AgentEnd.Done) (connector : conn.0 == 0 ≡ false)
         (departed : Departed limit board me setting played.part 0 board.cells between worker) where
       links : AreWithin me between.desk → AreLinked limit board me setting played.part 0 between.desk
       links within on past =
@@ -108,49 +97,32 @@ module _ {L : Type 0} (limit : ℕ) (board : BoardShown L) (script : Script)
       by_end : (end : AgentEnd) → ShowsLines script.structures histories (lines_of script conn) played.part
           → ClosingEnd limit board me setting played.part 0 board.cells departed.part end → AgreesWith histories conn
           (played.part ++ departed.part) → WorkEnds limit script histories conn (played.part ++ departed.part) end
-      by_end ended.Done lines closing agrees = grind arith
-      by_end (ended.JournalFull on) lines (closing, full) agrees = grind (arith, length-map, not_operator)
-      by_end ended.NoMemory lines (on, closing) agrees =
+      by_end AgentEnd.Done lines closing agrees = grind arith
+      by_end (AgentEnd.JournalFull on) lines (closing, full) agrees = grind (arith, length-map, not_operator)
+      by_end AgentEnd.NoMemory lines (on, closing) agrees =
           let past : closing.past ≡ on.0 = omega (arith, closing.at) in
           let size = length-map board.cells (λ (cell : CellShown L). cell.form) in
           record {
-            at = inr (record {
-              during = played.part;
-              after = departed.part;
-              shows = refl;
-              lines = lines;
-              connector = not_operator;
-              on = on;
-              within = omega (arith, past, closing.within, size, ap length forms_are);
-              closings = subst (λ (n : ℕ). ShowsClosings histories conn 0 (take n script.structures)
-                  played.part departed.part) past (subst (λ (forms : List StrForm). ShowsClosings histories
-                  conn 0 (take closing.past forms) played.part departed.part) forms_are closing.closings);
-              linked = closing.linked;
-            });
+            at = grind (arith, not_operator);
             agrees = agrees;
           }
 
       connector_ends : Finished worker
       connector_ends = record {
         part = played.part ++ departed.part;
-        goes = goes_then me (beginner board conn) between worker played.part departed.part played.goes
-            departed.goes;
+        goes = goes_then me (beginner board conn) between worker played.part departed.part played.goes departed.goes;
         shows = λ given within agrees. by_end worker.shown.end (lines_shown going (departed.goes.back within))
-            (departed.shows (
-              owns_still me (beginner board conn) between played.part played.goes (begins_owning board conn),
-              links (departed.goes.back within),
-            ) within) agrees;
+            (grind (arith, owns_still, begins_owning, links)) agrees;
       }
 
     closes : MatchBool (conn.0 == 0) (Hears between worker) (DepartsEach 0 board.cells between worker) → Finished worker
     closes closing = by_end between.shown.end refl
       where
-        by_owner : (b : Bool) → conn.0 == 0 ≡ b → between.shown.end ≡ ended.Done
+        by_owner : (b : Bool) → conn.0 == 0 ≡ b → between.shown.end ≡ AgentEnd.Done
             → MatchBool b (Hears between worker) (DepartsEach 0 board.cells between worker) → Finished worker
         by_owner true operator going hears = operator_ends going hears operator
-        by_owner false connector going departs = connector_ends going connector (departs_play
-            limit board me setting played.part 0 board.cells between worker (λ j. (let same : j ≡ 0 + j = omega arith
-            in ap (slice_get board.cells) same)) going (played.goes.passes ∙ begins_long board conn) departs)
+        by_owner false connector going departs = connector_ends going connector (
+            grind (arith, departs_play, begins_long))
 
         still : (b : Bool) → MatchBool b (Hears between worker) (DepartsEach 0 board.cells between worker)
             → is_done_as between.shown.end ≡ false → Hears between worker
@@ -159,10 +131,10 @@ module _ {L : Type 0} (limit : ℕ) (board : BoardShown L) (script : Script)
             departs_rest limit board me setting played.part 0 board.cells between worker stopped departs
 
         by_end : (end : AgentEnd) → between.shown.end ≡ end → Finished worker
-        by_end ended.Done going = by_owner (conn.0 == 0) refl going closing
-        by_end (ended.JournalFull on) is =
-            stopped_ends (ended.JournalFull on) is refl (still (conn.0 == 0) closing (ap is_done_as is))
-        by_end ended.NoMemory is = stopped_ends ended.NoMemory is refl
+        by_end AgentEnd.Done going = by_owner (conn.0 == 0) refl going closing
+        by_end (AgentEnd.JournalFull on) is =
+            stopped_ends (AgentEnd.JournalFull on) is refl (still (conn.0 == 0) closing (ap is_done_as is))
+        by_end AgentEnd.NoMemory is = stopped_ends AgentEnd.NoMemory is refl
             (still (conn.0 == 0) closing (ap is_done_as is))
 
   pub finishes : (worker : AtWork) → Serves board script.lines (beginner board conn) worker → Finished worker

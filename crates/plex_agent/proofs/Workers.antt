@@ -1,7 +1,5 @@
 -- The callers at work at a board, and what has been done at its structures.
-use Rattle.plex_agent.proofs.Imports.{◌≡◌, ◌≢◌, ℕ, ◌+◌, ◌≤◌, ◌<◌, ◌==◌, List, ◌++◌, length, map, set, Option, None, Some, ap, subst, ◌∙◌, arith, length-set, slice_index_or, get_or-set_same, get_or-set_other, set-set, Kind, Step, AnyAsk, AgentEnd, Shown, Transcript, most_asks, all_steps_made, PassShown, DeskShown, pass_at, with_pass, no_pass, note_in, AtWork, Asks, EndsAt, Halts, Steps, call_item, Floor, worker_of, Run}
-use Rattle.plex_board.specs.PlexScript.declared.agents.Step.TheVariants as step
-use Rattle.plex_board.specs.PlexScript.declared.transcripts.AgentEnd.TheVariants as ended
+use Rattle.plex_agent.proofs.Imports.{◌≡◌, ◌≢◌, ℕ, ◌+◌, ◌≤◌, ◌<◌, ◌++◌, length, map, set, Option, None, Some, arith, length-set, slice_index_or, get_or-set_same, get_or-set_other, set-set, Kind, Step, AnyAsk, AgentEnd, Transcript, most_asks, all_steps_made, PassShown, DeskShown, pass_at, with_pass, no_pass, note_in, AtWork, Asks, EndsAt, Halts, call_item, Floor, worker_of, Run}
 use Rattle.plex_agent.proofs.Spots.{conn, str, same_number, other_number, Spot}
 use Rattle.plex_agent.proofs.Stages.{Stage, IsStage, State, Shows, Goes}
 use Rattle.plex_agent.proofs.ExactMoves.{SaysLess}
@@ -82,11 +80,11 @@ halts_so kind line on last pass desk after within halts = grind (arith, str, pas
 ends_so : (limit : ℕ) (kind : Kind) (line : Option AnyAsk) (on : ℕ) (last : Step) (pass : PassShown)
     (desk after : DeskShown) (end : AgentEnd) → on < length desk.passes → EndsAt limit kind
     line (str on) last (with_pass (str on) pass desk) after end → EndsSo limit kind line on last pass desk after end
-ends_so limit kind line on last pass desk after ended.Done within ends = grind (arith, str, pass_same)
-ends_so limit kind line on last pass desk after (ended.JournalFull place) within ends =
+ends_so limit kind line on last pass desk after AgentEnd.Done within ends = grind (arith, str, pass_same)
+ends_so limit kind line on last pass desk after (AgentEnd.JournalFull place) within ends =
     let halts = halts_so kind line on last pass desk after within ends.1 in
     record { ends = (ends.0, halts.0, ends.2); desk_is = halts.1 }
-ends_so limit kind line on last pass desk after ended.NoMemory within ends =
+ends_so limit kind line on last pass desk after AgentEnd.NoMemory within ends =
     let halts = halts_so kind line on last pass desk after within ends.0 in
     record { ends = halts.0; desk_is = halts.1 }
 
@@ -102,8 +100,8 @@ pub record WorkerGoes (stage : Stage) (shows shows' : Shows) (by : ℕ) (worker 
 
 pub asks_go : (stage : Stage) (is : IsStage stage) (shows shows' : Shows) (line : Option AnyAsk)
     (on by : ℕ) (first : Step) (worker worker' : AtWork) (before : State) → on < stage.cells
-    → by ≤ stage.callers → first ≢ step.Rest → SaysLess shows shows' on by → IsWorker stage.cells by worker before
-    → (before.shown by).end ≡ ended.Done → (before.spots on).last ≡ Some (conn by)
+    → by ≤ stage.callers → first ≢ Step.Rest → SaysLess shows shows' on by → IsWorker stage.cells by worker before
+    → (before.shown by).end ≡ AgentEnd.Done → (before.spots on).last ≡ Some (conn by)
     → Asks stage.limit (stage.form on).kind line (str on) first worker worker' → WorkerGoes stage shows
     shows' by worker' before (all_steps_made stage.limit stage.told (stage.form on) line (conn by) (str on) first)
 asks_go stage is shows shows' line on by first worker worker' before within caller goes says at works last asks =
@@ -113,12 +111,8 @@ asks_go stage is shows shows' line on by first worker worker' before within call
     let transcript : Transcript =
     record { items = (before.shown by).items ++ map (call_item (str on)) asks.tolds; end = worker'.shown.end } in
     let go : StepsGo stage is line on by within caller shows shows' (most_asks first) first pass' transcript before =
-    steps_go _ _ _ _ _ _ _ _ _ _ _ _ _ _ _ _ _ says (λ rests. absurd (goes rests)) works last
-    (omega arith) (subst (λ (p : PassShown). Steps kind line first p asks.tolds asks.last asks.pass)
-    (at.passes on within) asks.steps) ends.ends in
-    let shown_is : worker'.shown ≡ transcript =
-    ap (λ (t : List Shown). (let it : Transcript = record { items = t; end = worker'.shown.end } in it))
-    (asks.items ∙ ap (λ (t : Transcript). t.items ++ map (call_item (str on)) asks.tolds) at.shown) in
+    grind (arith, steps_go) in
+    let shown_is : worker'.shown ≡ transcript = grind (arith, str) in
     record {
       after = go.after;
       is_worker = moved_worker on by pass' transcript before go.after go.is_moved stage.cells worker worker' within at

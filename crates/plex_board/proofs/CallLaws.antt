@@ -1,5 +1,5 @@
 -- A call that was answered, as it is shown.
-use Rattle.plex_board.proofs.Imports.{arith, ◌≡◌, [], ◌∷◌, ◌++◌, ◌∙◌, IfOk, Ok, Err, Result, map-append, ConnId, Ask, Reply, Told, AnyAsk, PassSeen, CallRefused, About, StrType, AnyReply, PassShown, IsAnswered, heard_by, shown_as, with_call}
+use Rattle.plex_board.proofs.Imports.{arith, ◌≡◌, [], ◌∷◌, ◌++◌, IfOk, Ok, Err, Result, map-append, ConnId, Ask, Reply, Told, AnyAsk, PassSeen, CallRefused, About, StrType, AnyReply, PassShown, IsAnswered, heard_by, shown_as, with_call}
 use Rattle.struct_cell.specs.Calls as calls
 
 module _ {C R : Type 0} (str_type : StrType) (of : Ask C → AnyAsk) (told : Reply R → AnyReply) where

@@ -1,9 +1,6 @@
 -- What a history of whatever kind says of its calls: how many there are, and that their numbers rise.
 use Rattle.plex_board.proofs.Imports.{◌≡◌, ℕ, suc, ◌*◌, ◌<◌, ◌≤◌, ◌==◌, Bool, true, false, List, [], ◌∷◌, length, map, refl, sym, ap, ◌∙◌, arith, suc-le-suc, zero-lt-suc, All, eq-eqb, ne_eqb, false≢true, StrForm, Kind, ConnId, Ask, Entry, Meaning, Call, calls, IsLegal, RisesTo, numbers_rise, three_each, cache_meaning, list_meaning, lock_meaning, AnyAsk, AnyHistory, AnyCall, any_call, any_calls, any_length, own_calls, IsOfKind, IsAnyLegal, Rising, any_take, no_calls}
 use Rattle.std.proofs.lemmas.List as lists
-use Rattle.plex_script.specs.CfTypes.declared.forms.Kind.TheVariants as kind
-use Rattle.plex_script.specs.declared.scripts.AnyAsk.TheVariants as ask
-use Rattle.plex_script.specs.declared.asks.AnyHistory.TheVariants as history
 
 module _ {C R I S : Type 0} (meaning : Meaning C R I S) (of : Ask C → AnyAsk) (form : StrForm) where
   -- the calls, as their callers hear of them
@@ -26,29 +23,29 @@ module _ {C R I S : Type 0} (meaning : Meaning C R I S) (of : Ask C → AnyAsk) 
 
 -- a call and the marks before it are three entries at most
 pub length_calls : (form : StrForm) (h : AnyHistory) → IsAnyLegal form h → any_length h ≤ 3 * length (any_calls h)
-length_calls form (history.Cache entries) legal = few_heard cache_meaning ask.Cache form entries legal
-length_calls form (history.List entries) legal = few_heard list_meaning ask.List form entries legal
-length_calls form (history.Lock entries) legal = few_heard lock_meaning ask.Lock form entries legal
+length_calls form (AnyHistory.Cache entries) legal = few_heard cache_meaning AnyAsk.Cache form entries legal
+length_calls form (AnyHistory.List entries) legal = few_heard list_meaning AnyAsk.List form entries legal
+length_calls form (AnyHistory.Lock entries) legal = few_heard lock_meaning AnyAsk.Lock form entries legal
 
 pub calls_rise : (form : StrForm) (h : AnyHistory) → IsAnyLegal form h → Rising 0 (any_calls h)
-calls_rise form (history.Cache entries) legal = rise_heard cache_meaning
-    ask.Cache form 0 (calls entries) (length entries) (numbers_rise cache_meaning form entries legal)
-calls_rise form (history.List entries) legal = rise_heard list_meaning
-    ask.List form 0 (calls entries) (length entries) (numbers_rise list_meaning form entries legal)
-calls_rise form (history.Lock entries) legal = rise_heard lock_meaning
-    ask.Lock form 0 (calls entries) (length entries) (numbers_rise lock_meaning form entries legal)
+calls_rise form (AnyHistory.Cache entries) legal = rise_heard cache_meaning
+    AnyAsk.Cache form 0 (calls entries) (length entries) (numbers_rise cache_meaning form entries legal)
+calls_rise form (AnyHistory.List entries) legal = rise_heard list_meaning
+    AnyAsk.List form 0 (calls entries) (length entries) (numbers_rise list_meaning form entries legal)
+calls_rise form (AnyHistory.Lock entries) legal = rise_heard lock_meaning
+    AnyAsk.Lock form 0 (calls entries) (length entries) (numbers_rise lock_meaning form entries legal)
 
 -- ---- the front of a history
 
 pub take_all : (h : AnyHistory) → any_take (any_length h) h ≡ h
-take_all (history.Cache entries) = ap history.Cache (lists.take_all (length entries) entries (omega arith))
-take_all (history.List entries) = ap history.List (lists.take_all (length entries) entries (omega arith))
-take_all (history.Lock entries) = ap history.Lock (lists.take_all (length entries) entries (omega arith))
+take_all (AnyHistory.Cache entries) = ap AnyHistory.Cache (lists.take_all (length entries) entries (omega arith))
+take_all (AnyHistory.List entries) = ap AnyHistory.List (lists.take_all (length entries) entries (omega arith))
+take_all (AnyHistory.Lock entries) = ap AnyHistory.Lock (lists.take_all (length entries) entries (omega arith))
 
 none_taken : (kind : Kind) (h : AnyHistory) → IsOfKind kind h → any_take 0 h ≡ no_calls kind
-none_taken kind.Cache (history.Cache entries) of_kind = refl
-none_taken (kind.List headers locks refs) (history.List entries) of_kind = refl
-none_taken kind.Lock (history.Lock entries) of_kind = refl
+none_taken Kind.Cache (AnyHistory.Cache entries) of_kind = refl
+none_taken (Kind.List headers locks refs) (AnyHistory.List entries) of_kind = refl
+none_taken Kind.Lock (AnyHistory.Lock entries) of_kind = refl
 none_taken _ _ of_kind = absurd of_kind
 
 pub take_none : (form : StrForm) (h : AnyHistory) → IsOfKind form.kind h → any_take 0 h ≡ no_calls form.kind
@@ -59,13 +56,16 @@ take_none form h of_kind = none_taken form.kind h of_kind
 eqb_swap : (a b : ℕ) → a == b ≡ false → b == a ≡ false
 eqb_swap a b apart = ne_eqb b a (λ same. false≢true (sym apart ∙ eq-eqb a b (sym same)))
 
-own_same : (call : AnyCall) (calls : List AnyCall) (conn : ConnId) → call.by.0 == conn.0 ≡ true
+pub own_same : (call : AnyCall) (calls : List AnyCall) (conn : ConnId) → call.by.0 == conn.0 ≡ true
     → own_calls (call ∷ calls) conn ≡ call ∷ own_calls calls conn
 own_same call calls conn same = rw same refl
 
 own_other : (call : AnyCall) (calls : List AnyCall) (conn : ConnId) → call.by.0 == conn.0 ≡ false
     → own_calls (call ∷ calls) conn ≡ own_calls calls conn
 own_other call calls conn other = rw other refl
+
+some_own : (call : AnyCall) (calls : List AnyCall) → own_calls (call ∷ calls) call.by ≡ call ∷ own_calls calls call.by
+some_own call calls = own_same call calls call.by (eq-eqb call.by.0 call.by.0 refl)
 
 -- the first of a caller's calls is above what the numbers rise from
 first_above : (low : ℕ) (calls : List AnyCall) (conn : ConnId) (first : AnyCall) (more : List AnyCall)
@@ -102,15 +102,9 @@ same_from : (callers low low' : ℕ) (calls others : List AnyCall)
     → ((conn : ConnId) → conn.0 ≤ callers → own_calls calls conn ≡ own_calls others conn) → calls ≡ others
 same_from callers low low' [] [] rise rise' by by' same = refl
 same_from callers low low' [] (other ∷ others) rise rise' by by' same =
-    let within : other.by.0 ≤ callers = by' 0 other (zero-lt-suc (length others)) in
-    let none : [] ≡ other ∷ own_calls others other.by =
-    same other.by within ∙ own_same other others other.by (eq-eqb other.by.0 other.by.0 refl) in
-    absurd cc
+    absurd (cc (same other.by (by' 0 other (zero-lt-suc (length others))), some_own other others))
 same_from callers low low' (first ∷ calls) [] rise rise' by by' same =
-    let within : first.by.0 ≤ callers = by 0 first (zero-lt-suc (length calls)) in
-    let none : [] ≡ first ∷ own_calls calls first.by =
-    sym (same first.by within) ∙ own_same first calls first.by (eq-eqb first.by.0 first.by.0 refl) in
-    absurd cc
+    absurd (cc (same first.by (by 0 first (zero-lt-suc (length calls))), some_own first calls))
 same_from callers low low' (first ∷ calls) (other ∷ others) rise rise' by by' same =
     let is : first ≡ other = first_same first other calls others rise.1 rise'.1 (same first.by
     (by 0 first (zero-lt-suc (length calls)))) (same other.by (by' 0 other (zero-lt-suc (length others)))) in

@@ -1,6 +1,6 @@
 -- The homes of a board's structures, as passes come home.
-use Rattle.plex_board.proofs.Imports.{◌≡◌, ℕ, suc, zero, ◌<◌, List, [], ◌∷◌, ◌++◌, length, get_or, map, refl, sym, ap, subst, ◌∙◌, arith, append_assoc, All, slice_get, Some, length-append, append-nil, All-push, All-nil, All-cons, All-head, All-tail, slice_get_within, ConnId, AnyHistory, OfCache, PassShown, CellShown, IsPassOf, DeskShown, fixed_of, IsClosed, IsAccount, fixed_at, each_with, HomeShown, home_with, Fits, homes_gathered, AllFit, IsHomeOf, AreHomes, AreEnded, ArePasses}
-use Rattle.plex_board.proofs.RowLaws.{each_with-length}
+use Rattle.plex_board.proofs.Imports.{◌≡◌, ℕ, suc, zero, ◌<◌, List, [], ◌∷◌, ◌++◌, length, get_or, map, refl, sym, ap, subst, ◌∙◌, arith, append_assoc, All, slice_get, Some, length-append, append-nil, All-push, All-head, All-tail, slice_get_within, ConnId, AnyHistory, OfCache, PassShown, CellShown, IsPassOf, DeskShown, fixed_of, IsClosed, IsAccount, fixed_at, each_with, HomeShown, home_with, Fits, homes_gathered, AllFit, IsHomeOf, AreHomes, AreEnded, length-map}
+use Rattle.plex_board.proofs.RowLaws.{each_with-length, each-of-map}
 
 -- a home has what it had, and then each desk's pass
 row-at : (passes : List PassShown) (homes : List HomeShown) (x : ℕ) (p : PassShown) (d : HomeShown)
@@ -12,22 +12,10 @@ row-at (pass ∷ passes) (home ∷ homes) zero p d low below = refl
 row-at (pass ∷ passes) (home ∷ homes) (suc x) p d low below =
     row-at passes homes x p d (omega (arith, low)) (omega (arith, below))
 
-each-of-map : {A B : Type 0} (P : B → Type 0) (f : A → B) (xs : List A) → All P (map f xs) → All (λ x. P (f x)) xs
-each-of-map P f [] all = All-nil (λ x. P (f x))
-each-of-map P f (x ∷ xs) all =
-    grind (arith, All-cons, All-head, All-tail, each-of-map P f xs (All-tail P (f x) (map f xs) all))
-
 module _ {L : Type 0} where
-  -- ---- a desk's passes
-
-  pub desk-passes : (cells : List (CellShown L)) (passes : List PassShown) (owner : ConnId)
-      → map fixed_of passes ≡ map (λ cell. fixed_at cell owner) cells → ArePasses cells passes
-  desk-passes [] [] owner same = tt
-  desk-passes (cell ∷ cells) (pass ∷ passes) owner same =
-      let one : fixed_of pass ≡ fixed_at cell owner = cc in
-      let rest : map fixed_of passes ≡ map (λ (c : CellShown L). fixed_at c owner) cells = cc in
-      ((ap (λ f. f.str_type) one, ap (λ f. f.words) one), desk-passes cells passes owner rest)
-  desk-passes _ _ owner same = absurd cc
+  -- what is fixed of a desk's passes, one for each of these cells
+  abbrev HasPasses : List (CellShown L) → DeskShown → Type 0
+  HasPasses cells desk = map fixed_of desk.passes ≡ map (λ (cell : CellShown L). fixed_at cell desk.owner) cells
 
   -- ---- a pass more in each home
 
@@ -39,20 +27,19 @@ module _ {L : Type 0} where
     room = simp length-append (omega (arith, is.room));
   }
 
-  pub homes-row : (more : ℕ) (cells : List (CellShown L)) (homes : List HomeShown) (passes : List PassShown)
-      → AreHomes (suc more) cells homes → ArePasses cells passes
-      → AreHomes more cells (each_with home_with passes homes)
-  homes-row more [] [] [] are of = tt
-  homes-row more (cell ∷ cells) (home ∷ homes) (pass ∷ passes) are of =
-      (one_home more cell home pass are.0 of.0, homes-row more cells homes passes are.1 of.1)
-  homes-row more _ _ _ are of = grind arith
-
-  pub row-fits : (more : ℕ) (cells : List (CellShown L)) (homes : List HomeShown) (passes : List PassShown)
-      → AreHomes (suc more) cells homes → ArePasses cells passes → Fits passes homes
-  row-fits more [] [] [] are of = tt
-  row-fits more (cell ∷ cells) (home ∷ homes) (pass ∷ passes) are of =
-      grind (arith, row-fits more cells homes passes are.1 of.1)
-  row-fits more _ _ _ are of = grind arith
+  homes-row : (more : ℕ) (cells : List (CellShown L)) (homes : List HomeShown) (passes : List PassShown)
+      (owner : ConnId) → AreHomes (suc more) cells homes → HasPasses cells (record { owner = owner; passes = passes })
+      → Fits passes homes × AreHomes more cells (each_with home_with passes homes)
+  homes-row more [] [] [] owner are of = (tt, tt)
+  homes-row more (cell ∷ cells) (home ∷ homes) (pass ∷ passes) owner are of =
+      let one : fixed_of pass ≡ fixed_at cell owner = cc in
+      let rest : map fixed_of passes ≡ map (λ (c : CellShown L). fixed_at c owner) cells = cc in
+      let of_cell : IsPassOf cell pass = (ap (λ f. f.str_type) one, ap (λ f. f.words) one) in
+      let so = homes-row more cells homes passes owner are.1 rest in (
+        (of_cell.0 ∙ sym are.0.type_is, omega (arith, are.0.room), so.0),
+        (one_home more cell home pass are.0 of_cell, so.1),
+      )
+  homes-row more _ _ _ owner are of = grind arith
 
   pub count-of-homes : (more : ℕ) (cells : List (CellShown L)) (homes : List HomeShown) → AreHomes more cells homes
       → length homes ≡ length cells
@@ -60,36 +47,18 @@ module _ {L : Type 0} where
   count-of-homes more (cell ∷ cells) (home ∷ homes) are = ap (λ n. suc n) (count-of-homes more cells homes are.1)
   count-of-homes more _ _ are = absurd are
 
-  pub count-of-passes : (cells : List (CellShown L)) (passes : List PassShown) → ArePasses cells passes
-      → length passes ≡ length cells
-  count-of-passes [] [] are = refl
-  count-of-passes (cell ∷ cells) (pass ∷ passes) are = ap (λ n. suc n) (count-of-passes cells passes are.1)
-  count-of-passes _ _ are = absurd are
-
   -- ---- the passes of all desks come home
 
-  abbrev HasPasses : List (CellShown L) → DeskShown → Type 0
-  HasPasses cells desk = map fixed_of desk.passes ≡ map (λ (cell : CellShown L). fixed_at cell desk.owner) cells
-
-  pub desks-fit : (cells : List (CellShown L)) (desks : List DeskShown) (homes : List HomeShown)
-      → AreHomes (length desks) cells homes → All (HasPasses cells) desks → AllFit desks homes
-  desks-fit cells [] homes are of = tt
-  desks-fit cells (desk ∷ desks) homes are of =
-      let passes : ArePasses cells desk.passes =
-      desk-passes cells desk.passes desk.owner (All-head (HasPasses cells) desk desks of) in (
-        row-fits (length desks) cells homes desk.passes are passes,
-        desks-fit cells desks (each_with home_with desk.passes homes)
-            (homes-row (length desks) cells homes desk.passes are passes) (All-tail (HasPasses cells) desk desks of),
-      )
-
-  pub homes-gathered : (cells : List (CellShown L)) (desks : List DeskShown) (homes : List HomeShown) → AreHomes
-      (length desks) cells homes → All (HasPasses cells) desks → AreHomes 0 cells (homes_gathered desks homes)
-  homes-gathered cells [] homes are of = are
+  pub homes-gathered : (cells : List (CellShown L)) (desks : List DeskShown) (homes : List HomeShown)
+      → AreHomes (length desks) cells homes → All (HasPasses cells) desks
+      → AllFit desks homes × AreHomes 0 cells (homes_gathered desks homes)
+  homes-gathered cells [] homes are of = (tt, are)
   homes-gathered cells (desk ∷ desks) homes are of =
-      let passes : ArePasses cells desk.passes =
-      desk-passes cells desk.passes desk.owner (All-head (HasPasses cells) desk desks of) in
-      homes-gathered cells desks (each_with home_with desk.passes homes)
-      (homes-row (length desks) cells homes desk.passes are passes) (All-tail (HasPasses cells) desk desks of)
+      let one = homes-row (length desks)
+      cells homes desk.passes desk.owner are (All-head (HasPasses cells) desk desks of) in
+      let rest = homes-gathered
+      cells desks (each_with home_with desk.passes homes) one.1 (All-tail (HasPasses cells) desk desks of) in
+      ((one.0, rest.0), rest.1)
 
   gathered-at : (cells : List (CellShown L)) (desks : List DeskShown) (homes : List HomeShown) (x : ℕ)
       (p : PassShown) (d : HomeShown) → x < length cells → length homes ≡ length cells → All (HasPasses cells) desks
@@ -97,8 +66,8 @@ module _ {L : Type 0} where
       (λ (desk : DeskShown). get_or desk.passes x p) desks
   gathered-at cells [] homes x p d below same of = sym (append-nil _)
   gathered-at cells (desk ∷ desks) homes x p d below same of =
-      let count : length desk.passes ≡ length cells = count-of-passes
-      cells desk.passes (desk-passes cells desk.passes desk.owner (All-head (HasPasses cells) desk desks of)) in
+      let fixed : HasPasses cells desk = All-head (HasPasses cells) desk desks of in
+      let count : length desk.passes ≡ length cells = grind (arith, length-map) in
       let row : List HomeShown = each_with home_with desk.passes homes in
       let size : length row ≡ length cells = each_with-length home_with desk.passes homes (count ∙ sym same) ∙ same in
       let low : x < length desk.passes = omega (arith, count, below) in

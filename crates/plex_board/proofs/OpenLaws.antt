@@ -1,5 +1,5 @@
 -- What is known as structures are made one after the other.
-use Rattle.plex_board.proofs.Imports.{◌≡◌, ℕ, ◌≤◌, List, [], ◌∷◌, ◌++◌, map, refl, sym, ap, subst, ◌∙◌, arith, append_assoc, All, map-append, All-push, All-nil, All-map, StrForm, Links, AnyHistory, AnyPasses, StrType, type_of_kind, PassShown, unused_pass, passes_shown, type_of_passes, room_of, CellShown, WordTable, DeskShown, IsClosed, IsAccount, IsStarted, each_with, HomeShown, home_shown, homes_shown, IsHomeOf, AreHomes, AreEmpty, AreEnded, desk_with, desk_at}
+use Rattle.plex_board.proofs.Imports.{◌≡◌, ℕ, ◌≤◌, List, [], ◌∷◌, ◌++◌, map, refl, sym, ap, subst, ◌∙◌, arith, All, map-append, All-push, All-nil, All-map, StrForm, Links, AnyPasses, StrType, type_of_kind, PassShown, unused_pass, passes_shown, type_of_passes, room_of, CellShown, WordTable, DeskShown, IsStarted, each_with, HomeShown, home_shown, homes_shown, IsHomeOf, AreHomes, AreEmpty, desk_with, desk_at}
 
 -- a caller that has seen nothing hasn't called
 pub unused-calls : (str_type : StrType) (words : WordTable) (passes : List PassShown) (owners : List ℕ)
@@ -22,14 +22,6 @@ module _ {L : Type 0} where
   homes-push more (one ∷ cells) cell (first ∷ homes) home are is =
       (are.0, homes-push more cells cell homes home are.1 is)
   homes-push more _ cell _ home are is = absurd are
-
-  -- the homes have room for fewer too
-  pub homes-fewer : (more fewer : ℕ) (cells : List (CellShown L)) (homes : List HomeShown) → fewer ≤ more
-      → AreHomes more cells homes → AreHomes fewer cells homes
-  homes-fewer more fewer [] [] less are = tt
-  homes-fewer more fewer (cell ∷ cells) (home ∷ homes) less are =
-      grind (arith, homes-fewer more fewer cells homes less are.1)
-  homes-fewer more fewer _ _ less are = absurd are
 
   -- the cell of a new station
   pub started-cell : (cell : CellShown L) (form : StrForm) (callers limit : ℕ) (links : Links L) → cell ≡ record {
@@ -71,11 +63,3 @@ module _ {L : Type 0} where
   pub empty-home : (n : ℕ) (cell : CellShown L) (home : AnyPasses) → type_of_passes home ≡ cell.str_type
       → passes_shown home ≡ [] → n ≤ room_of home → IsHomeOf n cell (home_shown home)
   empty-home n cell home is none room = grind (arith, All-nil)
-
-  -- a history more, whatever the rest will be
-  pub ended-step : (cells left : List (CellShown L)) (homes at : List HomeShown) (histories : List AnyHistory)
-      (cell : CellShown L) (home : HomeShown) (entries : AnyHistory) → ((rest : List AnyHistory)
-      → AreEnded (cell ∷ left) (home ∷ at) rest → AreEnded cells homes (histories ++ rest))
-      → IsClosed cell entries → All (IsAccount cell entries) home.passes → (rest : List AnyHistory)
-      → AreEnded left at rest → AreEnded cells homes ((histories ++ entries ∷ []) ++ rest)
-  ended-step cells left homes at histories cell home entries so closed account rest are = grind (arith, append_assoc)

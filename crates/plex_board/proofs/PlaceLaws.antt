@@ -1,6 +1,5 @@
 -- What is known where a call of a board is a call of one of its stations, with one of a desk's places.
-use Rattle.plex_board.proofs.Imports.{◌≡◌, ◌≢◌, ℕ, ◌<◌, ◌≤◌, length, get_or, set, refl, sym, ap, subst, ◌∙◌, arith, get_or-set_same, Some, None, Ok, Err, Option, Result, slice_get, IfOk, IfErr, IfSome, map-set_same, set-get_or, slice_get_read, get_or_from_slice_get, StrNo, Told, AnyAsk, CallRefused, PassShown, NoteShown, IsAnswered, IsLater, with_any_note, CellShown, IsPassOf, DeskShown, IsAnsweredOn, fixed_of, no_pass, pass_at, BoardShown, cell_on, IsDeskOf}
-use Rattle.struct_cell.specs.declared.refused.CallRefused.TheVariants as refused
+use Rattle.plex_board.proofs.Imports.{◌≡◌, ◌≢◌, ℕ, ◌<◌, ◌≤◌, length, get_or, set, refl, sym, ap, subst, arith, get_or-set_same, Some, None, Ok, Err, Option, Result, slice_get, IfOk, IfErr, IfSome, map-set_same, set-get_or, slice_get_read, get_or_from_slice_get, StrNo, Told, AnyAsk, CallRefused, PassShown, NoteShown, IsAnswered, IsLater, with_any_note, CellShown, IsPassOf, DeskShown, IsAnsweredOn, fixed_of, no_pass, pass_at, BoardShown, cell_on, IsDeskOf}
 use Rattle.plex_board.proofs.DeskLaws.{desk-length, desk-pass_is, desk-pass_owner}
 
 -- the station's cell and the place's pass are those on a structure
@@ -16,13 +15,13 @@ module _ {L : Type 0} where
       → on.0 < length board.cells → k ≡ on.0 → station ≡ get_or seen.cells k station → cell_on board on ≡ Some station
   cell-is board seen on k station same below at is = grind (arith, slice_get_read)
 
-  module _ (board seen : BoardShown L) (desk has : DeskShown) (on : StrNo) (k j : ℕ) (station : CellShown L)
-      (place : PassShown) (same : board ≡ seen) (same' : desk ≡ has) (of : IsDeskOf board desk)
+  module _ {board seen : BoardShown L} {desk has : DeskShown} (on : StrNo) {k j : ℕ} {station : CellShown L}
+      {place : PassShown} (same : seen ≡ board) (same' : has ≡ desk) (of : IsDeskOf board desk)
       (below : on.0 < length board.cells) (at : k ≡ on.0) (at' : j ≡ on.0) (is : station ≡ get_or seen.cells k station)
       (is' : place ≡ get_or has.passes j place) where
     pub place-is : IsPlace board desk on station place
     place-is =
-        let cell : cell_on board on ≡ Some station = cell-is board seen on k station same below at is in
+        let cell : cell_on board on ≡ Some station = cell-is board seen on k station (sym same) below at is in
         let here : place ≡ get_or desk.passes on.0 place = grind arith in
         let lower : on.0 < length desk.passes = omega (arith, desk-length board desk of, below) in
         let there : slice_get desk.passes on.0 ≡ Some place =
@@ -35,12 +34,6 @@ module _ {L : Type 0} where
           owner_is =
               subst (λ (p : PassShown). p.owner ≡ desk.owner) pass (desk-pass_owner board desk on station of cell);
         }
-
-    pub place_passes : IsPassOf station place
-    place_passes = place-is.of_cell
-
-    pub place_owner : place.owner ≡ desk.owner
-    place_owner = place-is.owner_is
 
   -- what is known of the cell is known on the structure
   pub some-cell : (P : CellShown L → Type 0) (board : BoardShown L) (on : StrNo) (station : CellShown L)
@@ -65,10 +58,10 @@ module _ {L : Type 0} where
 
   -- why a call isn't made, as the board tells it
   pub full-on : (board : BoardShown L) (on : StrNo) (station : CellShown L) (after : DeskShown) (place : PassShown)
-      (answer : Result Told CallRefused) → cell_on board on ≡ Some station → pass_at after on ≡ place
-      → IfErr answer (λ refusal. refusal ≢ refused.NoMemory → (refusal ≡ refused.JournalFull station.limit) ×
-      (station.limit ≤ place.known)) → IfErr answer (λ refusal. refusal ≢ refused.NoMemory → IfSome (cell_on board on)
-      (λ cell. (refusal ≡ refused.JournalFull cell.limit) × (cell.limit ≤ (pass_at after on).known)))
+      (answer : Result Told CallRefused) → cell_on board on ≡ Some station → pass_at after on ≡ place → IfErr answer
+      (λ refusal. refusal ≢ CallRefused.NoMemory → (refusal ≡ CallRefused.JournalFull station.limit) × (station.limit
+      ≤ place.known)) → IfErr answer (λ refusal. refusal ≢ CallRefused.NoMemory → IfSome (cell_on board on)
+      (λ cell. (refusal ≡ CallRefused.JournalFull cell.limit) × (cell.limit ≤ (pass_at after on).known)))
   full-on board on station after place (Ok told) is at full = full
   full-on board on station after place (Err refusal) is at full = grind (arith, some-cell)
 
@@ -83,8 +76,8 @@ module _ (desk has : DeskShown) (j : ℕ) (place after : PassShown) (same : desk
   put_again still = grind (arith, set-get_or)
 
   -- where memory was lacking the desk is as it was
-  pub still-on : (answer : Result Told CallRefused) → IfErr answer (λ refusal. refusal ≡ refused.NoMemory
-      → after ≡ place) → IfErr answer (λ refusal. refusal ≡ refused.NoMemory → changed has j after ≡ desk)
+  pub still-on : (answer : Result Told CallRefused) → IfErr answer (λ refusal. refusal ≡ CallRefused.NoMemory
+      → after ≡ place) → IfErr answer (λ refusal. refusal ≡ CallRefused.NoMemory → changed has j after ≡ desk)
   still-on (Ok told) still = still
   still-on (Err refusal) still = λ none. put_again (still none)
 
@@ -101,10 +94,6 @@ pub answered-on : (desk has : DeskShown) (on : StrNo) (j : ℕ) (place after : P
     → IfOk answer (λ told. IsAnsweredOn on asked told desk (changed has j after))
 answered-on desk has on j place after asked (Ok told) same at is made = grind arith
 answered-on desk has on j place after asked (Err refusal) same at is made = tt
-
--- what is later keeps what is fixed
-pub later_fixed : (before after : PassShown) → IsLater before after → fixed_of after ≡ fixed_of before
-later_fixed before after later = ap fixed_of later.same
 
 -- a call keeps what is fixed, made or not
 pub call-fixed : (answer : Result Told CallRefused) (asked : AnyAsk) (before after : PassShown)

@@ -5,8 +5,7 @@ use Rattle.plex_board.proofs.RowLaws.{each_with-last, FitsLast, fits-last}
 same-home : (str_type other : StrType) (passes others : List PassShown) (room most : ℕ) → str_type ≡ other
     → passes ≡ others → room ≡ most → (let h : HomeShown = record {
       str_type = str_type;
-      passes =
-          passes;
+      passes = passes;
       room = room;
     } in h) ≡ record { str_type = other; passes = others; room = most }
 same-home str_type other passes others room most e f g = cc

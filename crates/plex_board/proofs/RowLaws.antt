@@ -1,5 +1,10 @@
 -- What is known of passes that go from desks to homes, and of the homes when structures end.
-use Rattle.plex_board.proofs.Imports.{◌≡◌, suc, ◌<◌, List, [], ◌∷◌, ◌++◌, length, get_or, set, refl, ap, arith, PassShown, each_with, HomeShown, Fits}
+use Rattle.plex_board.proofs.Imports.{◌≡◌, suc, ◌<◌, All, All-nil, All-cons, All-head, All-tail, map, List, [], ◌∷◌, ◌++◌, length, get_or, set, refl, ap, arith, PassShown, each_with, HomeShown, Fits}
+
+pub each-of-map : {A B : Type 0} (P : B → Type 0) (f : A → B) (xs : List A) → All P (map f xs) → All (λ x. P (f x)) xs
+each-of-map P f [] all = All-nil (λ x. P (f x))
+each-of-map P f (x ∷ xs) all =
+    grind (arith, All-cons, All-head, All-tail, each-of-map P f xs (All-tail P (f x) (map f xs) all))
 
 -- ---- the last partner first
 

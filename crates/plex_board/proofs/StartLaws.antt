@@ -1,11 +1,5 @@
 -- What is known as a board's structures are made in the order of the script.
-use Rattle.plex_board.proofs.Imports.{◌≡◌, ℕ, Vec, ◌+◌, ◌<◌, List, arith, [], ◌∷◌, ◌++◌, length, get_or, map, take, sym, ap, subst, ◌∙◌, append_assoc, All, Result, Ok, Err, IfOk, flat_map, range_with_len, take_more, length-map, length-append, All-get_or, StrForm, IsForm, CellShown, DeskShown, BoardShown, IsStarted, four_of, links_of, new_desk, desk_at}
-
--- four links more are those of one structure more
-pub links-regroup : {X : Type 0} (front four left rest all : List X) → front ++ left ≡ all → left ≡ four ++ rest
-    → (front ++ four) ++ rest ≡ all
-links-regroup {X} front four left rest all is parts =
-    append_assoc front four rest ∙ ap (λ (xs : List X). front ++ xs) (sym parts) ∙ is
+use Rattle.plex_board.proofs.Imports.{◌≡◌, ℕ, Vec, ◌+◌, ◌<◌, List, arith, [], ◌∷◌, ◌++◌, length, get_or, map, take, sym, ap, subst, ◌∙◌, append_assoc, All, Result, Ok, Err, IfOk, flat_map, range_with_len, take_more, length-map, length-append, StrForm, CellShown, DeskShown, BoardShown, IsStarted, four_of, links_of, new_desk, desk_at}
 
 -- one form more
 pub forms-more : {X : Type 0} (forms : List X) (i : ℕ) (form : X) (made after : List X) → i < length forms
@@ -19,16 +13,10 @@ pub desks-opened : {L : Type 0} (board : BoardShown L) (cells : List (CellShown 
 desks-opened {L} board cells callers spare owners desks is are =
     subst (λ (b : BoardShown L). desks ≡ map (new_desk b) owners) (sym is) are
 
--- a form of the policy
-pub item-formed : (forms items : List StrForm) (i : ℕ) (form : StrForm) → items ≡ forms → All IsForm forms
-    → i < length items → form ≡ get_or items i form → IsForm form
-item-formed forms items i form same all below is =
-    subst IsForm (sym is) (All-get_or IsForm items i form below (subst (All IsForm) (sym same) all))
-
+-- four links more are those of one structure more
 pub links-more : {X : Type 0} (front four left rest all after : List X) → after ≡ front ++ four → front ++ left ≡ all
     → left ≡ four ++ rest → after ++ rest ≡ all
-links-more {X} front four left rest all after more is parts =
-    ap (λ (xs : List X). xs ++ rest) more ∙ links-regroup front four left rest all is parts
+links-more {X} front four left rest all after more is parts = rw (more, append_assoc, ← parts) is
 
 -- the board of these parts
 abbrev pub opened : {L : Type 0} → List (CellShown L) → ℕ → List L → BoardShown L
@@ -49,13 +37,6 @@ module _ {L : Type 0} where
   -- ---- the board that was opened
 
   module _ {V E : Type 0} (cells : List (CellShown L)) (callers : ℕ) (spare : List L) where
-    pub opened-forms : (answer : Result (BoardShown L × V) E) (forms : List StrForm)
-        → map (λ (cell : CellShown L). cell.form) cells ≡ forms → IfOk answer (λ r. r.0 ≡ opened cells callers spare)
-        → IfOk answer (λ r. map (λ cell. cell.form) r.0.cells ≡ forms)
-    opened-forms (Ok r) forms are is =
-        ap (λ (b : BoardShown L). map (λ (cell : CellShown L). cell.form) b.cells) is ∙ are
-    opened-forms (Err e) forms are is = tt
-
     pub opened-cells : (answer : Result (BoardShown L × V) E) (n limit : ℕ) → callers ≡ n
         → All (IsStarted callers limit) cells → IfOk answer (λ r. r.0 ≡ opened cells callers spare)
         → IfOk answer (λ r. All (IsStarted n limit) r.0.cells)

@@ -1,13 +1,8 @@
 -- What is known of the passes of a new cell, and of a caller that has called.
-use Rattle.plex_board.proofs.Imports.{◌≡◌, ℕ, ◌+◌, ◌<◌, ◌≤◌, List, [], ◌∷◌, ◌++◌, length, map, sym, ap, subst, ◌∙◌, arith, refl, All, Option, Some, IfSome, range_with_len, pass_shown, get_or-append_seam, length-append, length-map, length-range_with_len, All-get_or, All-map, StrForm, Links, WordTable, AnyPass, StrType, type_of_kind, PassShown, unused_pass, CellShown, IsPassOf}
+use Rattle.plex_board.proofs.Imports.{◌≡◌, ℕ, ◌+◌, ◌<◌, ◌≤◌, List, [], ◌∷◌, ◌++◌, length, map, sym, ap, ◌∙◌, arith, refl, All, Some, range_with_len, length-append, length-map, length-range_with_len, All-pop, All-map, StrForm, Links, WordTable, StrType, type_of_kind, PassShown, unused_pass, CellShown, IsPassOf}
 
--- what is known of the pass that was taken out
-pub popped : (P : AnyPass → Type 0) (taken : Option AnyPass) (pass : AnyPass) → taken ≡ Some pass → IfSome taken P
-    → P pass
-popped P taken pass is known = subst (λ (o : Option AnyPass). IfSome o P) is known
-
-module _ {L : Type 0} (cell : CellShown L) (form : StrForm)
-    (callers limit : ℕ) (links : Links L) (passes : List PassShown) (owners : List ℕ) (is : cell ≡ record {
+module _ {L : Type 0} {cell : CellShown L} {form : StrForm}
+    {callers limit : ℕ} {links : Links L} {passes : List PassShown} (owners : List ℕ) (is : cell ≡ record {
       str_type = type_of_kind form.kind;
       form = form;
       callers = callers;
@@ -22,24 +17,17 @@ module _ {L : Type 0} (cell : CellShown L) (form : StrForm)
 
   -- they have seen nothing, and are of the cell
   pub new-of_cell : All (IsPassOf cell) passes
-  new-of_cell = subst (All (IsPassOf cell)) (sym started-passes)
+  new-of_cell = rw started-passes
       (All-map (IsPassOf cell) (unused_pass cell.str_type cell.words) owners (λ k d below. (refl, refl)))
 
-  -- and so is the last of them, which was taken out
-  pub taken-of_cell : (front : List PassShown) (taken : Option AnyPass) (pass : AnyPass) → taken ≡ Some pass
-      → IfSome taken (λ last. passes ≡ front ++ pass_shown last ∷ []) → IsPassOf cell (pass_shown pass)
-  taken-of_cell front taken pass there split =
-      let last : passes ≡ front ++ pass_shown pass ∷ [] =
-      popped (λ it. passes ≡ front ++ pass_shown it ∷ []) taken pass there split in
-      let all : All (IsPassOf cell) (front ++ pass_shown pass ∷ []) = subst (All (IsPassOf cell)) last new-of_cell in
-      let below : length front < length (front ++ pass_shown pass ∷ []) = simp length-append (omega arith) in
-      subst (IsPassOf cell) (get_or-append_seam front (pass_shown pass) [] (pass_shown pass))
-      (All-get_or (IsPassOf cell) (front ++ pass_shown pass ∷ []) (length front) (pass_shown pass) below all)
+  -- and so is the last of them
+  pub last-of_cell : (front : List PassShown) (pass : PassShown) → passes ≡ front ++ pass ∷ [] → IsPassOf cell pass
+  last-of_cell front pass last = (All-pop (IsPassOf cell) passes front (Some pass) last new-of_cell).1
 
 -- there is room for it again
-pub room-again : (str_type : StrType) (words : WordTable) (passes front : List PassShown)
-    (pass : PassShown) (n most : ℕ) → passes ≡ map (unused_pass str_type words) (range_with_len 0 n)
-    → passes ≡ front ++ pass ∷ [] → n ≤ most → length front < most
+pub room-again : (str_type : StrType) (words : WordTable) (passes front : List PassShown) (pass : PassShown)
+    (n most : ℕ) → passes ≡ map (unused_pass str_type words) (range_with_len 0 n) → passes ≡ front ++ pass ∷ []
+    → n ≤ most → length front < most
 room-again str_type words passes front pass n most are is room =
     let count : length passes ≡ n =
     ap length are ∙ length-map (range_with_len 0 n) (unused_pass str_type words) ∙ length-range_with_len 0 n in

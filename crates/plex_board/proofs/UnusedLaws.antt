@@ -1,8 +1,7 @@
 -- Structures that nobody has called yet, as they end.
-use Rattle.plex_board.proofs.Imports.{◌≡◌, ℕ, suc, ◌+◌, ◌<◌, ◌≤◌, List, [], ◌∷◌, ◌++◌, length, get_or, map, All, refl, sym, ap, subst, ◌∙◌, arith, append_assoc, Option, Some, slice_get, flat_map, range_with_len, length-map, get_or-map, length-range_with_len, get_or-map-range_with_len, All-map, All-weaker, slice_get_within, get_or_from_slice_get, ConnId, Links, AreAsked, AnyHistory, any_calls, own_calls, any_answers, PassShown, unused_pass, CellShown, DeskShown, no_pass, fixed_of, IsClosed, IsAccount, AreEachAsked, four_of, fixed_at, Opening, HomeShown, homes_shown, AllFit, homes_gathered, AreHomes, AreEnded, IsOpening, IsUnused, desk_at}
-use Rattle.plex_board.proofs.UnusedPassLaws.{unused_links}
-use Rattle.plex_board.proofs.DeskLaws.{new_desk-of_board}
-use Rattle.plex_board.proofs.HomeLaws.{desks-fit, homes-gathered, accounts-at, count-of-homes}
+use Rattle.plex_board.proofs.Imports.{◌≡◌, ℕ, suc, ◌<◌, ◌≤◌, List, [], ◌∷◌, ◌++◌, length, get_or, map, All, refl, sym, ap, subst, ◌∙◌, arith, append_assoc, Option, Some, slice_get, flat_map, range_with_len, length-map, get_or-map, length-range_with_len, All-map, All-weaker, slice_get_within, get_or_from_slice_get, ConnId, Links, AreAsked, AnyHistory, any_calls, own_calls, any_answers, PassShown, unused_pass, CellShown, DeskShown, no_pass, fixed_of, IsClosed, IsAccount, AreEachAsked, four_of, fixed_at, Opening, HomeShown, homes_shown, AllFit, homes_gathered, AreHomes, AreEnded, IsOpening, IsUnused, desk_at}
+use Rattle.plex_board.proofs.HomeLaws.{homes-gathered, accounts-at, count-of-homes}
+use Rattle.plex_board.proofs.{UnusedPassLaws.unused_links, DeskLaws.new_desk-of_board, SightLaws.each_of}
 
 module _ {L : Type 0} (asks : L → Option ℕ) (downs : L → Option (List ℕ)) (faults : L → ℕ) where
   -- where the links of each structure are as they were, all are
@@ -32,31 +31,28 @@ module _ {L : Type 0} (cells : List (CellShown L)) (homes : List HomeShown) (des
       (record { cells = cells; callers = 0; spare = [] }) (get_or (range_with_len 0 (length desks)) k d)))
 
   pub unused-fits : AllFit desks homes
-  unused-fits = desks-fit cells desks homes is.homes_are new-desks
+  unused-fits = (homes-gathered cells desks homes is.homes_are new-desks).0
 
   pub unused-homes : (after : List HomeShown) → after ≡ homes_gathered desks homes → AreHomes 0 cells after
   unused-homes after gathered =
-      subst (AreHomes 0 cells) (sym gathered) (homes-gathered cells desks homes is.homes_are new-desks)
+      subst (AreHomes 0 cells) (sym gathered) (homes-gathered cells desks homes is.homes_are new-desks).1
 
   -- no caller has a call in a structure's history
   no-calls : (histories : List AnyHistory) (x : ℕ) (cell : CellShown L) (entries : AnyHistory) → slice_get
       cells x ≡ Some cell → All (λ (desk : DeskShown). IsAccount cell entries (get_or desk.passes x no_pass)) desks
       → (owner : ConnId) → owner.0 ≤ cell.callers → own_calls (any_calls entries) owner ≡ []
   no-calls histories x cell entries at accounts owner few =
-      let within : x < length cells = slice_get_within cells x cell at in
       let here : get_or cells x cell ≡ cell = get_or_from_slice_get cells x cell cell at in
-      let all : (get_or cells x cell).callers < length desks = is.callers x cell within in
-      let callers : cell.callers < length desks = subst (λ (c : CellShown L). c.callers < length desks) here all in
-      let below : owner.0 < length desks = omega (arith, few, callers) in
-      let new : DeskShown = desk_at cells owner.0 in
-      let desk : get_or desks owner.0 new ≡ new = grind (arith, get_or-map-range_with_len) in
+      let within : x < length cells = slice_get_within cells x cell at in
+      let callers : (get_or cells x cell).callers < length desks = is.callers x cell within in
+      let below : owner.0 < length desks = grind arith in
+      let P : DeskShown → Type 0 = λ desk. IsAccount cell entries (get_or desk.passes x no_pass) in
+      let account : P (desk_at cells owner.0) = each_of
+      P (desk_at cells) 0 (length desks) owner.0 owner.0 (subst (All P) is.desks_are accounts) below (omega arith) in
       let unused : CellShown L → PassShown = λ c. unused_pass c.str_type c.words owner.0 in
-      let pass : get_or new.passes x no_pass ≡ unused cell =
+      let pass : get_or (map unused cells) x no_pass ≡ unused cell =
       get_or-map unused cells x cell no_pass within ∙ ap unused here in
-      let account : IsAccount cell entries (get_or (get_or desks owner.0 new).passes x no_pass) =
-      accounts owner.0 new below in
-      let mine : IsAccount cell entries (unused cell) = grind arith in
-      sym mine.mine
+      grind arith
 
   -- all links come back as they were
   pub unused-links : (asks : L → Option ℕ) (downs : L → Option (List ℕ)) (faults : L → ℕ) (after : List HomeShown)
@@ -71,8 +67,7 @@ module _ {L : Type 0} (cells : List (CellShown L)) (homes : List HomeShown) (des
       × All (λ (desk : DeskShown). IsAccount cell entries (get_or desk.passes x no_pass)) desks =
       accounts-at cells desks homes histories x cell entries no_pass
       (count-of-homes (length desks) cells homes is.homes_are) is.empty new-desks ended' at its in
-      unused_links asks downs faults cell entries handed said.0.legal said.0.callers
-      (no-calls histories x cell entries at said.1) told)
+      unused_links cell entries said.0.legal said.0.callers (no-calls histories x cell entries at said.1) told)
 
 -- a board that is opened has no calls yet
 pub opening-unused : {L : Type 0} (callers limit : ℕ) (opening : Opening L) → IsOpening callers limit opening

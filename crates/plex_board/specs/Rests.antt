@@ -66,13 +66,6 @@ AreHomes more (cell ∷ cells) (home ∷ homes) = IsHomeOf more cell home × Are
 abbrev pub AreEmpty : List HomeShown → Type 0
 AreEmpty homes = All (λ home. home.passes ≡ []) homes
 
--- a pass for each structure
-abbrev pub ArePasses : {L : Type 0} → List (CellShown L) → List PassShown → Type 0
-ArePasses [] [] = Unit {0}
-ArePasses [] (pass ∷ passes) = ⊥
-ArePasses (cell ∷ cells) [] = ⊥
-ArePasses (cell ∷ cells) (pass ∷ passes) = IsPassOf cell pass × ArePasses cells passes
-
 -- ---- the end
 
 -- a history for each structure, which says of the passes at home what it has to say

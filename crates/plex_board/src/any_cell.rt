@@ -44,6 +44,7 @@ impl<L: Link> AnyCell<L> {
     /// # Errors
     ///
     /// Where there is no memory the links come back.
+    #[tactic(auto, using(crate::proofs::ShownLaws::new_passes))]
     pub fn start(
         alloc: Global,
         form: StrForm,
@@ -136,6 +137,7 @@ impl<L: Link> AnyCell<L> {
     /// # Errors
     ///
     /// `NoMemory` for the copy; then the pass is as it was, and the reply may be asked for again.
+    #[tactic(auto, using(crate::proofs::ShownLaws::reply_shown, crate::proofs::ShownLaws::reply_exists, crate::proofs::ShownLaws::some_mapped))]
     pub fn reply(
         &self,
         rt: &impl Wait,

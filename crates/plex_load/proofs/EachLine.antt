@@ -1,5 +1,5 @@
 -- What holds of each line of a load.
-use Rattle.plex_load.proofs.Imports.{◌≡◌, ℕ, ◌+◌, ◌≤◌, ◌<◌, [], ◌++◌, length, get_or, map, refl, sym, ◌∙◌, subst, arith, length-append, All, range_with_len, All-nil, All-cons, All-append, All-map, length-range_with_len, length-map-range_with_len, get_or-range_with_len, Line, number_after, index_of, lines_each, own_line, work, connect_line, work_line, connector_lines, first_number, own_lines, lines_of_first, load_script}
+use Rattle.plex_load.proofs.Imports.{◌≡◌, ℕ, ◌≤◌, ◌<◌, [], ◌++◌, length, map, refl, sym, subst, arith, length-append, All, range_with_len, All-nil, All-cons, All-append, All-map, length-range_with_len, length-map-range_with_len, get_or-range_with_len, Line, index_of, lines_each, own_line, work, connect_line, work_line, connector_lines, own_lines, lines_of_first, load_script}
 
 pub each-is : lines_each ≡ 1000
 unfolding lines_each
@@ -21,10 +21,8 @@ length-load n = grind (arith, length-connector, length-append, four_parts)
 module _ (P : Line → Type 0) where
   each_work : (c x count : ℕ) → ((i number : ℕ) → 1 ≤ i → i ≤ count → P (own_line c i (work c i (index_of number))))
       → All P (map (work_line c x) (range_with_len 1 count))
-  each_work c x count each = All-map P (work_line c x) (range_with_len 1 count) (λ k d low.
-      let within : k < count = omega (arith, low, length-range_with_len 1 count) in
-      let is : get_or (range_with_len 1 count) k d ≡ 1 + k = get_or-range_with_len 1 count k d within in
-      subst (λ (i : ℕ). P (work_line c x i)) (sym is) (grind arith))
+  each_work c x count each = All-map P (work_line c x) (range_with_len 1 count) (
+      grind (arith, length-range_with_len, get_or-range_with_len))
 
   -- what holds of each CONNECT, and of each line behind one, holds of each line
   pub each_line : ((c : ℕ) → c < 4 → P (connect_line c)) → ((c i number : ℕ) → c < 4 → 1 ≤ i

@@ -3,7 +3,6 @@ pub mod Imports
 pub mod NumberLaws
 pub mod TermLaws
 pub mod CallLaws
-pub mod SummaryLaws
 pub mod EachLine
 pub mod Numbering
 pub mod LoadLimits

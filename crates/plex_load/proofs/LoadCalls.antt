@@ -1,5 +1,5 @@
 -- How many calls the lines of a load make.
-use Rattle.plex_load.proofs.Imports.{◌≡◌, ℕ, ◌+◌, ◌*◌, ◌%◌, ◌≤◌, ◌==◌, zero, suc, Bool, true, false, cond, [], ◌++◌, map, refl, ap, ◌∙◌, arith, range_with_len, nat_tests, sum_by-map-range_with_len_more, sum_by-append, sum_by-cons, StrNo, first_step, most_asks, work, work_line, connector_lines, first_number, own_lines, lines_of_first, load_script, asks_on, asks_of}
+use Rattle.plex_load.proofs.Imports.{◌≡◌, ℕ, ◌+◌, ◌*◌, ◌%◌, ◌≤◌, ◌==◌, zero, suc, Bool, true, false, cond, map, refl, ap, ◌∙◌, arith, range_with_len, nat_tests, sum_by-map-range_with_len_more, sum_by-append, sum_by-cons, StrNo, first_step, most_asks, work, work_line, lines_of_first, load_script, asks_on, asks_of}
 use Rattle.std.specs.List.{sum_by}
 use Rattle.plex_load.proofs.EachLine.{each-is, four_parts}
 
@@ -32,26 +32,13 @@ module _ (on : StrNo) where
       let m = 4 * k in
       let same : n ≡ m + 1 + 1 + 1 + 1 = omega (arith, is) in
       ap total same ∙ three_more (0 == on.0) k (suc k) (total m) (total (m + 1)) (total (m + 1 + 1))
-      (total (m + 1 + 1 + 1)) (total (m + 1 + 1 + 1 + 1)) (omega arith) (asks_works c x k m refl) (asks_more
-      c x m (m + 1) false (omega arith) (grind (arith, nat_tests))) (asks_more c x (m + 1) (m + 2) false (omega arith)
-      (grind (arith, nat_tests))) (asks_more c x (m + 1 + 1) (m + 3) false (omega arith) (grind (arith, nat_tests)))
+      (total (m + 1 + 1 + 1)) (total (m + 1 + 1 + 1 + 1)) (omega arith) (asks_works c x k m refl)
+      (asks_more c x m (m + 1) false (omega arith) (grind (arith, nat_tests))) (grind (arith, asks_more, nat_tests))
+      (asks_more c x (m + 1 + 1) (m + 3) false (omega arith) (grind (arith, nat_tests)))
       (asks_more c x (m + 1 + 1 + 1) (m + 4) true (omega arith) (grind (arith, nat_tests)))
 
   asks_lines : (n : ℕ) → sum_by (asks_on on) (lines_of_first n 4) ≡ cond (0 == on.0) 3004 0
-  asks_lines n =
-      let g = asks_on on in
-      let one : (c : ℕ) → sum_by g (own_lines n c) ≡ cond (0 == on.0) 751 0 =
-      grind (arith, asks_works, each-is, sum_by-cons) in
-      ap (sum_by g) (four_parts n) ∙ at_test
-      (0 == on.0) (sum_by-append g (own_lines n 0) (own_lines n 1 ++ (own_lines n 2 ++ (own_lines n 3 ++ []))))
-      (sum_by-append g (own_lines n 1) (own_lines n 2 ++ (own_lines n 3 ++ []))) (sum_by-append
-      g (own_lines n 2) (own_lines n 3 ++ [])) (sum_by-append g (own_lines n 3) []) (one 0) (one 1) (one 2) (one 3)
-    where
-      at_test : (b : Bool) {all behind second last a0 a1 a2 a3 : ℕ} → all ≡ a0 + behind → behind ≡ a1 + second
-          → second ≡ a2 + last → last ≡ a3 + 0 → a0 ≡ cond b 751 0 → a1 ≡ cond b 751 0 → a2 ≡ cond b 751 0
-          → a3 ≡ cond b 751 0 → all ≡ cond b 3004 0
-      at_test true p q r s d e f g = omega arith
-      at_test false p q r s d e f g = omega arith
+  asks_lines n = grind (arith, asks_works, each-is, sum_by-cons, four_parts, sum_by-append)
 
 pub load_calls : (n : ℕ) (on : StrNo) → asks_of (load_script n) on ≤ 3008
 unfolding load_script

@@ -1,9 +1,7 @@
 -- What holds of each load.
-use Rattle.plex_load.proofs.Imports.{arith, ◌≡◌, ℕ, ◌%◌, ◌==◌, sym, subst, Script, script_text, IsScript, IsWellFormed, script-formed, script-reads, load_script, IsLoad}
-use Rattle.plex_load.proofs.EachLine.{length-load}
-use Rattle.plex_load.proofs.LoadCalls.{load_calls}
-use Rattle.plex_load.proofs.LoadLimits.{load-keeps}
+use Rattle.plex_load.proofs.Imports.{arith, ◌≡◌, ℕ, sym, subst, Script, script_text, IsScript, IsWellFormed, script-formed, script-reads, load_script, IsLoad}
 use Rattle.plex_load.proofs.Numbering.{load_numbered}
+use Rattle.plex_load.proofs.{EachLine.length-load, LoadCalls.load_calls, LoadLimits.load-keeps}
 
 -- its printed text says the load, with the same numbers of lines
 pub load-says : (n : ℕ) → IsScript (script_text (load_script n)) (load_script n)

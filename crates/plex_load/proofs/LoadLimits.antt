@@ -1,9 +1,6 @@
 -- A load keeps the forms, the ranges and the limits of the language.
-use Rattle.plex_load.proofs.Imports.{◌≡◌, ℕ, ◌+◌, ◌≤◌, ◌<◌, ◌==◌, ◌%◌, zero, suc, Bool, true, false, not, cond, List, [], ◌∷◌, ◌++◌, length, codes, get_or, refl, ◌∙◌, arith, All, decimal, nat_tests, All-nil, All-cons, get_or-map-range_with_len, Pref, Name16, IsForm, IsPref, IsPadded, Declared, is_term, is_name, Term, IsNamed, AreNames, AreWithin, words-within, Act, MayDo, class_in, line_tokens, AreFacilities, HasRoom, IsStructureIn, IsLineIn, KeepsLimits, named, letter, page, read, write, connect, work, own_line, index_of, load_facility, load_form, load_connectors, lines_of_first, load_script}
-use Rattle.plex_script.specs.CfTypes.declared.forms.Kind.TheVariants as kind
-use Rattle.plex_script.specs.declared.scripts.Act.TheVariants as act
-use Rattle.plex_load.proofs.EachLine.{each_line}
-use Rattle.plex_load.proofs.TermLaws.{page_term, body_term}
+use Rattle.plex_load.proofs.Imports.{◌≡◌, ℕ, ◌+◌, ◌≤◌, ◌<◌, ◌==◌, ◌%◌, Bool, true, false, not, cond, List, [], ◌∷◌, ◌++◌, length, codes, get_or, refl, arith, All, decimal, nat_tests, All-nil, All-cons, get_or-map-range_with_len, Pref, Name16, IsForm, IsPref, IsPadded, Declared, is_term, Term, AreNames, AreWithin, words-within, Act, MayDo, class_in, line_tokens, AreFacilities, IsStructureIn, IsLineIn, KeepsLimits, named, letter, page, read, write, connect, work, own_line, load_facility, load_form, load_connectors, lines_of_first, load_script, Kind}
+use Rattle.plex_load.proofs.{EachLine.each_line, TermLaws.letter_is_name, TermLaws.page_term, TermLaws.body_term}
 
 -- ---- names
 
@@ -30,13 +27,6 @@ structures_kept = grind (arith, All-cons, All-nil, form_is)
 structure_names_kept : AreNames (load_form.name ∷ [])
 structure_names_kept = grind (arith, All-cons, All-nil, words-within, nobody)
 
-letter_is_name : (c : ℕ) → c < 4 → is_name (letter c) ≡ true
-letter_is_name zero low = refl
-letter_is_name (suc zero) low = refl
-letter_is_name (suc (suc zero)) low = refl
-letter_is_name (suc (suc (suc zero))) low = refl
-letter_is_name (suc (suc (suc (suc c)))) low = absurd (omega arith)
-
 connector_at : (k : ℕ) (d : Name16) → k < 4 → get_or load_connectors k d ≡ named (letter k)
 connector_at k d low = get_or-map-range_with_len (λ (c : ℕ). named (letter c)) 0 4 k k d low (omega arith)
 
@@ -62,13 +52,13 @@ declared = record {
 
 -- what a connector may do at the structure, with values in their ranges
 abbrev MayAct : ℕ → Act → Type 0
-MayAct c done = MayDo (record { 0 = c + 1 }) kind.Cache (class_in done) done 0
+MayAct c done = MayDo (record { 0 = c + 1 }) Kind.Cache (class_in done) done 0
     × AreWithin declared (line_tokens (own_line c 0 done))
 
 connect_allowed : (c : ℕ) → MayAct c connect
 connect_allowed c = ((refl, (not_operator c, refl)), (tt, (tt, tt)))
 
-test_allowed : (c j : ℕ) → j < 64 → MayAct c (act.Test j)
+test_allowed : (c j : ℕ) → j < 64 → MayAct c (Act.Test j)
 test_allowed c j low = ((refl, not_operator c, refl, refl), (tt, ((omega arith, omega arith), tt)))
 
 write_allowed : (c i j : ℕ) → c < 4 → i ≤ 1000 → j < 64 → MayAct c (write c i j)
@@ -94,15 +84,14 @@ line_kept n c i done few may = record {
 work_allowed : (c i j : ℕ) → c < 4 → i ≤ 1000 → j < 64 → MayAct c (work c i j)
 work_allowed c i j few short low = at_test (i % 4 == 0) (i % 4 == 1)
   where
-    at_test : (a b : Bool) → MayAct c (cond a (act.Test j) (cond b (write c i j) (read j)))
+    at_test : (a b : Bool) → MayAct c (cond a (Act.Test j) (cond b (write c i j) (read j)))
     at_test true b = test_allowed c j low
     at_test false true = write_allowed c i j few short low
     at_test false false = read_allowed c j low
 
 lines_kept : (n : ℕ) → All (IsLineIn (load_script n)) (lines_of_first n 4)
 lines_kept n = each_line (IsLineIn (load_script n))
-    (λ c few. line_kept n c 0 connect few (connect_allowed c)) (λ c i number few some short. line_kept n
-    c i (work c i (index_of number)) few (work_allowed c i (index_of number) few short (omega arith))) n
+    (λ c few. line_kept n c 0 connect few (connect_allowed c)) (grind (arith, line_kept, work_allowed)) n
 
 pub load-keeps : (n : ℕ) → KeepsLimits (load_script n)
 unfolding load_script

@@ -1,11 +1,14 @@
 -- Numbers that go on from others, and the lines that stand for them.
-use Rattle.plex_load.proofs.Imports.{◌≡◌, ℕ, ◌+◌, ◌*◌, ◌%◌, zero, suc, List, [], ◌∷◌, ◌++◌, map, refl, sym, ap, ◌∙◌, arith, add-zero, add-suc, add-one, append_assoc, flat_map, range_with_len, flat_map_more, map-id, map-range_with_len_more, Line, next_number, number_after, index_of, lines_each, own_line, work, work_line, connector_lines, first_number, lines_of_first}
+use Rattle.plex_load.proofs.Imports.{◌≡◌, ℕ, ◌+◌, ◌%◌, zero, suc, List, [], ◌∷◌, ◌++◌, map, refl, sym, ap, ◌∙◌, arith, add-zero, add-suc, add-one, append_assoc, flat_map, range_with_len, flat_map_more, map-id, map-range_with_len_more, Line, next_number, number_after, index_of, lines_each, own_line, work, work_line, connector_lines, first_number, lines_of_first, append-nil, line_text, AnyHistory, calls_line, calls_lines}
 
 -- ---- numbers
 
 pub after_none : (x : ℕ) → number_after 0 x ≡ x
 unfolding number_after
 after_none x = refl
+
+-- what the loop over the lines of a connector begins with
+pub ruleset work_begun = (after_none, append-nil)
 
 pub after_more : (steps x : ℕ) → number_after (steps + 1) x ≡ next_number (number_after steps x)
 unfolding number_after
@@ -57,3 +60,21 @@ pub callers_more : (n c number : ℕ) (lines after : List Line) → number ≡ f
 unfolding lines_of_first
 callers_more n c number lines after here before adds = parts_more (λ (k : ℕ). connector_lines k (first_number n k))
     [] lines after c (adds ∙ ap (λ (m : ℕ). lines ++ connector_lines c m) here) before
+
+-- ---- lines of a summary
+
+-- the lines of no connector, and of one more
+pub calls_none : (histories : List AnyHistory) (text : List ℕ)
+    → text ≡ text ++ flat_map line_text (calls_lines histories 0)
+unfolding calls_lines
+calls_none histories text = sym (append-nil text)
+
+pub calls_more : (histories : List AnyHistory) (c : ℕ) (start before after : List ℕ)
+    → after ≡ before ++ line_text (calls_line histories c) → before ≡ start ++ flat_map line_text
+    (calls_lines histories c) → after ≡ start ++ flat_map line_text (calls_lines histories (c + 1))
+unfolding calls_lines
+calls_more histories c start before after adds is =
+    let lines = map (calls_line histories) (range_with_len 0 c) in
+    adds ∙ ap (λ (text : List ℕ). text ++ line_text (calls_line histories c)) is ∙ flat_map_more
+    line_text start lines (calls_line histories c) ∙ ap (λ (ls : List (List ℕ)). start ++ flat_map line_text ls)
+    (sym (map-range_with_len_more (calls_line histories) 0 c c (omega arith)))

@@ -1,5 +1,5 @@
 -- The lines of a load have the numbers that they have in its text.
-use Rattle.plex_load.proofs.Imports.{◌≡◌, ℕ, ◌+◌, ◌*◌, ◌≤◌, ◌<◌, zero, suc, List, [], ◌∷◌, ◌++◌, length, map, refl, sym, ◌∙◌, subst, arith, range_with_len, Line, numbered_behind, with_line_numbers, line_number, place_of, work_line, connector_lines, first_number, own_lines, lines_of_first, load_script}
+use Rattle.plex_load.proofs.Imports.{◌≡◌, ℕ, ◌+◌, ◌*◌, ◌≤◌, ◌<◌, zero, suc, List, [], ◌∷◌, ◌++◌, length, map, refl, sym, subst, arith, range_with_len, Line, numbered_behind, with_line_numbers, line_number, place_of, work_line, first_number, own_lines, lines_of_first, load_script}
 use Rattle.plex_load.proofs.EachLine.{each-is, four_parts, length-connector}
 
 -- each line has the number that it has behind so many others
@@ -30,8 +30,7 @@ numbered_all n =
     let third = own_lines n 3 ++ [] in
     let second = own_lines n 2 ++ third in
     let first = own_lines n 1 ++ second in
-    subst (AreNumbered 7) (sym (four_parts n)) (numbered-append
-    7 1008 (own_lines n 0) first (omega (arith, long 0)) (grind arith) (grind (arith, numbered-append)))
+    subst (AreNumbered 7) (sym (four_parts n)) (grind (arith, numbered-append))
 
 pub load_numbered : (n : ℕ) → with_line_numbers (load_script n) ≡ load_script n
 unfolding load_script

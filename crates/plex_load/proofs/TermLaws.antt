@@ -1,15 +1,18 @@
 -- Names and data that are made of a text and a number.
-use Rattle.plex_load.proofs.Imports.{◌≡◌, ℕ, ◌+◌, ◌≤◌, ◌<◌, ◌^◌, zero, suc, true, List, ◌++◌, length, codes, refl, arith, length-append, is_ascii_digit, decimal, list_all, nat_tests, length-decimal-le, decimal_nonempty, digits_decimal, IsTerm, term_byte, own, all-append, all-weaker, letter}
+use Rattle.plex_load.proofs.Imports.{◌≡◌, ℕ, ◌+◌, ◌≤◌, ◌<◌, ◌^◌, zero, suc, true, List, ◌++◌, length, codes, refl, arith, length-append, decimal, list_all, nat_tests, length-decimal-le, decimal_nonempty, digits_decimal, IsTerm, term_byte, is_name, characters-term, term-name, own, all-append, all-weaker, letter}
 
 pub decimal-term : (n : ℕ) → n < 2 ^ 64 → list_all term_byte (decimal n) ≡ true
 decimal-term n small = grind (arith, all-weaker, digits_decimal, own, nat_tests)
 
+pub letter_is_name : (c : ℕ) → c < 4 → is_name (letter c) ≡ true
+letter_is_name zero low = refl
+letter_is_name (suc zero) low = refl
+letter_is_name (suc (suc zero)) low = refl
+letter_is_name (suc (suc (suc zero))) low = refl
+letter_is_name (suc (suc (suc (suc c)))) low = absurd (omega arith)
+
 pub letter-term : (c : ℕ) → c < 4 → list_all term_byte (letter c) ≡ true
-letter-term zero low = refl
-letter-term (suc zero) low = refl
-letter-term (suc (suc zero)) low = refl
-letter-term (suc (suc (suc zero))) low = refl
-letter-term (suc (suc (suc (suc c)))) low = absurd (omega arith)
+letter-term c low = characters-term (letter c) (term-name (letter c) (letter_is_name c low))
 
 -- a text with a number of 32 bits behind it
 pub numbered-term : (limit : ℕ) (text : List ℕ) (n : ℕ) → n < 2 ^ 32 → list_all term_byte text ≡ true

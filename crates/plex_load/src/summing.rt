@@ -36,7 +36,7 @@ fn put_calls(text: &mut Vec<u8>, histories: &[AnyHistory], caller: u8) -> Result
 }
 
 // Puts the lines of all connectors to a text.
-#[tactic(auto, using(crate::proofs::SummaryLaws::calls_none))]
+#[tactic(auto, using(crate::proofs::NumberLaws::calls_none))]
 fn put_callers(text: &mut Vec<u8>, histories: &[AnyHistory]) -> Result<(), NoMemory>
     ensures { OnOk result (text.new.items ≡ text.old.items
         ++ flat_map line_text (calls_lines histories.now 4)) }

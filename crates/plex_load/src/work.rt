@@ -106,7 +106,7 @@ fn work_line(alloc: Global, caller: u8, i: u32, number: u32) -> Result<Line, NoM
 
 // Puts so many lines of a connector to others. The number goes on from this one; what is answered
 // is the number of the last line.
-#[tactic(auto, using(crate::proofs::NumberLaws::after_none, crate::proofs::NumberLaws::after_more, crate::proofs::NumberLaws::lines_more))]
+#[tactic(auto, using(crate::proofs::NumberLaws::work_begun, crate::proofs::NumberLaws::after_more, crate::proofs::NumberLaws::lines_more))]
 fn put_work(
     alloc: Global,
     lines: &mut Vec<Line>,

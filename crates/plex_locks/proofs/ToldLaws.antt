@@ -1,5 +1,5 @@
 -- What is told of connectors that have worked.
-use Rattle.plex_locks.proofs.Imports.{◌≡◌, ◌+◌, ◌<◌, ◌⊎◌, ℕ, zero, suc, Bool, List, [], ◌∷◌, ◌++◌, Option, Some, Contains, All, AllPairs, map, length, drop, slice_get, get_or, Result, Ok, Err, refl, sym, ap, ◌∙◌, subst, inl, ⊎_elim, arith, append_assoc, length-append, replicate, slice_index, IfOk, range_with_len, option_map, get_or-map, length-map, map-append, length-replicate, All-push, All-nil, All-head, All-contains, All-replicate, get_or-map-range_with_len, length-map-range_with_len, get_or-range_with_len, slice_get-map, slice_get_within, slice_get-get_or, get_or_from_slice_get, none-some, ConnId, Name16, StrForm, IsForm, Hold, Grant, AreCompatible, says_excl, hold, grant, reading, HandSeen, LocksSeen, new_hand, AreAll, IsOthers, HasValue, all_held, Line, Script, IsWellFormed, IsLineOf, Outcome, Granted, Held, Contended, Raced, Freed, NotHeld, Done, HandTold, Locked, tasks_by, word_of, resource_of, left_by, granted_by, HasOther, IsOfOthers, AtLocks, AreIdle, IsDealt, IsReady, HasRead, HaveWorked, asked_by, asked_in, IsHandTold, IsLocked, told_of, none_told, entries_of, dones_of, all_left}
+use Rattle.plex_locks.proofs.Imports.{eqb-true, nat_tests, return-yes, return-no, rest_whole, lines-feed, nothing_left, lines-last, ◌≡◌, ◌+◌, ◌<◌, ◌⊎◌, ℕ, zero, suc, Bool, List, [], ◌∷◌, ◌++◌, Some, Contains, All, AllPairs, map, length, drop, drop-cons, slice_get, get_or, Result, Ok, Err, refl, sym, ap, ◌∙◌, subst, inl, ⊎_elim, arith, append_assoc, length-append, replicate, slice_index, IfOk, range_with_len, get_or-map, length-map, map-append, length-replicate, All-push, All-nil, All-head, All-contains, All-replicate, get_or-map-range_with_len, length-map-range_with_len, get_or-range_with_len, slice_get-map, slice_get_within, slice_get-get_or, get_or_from_slice_get, none-some, ConnId, Name16, StrForm, IsForm, Hold, Grant, AreCompatible, says_excl, hold, grant, reading, HandSeen, LocksSeen, new_hand, AreAll, IsOthers, HasValue, all_held, Line, Script, IsWellFormed, IsLineOf, Outcome, Contended, Raced, Done, HandTold, Locked, tasks_by, word_of, resource_of, left_by, granted_by, HasOther, IsOfOthers, AtLocks, AreIdle, IsDealt, IsReady, HasRead, HaveWorked, asked_by, asked_in, IsHandTold, IsLocked, told_of, none_told, entries_of, dones_of, all_left}
 
 abbrev name_of : AtLocks → Name16
 name_of w = w.name
@@ -32,10 +32,8 @@ pub dealt-more : (connectors : List Name16) (lines : List Line) (dealt : List Ha
     → IsDealt connectors lines dealt place left old → IsDealt connectors lines dealt (place + 1) rest more
 dealt-more connectors lines dealt place left rest old more w name hand by made is names hands number before = record {
   count = omega (arith, ap length is, length-append old (w ∷ []), before.count);
-  names = left-more name_of old
-      more w (drop place connectors) (drop (place + 1) connectors) connectors is names before.names;
-  hands = left-more hand_of old more w left rest dealt is
-      (hands ∙ ap (λ h. h ∷ rest) (sym (ap hand_of made))) before.hands;
+  names = grind (arith, left-more);
+  hands = grind (arith, left-more);
   numbers = mapped-more by_of old more w is
       ∙ ((λ i. before.numbers i ++ numbered i ∷ []) ∙ (sym (range-more 1 place) ∙ ap (range_with_len 1) after));
   tasks = subst (All (λ (w : AtLocks). w.tasks ≡ tasks_by w.by lines)) (sym is)
@@ -52,16 +50,12 @@ dealt-more connectors lines dealt place left rest old more w name hand by made i
     after = omega arith
 
 -- the first of the connectors that are left
-drop-at : (names : List Name16) (place : ℕ) (name : Name16) → slice_get names place ≡ Some name
-    → drop place names ≡ name ∷ drop (place + 1) names
-drop-at [] place name there = absurd (none-some name there)
-drop-at (x ∷ xs) zero name there = ap (λ (o : Option Name16). Rattle.std.specs.Prelude.unwrap_or o x ∷ xs) there
-drop-at (x ∷ xs) (suc k) name there =
-    let e : suc (k + 1) ≡ suc k + 1 = omega arith in drop-at xs k name there ∙ ap (λ j. name ∷ drop j (x ∷ xs)) e
-
 pub first-left : (names : List Name16) (place : ℕ) (name : Name16) (w : AtLocks) → w.name ≡ name
     → slice_get names place ≡ Some name → drop place names ≡ w.name ∷ drop (place + 1) names
-first-left names place name w is there = drop-at names place w.name (there ∙ ap Some (sym is))
+first-left names place name w is there =
+    let low = slice_get_within names place name there in
+    let cut = drop-cons names place name low in
+    let here = get_or_from_slice_get names place name name there in grind arith
 
 pub nobody-named : (names : List Name16) → length names ≡ 0 → names ≡ []
 nobody-named [] none = refl
@@ -74,8 +68,7 @@ at P xs k x all there = subst P (get_or_from_slice_get xs k x x there) (all k x 
 
 mapped-at : {X Y : Type 0} (f : X → Y) (xs : List X) (ys : List Y) (k : ℕ) (x : X) → map f xs ≡ ys
     → slice_get xs k ≡ Some x → slice_get ys k ≡ Some (f x)
-mapped-at f xs ys k x is there =
-    subst (λ l. slice_get l k ≡ Some (f x)) is (slice_get-map f xs k ∙ ap (option_map f) there)
+mapped-at f xs ys k x is there = grind (arith, slice_get-map)
 
 -- an element of a map is that of an element
 unmapped : {X Y : Type 0} (f : X → Y) (xs : List X) (k : ℕ) (y : Y) → slice_get (map f xs) k ≡ Some y
@@ -89,22 +82,17 @@ granted-in n holds word excl has =
     let f : Hold → Grant = λ x. grant n x.word x.excl in
     let k = has.0 in
     let is : f (get_or holds k (hold word excl)) ≡ grant n word excl =
-    sym (get_or-map f holds k (hold word excl)) ∙ has.2 in (
-      k,
-      omega (arith, has.1, length-map holds f),
-      λ i. hold ((ap (λ (g : Grant). g.word) is) i) ((ap (λ (g : Grant). g.excl) is) i),
-    )
+    sym (get_or-map f holds k (hold word excl)) ∙ has.2 in (grind (arith, length-map))
 
 numbers-from : (first n : ℕ) (workers : List AtLocks) → length workers ≡ n
     → ((c : ℕ) (w : AtLocks) → slice_get workers c ≡ Some w → w.hand.number ≡ first + c)
     → map (λ (h : HandSeen). h.number) (map hand_of workers) ≡ range_with_len first n
 numbers-from first zero [] long own = refl
-numbers-from first zero (w ∷ ws) long own = absurd (omega (arith, long))
-numbers-from first (suc n) [] long own = absurd (omega (arith, long))
 numbers-from first (suc n) (w ∷ ws) long own =
     let here : w.hand.number ≡ first = omega (arith, own 0 w refl) in
     let rest = numbers-from (first + 1) n ws (omega (arith, long)) (λ c x there. omega (arith, own (suc c) x there)) in
     (λ i. here i ∷ rest i)
+numbers-from first n workers long own = absurd (omega (arith, long))
 
 tables-of : (locks : LocksSeen) (workers : List AtLocks) → ((c : ℕ) (w : AtLocks) → slice_get workers c ≡ Some w
     → w.hand.table ≡ locks.table) → All (λ (h : HandSeen). h.table ≡ locks.table) (map hand_of workers)
@@ -193,13 +181,11 @@ module _ (script : Script) (locks : LocksSeen) (callers : ℕ) (idle workers : L
         let t = unmapped hand_of workers k h there' in
         let v = t.0 in
         let ready = ready-at k v t.1 in
-        let own : Contains v.hand.ever (grant v.hand.number word (says_excl value)) =
-        subst (λ (h : HandSeen). Contains h.ever (grant h.number word (says_excl value))) (sym t.2) o.3 in
+        let own : Contains v.hand.ever (grant v.hand.number word (says_excl value)) = grind arith in
         let granted = subst (λ l. Contains l (grant v.hand.number word (says_excl value))) ready.worked.ever own in (
           k,
           v.done,
-          (λ same. o.2 (ap (λ (h : HandSeen). h.number) (sym t.2) ∙ (number-at k v t.1
-              ∙ (ap (λ j. 1 + j) same ∙ sym (number-at c w there))))),
+          (grind (arith, number-at)),
           mapped-at (λ (t : HandTold). t.done) (map told_of workers) dones k (told_of v) refl
               (mapped-at told_of workers (map told_of workers) k v refl t.1),
           subst (λ m. Contains (granted_by m v.done) (hold word (says_excl value))) (words-at k v t.1)
@@ -208,10 +194,7 @@ module _ (script : Script) (locks : LocksSeen) (callers : ℕ) (idle workers : L
 
     others : (c : ℕ) (w : AtLocks) → slice_get workers c ≡ Some w
         → All (λ (d : Done). IsOfOthers n dones c (word_of n (resource_of d.request)) d.outcome) w.done
-    others c w there k e lt =
-        let d = get_or w.done k e in
-        of (word_of n (resource_of d.request)) d.outcome (subst (λ m. HasRead w.hand
-        (word_of m (resource_of d.request)) d.outcome) (words-at c w there) ((ready-at c w there).worked.read k e lt))
+    others c w there k e lt = grind (arith, of, words-at, ready-at)
       where
         of : (word : ℕ) (o : Outcome) → HasRead w.hand word o → IsOfOthers n dones c word o
         of word (Contended value) r = other c w word value there r.0 r.1
@@ -231,8 +214,7 @@ module _ (script : Script) (locks : LocksSeen) (callers : ℕ) (idle workers : L
       callers = length-map workers told_of ∙ (length-workers ∙ count);
       hands = told-at;
       count = counted ∙ some_words;
-      words = λ word below. subst (λ l. HasValue l word (slice_index words word)) left
-          (values word (omega (arith, below, some_words)));
+      words = grind (arith, left);
       compatible = subst (AllPairs AreCompatible) left compatible;
     }
 
@@ -257,14 +239,7 @@ pub none-right : (script : Script) (told : Locked) (entries : ℕ)
 none-right script told entries formed same nobody hands words =
     subst (IsLocked script) (λ i. record { hands = sym hands i; words = sym words i }) record {
       callers = length-map script.connectors none_told;
-      hands = λ place it there. let t = unmapped none_told script.connectors place it there in
-          subst (IsHandTold script (dones_of (map none_told script.connectors)) place) t.2 record {
-            name = t.1;
-            asked = asked place t.0 t.1;
-            own = tt;
-            others = All-nil (λ (d : Done). IsOfOthers n (dones_of (map none_told script.connectors)) place
-                (word_of n (resource_of d.request)) d.outcome);
-          };
+      hands = grind (arith, unmapped, asked, others, All-nil, n);
       count = length-replicate {A = ℕ} entries 0 ∙ same;
       words = λ word below. subst (λ l. HasValue l word (slice_index (replicate entries 0) word))
           (sym (none-left n script.connectors)) (inl (
@@ -292,3 +267,13 @@ none-told (Err e) script entries connectors formed same named nobody hands words
 none-told (Ok told) script entries connectors formed same named nobody hands words =
     none-right script told entries formed same
     (subst (λ (l : List Name16). (l ≡ []) ⊎ (entries ≡ 0)) named nobody) (hands ∙ ap (map none_told) named) words
+
+-- ---- what the code cites
+
+pub ruleset nobody_told = (⊎_elim, nobody-named, eqb-true, none-told)
+
+pub ruleset idlers_told = (length-map-range_with_len, length-idle)
+
+pub ruleset returns_read = (nat_tests, return-yes, return-no)
+
+pub ruleset lines_read = (rest_whole, lines-feed, nothing_left, lines-last)

@@ -1,5 +1,5 @@
 -- One outcome more of a connector at work.
-use Rattle.plex_locks.proofs.Imports.{◌≡◌, ◌==◌, ◌<◌, ℕ, Bool, true, false, not, List, [], ◌∷◌, ◌++◌, Option, None, Some, Contains, map, filter, refl, sym, ap, ◌∙◌, subst, ⊎_elim, arith, append_assoc, append-nil, eq-zero-or-pos, MatchOption, map-append, flat_map-append, All-push, All-weaker, Contains-append_left, Contains-push, Resource, Hold, Reading, Grant, Admits, held_as, hold, grant, reading, HandSeen, hand_released, Request, Obtain, Release, Outcome, Granted, Held, Contended, Raced, Freed, NotHeld, Done, word_of, resource_of, then_holds, left_by, grant_in, granted_by, IsTry, IsOutcome, FollowsOwn, IsTried, HasRead, ReadsDone, IsWorked}
+use Rattle.plex_locks.proofs.Imports.{◌≡◌, ◌<◌, ℕ, Bool, true, false, List, [], ◌∷◌, ◌++◌, Option, None, Some, Contains, map, refl, sym, ap, ◌∙◌, subst, ⊎_elim, arith, append_assoc, append-nil, eq-zero-or-pos, map-append, flat_map-append, All-push, All-weaker, Contains-append_left, Contains-push, Resource, Hold, Reading, Grant, Admits, held_as, grant, reading, HandSeen, hand_released, Request, Obtain, Release, Outcome, Granted, Held, Contended, Raced, Freed, NotHeld, Done, word_of, resource_of, then_holds, left_by, grant_in, granted_by, IsOutcome, FollowsOwn, IsTried, HasRead, ReadsDone, IsWorked}
 
 abbrev done_as : Request → Outcome → Done
 done_as request outcome = record { request = request; outcome = outcome }
@@ -29,10 +29,8 @@ module _ (hand : HandSeen) (dones : List Done) (worked : IsWorked hand dones) wh
   -- what was read stays read
   still-read : (held : List Hold) (ever : List Grant) (more : List Reading) (word : ℕ) (o : Outcome)
       → HasRead hand word o → HasRead (held_in hand held ever (hand.read ++ more)) word o
-  still-read held ever more word (Contended value) r =
-      (r.0, Contains-append_left hand.read more (reading hand.number word value) r.1)
-  still-read held ever more word Raced r =
-      (r.0, r.1, Contains-append_left hand.read more (reading hand.number word r.0) r.2)
+  still-read held ever more word (Contended value) r = grind (arith, Contains-append_left)
+  still-read held ever more word Raced r = grind (arith, Contains-append_left)
   still-read held ever more word o r = tt
 
   worked-more : (request : Request) (outcome : Outcome) (more : List Reading) → IsOutcome
@@ -48,12 +46,8 @@ module _ (hand : HandSeen) (dones : List Done) (worked : IsWorked hand dones) wh
       (hand.ever ++ grants hand.number (grant_in n request outcome)) (hand.read ++ more) in record {
         own = follows-more n [] dones d worked.own (subst (λ h. IsOutcome n h request outcome) worked.held is);
         held = ap (λ h. then_holds n h request outcome) worked.held ∙ sym (left-more n [] dones d);
-        ever = ap (λ l. l ++ grants hand.number (grant_in n request outcome)) worked.ever
-            ∙ (sym (map-append (λ (x : Hold). grant hand.number x.word x.excl) (granted_by n dones)
-            (grant_in n request outcome)) ∙ ap (grants hand.number) (sym (granted-more n dones d)));
-        read = All-push (ReadsDone after) dones d (All-weaker (ReadsDone hand) (ReadsDone after)
-            (λ (x : Done). still-read after.held after.ever more (word_of n (resource_of x.request)) x.outcome)
-            dones worked.read) reads;
+        ever = grind (arith, map-append, granted-more);
+        read = All-push (ReadsDone after) dones d (grind (arith, All-weaker, still-read)) reads;
       }
 
   -- nothing but what was read
@@ -63,8 +57,7 @@ module _ (hand : HandSeen) (dones : List Done) (worked : IsWorked hand dones) wh
       → IsWorked (record hand { read = hand.read ++ more }) (dones ++ done_as request outcome ∷ [])
   looked-more request outcome more is held none reads = subst (λ (h : HandSeen). IsWorked h
       (dones ++ done_as request outcome ∷ [])) (λ i. held_in hand (held i) (only i) (hand.read ++ more)) (worked-more
-      request outcome more is (subst (λ (h : HandSeen). HasRead h (word_of hand.words (resource_of request)) outcome)
-      (λ i. held_in hand (sym held i) (sym only i) (hand.read ++ more)) reads))
+      request outcome more is (grind (arith, only)))
     where
       only : hand.ever ++ grants hand.number (grant_in hand.words request outcome) ≡ hand.ever
       only = ap (λ l. hand.ever ++ grants hand.number l) none ∙ append-nil hand.ever
@@ -88,9 +81,8 @@ module _ (hand : HandSeen) (dones : List Done) (worked : IsWorked hand dones) wh
         → Next (Obtain r excl) o
     tried-more excl none Granted t =
         let a = reading hand.number word t.0 in
-        subst (λ (h : HandSeen). IsWorked h (dones ++ done_as (Obtain r excl) Granted ∷ [])) ((λ i. held_in hand
-        (hand.held ++ hold word excl ∷ []) (hand.ever ++ grant hand.number word excl ∷ []) (sym (append_assoc
-        hand.read (a ∷ []) (a ∷ [])) i)) ∙ sym t.2) (worked-more (Obtain r excl) Granted (a ∷ a ∷ []) (rw none tt) tt)
+        subst (λ (h : HandSeen). IsWorked h (dones ++ done_as (Obtain r excl) Granted ∷ [])) (
+        grind (arith, append_assoc)) (worked-more (Obtain r excl) Granted (a ∷ a ∷ []) (rw none tt) tt)
     tried-more excl none (Contended value) t =
         let a = reading hand.number word value in
         subst (λ (h : HandSeen). IsWorked h (dones ++ done_as (Obtain r excl) (Contended value) ∷ []))
@@ -98,10 +90,8 @@ module _ (hand : HandSeen) (dones : List Done) (worked : IsWorked hand dones) wh
         (a ∷ []) (rw none t.0) refl refl (some_value excl value t.0, Contains-push hand.read a))
       where
         some_value : (excl : Bool) (value : ℕ) → ¬ Admits value excl → 0 < value
-        some_value true value full =
-            ⊎_elim (λ (z : value ≡ 0). absurd (full z)) (λ (p : 0 < value). p) (eq-zero-or-pos value)
-        some_value false value full =
-            ⊎_elim (λ (z : value ≡ 0). absurd (full (omega arith))) (λ (p : 0 < value). p) (eq-zero-or-pos value)
+        some_value true value full = grind (arith, ⊎_elim, eq-zero-or-pos)
+        some_value false value full = grind (arith, ⊎_elim, eq-zero-or-pos)
     tried-more excl none Raced t =
         let seen = t.0 in
         let found = t.1 in
@@ -123,47 +113,38 @@ module _ (hand : HandSeen) (dones : List Done) (worked : IsWorked hand dones) wh
         )) (eq-zero-or-pos seen)))
     tried-more excl none o t = absurd t
 
-    obtained-here : (excl : Bool) (outcome : Outcome)
-        → ((e : Bool) → held_as hand.held word ≡ Some e → (outcome ≡ Held e) × (after ≡ hand))
-        → (held_as hand.held word ≡ None → IsTried word excl hand after outcome) → Next (Obtain r excl) outcome
+    -- what an attempt at a word, and the release of one, have to show
+    abbrev Obtains : Outcome → Bool → ℕ → Type 0
+    Obtains outcome excl w = ((e : Bool) → held_as hand.held w ≡ Some e → (outcome ≡ Held e) × (after ≡ hand))
+        → (held_as hand.held w ≡ None → IsTried w excl hand after outcome) → Next (Obtain r excl) outcome
+
+    abbrev Releases : Outcome → ℕ → Type 0
+    Releases outcome w = ((e : Bool) → held_as hand.held w ≡ Some e → (outcome ≡ Freed) × (after ≡ hand_released
+        hand w)) → (held_as hand.held w ≡ None → (outcome ≡ NotHeld) × (after ≡ hand)) → Next (Release r) outcome
+
+    obtained-here : (excl : Bool) (outcome : Outcome) → Obtains outcome excl word
     obtained-here excl outcome held tried = go (held_as hand.held word) refl
       where
         go : (o : Option Bool) → held_as hand.held word ≡ o → Next (Obtain r excl) outcome
         go (Some e) is =
-            let t = held e is in
-            subst (λ (x : HandSeen × Outcome). IsWorked x.0 (dones ++ done_as (Obtain r excl) x.1 ∷ []))
-            (λ i. (sym t.1 i, sym t.0 i)) (same-hand (Obtain r excl) (Held e) (rw is refl) refl refl tt)
+            let t = held e is in rw (t.0, t.1) (same-hand (Obtain r excl) (Held e) (rw is refl) refl refl tt)
         go None is = tried-more excl is outcome (tried is)
 
-    released-here : (outcome : Outcome)
-        → ((e : Bool) → held_as hand.held word ≡ Some e → (outcome ≡ Freed) × (after ≡ hand_released hand word))
-        → (held_as hand.held word ≡ None → (outcome ≡ NotHeld) × (after ≡ hand)) → Next (Release r) outcome
+    released-here : (outcome : Outcome) → Releases outcome word
     released-here outcome held free = go (held_as hand.held word) refl
       where
         go : (o : Option Bool) → held_as hand.held word ≡ o → Next (Release r) outcome
         go (Some e) is =
             let t = held e is in
-            subst (λ (x : HandSeen × Outcome). IsWorked x.0 (dones ++ done_as (Release r) x.1 ∷ [])) (λ i. (
-              ((λ j. held_in hand (filter (λ (x : Hold). not (x.word == word)) hand.held) (append-nil hand.ever j)
-                  (append-nil hand.read j)) ∙ sym t.1) i,
-              sym t.0 i,
-            )) (worked-more (Release r) Freed [] (rw is refl) tt)
-        go None is =
-            let t = free is in
             subst (λ (x : HandSeen × Outcome). IsWorked x.0 (dones ++ done_as (Release r) x.1 ∷ []))
-            (λ i. (sym t.1 i, sym t.0 i)) (same-hand (Release r) NotHeld (rw is refl) refl refl tt)
+            (grind (arith, append-nil)) (worked-more (Release r) Freed [] (rw is refl) tt)
+        go None is =
+            let t = free is in rw (t.0, t.1) (same-hand (Release r) NotHeld (rw is refl) refl refl tt)
 
     -- at the word that the resource has
     module _ (place : ℕ) (is : place ≡ word_of hand.words r) (outcome : Outcome) where
-      pub obtained : (excl : Bool)
-          → ((e : Bool) → held_as hand.held place ≡ Some e → (outcome ≡ Held e) × (after ≡ hand))
-          → (held_as hand.held place ≡ None → IsTried place excl hand after outcome) → Next (Obtain r excl) outcome
-      obtained excl = subst (λ w. ((e : Bool) → held_as hand.held w ≡ Some e → (outcome ≡ Held e) × (after ≡ hand))
-          → (held_as hand.held w ≡ None → IsTried w excl hand after outcome) → Next (Obtain r excl) outcome)
-          (sym is) (obtained-here excl outcome)
+      pub obtained : (excl : Bool) → Obtains outcome excl place
+      obtained excl = subst (Obtains outcome excl) (sym is) (obtained-here excl outcome)
 
-      pub released : ((e : Bool) → held_as hand.held place ≡ Some e → (outcome ≡ Freed) × (after ≡ hand_released hand
-          place)) → (held_as hand.held place ≡ None → (outcome ≡ NotHeld) × (after ≡ hand)) → Next (Release r) outcome
-      released = subst (λ w. ((e : Bool) → held_as hand.held w ≡ Some e → (outcome ≡ Freed)
-          × (after ≡ hand_released hand w)) → (held_as hand.held w ≡ None → (outcome ≡ NotHeld) × (after ≡ hand))
-          → Next (Release r) outcome) (sym is) (released-here outcome)
+      pub released : Releases outcome place
+      released = subst (Releases outcome) (sym is) (released-here outcome)

@@ -144,6 +144,7 @@ fn none_done(alloc: Global, connectors: &[Name16], entries: u32) -> Result<Locke
 }
 
 // The connectors do their lines, each on a thread of its own where threads can be made.
+#[tactic(auto, using(crate::proofs::ToldLaws::idlers_told))]
 fn all_done<R: Threads + Sync, G: Gate>(
     rt: &R,
     alloc: Global,
@@ -185,6 +186,7 @@ fn all_done<R: Threads + Sync, G: Gate>(
 /// # Errors
 ///
 /// `NoMemory` where there is no memory for the words, the hands and what is told of them.
+#[tactic(auto, using(crate::proofs::ToldLaws::nobody_told))]
 pub fn locked<R: Threads + Sync, G: Gate>(
     rt: &R,
     alloc: Global,

@@ -1,5 +1,5 @@
 -- Where a name stands among names.
-use Rattle.plex_plain.proofs.Imports.{◌≡◌, ◌≢◌, ℕ, ◌-◌, ◌<◌, ◌≤◌, ◌==◌, ◌||◌, Bool, true, false, List, [], ◌∷◌, ◌++◌, length, length-append, get_or, Some, position, refl, ◌∙◌, arith, zero, suc, position_or_len, list_any, nat_tests, slice_get-get_or, Name16, same_word, name_word, same_word-refl, word-same, caller_name, IsNamed}
+use Rattle.plex_plain.proofs.Imports.{◌≡◌, ◌≢◌, ℕ, ◌-◌, ◌<◌, ◌≤◌, Bool, true, false, List, [], ◌∷◌, ◌++◌, length, length-append, get_or, Some, position, refl, arith, zero, suc, position_or_len, list_any, or_parts, nat_tests, slice_get-get_or, Name16, same_word, name_word, same_word-refl, word-same, caller_name, IsNamed}
 
 -- ---- the first place at which a test holds
 
@@ -33,8 +33,7 @@ pub record HaveNames {X : Type 0} (name : X → Name16) (xs : List X) : Type 0 w
 pub name-place : {X : Type 0} (name : X → Name16) (xs : List X) (i : ℕ) (d : X) → HaveNames name xs → i < length xs
     → position (λ x. same_word (name_word (name x)) (name_word (name (get_or xs i d)))) xs ≡ Some i
 name-place name xs i d h low = position-first (λ x. same_word (name_word (name x)) (name_word (name (get_or xs i d))))
-    xs i d low (same_word-refl (name_word (name (get_or xs i d)))) (λ k before. apart_words (name (get_or xs k d))
-    (name (get_or xs i d)) (h.named k d (omega arith)) (h.named i d low) (h.apart k i d before low))
+    xs i d low (same_word-refl (name_word (name (get_or xs i d)))) (grind (arith, apart_words))
 
 -- a connector by its name
 pub caller-word : (connectors : List Name16) (n : ℕ) (d : Name16) → 1 ≤ n → n ≤ length connectors
@@ -46,14 +45,10 @@ seam_place : {X : Type 0} (p : X → Bool) (front : List X) (x : X) (back : List
     → list_any p front ≡ false → p x ≡ true → position_or_len p (front ++ x ∷ back) ≡ length front
 seam_place p [] x back before here = rw here refl
 seam_place p (y ∷ front) x back before here =
-    let parts = or_false (p y) (list_any p front) before in
+    let parts = or_parts (p y) (list_any p front) before in
     let rest = seam_place p front x back parts.1 here in
     let no = parts.0 in
     rw no (omega (arith, rest))
-  where
-    or_false : (a b : Bool) → (a || b) ≡ false → (a ≡ false) × (b ≡ false)
-    or_false true b h = absurd (cc)
-    or_false false b h = (refl, h)
 
 pub position-seam : {X : Type 0} (p : X → Bool) (front : List X) (x : X) (back : List X) → list_any p front ≡ false
     → p x ≡ true → position p (front ++ x ∷ back) ≡ Some (length front)

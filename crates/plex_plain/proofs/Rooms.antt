@@ -1,9 +1,7 @@
 -- Plain words are words, and how many bytes they take in a line.
-use Rattle.plex_plain.proofs.Imports.{◌≡◌, ℕ, ◌+◌, ◌-◌, ◌≤◌, ◌<◌, ◌^◌, Bool, true, false, List, [], ◌∷◌, ◌++◌, length, get_or, Option, Some, None, codes, decimal, refl, arith, zero, suc, length-append, is_ascii_digit, list_all, and_parts, and_from, nat_tests, length-decimal-le, decimal_nonempty, digits_decimal, Name16, CfId, Resource, IsTerm, IsPadded, text_in_block, term_byte, is_nonempty, tail_of, Declared, Token, name_word, Literal, Number, Term, Short, Data, OnResource, Record, OfFacility, OfConnector, OfStructure, NewFacility, NewName, option_tokens, flag_tokens, own, facility_word, resource_word, caller_name, plain_word, plain_words, AreNames, IsWithin, AreWithin}
-use Rattle.plex_plain.proofs.Places.{caller-word}
-use Rattle.plex_plain.proofs.Said.{solid, is_short_word, is_plain, small_high}
-use Rattle.plex_plain.proofs.Tests.{all-append, all-weaker}
-use Rattle.plex_plain.proofs.Texts.{IsGood, AreGood}
+use Rattle.plex_plain.proofs.Imports.{◌≡◌, ℕ, ◌+◌, ◌-◌, ◌≤◌, ◌<◌, ◌^◌, Bool, true, List, [], ◌∷◌, ◌++◌, length, get_or, Option, codes, decimal, refl, arith, zero, suc, length-append, is_ascii_digit, list_all, and_parts, and_from, nat_tests, length-decimal-le, decimal_nonempty, digits_decimal, Name16, CfId, Resource, IsTerm, IsPadded, text_in_block, term_byte, is_nonempty, tail_of, Declared, Token, name_word, Literal, Number, Term, Short, Data, OnResource, Record, OfFacility, OfConnector, NewFacility, NewName, option_tokens, flag_tokens, own, facility_word, resource_word, caller_name, plain_word, plain_words, AreNames, IsWithin, AreWithin}
+use Rattle.plex_plain.proofs.Said.{no_name, solid, is_short_word, is_plain, small_high}
+use Rattle.plex_plain.proofs.{Places.caller-word, Tests.all-append, Tests.all-weaker, Texts.IsGood, Texts.AreGood}
 
 -- ---- words
 
@@ -13,7 +11,7 @@ solid_term b h = grind (arith, nat_tests)
 solid_digit : (b : ℕ) → is_ascii_digit b ≡ true → solid b ≡ true
 solid_digit b h = grind (arith, nat_tests)
 
-nonempty : (word : List ℕ) → 0 < length word → is_nonempty word ≡ true
+pub nonempty : (word : List ℕ) → 0 < length word → is_nonempty word ≡ true
 nonempty [] h = absurd (omega arith)
 nonempty (b ∷ word) h = refl
 
@@ -40,7 +38,7 @@ led-good (b ∷ front) n most small some all short = record {
 }
 
 pub wider : (few most : ℕ) (word : List ℕ) → few ≤ most → IsGood few word → IsGood most word
-wider few most word less h = record { some = h.some; solid_all = h.solid_all; short = omega (arith, h.short) }
+wider few most word less h = grind arith
 
 pub facility-good : (cf : CfId) → cf.0 ≤ 4 → IsGood 64 (facility_word cf)
 facility-good cf low = led-good (codes "CF") cf.0 64 (omega arith) refl refl (omega arith)
@@ -48,17 +46,13 @@ facility-good cf low = led-good (codes "CF") cf.0 64 (omega arith) refl refl (om
 resource-good : (r : Resource) → IsPadded r.name.0 → r.hash ≤ 4294967295 → IsGood 64 (resource_word r)
 resource-good r named least =
     let name = name-good r.name named in
-    led-good (name_word r.name ++ codes "@") r.hash 64 (omega arith) (nonempty (name_word r.name ++ codes "@")
-    (omega (arith, length-append (name_word r.name) (codes "@")))) (all-append solid (name_word r.name)
-    (codes "@") name.solid_all refl) (omega (arith, named.0.short, length-append (name_word r.name) (codes "@")))
-
-some_name : Name16
-some_name = record { 0 = [] }
+    led-good (name_word r.name ++ codes "@") r.hash 64 (omega arith) (grind (arith, nonempty, length-append)) (grind
+    (arith, all-append, solid)) (omega (arith, named.0.short, length-append (name_word r.name) (codes "@")))
 
 connector-good : (connectors : List Name16) (n : ℕ) → AreNames connectors → 1 ≤ n → n ≤ length connectors
     → IsGood 64 (caller_name connectors n)
-connector-good connectors n h some most = rw (caller-word connectors n some_name some most)
-    (name-good (get_or connectors (n - 1) some_name) (h.0 (n - 1) some_name (omega arith)).0)
+connector-good connectors n h some most = rw (caller-word connectors n no_name some most)
+    (name-good (get_or connectors (n - 1) no_name) (h.0 (n - 1) no_name (omega arith)).0)
 
 -- the operator too
 pub caller-good : (connectors : List Name16) (n : ℕ) → AreNames connectors → n ≤ length connectors
@@ -135,9 +129,7 @@ row-wider m n tokens less h = record { plain = h.plain; short = omega (arith, h.
 
 pub row-option : {X : Type 0} (most : ℕ) (word : List ℕ) (tokens : X → List Token) (o : Option X)
     → is_short_word word ≡ true → ((x : X) → IsRow most (tokens x)) → IsRow (65 + most) (option_tokens word tokens o)
-row-option most word tokens None fine h = record { plain = refl; short = omega arith }
-row-option most word tokens (Some x) fine h = token-first (Literal word) (tokens x) most fine (h x)
+row-option most word tokens o fine h = grind (arith, token-first)
 
 pub row-flag : (word : List ℕ) (given : Bool) → is_short_word word ≡ true → IsRow 65 (flag_tokens word given)
-row-flag word false fine = record { plain = refl; short = omega arith }
-row-flag word true fine = token-first (Literal word) [] 0 fine no_tokens
+row-flag word given fine = grind (arith, token-first, no_tokens)

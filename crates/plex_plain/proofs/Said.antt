@@ -1,7 +1,6 @@
 -- A plain word stands for its token, where that is in its range.
-use Rattle.plex_plain.proofs.Imports.{◌≡◌, ℕ, ◌+◌, ◌-◌, ◌<◌, ◌≤◌, ◌^◌, ◌==◌, ◌&&◌, Bool, true, false, not, nat_le, nat_lt, List, [], ◌∷◌, ◌++◌, length, get_or, Some, option_map, codes, decimal, refl, ap, ◌∙◌, arith, zero, suc, inl, append_assoc, lit<, list_all, and_parts, nat_tests, decimal_digit, Name16, CfId, ConnId, Resource, IsFacility, IsTerm, IsPadded, text_in_block, term_byte, Names, Declared, Token, IsWord, IsText, IsNumber, IsName, IsResource, Spells, is_term, name_word, facility_of, connector_of, Literal, Number, Term, Short, Data, OnResource, Record, OfFacility, OfConnector, OfStructure, NewFacility, NewName, numeral-decimal, term_from, facility_word, resource_word, caller_name, plain_word, plain_words, IsNamed, AreNames, IsWithin, AreWithin}
-use Rattle.plex_plain.proofs.Tests.{all-weaker}
-use Rattle.plex_plain.proofs.Places.{HaveNames, name-place, caller-word}
+use Rattle.plex_plain.proofs.Imports.{◌≡◌, ℕ, ◌+◌, ◌-◌, ◌<◌, ◌≤◌, ◌^◌, ◌==◌, ◌&&◌, Bool, true, false, not, nat_le, nat_lt, List, [], ◌∷◌, ◌++◌, length, Some, codes, decimal, refl, arith, zero, suc, inl, append_assoc, lit<, list_all, and_parts, nat_tests, decimal_digit, Name16, CfId, ConnId, Resource, IsFacility, IsTerm, IsPadded, text_in_block, term_byte, Names, Declared, Token, IsWord, IsText, IsNumber, IsName, IsResource, Spells, is_term, name_word, facility_of, connector_of, Literal, Number, Term, Short, Data, OnResource, Record, OfFacility, OfConnector, OfStructure, NewFacility, NewName, numeral-decimal, term_from, facility_word, resource_word, caller_name, plain_word, plain_words, IsNamed, AreNames, IsWithin, AreWithin}
+use Rattle.plex_plain.proofs.{Tests.all-weaker, Places.HaveNames, Places.name-place, Places.caller-word}
 
 pub term-said : (bytes : List ℕ) → IsPadded bytes → is_term (text_in_block bytes) ≡ true
 term-said bytes h = term_from (text_in_block bytes) h.0.nonempty h.0.characters
@@ -43,7 +42,7 @@ pub connectors-named : (connectors : List Name16) → AreNames connectors → Ha
     connectors
 connectors-named connectors h = record { named = h.0; apart = h.1 }
 
-no_name : Name16
+pub no_name : Name16
 no_name = record { 0 = [] }
 
 pub connector-said : (connectors : List Name16) (conn : ConnId)
@@ -55,10 +54,7 @@ connector-said connectors conn h some most =
     (connectors-named connectors h) low in
     let numbered : ℕ → ConnId = λ (n : ℕ). record { 0 = n + 1 } in
     let back : conn.0 - 1 + 1 ≡ conn.0 = omega arith in
-    rw (caller-word connectors conn.0 no_name some most) (
-      name-said (get_or connectors (conn.0 - 1) no_name) (h.0 (conn.0 - 1) no_name low),
-      ap (option_map numbered) place ∙ ap (λ (n : ℕ). (let c : ConnId = record { 0 = n } in Some c)) back,
-    )
+    rw (caller-word connectors conn.0 no_name some most) (grind (arith, name-said, no_name))
 
 -- ---- words of a call
 

@@ -1,12 +1,9 @@
 -- Tests of each element of a list.
-use Rattle.plex_plain.proofs.Imports.{◌≡◌, Bool, true, false, List, [], ◌∷◌, ◌++◌, refl, All, list_all, and_parts, and_from, All-nil, All-cons}
+use Rattle.plex_plain.proofs.Imports.{arith, list_all-append, ◌≡◌, Bool, true, false, List, [], ◌∷◌, ◌++◌, refl, All, list_all, and_parts, and_from, All-nil, All-cons}
 
 module _ {X : Type 0} (p : X → Bool) where
   pub all-append : (xs ys : List X) → list_all p xs ≡ true → list_all p ys ≡ true → list_all p (xs ++ ys) ≡ true
-  all-append [] ys h k = k
-  all-append (x ∷ xs) ys h k =
-      let parts = and_parts (p x) (list_all p xs) h in
-      and_from (p x) (list_all p (xs ++ ys)) parts.0 (all-append xs ys parts.1 k)
+  all-append xs ys h k = grind (arith, list_all-append, and_from)
 
   -- what passes one test passes another
   pub all-weaker : (q : X → Bool) → ((x : X) → p x ≡ true → q x ≡ true) → (xs : List X) → list_all p xs ≡ true

@@ -1,7 +1,6 @@
 -- Words of a line, and lines of a text, are read back.
 use Rattle.plex_plain.proofs.Imports.{◌≡◌, ℕ, ◌≤◌, ◌==◌, Bool, true, false, nat_lt, List, [], ◌∷◌, ◌++◌, length, refl, ap, ◌∙◌, arith, append_assoc, list_all, flat_map, filter, slice_split, and_parts, nat_tests, append-nil, slice_split_at, slice_split_none, is_blank, is_nonempty, words_of, without_return, lines_in, lines_of, tail_of, line_of, line_text}
-use Rattle.plex_plain.proofs.Said.{solid}
-use Rattle.plex_plain.proofs.Tests.{all-append, all-weaker, all-fail}
+use Rattle.plex_plain.proofs.{Said.solid, Tests.all-append, Tests.all-weaker, Tests.all-fail}
 
 -- bytes that stand in words, and bytes that stand in lines
 abbrev pub clear : ℕ → Bool
@@ -49,13 +48,11 @@ words-back (word ∷ next ∷ words) h =
 
 spaced-clear : (words : List (List ℕ)) → AreGood words → list_all clear (tail_of words) ≡ true
 spaced-clear [] h = refl
-spaced-clear (word ∷ words) h = all-append clear (32 ∷ word)
-    (tail_of words) (all-weaker solid clear solid_clear word h.1) (spaced-clear words h.2)
+spaced-clear (word ∷ words) h = grind (arith, all-append, all-weaker, solid, solid_clear, spaced-clear words h.2)
 
 pub line-clear : (words : List (List ℕ)) → AreGood words → list_all clear (line_of words) ≡ true
 line-clear [] h = refl
-line-clear (word ∷ words) h =
-    all-append clear word (tail_of words) (all-weaker solid clear solid_clear word h.1) (spaced-clear words h.2)
+line-clear (word ∷ words) h = grind (arith, all-append, all-weaker, solid, solid_clear, spaced-clear)
 
 -- ---- lines of a text
 

@@ -1,16 +1,11 @@
 -- The words that lists of tokens are printed as.
-use Rattle.plex_plain.proofs.Imports.{arith, ◌≡◌, ℕ, Bool, true, false, List, [], ◌∷◌, ◌++◌, Option, None, Some, refl, ◌∙◌, if◌then◌else◌, map-append, Token, all_tokens, option_tokens, flag_tokens, Name16, plain_words, told_words}
+use Rattle.plex_plain.proofs.Imports.{arith, ◌≡◌, ℕ, List, [], ◌∷◌, ◌++◌, Option, None, Some, refl, map-append, Token, all_tokens, option_tokens, Name16, plain_words, told_words}
 
 pub words_option : {X : Type 0} (connectors : List Name16) (word : List ℕ) (tokens : X → List Token) (o : Option X)
     → plain_words [] connectors (option_tokens word tokens o) ≡ told_words word
     (λ x. plain_words [] connectors (tokens x)) o
 words_option connectors word tokens None = refl
 words_option connectors word tokens (Some x) = refl
-
-pub words_flag : (connectors : List Name16) (word : List ℕ) (flag : Bool)
-    → plain_words [] connectors (flag_tokens word flag) ≡ (if flag then word ∷ [] else [])
-words_flag connectors word false = refl
-words_flag connectors word true = refl
 
 -- the words of parts that are joined
 abbrev pub joined_words : List Name16 → List (List Token) → List (List ℕ)

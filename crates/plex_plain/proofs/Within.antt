@@ -1,6 +1,5 @@
 -- What words stand for is in its form and its range.
-use Rattle.plex_plain.proofs.Imports.{◌≡◌, ℕ, ◌+◌, ◌*◌, ◌-◌, ◌≤◌, ◌<◌, ◌==◌, Bool, true, not, List, [], ◌∷◌, ◌++◌, Some, length, refl, sym, ap, ◌∙◌, arith, subst, zero, suc, inl, inr, replicate, position, list_all, and_parts, nat_tests, take_while-cons, Name16, CfId, ConnId, StrNo, StrForm, IsFacility, IsTerm, IsPadded, block_of, text_in_block, term_byte, Names, Declared, Token, IsWord, IsText, IsData, IsRecord, Spells, is_term, is_name, facility_of, connector_of, structure_of, Literal, Number, Term, Short, Data, OnResource, Record, OfFacility, OfConnector, OfStructure, NewFacility, NewName, mapped, Words, characters-term, IsTerm-whole, IsTerm-repeat, length-repeat, term-name, IsOneOf, IsNamed, IsWithin, AreWithin}
-use Rattle.std.specs.Bool.{if◌then◌else◌}
+use Rattle.plex_plain.proofs.Imports.{◌≡◌, ℕ, ◌-◌, ◌≤◌, ◌<◌, ◌==◌, Bool, true, not, List, [], ◌∷◌, ◌++◌, Some, length, refl, sym, ap, ◌∙◌, arith, subst, zero, suc, inl, inr, replicate, position, list_all, and_parts, nat_tests, take_while-cons, Name16, CfId, ConnId, StrNo, StrForm, IsFacility, IsTerm, IsPadded, block_of, text_in_block, term_byte, Names, Declared, Token, IsWord, IsText, IsData, IsRecord, Spells, is_term, is_name, facility_of, connector_of, structure_of, Literal, Number, Term, Short, Data, OnResource, Record, OfFacility, OfConnector, OfStructure, NewFacility, NewName, mapped, Words, characters-term, IsTerm-whole, IsTerm-repeat, length-repeat, term-name, IsOneOf, IsNamed, IsWithin, AreWithin}
 
 -- ---- names and data
 
@@ -10,7 +9,8 @@ no_blank b = not (b == 32)
 not_blank : (b : ℕ) → term_byte b ≡ true → no_blank b ≡ true
 not_blank b h = grind (arith, nat_tests)
 
-word-front : (word : List ℕ) (n : ℕ) → list_all term_byte word ≡ true → text_in_block (word ++ replicate n 32) ≡ word
+pub word-front : (word : List ℕ) (n : ℕ)
+    → list_all term_byte word ≡ true → text_in_block (word ++ replicate n 32) ≡ word
 word-front [] zero h = refl
 word-front [] (suc n) h = take_while-cons no_blank 32 (replicate n 32)
 word-front (b ∷ word) n h =

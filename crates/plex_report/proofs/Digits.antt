@@ -1,5 +1,5 @@
 -- Binary digits, one after another.
-use Rattle.plex_report.proofs.Imports.{◌≡◌, ℕ, ◌+◌, ◌%◌, ◌/◌, zero, suc, [], ◌∷◌, ◌++◌, List, refl, ◌∙◌, arith, append_assoc, binary_digits}
+use Rattle.plex_report.proofs.Imports.{◌≡◌, ℕ, ◌+◌, ◌%◌, ◌/◌, zero, suc, [], ◌∷◌, ◌++◌, List, refl, arith, append_assoc, binary_digits}
 
 pub digits_end : (n : ℕ) → binary_digits 0 n ≡ []
 unfolding binary_digits

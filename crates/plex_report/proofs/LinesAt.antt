@@ -56,8 +56,7 @@ module _ {X : Type 0} (lines : ℕ → X → List (List ℕ)) (size : X → ℕ)
       → slice_get (lines_each lines 0 xs ++ rest) k ≡ slice_get (lines i x) j
   get_spot xs rest i k j x h is e within =
       let at : 0 + i ≡ i = omega arith in
-      let here : option_map_or size (slice_get xs i) 0 ≡ size (get_or xs i x) =
-      ap (λ o. option_map_or size o 0) (slice_get-get_or xs i x h) in
+      let here : option_map_or size (slice_get xs i) 0 ≡ size (get_or xs i x) = grind (arith, slice_get-get_or) in
       get_within 0 xs rest i k j x h e (omega (arith, here, within))
       ∙ ap (λ m. slice_get (lines m (get_or xs i x)) j) at ∙ ap (λ y. slice_get (lines i y) j) (sym is)
 

@@ -145,6 +145,7 @@ fn told_to_callers(
 }
 
 // The k-th line from the histories on.
+#[tactic(auto, using(crate::proofs::Sections::history_spot, crate::proofs::Sections::histories_after))]
 fn told_of_structures(
     alloc: Global,
     script: &Script,
@@ -345,6 +346,7 @@ pub fn line(
 ///
 /// `NoMemory` where there is no memory for the text, or the report has more lines than memory could
 /// hold.
+#[tactic(auto, using(crate::proofs::LinesAt::text_more))]
 pub fn render(
     alloc: Global,
     script: &Script,

@@ -1,6 +1,5 @@
 -- The structure whose journal got full in a run: the script can fill it.
-use Rattle.plex_run.proofs.Imports.{◌≡◌, ℕ, ◌+◌, ◌≤◌, ◌<◌, Bool, true, List, Option, Some, None, option_map, length, slice_get, get_or, refl, sym, ap, subst, ◌∙◌, arith, find, enumerate_from, position_or_len, nat_tests, Any-from_list_any, find_at, get_or-enumerate_from, length-enumerate_from, passes_at_first, get_or_from_slice_get, slice_get-get_or, slice_get_read, slice_get_within, StrForm, ConnId, StrNo, AnyHistory, Script, AgentEnd, Shown, Transcript, length_on, EndsRight, ShowsHistories, IsWithinScript, most_entries, Reading, ends_full_at, is_full_at, CanFill, ShowsRun, full_of, journal_limit}
-use Rattle.plex_load.specs.PlexScript.declared.transcripts.AgentEnd.TheVariants as ended
+use Rattle.plex_run.proofs.Imports.{◌≡◌, ℕ, ◌+◌, ◌≤◌, ◌<◌, Bool, true, List, Option, Some, None, option_map, length, slice_get, get_or, refl, sym, ap, ◌∙◌, arith, find, enumerate_from, position_or_len, nat_tests, Any-from_list_any, find_at, get_or-enumerate_from, length-enumerate_from, passes_at_first, get_or_from_slice_get, slice_get-get_or, slice_get_read, slice_get_within, StrForm, StrNo, AnyHistory, Script, Transcript, length_on, ShowsHistories, IsWithinScript, most_entries, Reading, is_full_at, CanFill, ShowsRun, full_of, journal_limit}
 
 -- whatever a run shows, no history is longer than the script can make it
 abbrev pub AreWithin : Type 0
@@ -19,11 +18,8 @@ found_place {X} p xs place found =
     let short : k < length xs = omega (arith, within, length-enumerate_from 0 xs) in
     let at : get_or places k place ≡ place = get_or_from_slice_get places k place place there in
     let same : (0 + k, get_or xs k place.1) ≡ place = sym (get_or-enumerate_from 0 xs k place short) ∙ at in
-    let number : k ≡ place.0 = omega (arith, ap (λ (it : ℕ × X). it.0) same) in (
-      subst (λ (n : ℕ). slice_get xs n ≡ Some place.1) number
-          (slice_get-get_or xs k place.1 short ∙ ap (λ (it : ℕ × X). Some it.1) same),
-      ap test (sym at) ∙ passes_at_first test places place within,
-    )
+    let number : k ≡ place.0 = omega (arith, ap (λ (it : ℕ × X). it.0) same) in
+    grind (arith, slice_get-get_or, passes_at_first)
 
 -- ---- the structure that is told
 
@@ -32,18 +28,7 @@ full_there : (limit : ℕ) (script : Script) (histories : List AnyHistory) (tran
     → ShowsHistories limit script histories transcripts → (place : ℕ) → is_full_at transcripts place ≡ true
     → limit ≤ length_on histories (record { 0 = place })
 full_there limit script histories transcripts shows place full =
-    let it = Any-from_list_any (λ (t : Transcript). ends_full_at place t.end) transcripts full in
-    let there : slice_get transcripts it.0 ≡ Some it.1 =
-    slice_get_read transcripts (length transcripts) it.0 it.1 refl it.2 (sym it.3) in
-    by_end (record { 0 = it.0 }) it.1.items it.1.end it.4 (shows.ends it.0 it.1 there)
-  where
-    by_end : (conn : ConnId) (items : List Shown) (end : AgentEnd) → ends_full_at place end ≡ true
-        → EndsRight limit script histories conn items end → limit ≤ length_on histories (record { 0 = place })
-    by_end conn items ended.Done there right = absurd cc
-    by_end conn items ended.NoMemory there right = absurd cc
-    by_end conn items (ended.JournalFull on) there right =
-        let same : on.0 ≡ place = grind (arith, nat_tests) in
-        subst (λ (n : ℕ). limit ≤ length_on histories (record { 0 = n })) same right.full
+    grind (arith, Any-from_list_any, slice_get_read, nat_tests)
 
 -- the script can fill the journal that is told
 pub can_fill : (script : Script) (reading : Reading) → AreWithin → ShowsRun script reading

@@ -1,8 +1,8 @@
 -- What proofs here name of other crates, and of this one's definitions. Declares nothing.
-pub use Rattle.run_laws.proofs.Imports.{Appends-trans, take-append_seam, nat_tests, take-append-drop, length-replicate, get_or-enumerate_from, length-enumerate_from, passes_at_first, Appends, enumerate_from, position_or_len, concat, flat_map, get_within, Telling, EndsRight, ShowsHistories, AreTelling, AreRunLinks, IsRunnable, IsRunnableLine, IsRunnableAct, serial_run, decimal-numeral, length_on, SaysOne, IsExclusive, is_ask_of, script_text, TellsFault, IsScript, line_text, IsWithinScript, most_entries, most_calls, report_lines, Reading, IsOnlyReading, IsReading, IsTheReading, report_of, ShowsFresh}
+pub use Rattle.run_laws.proofs.Imports.{Appends-trans, take-append_seam, nat_tests, take-append-drop, length-replicate, get_or-enumerate_from, length-enumerate_from, passes_at_first, Appends, enumerate_from, position_or_len, concat, flat_map, get_within, Telling, EndsRight, ShowsHistories, AreTelling, AreRunLinks, IsRunnable, IsRunnableLine, IsRunnableAct, serial_run, decimal-numeral, length_on, SaysOne, IsExclusive, is_ask_of, script_text, TellsFault, IsScript, line_text, IsWithinScript, most_entries, most_calls, Reading, IsOnlyReading, IsReading, IsTheReading, report_of, ShowsFresh}
 pub use Rattle.plex_load.proofs.Imports.{load_script, IsLoad}
-pub use Rattle.plex_locks.proofs.Imports.{first_other, IsLocked, locks_text}
-pub use Rattle.std.proofs.Common.{◌≡◌, ℕ, zero, suc, ◌+◌, ◌<◌, Bool, false, List, [], ◌∷◌, length, drop, refl, ap, ◌∙◌, sym, add-one, arith, find, ◌≤◌, true, Option, Some, None, option_map, slice_get, get_or, subst, ◌⊎◌, inr, Result, Ok, Err, IfOk, ◌≢◌, inl, codes, is_some, ◌++◌, append_assoc, ◌==◌, ◌^◌, if◌then◌else◌, length-append, take, map, append-nil, unwrap_or, IsTrue, IfSome, replicate, String, string_bytes, ◌-◌, OnOk, OnErr, rules}
+pub use Rattle.plex_locks.proofs.Imports.{IsLocked, locks_text}
+pub use Rattle.std.proofs.Common.{◌≡◌, ℕ, zero, suc, ◌+◌, ◌<◌, Bool, false, List, [], ◌∷◌, length, drop, refl, ap, ◌∙◌, sym, add-one, arith, find, ◌≤◌, true, Option, Some, None, option_map, slice_get, get_or, subst, ◌⊎◌, inr, Result, Ok, Err, IfOk, ◌≢◌, inl, codes, is_some, ◌++◌, append_assoc, ◌==◌, ◌^◌, if◌then◌else◌, length-append, take, map, append-nil, unwrap_or, IsTrue, IfSome, replicate, String, string_bytes, OnOk, OnErr, rules}
 pub use Rattle.std.proofs.lemmas.Bool.{cases_lt}
 pub use Rattle.std.proofs.lemmas.List.Folds.{Any-from_list_any, find_at, list_any_at, concat-append}
 pub use Rattle.std.proofs.lemmas.Option.{get_or_from_slice_get, slice_get-get_or, slice_get_read, slice_get_within}
@@ -12,37 +12,25 @@ pub use Rattle.plex_agent.specs.CfIo.ReadEnd.{HasCause}
 pub use Rattle.plex_agent.specs.CfIo.declared.read_end.ReadEnd.{ReadEnd}
 pub use Rattle.plex_agent.specs.PlexBoard.Kinds.{IsAskOf}
 pub use Rattle.plex_agent.specs.declared.in_turn.Finished.{Finished}
-pub use Rattle.plex_load.specs.CfTypes.declared.forms.Kind.{Kind}
-pub use Rattle.plex_load.specs.CfTypes.declared.forms.StrForm.{StrForm}
-pub use Rattle.plex_load.specs.CfTypes.declared.memory.NoMemory.{NoMemory}
-pub use Rattle.plex_load.specs.CfTypes.declared.names.Name16.{Name16}
-pub use Rattle.plex_load.specs.CfTypes.declared.numbers.CfId.{CfId}
-pub use Rattle.plex_load.specs.CfTypes.declared.numbers.ConnId.{ConnId}
 pub use Rattle.plex_load.specs.CfTypes.declared.numbers.StrNo.{StrNo}
+pub use Rattle.plex_load.specs.CfTypes.declared.{forms.Kind.Kind, forms.StrForm.StrForm, memory.NoMemory.NoMemory}
+pub use Rattle.plex_load.specs.CfTypes.declared.{names.Name16.Name16, numbers.CfId.CfId, numbers.ConnId.ConnId}
 pub use Rattle.plex_load.specs.PlexScript.WellFormed.{IsWellFormed, IsLineOf, IsActOf, MayAskAny}
-pub use Rattle.plex_load.specs.PlexScript.declared.asks.AnyHistory.{AnyHistory}
-pub use Rattle.plex_load.specs.PlexScript.declared.faults.ReadFault.{ReadFault}
-pub use Rattle.plex_load.specs.PlexScript.declared.faults.Why.{Why}
-pub use Rattle.plex_load.specs.PlexScript.declared.scripts.Act.{Act}
-pub use Rattle.plex_load.specs.PlexScript.declared.scripts.AnyAsk.{AnyAsk}
-pub use Rattle.plex_load.specs.PlexScript.declared.scripts.Line.{Line}
-pub use Rattle.plex_load.specs.PlexScript.declared.scripts.Script.{Script}
-pub use Rattle.plex_load.specs.PlexScript.declared.transcripts.AgentEnd.{AgentEnd}
-pub use Rattle.plex_load.specs.PlexScript.declared.transcripts.Shown.{Shown}
-pub use Rattle.plex_load.specs.PlexScript.declared.transcripts.Transcript.{Transcript}
+pub use Rattle.plex_load.specs.PlexScript.declared.{asks.AnyHistory.AnyHistory, faults.ReadFault.ReadFault}
+pub use Rattle.plex_load.specs.PlexScript.declared.{faults.Why.Why, scripts.Act.Act, scripts.AnyAsk.AnyAsk}
+pub use Rattle.plex_load.specs.PlexScript.declared.{scripts.Line.Line, scripts.Script.Script}
+pub use Rattle.plex_load.specs.PlexScript.declared.{transcripts.AgentEnd.AgentEnd, transcripts.Transcript.Transcript}
 pub use Rattle.plex_locks.specs.declared.told.Locked.{Locked}
 pub use Rattle.run_laws.proofs.MarkLaws.{marks_facilities}
 pub use Rattle.run_laws.proofs.Tests.{is_reading}
 pub use Rattle.plex_run.specs.Full.{ends_full_at, is_full_at, full_structure}
-pub use Rattle.plex_run.specs.Loading.{IsLoadRun, EndsLoad, loading, summary_of}
-pub use Rattle.plex_run.specs.Locks.{IsTaken, IsUntakenAt, TellsUntaken, EndsLocks, locking, locks_word}
-pub use Rattle.plex_run.specs.Outcome.{CanFill, ShowsRun, full_of, journal_limit, IsRun, IsRunOf, script_limit, IsRefused, WritesRun, EndsRun, IsSerialStatus, IsTooLong, script_word, running, full_in_run, run_status, serial_status, AreMarked, reading_of, read_status, run_text}
+pub use Rattle.plex_run.specs.Loading.{IsLoadRun, EndsLoad, summary_of}
+pub use Rattle.plex_run.specs.Locks.{IsTaken, IsUntakenAt, TellsUntaken, EndsLocks, locks_word}
+pub use Rattle.plex_run.specs.Outcome.{CanFill, ShowsRun, full_of, journal_limit, IsRun, IsRunOf, script_limit, IsRefused, WritesRun, EndsRun, IsSerialStatus, IsTooLong, script_word, running, run_status, AreMarked, reading_of, read_status}
 pub use Rattle.plex_run.specs.Pieces.{PassesOn}
-pub use Rattle.plex_run.specs.StatusLines.{memory_line, why_word, too_long_line, script_line, full_line}
+pub use Rattle.plex_run.specs.StatusLines.{memory_line, why_word, too_long_line, script_line}
 pub use Rattle.plex_run.specs.Statuses.{EndsTask, Task, Word, EndsText, OfText}
 pub use Rattle.plex_run.specs.Wires.{Wires, wires}
 pub use Rattle.plex_run.specs.Words.{Say, number_said}
 pub use Rattle.plex_run.specs.Written.{Output, HasFailed, Writes, WritesFront, Gains, GainsPrefix, BreaksOff, output}
-pub use Rattle.plex_run.specs.declared.locks.Untaken.{Untaken}
-pub use Rattle.plex_run.specs.declared.way.Way.{Way}
-pub use Rattle.plex_run.specs.declared.way.Work.{Work}
+pub use Rattle.plex_run.specs.declared.{locks.Untaken.Untaken, way.Way.Way, way.Work.Work}

@@ -1,25 +1,16 @@
 -- What a sink gains by texts that were put into a piece.
-use Rattle.plex_run.proofs.Imports.{◌≡◌, List, ℕ, [], ◌++◌, Option, sym, ap, ◌∙◌, subst, append_assoc, Appends, Appends-trans, GainsPrefix, PassesOn}
+use Rattle.plex_run.proofs.Imports.{arith, ◌≡◌, List, ℕ, [], ◌++◌, Option, sym, ap, ◌∙◌, subst, append_assoc, Appends, Appends-trans, GainsPrefix, PassesOn}
 use Rattle.plex_run.proofs.Written.{GainsPrefix-after}
 
 -- what stood in the piece was written
 pub passes-flushed : (old mid new : Option (List ℕ)) (before after text : List ℕ) → Appends old mid before
     → PassesOn mid new [] after text → PassesOn old new before after text
-passes-flushed old mid new before after text first then = record {
-  written = before ++ then.written;
-  gained = Appends-trans old mid new before then.written first then.gained;
-  rest = append_assoc before then.written after ∙ ap (λ l. before ++ l) then.rest;
-}
+passes-flushed old mid new before after text first then = grind (arith, Appends-trans, append_assoc)
 
 -- one text, and then another
 pub passes-both : (old mid new : Option (List ℕ)) (before between after first second : List ℕ) → PassesOn old
     mid before between first → PassesOn mid new between after second → PassesOn old new before after (first ++ second)
-passes-both old mid new before between after first second p q = record {
-  written = p.written ++ q.written;
-  gained = Appends-trans old mid new p.written q.written p.gained q.gained;
-  rest = append_assoc p.written q.written after ∙ ap (λ l. p.written ++ l) q.rest
-      ∙ sym (append_assoc p.written between second) ∙ ap (λ l. l ++ second) p.rest ∙ append_assoc before first second;
-}
+passes-both old mid new before between after first second p q = grind (arith, Appends-trans, append_assoc)
 
 module
     _ (old mid new : Option (List ℕ)) (before after text more : List ℕ) (p : PassesOn old mid before after text) where

@@ -1,6 +1,5 @@
 -- Where no journal got full each caller's work was done, and the report can be read in one way.
 use Rattle.plex_run.proofs.Imports.{◌≡◌, ℕ, zero, suc, ◌+◌, ◌<◌, ◌==◌, ◌^◌, Bool, true, false, List, [], ◌∷◌, length, Some, None, slice_get, get_or, refl, sym, ap, ◌∙◌, arith, find, if◌then◌else◌, enumerate_from, nat_tests, list_any_at, get_or_from_slice_get, slice_get_within, StrForm, AnyHistory, Script, AgentEnd, Transcript, length_on, IsScript, ShowsHistories, EndsRight, Reading, IsReading, IsTheReading, IsOnlyReading, report_of, is_reading, ends_full_at, is_full_at, full_structure, ShowsRun, AreMarked, full_of, journal_limit}
-use Rattle.plex_load.specs.PlexScript.declared.transcripts.AgentEnd.TheVariants as ended
 use Rattle.plex_run.proofs.RunnableLaws.{none_mapped}
 
 -- a place within the list that passes is found
@@ -17,9 +16,7 @@ found_within p first n (form ∷ forms) within passes none =
         later) ≡ None → (n : ℕ) → n < length (form ∷ forms) → p (first + n) ≡ true → ((m : ℕ) → m < length forms
         → p ((first + 1) + m) ≡ true → find (λ (place : ℕ × StrForm). p place.0) later ≡ None → ⊥) → ⊥
     by_test true here k m low found behind = cc
-    by_test false past k zero low found behind =
-        let same : first + 0 ≡ first = omega arith in
-        let wrong : false ≡ true = sym past ∙ (ap p (sym same) ∙ found) in cc
+    by_test false past k zero low found behind = grind arith
     by_test false past k (suc m) low found behind =
         let further : first + suc m ≡ (first + 1) + m = omega arith in
         behind m (omega (arith, low)) (ap p (sym further) ∙ found) k
@@ -34,7 +31,7 @@ there_on (first ∷ histories) (suc x) calls = omega (arith, there_on histories 
 -- where no journal got full, each transcript goes to the end of its caller's work
 all_done : (limit : ℕ) (script : Script) (histories : List AnyHistory) (transcripts : List Transcript) → 0 < limit
     → ShowsHistories limit script histories transcripts → full_structure script.structures transcripts ≡ None
-    → (c : ℕ) (transcript : Transcript) → slice_get transcripts c ≡ Some transcript → transcript.end ≡ ended.Done
+    → (c : ℕ) (transcript : Transcript) → slice_get transcripts c ≡ Some transcript → transcript.end ≡ AgentEnd.Done
 all_done limit script histories transcripts some shows none c transcript there =
     by_end transcript.end refl (shows.ends c transcript there)
   where
@@ -43,10 +40,10 @@ all_done limit script histories transcripts some shows none c transcript there =
     nowhere = none_mapped (λ (place : ℕ × StrForm). place.1.name) _ none
 
     by_end : (end : AgentEnd) → transcript.end ≡ end
-        → EndsRight limit script histories (record { 0 = c }) transcript.items end → transcript.end ≡ ended.Done
-    by_end ended.Done is right = is
-    by_end ended.NoMemory is right = absurd right
-    by_end (ended.JournalFull on) is right =
+        → EndsRight limit script histories (record { 0 = c }) transcript.items end → transcript.end ≡ AgentEnd.Done
+    by_end AgentEnd.Done is right = is
+    by_end AgentEnd.NoMemory is right = absurd right
+    by_end (AgentEnd.JournalFull on) is right =
         let calls : 0 < length_on histories on = omega (arith, some, right.full) in
         let within : on.0 < length script.structures = omega (arith, there_on histories on.0 calls, shows.structures)
         in

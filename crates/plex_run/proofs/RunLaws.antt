@@ -1,6 +1,5 @@
 -- What the runs on one thread and on many leave is what a run leaves.
-use Rattle.plex_run.proofs.Imports.{◌≡◌, ℕ, List, length, Option, Result, Ok, Err, IfOk, sym, ap, ◌∙◌, arith, slice_get_within, get_within, NoMemory, CfId, Telling, AnyHistory, Script, Transcript, ShowsHistories, AreTelling, AreRunLinks, serial_run, Finished, Reading, marks_facilities, Way, wires, IsRunOf, AreMarked, journal_limit, reading_of}
-use Rattle.plex_run.specs.declared.way.Way.TheVariants as ways
+use Rattle.plex_run.proofs.Imports.{◌≡◌, ℕ, List, length, Option, Result, Ok, Err, IfOk, arith, slice_get_within, get_within, NoMemory, CfId, Telling, Script, ShowsHistories, AreTelling, AreRunLinks, serial_run, Finished, marks_facilities, Way, wires, IsRunOf, AreMarked, journal_limit, reading_of}
 
 module _ {L : Type 0} (calls : L → Option ℕ) (downs : L → Option (List ℕ)) (faults : L → ℕ) (old new : List L)
     (script : Script) where
@@ -12,13 +11,6 @@ module _ {L : Type 0} (calls : L → Option ℕ) (downs : L → Option (List ℕ
       let right = shows.histories_right x form.0 entries form.1 there in
       marks_facilities form.0 entries right.legal (λ cf other. asked.others x form.0 entries cf form.1 there other)
 
-  reading_same : (one other : List AnyHistory) (shown shown' : List Transcript) → one ≡ other → shown ≡ shown'
-      → (let it : Reading = record { histories = one; transcripts = shown } in
-      let it' : Reading = record { histories = other; transcripts = shown' } in it ≡ it')
-  reading_same one other shown shown' e e' =
-      ap (λ (hs : List AnyHistory). (let it : Reading = record { histories = hs; transcripts = shown } in it)) e
-      ∙ ap (λ (ts : List Transcript). (let it : Reading = record { histories = other; transcripts = ts } in it)) e'
-
   -- on one thread
   pub serial_run_is : (result : Result Finished NoMemory) (by : Way) → ((told : ℕ → CfId → Telling) → AreTelling
       calls downs faults told (length script.structures) old → IfOk result (λ it. (it.histories ≡ (serial_run
@@ -26,26 +18,13 @@ module _ {L : Type 0} (calls : L → Option ℕ) (downs : L → Option (List ℕ
       → IfOk result (λ it. ShowsHistories journal_limit script it.histories it.transcripts)
       → IfOk result (λ it. AreRunLinks calls downs faults script.structures it.histories old new)
       → IfOk result (λ it. IsRunOf (wires calls downs faults old new) by script (reading_of it))
-  serial_run_is (Ok it) by exact shows asked = record {
-    shows = shows;
-    asked = asked;
-    marks = marked it shows asked;
-    in_turn = λ turn told telling.
-        let both = exact told telling in
-        reading_same it.histories (serial_run journal_limit told script).histories it.transcripts
-        (serial_run journal_limit told script).transcripts both.0 both.1;
-  }
+  serial_run_is (Ok it) by exact shows asked = grind (arith, marked)
   serial_run_is (Err e) by exact shows asked = tt
 
   -- on threads
-  pub threads_run_is : (result : Result Finished NoMemory) (by : Way) → by ≡ ways.OnThreads
+  pub threads_run_is : (result : Result Finished NoMemory) (by : Way) → by ≡ Way.OnThreads
       → IfOk result (λ it. ShowsHistories journal_limit script it.histories it.transcripts)
       → IfOk result (λ it. AreRunLinks calls downs faults script.structures it.histories old new)
       → IfOk result (λ it. IsRunOf (wires calls downs faults old new) by script (reading_of it))
-  threads_run_is (Ok it) by on_threads shows asked = record {
-    shows = shows;
-    asked = asked;
-    marks = marked it shows asked;
-    in_turn = λ turn. absurd (let wrong : ways.InTurn ≡ ways.OnThreads = sym turn ∙ on_threads in cc);
-  }
+  threads_run_is (Ok it) by on_threads shows asked = grind (arith, marked)
   threads_run_is (Err e) by on_threads shows asked = tt

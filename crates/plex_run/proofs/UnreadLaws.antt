@@ -1,13 +1,12 @@
 -- What the status tells where no text came: 7 of a text that is too long.
 use Rattle.plex_run.proofs.Imports.{◌≡◌, ℕ, ◌+◌, List, length, Option, arith, ◌<◌, IfSome, replicate, length-replicate, HasCause, ReadEnd, read_status}
-use Rattle.plex_agent.specs.CfIo.declared.read_end.ReadEnd.TheVariants as ends
 
 -- more bytes were left than the limit allows
 pub unread_long : (limit : ℕ) (left : Option (List ℕ)) (before after : ℕ) (end : ReadEnd) (status : ℕ) → HasCause
     limit left before after end → status ≡ read_status end → status ≡ 7 → IfSome left (λ bytes. limit < length bytes)
-unread_long limit left before after ends.ReadFault status cause is seven = absurd (omega (arith, is, seven))
-unread_long limit left before after (ends.TooLong l) status cause is seven = cause.1
-unread_long limit left before after ends.NoMemory status cause is seven = absurd (omega (arith, is, seven))
+unread_long limit left before after ReadEnd.ReadFault status cause is seven = absurd (omega (arith, is, seven))
+unread_long limit left before after (ReadEnd.TooLong l) status cause is seven = cause.1
+unread_long limit left before after ReadEnd.NoMemory status cause is seven = absurd (omega (arith, is, seven))
 
 -- some text is longer than whatever limit
 pub longer : (limit : ℕ) → (text : List ℕ) × (limit < length text)

@@ -1,5 +1,5 @@
 -- What a sink gains by several writes.
-use Rattle.plex_run.proofs.Imports.{◌≡◌, ℕ, ◌-◌, ◌^◌, ◌<◌, ◌≤◌, ◌⊎◌, inl, inr, List, ◌++◌, length, take, drop, Option, sym, ap, ◌∙◌, subst, append_assoc, arith, Result, Ok, Err, OnOk, OnErr, take-append_seam, take-append-drop, Appends-trans, cases_lt, Appends, Rises, Output, GainsPrefix, Gains, BreaksOff}
+use Rattle.plex_run.proofs.Imports.{◌≡◌, ℕ, ◌≤◌, inl, inr, List, ◌++◌, length, take, drop, Option, sym, ap, ◌∙◌, subst, append_assoc, arith, Result, Ok, Err, OnOk, OnErr, take-append_seam, take-append-drop, Appends-trans, cases_lt, Appends, Rises, Output, GainsPrefix, Gains, BreaksOff}
 
 -- a part that a text begins with is a prefix of it
 pub GainsPrefix-part : (old new : Option (List ℕ)) (part rest text : List ℕ) → text ≡ part ++ rest
@@ -25,32 +25,18 @@ GainsPrefix-before old new first second part = GainsPrefix-part old new (take pa
 
 -- a count rises over all that it goes through where it rises over the end
 pub Rises-behind : (old mid new : ℕ) → old ≤ mid → mid ≤ new → Rises mid new → Rises old new
-Rises-behind old mid new low up rises = λ few. by_end few (cases_lt mid (2 ^ 64 - 1))
-  where
-    by_end : old < 2 ^ 64 - 1 → (mid < 2 ^ 64 - 1) ⊎ (2 ^ 64 - 1 ≤ mid) → old < new
-    by_end few (inl below) = omega (arith, low, rises below)
-    by_end few (inr above) = omega (arith, few, above, up)
+Rises-behind old mid new low up rises = grind (arith, cases_lt)
 
 -- a front of a text, and then a line
 pub broken_off : (out : Output) (mid : Option (List ℕ)) (faults : ℕ) (text line : List ℕ)
     → out.faults ≤ faults → faults ≤ out.faults_now → GainsPrefix out.held mid text → Gains (record {
-      held =
-          mid;
+      held = mid;
       held_now = out.held_now;
       faults = faults;
       faults_now = out.faults_now;
     }) line → BreaksOff out text line
-broken_off out mid faults text line low up front (inl whole) = record {
-  count = front.count;
-  gained = inl (Appends-trans out.held mid out.held_now (take front.count text) line front.gained whole);
-}
-broken_off out mid faults text line low up front (inr (failed, part)) = record {
-  count = front.count;
-  gained = inr (
-    Rises-behind out.faults faults out.faults_now low up failed,
-    GainsPrefix-after out.held mid out.held_now (take front.count text) line front.gained part,
-  );
-}
+broken_off out mid faults text line low up front (inl whole) = grind (arith, Appends-trans)
+broken_off out mid faults text line low up front (inr (failed, part)) = grind (arith, Rises-behind, GainsPrefix-after)
 
 -- what holds whatever the answer is
 pub OnErr-always : {T E : Type 0} (result : Result T E) (P : Type 0) → P → OnErr result P

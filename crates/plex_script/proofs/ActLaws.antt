@@ -1,5 +1,5 @@
 -- What is read of a whole line of a caller is spelled so, and what is spelled so is read.
-use Rattle.plex_script.proofs.Imports.{subst, not_from_false, not-true, ◌≡◌, ℕ, ◌==◌, ◌&&◌, ◌<◌, Bool, true, false, cond, List, [], ◌∷◌, ◌++◌, Option, Some, None, option_map, unwrap_or, codes, refl, sym, ap, ◌∙◌, arith, lit<, nat_le, ◌≤◌, nat_tests, ConnId, Kind, Rigour, Form, Limits, Names, digits_value, and_parts, within_limits, is_names, on_first, number_of, same_word, begins_with, words_behind, Declared, Spells, Literal, Number, is_operator, number_at, tokens_at, pick, not_some, mapped, bound, word-same, same_word-of, Words, FindsAll, Spells-append, Spells-split, led, led-by, number_at-sound, number_at-complete, is_tail, is_own, any_ask_at, retry_at, call_at, own_at, done_at, act_at, whole_read, value-sound, value-complete, Amount, AnOption, AnyAsk, Act, Call, Test, TestWord, Post, Take, Events, ask_tokens, act_tokens, retry_tokens, MayAsk, MayDo, is_ask_of, has_vectors, SaysDone}
+use Rattle.plex_script.proofs.Imports.{subst, not_from_false, not-true, ◌≡◌, ℕ, ◌==◌, ◌<◌, Bool, true, false, cond, List, [], ◌∷◌, ◌++◌, Option, Some, None, option_map, unwrap_or, codes, refl, ap, ◌∙◌, arith, lit<, nat_tests, ConnId, Kind, Rigour, and_parts, on_first, begins_with, words_behind, Declared, Spells, Literal, Number, is_operator, number_at, tokens_at, pick, not_some, mapped, bound, same_word-of, Words, FindsAll, Spells-append, Spells-split, led, number_at-sound, number_at-complete, is_tail, is_own, any_ask_at, retry_at, Finds, call_at, own_at, done_at, act_at, whole_read, value-sound, value-complete, Amount, AnOption, AnyAsk, Act, Call, Test, TestWord, Post, Take, Events, ask_tokens, act_tokens, retry_tokens, MayAsk, MayDo, is_ask_of, SaysDone}
 use Rattle.plex_script.proofs.AskLaws.{any_ask-sound, any_ask-complete, ask-not_own}
 
 -- ---- once more
@@ -33,8 +33,7 @@ abbrev told_retry : ℕ → Option ℕ
 told_retry n = cond (n == 0) None (Some n)
 
 told-unwrap : (n : ℕ) (b : Bool) → (n == 0) ≡ b → unwrap_or (cond b None (Some n)) 0 ≡ n
-told-unwrap n true e = let z : n ≡ 0 = grind (arith, nat_tests) in sym z
-told-unwrap n false e = refl
+told-unwrap n b e = grind (arith, nat_tests)
 
 retry-complete : (rigour : Rigour) (declared : Declared) (ws : Words) (retry : ℕ) → Spells rigour declared
     (retry_tokens retry) ws [] → (is_tail ws ≡ true) × FindsAll rigour (retry_at rigour ws) (told_retry retry) []
@@ -64,8 +63,7 @@ pub record DoneTold (rigour : Rigour) (declared : Declared) (by : ConnId) (kind 
 
 pub ended-is : {V : Type 0} (value : V) (ws : Words) (v : V)
     → whole_read (value, ws) ≡ Some v → (value ≡ v) × (ws ≡ [])
-ended-is value [] v h = (cc, refl)
-ended-is value (w ∷ ws) v h = absurd (cc)
+ended-is value ws v h = grind arith
 
 module _ (rigour : Rigour) (declared : Declared) (by : ConnId) (kind : Kind) where
   call-sound : (ws rest : Words) (told : Act × ℕ)
@@ -87,13 +85,10 @@ module _ (rigour : Rigour) (declared : Declared) (by : ConnId) (kind : Kind) whe
       → own_at rigour kind ws ≡ Some (told, rest) → DoneTold rigour declared by kind ws rest told
   own-sound ws rest told other h =
       let may = not_from_false (is_operator by) other in
-      pick h (λ b k. pick k (λ v m. numbered (codes "TEST") Test (λ n s. record {
-        given = None;
-        allowed = (v, may, refl, refl);
-        spelled = s;
-      }) b m) (λ _ n. not_some _ n)) (λ _ a. pick a (λ b k. pick k (λ v m. numbered (codes "TESTWORD")
-      TestWord (λ n s. record { given = None; allowed = (v, may, refl, refl); spelled = s }) b m) (λ _ n. not_some
-      _ n)) (grind (arith, pick, alone, not_some, Words)))
+      pick h (λ b k. pick k (λ v m. numbered (codes "TEST") Test (grind arith) b m) (λ _ n. not_some _ n))
+      (λ _ a. pick a (λ b k. pick k (λ v m. numbered (codes "TESTWORD") TestWord
+      (λ n s. record { given = None; allowed = (v, may, refl, refl); spelled = s }) b m) (λ _ n. not_some _ n))
+      (grind (arith, pick, alone, not_some, Words)))
     where
       numbered : (word : List ℕ) (made : ℕ → Act) → ((n : ℕ) → Spells rigour declared (Literal word ∷ Number
           0 4294967295 n ∷ []) ws rest → DoneTold rigour declared by kind ws rest (made n, 0)) → begins_with word
@@ -133,14 +128,9 @@ module _ (rigour : Rigour) (declared : Declared) (by : ConnId) (kind : Kind) whe
       let t = done-sound ws [] told read in
       record { given = t.given; allowed = t.allowed; spelled = t.spelled }
 
-pub record ActFinds (rigour : Rigour) (reading : Option (Act × ℕ)) (told : Act × ℕ) : Type 0 where
-  pub found : Act × ℕ
-  pub read : reading ≡ Some found
-  pub same : is_names rigour ≡ true → found ≡ told
-
 call-complete : (rigour : Rigour) (declared : Declared) (by : ConnId) (kind : Kind) (ws : Words) (given : Option ℕ)
     (ask : AnyAsk) (retry : ℕ) → is_ask_of kind ask ≡ true → MayAsk by given ask → Spells rigour declared (ask_tokens
-    given ask ++ retry_tokens retry) ws [] → ActFinds rigour (act_at rigour declared by kind ws) (Call ask, retry)
+    given ask ++ retry_tokens retry) ws [] → Finds rigour (act_at rigour declared by kind ws) (Call ask, retry)
 call-complete rigour declared by kind ws given ask retry of may h =
     let s = Spells-split rigour declared (ask_tokens given ask) (retry_tokens retry) ws [] h in
     let r = retry-complete rigour declared s.mid retry s.behind_ in
@@ -159,7 +149,7 @@ module _ (rigour : Rigour) (declared : Declared) (by : ConnId) (kind : Kind) (wo
   numbered-complete : (ws : Words) (index retry : ℕ) (made : ℕ → Act) → retry ≡ 0 → ((us : Words) → own_at rigour kind
       (word ∷ us) ≡ option_map (λ (read : ℕ × Words). (let p : (Act × ℕ) × Words = ((made read.0, 0), read.1) in p))
       (number_at rigour us)) → Spells rigour declared (Literal word ∷ Number 0 4294967295 index ∷ retry_tokens retry)
-      ws [] → ActFinds rigour (act_at rigour declared by kind ws) (made index, retry)
+      ws [] → Finds rigour (act_at rigour declared by kind ws) (made index, retry)
   numbered-complete [] index retry made none does h = absurd h
   numbered-complete (w ∷ ws) index retry made none does h =
       let spelled = subst (λ r. Spells rigour declared (Number 0 4294967295 index ∷ retry_tokens r) ws []) none h.1 in
@@ -174,7 +164,7 @@ module _ (rigour : Rigour) (declared : Declared) (by : ConnId) (kind : Kind) (wo
 
   alone-complete : (ws : Words) (act : Act) (retry : ℕ) → retry ≡ 0 → ((us : Words) → own_at
       rigour kind (word ∷ us) ≡ (let p : (Act × ℕ) × Words = ((act, 0), us) in Some p)) → Spells rigour declared
-      (Literal word ∷ retry_tokens retry) ws [] → ActFinds rigour (act_at rigour declared by kind ws) (act, retry)
+      (Literal word ∷ retry_tokens retry) ws [] → Finds rigour (act_at rigour declared by kind ws) (act, retry)
   alone-complete [] act retry none does h = absurd h
   alone-complete (w ∷ ws) act retry none does h =
       let spelled = rw none at h.1 in
@@ -183,7 +173,7 @@ module _ (rigour : Rigour) (declared : Declared) (by : ConnId) (kind : Kind) (wo
 
 pub act-complete : (rigour : Rigour) (declared : Declared) (by : ConnId) (kind : Kind) (ws : Words) (act : Act)
     (retry : ℕ)
-    → SaysDone rigour declared by kind ws act retry → ActFinds rigour (act_at rigour declared by kind ws) (act, retry)
+    → SaysDone rigour declared by kind ws act retry → Finds rigour (act_at rigour declared by kind ws) (act, retry)
 act-complete rigour declared by kind ws (Call ask) retry h = grind (arith, call-complete)
 act-complete rigour declared by kind ws (Test index) retry h =
     numbered-complete rigour declared by kind (codes "TEST") (not-true (is_operator by) h.allowed.1) (λ us. refl) ws

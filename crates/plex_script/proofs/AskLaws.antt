@@ -1,7 +1,5 @@
 -- What is read of what a caller does is spelled so, and what is spelled so is read.
-use Rattle.plex_script.proofs.Imports.{not_from_false, not-true, arith, ◌≡◌, ℕ, Bool, true, false, not, Option, Some, None, option_map, refl, ap, ◌∙◌, ConnId, Kind, ShellCmd, CacheCmd, ListCmd, LockCmd, Ask, Shell, Content, Rigour, Declared, Spells, shell_tokens, may_give, is_operator, shell_at, cache_at, list_at, lock_at, pick, not_some, mapped, Words, FindsAll, is_tail, shell-sound, shell-complete, cache-sound, cache-complete, list-sound, list-complete, lock-sound, lock-complete, is_own, ask_at, cache_ask_at, list_ask_at, lock_ask_at, any_ask_at, AnyAsk, ask_tokens, MayAsk, is_ask_of}
-use Rattle.cf_types.specs.declared.forms.Kind.TheVariants as kind
-use Rattle.plex_script.specs.declared.scripts.AnyAsk.TheVariants as any
+use Rattle.plex_script.proofs.Imports.{not_from_false, not-true, arith, ◌≡◌, ℕ, true, false, not, Option, Some, None, option_map, refl, ap, ConnId, Kind, ShellCmd, CacheCmd, ListCmd, LockCmd, Ask, Shell, Content, Rigour, Declared, Spells, shell_tokens, may_give, is_operator, shell_at, cache_at, list_at, pick, not_some, mapped, Words, FindsAll, is_tail, shell-sound, shell-complete, cache-sound, cache-complete, list-sound, list-complete, lock-sound, lock-complete, is_own, ask_at, any_ask_at, AnyAsk, ask_tokens, MayAsk, is_ask_of}
 use Rattle.plex_script.proofs.FirstWords.{gives, shell-not_own, cache-content, list-content, lock-content}
 
 pub record AskTold (rigour : Rigour) (declared : Declared) (by : ConnId) (ws rest : Words) (ask : AnyAsk) : Type 0
@@ -52,47 +50,45 @@ AnyTold rigour declared by kind ws rest ask = (is_ask_of kind ask ≡ true) × A
 module _ (rigour : Rigour) (declared : Declared) where
   pub any_ask-sound : (by : ConnId) (kind : Kind) (ws rest : Words) (ask : AnyAsk)
       → any_ask_at rigour declared by kind ws ≡ Some (ask, rest) → AnyTold rigour declared by kind ws rest ask
-  any_ask-sound by kind.Cache ws rest ask h =
-      let P = AnyTold rigour declared by kind.Cache ws rest in
-      let wrap : Ask CacheCmd → AnyAsk = λ a. any.Cache a in
+  any_ask-sound by Kind.Cache ws rest ask h =
+      let P = AnyTold rigour declared by Kind.Cache ws rest in
+      let wrap : Ask CacheCmd → AnyAsk = λ a. AnyAsk.Cache a in
       wrapped-sound _ _ _ _ P (λ a k. ask-sound by rest (shell_at rigour declared ws) (cache_at rigour declared ws) a
       (λ x. P (wrap x)) (grind (arith, shell-sound)) (λ cmd m other. let t = cache-sound rigour declared ws rest cmd m
       in (grind (arith, not_from_false))) k) h
-  any_ask-sound by (kind.List headers locks refs) ws rest ask h =
-      let P = AnyTold rigour declared by (kind.List headers locks refs) ws rest in
-      let wrap : Ask ListCmd → AnyAsk = λ a. any.List a in
+  any_ask-sound by (Kind.List headers locks refs) ws rest ask h =
+      let P = AnyTold rigour declared by (Kind.List headers locks refs) ws rest in
+      let wrap : Ask ListCmd → AnyAsk = λ a. AnyAsk.List a in
       wrapped-sound _ _ _ _ P (λ a k. ask-sound by rest (shell_at rigour declared ws) (list_at rigour declared ws) a
       (λ x. P (wrap x)) (grind (arith, shell-sound)) (λ cmd m other. let t = list-sound rigour declared ws rest cmd m
       in (grind (arith, not_from_false))) k) h
-  any_ask-sound by kind.Lock ws rest ask h =
-      let P : AnyAsk → Type 0 = AnyTold rigour declared by kind.Lock ws rest in
-      let wrap : Ask LockCmd → AnyAsk = λ a. any.Lock a in
+  any_ask-sound by Kind.Lock ws rest ask h =
+      let P : AnyAsk → Type 0 = AnyTold rigour declared by Kind.Lock ws rest in
+      let wrap : Ask LockCmd → AnyAsk = λ a. AnyAsk.Lock a in
       wrapped-sound _ _ _ _ P (grind (arith, ask-sound, shell-sound, not_from_false, lock-sound)) h
 
   pub any_ask-complete : (by : ConnId) (kind : Kind) (ws rest : Words) (given : Option ℕ) (ask : AnyAsk)
       → is_tail rest ≡ true → is_ask_of kind ask ≡ true → MayAsk by given ask → Spells rigour
       declared (ask_tokens given ask) ws rest → FindsAll rigour (any_ask_at rigour declared by kind ws) ask rest
-  any_ask-complete by kind.Cache ws rest given (any.Cache (Shell cmd)) tail of may h = wrapped-complete
-      rigour any.Cache (cache_ask_at rigour declared by ws) (Shell cmd) rest (grind (arith, common-complete))
-  any_ask-complete by kind.Cache ws rest given (any.Cache (Content cmd)) tail of may h =
+  any_ask-complete by Kind.Cache ws rest given (AnyAsk.Cache (Shell cmd)) tail of may h =
+      wrapped-complete _ _ _ _ _ (grind (arith, common-complete))
+  any_ask-complete by Kind.Cache ws rest given (AnyAsk.Cache (Content cmd)) tail of may h =
       wrapped-complete _ _ _ _ _ (grind (arith, content-complete, cache-content, cache-complete))
-  any_ask-complete by (kind.List headers locks refs) ws rest given (any.List (Shell cmd)) tail of may h
-      = wrapped-complete rigour any.List (list_ask_at rigour declared by ws) (Shell cmd) rest
-      (common-complete rigour declared by ws rest (list_at rigour declared ws) cmd tail may.0 h)
-  any_ask-complete by (kind.List headers locks refs) ws rest given (any.List (Content cmd)) tail of may
-      h = wrapped-complete rigour any.List (list_ask_at rigour declared by ws) (Content cmd)
-      rest (grind (arith, content-complete, list-content, list-complete))
-  any_ask-complete by kind.Lock ws rest given (any.Lock (Shell cmd)) tail of may h = wrapped-complete
-      rigour any.Lock (lock_ask_at rigour declared by ws) (Shell cmd) rest (grind (arith, common-complete))
-  any_ask-complete by kind.Lock ws rest given (any.Lock (Content cmd)) tail of may h =
+  any_ask-complete by (Kind.List headers locks refs) ws rest given (AnyAsk.List (Shell cmd)) tail of may h =
+      wrapped-complete _ _ _ _ _ (grind (arith, common-complete))
+  any_ask-complete by (Kind.List headers locks refs) ws rest given (AnyAsk.List (Content cmd)) tail of may h =
+      wrapped-complete _ _ _ _ _ (grind (arith, content-complete, list-content, list-complete))
+  any_ask-complete by Kind.Lock ws rest given (AnyAsk.Lock (Shell cmd)) tail of may h =
+      wrapped-complete _ _ _ _ _ (grind (arith, common-complete))
+  any_ask-complete by Kind.Lock ws rest given (AnyAsk.Lock (Content cmd)) tail of may h =
       wrapped-complete _ _ _ _ _ (grind (arith, content-complete, lock-content, lock-complete))
   any_ask-complete by kind ws rest given ask tail of may h = absurd (cc)
 
   pub ask-not_own : (ws rest : Words) (given : Option ℕ) (ask : AnyAsk)
       → Spells rigour declared (ask_tokens given ask) ws rest → is_own ws ≡ false
-  ask-not_own ws rest given (any.Cache (Shell cmd)) h = shell-not_own rigour declared ws rest cmd h
-  ask-not_own ws rest given (any.Cache (Content cmd)) h = (cache-content rigour declared ws rest given cmd h).1
-  ask-not_own ws rest given (any.List (Shell cmd)) h = shell-not_own rigour declared ws rest cmd h
-  ask-not_own ws rest given (any.List (Content cmd)) h = (list-content rigour declared ws rest cmd h).1
-  ask-not_own ws rest given (any.Lock (Shell cmd)) h = shell-not_own rigour declared ws rest cmd h
-  ask-not_own ws rest given (any.Lock (Content cmd)) h = (lock-content rigour declared ws rest cmd h).1
+  ask-not_own ws rest given (AnyAsk.Cache (Shell cmd)) h = shell-not_own rigour declared ws rest cmd h
+  ask-not_own ws rest given (AnyAsk.Cache (Content cmd)) h = (cache-content rigour declared ws rest given cmd h).1
+  ask-not_own ws rest given (AnyAsk.List (Shell cmd)) h = shell-not_own rigour declared ws rest cmd h
+  ask-not_own ws rest given (AnyAsk.List (Content cmd)) h = (list-content rigour declared ws rest cmd h).1
+  ask-not_own ws rest given (AnyAsk.Lock (Shell cmd)) h = shell-not_own rigour declared ws rest cmd h
+  ask-not_own ws rest given (AnyAsk.Lock (Content cmd)) h = (lock-content rigour declared ws rest cmd h).1

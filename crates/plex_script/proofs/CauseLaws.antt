@@ -1,6 +1,5 @@
 -- What is wrong with a line, from what was read of it.
-use Rattle.plex_script.proofs.Imports.{or_parts, not_from_false, ◌≡◌, ℕ, ◌<◌, ◌||◌, Bool, true, false, not, List, [], ◌∷◌, ◌++◌, Option, Some, None, refl, sym, ap, ◌∙◌, arith, inl, inr, Ok, Err, IsTrue, codes, length, is_some, CONNECTORS, ConnId, Kind, Rigour, Form, Limits, Names, Declared, structure_of, Words, Spells-limits, Spells-form, Declaration, Why, Late, Syntax, Limit, Unknown, Twice, Space, Act, Script, SaysDone, Declares, act_at, declaration_at, declared_in, kind_of, has_lines, is_full, is_twice, is_too_much, PolicyCause, DoneCause, CallerCause, IsFirst, rank, with_declaration, AddsDeclaration, AddsLine, AddsOfCaller, LineFault, Wrong, NoMemory, StrNo, nat_tests, unread_why, Judged, IsFaultBy, HasRoom}
-use Rattle.plex_script.specs.declared.declarations.Declaration.TheVariants as declaration
+use Rattle.plex_script.proofs.Imports.{or_parts, not_from_false, ◌≡◌, ℕ, ◌<◌, ◌||◌, Bool, true, false, not, List, [], ◌∷◌, ◌++◌, Option, Some, None, refl, sym, ap, ◌∙◌, arith, inl, inr, Ok, Err, IsTrue, is_some, ConnId, Kind, Rigour, Form, Limits, Names, Declared, structure_of, Words, Spells-limits, Spells-form, Declaration, Why, Late, Syntax, Limit, Unknown, Twice, Space, Act, Script, SaysDone, Declares, act_at, declaration_at, declared_in, kind_of, has_lines, is_full, is_twice, is_too_much, PolicyCause, DoneCause, CallerCause, IsFirst, rank, with_declaration, AddsDeclaration, AddsLine, AddsOfCaller, LineFault, Wrong, NoMemory, StrNo, nat_tests, unread_why, Finds, Judged, IsFaultBy, HasRoom}
 use Rattle.plex_script.proofs.ActLaws.{act-sound, act-complete}
 use Rattle.plex_script.proofs.PolicyLaws.{declaration-sound, declaration-complete}
 
@@ -99,25 +98,50 @@ module _ (script : Script) (long : Bool) (first : List ℕ) (ws : Words) where
   policy-read d early fits h Unknown less k = k d h
   policy-read d early fits h other less k = omega (arith, less)
 
--- words declare one thing
-pub Declares-one : (declared : Declared) (ws : Words) (c d : Declaration) → Declares Names declared ws c
-    → Declares Names declared ws d → c ≡ d
-Declares-one declared ws c d h k =
-    let f = declaration-complete Names declared ws c h in
-    let g = declaration-complete Names declared ws d k in
+-- what is found of words is one thing
+pub finds-one : {V : Type 0} (reading : Option V) (a b : V) → Finds Names reading a → Finds Names reading b → a ≡ b
+finds-one reading a b f g =
     let same : Some f.found ≡ Some g.found = sym f.read ∙ g.read in
     let one : f.found ≡ g.found = cc in
     sym (f.same refl) ∙ one ∙ g.same refl
 
-module _ (script : Script) (long : Bool) (first : List ℕ) (ws : Words) where
-  pub policy-twice : (d : Declaration) → has_lines script ≡ false → (long || is_full script first) ≡ false → Declares
-      Names (declared_in script) ws d → is_twice script d ≡ true → IsFirst (PolicyCause script long first ws) Twice
-  policy-twice d early fits h twice = grind (arith, policy-read)
+-- words declare one thing
+pub Declares-one : (declared : Declared) (ws : Words) (c d : Declaration) → Declares Names declared ws c
+    → Declares Names declared ws d → c ≡ d
+Declares-one declared ws c d h k =
+    finds-one _ _ _ (declaration-complete Names declared ws c h) (declaration-complete Names declared ws d k)
 
-  pub policy-space : (d : Declaration) → has_lines script ≡ false
-      → (long || is_full script first) ≡ false → Declares Names (declared_in script) ws d
-      → is_twice script d ≡ false → is_too_much script d ≡ true → IsFirst (PolicyCause script long first ws) Space
-  policy-space d early fits h once much = grind (arith, policy-read, Declares-one)
+-- all that makes what was read fit
+pub record Fits (script : Script) (long : Bool) (first : List ℕ) (ws : Words) (d : Declaration) : Type 0 where
+  pub short : not long ≡ true
+  pub full : is_full script first ≡ false
+  pub declares : Declares Names (declared_in script) ws d
+
+pub fits-judged : (script : Script) (long : Bool) (first : List ℕ) (ws : Words) (excess : Bool) (d : Declaration)
+    → excess ≡ (long || is_full script first) → Judged {V = Declaration}
+    (Ok d) excess (declaration_at Form (declared_in script) ws) (declaration_at Limits (declared_in script) ws)
+    (declaration_at Names (declared_in script) ws) → Fits script long first ws d
+fits-judged script long first ws excess d is h =
+    let parts = or_parts long (is_full script first) (sym is ∙ h.0) in
+    record {
+      short = not_from_false long parts.0;
+      full = parts.1;
+      declares = declaration-sound Names (declared_in script) ws d h.1;
+    }
+
+pub no_excess : (script : Script) (long : Bool) (first : List ℕ) (ws : Words) (d : Declaration)
+    → Fits script long first ws d → (long || is_full script first) ≡ false
+no_excess script true first ws d h = absurd (let wrong = h.short in cc)
+no_excess script false first ws d h = h.full
+
+module _ (script : Script) (long : Bool) (first : List ℕ) (ws : Words) (d : Declaration)
+    (early : has_lines script ≡ false) (fits : Fits script long first ws d) where
+  pub policy-twice : is_twice script d ≡ true → IsFirst (PolicyCause script long first ws) Twice
+  policy-twice twice = grind (arith, policy-read, no_excess)
+
+  pub policy-space : is_twice script d ≡ false → is_too_much script d ≡ true
+      → IsFirst (PolicyCause script long first ws) Space
+  policy-space once much = grind (arith, policy-read, no_excess, Declares-one)
 
 -- ---- lines of callers
 
@@ -155,37 +179,14 @@ caller-fault script long by second ws words on NoMemory is e h = tt
 
 room-of : (script : Script) (first : List ℕ) (rest : Words) (d : Declaration) → Declares Names (declared_in script)
     (first ∷ rest) d → is_full script first ≡ false → HasRoom script d
-room-of script first rest (declaration.Facility pref) h full = tt
-room-of script first rest (declaration.Structure form) h full = grind (arith, nat_tests)
-room-of script first rest (declaration.Pref on pref) h full = tt
-room-of script first rest (declaration.Connector name) h full = grind (arith, nat_tests)
-
--- all that makes what was read fit
-pub record Fits (script : Script) (long : Bool) (first : List ℕ) (ws : Words) (d : Declaration) : Type 0 where
-  pub short : not long ≡ true
-  pub full : is_full script first ≡ false
-  pub declares : Declares Names (declared_in script) ws d
-
-pub fits-judged : (script : Script) (long : Bool) (first : List ℕ) (ws : Words) (excess : Bool) (d : Declaration)
-    → excess ≡ (long || is_full script first) → Judged {V = Declaration}
-    (Ok d) excess (declaration_at Form (declared_in script) ws) (declaration_at Limits (declared_in script) ws)
-    (declaration_at Names (declared_in script) ws) → Fits script long first ws d
-fits-judged script long first ws excess d is h =
-    let parts = or_parts long (is_full script first) (sym is ∙ h.0) in
-    record {
-      short = not_from_false long parts.0;
-      full = parts.1;
-      declares = declaration-sound Names (declared_in script) ws d h.1;
-    }
+room-of script first rest (Declaration.Facility pref) h full = tt
+room-of script first rest (Declaration.Structure form) h full = grind (arith, nat_tests)
+room-of script first rest (Declaration.Pref on pref) h full = tt
+room-of script first rest (Declaration.Connector name) h full = grind (arith, nat_tests)
 
 pub room-fits : (script : Script) (long : Bool) (first : List ℕ) (ws rest : Words) (d : Declaration)
     → ws ≡ first ∷ rest → Fits script long first ws d → HasRoom script d
 room-fits script long first ws rest d is h = room-of script first rest d (rw is at h.declares) h.full
-
-pub no_excess : (script : Script) (long : Bool) (first : List ℕ) (ws : Words) (d : Declaration)
-    → Fits script long first ws d → (long || is_full script first) ≡ false
-no_excess script true first ws d h = absurd (let wrong = h.short in cc)
-no_excess script false first ws d h = h.full
 
 pub adds-fits : (script after : Script) (long : Bool) (first : List ℕ) (ws : Words) (d : Declaration)
     → has_lines script ≡ false → Fits script long first ws d → is_twice script d ≡ false → is_too_much
@@ -202,5 +203,4 @@ pub adds-done : (script after : Script) (at : ℕ) (long : Bool) (by : ConnId) (
 adds-done script after at long by second ws words on act retry is e h same =
     let says = act-sound Names (declared_in script) by (kind_of script.structures on) ws (act, retry) h.1 in
     let adds : AddsLine script at by on ws after = record { act = act; retry = retry; says = says; same = same } in
-    let of : AddsOfCaller script at by (second ∷ ws) after = rw e adds in
-    (not_from_false long h.0, rw is of)
+    grind (arith, not_from_false)

@@ -1,5 +1,5 @@
 -- Lines that are read one after another.
-use Rattle.plex_script.proofs.Imports.{◌≡◌, ℕ, ◌+◌, true, List, [], ◌∷◌, ◌++◌, length, map, sym, ap, ◌∙◌, arith, append_assoc, length-append, subst, list_all, flat_map, append-nil, clear, AreClear, clear-append, Script, line_number, Adds, AddsAll}
+use Rattle.plex_script.proofs.Imports.{◌≡◌, ℕ, ◌+◌, true, List, [], ◌∷◌, ◌++◌, length, map, ◌∙◌, arith, append_assoc, length-append, subst, list_all, flat_map, append-nil, clear, AreClear, clear-append, Script, line_number, Adds, AddsAll}
 
 -- behind `count` lines, these lines have no line feeds and no returns, and lead from one script to another
 pub record Leads (script : Script) (count : ℕ) (lines : List (List ℕ)) (after : Script) : Type 0 where
@@ -39,9 +39,9 @@ pub leads-each : {X : Type 0} (state : List X → Script) (line_for : X → List
     → LeadsOne (state front) count (line_for x) (state (front ++ x ∷ []))) → (front back : List X) (count : ℕ)
     → front ++ back ≡ all → count ≡ base + length front → Leads (state front) count (map line_for back) (state all)
 leads-each state line_for all base step front [] count e at = grind (arith, append-nil)
-leads-each state line_for all base step front (x ∷ back) count e at =
-    leads-one (state front) (state (front ++ x ∷ [])) (state all) count (line_for x) (map line_for back)
-    (step front x back count e at) (grind (
+leads-each state line_for all base step front (x ∷ back) count e at = leads-one (state front)
+    (state (front ++ x ∷ [])) (state all) count (line_for x) (map line_for back) (step front x back count e at) (
+    grind (
       arith,
       regroup,
       longer,
@@ -55,11 +55,11 @@ pub leads-blocks : {X : Type 0} (state : List X → Script) (lines_for : X → L
     → Leads (state front) count (lines_for x) (state (front ++ x ∷ []))) → (front back : List X) (count : ℕ)
     → front ++ back ≡ all → Leads (state front) count (flat_map lines_for back) (state all)
 leads-blocks state lines_for all step front [] count e = grind (arith, append-nil)
-leads-blocks state lines_for all step front (x ∷ back) count e =
-    leads-append (lines_for x) (flat_map lines_for back) (state front) (state (front ++ x ∷ []))
-    (state all) count (step front x back count e) (grind (
+leads-blocks state lines_for all step front (x ∷ back) count e = leads-append (lines_for x) (flat_map lines_for back)
+    (state front) (state (front ++ x ∷ [])) (state all) count (step front x back count e) (
+    grind (
       arith,
       regroup,
-      leads-blocks state
-          lines_for all step (front ++ x ∷ []) back (count + length (lines_for x)) (regroup front x back all e),
+      leads-blocks state lines_for all
+          step (front ++ x ∷ []) back (count + length (lines_for x)) (regroup front x back all e),
     ))

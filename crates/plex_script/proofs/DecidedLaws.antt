@@ -1,8 +1,7 @@
 -- Each line leads on, or has a cause.
-use Rattle.plex_script.proofs.Imports.{or_parts, not_from_false, ◌≡◌, ℕ, ◌<◌, ◌+◌, ◌||◌, Bool, true, false, not, List, [], ◌∷◌, ◌++◌, length, nat_lt, Option, Some, None, IsTrue, refl, ap, arith, inl, inr, ◌⊎◌, MatchBool, MatchOption, is_some, ConnId, StrNo, Form, Limits, Names, words_of, lines_of, is_name, structure_of, Words, Declaration, Why, Late, Syntax, Limit, Unknown, Twice, Space, Act, Script, act_at, declaration_at, declared_in, kind_of, has_lines, is_full, is_twice, is_too_much, is_long, is_long_name, is_comment, is_policy_word, caller_of, EmptyCause, PolicyCause, StrangeCause, NoStructureCause, DoneCause, CallerCause, LineCause, IsFirst, strange_why, with_declaration, AddsDeclaration, AddsLine, AddsOfCaller, AddsWords, Adds, AddsAll, line_number, empty_script, IsScript, IsFault, unread_why}
-use Rattle.plex_script.proofs.ActLaws.{act-sound}
-use Rattle.plex_script.proofs.PolicyLaws.{declaration-sound}
-use Rattle.plex_script.proofs.CauseLaws.{limit-alone, syntax-alone, unknown-alone, policy-late, policy-unread, policy-twice, policy-space, adds-fits, done-unread}
+use Rattle.plex_script.proofs.Imports.{not_from_false, ◌≡◌, ℕ, ◌+◌, ◌||◌, Bool, true, false, not, List, [], ◌∷◌, ◌++◌, length, nat_lt, Option, Some, None, IsTrue, refl, sym, ap, arith, inl, inr, ◌⊎◌, MatchBool, MatchOption, ConnId, StrNo, Names, words_of, lines_of, is_name, structure_of, Words, Declaration, Why, Late, Syntax, Limit, Unknown, Twice, Space, Act, Script, act_at, declaration_at, declared_in, kind_of, has_lines, is_full, is_twice, is_too_much, is_long, is_long_name, is_comment, is_policy_word, caller_of, EmptyCause, PolicyCause, StrangeCause, NoStructureCause, DoneCause, CallerCause, LineCause, IsFirst, strange_why, with_declaration, AddsDeclaration, AddsLine, AddsOfCaller, AddsWords, Adds, AddsAll, line_number, empty_script, IsScript, IsFault}
+use Rattle.plex_script.proofs.CauseLaws.{Fits, fits-judged, limit-alone, syntax-alone, unknown-alone, policy-late, policy-unread, policy-twice, policy-space, adds-fits, done-unread}
+use Rattle.plex_script.proofs.{ActLaws.act-sound}
 
 -- this leads on, or that is the cause
 abbrev Decided : (Script → Type 0) → (Why → Type 0) → Type 0
@@ -29,26 +28,16 @@ policy-decided : (script : Script) (long : Bool) (first : List ℕ) (ws : Words)
     → Decided (λ after. IsTrue (not long) × AddsDeclaration script first ws after) (PolicyCause script long first ws)
 policy-decided script long first ws = grind (arith, by_tests)
   where
-    by_checks : (d : Declaration) (t m : Bool) → has_lines script ≡ false → (long || is_full script first) ≡ false
-        → declaration_at Names (declared_in script) ws ≡ Some d
+    by_checks : (d : Declaration) (t m : Bool) → has_lines script ≡ false → Fits script long first ws d
         → is_twice script d ≡ t → is_too_much script d ≡ m → Decided (λ after. IsTrue (not long)
         × AddsDeclaration script first ws after) (PolicyCause script long first ws)
-    by_checks d true m early fits o_is t_is m_is =
-        let declares = declaration-sound Names (declared_in script) ws d o_is in
-        inr (Twice, policy-twice script long first ws d early fits declares t_is)
-    by_checks d false true early fits o_is t_is m_is =
-        let declares = declaration-sound Names (declared_in script) ws d o_is in
-        inr (Space, policy-space script long first ws d early fits declares t_is m_is)
-    by_checks d false false early fits o_is t_is m_is =
-        let parts = or_parts long (is_full script first) fits in
-        inl (
-          with_declaration script d,
-          adds-fits script (with_declaration script d) long first ws d early (record {
-            short = not_from_false long parts.0;
-            full = parts.1;
-            declares = declaration-sound Names (declared_in script) ws d o_is;
-          }) t_is m_is refl,
-        )
+    by_checks d true m early fits t_is m_is = inr (Twice, policy-twice script long first ws d early fits t_is)
+    by_checks d false true early fits t_is m_is =
+        inr (Space, policy-space script long first ws d early fits t_is m_is)
+    by_checks d false false early fits t_is m_is = inl (
+      with_declaration script d,
+      adds-fits script (with_declaration script d) long first ws d early fits t_is m_is refl,
+    )
 
     by_tests : (h e : Bool) (o : Option Declaration) → has_lines script ≡ h
         → (long || is_full script first) ≡ e → declaration_at Names (declared_in script) ws ≡ o → Decided
@@ -56,16 +45,15 @@ policy-decided script long first ws = grind (arith, by_tests)
     by_tests true e o h_is e_is o_is = inr (Late, policy-late script long first ws h_is)
     by_tests false true o h_is e_is o_is = inr (_, policy-unread script long first ws h_is (λ x. absurd (cc)))
     by_tests false false None h_is e_is o_is = inr (_, policy-unread script long first ws h_is (λ x. o_is))
-    by_tests false false (Some d) h_is e_is o_is = by_checks d (is_twice script d) (is_too_much script d) h_is e_is
-        o_is refl refl
+    by_tests false false (Some d) h_is e_is o_is = by_checks d (is_twice script d) (is_too_much script d) h_is
+        (fits-judged script long first ws false d (sym e_is) (refl, o_is)) refl refl
 
 -- ---- lines of callers
 
 done-decided : (script : Script) (at : ℕ) (long : Bool) (by : ConnId) (on : StrNo) (ws : Words)
     → Decided (λ after. IsTrue (not long) × AddsLine script at by on ws after) (DoneCause (declared_in script) long by
     (kind_of script.structures on) ws)
-done-decided script at long by on ws = by_tests long (act_at Names (declared_in script) by
-    (kind_of script.structures on) ws) refl refl
+done-decided script at long by on ws = grind (arith, by_tests)
   where
     by_tests : (l : Bool) (o : Option (Act × ℕ)) → long ≡ l → act_at Names (declared_in script)
         by (kind_of script.structures on) ws ≡ o → Decided (λ after. IsTrue (not long) × AddsLine
@@ -86,17 +74,12 @@ caller-decided script at long by (second ∷ ws) = by_structure (structure_of sc
   where
     by_structure : (o : Option StrNo) → structure_of script.structures second ≡ o → Decided (λ after. IsTrue
         (not long) × AddsOfCaller script at by (second ∷ ws) after) (CallerCause script long by (second ∷ ws))
-    by_structure None e =
-        let s = not (is_name second) in
-        let l = long || is_long_name second in
-        let first = tested _ s l (λ h. h) (λ h. h) (λ h. h) (λ h. h) tt (λ h. h) in
-        inr (
-          strange_why s l,
-          record {
-            here = rw e first.here;
-            none = λ other less k. first.none other less (rw e at k);
-          },
-        )
+    by_structure None e = turned (λ after. ⊥) (λ after. IsTrue (not long) × AddsOfCaller script at by (second ∷ ws)
+        after) (NoStructureCause long second) _ (λ after h. absurd h) (λ w h. rw e h) (λ w h. rw e at h) (inr (
+          _,
+          tested (NoStructureCause long second) (not (is_name second)) (long || is_long_name second)
+              (λ h. h) (λ h. h) (λ h. h) (λ h. h) tt (λ h. h),
+        ))
     by_structure (Some on) e = turned (λ after. IsTrue (not long) × AddsLine script at by on ws after)
         (λ after. IsTrue (not long) × AddsOfCaller script at by (second ∷ ws) after) _ _
         (λ after h. (h.0, rw e h.1)) (λ w h. rw e h) (λ w h. rw e at h) (done-decided _ at long by on ws)
@@ -195,17 +178,4 @@ text-decided text = told (all-decided (lines_of text) empty_script 0)
     told : ((after : Script) × AddsAll empty_script 0 (lines_of text) after) ⊎ Stops empty_script 0 (lines_of text)
         → ((script : Script) × IsScript text script) ⊎ ((number : ℕ) × (why : Why) × IsFault text number why)
     told (inl d) = inl d
-    told (inr s) = inr (
-      line_number (length s.front + 1),
-      s.why,
-      record {
-        front = s.front;
-        line = s.line;
-        behind = s.behind;
-        whole = s.whole;
-        before = s.before;
-        fine = s.fine;
-        cause = s.cause;
-        here = refl;
-      },
-    )
+    told (inr s) = inr (line_number (length s.front + 1), s.why, grind arith)

@@ -1,5 +1,5 @@
 -- A text has one fault.
-use Rattle.plex_script.proofs.Imports.{◌≡◌, ℕ, suc, ◌+◌, ◌<◌, ◌==◌, List, [], ◌∷◌, ◌++◌, drop, length, refl, sym, ap, subst, ◌∙◌, arith, nat_tests, Why, Late, Syntax, Limit, Unknown, Twice, Space, Script, IsFirst, IsCause, LineCause, rank, Adds, AddsAll, IsFault, empty_script, line_number}
+use Rattle.plex_script.proofs.Imports.{◌≡◌, ℕ, suc, ◌+◌, ◌==◌, List, [], ◌∷◌, ◌++◌, length, refl, sym, ap, subst, ◌∙◌, arith, nat_tests, Why, Late, Syntax, Limit, Unknown, Twice, Space, Script, IsFirst, IsCause, LineCause, rank, Adds, AddsAll, IsFault, line_number}
 use Rattle.std.proofs.Common.{if◌then◌else◌}
 use Rattle.plex_script.proofs.LineLaws.{adds-one, line-clean}
 
@@ -18,15 +18,9 @@ first-one holds one other f g = grind (arith, nat_tests, why_at-rank)
 
 -- ---- the first line that is wrong
 
-abbrev line_at : List (List ℕ) → List ℕ
-line_at [] = []
-line_at (line ∷ lines) = line
-
-same_line : (line other : List ℕ) (lines others : List (List ℕ)) → line ∷ lines ≡ other ∷ others → line ≡ other
-same_line line other lines others e = ap line_at e
-
-same_lines : (line other : List ℕ) (lines others : List (List ℕ)) → line ∷ lines ≡ other ∷ others → lines ≡ others
-same_lines line other lines others e = ap (λ (l : List (List ℕ)). drop 1 l) e
+same_line : {line other : List ℕ} {lines others : List (List ℕ)} → line ∷ lines ≡ other ∷ others
+    → (line ≡ other) × (lines ≡ others)
+same_line e = (cc, cc)
 
 -- no line that is wrong leads on
 clean_line : (script next before : Script) (at : ℕ) (line other : List ℕ) (why : Why) → line ≡ other
@@ -45,19 +39,19 @@ one-wrong [] [] script count line line' behind behind' before before' why why' w
     let there : IsCause script line why' = grind (arith, same_line) in
     (refl, first-one (LineCause script line) why why' here there)
 one-wrong [] (l ∷ other) script count line line' behind behind' before before' why why' whole f g cause cause' =
-    let same : l ≡ line = sym (same_line line l behind (other ++ line' ∷ behind') whole) in
+    let same : l ≡ line = sym (same_line whole).0 in
     absurd (clean_line script g.0 before (line_number (count + 1)) l line why same f g.1 cause)
 one-wrong (l ∷ front) [] script count line line' behind behind' before before' why why' whole f g cause cause' =
-    let same : l ≡ line' = same_line l line' (front ++ line ∷ behind) behind' whole in
+    let same : l ≡ line' = (same_line whole).0 in
     absurd (clean_line script f.0 before' (line_number (count + 1)) l line' why' same g f.1 cause')
 one-wrong (l ∷ front) (m ∷ other) script count line line' behind behind' before before' why why' whole f g cause
     cause' =
-    let same : l ≡ m = same_line l m (front ++ line ∷ behind) (other ++ line' ∷ behind') whole in
+    let same : l ≡ m = (same_line whole).0 in
     let adds : Adds script (line_number (count + 1)) l g.0 = rw same g.1 in
     let one : f.0 ≡ g.0 = adds-one script (line_number (count + 1)) l f.0 g.0 f.1 adds in
     let on : AddsAll f.0 (count + 1) other before' = rw one g.2 in
     let rest = one-wrong front other f.0 (count + 1) line line' behind behind' before before' why why'
-    (same_lines l m (front ++ line ∷ behind) (other ++ line' ∷ behind') whole) f.2 on cause cause' in
+    (same_line whole).1 f.2 on cause cause' in
     (ap (λ n. suc n) rest.0, rest.1)
 
 -- a text has one fault

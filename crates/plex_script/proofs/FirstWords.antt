@@ -1,9 +1,5 @@
 -- Which commands their first words tell apart.
 use Rattle.plex_script.proofs.Imports.{arith, ◌≡◌, ℕ, ◌||◌, Bool, true, false, not, cond, List, [], ◌∷◌, Option, None, codes, ConnId, ShellCmd, CacheCmd, ListCmd, LockCmd, Rigour, begins_with, words_behind, Declared, Token, Spells, Literal, shell_tokens, may_give, is_operator, cache_tokens, list_tokens, lock_tokens, shell_at, Words, is_own}
-use Rattle.cf_types.specs.declared.shell_commands.ShellCmd.TheVariants as shell
-use Rattle.cf_types.specs.declared.cache_commands.CacheCmd.TheVariants as cache
-use Rattle.cf_types.specs.declared.list_commands.ListCmd.TheVariants as list
-use Rattle.cf_types.specs.declared.lock_commands.LockCmd.TheVariants as lock
 
 -- ---- first words
 
@@ -30,15 +26,15 @@ gives_by by ws = cond (begins_with (codes "REBUILD") ws)
 module _ (rigour : Rigour) (declared : Declared) where
   pub gives : (by : ConnId) (ws rest : Words) (cmd : ShellCmd)
       → Spells rigour declared (shell_tokens cmd) ws rest → may_give by cmd ≡ gives_by by ws
-  gives by ws rest (shell.RebuildStart caps) h = grind (arith, at_two)
-  gives by ws rest shell.RebuildStop h = grind (arith, at_two)
-  gives by ws rest shell.RebuildConnect h = grind (arith, at_two)
-  gives by ws rest shell.RebuildComplete h = grind (arith, at_two)
+  gives by ws rest (ShellCmd.RebuildStart caps) h = grind (arith, at_two)
+  gives by ws rest ShellCmd.RebuildStop h = grind (arith, at_two)
+  gives by ws rest ShellCmd.RebuildConnect h = grind (arith, at_two)
+  gives by ws rest ShellCmd.RebuildComplete h = grind (arith, at_two)
   gives by ws rest cmd h = grind (arith, at_one)
 
   pub shell-not_own : (ws rest : Words) (cmd : ShellCmd)
       → Spells rigour declared (shell_tokens cmd) ws rest → is_own ws ≡ false
-  shell-not_own ws rest (shell.Connect keep) h = grind (arith, at_one)
+  shell-not_own ws rest (ShellCmd.Connect keep) h = grind (arith, at_one)
   shell-not_own ws rest cmd h = grind (arith, at_one)
 
 -- the words are no common command, and ask the structure something
@@ -48,15 +44,15 @@ IsContent rigour declared ws = (shell_at rigour declared ws ≡ None) × (is_own
 module _ (rigour : Rigour) (declared : Declared) where
   pub cache-content : (ws rest : Words) (given : Option ℕ) (cmd : CacheCmd)
       → Spells rigour declared (cache_tokens given cmd) ws rest → IsContent rigour declared ws
-  cache-content ws rest given (cache.Read name index old stg) h = grind (arith, at_one)
+  cache-content ws rest given (CacheCmd.Read name index old stg) h = grind (arith, at_one)
   cache-content ws rest given cmd h = grind (arith, at_one)
 
   pub list-content : (ws rest : Words) (cmd : ListCmd) → Spells rigour declared
       (list_tokens cmd) ws rest → IsContent rigour declared ws
-  list-content ws rest (list.Write header head name key body adj cond) h = grind (arith, at_one)
+  list-content ws rest (ListCmd.Write header head name key body adj cond) h = grind (arith, at_one)
   list-content ws rest cmd h = grind (arith, at_one)
 
   pub lock-content : (ws rest : Words) (cmd : LockCmd) → Spells rigour declared
       (lock_tokens cmd) ws rest → IsContent rigour declared ws
-  lock-content ws rest (lock.Obtain r excl rec) h = grind (arith, at_one)
+  lock-content ws rest (LockCmd.Obtain r excl rec) h = grind (arith, at_one)
   lock-content ws rest cmd h = grind (arith, at_one)

@@ -1,6 +1,5 @@
 -- What a declaration adds to a script keeps it well formed.
-use Rattle.plex_script.proofs.Imports.{or_parts, not-true, ◌≡◌, ◌≢◌, ℕ, ◌+◌, ◌≤◌, ◌<◌, ◌==◌, ◌||◌, Bool, true, false, not, List, [], ◌∷◌, ◌++◌, Option, Some, None, length, codes, refl, ◌∙◌, arith, slice_get, slice_set, get_or, All, AllPairs, option_map_or, nat_tests, length-set, length_push, All-nil, All-push, All-set, list_any_at, all_pairs_push, get_or_from_slice_get, slice_get_within, CONNECTORS, StrNo, Kind, Pref as Set, StrForm, IsPref, IsKind, IsVectorOf, IsForm, Names, Declared, is_declared, Words, Declaration, Facility, Structure, Connector, Line, Script, form_tokens, declaration_tokens, IsVectorTold, Declares, declared_in, has_lines, is_full, is_twice, has_pref, with_pref, with_declaration, AddsDeclaration, IsLineOf, IsWellFormed, AreWithin, words-within}
-use Rattle.cf_types.specs.declared.forms.Kind.TheVariants as kind
+use Rattle.plex_script.proofs.Imports.{or_parts, not-true, ◌≡◌, ◌≢◌, ℕ, ◌+◌, ◌≤◌, ◌<◌, false, List, [], ◌∷◌, ◌++◌, Option, Some, None, length, codes, refl, arith, slice_get, slice_set, get_or, All, option_map_or, nat_tests, length-set, length_push, All-nil, All-push, All-set, list_any_at, all_pairs_push, get_or_from_slice_get, slice_get_within, CONNECTORS, StrNo, Kind, Pref as Set, StrForm, IsPref, IsKind, IsVectorOf, IsForm, Names, Declared, is_declared, Words, Declaration, Facility, Structure, Connector, Line, Script, form_tokens, declaration_tokens, IsVectorTold, Declares, declared_in, has_lines, is_full, is_twice, has_pref, with_pref, with_declaration, AddsDeclaration, IsWellFormed, AreWithin, words-within}
 use Rattle.plex_script.specs.declared.declarations.Declaration.TheVariants.{Pref}
 
 -- ---- the form of a structure that a line declares
@@ -14,9 +13,8 @@ formed form kind_ entries elements conns vector none = grind (arith, All-nil)
 
 pub told-form : (declared : Declared) (k : Kind) (form : StrForm) → form.kind ≡ k → form.prefs ≡ []
     → IsVectorTold k form.vector → AreWithin declared (form_tokens k form) → IsForm form
-told-form declared kind.Cache form is none told h = grind (arith, formed)
-told-form declared (kind.List headers locks refs) form is none told h = grind (arith, formed)
-told-form declared kind.Lock form is none told h = formed form (rw is tt) h.1.0 h.1.1.0 h.1.1.1.0 (rw is told) none
+told-form declared (Kind.List headers locks refs) form is none told h = grind (arith, formed)
+told-form declared k form is none told h = grind (arith, formed)
 
 -- ---- units that are set aside
 

@@ -1,9 +1,6 @@
 -- What a line adds to a script keeps it well formed, and so does a whole text.
-use Rattle.plex_script.proofs.Imports.{◌≡◌, ℕ, ◌≤◌, ◌==◌, true, not, List, [], ◌∷◌, ◌++◌, Option, Some, length, refl, sym, ◌∙◌, arith, subst, slice_get, All, if◌then◌else◌, nat_tests, All-nil, All-push, All-weaker, CONNECTORS, ConnId, StrNo, Kind, StrForm, ShellCmd, IsConnector, Shell, Content, IsOperator, MayCommand, Declared, shell_tokens, may_give, is_operator, Words, AnyAsk, Act, Call, Test, TestWord, Post, Take, Events, Line, Script, ask_tokens, act_tokens, retry_tokens, MayAsk, MayDo, declared_in, kind_of, AddsLine, IsScript, empty_script, MayAskAny, IsActOf, IsLineOf, IsWellFormed, IsOneOf, AreWithin, words-within, within-front, within-back}
-use Rattle.cf_types.specs.declared.shell_commands.ShellCmd.TheVariants as cmd
-use Rattle.plex_script.specs.declared.scripts.AnyAsk.TheVariants as any
-use Rattle.plex_script.proofs.FormLaws.{declaration-keeps}
-use Rattle.plex_script.proofs.KeptAll.{Known, script-keeps}
+use Rattle.plex_script.proofs.Imports.{◌≡◌, ℕ, ◌≤◌, true, not, List, [], ◌∷◌, ◌++◌, Option, Some, length, refl, sym, arith, subst, slice_get, All, nat_tests, All-nil, All-push, All-weaker, CONNECTORS, ConnId, StrNo, Kind, StrForm, ShellCmd, IsConnector, Shell, IsOperator, MayCommand, Declared, shell_tokens, may_give, is_operator, Words, AnyAsk, Act, Call, Test, TestWord, Line, Script, ask_tokens, act_tokens, retry_tokens, MayAsk, MayDo, declared_in, kind_of, AddsLine, IsScript, empty_script, MayAskAny, IsActOf, IsLineOf, IsWellFormed, IsOneOf, AreWithin, words-within, within-front, within-back}
+use Rattle.plex_script.proofs.{FormLaws.declaration-keeps, KeptAll.Known, KeptAll.script-keeps}
 
 -- ---- who calls
 
@@ -20,26 +17,26 @@ one_of count conn few h = (h.0, omega (arith, few, h.1))
 
 command-may : (declared : Declared) (by : ConnId) (command : ShellCmd) → length declared.connectors ≤ CONNECTORS →
     by.0 ≤ CONNECTORS → may_give by command ≡ true → AreWithin declared (shell_tokens command) → MayCommand by command
-command-may declared by cmd.Next few low may h = low
-command-may declared by cmd.Respond few low may h = low
-command-may declared by (cmd.RebuildStart caps) few low may h = grind arith
-command-may declared by cmd.RebuildStop few low may h = low
-command-may declared by (cmd.Copy n) few low may h = (no_operator by low may, h.1.0.0, h.1.0.1)
-command-may declared by (cmd.ForceConn conn) few low may h = grind (arith, operator, one_of)
-command-may declared by cmd.ForceStr few low may h = operator by may
-command-may declared by (cmd.LoseConn conn cf) few low may h = grind (arith, operator, one_of)
-command-may declared by (cmd.RestoreConn conn cf) few low may h = grind (arith, operator, one_of)
-command-may declared by (cmd.Vary cf off) few low may h = (operator by may, h.1.0.0)
-command-may declared by cmd.DuplexStart few low may h = operator by may
-command-may declared by cmd.DuplexStop few low may h = operator by may
+command-may declared by ShellCmd.Next few low may h = low
+command-may declared by ShellCmd.Respond few low may h = low
+command-may declared by (ShellCmd.RebuildStart caps) few low may h = grind arith
+command-may declared by ShellCmd.RebuildStop few low may h = low
+command-may declared by (ShellCmd.Copy n) few low may h = (no_operator by low may, h.1.0.0, h.1.0.1)
+command-may declared by (ShellCmd.ForceConn conn) few low may h = grind (arith, operator, one_of)
+command-may declared by ShellCmd.ForceStr few low may h = operator by may
+command-may declared by (ShellCmd.LoseConn conn cf) few low may h = grind (arith, operator, one_of)
+command-may declared by (ShellCmd.RestoreConn conn cf) few low may h = grind (arith, operator, one_of)
+command-may declared by (ShellCmd.Vary cf off) few low may h = (operator by may, h.1.0.0)
+command-may declared by ShellCmd.DuplexStart few low may h = operator by may
+command-may declared by ShellCmd.DuplexStop few low may h = operator by may
 command-may declared by command few low may h = no_operator by low may
 
 ask-may : (declared : Declared) (by : ConnId) (given : Option ℕ) (asked : AnyAsk)
     → length declared.connectors ≤ CONNECTORS → by.0 ≤ CONNECTORS
     → MayAsk by given asked → AreWithin declared (ask_tokens given asked) → MayAskAny by asked
-ask-may declared by given (any.Cache (Shell command)) few low may h = command-may declared by command few low may.0 h
-ask-may declared by given (any.List (Shell command)) few low may h = command-may declared by command few low may.0 h
-ask-may declared by given (any.Lock (Shell command)) few low may h = command-may declared by command few low may.0 h
+ask-may declared by given (AnyAsk.Cache (Shell command)) few low may h = command-may declared by command few low may.0 h
+ask-may declared by given (AnyAsk.List (Shell command)) few low may h = command-may declared by command few low may.0 h
+ask-may declared by given (AnyAsk.Lock (Shell command)) few low may h = command-may declared by command few low may.0 h
 ask-may declared by given asked few low may h = no_operator by low may.0
 
 act-may : (declared : Declared) (by : ConnId) (k : Kind) (given : Option ℕ) (act : Act) (retry : ℕ)

@@ -1,14 +1,13 @@
 -- What each line keeps, a text keeps.
-use Rattle.plex_script.proofs.Imports.{◌≡◌, ℕ, ◌+◌, ◌≤◌, Bool, true, false, List, [], ◌∷◌, Option, Some, None, length, refl, sym, ap, arith, subst, slice_get, get_or, MatchBool, if◌then◌else◌, MatchOption, position-Some, slice_get-get_or, Name16, ConnId, StrNo, StrForm, same_word, words_of, lines_of, structure_of, name_word, mapped, Words, connector-bounds, Script, caller_of, is_comment, is_policy_word, AddsDeclaration, AddsLine, AddsOfCaller, AddsWords, AddsAll, IsScript, empty_script, line_number}
+use Rattle.plex_script.proofs.Imports.{◌≡◌, ℕ, ◌+◌, ◌≤◌, Bool, true, false, List, [], ◌∷◌, Option, Some, None, length, sym, ap, arith, subst, slice_get, get_or, MatchBool, MatchOption, position-Some, slice_get-get_or, ConnId, StrNo, StrForm, same_word, words_of, lines_of, structure_of, name_word, mapped, Words, connector-bounds, Script, caller_of, AddsDeclaration, AddsLine, AddsOfCaller, AddsWords, AddsAll, IsScript, empty_script, line_number, Kind}
 use Rattle.std.specs.List.{position}
-use Rattle.cf_types.specs.declared.forms.Kind.TheVariants as kind
 
 -- ---- who and where
 
 abbrev any_form : StrForm
 any_form = record {
   name = record { 0 = [] };
-  kind = kind.Cache;
+  kind = Kind.Cache;
   caps = record { entries = 0; elements = 0 };
   conns = 0;
   vector = 0;

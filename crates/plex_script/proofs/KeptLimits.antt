@@ -1,11 +1,10 @@
 -- Each script of a text keeps the limits.
-use Rattle.plex_script.proofs.Imports.{not-true, ◌≡◌, ◌≢◌, ℕ, ◌+◌, ◌≤◌, ◌==◌, ◌||◌, Bool, true, false, cond, List, [], ◌∷◌, ◌++◌, Option, Some, None, length, map, refl, sym, ap, ◌∙◌, arith, subst, slice_get, slice_set, get_or, All, list_any, sum_by, option_map_or, map-set_same, nat_tests, length-set, length_push, map-append, All-nil, All-push, All-set, All-weaker, list_any_at, list_any-append, all_pairs_push, sum_by-cons, sum_by-set, get_or_from_slice_get, slice_get_within, Name16, CfId, ConnId, StrNo, Pref as Set, StrForm, IsPref, IsForm, Names, same_word, is_declared, name_word, same_word-of, Words, IsNamed, AreNames, words-within, within-front, within-back, within-append, Declaration, Facility, Structure, Connector, Line, Script, act_tokens, retry_tokens, declaration_tokens, Declares, declared_in, has_lines, kind_of, is_full, is_twice, is_too_much, facility_units, units_of, all_prefs, with_declaration, AddsDeclaration, AddsLine, IsScript, empty_script, AreFacilities, IsStructureIn, IsLineIn, KeepsLimits}
+use Rattle.plex_script.proofs.Imports.{not-true, ◌≡◌, ◌≢◌, ℕ, ◌+◌, ◌≤◌, ◌==◌, Bool, true, false, cond, List, [], ◌∷◌, ◌++◌, Option, Some, None, length, map, refl, sym, ap, arith, subst, slice_get, slice_set, get_or, All, list_any, sum_by, option_map_or, map-set_same, nat_tests, length-set, length_push, map-append, All-nil, All-push, All-set, All-weaker, list_any_at, list_any-append, all_pairs_push, sum_by-cons, sum_by-set, get_or_from_slice_get, slice_get_within, Name16, CfId, ConnId, StrNo, Pref as Set, StrForm, IsPref, IsForm, Names, same_word, is_declared, name_word, same_word-of, Words, IsNamed, AreNames, words-within, within-front, within-back, within-append, Declaration, Facility, Structure, Connector, Line, Script, act_tokens, retry_tokens, declaration_tokens, Declares, declared_in, has_lines, is_full, is_twice, is_too_much, facility_units, units_of, all_prefs, with_declaration, AddsDeclaration, AddsLine, IsScript, empty_script, AreFacilities, IsStructureIn, IsLineIn, KeepsLimits}
 use Rattle.plex_script.specs.declared.declarations.Declaration.TheVariants.{Pref}
 use Rattle.plex_script.proofs.FormLaws.{told-form, apart-new, form-with, no_lines, room_structures, room_connectors}
-use Rattle.plex_script.proofs.FormedLines.{kind-known}
-use Rattle.plex_script.proofs.KeptAll.{Known, script-keeps}
 use Rattle.plex_script.proofs.PolicyPrinted.{units-append, prefs-append}
 use Rattle.plex_script.proofs.TokensTold.{may-told, act-told}
+use Rattle.plex_script.proofs.{FormedLines.kind-known, KeptAll.Known, KeptAll.script-keeps}
 
 abbrev name_of : StrForm → Name16
 name_of form = form.name
@@ -21,7 +20,7 @@ names-push names name h named new = (
 
 any-map : {X Y : Type 0} (q : Y → Bool) (f : X → Y) (xs : List X) → list_any q (map f xs) ≡ list_any (λ x. q (f x)) xs
 any-map q f [] = refl
-any-map q f (x ∷ xs) = ap (λ (b : Bool). q (f x) || b) (any-map q f xs)
+any-map q f (x ∷ xs) = grind (arith, any-map q f xs)
 
 -- ---- facilities
 

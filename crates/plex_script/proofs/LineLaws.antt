@@ -1,18 +1,14 @@
 -- Lines lead to one script, or are wrong, and not both.
-use Rattle.plex_script.proofs.Imports.{or_from, not-true, ◌≡◌, ℕ, ◌+◌, ◌||◌, Bool, true, false, not, List, [], ◌∷◌, ◌++◌, Option, Some, None, refl, sym, ap, ◌∙◌, arith, inl, inr, MatchBool, MatchOption, ConnId, StrNo, Kind, Names, words_of, Declared, structure_of, Words, Why, Late, Syntax, Limit, Unknown, Twice, Space, Act, Script, SaysDone, declared_in, kind_of, has_lines, is_full, is_long, is_comment, is_policy_word, caller_of, EmptyCause, PolicyCause, StrangeCause, NoStructureCause, DoneCause, CallerCause, LineCause, AddsDeclaration, AddsLine, AddsOfCaller, AddsWords, Adds, AddsAll, line_number}
+use Rattle.plex_script.proofs.Imports.{or_from, not-true, ◌≡◌, ℕ, ◌+◌, Bool, true, false, not, List, [], ◌∷◌, ◌++◌, Option, Some, None, refl, sym, ap, ◌∙◌, arith, inl, inr, MatchBool, MatchOption, ConnId, StrNo, Kind, Names, words_of, Declared, Words, Why, Syntax, Limit, Unknown, Act, Script, SaysDone, declared_in, kind_of, is_long, is_comment, is_policy_word, caller_of, EmptyCause, PolicyCause, StrangeCause, NoStructureCause, DoneCause, CallerCause, LineCause, AddsDeclaration, AddsLine, AddsOfCaller, AddsWords, Adds, AddsAll, line_number}
 use Rattle.plex_script.proofs.ActLaws.{act-complete}
-use Rattle.plex_script.proofs.CauseLaws.{Declares-one, SaysDone-limits, SaysDone-form, policy-read}
+use Rattle.plex_script.proofs.CauseLaws.{finds-one, Declares-one, SaysDone-limits, SaysDone-form, policy-read}
 
 -- ---- one script
 
 says-one : (declared : Declared) (by : ConnId) (kind : Kind) (ws : Words) (a b : Act) (m n : ℕ) → SaysDone
     Names declared by kind ws a m → SaysDone Names declared by kind ws b n → (let p : Act × ℕ = (a, m) in p) ≡ (b, n)
 says-one declared by kind ws a b m n h k =
-    let f = act-complete Names declared by kind ws a m h in
-    let g = act-complete Names declared by kind ws b n k in
-    let same : Some f.found ≡ Some g.found = sym f.read ∙ g.read in
-    let one : f.found ≡ g.found = cc in
-    sym (f.same refl) ∙ one ∙ g.same refl
+    finds-one _ _ _ (act-complete Names declared by kind ws a m h) (act-complete Names declared by kind ws b n k)
 
 line-one : (script : Script) (at : ℕ) (by : ConnId) (on : StrNo) (ws : Words) (a b : Script)
     → AddsLine script at by on ws a → AddsLine script at by on ws b → a ≡ b
@@ -60,8 +56,7 @@ all-one (line ∷ lines) script count a b h k =
 -- ---- not both
 
 not_long : (b : Bool) → not b ≡ true → b ≡ true → ⊥
-not_long true h k = cc
-not_long false h k = cc
+not_long b h k = grind arith
 
 empty-clean : (long : Bool) (why : Why) → not long ≡ true → EmptyCause long why → ⊥
 empty-clean long Limit h k = not_long long h k

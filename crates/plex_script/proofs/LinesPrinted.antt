@@ -1,15 +1,12 @@
 -- The printed lines of callers do the same again.
-use Rattle.plex_script.proofs.Imports.{◌≡◌, ℕ, ◌+◌, ◌≤◌, ◌==◌, ◌||◌, Bool, true, false, not, List, [], ◌∷◌, ◌++◌, length, map, Option, Some, option_map, position, slice_get, codes, decimal, refl, sym, ap, ◌∙◌, arith, zero, suc, length-append, subst, All, MatchBool, MatchOption, option_map_or, and_parts, nat_tests, get_or_from_slice_get, slice_get_within, is_ascii_uppercase, Name16, ConnId, StrNo, StrForm, IsPadded, Shell, Content, same_word, line_of, name_word, is_name, connector_of, structure_of, caller_name, structure_name, plain_words, AreNames, HaveNames, name-place, words-said, connector-said, AreGood, IsRow, row-append, words-good, name-good, caller-good, shell-row, cache-row, list-row, lock-row, Act, Call, Test, TestWord, Post, Take, Events, Line, Script, act_tokens, retry_tokens, declared_in, caller_of, is_comment, is_policy_word, line_number, AddsWords, AddsLine, class_in, line_tokens, body_line, numbered_behind, IsLineIn}
-use Rattle.plex_script.specs.declared.scripts.AnyAsk.TheVariants as any
-use Rattle.plex_script.proofs.Chains.{Leads, LeadsOne, leads-each}
-use Rattle.plex_script.proofs.FormedLines.{kind-known}
+use Rattle.plex_script.proofs.Imports.{◌≡◌, ℕ, ◌+◌, ◌≤◌, ◌||◌, Bool, true, false, not, List, [], ◌∷◌, ◌++◌, length, map, Option, Some, slice_get, codes, refl, sym, ap, ◌∙◌, arith, zero, suc, length-append, subst, All, MatchBool, MatchOption, and_parts, nat_tests, get_or_from_slice_get, slice_get_within, Name16, ConnId, StrNo, StrForm, IsPadded, Shell, Content, same_word, line_of, name_word, is_name, structure_of, caller_name, structure_name, plain_words, AreNames, HaveNames, name-place, words-said, connector-said, AreGood, IsRow, row-append, words-good, name-good, caller-good, shell-row, cache-row, list-row, lock-row, Act, Call, Line, Script, act_tokens, retry_tokens, declared_in, caller_of, is_comment, is_policy_word, line_number, AddsWords, AddsLine, class_in, line_tokens, body_line, numbered_behind, IsLineIn, AnyAsk}
 use Rattle.plex_script.proofs.PolicyPrinted.{element, line-adds}
+use Rattle.plex_script.proofs.{Chains.Leads, Chains.LeadsOne, Chains.leads-each, FormedLines.kind-known}
 
 -- ---- the first word
 
 no_comment : (word : List ℕ) → is_name word ≡ true → is_comment word ≡ false
-no_comment [] h = absurd (cc)
-no_comment (b ∷ word) h = grind (arith, and_parts, nat_tests)
+no_comment word h = grind (arith, and_parts, nat_tests)
 
 reserved : (op sys none_ a b c d : Bool) → not (op || (sys || (none_ || (a || (b || (c || (d || false))))))) ≡ true
     → (op ≡ false) × ((a || (b || (c || (d || false)))) ≡ false)
@@ -30,16 +27,10 @@ calls : (connectors : List Name16) (n : ℕ) → AreNames connectors → n ≤ l
     → Calls connectors (caller_name connectors n) (record { 0 = n })
 calls connectors zero h most = record { comment = refl; policy_ = refl; caller = refl }
 calls connectors (suc n) h most =
-    let by : ConnId = record { 0 = suc n } in
-    let said = connector-said connectors by h (omega arith) most in
     let word = caller_name connectors (suc n) in
+    let said = connector-said connectors (record { 0 = suc n }) h (omega arith) most in
     let apart = no_policy word said.0.0 in
-    let other : same_word word (codes "OP") ≡ false = apart.0 in
-    record { comment = no_comment word said.0.0; policy_ = apart.1; caller = named word by other said.1 }
-  where
-    named : (word : List ℕ) (by : ConnId) → same_word word (codes "OP") ≡ false
-        → connector_of connectors word ≡ Some by → caller_of connectors word ≡ Some by
-    named word by other known = rw other known
+    record { comment = no_comment word said.0.0; policy_ = apart.1; caller = rw apart.0 said.1 }
 
 -- ---- the second word
 
@@ -48,21 +39,17 @@ structure-read : (structures : List StrForm) (on : StrNo) (form : StrForm) → H
 structure-read structures on form names known =
     let low = slice_get_within structures on.0 form known in
     let here = get_or_from_slice_get structures on.0 form form known in
-    let place = name-place (λ (f : StrForm). f.name) structures on.0 form names low in
-    let numbered : ℕ → StrNo = λ n. (record { 0 = n }) in
-    let read : position (λ (f : StrForm). same_word (name_word f.name) (name_word form.name)) structures ≡ Some on.0 =
-    grind arith in
-    ap (option_map numbered) read
+    let place = name-place (λ (f : StrForm). f.name) structures on.0 form names low in grind arith
 
 -- ---- what is done
 
 act-row : (act : Act) → IsRow 6000 (act_tokens (class_in act) act)
-act-row (Call (any.Cache (Shell cmd))) = shell-row cmd
-act-row (Call (any.Cache (Content cmd))) = cache-row (class_in (Call (any.Cache (Content cmd)))) cmd
-act-row (Call (any.List (Shell cmd))) = shell-row cmd
-act-row (Call (any.List (Content cmd))) = list-row cmd
-act-row (Call (any.Lock (Shell cmd))) = shell-row cmd
-act-row (Call (any.Lock (Content cmd))) = lock-row cmd
+act-row (Call (AnyAsk.Cache (Shell cmd))) = shell-row cmd
+act-row (Call (AnyAsk.Cache (Content cmd))) = cache-row (class_in (Call (AnyAsk.Cache (Content cmd)))) cmd
+act-row (Call (AnyAsk.List (Shell cmd))) = shell-row cmd
+act-row (Call (AnyAsk.List (Content cmd))) = list-row cmd
+act-row (Call (AnyAsk.Lock (Shell cmd))) = shell-row cmd
+act-row (Call (AnyAsk.Lock (Content cmd))) = lock-row cmd
 act-row act = record { plain = refl; short = omega arith }
 
 line-row : (line : Line) → IsRow 6130 (line_tokens line)
@@ -129,8 +116,7 @@ lines-add script base names structures h =
     let line_in = line-of-all (IsLineIn script) front line back script.lines e h in
     let leads = body-adds _ _ _ _ names structures line_in in
     let number : count + 1 ≡ base + length front + 1 = omega (arith, at) in
-    let same =
-    ap (λ n. (let l = record line { at = line_number n } in numbered_behind base front ++ l ∷ [])) number
+    let same = ap (λ n. (let l = record line { at = line_number n } in numbered_behind base front ++ l ∷ [])) number
     ∙ sym (numbered-more _ _ _) in
     subst (λ ls. LeadsOne (with_lines (numbered_behind base front))
     count (body_line script line) (with_lines ls)) same leads) [] script.lines base refl (omega arith)

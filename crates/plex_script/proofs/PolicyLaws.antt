@@ -1,6 +1,5 @@
 -- What is read of a line of a policy is spelled so, and what is spelled so is read.
-use Rattle.plex_script.proofs.Imports.{arith, ◌≡◌, ℕ, Bool, true, false, List, [], ◌∷◌, Option, Some, codes, refl, sym, ap, ◌∙◌, lit<, subst, Name16, Caps, Kind, Pref as Set, StrForm, Rigour, same_word, begins_with, words_behind, Declared, Spells, Literal, NewName, is_names, on_first, new_name_of, Place, Values, tokens_of, values_at, ANewName, pick, not_some, bound, word-same, new_name-sound, new_name-complete, Words, FindsAll, Spells-append, Spells-split, single-sound, single-complete, led, led-by, ArePlaces, are_rows, values-sound, values-complete, verb-sound, command-complete, led-complete, AreFree-tail, all_lack_retry, Declaration, Facility, Structure, Connector, form_tokens, declaration_tokens, IsDeclaration, IsVectorTold, Declares, whole_read, facility_places, facility_from, pref_places, pref_from, cache_places, cache_from, list_places, list_from, lock_places, lock_from, form_at, structure_at, declared_at, declaration_at}
-use Rattle.cf_types.specs.declared.forms.Kind.TheVariants as kind
+use Rattle.plex_script.proofs.Imports.{arith, ◌≡◌, ℕ, Bool, true, List, [], ◌∷◌, Option, Some, codes, refl, sym, lit<, subst, Name16, Caps, Kind, Pref as Set, StrForm, Rigour, same_word, Declared, Spells, Literal, NewName, on_first, new_name_of, Place, Values, tokens_of, values_at, ANewName, pick, not_some, bound, word-same, new_name-sound, new_name-complete, Words, FindsAll, Spells-append, Spells-split, single-sound, single-complete, ArePlaces, are_rows, verb-sound, command-complete, led-complete, AreFree-tail, all_lack_retry, Declaration, Facility, Structure, Connector, form_tokens, declaration_tokens, IsDeclaration, IsVectorTold, Declares, whole_read, Finds, facility_places, facility_from, pref_places, pref_from, cache_places, cache_from, list_places, list_from, lock_places, lock_from, form_at, structure_at, declared_at, declaration_at}
 use Rattle.plex_script.specs.declared.declarations.Declaration.TheVariants.{Pref}
 use Rattle.plex_script.proofs.ActLaws.{ended-is}
 
@@ -86,11 +85,7 @@ module _ (rigour : Rigour) (declared : Declared) where
       let n = name-complete us split.mid name split.front in
       let v = command-complete rigour declared word places (made n.found) values split.mid [] are rows
       (AreFree-tail places [] refl free) (form_at rigour declared n.found) (does n.found) split.behind_ in
-      rw n.read (record {
-        found = v.found;
-        read = v.read;
-        same = λ e. v.same e ∙ ap (λ (m : Name16). made m values) (n.same e);
-      })) h
+      rw n.read (grind arith)) h
 
 abbrev form_of : Name16 → Kind → Caps → ℕ → ℕ → Bool → List Set → StrForm
 form_of name k caps conns vector keep prefs = record {
@@ -108,10 +103,10 @@ module _ (rigour : Rigour) (declared : Declared) where
       → IsVectorTold k vector → Spells rigour declared
       (Literal (codes "STRUCTURE") ∷ NewName name ∷ form_tokens k (form_of name k caps conns vector keep [])) ws []
       → FindsAll rigour (declared_at rigour declared ws) (Structure (form_of name k caps conns vector keep [])) []
-  structure-complete kind.Cache name caps conns vector keep ws told h =
+  structure-complete Kind.Cache name caps conns vector keep ws told h =
       kind-complete rigour declared (codes "CACHE") cache_places cache_from
       name (caps.entries, (caps.elements, (conns, (vector, (keep, tt))))) ws are_cache refl refl (λ n us. refl) h
-  structure-complete (kind.List headers locks refs) name caps conns vector keep ws told h =
+  structure-complete (Kind.List headers locks refs) name caps conns vector keep ws told h =
       kind-complete rigour declared (codes "LIST") list_places list_from name (
         caps.entries,
         (
@@ -119,9 +114,9 @@ module _ (rigour : Rigour) (declared : Declared) where
           (conns, (vector, (keep, (headers, (locks, (refs, tt)))))),
         ),
       ) ws are_list refl refl (λ n us. refl) h
-  structure-complete kind.Lock name caps conns vector keep ws told h =
+  structure-complete Kind.Lock name caps conns vector keep ws told h =
       let P : ℕ → Type 0 = λ v. FindsAll rigour (declared_at rigour declared ws)
-      (Structure (form_of name kind.Lock caps conns v keep [])) [] in
+      (Structure (form_of name Kind.Lock caps conns v keep [])) [] in
       subst P (sym told) (kind-complete rigour declared (codes "LOCK") lock_places lock_from name
       (caps.entries, (caps.elements, (conns, (keep, tt)))) ws are_lock refl refl (λ n us. refl) h)
 
@@ -143,14 +138,8 @@ module _ (rigour : Rigour) (declared : Declared) where
       rigour declared (codes "CONNECTOR") (ANewName ∷ []) (λ v. Connector v.0) (name, tt) ws [] (tt, tt, tt)
       refl (AreFree-tail (ANewName ∷ []) [] refl refl) (declared_at rigour declared) (λ us. refl) h.spelled
 
-pub record DeclarationFinds (rigour : Rigour) (reading : Option Declaration) (declaration : Declaration) : Type 0
-  where
-    pub found : Declaration
-    pub read : reading ≡ Some found
-    pub same : is_names rigour ≡ true → found ≡ declaration
-
 pub declaration-complete : (rigour : Rigour) (declared : Declared) (ws : Words) (declaration : Declaration) → Declares
-    rigour declared ws declaration → DeclarationFinds rigour (declaration_at rigour declared ws) declaration
+    rigour declared ws declaration → Finds rigour (declaration_at rigour declared ws) declaration
 declaration-complete rigour declared ws declaration h =
     let f = declared-complete rigour declared ws declaration h in
     record { found = f.found; read = rw f.read refl; same = f.same }

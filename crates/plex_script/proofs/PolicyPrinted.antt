@@ -1,7 +1,5 @@
 -- The printed lines of a policy declare it again.
-use Rattle.plex_script.proofs.Imports.{◌≡◌, ◌≢◌, ℕ, ◌+◌, ◌<◌, ◌≤◌, ◌==◌, Bool, true, false, not, cond, nat_le, nat_lt, List, [], ◌∷◌, ◌++◌, length, map, get_or, Option, Some, option_map, slice_get, codes, decimal, refl, sym, ap, ◌∙◌, arith, length-append, subst, All, lit<, list_any, flat_map, option_map_or, get_or-append_seam, set-append_seam, nat_tests, flat_map-append, get_or_append_left, get_or-map, length-map, list_any_none, sum_by-append, sum_by-cons, slice_get-get_or, CONNECTORS, Name16, CfId, StrNo, Kind, Refs, Pref as Set, StrForm, IsForm, IsPref, IsKind, IsVectorOf, Names, same_word, line_of, form_tokens, disposition, references, Declared, name_word, is_declared, structure_of, same_word-refl, facility_word, plain_words, facility_line, form_line, pref_line, connector_line, structure_lines, IsNamed, AreNames, AreWithin, apart_words, HaveNames, position-seam, words-said, number-said, facility-said, name-said, connectors-named, AreGood, words-back, line-clear, IsRow, row-append, row-wider, words-good, name-good, number-good, facility-good, Facility, Structure, Connector, Script, IsVectorTold, declared_in, is_long, has_pref, facility_units, units_of, all_prefs, with_pref, AddsWords, line_number, AreFacilities, IsStructureIn}
-use Rattle.cf_types.specs.declared.forms.Kind.TheVariants as kind
-use Rattle.cf_types.specs.declared.forms.Refs.TheVariants as refs
+use Rattle.plex_script.proofs.Imports.{◌≡◌, ℕ, ◌+◌, ◌<◌, ◌≤◌, ◌==◌, Bool, true, false, not, cond, nat_le, nat_lt, List, [], ◌∷◌, ◌++◌, length, map, get_or, Some, slice_get, codes, decimal, refl, sym, ap, ◌∙◌, arith, length-append, subst, All, lit<, list_any, flat_map, option_map_or, get_or-append_seam, set-append_seam, nat_tests, flat_map-append, get_or_append_left, get_or-map, length-map, list_any_none, sum_by-append, sum_by-cons, slice_get-get_or, CONNECTORS, Name16, CfId, StrNo, Kind, Pref as Set, StrForm, IsForm, IsPref, IsKind, IsVectorOf, same_word, line_of, form_tokens, Declared, name_word, is_declared, structure_of, same_word-refl, facility_word, plain_words, facility_line, form_line, pref_line, connector_line, structure_lines, IsNamed, AreNames, AreWithin, apart_words, HaveNames, position-seam, words-said, number-said, facility-said, name-said, connectors-named, AreGood, words-back, line-clear, IsRow, row-append, row-wider, words-good, name-good, number-good, facility-good, Facility, Structure, Connector, Script, IsVectorTold, declared_in, facility_units, units_of, all_prefs, with_pref, AddsWords, line_number, AreFacilities, IsStructureIn}
 use Rattle.plex_script.specs.declared.declarations.Declaration.TheVariants.{Pref}
 use Rattle.plex_script.proofs.Chains.{Leads, LeadsOne, leads-each, leads-blocks, leads-one}
 
@@ -22,13 +20,7 @@ fresh_cf : (front : List Set) (x : Set) (back : List Set) → AreFacilities (fro
     → is_declared front x.cf ≡ false
 fresh_cf front x back h = list_any_none (λ (facility : Set). facility.cf.0 == x.cf.0) front (λ k d low.
     let apart = h.1 k (length front) d low (omega (arith, length-append front (x ∷ back))) in
-    let left = get_or_append_left front (x ∷ back) d k low in
-    let here = get_or-append_seam front x back d in
-    not_same (get_or (front ++ x ∷ back) k d) (get_or front k d)
-    (get_or (front ++ x ∷ back) (length front) d) x left here apart)
-  where
-    not_same : (a b c e : Set) → a ≡ b → c ≡ e → a.cf.0 ≢ c.cf.0 → (b.cf.0 == e.cf.0) ≡ false
-    not_same a b c e left here apart = grind (arith, nat_tests)
+    grind (arith, get_or_append_left, get_or-append_seam, nat_tests))
 
 pub element : {X : Type 0} (P : X → Type 0) (front : List X) (x : X) (back : List X) → All P (front ++ x ∷ back) → P x
 element P front x back h = subst P (get_or-append_seam front x back x) (grind (arith, length-append))
@@ -79,14 +71,9 @@ fresh_name : {X : Type 0} (name : X → Name16) (front : List X) (x : X) (back :
 fresh_name {X} name front x back h =
     list_any_none (λ (other : X). same_word (name_word (name other)) (name_word (name x))) front (λ k d low.
     let most : length front < length (front ++ x ∷ back) = omega (arith, length-append front (x ∷ back)) in
-    let left = get_or_append_left front (x ∷ back) d k low in
-    let here = get_or-append_seam front x back d in
-    other_word (get_or (front ++ x ∷ back) k d) (get_or front k d)
-    (get_or (front ++ x ∷ back) (length front) d) x left here (grind (arith, apart_words)))
-  where
-    other_word : (a b c e : X) → a ≡ b → c ≡ e → same_word (name_word (name a)) (name_word (name c)) ≡ false
-        → same_word (name_word (name b)) (name_word (name e)) ≡ false
-    other_word a b c e left here apart = grind arith
+    let word = apart_words _ _ (h.named k d (omega (arith, low, most)))
+    (h.named (length front) d most) (h.apart k (length front) d low most) in
+    grind (arith, get_or_append_left, get_or-append_seam))
 
 name_of_element : {X : Type 0} (name : X → Name16) (front : List X) (x : X) (back : List X)
     → HaveNames name (front ++ x ∷ back) → IsNamed (name x)
@@ -94,43 +81,24 @@ name_of_element name front x back h = element (λ y. IsNamed (name y)) front x b
 
 -- ---- forms of structures
 
-disposition-row : (keep : Bool) → IsRow 65 (disposition keep ∷ [])
-disposition-row true = record { plain = refl; short = omega arith }
-disposition-row false = record { plain = refl; short = omega arith }
-
-references-row : (how : Refs) → IsRow 65 (references how ∷ [])
-references-row refs.Names = record { plain = refl; short = omega arith }
-references-row how = record { plain = refl; short = omega arith }
-
 form-row : (k : Kind) (form : StrForm) → IsRow 1000 (form_tokens k form)
-form-row (kind.List headers locks how) form = grind (arith, row-wider, row-append, disposition-row, references-row)
-form-row k form = grind (arith, row-wider, row-append, disposition-row)
-
-disposition-within : (declared : Declared) (keep : Bool) → AreWithin declared (disposition keep ∷ [])
-disposition-within declared true = (tt, tt)
-disposition-within declared false = (tt, tt)
-
-references-within : (declared : Declared) (how : Refs) → AreWithin declared (references how ∷ [])
-references-within declared refs.Names = (tt, tt)
-references-within declared how = (tt, tt)
+form-row (Kind.List headers locks how) form = grind (arith, row-wider, row-append)
+form-row k form = grind (arith, row-wider, row-append)
 
 form-within : (declared : Declared) (k : Kind) (form : StrForm) → IsForm form → IsKind k → IsVectorOf k form.vector
     → AreWithin declared (form_tokens k form)
-form-within declared (kind.List headers locks how) form h is vector =
-    grind (arith, disposition-within, references-within)
-form-within declared k form h is vector = grind (arith, disposition-within)
+form-within declared (Kind.List headers locks how) form h is vector = grind arith
+form-within declared k form h is vector = grind arith
 
 vector-told : (k : Kind) (vector : ℕ) → IsVectorOf k vector → IsVectorTold k vector
-vector-told kind.Lock vector h = h
-vector-told k vector h = tt
+vector-told k vector h = grind arith
 
 abbrev with_prefs : StrForm → List Set → StrForm
 with_prefs form prefs = record form { prefs = prefs }
 
 same_tokens : (k : Kind) (form : StrForm) (prefs : List Set)
     → form_tokens k (with_prefs form prefs) ≡ form_tokens k form
-same_tokens kind.Cache form prefs = refl
-same_tokens k form prefs = refl
+same_tokens k form prefs = grind arith
 
 room-left : (count most : ℕ) → count < most → nat_le most count ≡ false
 room-left count most h = grind (arith, nat_tests)
@@ -256,12 +224,8 @@ pub structures-add : (facilities : List Set) (structures : List StrForm) (count 
 structures-add facilities structures count names few forms room =
     let named = structures-named structures names in
     leads-blocks (λ (front : List StrForm). policy facilities front []) structure_lines structures
-    (λ front form back n e. structure-adds facilities front form back n (grind (arith, HaveNames)) (omega (
-      arith,
-      few,
-      ap length e,
-      length-append front (form ∷ back),
-    )) (grind (arith, element)) (grind arith)) [] structures count refl
+    (λ front form back n e. structure-adds facilities front form back n (grind (arith, HaveNames)) (
+    grind (arith, length-append)) (grind (arith, element)) (grind arith)) [] structures count refl
 
 -- ---- connectors
 

@@ -1,8 +1,7 @@
 -- A printed script is read back.
-use Rattle.plex_script.proofs.Imports.{◌≡◌, ℕ, ◌+◌, List, [], ◌++◌, length, map, sym, arith, subst, flat_map, facility_line, structure_lines, connector_line, lines-back, Script, empty_script, AddsAll, IsScript, body_line, policy_lines, printed_lines, script_text, with_line_numbers, KeepsLimits, IsReadBack}
-use Rattle.plex_script.proofs.Chains.{Leads, leads-append}
+use Rattle.plex_script.proofs.Imports.{◌≡◌, ℕ, ◌+◌, List, [], length, map, sym, arith, subst, flat_map, facility_line, structure_lines, connector_line, lines-back, Script, empty_script, AddsAll, IsScript, policy_lines, script_text, with_line_numbers, KeepsLimits, IsReadBack}
 use Rattle.plex_script.proofs.PolicyPrinted.{structures-named, facilities-add, structures-add, connectors-add}
-use Rattle.plex_script.proofs.LinesPrinted.{lines-add}
+use Rattle.plex_script.proofs.{Chains.Leads, Chains.leads-append, LinesPrinted.lines-add}
 
 abbrev declaring : Script → Script
 declaring script = record script { lines = [] }

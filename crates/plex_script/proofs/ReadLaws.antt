@@ -1,22 +1,20 @@
 -- Reading a text line by line.
-use Rattle.plex_script.proofs.Imports.{◌≡◌, ◌≢◌, ℕ, ◌<◌, ◌+◌, ◌-◌, ◌==◌, ◌||◌, Bool, true, false, min, List, [], ◌∷◌, ◌++◌, length, get_or, take, drop, Some, None, position, refl, sym, ap, ◌∙◌, arith, zero, suc, append_assoc, length-append, slice_split, list_any, nat_tests, slice_split_first, is_nonempty, without_return, lines_in, lines_of, any-some, any-none, any-place, Script, empty_script, Adds, AddsAll, line_number}
+use Rattle.plex_script.proofs.Imports.{◌≡◌, ◌≢◌, ℕ, ◌<◌, ◌+◌, ◌-◌, ◌==◌, Bool, true, false, min, List, [], ◌∷◌, ◌++◌, length, get_or, take, drop, Some, None, position, refl, ◌∙◌, arith, zero, suc, append_assoc, length-append, slice_split, list_any, or_parts, nat_tests, slice_split_first, without_return, lines_in, lines_of, any-some, any-none, any-place, rest_whole, Script, empty_script, Adds, AddsAll, line_number, nonempty}
 
 -- ---- carriage returns
 
 pub return-yes : (line : List ℕ) (n : ℕ) → length line ≡ suc n → get_or line n 0 ≡ 13 → without_return line ≡ take n
     line
-return-yes [] n e h = absurd (omega (arith, e))
-return-yes (b ∷ []) zero e h = rw h refl
-return-yes (b ∷ []) (suc n) e h = absurd (omega (arith, e))
-return-yes (b ∷ c ∷ bs) zero e h = absurd (omega (arith, e))
-return-yes (b ∷ c ∷ bs) (suc n) e h = ap (λ (l : List ℕ). b ∷ l) (return-yes (c ∷ bs) n (omega (arith, e)) h)
+return-yes [] n e h = grind arith
+return-yes (b ∷ []) n e h = grind arith
+return-yes (b ∷ c ∷ bs) zero e h = grind arith
+return-yes (b ∷ c ∷ bs) (suc n) e h = grind (arith, return-yes (c ∷ bs) n)
 
 pub return-no : (line : List ℕ) (n : ℕ) → length line ≡ suc n → get_or line n 0 ≢ 13 → without_return line ≡ line
 return-no [] n e h = refl
-return-no (b ∷ []) zero e h = let other : (b == 13) ≡ false = grind (arith, nat_tests) in rw other refl
-return-no (b ∷ []) (suc n) e h = absurd (omega (arith, e))
-return-no (b ∷ c ∷ bs) zero e h = absurd (omega (arith, e))
-return-no (b ∷ c ∷ bs) (suc n) e h = ap (λ (l : List ℕ). b ∷ l) (return-no (c ∷ bs) n (omega (arith, e)) h)
+return-no (b ∷ []) n e h = grind (arith, nat_tests)
+return-no (b ∷ c ∷ bs) zero e h = grind arith
+return-no (b ∷ c ∷ bs) (suc n) e h = grind (arith, return-no (c ∷ bs) n)
 
 -- ---- line feeds
 
@@ -37,20 +35,12 @@ pub lines-feed : (text : List ℕ) (place : ℕ) → position (λ b. b == 10) te
     → lines_of text ≡ without_return (take place text) ∷ lines_of (drop (place + 1) text)
 lines-feed text place h = grind (arith, any-some, any-place, nat_tests, slice_split_first, lines_in-more)
 
-or_none : (a b : Bool) → (a || b) ≡ false → (a ≡ false) × (b ≡ false)
-or_none true b h = absurd (cc)
-or_none false b h = (refl, h)
-
 split_free : (p : ℕ → Bool) (xs : List ℕ) → list_any p xs ≡ false → slice_split p xs ≡ xs ∷ []
 split_free p [] h = refl
-split_free p (x ∷ xs) h = let parts = or_none (p x) (list_any p xs) h in rw (parts.0, split_free p xs parts.1) refl
-
-nonempty_is : (text : List ℕ) → 0 < length text → is_nonempty text ≡ true
-nonempty_is [] h = absurd (omega arith)
-nonempty_is (b ∷ bs) h = refl
+split_free p (x ∷ xs) h = let parts = or_parts (p x) (list_any p xs) h in rw (parts.0, split_free p xs parts.1) refl
 
 pub lines-last : (text : List ℕ) → 0 < length text → position (λ b. b == 10) text ≡ None → lines_of text ≡ text ∷ []
-lines-last text some h = grind (arith, split_free, any-none, nonempty_is)
+lines-last text some h = grind (arith, split_free, any-none, nonempty)
 
 -- ---- line after line
 
@@ -96,3 +86,8 @@ take_none (suc n) = refl
 
 pub nothing_left : (text : List ℕ) → take (length text - length text) (drop (length text) text) ≡ []
 nothing_left text = rw (drop_whole text) (take_none (length text - length text))
+
+-- what the code that reads lines cites
+pub ruleset returns_read = (nat_tests, return-yes, return-no)
+
+pub ruleset lines_read = (rest_whole, lines-feed, nothing_left, lines-last)

@@ -1,5 +1,5 @@
 -- Texts that are made of lines, and lines of words.
-use Rattle.plex_script.proofs.Imports.{◌≡◌, ℕ, ◌+◌, arith, ◌<◌, length, get_or, drop, drop-cons, List, [], ◌∷◌, ◌++◌, map, ◌∙◌, append_assoc, flat_map, flat_map-append, map-append, tail_of, line_text, caller_name, structure_name, plain_words, Line, Script, act_tokens, retry_tokens, class_in, body_line}
+use Rattle.plex_script.proofs.Imports.{◌≡◌, ℕ, ◌+◌, arith, ◌<◌, length, get_or, drop, drop-cons, List, [], ◌∷◌, ◌++◌, map, append_assoc, flat_map, flat_map-append, map-append, tail_of, line_text, caller_name, structure_name, plain_words, Line, Script, act_tokens, retry_tokens, class_in, body_line}
 
 pub text_append : (xs ys : List (List ℕ)) → flat_map line_text (xs ++ ys) ≡ flat_map line_text xs
     ++ flat_map line_text ys

@@ -1,7 +1,5 @@
 -- A line that writes storage class 1 out says the same without it.
-use Rattle.plex_script.proofs.Imports.{◌≡◌, ℕ, ◌≤◌, ◌==◌, List, [], ◌++◌, Option, Some, None, codes, refl, arith, unwrap_or, nat_tests, ConnId, Kind, CacheCmd, Shell, Content, Declared, Token, option_tokens, number_tokens, cache_tokens, IsGiven, class_told, storage_told, AreWithin, within-front, within-back, within-append, Act, Call, Test, TestWord, Post, Take, Events, act_tokens, MayDo, class_in}
-use Rattle.cf_types.specs.declared.cache_commands.CacheCmd.TheVariants as cache
-use Rattle.plex_script.specs.declared.scripts.AnyAsk.TheVariants as any
+use Rattle.plex_script.proofs.Imports.{◌≡◌, ℕ, ◌≤◌, List, ◌++◌, Option, codes, refl, arith, unwrap_or, nat_tests, ConnId, Kind, CacheCmd, Shell, Content, Declared, Token, option_tokens, number_tokens, cache_tokens, IsGiven, class_told, storage_told, AreWithin, within-front, within-back, within-append, Act, Call, Test, TestWord, act_tokens, MayDo, class_in, AnyAsk}
 
 -- ---- which storage class is told
 
@@ -9,15 +7,14 @@ told-class : (stg : ℕ) → stg ≡ unwrap_or (class_told stg) 1
 told-class stg = grind (arith, nat_tests)
 
 given-told : (cmd : CacheCmd) → IsGiven (storage_told cmd) cmd
-given-told (cache.Read name index old stg) = told-class stg
-given-told (cache.Write name index body class adj old stg when_reg) = told-class stg
-given-told cmd = refl
+given-told (CacheCmd.Read name index old stg) = told-class stg
+given-told cmd = grind (arith, told-class)
 
 pub may-told : (by : ConnId) (kind : Kind) (given : Option ℕ) (act : Act) (retry : ℕ) → MayDo by kind given act retry
     → MayDo by kind (class_in act) act retry
-may-told by kind given (Call (any.Cache (Content cmd))) retry h = (h.0, (h.1.0, given-told cmd))
-may-told by kind given (Call (any.List (Content cmd))) retry h = (h.0, (h.1.0, h.1.1, refl))
-may-told by kind given (Call (any.Lock (Shell cmd))) retry h = (h.0, (h.1.0, refl))
+may-told by kind given (Call (AnyAsk.Cache (Content cmd))) retry h = (h.0, (h.1.0, given-told cmd))
+may-told by kind given (Call (AnyAsk.List (Content cmd))) retry h = (h.0, (h.1.0, h.1.1, refl))
+may-told by kind given (Call (AnyAsk.Lock (Shell cmd))) retry h = (h.0, (h.1.0, refl))
 may-told by kind given (Call ask) retry h = (h.0, (h.1.0, refl))
 may-told by kind given (Test index) retry h = (h.0, h.1, refl, h.3)
 may-told by kind given (TestWord word) retry h = (h.0, h.1, refl, h.3)
@@ -31,8 +28,7 @@ storage given = option_tokens (codes "STG") number_tokens given
 module _ (declared : Declared) where
   class-small : (given : Option ℕ) (stg : ℕ) → stg ≡ unwrap_or given 1
       → AreWithin declared (storage given) → stg ≤ 4294967295
-  class-small None stg e h = omega (arith, e)
-  class-small (Some n) stg e h = omega (arith, e, h.1.0.1)
+  class-small given stg e h = grind arith
 
   storage-within : (given : Option ℕ) (stg : ℕ) → stg ≡ unwrap_or given 1
       → AreWithin declared (storage given) → AreWithin declared (storage (class_told stg))
@@ -49,14 +45,14 @@ module _ (declared : Declared) where
 
   cache-told : (given : Option ℕ) (cmd : CacheCmd) → IsGiven given cmd
       → AreWithin declared (cache_tokens given cmd) → AreWithin declared (cache_tokens (storage_told cmd) cmd)
-  cache-told given (cache.Read name index old stg) e h = grind (arith, behind-part, before-part, storage-within)
-  cache-told given (cache.Write name index body class adj old stg when_reg) e h =
+  cache-told given (CacheCmd.Read name index old stg) e h = grind (arith, behind-part, before-part, storage-within)
+  cache-told given (CacheCmd.Write name index body class adj old stg when_reg) e h =
       grind (arith, behind-part, before-part, storage-within)
   cache-told given cmd e h = h
 
   pub act-told : (by : ConnId) (kind : Kind) (given : Option ℕ) (act : Act) (retry : ℕ) → MayDo by kind
       given act retry → AreWithin declared (act_tokens given act) → AreWithin declared (act_tokens (class_in act) act)
-  act-told by kind given (Call (any.Cache (Content cmd))) retry may h = cache-told given cmd may.1.1 h
-  act-told by kind given (Call (any.List (Shell cmd))) retry may h = h
-  act-told by kind given (Call (any.Lock (Shell cmd))) retry may h = h
+  act-told by kind given (Call (AnyAsk.Cache (Content cmd))) retry may h = cache-told given cmd may.1.1 h
+  act-told by kind given (Call (AnyAsk.List (Shell cmd))) retry may h = h
+  act-told by kind given (Call (AnyAsk.Lock (Shell cmd))) retry may h = h
   act-told by kind given act retry may h = h

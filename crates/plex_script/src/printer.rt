@@ -143,6 +143,7 @@ fn put_parties(text: &mut Vec<u8>, script: &Script, line: &Line) -> Result<(), N
 }
 
 // Puts the line of a caller to a text.
+#[tactic(auto, using(std::proofs::lemmas::Result::on_ok_weaker, crate::proofs::Spaced::four_parts, crate::proofs::Spaced::body_words))]
 fn put_line(text: &mut Vec<u8>, script: &Script, line: &Line) -> Result<(), NoMemory>
     ensures { OnOk result (text.new.items ≡ text.old.items ++ body_line script.now line.now) }
 {

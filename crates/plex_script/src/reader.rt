@@ -19,6 +19,7 @@ fn feed_place(text: &[u8]) -> Option<usize>
 }
 
 // A line without the carriage return at its end.
+#[tactic(auto, using(crate::proofs::ReadLaws::returns_read))]
 fn without_return(line: &[u8]) -> &[u8]
     ensures { result.now ≡ without_return line.now }
 {
@@ -34,6 +35,7 @@ fn without_return(line: &[u8]) -> &[u8]
 }
 
 // The line that a text begins with, without what ends it, and the text behind it.
+#[tactic(auto, using(crate::proofs::ReadLaws::lines_read))]
 fn first_line(text: &[u8]) -> (&[u8], &[u8])
     requires { 0 < length text.now }
     ensures lines { lines_of text.now ≡ result.0.now ∷ lines_of result.1.now }

@@ -1,5 +1,5 @@
 -- A desk whose owner has seen more, and a desk that may be used at a structure.
-use Rattle.plex_seat.proofs.Imports.{◌≡◌, ℕ, ◌<◌, ◌++◌, List, [], ◌∷◌, length, get_or, refl, sym, ap, subst, ◌∙◌, arith, get_or-append_seam, length-append, set-set, StrNo, IsConnector, PassShown, IsLater, DeskShown, pass_at, with_pass, IsLaterOn, BoardShown, with_pass-pass_at, SeatShown, IsSame, MaySit}
+use Rattle.plex_seat.proofs.Imports.{List, refl, sym, ap, subst, ◌∙◌, arith, set-set, StrNo, PassShown, IsLater, DeskShown, pass_at, with_pass, IsLaterOn, with_pass-pass_at, SeatShown, IsSame}
 
 -- ---- more was seen
 

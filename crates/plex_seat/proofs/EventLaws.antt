@@ -1,6 +1,5 @@
 -- A member that asks for events: what it asked for adds up.
-use Rattle.plex_seat.proofs.Imports.{◌≡◌, ℕ, ◌+◌, ◌<◌, ◌≤◌, ◌++◌, List, [], ◌∷◌, length, zero, suc, append_assoc, sym, ap, subst, ◌∙◌, arith, All, slice_index_or, slice_set, option_map_or, length-append, set-set, All-push, StrNo, AnyAsk, AnyCall, StrType, OfCache, PassShown, with_call, CellShown, DeskShown, IsLaterOn, no_pass, pass_at, with_pass, BoardShown, cell_on, Unanswered, OtherKind, NotMade, Unread, SeatShown, IsSame, pass_of, type_at, common_ask, HasCalled, HasFault, HasAskedForEvents}
-use Rattle.plex_board.specs.CfTypes.declared.shell_commands.ShellCmd.TheVariants as cmd
+use Rattle.plex_seat.proofs.Imports.{◌≡◌, ℕ, ◌+◌, ◌<◌, ◌≤◌, ◌++◌, List, [], ◌∷◌, length, zero, suc, append_assoc, sym, ap, subst, ◌∙◌, arith, slice_index_or, slice_set, option_map_or, length-append, set-set, All-push, StrNo, AnyAsk, AnyCall, StrType, OfCache, PassShown, with_call, CellShown, DeskShown, IsLaterOn, no_pass, pass_at, with_pass, BoardShown, cell_on, Unanswered, OtherKind, NotMade, Unread, SeatShown, IsSame, pass_of, type_at, common_ask, HasCalled, HasFault, HasAskedForEvents, ShellCmd}
 use Rattle.plex_seat.proofs.DeskLaws.{later_same}
 
 -- ---- a desk whose pass is replaced more than once
@@ -55,10 +54,10 @@ module _ {L : Type 0} where
     rest_with last is rest = rest ∙ ap (λ (pass : PassShown). with_pass before.on pass before.desk) is
 
     -- a call more
-    pub asked_more : (number : ℕ) → HasCalled (common_ask (type_at between) cmd.Next) number between after
+    pub asked_more : (number : ℕ) → HasCalled (common_ask (type_at between) ShellCmd.Next) number between after
         → HasAskedForEvents (most + 1) before after
     asked_more number called =
-        let asks : AnyAsk = common_ask (type_at between) cmd.Next in
+        let asks : AnyAsk = common_ask (type_at between) ShellCmd.Next in
         let call : AnyCall =
         record { no = called.told.no; by = (pass_of between).owner; ask = asks; told = called.told } in
         let new : PassShown = with_call asks called.told called.kept (pass_of between) in
@@ -70,8 +69,8 @@ module _ {L : Type 0} where
           count = omega (arith, asked.count, length-append asked.more (call ∷ []));
           calls = called.calls ∙ ap (λ (calls : List AnyCall). calls ++ call ∷ []) asked.calls
               ∙ append_assoc (pass_of before).calls asked.more (call ∷ []);
-          next = All-push (λ (call : AnyCall). call.ask ≡ common_ask (type_at before) cmd.Next) asked.more call
-              asked.next (ap (λ (type_is : StrType). common_ask type_is cmd.Next) type_same);
+          next = All-push (λ (call : AnyCall). call.ask ≡ common_ask (type_at before) ShellCmd.Next) asked.more call
+              asked.next (ap (λ (type_is : StrType). common_ask type_is ShellCmd.Next) type_same);
           tests = called.tests ∙ asked.tests;
           rest = rest_with (pass_at after.desk before.on) pass_same (rest_after before.on before.desk
               between.desk after.desk (pass_of between) new (pass_at after.desk before.on) asked.rest told);
@@ -101,7 +100,7 @@ module _ {L : Type 0} where
 
     -- the last call wasn't answered
     pub asked_fault : (limit : ℕ) (why : Unanswered) → most < limit
-        → HasFault (common_ask (type_at between) cmd.Next) why between after → HasAskedForEvents limit before after
+        → HasFault (common_ask (type_at between) ShellCmd.Next) why between after → HasAskedForEvents limit before after
     asked_fault limit OtherKind within fault = asked_later limit
         (omega (arith, within)) (subst (λ (seat : SeatShown L). IsLaterOn between.on between.desk seat.desk)
         (sym fault.0) (later_same between.on between.desk))

@@ -1,12 +1,5 @@
 -- What the closed structures say of an answer.
-use Rattle.plex_seat.proofs.Imports.{◌≡◌, ℕ, ◌<◌, ◌≤◌, ◌⊎◌, inl, inr, None, ◌++◌, List, [], ◌∷◌, length, map, Some, slice_get, get_or, sym, ap, subst, ◌∙◌, arith, All, option_map, get_or-append_seam, length-append, slice_get_cases, slice_get_within, slice_get-get_or, slice_get-map, StrForm, ConnId, StrNo, AnyHistory, Script, reply_numbered, CellShown, own_replies, DeskShown, pass_at, BoardShown, IsDeskOf, IsAccount, AreClosed, desk-pass_owner, Answer, SeatShown, IsSame, HasHeard, IsAnswerOf}
-use Rattle.plex_board.specs.PlexScript.declared.asks.AnyHistory.TheVariants as history
-
--- what holds of each holds of the last
-all_last : {A : Type 0} (P : A → Type 0) (front all : List A) (x : A) → all ≡ front ++ x ∷ [] → All P all → P x
-all_last P front all x are each =
-    let below : length front < length all = omega (arith, ap length are, length-append front (x ∷ [])) in
-    subst P (ap (λ l. get_or l (length front) x) are ∙ get_or-append_seam front x [] x) (each (length front) x below)
+use Rattle.plex_seat.proofs.Imports.{◌≡◌, ℕ, ◌<◌, ◌≤◌, ◌⊎◌, inl, inr, None, ◌++◌, List, [], ◌∷◌, length, map, Some, slice_get, get_or, sym, ap, subst, ◌∙◌, arith, option_map, All-pop, slice_get_cases, slice_get_within, slice_get-get_or, slice_get-map, StrForm, ConnId, StrNo, AnyHistory, Script, reply_numbered, CellShown, own_replies, DeskShown, pass_at, BoardShown, IsDeskOf, IsAccount, AreClosed, desk-pass_owner, Answer, SeatShown, IsSame, HasHeard, IsAnswerOf}
 
 -- what stands at a place
 pub there_is : {A : Type 0} (xs : List A) (i : ℕ) → i < length xs → (x : A) × (slice_get xs i ≡ Some x)
@@ -24,13 +17,13 @@ module _ {L : Type 0} (board : BoardShown L) (script : Script) (histories : List
   of_cell : (cell : CellShown L) → slice_get board.cells on.0 ≡ Some cell
       → IsAnswerOf script histories on last.owner answer
   of_cell cell there =
-      let entries : AnyHistory = get_or histories on.0 (history.Lock []) in
+      let entries : AnyHistory = get_or histories on.0 (AnyHistory.Lock []) in
       let some : on.0 < length board.cells = slice_get_within board.cells on.0 cell there in
       let first : slice_get histories on.0 ≡ Some entries =
-      slice_get-get_or histories on.0 (history.Lock []) (omega (arith, some, closed.structures)) in
+      slice_get-get_or histories on.0 (AnyHistory.Lock []) (omega (arith, some, closed.structures)) in
       let says = closed.closed on cell entries there first in
       let account : IsAccount cell entries (pass_at last on) =
-      all_last (λ desk. IsAccount cell entries (pass_at desk on)) left desks last are says.1 in
+      (All-pop (λ desk. IsAccount cell entries (pass_at desk on)) desks left (Some last) are says.1).1 in
       let whose : (pass_at last on).owner ≡ last.owner = desk-pass_owner board last on cell of_board there in
       record {
         form = cell.form;
@@ -53,8 +46,7 @@ module _ {L : Type 0} (board : BoardShown L) (script : Script) (histories : List
       → map (λ cell. cell.form) board.cells ≡ script.structures → (left desks : List DeskShown)
       → AreClosed board desks histories → desks ≡ left ++ after.desk ∷ [] → IsDeskOf after.board after.desk
       → HasHeard after answer → on.0 < length board.cells → IsAnswerOf script histories on caller answer
-  seat_answer at_board at_on of_caller same forms left desks closed are own heard there =
-      subst (λ who. IsAnswerOf script histories on who answer) (same.owner ∙ of_caller) (answer_of board
-      script histories on forms left desks after.desk closed are (subst (λ (b : BoardShown L). IsDeskOf b after.desk)
-      (same.board ∙ at_board) own) answer (subst (λ (o : StrNo). Some answer.reply ≡ reply_numbered
-      answer.no (pass_at after.desk o).replies) (same.on ∙ at_on) heard) there)
+  seat_answer at_board at_on of_caller same forms left desks closed are own heard there = rw (same.owner ∙ of_caller)
+      at (answer_of board script histories on forms left desks after.desk closed are (subst
+      (λ (b : BoardShown L). IsDeskOf b after.desk) (same.board ∙ at_board) own) answer (subst (λ (o : StrNo). Some
+      answer.reply ≡ reply_numbered answer.no (pass_at after.desk o).replies) (same.on ∙ at_on) heard) there)

@@ -1,5 +1,5 @@
 -- A member's own call is among those of its pass.
-use Rattle.plex_seat.proofs.Imports.{◌≡◌, ℕ, ◌++◌, ◌==◌, List, [], ◌∷◌, Bool, true, false, Option, None, Some, refl, sym, ap, ◌∙◌, arith, is_some, find, if◌then◌else◌, false≢true, nat_tests, eq-eqb, StrNo, Told, AnyAsk, AnyCall, call_numbered, AnyReply, PassShown, with_call, DeskShown, pass_at, IsAnsweredOn, BoardShown, pass_at-with_pass_same, desk-length, IsSeat}
+use Rattle.plex_seat.proofs.Imports.{◌≡◌, ◌++◌, ◌==◌, List, [], ◌∷◌, Bool, true, false, Option, None, Some, refl, sym, ap, ◌∙◌, arith, is_some, find, if◌then◌else◌, false≢true, eq-eqb, StrNo, Told, AnyAsk, AnyCall, call_numbered, AnyReply, PassShown, with_call, DeskShown, pass_at, IsAnsweredOn, BoardShown, pass_at-with_pass_same, desk-length, IsSeat}
 
 -- the last that is looked for is found
 found_last : {A : Type 0} (p : A → Bool) (xs : List A) (y : A) → p y ≡ true → is_some (find p (xs ++ y ∷ [])) ≡ true

@@ -1,8 +1,7 @@
 -- What is read as a command of a cache is spelled so, and what is spelled so is read.
 use Rattle.plex_spell.proofs.Imports.{codes, arith, lit<, ◌≡◌, ℕ, true, [], ◌∷◌, Option, Some, None, refl, CacheCmd, Read, Write, CrossInval, RegList, Castout, Unlock, CoClass, CoStats, DirInfo, Delete, StgStats, cache_tokens, IsGiven, cache_at, read_places, read_of, write_places, write_of, name_places, number_places, Rigour, Declared, Spells}
-use Rattle.plex_spell.proofs.PlaceLaws.{Words, FindsAll}
-use Rattle.plex_spell.proofs.PatternLaws.{ArePlaces}
 use Rattle.plex_spell.proofs.VerbLaws.{is_tail, verb-first, none-left, plain-first, row-complete, plain-complete}
+use Rattle.plex_spell.proofs.{PlaceLaws.Words, PlaceLaws.FindsAll, PatternLaws.ArePlaces}
 
 pub record CacheTold (rigour : Rigour) (declared : Declared) (ws rest : Words) (cmd : CacheCmd) : Type 0 where
   pub given : Option ℕ
@@ -28,15 +27,8 @@ cache-sound rigour declared (verb ∷ ws) rest cmd h =
     let P : CacheCmd → Type 0 = CacheTold rigour declared (verb ∷ ws) rest in
     let row = verb-first rigour declared verb ws rest cmd P in
     let word = plain-first rigour declared verb ws rest cmd P in
-    row (codes "READ") read_places read_of are_read (λ vs s. record {
-      given = vs.1.1.1.0;
-      is_given = refl;
-      spelled = s;
-    }) _ (row (codes "WRITE") write_places write_of are_write (λ vs s. record {
-      given = vs.1.1.1.1.1.1.0;
-      is_given = refl;
-      spelled = s;
-    }) _ (row (codes "CROSSINVAL") name_places (λ v. CrossInval v.0) are_name (λ vs. bare refl)
+    row (codes "READ") read_places read_of are_read (grind arith) _ (row (codes "WRITE") write_places write_of
+    are_write (grind arith) _ (row (codes "CROSSINVAL") name_places (λ v. CrossInval v.0) are_name (λ vs. bare refl)
     _ (word (codes "REGLIST") RegList (bare refl) _ (row (codes "CASTOUT") name_places (λ v. Castout v.0)
     are_name (λ vs. bare refl) _ (row (codes "UNLOCK") name_places (λ v. Unlock v.0) are_name (λ vs. bare refl)
     _ (row (codes "COCLASS") number_places (λ v. CoClass v.0) are_number (λ vs. bare refl) _ (word (codes "COSTATS")
@@ -59,16 +51,14 @@ module _ (rigour : Rigour) (declared : Declared) (ws rest : Words) (given : Opti
       (name, (index, (body, (class, (adj, (old, (given, (when_reg, tt)))))))) h tail are_write refl refl (λ us. refl))
   cache-complete (CrossInval name) tail is h = row-complete rigour declared (cache_at rigour declared)
       (codes "CROSSINVAL") ws rest name_places (λ v. CrossInval v.0) (name, tt) h tail are_name refl refl (λ us. refl)
-  cache-complete RegList tail is h =
-      plain-complete rigour declared (cache_at rigour declared) (codes "REGLIST") ws rest RegList h (λ us. refl)
+  cache-complete RegList tail is h = grind (arith, plain-complete)
   cache-complete (Castout name) tail is h = row-complete rigour declared (cache_at rigour declared)
       (codes "CASTOUT") ws rest name_places (λ v. Castout v.0) (name, tt) h tail are_name refl refl (λ us. refl)
   cache-complete (Unlock name) tail is h = row-complete rigour declared (cache_at rigour declared)
       (codes "UNLOCK") ws rest name_places (λ v. Unlock v.0) (name, tt) h tail are_name refl refl (λ us. refl)
   cache-complete (CoClass class) tail is h = row-complete rigour declared (cache_at rigour declared)
       (codes "COCLASS") ws rest number_places (λ v. CoClass v.0) (class, tt) h tail are_number refl refl (λ us. refl)
-  cache-complete CoStats tail is h =
-      plain-complete rigour declared (cache_at rigour declared) (codes "COSTATS") ws rest CoStats h (λ us. refl)
+  cache-complete CoStats tail is h = grind (arith, plain-complete)
   cache-complete (DirInfo name) tail is h = row-complete rigour declared (cache_at rigour declared)
       (codes "DIRINFO") ws rest name_places (λ v. DirInfo v.0) (name, tt) h tail are_name refl refl (λ us. refl)
   cache-complete (Delete name) tail is h = row-complete rigour declared (cache_at rigour declared)

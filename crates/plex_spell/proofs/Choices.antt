@@ -35,14 +35,10 @@ same_word-refl [] = refl
 same_word-refl (b ∷ w) = grind (arith, nat_tests, and_from, same_word-refl w)
 
 pub word-same : (v w : List ℕ) → same_word v w ≡ true → v ≡ w
-word-same [] [] h = refl
-word-same [] (c ∷ w) h = absurd (cc)
+word-same [] w h = grind arith
 word-same (b ∷ v) [] h = absurd (cc)
 word-same (b ∷ v) (c ∷ w) h =
-    let parts = and_parts (b == c) (same_word v w) h in
-    let first : b ≡ c = grind (arith, nat_tests) in
-    let rest = word-same v w parts.1 in
-    cc
+    let parts = and_parts (b == c) (same_word v w) h in grind (arith, nat_tests, word-same v w parts.1)
 
 pub same_word-of : (v w : List ℕ) → v ≡ w → same_word v w ≡ true
 same_word-of v w h = rw h (same_word-refl w)
@@ -50,5 +46,4 @@ same_word-of v w h = rw h (same_word-refl w)
 -- the same, where what was read shows the test
 pub pick : {X G : Type 0} {b : Bool} {x y : Option X} {v : X} → cond b x y ≡ Some v → (b ≡ true → x ≡ Some v → G)
     → (b ≡ false → y ≡ Some v → G) → G
-pick {b = true} h f g = f refl h
-pick {b = false} h f g = g refl h
+pick h f g = chosen _ _ _ _ f g h

@@ -1,5 +1,5 @@
 -- Words of two parts: data that are repeated, and resources.
-use Rattle.plex_spell.proofs.Imports.{◌≡◌, ℕ, ◌<◌, ◌≤◌, ◌+◌, ◌*◌, ◌==◌, ◌||◌, Bool, true, false, not, nat_lt, nat_le, List, [], ◌∷◌, ◌++◌, length, get_or, take, drop, Option, Some, None, option_map, refl, sym, ap, ◌∙◌, arith, inl, inr, lit<, decimal, list_all, repeat, before_first, after_first, position_or_len, take_while, and_parts, and_from, nat_tests, take_while-cons, split_at_first, passes_at_first, Name16, Resource, term_byte, block_of, Rigour, Form, Limits, Names, IsCut, AtLimits, IsNumber, IsRepeated, IsData, IsResource, is_term, ◌>>=◌, within_limits, number_of, text_of, name_of, stands_in, repeated_of, data_of, resource_in, resource_of}
+use Rattle.plex_spell.proofs.Imports.{◌≡◌, ℕ, ◌<◌, ◌≤◌, ◌+◌, ◌*◌, ◌==◌, Bool, true, false, not, nat_lt, nat_le, List, [], ◌∷◌, ◌++◌, length, get_or, take, drop, Option, Some, None, option_map, refl, sym, ap, ◌∙◌, arith, inl, inr, lit<, decimal, list_all, repeat, before_first, after_first, position_or_len, take_while, and_parts, and_from, or_right, nat_tests, take_while-cons, split_at_first, passes_at_first, Name16, Resource, term_byte, Rigour, Form, IsCut, AtLimits, IsNumber, IsRepeated, IsData, IsResource, is_term, ◌>>=◌, within_limits, number_of, text_of, name_of, stands_in, repeated_of, data_of, resource_in, resource_of}
 use Rattle.plex_spell.proofs.Choices.{chosen, not_some, mapped, bound}
 use Rattle.plex_spell.proofs.TextLaws.{any-place, characters-term, length-repeat}
 use Rattle.plex_spell.proofs.WordLaws.{Finds, kept_value, kept_finds, at_limits-map, at_limits-both, number-sound, number-complete, number-strict, text-sound, text-complete, name-sound, name-complete, le_true, true_le}
@@ -27,12 +27,12 @@ IsCut-stands at word h =
       first = list_all-take_while (λ b. not (b == at)) word;
     }
 
-not_free-middle : (at : ℕ) (xs ys : List ℕ) → is_free at (xs ++ at ∷ ys) ≡ true → ⊥
+pub not_free-middle : (at : ℕ) (xs ys : List ℕ) → is_free at (xs ++ at ∷ ys) ≡ true → ⊥
 not_free-middle at [] ys h = grind (arith, nat_tests, and_parts)
 not_free-middle at (x ∷ xs) ys h = not_free-middle at xs ys (and_parts (not (x == at)) (is_free at (xs ++ at ∷ ys))
     h).1
 
-same_cut : (at : ℕ) (a b c d : List ℕ) → is_free at a ≡ true → is_free at c ≡ true → a ++ at ∷ b ≡ c ++ at ∷ d
+pub same_cut : (at : ℕ) (a b c d : List ℕ) → is_free at a ≡ true → is_free at c ≡ true → a ++ at ∷ b ≡ c ++ at ∷ d
     → (a ≡ c) × (b ≡ d)
 same_cut at [] b [] d free_a free_c e = (refl, cc)
 same_cut at [] b (y ∷ c) d free_a free_c e = grind (arith, not_free-middle)
@@ -43,12 +43,8 @@ same_cut at (x ∷ a) b (y ∷ c) d free_a free_c e =
     (cc (more.0), more.1)
 
 stands-middle : (at : ℕ) (xs ys : List ℕ) → stands_in at (xs ++ at ∷ ys) ≡ true
-stands-middle at [] ys = let same : (at == at) ≡ true = grind (arith, nat_tests) in rw same refl
-stands-middle at (x ∷ xs) ys = or_right (x == at) (stands_in at (xs ++ at ∷ ys)) (stands-middle at xs ys)
-  where
-    or_right : (b c : Bool) → c ≡ true → (b || c) ≡ true
-    or_right true c h = refl
-    or_right false c h = h
+stands-middle at [] ys = grind (arith, nat_tests)
+stands-middle at (x ∷ xs) ys = grind (arith, or_right, stands-middle at xs ys)
 
 -- a cut is the one that a reader makes
 pub record Parts (at : ℕ) (word before after : List ℕ) : Type 0 where
@@ -88,18 +84,16 @@ resource-sound rigour word r h = chosen (stands_in 64 word) (resource_in rigour 
           cut = cut;
           named = grind (arith, at_limits-map);
           padded = grind (arith, at_limits-map);
-          numeral = rw (← same_hash) (number-sound rigour 0 4294967295 hash m.value (lit< tt) m.read);
+          numeral = rw (← same_hash) (number-sound rigour 0 4294967295 (lit< tt) hash m.value m.read);
         }
 
 pub resource-complete : (rigour : Rigour) (word : List ℕ) (r : Resource) → IsResource rigour r word
     → Finds rigour (resource_of rigour word) r
 resource-complete rigour word r h =
     let p = parts-IsCut 64 word h.name h.hash h.cut in
-    let n = name-complete rigour h.name r.name h.named.0 (grind (arith, at_limits-both, at_limits-map)) in
-    let k = number-complete rigour 0 4294967295 h.hash r.hash (lit< tt) h.numeral in
-    let made : Name16 → ℕ → Resource = λ name hash. record { name = name; hash = hash } in
-    let read : resource_in rigour h.name h.hash ≡ Some (made n.found k.found) = rw (n.read, k.read) refl in
-    rw (p.stands, p.before_is, p.after_is) (grind arith)
+    let n = name-complete rigour h.name r.name (h.named.0, (grind (arith, at_limits-both, at_limits-map))) in
+    let k = number-complete rigour 0 4294967295 (lit< tt) h.hash r.hash h.numeral in
+    grind arith
 
 -- ---- data
 
@@ -107,8 +101,7 @@ star_free : (word : List ℕ) → list_all term_byte word ≡ true → stands_in
 star_free [] h = refl
 star_free (b ∷ word) h =
     let parts = and_parts (term_byte b) (list_all term_byte word) h in
-    let other : (b == 42) ≡ false = grind (arith, nat_tests) in
-    rw other (star_free word parts.1)
+    grind (arith, nat_tests, star_free word parts.1)
 
 pub data-sound : (rigour : Rigour) (word text : List ℕ) → data_of rigour word ≡ Some text → IsData rigour text word
 data-sound rigour word text h = chosen (stands_in 42 word) (repeated_of
@@ -130,7 +123,7 @@ data-sound rigour word text h = chosen (stands_in 42 word) (repeated_of
           cut = cut;
           term = term;
           count = n;
-          numeral = number-sound rigour 1 4096 times n (lit< tt) b.read;
+          numeral = number-sound rigour 1 4096 (lit< tt) times n b.read;
           whole = kept_value rigour (nat_le (n * length piece) 4096) (repeat n piece) (take 1 piece) text (Unit {0})
               (λ (t : List ℕ). (t ≡ repeat n piece) × (length t ≤ 4096)) tt
               (λ fits. (refl, omega (arith, length-repeat n piece, true_le (n * length piece) 4096 fits))) b.then_;
@@ -149,7 +142,7 @@ repeated-complete : (rigour : Rigour) (text piece times : List ℕ) (count : ℕ
     → is_term piece ≡ true → IsNumber rigour 1 4096 count times → AtLimits rigour (Unit {0})
     ((text ≡ repeat count piece) × (length text ≤ 4096)) → Finds rigour (repeated_of rigour piece times) text
 repeated-complete Form text piece times count term numeral whole =
-    let n = number-complete Form 1 4096 times count (lit< tt) numeral in
+    let n = number-complete Form 1 4096 (lit< tt) times count numeral in
     rw (term, n.read) (kept_finds Form (nat_le (n.found * length piece) 4096) (repeat n.found piece) (take 1 piece)
     text (Unit {0}) ⊥ (λ x. absurd x) tt)
 repeated-complete rigour text piece times count term numeral whole =

@@ -1,12 +1,10 @@
 -- What is read as a command of a list structure is spelled so, and what is spelled so is read.
-use Rattle.plex_spell.proofs.Imports.{lit<, ◌≡◌, ℕ, Bool, true, List, [], ◌∷◌, Option, Some, None, codes, refl, ap, ◌∙◌, Cond, ListCmd, Update, Move, ReadList, LockSet, LockReset, LockTest, LControls, SetLimit, Monitor, Unmonitor, Label, list_tokens, IsListLine, number_places, list_at, use_at, lock_use_at, make_places, make_of, update_places, update_of, record_places, move_places, move_of, delete_places, delete_of, two_places, label_name, label_key, Rigour, same_word, Declared, Spells, Literal, Number, tokens_of, number_at}
+use Rattle.plex_spell.proofs.Imports.{arith, lit<, ◌≡◌, ℕ, Bool, true, List, [], ◌∷◌, Option, Some, None, codes, refl, ap, ◌∙◌, Cond, ListCmd, Update, Move, ReadList, LockSet, LockReset, LockTest, LControls, SetLimit, Monitor, Unmonitor, Label, list_tokens, IsListLine, number_places, list_at, use_at, lock_use_at, make_places, make_of, update_places, update_of, record_places, move_places, move_of, delete_places, delete_of, two_places, label_name, label_key, Rigour, same_word, Declared, Spells, Literal, Number, tokens_of}
 use Rattle.cf_types.specs.declared.list_commands.ListCmd.TheVariants.{Write, Read, Delete}
-use Rattle.plex_spell.specs.declared.labels.Label.TheVariants as label
-use Rattle.plex_spell.proofs.CacheLaws.{are_number}
-use Rattle.plex_spell.proofs.Choices.{pick, bound, word-same}
-use Rattle.plex_spell.proofs.PlaceLaws.{Words, FindsAll, Spells-append, Spells-split, number_at-sound, number_at-complete}
 use Rattle.plex_spell.proofs.PatternLaws.{ArePlaces}
+use Rattle.plex_spell.proofs.PlaceLaws.{Words, FindsAll, Spells-append, Spells-split, number_at-sound, number_at-complete}
 use Rattle.plex_spell.proofs.VerbLaws.{is_tail, verb-first, plain-first, other_first, none-left, row-complete, plain-complete, led-complete}
+use Rattle.plex_spell.proofs.{CacheLaws.are_number, Choices.bound, Choices.word-same}
 
 pub record ListTold (rigour : Rigour) (declared : Declared) (ws rest : Words) (cmd : ListCmd) : Type 0 where
   pub is_line : IsListLine cmd
@@ -35,14 +33,12 @@ module _ (rigour : Rigour) (declared : Declared) where
       (head : Bool) (known : Option Label) (body adj : Option (List ℕ)) (cond : Option Cond) → Spells rigour declared
       (Literal (codes "WRITE") ∷ tokens_of make_places (header, (head, (known, (body, (adj, (cond, tt))))))) ws rest
       → ListTold rigour declared ws rest (Write header head (label_name known) (label_key known) body adj cond)
-  make-told ws rest header head (Some (label.Name name)) body adj cond s = record { is_line = tt; spelled = s }
+  make-told ws rest header head (Some (Label.Name name)) body adj cond s = record { is_line = tt; spelled = s }
   make-told ws rest header head known body adj cond s = record { is_line = tt; spelled = s }
 
   lock_use-sound : (verb : List ℕ) (ws rest : Words) (cmd : ListCmd) → same_word verb (codes "LOCK") ≡ true
       → lock_use_at rigour ws ≡ Some (cmd, rest) → ListTold rigour declared (verb ∷ ws) rest cmd
-  lock_use-sound verb ws rest cmd e h =
-      let b = bound (λ (lock : ℕ × Words). use_at lock.0 lock.1) (number_at rigour ws) (cmd, rest) h in
-      used b.value.0 b.value.1 b.then_ (number_at-sound rigour declared ws b.value.1 b.value.0 b.read)
+  lock_use-sound verb ws rest cmd e h = grind (arith, bound, Words, used, number_at-sound)
     where
       used : (lock : ℕ) (us : Words) → use_at lock us ≡ Some (cmd, rest) → Spells rigour declared
           (Number 0 4294967295 lock ∷ []) ws us → ListTold rigour declared (verb ∷ ws) rest cmd
@@ -51,16 +47,11 @@ module _ (rigour : Rigour) (declared : Declared) where
           let P : ListCmd → Type 0 = ListTold rigour declared (verb ∷ ws) rest in
           let word = plain-first rigour declared w us rest cmd P in
           word (codes "SET") (LockSet lock) (λ s. record { is_line = tt; spelled = all (codes "SET") s }) _
-          (word (codes "RESET") (LockReset lock) (λ s. record { is_line = tt; spelled = all (codes "RESET") s }) _
-          (word (codes "TEST") (LockTest lock) (λ s. record { is_line = tt; spelled = all (codes "TEST") s }) _
-          (none-left rigour declared w us rest cmd P))) k
+          (grind (arith, all, none-left)) k
         where
           all : (text : List ℕ) → Spells rigour declared (Literal text ∷ []) (w ∷ us) rest → Spells
               rigour declared (Literal (codes "LOCK") ∷ Number 0 4294967295 lock ∷ Literal text ∷ []) (verb ∷ ws) rest
-          all text s = (
-            word-same verb (codes "LOCK") e,
-            Spells-append rigour declared (Number 0 4294967295 lock ∷ []) (Literal text ∷ []) ws (w ∷ us) rest n s,
-          )
+          all text s = (grind (arith, word-same, Spells-append))
 
   pub list-sound : (ws rest : Words) (cmd : ListCmd) → list_at rigour declared ws ≡ Some (cmd, rest)
       → ListTold rigour declared ws rest cmd
@@ -102,10 +93,10 @@ module _ (rigour : Rigour) (declared : Declared) (ws rest : Words) where
       make_places make_of (header, (head, (None, (body, (adj, (cond, tt)))))) h tail are_make refl refl (λ us. refl)
   list-complete (Write header head (Some name) None body adj cond) tail is h =
       row-complete rigour declared (list_at rigour declared) (codes "WRITE") ws rest make_places make_of
-      (header, (head, (Some (label.Name name), (body, (adj, (cond, tt)))))) h tail are_make refl refl (λ us. refl)
+      (header, (head, (Some (Label.Name name), (body, (adj, (cond, tt)))))) h tail are_make refl refl (λ us. refl)
   list-complete (Write header head None (Some key) body adj cond) tail is h =
       row-complete rigour declared (list_at rigour declared) (codes "WRITE") ws rest make_places make_of
-      (header, (head, (Some (label.Key key), (body, (adj, (cond, tt)))))) h tail are_make refl refl (λ us. refl)
+      (header, (head, (Some (Label.Key key), (body, (adj, (cond, tt)))))) h tail are_make refl refl (λ us. refl)
   list-complete (Write header head (Some name) (Some key) body adj cond) tail is h = absurd is
   list-complete (Update ref body adj version cond) tail is h =
       row-complete rigour declared (list_at rigour declared) (codes "UPDATE") ws rest

@@ -1,8 +1,7 @@
 -- What is read as a command of a lock structure is spelled so, and what is spelled so is read.
 use Rattle.plex_spell.proofs.Imports.{codes, ◌≡◌, true, [], ◌∷◌, Some, refl, LockCmd, Obtain, Alter, Release, Decide, RtRead, RtDelete, lock_tokens, lock_at, ask_places, decide_places, AResource, AConnector, Rigour, Declared, Spells}
-use Rattle.plex_spell.proofs.PlaceLaws.{Words, FindsAll}
-use Rattle.plex_spell.proofs.PatternLaws.{ArePlaces}
 use Rattle.plex_spell.proofs.VerbLaws.{is_tail, verb-first, none-left, row-complete}
+use Rattle.plex_spell.proofs.{PlaceLaws.Words, PlaceLaws.FindsAll, PatternLaws.ArePlaces}
 
 are_ask : ArePlaces ask_places
 are_ask = (tt, tt, (refl, tt, (tt, (refl, tt), tt)))

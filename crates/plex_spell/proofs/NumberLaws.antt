@@ -1,5 +1,5 @@
 -- The one spelling of a number.
-use Rattle.plex_spell.proofs.Imports.{◌≡◌, ℕ, ◌<◌, ◌^◌, ◌==◌, ◌&&◌, true, not, cond, nat_lt, List, [], ◌∷◌, length, get_or, Some, None, Result, Ok, Err, refl, sym, ◌∙◌, arith, zero, suc, rules, is_ascii_digit, decimal, list_all, result_ok, IsUtf8, ParsesUnsigned, digits_value, and_parts, and_from, nat_tests, decimal_is_IsNumeral, decimal_digit, first_decimal, decimal-digits_value, digits_decimal, digits_value-decimal, OkIff-at_ok, OkIff-at_err, IsUtf8-from_ascii, IsNumeralModel, numerals_by_value, parse_digits, is_numeral}
+use Rattle.plex_spell.proofs.Imports.{◌≡◌, ℕ, ◌<◌, ◌^◌, true, cond, nat_lt, List, [], ◌∷◌, length, get_or, Some, None, Result, Ok, Err, sym, arith, zero, suc, rules, is_ascii_digit, decimal, list_all, result_ok, IsUtf8, ParsesUnsigned, digits_value, and_parts, and_from, nat_tests, decimal_is_IsNumeral, decimal_digit, first_decimal, decimal-digits_value, digits_decimal, digits_value-decimal, OkIff-at_ok, OkIff-at_err, IsUtf8-from_ascii, IsNumeralModel, numerals_by_value, parse_digits, is_numeral}
 
 abbrev pub AreDigits : List ℕ → Type 0
 AreDigits word = list_all is_ascii_digit word ≡ true
@@ -9,8 +9,7 @@ own = numerals_by_value AreDigits (search rules)
 
 pub digits-numeral : (word : List ℕ) → is_numeral word ≡ true → AreDigits word
 digits-numeral [] h = absurd (cc)
-digits-numeral (b ∷ []) h = and_from (is_ascii_digit b) true h refl
-digits-numeral (b ∷ c ∷ bs) h = (and_parts (not (b == 48)) (list_all is_ascii_digit (b ∷ c ∷ bs)) h).1
+digits-numeral (b ∷ bs) h = grind (arith, and_parts, and_from)
 
 nonempty-numeral : (word : List ℕ) → is_numeral word ≡ true → 0 < length word
 nonempty-numeral [] h = absurd (cc)
@@ -43,9 +42,7 @@ value-decimal n h = digits_value-decimal own n h
 
 numeral_from : (word : List ℕ) → AreDigits word → 0 < length word → (get_or word 0 0 ≡ 48 → length word ≡ 1)
     → is_numeral word ≡ true
-numeral_from [] digits some short = absurd (omega arith)
-numeral_from (b ∷ []) digits some short = (and_parts (is_ascii_digit b) true digits).0
-numeral_from (b ∷ c ∷ bs) digits some short = grind (arith, nat_tests)
+numeral_from word digits some short = grind (arith, nat_tests, and_parts)
 
 pub numeral-decimal : (n : ℕ) → n < 2 ^ 64 → is_numeral (decimal n) ≡ true
 numeral-decimal n h =

@@ -1,11 +1,10 @@
 -- Rows of places: what a reader makes of them is what the words stand for.
-use Rattle.plex_spell.proofs.Imports.{arith, ◌≡◌, ℕ, ◌<◌, ◌^◌, ◌&&◌, Bool, true, false, not, List, [], ◌∷◌, ◌++◌, Option, Some, None, codes, refl, ap, ◌∙◌, list_any, and_parts, ADJUNCT_BYTES, NotHeld, HeldBy, is_names, Rigour, same_word, Declared, Token, Spells, facility_of, connector_of, structure_of, Literal, Number, Term, Short, Data, OnResource, OfConnector, OfStructure, NewFacility, NewName, references, option_tokens, flag_tokens, decision, number_of, text_of, data_of, resource_of, new_name_of, connector_in, structure_in, Place, Value, Values, tokens_at, tokens_of, value_at, values_at, option_at, flag_at, decision_of, refs_of, Amount, AName, AKey, AShort, AData, AResource, AFacility, ANewFacility, AConnector, AStructure, ANewName, Either, ADecision, SomeRefs, AClass, ARecord, ACond, ALabel, AFlag, AnOption}
-use Rattle.plex_spell.specs.declared.labels.Label.TheVariants as label
+use Rattle.plex_spell.proofs.Imports.{arith, ◌≡◌, ℕ, ◌<◌, ◌^◌, ◌&&◌, Bool, true, false, not, List, [], ◌∷◌, ◌++◌, Option, Some, None, refl, list_any, and_parts, ADJUNCT_BYTES, NotHeld, HeldBy, is_names, Rigour, same_word, Declared, Token, Spells, facility_of, connector_of, structure_of, Literal, Number, Short, Data, OnResource, OfConnector, OfStructure, NewFacility, NewName, references, option_tokens, flag_tokens, one_of_two, decision, number_of, text_of, data_of, resource_of, new_name_of, connector_in, structure_in, facility_in, either_of, OfFacility, Place, Value, Values, tokens_at, tokens_of, value_at, values_at, option_at, flag_at, decision_of, refs_of, Amount, AName, AKey, AShort, AData, AResource, AFacility, ANewFacility, AConnector, AStructure, ANewName, Either, ADecision, SomeRefs, AClass, ARecord, ACond, ALabel, AFlag, AnOption, Label}
 use Rattle.plex_spell.proofs.Choices.{chosen, bound}
 use Rattle.plex_spell.proofs.WordLaws.{number-sound, number-complete, text-sound, text-complete, new_name-sound, new_name-complete, declared-sound, declared-complete, facility-sound, facility-complete}
 use Rattle.plex_spell.proofs.CutLaws.{resource-sound, resource-complete, data-sound, data-complete}
-use Rattle.plex_spell.proofs.PlaceLaws.{Words, FindsAll, Spells-append, Spells-split, single-sound, single-complete, either-sound, either-complete, decision-sound, decision-complete, refs-sound, refs-complete, led, led-by, behind-sound, behind-complete}
-use Rattle.plex_spell.proofs.RowLaws.{free_of, free-begins, cond_keys, label_keys, name_at-sound, name_at-complete, key_word-sound, key_word-complete, nothing-sound, class-sound, class-complete, cond-sound, cond-complete, label-sound, label-complete, record-at-sound, record-at-complete}
+use Rattle.plex_spell.proofs.PlaceLaws.{Words, FindsAll, Spells-append, Spells-split, Reads, one_word, either-sound, either-complete, decision-sound, decision-complete, refs-sound, refs-complete, led, led-by, behind-sound, behind-complete}
+use Rattle.plex_spell.proofs.RowLaws.{free_of, free-parts, cond_keys, label_keys, names_read, keys_read, nothing-sound, class-sound, class-complete, cond-sound, cond-complete, label-sound, label-complete, record-at-sound, record-at-complete}
 
 -- ---- one place
 
@@ -40,7 +39,7 @@ module _ (rigour : Rigour) (declared : Declared) where
 
   flag-complete : (word : List ℕ) (ws rest : Words) (given : Bool) → free_of (word ∷ []) rest ≡ true
       → Spells rigour declared (flag_tokens word given) ws rest → FindsAll rigour (flag_at word ws) given rest
-  flag-complete word ws rest false free h = grind (arith, free-begins, Words)
+  flag-complete word ws rest false free h = grind (arith, free-parts, Words)
   flag-complete word ws rest true free h =
       let l = led-by rigour declared word [] ws rest h in
       rw l.begins (grind (arith, Words))
@@ -56,77 +55,78 @@ module _ (rigour : Rigour) (declared : Declared) where
       → ((ws rest : Words) (v : V) → Spells rigour declared (tokens v) ws rest → FindsAll rigour (reading ws) v rest)
       → (ws rest : Words) (value : Option V) → free_of (word ∷ []) rest ≡ true → Spells rigour
       declared (option_tokens word tokens value) ws rest → FindsAll rigour (option_at word reading ws) value rest
-  option-complete {V} word reading tokens complete ws rest None free h = grind (arith, free-begins, Words)
+  option-complete {V} word reading tokens complete ws rest None free h = grind (arith, free-parts, Words)
   option-complete {V} word reading tokens complete ws rest (Some v) free h = grind (arith, led-by, behind-complete)
+
+  -- a reading at a place makes of words what they stand for, and misses nothing where no option follows
+  record ReadsPlace (place : Place) : Type 0 where
+    sound : (ws rest : Words) (v : Value place) → value_at rigour declared place ws ≡ Some (v, rest)
+        → Spells rigour declared (tokens_at place v) ws rest
+    complete : (ws rest : Words) (v : Value place) → AreFixed place → free_of (keys place) rest ≡ true → Spells
+        rigour declared (tokens_at place v) ws rest → FindsAll rigour (value_at rigour declared place ws) v rest
+
+  always : (place : Place) → Reads rigour declared (value_at rigour declared place) (tokens_at place)
+      → ReadsPlace place
+  always place r = record { sound = r.sound; complete = λ ws rest v fixed free. r.complete ws rest v }
+
+  values_read : (place : Place) → IsPlace place → ReadsPlace place
+  values_read (Amount low high) is = always (Amount low high) (one_word rigour declared (number_of rigour low high)
+      (Number low high) (number-sound rigour low high is) (number-complete rigour low high is))
+  values_read AName is = always AName (names_read rigour declared)
+  values_read AKey is = always AKey (keys_read rigour declared)
+  values_read AShort is = always AShort (one_word rigour declared (text_of rigour ADJUNCT_BYTES) Short
+      (text-sound rigour ADJUNCT_BYTES) (text-complete rigour ADJUNCT_BYTES))
+  values_read AData is =
+      always AData (one_word rigour declared (data_of rigour) Data (data-sound rigour) (data-complete rigour))
+  values_read AResource is = always AResource
+      (one_word rigour declared (resource_of rigour) OnResource (resource-sound rigour) (resource-complete rigour))
+  values_read AFacility is = always AFacility (one_word rigour declared (facility_in rigour declared) OfFacility
+      (facility-sound rigour declared) (facility-complete rigour declared))
+  values_read ANewFacility is = always ANewFacility (one_word rigour declared facility_of NewFacility (λ w v e. e)
+      (λ w v e. record { found = v; read = e; same = λ _. refl }))
+  values_read AConnector is = always AConnector (one_word rigour declared (connector_in rigour declared) OfConnector
+      (λ w. declared-sound rigour w (connector_of declared.connectors w) (record { 0 = 0 }))
+      (λ w. declared-complete rigour w (connector_of declared.connectors w) (record { 0 = 0 })))
+  values_read AStructure is = always AStructure (one_word rigour declared (structure_in rigour declared) OfStructure
+      (λ w. declared-sound rigour w (structure_of declared.structures w) (record { 0 = 0 }))
+      (λ w. declared-complete rigour w (structure_of declared.structures w) (record { 0 = 0 })))
+  values_read ANewName is = always ANewName (one_word rigour
+      declared (new_name_of rigour) NewName (new_name-sound rigour) (λ w v e. new_name-complete rigour w v e.0 e.1))
+  values_read (Either first second) is = always (Either first second)
+      (one_word rigour declared (either_of first second) (one_of_two first second)
+      (either-sound rigour declared first second) (either-complete rigour declared first second is))
+  values_read ADecision is = always ADecision (one_word rigour declared decision_of decision
+      (decision-sound rigour declared) (decision-complete rigour declared))
+  values_read SomeRefs is = always SomeRefs
+      (one_word rigour declared refs_of references (refs-sound rigour declared) (refs-complete rigour declared))
+  values_read AClass is =
+      always AClass (record { sound = class-sound rigour declared; complete = class-complete rigour declared })
+  values_read ARecord is =
+      always ARecord (record { sound = record-at-sound rigour declared; complete = record-at-complete rigour declared })
+  values_read ACond is = record {
+    sound = cond-sound rigour declared;
+    complete = λ ws rest v fixed. cond-complete rigour declared ws rest v;
+  }
+  values_read ALabel is = record {
+    sound = label-sound rigour declared;
+    complete = λ ws rest v fixed. label-complete rigour declared ws rest v;
+  }
+  values_read (AFlag word) is =
+      record { sound = flag-sound word; complete = λ ws rest v fixed. flag-complete word ws rest v }
+  values_read (AnOption word place) is = let r = values_read place is in record {
+    sound = option-sound word (value_at rigour declared place) (tokens_at place) r.sound;
+    complete = λ ws rest v fixed. option-complete word (value_at rigour declared place) (tokens_at place)
+        (λ us more x. r.complete us more x fixed.1 (rw fixed.0 (free_none more))) ws rest v;
+  }
 
   pub value-sound : (place : Place) (ws rest : Words) (v : Value place) → IsPlace place
       → value_at rigour declared place ws ≡ Some (v, rest) → Spells rigour declared (tokens_at place v) ws rest
-  value-sound (Amount low high) ws rest v is h = grind (arith, single-sound, number-sound)
-  value-sound AName ws rest v is h = name_at-sound rigour declared ws rest v h
-  value-sound AKey ws rest v is h = key_word-sound rigour declared ws rest v h
-  value-sound AShort ws rest v is h =
-      single-sound rigour declared (text_of rigour ADJUNCT_BYTES) Short (text-sound rigour ADJUNCT_BYTES) ws rest v h
-  value-sound AData ws rest v is h =
-      single-sound rigour declared (data_of rigour) Data (data-sound rigour) ws rest v h
-  value-sound AResource ws rest v is h =
-      single-sound rigour declared (resource_of rigour) OnResource (resource-sound rigour) ws rest v h
-  value-sound AFacility ws rest v is h = grind (arith, single-sound, facility-sound)
-  value-sound ANewFacility ws rest v is h =
-      single-sound rigour declared facility_of NewFacility (λ w x e. e) ws rest v h
-  value-sound AConnector ws rest v is h = single-sound rigour declared (connector_in rigour declared)
-      OfConnector (λ w. declared-sound rigour w (connector_of declared.connectors w) (record { 0 = 0 })) ws rest v h
-  value-sound AStructure ws rest v is h = single-sound rigour declared (structure_in rigour declared)
-      OfStructure (λ w. declared-sound rigour w (structure_of declared.structures w) (record { 0 = 0 })) ws rest v h
-  value-sound ANewName ws rest v is h =
-      single-sound rigour declared (new_name_of rigour) NewName (new_name-sound rigour) ws rest v h
-  value-sound (Either first second) ws rest v is h = grind (arith, single-sound, either-sound)
-  value-sound ADecision ws rest v is h =
-      single-sound rigour declared decision_of decision (decision-sound rigour declared) ws rest v h
-  value-sound SomeRefs ws rest v is h =
-      single-sound rigour declared refs_of references (refs-sound rigour declared) ws rest v h
-  value-sound AClass ws rest v is h = class-sound rigour declared ws rest v h
-  value-sound ARecord ws rest v is h = record-at-sound rigour declared ws rest v h
-  value-sound ACond ws rest v is h = cond-sound rigour declared ws rest v h
-  value-sound ALabel ws rest v is h = label-sound rigour declared ws rest v h
-  value-sound (AFlag word) ws rest v is h = flag-sound word ws rest v h
-  value-sound (AnOption word place) ws rest v is h = option-sound word
-      (value_at rigour declared place) (tokens_at place) (λ us more x. value-sound place us more x is) ws rest v h
+  value-sound place ws rest v is h = (values_read place is).sound ws rest v h
 
   pub value-complete : (place : Place) (ws rest : Words) (v : Value place) → IsPlace place → AreFixed place
       → free_of (keys place) rest ≡ true → Spells rigour declared (tokens_at place v) ws rest
       → FindsAll rigour (value_at rigour declared place ws) v rest
-  value-complete (Amount low high) ws rest v is fixed free h = single-complete rigour declared
-      (number_of rigour low high) (Number low high) v (λ w. number-complete rigour low high w v is) ws rest h
-  value-complete AName ws rest v is fixed free h = name_at-complete rigour declared ws rest v h
-  value-complete AKey ws rest v is fixed free h = key_word-complete rigour declared ws rest v h
-  value-complete AShort ws rest v is fixed free h = single-complete
-      rigour declared (text_of rigour ADJUNCT_BYTES) Short v (λ w. text-complete rigour ADJUNCT_BYTES w v) ws rest h
-  value-complete AData ws rest v is fixed free h =
-      single-complete rigour declared (data_of rigour) Data v (λ w. data-complete rigour w v) ws rest h
-  value-complete AResource ws rest v is fixed free h =
-      single-complete rigour declared (resource_of rigour) OnResource v (λ w. resource-complete rigour w v) ws rest h
-  value-complete AFacility ws rest v is fixed free h = grind (arith, single-complete, facility-complete)
-  value-complete ANewFacility ws rest v is fixed free h = grind (arith, single-complete)
-  value-complete AConnector ws rest v is fixed free h =
-      single-complete rigour declared (connector_in rigour declared) OfConnector v
-      (λ w. declared-complete rigour w (connector_of declared.connectors w) (record { 0 = 0 }) v) ws rest h
-  value-complete AStructure ws rest v is fixed free h =
-      single-complete rigour declared (structure_in rigour declared) OfStructure v
-      (λ w. declared-complete rigour w (structure_of declared.structures w) (record { 0 = 0 }) v) ws rest h
-  value-complete ANewName ws rest v is fixed free h = grind (arith, single-complete, new_name-complete)
-  value-complete (Either first second) ws rest v is fixed free h = grind (arith, single-complete, either-complete)
-  value-complete ADecision ws rest v is fixed free h =
-      single-complete rigour declared decision_of decision v (decision-complete rigour declared v) ws rest h
-  value-complete SomeRefs ws rest v is fixed free h =
-      single-complete rigour declared refs_of references v (refs-complete rigour declared v) ws rest h
-  value-complete AClass ws rest v is fixed free h = class-complete rigour declared ws rest v h
-  value-complete ARecord ws rest v is fixed free h = record-at-complete rigour declared ws rest v h
-  value-complete ACond ws rest v is fixed free h = cond-complete rigour declared ws rest v free h
-  value-complete ALabel ws rest v is fixed free h = label-complete rigour declared ws rest v free h
-  value-complete (AFlag word) ws rest v is fixed free h = flag-complete word ws rest v free h
-  value-complete (AnOption word place) ws rest v is fixed free h =
-      option-complete word (value_at rigour declared place) (tokens_at place)
-      (λ us more x. value-complete place us more x is fixed.1 (rw fixed.0 (free_none more))) ws rest v free h
+  value-complete place ws rest v is fixed free h = (values_read place is).complete ws rest v fixed free h
 
 -- ---- rows
 
@@ -194,20 +194,15 @@ module _ (rigour : Rigour) (declared : Declared) where
       → is_apart others (keys place) ≡ true → (Spells rigour declared us ws rest → free_of others ws ≡ true)
       → Spells rigour declared (tokens_at place v ++ us) ws rest → free_of others ws ≡ true
   at_start others ACond None us ws rest h go k = go k
-  at_start others ACond (Some (NotHeld lock)) us ws rest h go k = begun others (codes "NOTHELD") (Number
-      0 4294967295 lock ∷ us) ws rest (and_parts (not (list_any (same_word (codes "NOTHELD")) others)) _ h).0 k
-  at_start others ACond (Some (HeldBy lock)) us ws rest h go k = begun others (codes "HELDBY") (Number
-      0 4294967295 lock ∷ us) ws rest (and_parts (not (list_any (same_word (codes "NOTHELD")) others)) _ h).1 k
+  at_start others ACond (Some (NotHeld lock)) us ws rest h go k = grind (arith, begun, and_parts)
+  at_start others ACond (Some (HeldBy lock)) us ws rest h go k = grind (arith, begun, and_parts)
   at_start others ALabel None us ws rest h go k = go k
-  at_start others ALabel (Some (label.Name name)) us ws rest h go k = begun others (codes "NAME")
-      (Term name.0 ∷ us) ws rest (and_parts (not (list_any (same_word (codes "NAME")) others)) _ h).0 k
-  at_start others ALabel (Some (label.Key key)) us ws rest h go k = begun others (codes "KEY")
-      (Term key.0 ∷ us) ws rest (and_parts (not (list_any (same_word (codes "NAME")) others)) _ h).1 k
+  at_start others ALabel (Some (Label.Name name)) us ws rest h go k = grind (arith, begun, and_parts)
+  at_start others ALabel (Some (Label.Key key)) us ws rest h go k = grind (arith, begun, and_parts)
   at_start others (AFlag word) false us ws rest h go k = go k
   at_start others (AFlag word) true us ws rest h go k = begun others word us ws rest h k
   at_start others (AnOption word place) None us ws rest h go k = go k
-  at_start others (AnOption word place) (Some v) us ws rest h go k =
-      begun others word (tokens_at place v ++ us) ws rest h k
+  at_start others (AnOption word place) (Some v) us ws rest h go k = grind (arith, begun)
   at_start others place v us ws rest h go k = absurd (cc)
 
   keys-free : (others : List (List ℕ)) (places : List Place) (values : Values places) (ws rest : Words)
@@ -235,6 +230,5 @@ module _ (rigour : Rigour) (declared : Declared) where
       rw v.read (record {
         found = (v.found, more.found);
         read = more.read;
-        same = λ e. ap (λ (x : Value place). (let p : Values (place ∷ places) = (x, more.found) in p)) (v.same e)
-            ∙ ap (λ (xs : Values places). (let p : Values (place ∷ places) = (values.0, xs) in p)) (more.same e);
+        same = grind arith;
       })

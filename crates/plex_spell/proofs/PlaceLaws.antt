@@ -1,6 +1,5 @@
 -- A reader of a row of places reads what the words stand for, and misses nothing.
-use Rattle.plex_spell.proofs.Imports.{arith, ◌≡◌, ℕ, Bool, true, false, List, [], ◌∷◌, ◌++◌, Option, Some, option_map, refl, ap, ◌∙◌, lit<, Refs, Decision, Keep, Deny, Notify, Rigour, same_word, begins_with, words_behind, Declared, Token, IsWord, Spells, Literal, Number, one_of_two, references, decision, is_names, on_first, number_of, either_of, decision_of, refs_of, number_at}
-use Rattle.cf_types.specs.declared.forms.Refs.TheVariants as refs
+use Rattle.plex_spell.proofs.Imports.{arith, ◌≡◌, ℕ, Bool, true, false, List, [], ◌∷◌, ◌++◌, Option, Some, option_map, refl, lit<, Refs, Decision, Rigour, same_word, begins_with, words_behind, Declared, Token, IsWord, Spells, Literal, Number, one_of_two, references, decision, is_names, on_first, number_of, either_of, decision_of, refs_of, number_at}
 use Rattle.plex_spell.proofs.Choices.{chosen, not_some, mapped, word-same, same_word-of}
 use Rattle.plex_spell.proofs.WordLaws.{Finds, number-sound, number-complete}
 
@@ -51,35 +50,29 @@ module _ (rigour : Rigour) (declared : Declared) where
 
 -- ---- choices of words
 
-pub either-sound : (first second : List ℕ) (rigour : Rigour) (declared : Declared) (w : List ℕ) (b : Bool)
-    → either_of first second w ≡ Some b → IsWord rigour declared (one_of_two first second b) w
-either-sound first second rigour declared w b h = grind (arith, chosen, word-same, not_some)
-
-pub either-complete : (first second : List ℕ) → same_word second first ≡ false
-    → (rigour : Rigour) (declared : Declared) (b : Bool) (w : List ℕ)
-    → IsWord rigour declared (one_of_two first second b) w → Finds rigour (either_of first second w) b
-either-complete first second other rigour declared true w h = grind (arith, same_word-of)
-either-complete first second other rigour declared false w h = grind (arith, same_word-of)
-
 module _ (rigour : Rigour) (declared : Declared) where
+  pub either-sound : (first second : List ℕ) (w : List ℕ) (b : Bool) → either_of first second w ≡ Some b
+      → IsWord rigour declared (one_of_two first second b) w
+  either-sound first second w b h = grind (arith, chosen, word-same, not_some)
+
+  pub either-complete : (first second : List ℕ) → same_word second first ≡ false → (w : List ℕ) (b : Bool)
+      → IsWord rigour declared (one_of_two first second b) w → Finds rigour (either_of first second w) b
+  either-complete first second other w b h = grind (arith, same_word-of)
+
   pub decision-sound : (w : List ℕ) (how : Decision) → decision_of w ≡ Some how
       → IsWord rigour declared (decision how) w
   decision-sound w how h = grind (arith, chosen, word-same, not_some)
 
-  pub decision-complete : (how : Decision) (w : List ℕ) → IsWord rigour declared
-      (decision how) w → Finds rigour (decision_of w) how
-  decision-complete Keep w h = record { found = Keep; read = ap decision_of h; same = λ _. refl }
-  decision-complete Deny w h = record { found = Deny; read = ap decision_of h; same = λ _. refl }
-  decision-complete Notify w h = record { found = Notify; read = ap decision_of h; same = λ _. refl }
+  pub decision-complete : (w : List ℕ) (how : Decision) → IsWord rigour declared (decision how) w
+      → Finds rigour (decision_of w) how
+  decision-complete w how h = grind arith
 
   pub refs-sound : (w : List ℕ) (how : Refs) → refs_of w ≡ Some how → IsWord rigour declared (references how) w
   refs-sound w how h = grind (arith, chosen, word-same, not_some)
 
-  pub refs-complete : (how : Refs) (w : List ℕ) → IsWord rigour declared
-      (references how) w → Finds rigour (refs_of w) how
-  refs-complete refs.Names w h = record { found = refs.Names; read = ap refs_of h; same = λ _. refl }
-  refs-complete refs.Keys w h = record { found = refs.Keys; read = ap refs_of h; same = λ _. refl }
-  refs-complete refs.Nothing w h = grind arith
+  pub refs-complete : (w : List ℕ) (how : Refs) → IsWord rigour declared (references how) w
+      → Finds rigour (refs_of w) how
+  refs-complete w how h = grind arith
 
   -- ---- words that come first
 
@@ -121,4 +114,22 @@ module _ (rigour : Rigour) (declared : Declared) where
   pub number_at-complete : (ws rest : Words) (n : ℕ)
       → Spells rigour declared (Number 0 4294967295 n ∷ []) ws rest → FindsAll rigour (number_at rigour ws) n rest
   number_at-complete ws rest n h = single-complete rigour declared (number_of rigour 0 4294967295)
-      (Number 0 4294967295) n (λ w e. number-complete rigour 0 4294967295 w n (lit< tt) e) ws rest h
+      (Number 0 4294967295) n (λ w. number-complete rigour 0 4294967295 (lit< tt) w n) ws rest h
+
+-- ---- both directions
+
+-- a reading makes of words what they stand for, and misses nothing
+pub record Reads {V : Type 0} (rigour : Rigour) (declared : Declared) (reading : Words → Option (V × Words))
+    (tokens : V → List Token) : Type 0 where
+  pub sound : (ws rest : Words) (v : V) → reading ws ≡ Some (v, rest) → Spells rigour declared (tokens v) ws rest
+  pub complete : (ws rest : Words) (v : V) → Spells rigour declared (tokens v) ws rest
+      → FindsAll rigour (reading ws) v rest
+
+-- so does one that reads the first word
+pub one_word : {V : Type 0} (rigour : Rigour) (declared : Declared) (f : List ℕ → Option V) (token : V → Token)
+    → ((w : List ℕ) (v : V) → f w ≡ Some v → IsWord rigour declared (token v) w) → ((w : List ℕ) (v : V) → IsWord
+    rigour declared (token v) w → Finds rigour (f w) v) → Reads rigour declared (on_first f) (λ v. token v ∷ [])
+one_word rigour declared f token sound complete = record {
+  sound = single-sound rigour declared f token sound;
+  complete = λ ws rest v. single-complete rigour declared f token v (λ w. complete w v) ws rest;
+}

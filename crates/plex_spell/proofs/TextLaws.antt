@@ -1,24 +1,20 @@
 -- Texts of term characters, and where a byte stands in a text.
-use Rattle.plex_spell.proofs.Imports.{◌≡◌, ℕ, ◌<◌, ◌≤◌, ◌+◌, ◌-◌, ◌==◌, ◌||◌, Bool, true, false, not, cond, nat_lt, List, [], ◌∷◌, ◌++◌, length, take, drop, Some, None, position, refl, ◌∙◌, arith, zero, suc, length-drop, length-append, ◌*◌, list_all, list_any, position_or_len, repeat, and_parts, and_from, nat_tests, take_all, length-take, IsTerm, term_byte, fault_at, fails_at_some, is_term}
+use Rattle.plex_spell.proofs.Imports.{same_from_all_zip, ◌≡◌, ℕ, ◌<◌, ◌≤◌, ◌+◌, ◌-◌, ◌==◌, Bool, true, false, not, cond, nat_lt, List, [], ◌∷◌, length, take, drop, Some, None, position, refl, arith, zero, suc, length-drop, length-append, ◌*◌, list_all, list_any, position_or_len, repeat, list_all-append, and_parts, and_from, nat_tests, take_all, length-take, IsTerm, term_byte, fault_at, fails_at_some, is_term}
 
 pub characters-term : (word : List ℕ) → is_term word ≡ true → list_all term_byte word ≡ true
-characters-term [] h = absurd (cc)
-characters-term (b ∷ bs) h = h
+characters-term word h = grind arith
 
 pub nonempty-term : (word : List ℕ) → is_term word ≡ true → 0 < length word
-nonempty-term [] h = absurd (cc)
-nonempty-term (b ∷ bs) h = omega arith
+nonempty-term word h = grind arith
 
 pub term_from : (word : List ℕ) → 0 < length word → list_all term_byte word ≡ true → is_term word ≡ true
-term_from [] h k = absurd (omega arith)
-term_from (b ∷ bs) h k = k
+term_from word h k = grind arith
 
 list_all-take : (q : ℕ → Bool) (n : ℕ) (xs : List ℕ) → list_all q xs ≡ true → list_all q (take n xs) ≡ true
 list_all-take q zero xs h = refl
 list_all-take q (suc n) [] h = refl
 list_all-take q (suc n) (x ∷ xs) h =
-    let parts = and_parts (q x) (list_all q xs) h in and_from (q x) (list_all q (take n xs)) parts.0
-    (list_all-take q n xs parts.1)
+    let parts = and_parts (q x) (list_all q xs) h in grind (arith, and_from, list_all-take q n xs parts.1)
 
 -- the front of such a text
 pub IsTerm-take : (limit : ℕ) (word : List ℕ) → 0 < limit → is_term word ≡ true → IsTerm limit (take limit word)
@@ -50,16 +46,9 @@ no_fault limit text at term fault = at_empty (length text == 0) refl fault
     at_empty true none e = let empty : length text ≡ 0 = grind (arith, nat_tests) in omega (arith, term.nonempty)
     at_empty false some e = let fails = fails_at_some term_byte text at e in let passes = term.characters in cc
 
-list_all-append : (q : ℕ → Bool) (xs ys : List ℕ) → list_all q xs ≡ true → list_all q ys ≡ true
-    → list_all q (xs ++ ys) ≡ true
-list_all-append q [] ys h k = k
-list_all-append q (x ∷ xs) ys h k =
-    let parts = and_parts (q x) (list_all q xs) h in and_from (q x) (list_all q (xs ++ ys)) parts.0
-    (list_all-append q xs ys parts.1 k)
-
 list_all-repeat : (q : ℕ → Bool) (n : ℕ) (xs : List ℕ) → list_all q xs ≡ true → list_all q (repeat n xs) ≡ true
 list_all-repeat q zero xs h = refl
-list_all-repeat q (suc n) xs h = list_all-append q xs (repeat n xs) h (list_all-repeat q n xs h)
+list_all-repeat q (suc n) xs h = grind (arith, list_all-append, and_from, list_all-repeat q n xs h)
 
 pub length-repeat : (n : ℕ) (xs : List ℕ) → length (repeat n xs) ≡ n * length xs
 length-repeat zero xs = grind arith
@@ -69,3 +58,8 @@ pub IsTerm-repeat : (limit n : ℕ) (word : List ℕ) → is_term word ≡ true 
     → IsTerm limit (repeat n word)
 IsTerm-repeat limit n word h some short =
     grind (arith, length-repeat, list_all-repeat, characters-term, length-append, nonempty-term)
+
+-- what the code that copies and cuts texts cites
+pub ruleset copies_told = (same_from_all_zip, IsTerm-repeat)
+
+pub ruleset cuts_told = (any-some, any-none, rest_whole)

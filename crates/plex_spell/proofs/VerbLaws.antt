@@ -1,9 +1,7 @@
 -- Commands by their first words.
 use Rattle.plex_spell.proofs.Imports.{arith, ◌≡◌, ℕ, Bool, true, false, not, ◌&&◌, cond, List, [], ◌∷◌, Option, Some, None, codes, refl, ap, list_any, and_parts, Rigour, same_word, Declared, Token, Spells, Literal, Place, Values, tokens_of, values_at}
-use Rattle.plex_spell.proofs.Choices.{pick, word-same}
-use Rattle.plex_spell.proofs.PlaceLaws.{Words, FindsAll}
-use Rattle.plex_spell.proofs.RowLaws.{free_of}
 use Rattle.plex_spell.proofs.PatternLaws.{ArePlaces, keys, AreFree, are_rows, values-sound, values-complete}
+use Rattle.plex_spell.proofs.{Choices.pick, Choices.word-same, PlaceLaws.Words, PlaceLaws.FindsAll, RowLaws.free_of}
 
 -- a command that was read behind its first word
 pub verb-sound : {C : Type 0} (rigour : Rigour) (declared : Declared) (verb word : List ℕ)
@@ -29,8 +27,7 @@ module _ {C : Type 0} (rigour : Rigour) (declared : Declared) (verb : List ℕ) 
   pub plain-first : (word : List ℕ) (made : C) → (Spells rigour declared (Literal word ∷ []) (verb ∷ ws) rest
       → P made) → (next : Option (C × Words)) → (next ≡ Some (c, rest) → P c)
       → cond (same_word verb word) (let p : C × Words = (made, ws) in Some p) next ≡ Some (c, rest) → P c
-  plain-first word made told next others h = pick {b = same_word verb word}
-      {x = (let p : C × Words = (made, ws) in Some p)} h (λ e k. grind (arith, Words, word-same)) (λ _. others)
+  plain-first word made told next others h = grind (arith, pick, Words, word-same)
 
   -- none of them
   pub none-left : (let none : Option (C × Words) = None in none) ≡ Some (c, rest) → P c
@@ -94,10 +91,8 @@ module _ {C : Type 0} (rigour : Rigour) (declared : Declared) (reading : Words �
       → Spells rigour declared (Literal word ∷ tokens_of places values) ws rest → is_tail rest ≡ true
       → ArePlaces places → are_rows places ≡ true → all_lack_retry places ≡ true → ((us : Words) → reading
       (word ∷ us) ≡ values_at rigour declared places made us) → FindsAll rigour (reading ws) (made values) rest
-  row-complete places made values h tail are rows lack is = command-complete rigour declared
-      word places made values ws rest are rows (AreFree-tail places rest tail lack) reading is h
+  row-complete places made values h tail are rows lack is = grind (arith, command-complete, AreFree-tail)
 
   pub plain-complete : (c : C) → Spells rigour declared (Literal word ∷ []) ws rest → ((us : Words)
       → reading (word ∷ us) ≡ (let p : C × Words = (c, us) in Some p)) → FindsAll rigour (reading ws) c rest
-  plain-complete c h is = led-complete rigour declared word [] c ws rest reading (λ us. (let p : C
-      × Words = (c, us) in Some p)) is (λ us k. rw k (record { found = c; read = refl; same = λ _. refl })) h
+  plain-complete c h is = grind (arith, led-complete, Words)

@@ -1,5 +1,5 @@
 -- A reader of a word reads what the word stands for, and misses nothing.
-use Rattle.plex_spell.proofs.Imports.{◌≡◌, ℕ, ◌<◌, ◌≤◌, ◌^◌, ◌==◌, ◌&&◌, ◌||◌, Bool, true, false, nat_le, List, [], ◌∷◌, length, Option, Some, None, option_map, refl, ap, ◌∙◌, arith, eq-eqb, lit<, is_ascii_uppercase, is_ascii_digit, decimal, list_all, and_parts, and_from, nat_tests, Name16, Key16, CfId, EntryId, term_byte, block_of, Rigour, Form, Limits, Names, Declared, AtLimits, AtNames, IsNumber, IsText, IsName, IsRecord, is_term, is_name, facility_of, is_declared, ◌>>=◌, within_limits, named_value, is_names, number_of, text_of, name_of, key_of, new_name_of, record_of, facility_in}
+use Rattle.plex_spell.proofs.Imports.{◌≡◌, ℕ, ◌<◌, ◌≤◌, ◌^◌, ◌==◌, ◌&&◌, ◌||◌, Bool, true, false, nat_le, List, [], ◌∷◌, length, Option, Some, None, option_map, refl, sym, ap, ◌∙◌, arith, eq-eqb, lit<, is_ascii_uppercase, is_ascii_digit, decimal, list_all, and_parts, and_from, nat_tests, Name16, Key16, CfId, EntryId, term_byte, block_of, Rigour, Form, Names, Declared, AtLimits, AtNames, IsNumber, IsText, IsName, IsRecord, is_term, is_name, facility_of, is_declared, ◌>>=◌, within_limits, named_value, is_names, number_of, text_of, name_of, key_of, new_name_of, record_of, facility_in}
 use Rattle.plex_spell.proofs.Choices.{chosen, not_some, mapped, bound}
 use Rattle.plex_spell.proofs.NumberLaws.{decimal-numeral, value-decimal, numeral-decimal}
 
@@ -17,8 +17,7 @@ kept_value rigour false value other v P Q p q h = absurd (cc)
 
 pub kept_finds : {V : Type 0} (rigour : Rigour) (fits : Bool) (value other v : V) (P Q : Type 0)
     → (Q → (fits ≡ true) × (value ≡ v)) → AtLimits rigour P Q → Finds rigour (within_limits rigour fits value other) v
-kept_finds Form true value other v P Q f h = record { found = value; read = refl; same = λ e. absurd (cc) }
-kept_finds Form false value other v P Q f h = record { found = other; read = refl; same = λ e. absurd (cc) }
+kept_finds Form fits value other v P Q f h = grind arith
 kept_finds rigour fits value other v P Q f h = grind arith
 
 -- ---- numbers
@@ -26,9 +25,9 @@ kept_finds rigour fits value other v P Q f h = grind arith
 in_range : (low high v : ℕ) → (nat_le low v && nat_le v high) ≡ true → (low ≤ v) × (v ≤ high)
 in_range low high v h = grind (arith, and_parts, nat_tests)
 
-pub number-sound : (rigour : Rigour) (low high : ℕ) (word : List ℕ) (n : ℕ)
-    → high < 2 ^ 64 → number_of rigour low high word ≡ Some n → IsNumber rigour low high n word
-number-sound rigour low high word n small h = grind (arith, chosen, kept_value, in_range, decimal-numeral, not_some)
+pub number-sound : (rigour : Rigour) (low high : ℕ) → high < 2 ^ 64 → (word : List ℕ) (n : ℕ)
+    → number_of rigour low high word ≡ Some n → IsNumber rigour low high n word
+number-sound rigour low high small word n h = grind (arith, chosen, kept_value, in_range, decimal-numeral, not_some)
 
 -- a number that keeps its range is read
 pub number-strict : (rigour : Rigour) (low high : ℕ) (word : List ℕ) (n : ℕ)
@@ -36,10 +35,10 @@ pub number-strict : (rigour : Rigour) (low high : ℕ) (word : List ℕ) (n : �
 number-strict rigour low high word n small e at_least at_most =
     grind (arith, numeral-decimal, value-decimal, and_from, nat_tests)
 
-pub number-complete : (rigour : Rigour) (low high : ℕ) (word : List ℕ) (n : ℕ)
-    → high < 2 ^ 64 → IsNumber rigour low high n word → Finds rigour (number_of rigour low high word) n
-number-complete Form low high word n small h = grind (arith, kept_finds)
-number-complete rigour low high word n small h =
+pub number-complete : (rigour : Rigour) (low high : ℕ) → high < 2 ^ 64 → (word : List ℕ) (n : ℕ)
+    → IsNumber rigour low high n word → Finds rigour (number_of rigour low high word) n
+number-complete Form low high small word n h = grind (arith, kept_finds)
+number-complete rigour low high small word n h =
     record { found = n; read = number-strict rigour low high word n small h.1.0 h.1.1 h.1.2; same = λ _. refl }
 
 -- ---- texts
@@ -73,45 +72,53 @@ pub limits_at_names : (rigour : Rigour) (P Q : Type 0) → is_names rigour ≡ t
 limits_at_names Names P Q e h = h
 limits_at_names rigour P Q e h = absurd (cc)
 
--- ---- names and keys
+-- ---- names and keys, which are padded texts
+
+module _ {V : Type 0} (make : List ℕ → V) (bytes : V → List ℕ) (made : (b : List ℕ) → bytes (make b) ≡ b)
+    (whole : (v : V) → make (bytes v) ≡ v) (rigour : Rigour) (word : List ℕ) (v : V) where
+  abbrev padded_of : Option V
+  padded_of = option_map (λ (text : List ℕ). make (block_of text)) (text_of rigour 16 word)
+
+  abbrev IsPaddedAs : Type 0
+  IsPaddedAs = (is_term word ≡ true) × AtLimits rigour (Unit {0}) ((length word ≤ 16) × (bytes v ≡ block_of word))
+
+  pub padded-sound : padded_of ≡ Some v → IsPaddedAs
+  padded-sound h =
+      let m = mapped (λ (text : List ℕ). make (block_of text)) (text_of rigour 16 word) v h in
+      let t = text-sound rigour 16 word m.value m.read in
+      let is : block_of m.value ≡ bytes v = sym (made (block_of m.value)) ∙ ap bytes m.made in
+      (grind (arith, at_limits-map))
+
+  pub padded-complete : IsPaddedAs → Finds rigour padded_of v
+  padded-complete h =
+      let t = text-complete rigour 16 word word (grind (arith, at_limits-map)) in
+      let same = whole v in record {
+        found = make (block_of t.found);
+        read = ap (option_map (λ (text : List ℕ). make (block_of text))) t.read;
+        same = grind (arith, limits_at_names);
+      }
+
+abbrev name_from : List ℕ → Name16
+name_from bytes = record { 0 = bytes }
+
+abbrev key_from : List ℕ → Key16
+key_from bytes = record { 0 = bytes }
 
 pub name-sound : (rigour : Rigour) (word : List ℕ) (name : Name16) → name_of rigour word ≡ Some name
     → (is_term word ≡ true) × AtLimits rigour (Unit {0}) ((length word ≤ 16) × (name.0 ≡ block_of word))
-name-sound rigour word name h =
-    let m = mapped (λ (text : List ℕ). (let n : Name16 = record { 0 = block_of text } in n)) (text_of rigour 16 word)
-    name h in
-    let t = text-sound rigour 16 word m.value m.read in
-    let is : block_of m.value ≡ name.0 = ap (λ (n : Name16). n.0) m.made in (grind (arith, at_limits-map))
+name-sound = padded-sound name_from (λ n. n.0) (λ b. refl) (λ n. refl)
 
-pub name-complete : (rigour : Rigour) (word : List ℕ) (name : Name16) → is_term word ≡ true → AtLimits
+pub name-complete : (rigour : Rigour) (word : List ℕ) (name : Name16) → (is_term word ≡ true) × AtLimits
     rigour (Unit {0}) ((length word ≤ 16) × (name.0 ≡ block_of word)) → Finds rigour (name_of rigour word) name
-name-complete rigour word name term h =
-    let make = λ (text : List ℕ). (let n : Name16 = record { 0 = block_of text } in n) in
-    let t = text-complete rigour 16 word word (grind (arith, at_limits-map)) in
-    record {
-      found = make t.found;
-      read = ap (option_map make) t.read;
-      same = grind (arith, limits_at_names);
-    }
+name-complete = padded-complete name_from (λ n. n.0) (λ b. refl) (λ n. refl)
 
 pub key-sound : (rigour : Rigour) (word : List ℕ) (key : Key16) → key_of rigour word ≡ Some key
     → (is_term word ≡ true) × AtLimits rigour (Unit {0}) ((length word ≤ 16) × (key.0 ≡ block_of word))
-key-sound rigour word key h =
-    let m =
-    mapped (λ (text : List ℕ). (let n : Key16 = record { 0 = block_of text } in n)) (text_of rigour 16 word) key h in
-    let t = text-sound rigour 16 word m.value m.read in
-    let is : block_of m.value ≡ key.0 = ap (λ (n : Key16). n.0) m.made in (grind (arith, at_limits-map))
+key-sound = padded-sound key_from (λ k. k.0) (λ b. refl) (λ k. refl)
 
-pub key-complete : (rigour : Rigour) (word : List ℕ) (key : Key16) → is_term word ≡ true → AtLimits
+pub key-complete : (rigour : Rigour) (word : List ℕ) (key : Key16) → (is_term word ≡ true) × AtLimits
     rigour (Unit {0}) ((length word ≤ 16) × (key.0 ≡ block_of word)) → Finds rigour (key_of rigour word) key
-key-complete rigour word key term h =
-    let make = λ (text : List ℕ). (let n : Key16 = record { 0 = block_of text } in n) in
-    let t = text-complete rigour 16 word word (grind (arith, at_limits-map)) in
-    record {
-      found = make t.found;
-      read = ap (option_map make) t.read;
-      same = grind (arith, limits_at_names);
-    }
+key-complete = padded-complete key_from (λ k. k.0) (λ b. refl) (λ k. refl)
 
 -- ---- names of structures and connectors
 
@@ -119,9 +126,8 @@ capitals_term : (word : List ℕ) → list_all (λ c. is_ascii_uppercase c || is
     → list_all term_byte word ≡ true
 capitals_term [] h = refl
 capitals_term (b ∷ word) h =
-    let parts = and_parts (is_ascii_uppercase b || is_ascii_digit b || b == 95)
-    (list_all (λ c. is_ascii_uppercase c || is_ascii_digit c || c == 95) word) h in
-    and_from (term_byte b) (list_all term_byte word) (grind (arith, nat_tests)) (capitals_term word parts.1)
+    let parts = and_parts (is_ascii_uppercase b || is_ascii_digit b || b == 95) _ h in
+    grind (arith, and_from, nat_tests, capitals_term word parts.1)
 
 pub term-name : (word : List ℕ) → is_name word ≡ true → is_term word ≡ true
 term-name [] h = absurd (cc)
@@ -134,23 +140,22 @@ new_name-sound rigour word name h = chosen (is_name word) (name_of rigour word) 
 
 pub new_name-complete : (rigour : Rigour) (word : List ℕ) (name : Name16) → IsName rigour word
     → AtLimits rigour (Unit {0}) (name.0 ≡ block_of word) → Finds rigour (new_name_of rigour word) name
-new_name-complete rigour word name named h = rw named.0 (name-complete rigour
-    word name (term-name word named.0) (at_limits-both rigour (length word ≤ 16) (name.0 ≡ block_of word) named.1 h))
+new_name-complete rigour word name named h = rw named.0 (name-complete rigour word name (
+  term-name word named.0,
+  at_limits-both rigour (length word ≤ 16) (name.0 ≡ block_of word) named.1 h,
+))
 
 -- ---- what is declared
 
 known-sound : {V : Type 0} (rigour : Rigour) (o : Option V) (other v : V) → named_value rigour o other ≡ Some v
     → AtNames rigour (Unit {0}) (o ≡ Some v)
-known-sound Names None other v h = absurd (cc)
-known-sound Names (Some x) other v h = h
+known-sound Names o other v h = grind arith
 known-sound rigour o other v h = tt
 
 known-complete : {V : Type 0} (rigour : Rigour) (o : Option V) (other v : V) → AtNames rigour (Unit {0}) (o ≡ Some v)
     → Finds rigour (named_value rigour o other) v
-known-complete Names None other v h = absurd (cc)
-known-complete Names (Some x) other v h = record { found = x; read = refl; same = λ e. cc }
-known-complete rigour None other v h = record { found = other; read = refl; same = λ e. absurd (cc) }
-known-complete rigour (Some x) other v h = record { found = x; read = refl; same = λ e. absurd (cc) }
+known-complete Names o other v h = grind arith
+known-complete rigour o other v h = grind arith
 
 abbrev pub IsDeclaredName : {V : Type 0} → Rigour → Option V → V → List ℕ → Type 0
 IsDeclaredName rigour o v word = IsName rigour word × AtNames rigour (Unit {0}) (o ≡ Some v)
@@ -172,20 +177,17 @@ padded_name-is word = refl
 pub declared-complete : {V : Type 0} (rigour : Rigour) (word : List ℕ) (o : Option V) (other v : V) → IsDeclaredName
     rigour o v word → Finds rigour (new_name_of rigour word >>= (λ name. named_value rigour o other)) v
 declared-complete rigour word o other v h =
-    let n = new_name-complete rigour word (padded_name word) h.0 (grind (arith, padded_name-is)) in
-    let k = known-complete rigour o other v h.1 in
-    rw n.read (record { found = k.found; read = k.read; same = k.same })
+    grind (arith, new_name-complete rigour word (padded_name word) h.0, padded_name-is, known-complete)
 
 pub facility-sound : (rigour : Rigour) (declared : Declared) (word : List ℕ) (cf : CfId) → facility_in rigour declared
     word ≡ Some cf
     → (facility_of word ≡ Some cf) × AtNames rigour (Unit {0}) (is_declared declared.facilities cf ≡ true)
 facility-sound rigour declared word cf h = grind (arith, bound)
 
-pub facility-complete : (rigour : Rigour) (declared : Declared) (word : List ℕ) (cf : CfId)
-    → facility_of word ≡ Some cf → AtNames rigour (Unit {0}) (is_declared declared.facilities cf ≡ true)
+pub facility-complete : (rigour : Rigour) (declared : Declared) (word : List ℕ) (cf : CfId) → (facility_of word
+    ≡ Some cf) × AtNames rigour (Unit {0}) (is_declared declared.facilities cf ≡ true)
     → Finds rigour (facility_in rigour declared word) cf
-facility-complete Names declared word cf e h = rw e (record { found = cf; read = rw h refl; same = λ _. refl })
-facility-complete rigour declared word cf e h = rw e (record { found = cf; read = refl; same = λ _. refl })
+facility-complete rigour declared word cf h = grind arith
 
 -- ---- record ids
 
@@ -199,5 +201,5 @@ pub record-complete : (rigour : Rigour) (word : List ℕ) (id : EntryId) → IsR
 record-complete rigour [] id h = absurd h
 record-complete rigour (b ∷ digits) id h =
     let here : (b == 35) ≡ true = eq-eqb b 35 h.0 in
-    let n = number-complete rigour 1 4294967295 digits id.0 (lit< tt) h.1 in
+    let n = number-complete rigour 1 4294967295 (lit< tt) digits id.0 h.1 in
     rw here (grind arith)

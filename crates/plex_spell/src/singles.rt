@@ -66,6 +66,7 @@ fn plain_data(alloc: Global, rigour: Rigour, word: &[u8]) -> Result<Body, Miss>
 }
 
 // A text of term characters so many times, as long as data may be.
+#[tactic(auto, using(crate::proofs::TextLaws::copies_told))]
 fn copies(alloc: Global, piece: &[u8], count: u32) -> Result<Body, Miss>
     requires term { is_term piece.now ≡ true }
     requires some { 0 < count }

@@ -92,6 +92,7 @@ fn place_of(word: &[u8], at: u8) -> Option<usize>
 }
 
 /// What stands before a byte and after it, where it first stands.
+#[tactic(auto, using(crate::proofs::TextLaws::cuts_told))]
 pub(crate) fn cut(word: &[u8], at: u8) -> Option<(&[u8], &[u8])>
     ensures found { IfSome result (λ parts. (stands_in at word.now ≡ true)
         × (parts.0.now ≡ before_first (λ b. b == at) word.now)
@@ -110,6 +111,7 @@ fn blank_place(bytes: &[u8]) -> Option<usize>
 }
 
 // The bytes before the first blank.
+#[tactic(auto, using(crate::proofs::WordLists::place_or_length))]
 fn unpadded_text(bytes: &[u8]) -> &[u8]
     ensures { result.now ≡ text_in_block bytes.now }
 {

@@ -1,13 +1,12 @@
 -- Engines that are filled by items, one after another.
 use Rattle.rebuild_copy.proofs.Imports.{◌≡◌, ℕ, ◌+◌, ◌-◌, ◌<◌, List, [], ◌∷◌, ◌++◌, Some, Result, Ok, Err, OnOk, OnErr, length, take, drop, slice_get, ⊎_elim, sym, ap, ◌∙◌, subst, arith, append_assoc, Bool, drop_all, fold-append, slice_get_cases, Caps, Kind, Shape, Meaning, Held, new_held, items_of, with_item, without_last_item, Fits, IsNoMore, IsNextItem, content_of_items, take_next, split_next, Copy, copy_in, IsFilled, IsCopyOf, with_next}
-use Rattle.cf_types.specs.declared.forms.Kind.TheVariants as kind
 
 -- what needs no more fits as well
 fits_less : (kind : Kind) (need other caps : Caps) → IsNoMore need other → Fits kind other caps → Fits kind need caps
-fits_less kind.Cache need other caps less fits = (omega (arith, less.0, fits.0), omega (arith, less.1, fits.1))
-fits_less (kind.List headers locks refs) need other caps less fits =
+fits_less Kind.Cache need other caps less fits = (omega (arith, less.0, fits.0), omega (arith, less.1, fits.1))
+fits_less (Kind.List headers locks refs) need other caps less fits =
     (omega (arith, less.0, fits.0), omega (arith, less.1, fits.1))
-fits_less kind.Lock need other caps less fits = omega (arith, less.1, fits)
+fits_less Kind.Lock need other caps less fits = omega (arith, less.1, fits)
 
 -- a list that isn't empty ends with an element
 ends_so : {X : Type 0} (xs : List X) (k : ℕ) → length xs ≡ k + 1 → (x : X) → slice_get xs k ≡ Some x
@@ -22,14 +21,17 @@ ends_with xs some = ⊎_elim (λ found. (found.0, ends_so xs (length xs - 1) (om
 module _ {C R I S : Type 0} (meaning : Meaning C R I S) (is_kind : Kind → Bool)
     (IsContent : Shape → Caps → S → Type 0) where
   -- what every engine promises of items
-  pub record ItemLaws : Type 0 where
-    pub items_front : (shape : Shape) (caps : Caps) (state : S) (front others : List I) → IsContent shape caps state
-        → meaning.items shape state ≡ front ++ others
-        → meaning.items shape (content_of_items meaning shape front) ≡ front
-    pub unplace_front : (shape : Shape) (caps : Caps) (state : S) (front : List I) (item : I) (others : List I)
-        → IsContent shape caps state → meaning.items shape state ≡ front ++ item ∷ others → meaning.unplace
-        shape (content_of_items meaning shape (front ++ item ∷ [])) ≡ content_of_items meaning shape front
-    pub need_first : (items others : List I) → IsNoMore (meaning.need items) (meaning.need (items ++ others))
+  abbrev pub ItemsFront : Type 0
+  ItemsFront = (shape : Shape) (caps : Caps) (state : S) (front others : List I) → IsContent shape caps state
+      → meaning.items shape state ≡ front ++ others → meaning.items shape (content_of_items meaning shape front) ≡ front
+
+  abbrev pub UnplaceFront : Type 0
+  UnplaceFront = (shape : Shape) (caps : Caps) (state : S) (front : List I) (item : I) (others : List I)
+      → IsContent shape caps state → meaning.items shape state ≡ front ++ item ∷ others → meaning.unplace
+      shape (content_of_items meaning shape (front ++ item ∷ [])) ≡ content_of_items meaning shape front
+
+  abbrev pub NeedFirst : Type 0
+  NeedFirst = (items others : List I) → IsNoMore (meaning.need items) (meaning.need (items ++ others))
 
   -- a new engine has no item, and what it was made with is its capacity
   pub started : ((shape : Shape) (caps : Caps) → IsContent shape caps (meaning.empty shape))
@@ -48,7 +50,7 @@ module _ {C R I S : Type 0} (meaning : Meaning C R I S) (is_kind : Kind → Bool
         unaltered = ap (λ (h : Held S). h.base) new;
       }
 
-  module _ (laws : ItemLaws) where
+  module _ (items_front : ItemsFront) (unplace_front : UnplaceFront) (need_first : NeedFirst) where
     made_push : (shape : Shape) (front : List I) (item : I) → content_of_items meaning shape
         (front ++ item ∷ []) ≡ meaning.place shape (content_of_items meaning shape front) item
     made_push shape front item = fold-append (meaning.place shape) (meaning.empty shape) front (item ∷ [])
@@ -87,7 +89,7 @@ module _ {C R I S : Type 0} (meaning : Meaning C R I S) (is_kind : Kind → Bool
       place-fits = fits_less new.shape.kind (meaning.need (items_of meaning new ++ item ∷ [])) (meaning.need all)
           new.caps (subst (λ (l : List I). IsNoMore (meaning.need (items_of meaning new ++ item ∷ []))
           (meaning.need l)) (append_assoc (items_of meaning new) (item ∷ []) rest ∙ sym split)
-          (laws.need_first (items_of meaning new ++ item ∷ []) rest)) here.fits
+          (need_first (items_of meaning new ++ item ∷ []) rest)) here.fits
 
       -- with the next item it is what the first items make, with that one
       placed_state : content_of_items meaning new.shape (items_of meaning new ++ item ∷ [])

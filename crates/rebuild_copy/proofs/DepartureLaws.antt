@@ -1,13 +1,12 @@
 -- A departure while a new instance stands.
 use Rattle.rebuild_copy.proofs.Imports.{◌≡◌, Bool, List, [], arith, Caps, Kind, Shape, Fits, IsNoMoreOf, Meaning, Held, items_of, Copy, IsCopyOf}
-use Rattle.cf_types.specs.declared.forms.Kind.TheVariants as kind
 
 -- what needs no more by the kind's rule fits as well
 fits_no_more : (of : Kind) (need other caps : Caps) → IsNoMoreOf of need other → Fits of other caps → Fits of need caps
-fits_no_more kind.Cache need other caps less fits = (omega (arith, less.0, fits.0), omega (arith, less.1, fits.1))
-fits_no_more (kind.List headers locks refs) need other caps less fits =
+fits_no_more Kind.Cache need other caps less fits = (omega (arith, less.0, fits.0), omega (arith, less.1, fits.1))
+fits_no_more (Kind.List headers locks refs) need other caps less fits =
     (omega (arith, less.0, fits.0), omega (arith, less.1, fits.1))
-fits_no_more kind.Lock need other caps less fits = omega (arith, less, fits)
+fits_no_more Kind.Lock need other caps less fits = omega (arith, less, fits)
 
 -- an empty copy is one of another content of that shape and capacity, which needs no more
 pub copy_left : {C R I S : Type 0} (meaning : Meaning C R I S)

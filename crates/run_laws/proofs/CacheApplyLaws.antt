@@ -1,5 +1,5 @@
 -- A command after others: copies are fresh, and changed pages that aren't cast out are kept.
-use Rattle.run_laws.proofs.Imports.{arith, ◌≡◌, ℕ, List, [], ◌∷◌, ◌++◌, refl, sym, ◌∙◌, subst, CacheCmd, Caps, ConnId, Held, Content, no_content, Deed, Copies, after_deed, after_run, Calls, orderly-content, fresh-copy, content-run, content-nothing, uncast-kept, IsHeldAfter, content_applied, copies_then, uncast_then, AreFresh, AreKept, IsUnique}
+use Rattle.run_laws.proofs.Imports.{arith, ◌≡◌, ℕ, List, [], ◌∷◌, ◌++◌, refl, sym, subst, CacheCmd, Caps, ConnId, Held, Content, no_content, Deed, Copies, after_deed, after_run, Calls, orderly-content, fresh-copy, content-run, content-nothing, uncast-kept, IsHeldAfter, content_applied, copies_then, uncast_then, AreFresh, AreKept, IsUnique}
 use Rattle.run_laws.proofs.UniqueLaws.{unique-content}
 
 after_run-push : (vector : ℕ) (caps : Caps) (content : Content) (deeds : List Deed) (deed : Deed) → after_run
@@ -16,8 +16,7 @@ applied-run held deeds by cmd led = grind (arith, after_run-push)
 pub applied_fresh : (held : Held Content) (deeds : List Deed) (by : ConnId) (cmd : CacheCmd) (copies : Copies)
     → IsHeldAfter deeds held → AreFresh (content_applied held by cmd) (copies_then held copies deeds by cmd)
 applied_fresh held deeds by cmd copies led = subst (λ (content : Content). AreFresh content (copies_then held copies
-    deeds by cmd)) (sym (applied-run held deeds by cmd led)) (λ conn index name there. fresh-copy held.shape.vector
-    held.caps copies (deeds ++ Calls by cmd ∷ []) conn index name there)
+    deeds by cmd)) (sym (applied-run held deeds by cmd led)) (grind (arith, fresh-copy))
 
 pub applied_kept : (held : Held Content) (deeds : List Deed) (by : ConnId) (cmd : CacheCmd) → IsHeldAfter deeds held
     → AreKept (content_applied held by cmd) (uncast_then held deeds by cmd)

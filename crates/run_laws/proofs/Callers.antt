@@ -1,50 +1,28 @@
 -- The callers of a script have words of their own.
-use Rattle.run_laws.proofs.Imports.{◌≡◌, ◌≢◌, ℕ, zero, suc, ◌+◌, ◌-◌, ◌≤◌, ◌<◌, ◌==◌, Bool, true, false, not, cond, List, [], ◌∷◌, ◌++◌, length, Option, Some, None, codes, replicate, get_or, slice_get, refl, sym, ap, ◌∙◌, arith, MatchBool, MatchOption, list_all, list_any, and_parts, and_from, nat_tests, list_any_at, take_while-cons, slice_get-get_or, slice_get_within, get_or_from_slice_get, Name16, ConnId, block_of, text_in_block, term_byte, pushed_cases, Names, same_word, words_of, is_name, is_capital, reserved_words, name_word, same_word-of, Words, characters-term, term-name, Declaration, Script, declared_in, caller_of, is_comment, is_policy_word, is_twice, Declares, AddsDeclaration, AddsOfCaller, AddsWords, AddsAll, IsScript, empty_script, line_number, with_declaration, caller_name}
+use Rattle.run_laws.proofs.Imports.{◌≡◌, ◌≢◌, ℕ, zero, suc, ◌+◌, ◌-◌, ◌≤◌, ◌<◌, ◌==◌, Bool, true, false, not, cond, List, [], ◌∷◌, ◌++◌, length, Option, Some, None, codes, get_or, slice_get, refl, sym, ap, ◌∙◌, arith, MatchBool, MatchOption, list_any, and_parts, and_from, nat_tests, not-true, list_any_at, take_while-cons, slice_get-get_or, slice_get_within, get_or_from_slice_get, Name16, ConnId, block_of, text_in_block, pushed_cases, Names, same_word, words_of, is_name, name_word, same_word-of, Words, characters-term, term-name, Declaration, Script, declared_in, is_twice, Declares, AddsDeclaration, AddsOfCaller, AddsWords, AddsAll, IsScript, empty_script, line_number, with_declaration, caller_name, word-front}
 use Rattle.plex_report.specs.PlexSpell.Words.{lines_of}
-use Rattle.plex_board.specs.PlexScript.declared.declarations.Declaration.TheVariants as declaration
 use Rattle.run_laws.proofs.Cuts.{is_free}
 
 -- ---- the word of a name
 
 free_passed : (x : ℕ) (xs : List ℕ) (b : Bool) → not (x == 32) ≡ b → is_free 32 xs ≡ true
     → is_free 32 (cond b (x ∷ xs) []) ≡ true
-free_passed x xs true e h = and_from (not (x == 32)) (is_free 32 xs) e h
-free_passed x xs false e h = refl
+free_passed x xs b e h = grind (arith, and_from)
 
 free_unpadded : (bytes : List ℕ) → is_free 32 (text_in_block bytes) ≡ true
 free_unpadded [] = refl
 free_unpadded (x ∷ bytes) = rw (take_while-cons (λ b. not (b == 32)) x bytes)
     (free_passed x (text_in_block bytes) (not (x == 32)) refl (free_unpadded bytes))
 
-term_above : (b : ℕ) → term_byte b ≡ true → 32 < b
-term_above b h = grind (arith, nat_tests)
-
-blanks : (n : ℕ) → text_in_block (replicate n 32) ≡ []
-blanks zero = refl
-blanks (suc n) = refl
-
-unpadded-append : (text : List ℕ) (n : ℕ) → list_all term_byte text ≡ true
-    → text_in_block (text ++ replicate n 32) ≡ text
-unpadded-append [] n h = blanks n
-unpadded-append (b ∷ text) n h =
-    let parts = and_parts (term_byte b) (list_all term_byte text) h in
-    let above = term_above b parts.0 in
-    let other : not (b == 32) ≡ true = grind (arith, nat_tests) in
-    take_while-cons (λ c. not (c == 32)) b (text ++ replicate n 32) ∙ rw (other, unpadded-append text n parts.1) refl
-
 named_word : (name : Name16) (word : List ℕ) → is_name word ≡ true → name.0 ≡ block_of word → name_word name ≡ word
-named_word name word named is =
-    ap text_in_block is ∙ unpadded-append word _ (characters-term word (term-name word named))
+named_word name word named is = grind (arith, word-front, characters-term, term-name)
 
 -- a name is no word of the script language
-unreserved : (word : List ℕ) → is_name word ≡ true → not (list_any (same_word word) reserved_words) ≡ true
-unreserved word named = (and_parts (is_capital word) (not (list_any (same_word word) reserved_words)) named).1
-
 no_operator : (word : List ℕ) → is_name word ≡ true → word ≢ codes "OP"
-no_operator word named same = grind (arith, unreserved)
+no_operator word named same = grind (arith, and_parts)
 
 no_system : (word : List ℕ) → is_name word ≡ true → word ≢ codes "SYS"
-no_system word named same = grind (arith, unreserved)
+no_system word named same = grind (arith, and_parts)
 
 -- the word of a caller that isn't the operator, nor that of the system, which tells marks
 pub record IsOwn (word : List ℕ) : Type 0 where
@@ -58,12 +36,8 @@ pub record AreApart (names : List Name16) : Type 0 where
   pub apart : (i j : ℕ) (a b : Name16) → slice_get names i ≡ Some a → slice_get names j ≡ Some b
       → name_word a ≡ name_word b → i ≡ j
 
-nothing_there : {X : Type 0} (i : ℕ) (x : X) → slice_get [] i ≡ Some x → ⊥
-nothing_there zero x e = cc
-nothing_there (suc i) x e = cc
-
 no_names : AreApart []
-no_names = grind (arith, nothing_there)
+no_names = grind arith
 
 new_word : (names : List Name16) (name : Name16) → list_any (λ other. same_word (name_word other) (name_word name))
     names ≡ false → (i : ℕ) (other : Name16) → slice_get names i ≡ Some other → name_word other ≢ name_word name
@@ -78,20 +52,16 @@ one_more : (names : List Name16) (name : Name16) → AreApart names → IsOwn (n
     → list_any (λ other. same_word (name_word other) (name_word name)) names ≡ false → AreApart (names ++ name ∷ [])
 one_more names name h named new = grind (arith, pushed_cases, new_word)
 
-not-false : (b : Bool) → not b ≡ true → b ≡ false
-not-false true h = absurd (cc)
-not-false false h = refl
-
 -- ---- texts
 
 declared : (script : Script) (ws : Words) (made : Declaration) → Declares Names (declared_in script) ws made
     → is_twice script made ≡ false → AreApart script.connectors → AreApart (with_declaration script made).connectors
-declared script ws (declaration.Facility pref) says once h = h
-declared script ws (declaration.Structure form) says once h = h
-declared script ws (declaration.Pref on pref) says once h = h
-declared script [] (declaration.Connector name) says once h = absurd says.spelled
-declared script (verb ∷ []) (declaration.Connector name) says once h = absurd says.spelled.1
-declared script (verb ∷ word ∷ ws) (declaration.Connector name) says once h =
+declared script ws (Declaration.Facility pref) says once h = h
+declared script ws (Declaration.Structure form) says once h = h
+declared script ws (Declaration.Pref on pref) says once h = h
+declared script [] (Declaration.Connector name) says once h = absurd says.spelled
+declared script (verb ∷ []) (Declaration.Connector name) says once h = absurd says.spelled.1
+declared script (verb ∷ word ∷ ws) (Declaration.Connector name) says once h =
     grind (arith, named_word, one_more, no_operator, no_system)
 
 of_caller : (script : Script) (at : ℕ) (by : ConnId) (ws : Words) (after : Script)
@@ -102,14 +72,13 @@ of_caller script at by (second ∷ ws) after adds h = grind arith
 of_words : (script : Script) (at : ℕ) (ws : Words) (after : Script) → AddsWords script at ws after
     → AreApart script.connectors → AreApart after.connectors
 of_words script at [] after adds h = rw adds h
-of_words script at (first ∷ ws) after adds h =
-    by_tests (is_comment first) (is_policy_word first) (caller_of script.connectors first) adds
+of_words script at (first ∷ ws) after adds h = grind (arith, by_tests)
   where
     by_tests : (c p : Bool) (o : Option ConnId)
         → MatchBool c (after ≡ script) (MatchBool p (AddsDeclaration script first (first ∷ ws) after)
         (MatchOption o ⊥ (λ by. AddsOfCaller script at by ws after))) → AreApart after.connectors
     by_tests true p o k = rw k h
-    by_tests false true o k = grind (arith, declared, not-false)
+    by_tests false true o k = grind (arith, declared, not-true)
     by_tests false false None k = absurd k
     by_tests false false (Some by) k = of_caller script at by ws after k h
 

@@ -1,27 +1,9 @@
 -- Texts that are the same, from their fronts on.
-use Rattle.run_laws.proofs.Imports.{append-nil, ◌≡◌, ℕ, ◌≤◌, ◌<◌, ◌==◌, ◌^◌, Bool, true, not, List, [], ◌∷◌, ◌++◌, length, refl, ap, ◌∙◌, arith, append_assoc, length-append, is_ascii_digit, decimal, list_all, flat_map, and_parts, and_from, nat_tests, decimal_injective, flat_map-append, append_cancel_left, is_numeral, numeral-decimal, heading, line_text}
+use Rattle.run_laws.proofs.Imports.{append-nil, ◌≡◌, ℕ, ◌≤◌, ◌<◌, ◌==◌, ◌^◌, Bool, true, not, List, [], ◌∷◌, ◌++◌, length, refl, arith, append_assoc, length-append, is_ascii_digit, decimal, list_all, flat_map, and_parts, and_from, nat_tests, decimal_injective, flat_map-append, append_cancel_left, is_numeral, numeral-decimal, heading, line_text, lines_each, slice_get, Some, suc, ◌+◌, same_cut}
 
 -- the byte doesn't stand in the text
 abbrev pub is_free : ℕ → List ℕ → Bool
 is_free at text = list_all (λ b. not (b == at)) text
-
-not_free-middle : (at : ℕ) (xs ys : List ℕ) → is_free at (xs ++ at ∷ ys) ≡ true → ⊥
-not_free-middle at [] ys h = grind (arith, nat_tests, and_parts)
-not_free-middle at (x ∷ xs) ys h = not_free-middle at xs ys
-    (and_parts (not (x == at)) (is_free at (xs ++ at ∷ ys)) h).1
-
--- two cuts at a byte are one
-pub same_cut : (at : ℕ) (a b c d : List ℕ) → is_free at a ≡ true → is_free at c ≡ true → a ++ at ∷ b ≡ c ++ at ∷ d
-    → (a ≡ c) × (b ≡ d)
-same_cut at [] b [] d free_a free_c e = (refl, cc)
-same_cut at [] b (y ∷ c) d free_a free_c e =
-    let same : at ≡ y = cc in absurd (not_free-middle at [] c (rw (← same) at free_c))
-same_cut at (x ∷ a) b [] d free_a free_c e =
-    let same : x ≡ at = cc in absurd (not_free-middle at [] a (rw same at free_a))
-same_cut at (x ∷ a) b (y ∷ c) d free_a free_c e =
-    let more = same_cut at a b c d (and_parts (not (x == at)) (is_free at a) free_a).1
-    (and_parts (not (y == at)) (is_free at c) free_c).1 (cc) in
-    (cc (more.0), more.1)
 
 -- ---- numbers
 
@@ -30,15 +12,11 @@ free_digit at b low h = grind (arith, nat_tests)
 
 free_digits : (at : ℕ) (bs : List ℕ) → at < 48 → list_all is_ascii_digit bs ≡ true → is_free at bs ≡ true
 free_digits at [] low h = refl
-free_digits at (b ∷ bs) low h =
-    let parts = and_parts (is_ascii_digit b) (list_all is_ascii_digit bs) h in
-    and_from (not (b == at)) (is_free at bs) (free_digit at b low parts.0) (free_digits at bs low parts.1)
+free_digits at (b ∷ bs) low h = grind (arith, and_parts, and_from, free_digit, free_digits at bs low)
 
 free_numeral : (at : ℕ) (word : List ℕ) → at < 48 → is_numeral word ≡ true → is_free at word ≡ true
 free_numeral at [] low h = refl
-free_numeral at (b ∷ []) low h = and_from (not (b == at)) true (free_digit at b low h) refl
-free_numeral at (b ∷ c ∷ bs) low h =
-    free_digits at (b ∷ c ∷ bs) low (and_parts (not (b == 48)) (list_all is_ascii_digit (b ∷ c ∷ bs)) h).1
+free_numeral at _ low h = grind (arith, free_digits, free_digit, and_parts)
 
 pub free_decimal : (at n : ℕ) → at < 48 → n < 2 ^ 64 → is_free at (decimal n) ≡ true
 free_decimal at n low small = free_numeral at (decimal n) low (numeral-decimal n small)
@@ -65,8 +43,7 @@ text-cons line lines = append_assoc line (10 ∷ []) (text_of lines)
 -- a text has a byte for each line at least
 pub text-long : (lines : List (List ℕ)) → length lines ≤ length (text_of lines)
 text-long [] = omega arith
-text-long (line ∷ lines) =
-    omega (arith, text-long lines, length-append (line ++ 10 ∷ []) (text_of lines), length-append line (10 ∷ []))
+text-long (line ∷ lines) = grind (arith, length-append, text-long lines)
 
 -- behind lines that are the same
 pub same_behind : (front xs ys : List (List ℕ)) → text_of (front ++ xs) ≡ text_of (front ++ ys)
@@ -91,5 +68,34 @@ one_word s t a = grind (arith, append_assoc, append-nil)
 pub same_heading : (word name : List ℕ) (m n : ℕ) (xs ys : List (List ℕ)) → m < 2 ^ 64 → n < 2 ^ 64
     → text_of (heading word name m ∷ xs) ≡ text_of (heading word name n ∷ ys) → (m ≡ n) × (text_of xs ≡ text_of ys)
 same_heading word name m n xs ys small_m small_n e = same_end
-    (word ++ ((32 ∷ name) ++ 32 ∷ [])) m n (text_of xs) (text_of ys) small_m small_n (texts _ _ (heading word name m)
-    (heading word name n) xs ys (one_word word name (decimal m)) (one_word word name (decimal n)) e)
+    (word ++ ((32 ∷ name) ++ 32 ∷ [])) m n (text_of xs) (text_of ys) small_m small_n (grind (arith, texts, one_word))
+
+-- ---- lines of elements one after another
+
+-- where the lines of an element fix it and what is behind them
+module _ {X : Type 0} (f : ℕ → X → List (List ℕ)) (Right : ℕ → X → Type 0)
+    (fixes : (n : ℕ) (a b : X) (xs ys : List (List ℕ)) → Right n a → Right n b
+    → text_of (f n a ++ xs) ≡ text_of (f n b ++ ys) → (a ≡ b) × (text_of xs ≡ text_of ys)) where
+  -- each is right at its place, counted from a number on
+  abbrev AreRight : ℕ → List X → Type 0
+  AreRight n xs = (j k : ℕ) (x : X) → slice_get xs k ≡ Some x → n + k ≡ j → Right j x
+
+  each_same : (n : ℕ) (one other : List X) (xs ys : List (List ℕ)) → length one ≡ length other → AreRight n one
+      → AreRight n other → text_of (lines_each f n one ++ xs) ≡ text_of (lines_each f n other ++ ys)
+      → (one ≡ other) × (text_of xs ≡ text_of ys)
+  each_same n [] [] xs ys same right right' e = (refl, e)
+  each_same n (a ∷ one) (b ∷ other) xs ys same right right' e =
+      let first = fixes n a b (lines_each f (n + 1) one ++ xs) (lines_each f (n + 1) other ++ ys)
+      (right n 0 a refl (omega arith)) (right' n 0 b refl (omega arith)) (grind (arith, append_assoc)) in
+      let behind = each_same (n + 1) one other xs ys (omega (arith, same)) (λ j k x there is. right j
+      (suc k) x there (omega (arith, is))) (λ j k x there is. right' j (suc k) x there (omega (arith, is))) first.1 in
+      let here : a ≡ b = first.0 in
+      let rest : one ≡ other = behind.0 in
+      (cc, behind.1)
+  each_same n _ _ xs ys same right right' e = absurd (omega (arith, same))
+
+  pub all_same : (one other : List X) (xs ys : List (List ℕ)) → length one ≡ length other → ((n : ℕ) (x : X)
+      → slice_get one n ≡ Some x → Right n x) → ((n : ℕ) (x : X) → slice_get other n ≡ Some x → Right n x) → text_of
+      (lines_each f 0 one ++ xs) ≡ text_of (lines_each f 0 other ++ ys) → (one ≡ other) × (text_of xs ≡ text_of ys)
+  all_same one other xs ys same right right' = each_same 0 one other xs ys same
+      (λ j k x there is. right j x (grind arith)) (λ j k x there is. right' j x (grind arith))

@@ -1,59 +1,41 @@
 -- A bit that stands tells a fresh copy.
-use Rattle.run_laws.proofs.Imports.{arith, ◌≡◌, ℕ, true, [], ◌∷◌, ◌++◌, Option, None, Some, is_some, option_map, take, drop, append-nil, refl, sym, ap, ◌∙◌, subst, IsTrue, option_and_then, find, false≢true, take-append-drop, Read, StrForm, Name16, ConnId, Continues, Tells, stands_after, continues_legal, any_is_found, all_found, Registration, is_at, registered_at, CacheItem, Content, cache_meaning, is_row_of, row_of, has_row, copy_in, reply_copy, row_copy, fresh-at, copy_held, IsAsRead, IsFresh, TellsFresh, CacheHistory, IsLegalCache, content_after}
-use Rattle.run_laws.proofs.CacheReplies.{answer-content, copy-read}
-use Rattle.run_laws.proofs.CacheTraces.{HasTrace, trace-continues}
-use Rattle.run_laws.proofs.UniqueLaws.{orderly_replay}
-
--- ---- what is held is what the name's row has
-
-held-registered : (form : StrForm) (history : CacheHistory) (conn : ConnId) (index : ℕ) (name : Name16)
-    → HasTrace form history → registered_at (content_after form history).regs conn index ≡ Some name
-    → copy_held history conn index ≡ copy_in (content_after form history).rows name
-held-registered form history conn index name trace there = grind (arith, fresh-at)
+use Rattle.run_laws.proofs.Imports.{arith, ◌≡◌, ℕ, true, [], ◌++◌, Option, None, Some, is_some, take, drop, append-nil, refl, sym, ap, ◌∙◌, subst, IsTrue, option_and_then, find, false≢true, take-append-drop, Read, StrForm, ConnId, Tells, stands_after, continues_legal, any_is_found, all_found, is_at, registered_at, CacheItem, Content, cache_meaning, is_row_of, row_of, has_row, reply_copy, row_copy, fresh-at, copy_held, IsAsRead, IsFresh, TellsFresh, CacheHistory, IsLegalCache, content_after, Bool, List, StrNo, AnyHistory, Script, Shown, Transcript, surest_on, ShowsHistories, TellsBit, TellsOf, place_of, BitTellsFresh, TellsFreshBy, ShowsFresh}
+use Rattle.run_laws.proofs.{Allocated.continues_both, CacheTraces.HasTrace, CacheTraces.trace-continues}
+use Rattle.run_laws.proofs.{CacheReplies.answer-content, CacheReplies.copy-read, UniqueLaws.orderly_replay}
 
 -- ---- the registration of a bit that stands, and its row
 
-found_row : (o : Option CacheItem) → is_some o ≡ true → (row : CacheItem) × (o ≡ Some row)
-found_row None e = absurd (false≢true e)
-found_row (Some row) e = (row, refl)
-
-fresh_at : (form : StrForm) (history : CacheHistory) (conn : ConnId) (index : ℕ) (found : Option Registration)
-    → HasTrace form history → stands_after cache_meaning form history conn index ≡ true → find (is_at conn index)
-    (content_after form history).regs ≡ found → is_some found ≡ true → IsFresh form history conn index
-fresh_at form history conn index None trace stands there e = absurd (false≢true e)
-fresh_at form history conn index (Some reg) trace stands there e =
-    let content : Content = content_after form history in
-    let is = orderly_replay form history in
-    let named : registered_at content.regs conn index ≡ Some reg.name =
-    ap (λ (o : Option Registration). option_map (λ (r : Registration). r.name) o) there in
-    let has : has_row reg.name content.rows ≡ true = grind (arith, all_found) in
-    let row = found_row (row_of reg.name content.rows) (sym (any_is_found (is_row_of reg.name) content.rows) ∙ has) in
-    record {
-      name = reg.name;
-      row = row.0;
-      stands = stands;
-      registered = named;
-      there = row.1;
-      same = held-registered form history conn index reg.name trace named
-          ∙ ap (λ (o : Option CacheItem). option_and_then row_copy o) row.1;
-    }
+some_found : {X : Type 0} (o : Option X) → is_some o ≡ true → (x : X) × (o ≡ Some x)
+some_found None e = absurd (false≢true e)
+some_found (Some x) e = (x, refl)
 
 fresh-trace : (form : StrForm) (history : CacheHistory) (conn : ConnId) (index : ℕ) → HasTrace form history
     → stands_after cache_meaning form history conn index ≡ true → IsFresh form history conn index
-fresh-trace form history conn index trace stands = grind (arith, fresh_at, any_is_found)
+fresh-trace form history conn index trace stands =
+    let content : Content = content_after form history in
+    let is = orderly_replay form history in
+    let reg = some_found (find (is_at conn index) content.regs)
+    (sym (any_is_found (is_at conn index) content.regs) ∙ stands) in
+    let name = reg.0.name in
+    let has : has_row name content.rows ≡ true = grind (arith, all_found) in
+    let row = some_found (row_of name content.rows) (sym (any_is_found (is_row_of name) content.rows) ∙ has) in
+    let registered : registered_at content.regs conn index ≡ Some name = grind arith in
+    let held = fresh-at content.rows (copy_held history) conn index name content.regs trace registered in
+    record {
+      name = name;
+      row = row.0;
+      stands = stands;
+      registered = registered;
+      there = row.1;
+      same = held ∙ ap (λ (o : Option CacheItem). option_and_then row_copy o) row.1;
+    }
 
 -- ---- legal histories, and what stands at their front
 
-continues_front : (form : StrForm) (history front others : CacheHistory)
-    → Continues cache_meaning form history (front ++ others) → Continues cache_meaning form history front
-continues_front form history [] others goes = tt
-continues_front form history (entry ∷ front) others goes =
-    grind (arith, continues_front form (history ++ entry ∷ []) front others goes.1)
-
 pub trace-legal : (form : StrForm) (front others : CacheHistory) → IsLegalCache form (front ++ others)
     → HasTrace form front
-trace-legal form front others legal = trace-continues form front
-    (continues_front form [] front others (continues_legal cache_meaning form (front ++ others) legal))
+trace-legal form front others legal = trace-continues form front (continues_both cache_meaning form [] front others
+    (continues_legal cache_meaning form (front ++ others) legal)).0
 
 trace-take : (form : StrForm) (history : CacheHistory) (n : ℕ) → IsLegalCache form history
     → HasTrace form (take n history)
@@ -84,3 +66,33 @@ copy_as_read form history legal conn index stands =
           (answer-content form history by (Read fresh.name at old stg) answer told) ∙ copy-read rows fresh.name stg
           ∙ ap (λ (o : Option CacheItem). option_and_then row_copy o) fresh.there ∙ sym fresh.same;
     }
+
+-- ---- tests of a run
+
+bit_fresh : (form : StrForm) (entries : CacheHistory) (conn : ConnId)
+    (on : StrNo) (before : List Shown) (at index : ℕ) (bit : Bool) → IsLegalCache form entries → TellsBit
+    form (AnyHistory.Cache entries) conn on before at index bit → BitTellsFresh form entries conn on before at index bit
+bit_fresh form entries conn on before at index bit legal tells stood =
+    let sure : ℕ = surest_on on before in
+    fresh_test form entries legal at sure conn index
+    (subst (λ (b : Bool). Tells cache_meaning form entries at sure conn index b) stood tells.tells)
+
+item_fresh : (form : StrForm) (entries : CacheHistory)
+    (conn : ConnId) (on : StrNo) (before : List Shown) (item : Shown) → IsLegalCache form entries
+    → TellsOf form (AnyHistory.Cache entries) conn on before item → TellsFreshBy form entries conn on before item
+item_fresh form entries conn on before (Shown.Test place index bit at) legal tells =
+    bit_fresh form entries conn on before at index bit legal tells
+item_fresh form entries conn on before (Shown.Word place word value at) legal tells = record {
+  bits = tells.bits;
+  made = tells.made;
+  each = λ k few within. bit_fresh form entries conn on before at _ (tells.bits k) legal (tells.each k few within);
+}
+item_fresh form entries conn on before _ legal tells = tt
+
+pub valid_is_fresh : (limit : ℕ) (script : Script) (histories : List AnyHistory) (transcripts : List Transcript)
+    → ShowsHistories limit script histories transcripts → ShowsFresh script histories transcripts
+valid_is_fresh limit script histories transcripts shows c k transcript item form entries of_caller there known
+    of_structure =
+    item_fresh form entries (record { 0 = c }) (place_of item) (take k transcript.items) item
+    (shows.histories_right (place_of item).0 form (AnyHistory.Cache entries) known of_structure).legal
+    (shows.tests c transcript of_caller k item form (AnyHistory.Cache entries) there known of_structure)

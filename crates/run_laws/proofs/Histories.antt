@@ -1,15 +1,8 @@
 -- The lines of legal histories, in which each caller asks what the script says, fix them.
-use Rattle.run_laws.proofs.Imports.{◌≡◌, ℕ, ◌+◌, ◌≤◌, ◌<◌, ◌==◌, ◌^◌, Bool, true, List, [], ◌∷◌, ◌++◌, length, map, codes, Option, Some, slice_get, refl, sym, ap, subst, ◌∙◌, arith, append_assoc, All, AllByRecursion, eq-eqb, map-append, filter-append, recursion_from_All, Kind, StrForm, ConnId, StrNo, Ask, What, Entry, Meaning, Call, calls, IsLegal, told_of, calls-append, continues_legal, cache_meaning, list_meaning, lock_meaning, CacheCmd, ListCmd, LockCmd, AnyHistory, AnyAsk, Script, AnyCall, any_call, any_calls, any_length, own_calls, lines_of, IsHistoryOf, IsOfKind, IsAnyLegal, IsAnyPoint, AnyTells, structure_name, cache_words, list_words, lock_words, cache_reply_words, list_reply_words, lock_reply_words, entry_line, entry_lines, history_lines, lines_each, NamesFacilities, MarksFacilities}
-use Rattle.plex_board.specs.CfTypes.declared.forms.Kind.TheVariants as kind
-use Rattle.plex_board.specs.EngineApi.declared.asks.What.TheVariants as what
-use Rattle.plex_board.specs.PlexScript.declared.asks.AnyHistory.TheVariants as history
-use Rattle.plex_board.specs.PlexScript.declared.scripts.AnyAsk.TheVariants as ask
-use Rattle.run_laws.proofs.Cuts.{text_of, same_heading}
-use Rattle.run_laws.proofs.Callers.{AreApart}
-use Rattle.run_laws.proofs.Heard.{any_within}
+use Rattle.run_laws.proofs.Imports.{◌≡◌, ℕ, ◌≤◌, ◌<◌, ◌^◌, Bool, List, [], ◌∷◌, ◌++◌, length, map, codes, Option, Some, slice_get, refl, ◌∙◌, arith, append_assoc, All, AllByRecursion, eq-eqb, map-append, filter-append, recursion_from_All, Kind, StrForm, ConnId, StrNo, Ask, What, Entry, Meaning, Call, calls, IsLegal, told_of, calls-append, continues_legal, cache_meaning, list_meaning, lock_meaning, AnyHistory, AnyAsk, Script, AnyCall, any_call, any_calls, any_length, own_calls, lines_of, IsHistoryOf, IsOfKind, IsAnyLegal, AnyTells, structure_name, cache_words, list_words, lock_words, cache_reply_words, list_reply_words, lock_reply_words, entry_line, entry_lines, history_lines, histories_lines, NamesFacilities, MarksFacilities}
+use Rattle.run_laws.proofs.Entries.{Asked, AsksNext, same_entries}
 use Rattle.run_laws.proofs.Works.{works, next_ask, Plays, next_of}
-use Rattle.run_laws.proofs.Played.{lines_at}
-use Rattle.run_laws.proofs.Entries.{Asked, same_entries}
+use Rattle.run_laws.proofs.{Cuts.text_of, Cuts.same_heading, Cuts.all_same, Callers.AreApart, Heard.any_within, Played.lines_at}
 
 -- the works of a caller at a structure
 abbrev pub IsPlayedAt : Script → StrNo → Kind → List AnyCall → Type 0
@@ -33,12 +26,12 @@ module _ {C R I S : Type 0} (meaning : Meaning C R I S) (form : StrForm) (of : A
     told = told_of entry.no asked entry.reply;
   }
 
-  call_first : (entry : Entry C R) (entries : List (Entry C R)) (asked : Ask C) → entry.what ≡ what.Call asked
+  call_first : (entry : Entry C R) (entries : List (Entry C R)) (asked : Ask C) → entry.what ≡ What.Call asked
       → map (any_call of) (calls (entry ∷ entries)) ≡ told_call entry asked ∷ map (any_call of) (calls entries)
   call_first entry entries asked is = rw is refl
 
   own_split : (before : List (Entry C R)) (entry : Entry C R) (entries : List (Entry C R)) (asked : Ask C)
-      → entry.what ≡ what.Call asked → own_calls (map (any_call of) (calls (before ++ entry ∷ entries)))
+      → entry.what ≡ What.Call asked → own_calls (map (any_call of) (calls (before ++ entry ∷ entries)))
       entry.by ≡ own_calls (map (any_call of) (calls before))
       entry.by ++ told_call entry asked ∷ own_calls (map (any_call of) (calls entries)) entry.by
   own_split before entry entries asked is = grind (arith, calls-append, map-append, filter-append, eq-eqb)
@@ -50,26 +43,26 @@ module _ {C R I S : Type 0} (meaning : Meaning C R I S) (form : StrForm) (of : A
         → AllByRecursion (λ call. call.by.0 ≤ length script.connectors) (map (any_call of) (calls entries))
         → Asked meaning form of one_ask cmd_words answer_words script next before entries
     asked_all whole before [] plays is callers = tt
-    asked_all whole before (entry ∷ entries) plays is callers = (
-      λ asked same.
-          let both : AllByRecursion (λ (c : AnyCall). c.by.0 ≤ length script.connectors)
-          (told_call entry asked ∷ map (any_call of) (calls entries)) = grind (arith, call_first) in (
-            next_of form.kind (works form.kind (lines_at on (lines_of script entry.by))) (own_calls
-                (map (any_call of) (calls whole)) entry.by) (own_calls (map (any_call of) (calls before)) entry.by)
-                (told_call entry asked) (own_calls (map (any_call of) (calls entries)) entry.by)
-                (plays entry.by both.0) (ap (λ (h : List (Entry C R)). own_calls (map (any_call of) (calls h))
-                entry.by) (sym is) ∙ own_split before entry entries asked same),
-            both.0,
-          ),
-      asked_all whole (before ++ entry ∷ []) entries plays (append_assoc before (entry ∷ []) entries ∙ is)
-          (callers_behind entry entry.what refl callers),
-    )
+    asked_all whole before (entry ∷ entries) plays is callers =
+        let parts = by_what entry.what refl callers in (
+          parts.0,
+          asked_all whole
+              (before ++ entry ∷ []) entries plays (append_assoc before (entry ∷ []) entries ∙ is) parts.1,
+        )
       where
-        callers_behind : (entry : Entry C R) (told : What C) → entry.what ≡ told → AllByRecursion
+        by_what : (told : What C) → entry.what ≡ told → AllByRecursion
             (λ call. call.by.0 ≤ length script.connectors) (map (any_call of) (calls (entry ∷ entries)))
-            → AllByRecursion (λ call. call.by.0 ≤ length script.connectors) (map (any_call of) (calls entries))
-        callers_behind entry (what.Call asked) same callers = grind (arith, call_first)
-        callers_behind entry (what.Lost cf) same callers = grind arith
+            → AsksNext meaning form of one_ask cmd_words answer_words script (next before entry.by) entry.by told
+            × AllByRecursion (λ call. call.by.0 ≤ length script.connectors) (map (any_call of) (calls entries))
+        by_what (What.Call asked) same callers =
+            let both : AllByRecursion (λ (c : AnyCall). c.by.0 ≤ length script.connectors)
+            (told_call entry asked ∷ map (any_call of) (calls entries)) = grind (arith, call_first) in
+            let own = next_of form.kind (works form.kind (lines_at on (lines_of script entry.by))) (own_calls
+            (map (any_call of) (calls whole)) entry.by) (own_calls (map (any_call of) (calls before)) entry.by)
+            (told_call entry asked) (own_calls (map (any_call of) (calls entries)) entry.by) (plays entry.by both.0)
+            (grind (arith, own_split)) in
+            ((own, both.0), both.1)
+        by_what (What.Lost cf) same callers = (tt, grind arith)
 
     pub same_history : (n : ℕ) (one other : List (Entry C R)) (xs ys : List (List ℕ)) → AreApart script.connectors
         → length one < 2 ^ 64 → length other < 2 ^ 64 → IsLegal meaning form one → IsLegal meaning form other
@@ -90,15 +83,6 @@ module _ {C R I S : Type 0} (meaning : Meaning C R I S) (form : StrForm) (of : A
 
 -- ---- histories of whatever kind
 
-one_cache : (a b : Ask CacheCmd) → Some (ask.Cache a) ≡ Some (ask.Cache b) → a ≡ b
-one_cache a b e = cc
-
-one_list : (a b : Ask ListCmd) → Some (ask.List a) ≡ Some (ask.List b) → a ≡ b
-one_list a b e = cc
-
-one_lock : (a b : Ask LockCmd) → Some (ask.Lock a) ≡ Some (ask.Lock b) → a ≡ b
-one_lock a b e = cc
-
 -- a structure's history, as its script and its callers' transcripts have it
 pub record IsRight (script : Script) (n : ℕ) (form : StrForm) (entries : AnyHistory) : Type 0 where
   pub known : slice_get script.structures n ≡ Some form
@@ -107,86 +91,52 @@ pub record IsRight (script : Script) (n : ℕ) (form : StrForm) (entries : AnyHi
   pub marks : MarksFacilities entries
   pub plays : IsPlayedAt script (record { 0 = n }) form.kind (any_calls entries)
 
--- what holds of each element at its place, counted from a number on
-abbrev pub Each : {X : Type 0} → (ℕ → X → Type 0) → ℕ → List X → Type 0
-Each P n [] = Unit {0}
-Each P n (x ∷ xs) = P n x × Each P (n + 1) xs
-
-abbrev pub AreRight : Script → ℕ → List AnyHistory → Type 0
-AreRight script n histories = Each (λ k entries. (form : StrForm) × IsRight script k form entries) n histories
-
-same_form : (script : Script) (n : ℕ) (a b : StrForm) → slice_get script.structures n ≡ Some a
-    → slice_get script.structures n ≡ Some b → a ≡ b
-same_form script n a b e f = let both : Some a ≡ Some b = sym e ∙ f in cc
-
 -- of one kind
 abbrev IsSameKind : AnyHistory → AnyHistory → Type 0
-IsSameKind (history.Cache a) (history.Cache b) = Unit {0}
-IsSameKind (history.List a) (history.List b) = Unit {0}
-IsSameKind (history.Lock a) (history.Lock b) = Unit {0}
+IsSameKind (AnyHistory.Cache a) (AnyHistory.Cache b) = Unit {0}
+IsSameKind (AnyHistory.List a) (AnyHistory.List b) = Unit {0}
+IsSameKind (AnyHistory.Lock a) (AnyHistory.Lock b) = Unit {0}
 IsSameKind _ _ = ⊥
 
 same_kind : (k : Kind) (one other : AnyHistory) → IsOfKind k one → IsOfKind k other → IsSameKind one other
-same_kind kind.Cache (history.Cache a) (history.Cache b) of_one of_other = tt
-same_kind (kind.List headers locks refs) (history.List a) (history.List b) of_one of_other = tt
-same_kind kind.Lock (history.Lock a) (history.Lock b) of_one of_other = tt
-same_kind _ one other of_one of_other = grind arith
+same_kind k one other of_one of_other = grind arith
 
 any_same : (script : Script) (n : ℕ) (form : StrForm) (one other : AnyHistory) (xs ys : List (List ℕ))
     → AreApart script.connectors → IsRight script n form one → IsRight script n form other → text_of (history_lines
     script n one ++ xs) ≡ text_of (history_lines script n other ++ ys) → (one ≡ other) × (text_of xs ≡ text_of ys)
-any_same script n form (history.Cache one) (history.Cache other) xs ys apart a b e =
-    let parts = same_history cache_meaning form ask.Cache script
-    (record { 0 = n }) one_cache cache_words cache_reply_words n one other xs ys apart a.short
-    b.short a.right.legal b.right.legal a.marks b.marks a.plays b.plays a.right.callers b.right.callers e in
-    (ap history.Cache parts.0, parts.1)
-any_same script n form (history.List one) (history.List other) xs ys apart a b e =
-    let parts = same_history list_meaning form ask.List script (record { 0 = n }) one_list list_words
-    list_reply_words n one other xs ys apart a.short b.short a.right.legal b.right.legal a.marks b.marks a.plays b.plays
-    a.right.callers b.right.callers e in
-    (ap history.List parts.0, parts.1)
-any_same script n form (history.Lock one) (history.Lock other) xs ys apart a b e =
-    let parts = same_history lock_meaning form ask.Lock script (record { 0 = n }) one_lock lock_words
-    lock_reply_words n one other xs ys apart a.short b.short a.right.legal b.right.legal a.marks b.marks a.plays b.plays
-    a.right.callers b.right.callers e in
-    (ap history.Lock parts.0, parts.1)
+any_same script n form (AnyHistory.Cache one) (AnyHistory.Cache other) xs ys apart a b e = grind (
+  arith,
+  same_history cache_meaning form AnyAsk.Cache script (record { 0 = n }) (λ a b e. cc) cache_words cache_reply_words n
+      one other xs ys apart,
+)
+any_same script n form (AnyHistory.List one) (AnyHistory.List other) xs ys apart a b e = grind (
+  arith,
+  same_history list_meaning form AnyAsk.List script (record { 0 = n }) (λ a b e. cc) list_words list_reply_words n
+      one other xs ys apart,
+)
+any_same script n form (AnyHistory.Lock one) (AnyHistory.Lock other) xs ys apart a b e = grind (
+  arith,
+  same_history lock_meaning form AnyAsk.Lock script (record { 0 = n }) (λ a b e. cc) lock_words lock_reply_words n
+      one other xs ys apart,
+)
 any_same script n form one other xs ys apart a b e = absurd (same_kind form.kind one other a.right.kind b.right.kind)
 
--- ---- the histories of all structures
-
-abbrev histories_from : Script → ℕ → List AnyHistory → List (List ℕ)
-histories_from script n histories = lines_each (λ i entries. history_lines script i entries) n histories
-
-pub histories_same : (script : Script) (n : ℕ) (one other : List AnyHistory) (xs ys : List (List ℕ))
-    → AreApart script.connectors → length one ≡ length other → AreRight script n one → AreRight script n other
-    → text_of (histories_from script n one ++ xs) ≡ text_of (histories_from script n other ++ ys) → (one ≡ other)
-    × (text_of xs ≡ text_of ys)
-histories_same script n [] [] xs ys apart same right right' e = (refl, e)
-histories_same script n [] (b ∷ other) xs ys apart same right right' e = absurd (omega (arith, same))
-histories_same script n (a ∷ one) [] xs ys apart same right right' e = absurd (omega (arith, same))
-histories_same script n (a ∷ one) (b ∷ other) xs ys apart same ((form, fine), more) ((form', fine'), more') e =
-    let fine_there : IsRight script n form b = subst (λ (f : StrForm). IsRight script n f b)
-    (same_form script n form' form fine'.known fine.known) fine' in
-    let first = any_same script n form a b (histories_from script (n + 1) one ++ xs) (histories_from script (n + 1)
-    other ++ ys) apart fine fine_there (sym (joined (history_lines script n a) (histories_from script (n + 1) one) xs)
-    ∙ e ∙ joined (history_lines script n b) (histories_from script (n + 1) other) ys) in
-    let behind = histories_same script (n + 1) one other xs ys apart (omega (arith, same)) more more' first.1 in
-    let here : a ≡ b = first.0 in
-    let rest : one ≡ other = behind.0 in
-    (cc, behind.1)
-  where
-    joined : (a b c : List (List ℕ)) → text_of ((a ++ b) ++ c) ≡ text_of (a ++ (b ++ c))
-    joined a b c = ap text_of (append_assoc a b c)
+pub histories_same : (script : Script) (one other : List AnyHistory) (xs ys : List (List ℕ))
+    → AreApart script.connectors → length one ≡ length other → ((n : ℕ) (entries : AnyHistory) → slice_get
+    one n ≡ Some entries → (form : StrForm) × IsRight script n form entries) → ((n : ℕ) (entries : AnyHistory)
+    → slice_get other n ≡ Some entries → (form : StrForm) × IsRight script n form entries) → text_of (histories_lines
+    script one ++ xs) ≡ text_of (histories_lines script other ++ ys) → (one ≡ other) × (text_of xs ≡ text_of ys)
+histories_same script one other xs ys apart = all_same (λ n entries. history_lines script n entries)
+    (λ n entries. (form : StrForm) × IsRight script n form entries) (λ n a b xs ys right right' e. any_same script n
+    right.0 a b xs ys apart right.1 (grind arith) e) one other xs ys
 
 -- ---- points
 
-point_told : (form : StrForm) (entries : AnyHistory) (at sure : ℕ) (conn : ConnId) (index : ℕ) (bit : Bool)
-    → AnyTells form entries at sure conn index bit → IsAnyPoint entries at
-point_told form (history.Cache entries) at sure conn index bit tells = tells.point
-point_told form (history.List entries) at sure conn index bit tells = tells.point
-point_told form (history.Lock entries) at sure conn index bit tells = tells.point
-
 pub legal_point : (form : StrForm) (entries : AnyHistory) (at sure : ℕ) (conn : ConnId) (index : ℕ) (bit : Bool)
     → IsAnyLegal form entries → AnyTells form entries at sure conn index bit → at ≤ any_length entries
-legal_point form entries at sure conn index bit legal tells =
-    any_within form entries legal at (point_told form entries at sure conn index bit tells)
+legal_point form (AnyHistory.Cache entries) at sure conn index bit legal tells =
+    any_within form (AnyHistory.Cache entries) legal at tells.point
+legal_point form (AnyHistory.List entries) at sure conn index bit legal tells =
+    any_within form (AnyHistory.List entries) legal at tells.point
+legal_point form (AnyHistory.Lock entries) at sure conn index bit legal tells =
+    any_within form (AnyHistory.Lock entries) legal at tells.point

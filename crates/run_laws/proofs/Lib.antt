@@ -11,12 +11,9 @@ pub mod Sizes
 pub mod Readings
 pub mod Tests
 pub mod MarkLaws
-pub mod ValidLaws
-pub mod ShareLaws
 pub mod CountLaws
 pub mod BoundLaws
 pub mod UniqueLaws
-pub mod CacheCapacityLaws
 pub mod CacheTraces
 pub mod CacheReplies
 pub mod FreshLaws

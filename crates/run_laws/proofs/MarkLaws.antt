@@ -1,7 +1,5 @@
 -- Where the links of what is no facility answered nothing, each mark names a facility.
-use Rattle.run_laws.proofs.Imports.{◌≡◌, ◌+◌, ◌≤◌, ◌<◌, ◌==◌, ◌⊎◌, inl, inr, Bool, true, false, List, [], ◌∷◌, refl, ap, ◌∙◌, arith, if◌then◌else◌, cases_lt, nat_tests, IsFacility, StrForm, CfId, What, Entry, is_mark_as, marks_at, trues, marks_counted, cache_meaning, list_meaning, lock_meaning, AnyHistory, IsAnyLegal, any_answers, NamesFacility, NamesFacilities, MarksFacilities}
-use Rattle.plex_board.specs.EngineApi.declared.asks.What.TheVariants as what
-use Rattle.plex_board.specs.PlexScript.declared.asks.AnyHistory.TheVariants as history
+use Rattle.run_laws.proofs.Imports.{◌≡◌, ◌+◌, ◌⊎◌, Bool, true, List, [], ◌∷◌, refl, ap, ◌∙◌, arith, if◌then◌else◌, cases_lt, nat_tests, IsFacility, StrForm, CfId, What, Entry, is_mark_as, marks_at, trues, marks_counted, cache_meaning, list_meaning, lock_meaning, AnyHistory, IsAnyLegal, any_answers, NamesFacility, NamesFacilities, MarksFacilities}
 
 facility_or : (cf : CfId) → IsFacility cf ⊎ (¬ IsFacility cf)
 facility_or cf = grind (arith, cases_lt)
@@ -13,22 +11,16 @@ NoOther entries = (cf : CfId) → ¬ IsFacility cf → marks_at entries cf ≡ 0
 module _ {C R : Type 0} where
   more_marks : (entry : Entry C R) (entries : List (Entry C R)) (cf : CfId) (b : Bool)
       → is_mark_as cf entry.what ≡ b → marks_at (entry ∷ entries) cf ≡ (if b then 1 else 0) + marks_at entries cf
-  more_marks entry entries cf true is = rw is (omega arith)
-  more_marks entry entries cf false is = rw is (omega arith)
+  more_marks entry entries cf b is = grind arith
 
   rest_none : (entry : Entry C R) (entries : List (Entry C R)) → NoOther (entry ∷ entries) → NoOther entries
   rest_none entry entries none cf other = grind (arith, more_marks)
 
   first_named : (entry : Entry C R) (entries : List (Entry C R)) (told : What C) → entry.what ≡ told
       → NoOther (entry ∷ entries) → NamesFacility told
-  first_named entry entries (what.Call ask) is none = tt
-  first_named entry entries (what.Lost cf) is none = elim (facility_or cf) [
-    | inl here ↦ here
-    | inr other ↦
-        let itself : cf.0 == cf.0 ≡ true = grind (arith, nat_tests) in
-        let mark : is_mark_as cf entry.what ≡ true = rw is itself in
-        let all = more_marks entry entries cf true mark in absurd (omega (arith, all, none cf other))
-  ]
+  first_named entry entries (What.Call ask) is none = tt
+  first_named entry entries (What.Lost cf) is none =
+      grind (arith, nat_tests, facility_or cf, more_marks entry entries cf true, none cf)
 
   all_named : (entries : List (Entry C R)) → NoOther entries → NamesFacilities entries
   all_named [] none = tt
@@ -37,9 +29,9 @@ module _ {C R : Type 0} where
 
 pub marks_facilities : (form : StrForm) (entries : AnyHistory) → IsAnyLegal form entries
     → ((cf : CfId) → ¬ IsFacility cf → any_answers form entries cf ≡ []) → MarksFacilities entries
-marks_facilities form (history.Cache entries) legal none =
+marks_facilities form (AnyHistory.Cache entries) legal none =
     all_named entries (λ cf other. marks_counted cache_meaning form entries legal cf ∙ ap trues (none cf other))
-marks_facilities form (history.List entries) legal none =
+marks_facilities form (AnyHistory.List entries) legal none =
     all_named entries (λ cf other. marks_counted list_meaning form entries legal cf ∙ ap trues (none cf other))
-marks_facilities form (history.Lock entries) legal none =
+marks_facilities form (AnyHistory.Lock entries) legal none =
     all_named entries (λ cf other. marks_counted lock_meaning form entries legal cf ∙ ap trues (none cf other))

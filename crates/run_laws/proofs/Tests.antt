@@ -1,19 +1,13 @@
 -- A report that shows histories, whose tests tell what stood, shows numbers of at most 64 bits.
-use Rattle.run_laws.proofs.Imports.{◌≡◌, ℕ, zero, suc, ◌+◌, ◌*◌, ◌≤◌, ◌<◌, ◌==◌, ◌&&◌, ◌^◌, nat_lt, List, [], ◌∷◌, ◌++◌, length, Option, Some, None, slice_get, get_or, sym, subst, arith, nat_tests, slice_get-get_or, slice_get_within, Kind, StrForm, ConnId, StrNo, Step, AnyHistory, AnyAsk, Act, Line, Script, Shown, Transcript, first_step, step_after, AnyCall, any_length, calls_on, Runs, ShowsTest, ShowsWord, ShowsAct, ShowsLines, ShowsClosing, ShowsClosings, Follows, word_below, IsHistoryOf, ShowsHistories, Reading, ShowsNumbers, IsReading, report_of, MarksFacilities}
-use Rattle.plex_board.specs.PlexScript.declared.agents.Step.TheVariants as step
-use Rattle.plex_board.specs.PlexScript.declared.asks.AnyHistory.TheVariants as history
-use Rattle.plex_board.specs.PlexScript.declared.scripts.Act.TheVariants as act
-use Rattle.plex_board.specs.PlexScript.declared.transcripts.AgentEnd.TheVariants as ended
-use Rattle.plex_board.specs.PlexScript.declared.transcripts.Shown.TheVariants as shown
-use Rattle.run_laws.proofs.Histories.{legal_point}
-use Rattle.run_laws.proofs.Sizes.{short_at}
+use Rattle.run_laws.proofs.Imports.{◌≡◌, ℕ, zero, suc, ◌+◌, ◌*◌, ◌≤◌, ◌<◌, ◌&&◌, ◌^◌, nat_lt, List, [], ◌∷◌, ◌++◌, length, Option, Some, slice_get, sym, subst, arith, nat_tests, slice_get_within, get_within, Kind, StrForm, ConnId, StrNo, Step, AnyHistory, AnyAsk, Act, Line, Script, Shown, Transcript, step_after, AnyCall, any_length, Runs, ShowsAct, ShowsLines, ShowsClosing, ShowsClosings, Follows, word_below, IsHistoryOf, ShowsHistories, Reading, ShowsNumbers, IsReading, report_of, MarksFacilities, AgentEnd}
+use Rattle.run_laws.proofs.{Histories.legal_point, Sizes.short_at}
 
 -- ---- where tests are
 
 -- a test is at a structure, and a word that a test shows begins within the vector
 abbrev IsPlaced : List StrForm → Shown → Type 0
-IsPlaced forms (shown.Test place index bit at) = (form : StrForm) × (slice_get forms place.0 ≡ Some form)
-IsPlaced forms (shown.Word place word bits at) =
+IsPlaced forms (Shown.Test place index bit at) = (form : StrForm) × (slice_get forms place.0 ≡ Some form)
+IsPlaced forms (Shown.Word place word bits at) =
     (form : StrForm) × (slice_get forms place.0 ≡ Some form) × (32 * word < form.vector)
 IsPlaced forms _ = Unit {0}
 
@@ -36,28 +30,14 @@ module _ (forms : List StrForm) where
   runs_placed : (k : Kind) (asked : Option AnyAsk) (calls : List AnyCall) (by : ConnId) (on : StrNo) (now : Step)
       (items : List Shown) → Runs k asked calls by on now items → ArePlaced forms items
   runs_placed k asked calls by on now [] runs = tt
-  runs_placed k asked calls by on now (shown.Call place number ∷ items) runs =
+  runs_placed k asked calls by on now (Shown.Call place number ∷ items) runs =
       grind (arith, runs_placed k asked calls by on (step_after now runs.0) items runs.3)
   runs_placed k asked calls by on now (_ ∷ items) runs = absurd runs
-
-  test_placed : (form : StrForm) (on : StrNo) (index : ℕ) (items : List Shown) → slice_get forms on.0 ≡ Some form
-      → ShowsTest form on index items → ArePlaced forms items
-  test_placed form on index items known shows = grind arith
-
-  word_placed : (form : StrForm) (on : StrNo) (word : ℕ) (items : List Shown) → slice_get forms on.0 ≡ Some form
-      → ShowsWord form on word items → ArePlaced forms items
-  word_placed form on word items known shows = grind (arith, nat_tests)
 
   act_placed : (form : StrForm) (calls : List AnyCall) (by : ConnId) (on : StrNo) (retry : ℕ) (done : Act)
       (items : List Shown) → slice_get forms on.0 ≡ Some form → ShowsAct form calls by on retry done items
       → ArePlaced forms items
-  act_placed form calls by on retry (act.Call asked) items known shows =
-      runs_placed form.kind (Some asked) calls by on (step.Call retry) items shows
-  act_placed form calls by on retry act.Events items known shows =
-      runs_placed form.kind None calls by on (first_step act.Events retry) items shows
-  act_placed form calls by on retry (act.Test index) items known shows = test_placed form on index items known shows
-  act_placed form calls by on retry (act.TestWord word) items known shows = word_placed form on word items known shows
-  act_placed form calls by on retry _ items known shows = subst (ArePlaced forms) (sym shows.1) (tt, tt)
+  act_placed form calls by on retry _ items known shows = grind (arith, runs_placed, nat_tests)
 
   lines_placed : (histories : List AnyHistory) (lines : List Line) (items : List Shown)
       → ShowsLines forms histories lines items → ArePlaced forms items
@@ -73,11 +53,8 @@ module _ (forms : List StrForm) where
       (before items : List Shown) → ShowsClosings histories conn on more before items → ArePlaced forms items
   closings_placed histories conn on [] before items shows = subst (ArePlaced forms) (sym shows) tt
   closings_placed histories conn on (form ∷ more) before items (first, (others, split, shows, behind)) =
-      let place : StrNo = record { 0 = on } in
-      let here : ArePlaced forms first = closing_placed form (calls_on histories place) conn place before first
-      shows in
-      subst (ArePlaced forms) (sym split)
-      (placed-append forms first others here (closings_placed histories conn (on + 1) more before others behind))
+      subst (ArePlaced forms) (sym split) (placed-append forms first others (closing_placed form _ conn _ before first
+      shows) (closings_placed histories conn (on + 1) more before others behind))
 
 follows_placed : (script : Script) (histories : List AnyHistory) (conn : ConnId) (items : List Shown)
     → Follows script histories conn items → ArePlaced script.structures items
@@ -87,17 +64,13 @@ follows_placed script histories conn items follows = grind (arith, placed-append
 
 module _ (limit : ℕ) (script : Script) (reading : Reading) (shows : ShowsHistories limit script reading.histories
     reading.transcripts) (done : (c : ℕ) (transcript : Transcript) → slice_get reading.transcripts c ≡ Some transcript
-    → transcript.end ≡ ended.Done) (short : length (report_of script reading) < 2 ^ 64) where
+    → transcript.end ≡ AgentEnd.Done) (short : length (report_of script reading) < 2 ^ 64) where
   history_at : (x : ℕ) (form : StrForm) → slice_get script.structures x ≡ Some form
       → (entries : AnyHistory) × (slice_get reading.histories x ≡ Some entries) × IsHistoryOf script form entries
   history_at x form known =
-      let within : x < length reading.histories = omega
-      (arith, slice_get_within script.structures x form known, shows.structures) in
-      let there = slice_get-get_or reading.histories x (history.Cache []) within in (
-        get_or reading.histories x (history.Cache []),
-        there,
-        shows.histories_right x form (get_or reading.histories x (history.Cache [])) known there,
-      )
+      let within = slice_get_within script.structures x form known in
+      let its = get_within reading.histories x (omega (arith, within, shows.structures)) in
+      (its.0, its.1, shows.histories_right x form its.0 known its.1)
 
   follows_of : (c : ℕ) (transcript : Transcript) → slice_get reading.transcripts c ≡ Some transcript
       → Follows script reading.histories (record { 0 = c }) transcript.items
@@ -105,17 +78,16 @@ module _ (limit : ℕ) (script : Script) (reading : Reading) (shows : ShowsHisto
 
   numbers_at : (c k : ℕ) (transcript : Transcript) (item : Shown) → slice_get reading.transcripts c ≡ Some transcript
       → slice_get transcript.items k ≡ Some item → IsPlaced script.structures item → ShowsNumbers item
-  numbers_at c k transcript (shown.Test on index bit at) there e (form, known) =
+  numbers_at c k transcript (Shown.Test on index bit at) there e (form, known) =
       let it = history_at on.0 form known in
-      let tells = shows.tests c transcript there k (shown.Test on index bit at) form it.0 e known it.1 in
+      let tells = shows.tests c transcript there k (Shown.Test on index bit at) form it.0 e known it.1 in
       let low : at ≤ any_length it.0 = legal_point form it.0 at _ _ index bit it.2.legal tells.tells in
       omega (arith, low, short_at script reading short on.0 it.0 it.1)
-  numbers_at c k transcript (shown.Word on word bits at) there e (form, known, inside) =
+  numbers_at c k transcript (Shown.Word on word bits at) there e (form, known, inside) =
       let it = history_at on.0 form known in
-      let tells = shows.tests c transcript there k (shown.Word on word bits at) form it.0 e known it.1 in
+      let tells = shows.tests c transcript there k (Shown.Word on word bits at) form it.0 e known it.1 in
       let first = tells.each 0 (omega arith) (omega (arith, inside)) in
-      let low : at ≤ any_length it.0 = legal_point form it.0 at _ _ (32 * word + 0) (tells.bits 0) it.2.legal
-      first.tells in (
+      let low : at ≤ any_length it.0 = grind (arith, legal_point) in (
         omega (arith, tells.made, word_below (λ j. nat_lt (32 * word + j) form.vector && tells.bits j) 32),
         omega (arith, low, short_at script reading short on.0 it.0 it.1),
       )

@@ -1,14 +1,12 @@
 -- After every history rows and registrations are in order, and where they are, names, indexes and registrations are
 -- unique.
-use Rattle.run_laws.proofs.Imports.{◌≡◌, ℕ, ◌≤◌, Bool, true, false, not, ◌&&◌, ◌||◌, ◌==◌, nat_lt, cond, List, [], ◌∷◌, Option, length, filter, refl, sym, ap, ◌∙◌, subst, arith, list_all, and_parts, false≢true, nat_tests, StrForm, Name16, ConnId, Refusal, same_name, unless_refused, pairwise, list_all_weaker, none_from_all, filter_none, Registration, is_at, is_for, stands_before, names_apart as regs_apart, same_name-eq, CacheItem, is_row_of, Content, IsOrderly, no_content, cache_meaning, Calls, Leaves, Forgets, done, orderly-content, content-nothing, orderly-deed, IsKept, kept-replay, CacheHistory, content_after, IsUnique}
-use Rattle.plex_board.specs.CacheModel.Rows.{names_apart}
+use Rattle.run_laws.proofs.Imports.{◌≡◌, ℕ, ◌≤◌, Bool, true, false, not, ◌&&◌, ◌||◌, ◌==◌, nat_lt, cond, List, [], ◌∷◌, Option, length, filter, refl, sym, ap, ◌∙◌, subst, arith, list_all, and_parts, false≢true, nat_tests, StrForm, Name16, ConnId, Refusal, same_name, unless_refused, pairwise, list_all_weaker, none_from_all, filter_none, Registration, is_for, names_apart as regs_apart, same_name-eq, Content, IsOrderly, no_content, cache_meaning, Calls, Leaves, Forgets, done, orderly-content, content-nothing, orderly-deed, IsKept, kept-replay, CacheHistory, content_after, IsUnique, Caps, is_cache, Shape, IsContent, content-done, leave-content, content-moved, need-front, need-leave, ContentLaws, held-replay, IsWithin}
 
 -- ---- one at most
 
 one_step : {X : Type 0} (p : X → Bool) (b : Bool) (x : X) (xs : List X)
     → (b ≡ true → filter p xs ≡ []) → length (filter p xs) ≤ 1 → length (cond b (x ∷ filter p xs) (filter p xs)) ≤ 1
-one_step p true x xs none few = let e = ap (λ l. length l) (none refl) in omega (arith, e)
-one_step p false x xs none few = few
+one_step p b x xs none few = grind arith
 
 -- where no two elements that pass stand in the relation, at most one passes
 one_passes : {X : Type 0} (relation : X → X → Bool) (p : X → Bool) → ((x y : X) → p x ≡ true
@@ -16,8 +14,8 @@ one_passes : {X : Type 0} (relation : X → X → Bool) (p : X → Bool) → ((x
 one_passes relation p apart [] h = omega arith
 one_passes relation p apart (x ∷ xs) h =
     let parts = and_parts (list_all (relation x) xs) (pairwise relation xs) h in
-    one_step p (p x) x xs (λ e. filter_none p xs (none_from_all p xs (list_all_weaker (relation x)
-    (λ y. not (p y)) (λ y k. apart x y e k) xs parts.0))) (one_passes relation p apart xs parts.1)
+    one_step p (p x)
+    x xs (grind (arith, filter_none, none_from_all, list_all_weaker)) (one_passes relation p apart xs parts.1)
 
 -- a name of its own
 other_name : (a b name : Name16) → same_name a name ≡ true → not (same_name a b) ≡ true
@@ -56,14 +54,28 @@ pub orderly_replay : (form : StrForm) (history : CacheHistory) → IsOrderly (co
 orderly_replay form history = kept-replay cache_meaning form refl IsOrderly (orderly-kept form) history
 
 pub unique-content : (content : Content) → IsOrderly content → IsUnique content
-unique-content content is = record {
-  row = λ name. one_passes names_apart (is_row_of name)
-      (λ row other. other_name row.name other.name name) _ is.directory.one_for_name;
-  index = λ conn index. one_passes stands_before (is_at conn index)
-      (λ reg other. other_place reg.conn.0 reg.index other.conn.0 other.index conn.0 index) _ is.registry.ordered;
-  name = λ conn name. one_passes regs_apart (is_for conn name)
-      (registered_once conn name) _ is.registry.one_for_name;
-}
+unique-content content is = grind (arith, one_passes, other_name, other_place, registered_once)
 
 pub unique : (form : StrForm) (history : CacheHistory) → IsUnique (content_after form history)
 unique form history = unique-content (content_after form history) (orderly_replay form history)
+
+-- ---- the capacity of its instances
+
+abbrev IsContentAt : Shape → Caps → Content → Type 0
+IsContentAt shape caps content = IsContent caps content
+
+-- what a cache promises of its contents, and of what they need
+promised : ContentLaws cache_meaning is_cache IsContentAt
+promised = record {
+  content_empty = λ shape caps. content-nothing caps;
+  items_empty = λ shape. refl;
+  content_done = λ shape caps content by cmd kind is none. content-done shape.vector caps content by cmd is none;
+  content_leave = λ shape caps content conn keep is. leave-content caps content conn is;
+  content_back = λ shape caps content conn is. is;
+  content_moved = content-moved;
+  need_first = need-front;
+  need_leave = λ shape caps content conn keep kind is. need-leave shape.kind content conn;
+}
+
+pub content_within : (form : StrForm) (history : CacheHistory) → IsWithin form history
+content_within form history kind = (held-replay cache_meaning is_cache IsContentAt promised form kind history).content

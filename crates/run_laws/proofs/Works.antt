@@ -1,7 +1,5 @@
 -- What a caller asks next of a structure, by what it was told of its calls there so far.
-use Rattle.run_laws.proofs.Imports.{arith, ◌≡◌, Bool, true, false, List, [], ◌∷◌, ◌++◌, map, Option, Some, None, inl, inr, ◌⊎◌, refl, sym, ap, ◌∙◌, Kind, Step, AnyAsk, first_step, step_after, asked_by, shell_ask, call_of, AnyCall, Line}
-use Rattle.plex_board.specs.CfTypes.declared.shell_commands.ShellCmd.TheVariants as cmd
-use Rattle.plex_board.specs.PlexScript.declared.agents.Step.TheVariants as step
+use Rattle.run_laws.proofs.Imports.{arith, ◌≡◌, Bool, true, false, List, [], ◌∷◌, ◌++◌, map, Option, Some, None, inl, inr, ◌⊎◌, refl, sym, ◌∙◌, Kind, Step, AnyAsk, first_step, step_after, asked_by, shell_ask, call_of, AnyCall, Line, ShellCmd}
 
 -- the work of one line: its call, if it is one, and the step that it begins with
 pub record Work : Type 0 where
@@ -13,7 +11,7 @@ work_of line = record { line = call_of line.act; first = first_step line.act lin
 
 -- a caller's last work at a structure: it departs
 abbrev pub closing : Kind → Work
-closing kind = record { line = Some (shell_ask kind cmd.Disconnect); first = step.Call 0 }
+closing kind = record { line = Some (shell_ask kind ShellCmd.Disconnect); first = Step.Call 0 }
 
 -- the works at a structure of a caller, the departure last
 abbrev pub works : Kind → List Line → List Work
@@ -22,7 +20,7 @@ works kind lines = map work_of lines ++ closing kind ∷ []
 -- ---- a work done
 
 abbrev pub is_rest : Step → Bool
-is_rest step.Rest = true
+is_rest Step.Rest = true
 is_rest _ = false
 
 -- calls from a step on: what is asked next, or the calls that are left where the work is done
@@ -33,7 +31,7 @@ pub data Pending : Type 0 where
 module _ (kind : Kind) (line : Option AnyAsk) where
   -- these calls are what the step and those behind it ask
   abbrev pub Consumes : Step → List AnyCall → Type 0
-  Consumes now [] = now ≡ step.Rest
+  Consumes now [] = now ≡ Step.Rest
   Consumes now (call ∷ calls) = (asked_by kind line now ≡ Some call.ask) × Consumes (step_after now call.told) calls
 
   abbrev pub goes_on : Bool → Pending → List AnyCall → Pending
@@ -44,30 +42,21 @@ module _ (kind : Kind) (line : Option AnyAsk) where
   pending now [] = goes_on (is_rest now) (Asks (asked_by kind line now)) []
   pending now (call ∷ calls) = goes_on (is_rest now) (pending (step_after now call.told) calls) (call ∷ calls)
 
-  asks_none : (now : Step) → is_rest now ≡ true → asked_by kind line now ≡ None
-  asks_none step.Rest h = refl
-  asks_none _ h = absurd cc
-
   moving : (now : Step) (asked : AnyAsk) → asked_by kind line now ≡ Some asked → is_rest now ≡ false
-  moving now asked e = grind (arith, asks_none)
+  moving now asked e = grind arith
 
-  pending-rest : (calls : List AnyCall) → pending step.Rest calls ≡ Left calls
+  pending-rest : (calls : List AnyCall) → pending Step.Rest calls ≡ Left calls
   pending-rest [] = refl
   pending-rest (call ∷ calls) = refl
 
-  -- behind a whole work stand the calls of others
-  pub done_left : (now : Step) (mine others : List AnyCall) → Consumes now mine
-      → pending now (mine ++ others) ≡ Left others
-  done_left now [] others h = rw h (pending-rest others)
-  done_left now (call ∷ mine) others h =
-      rw (moving now call.ask h.0) (done_left (step_after now call.told) mine others h.1)
-
-  -- in its midst the next call is what is pending
-  pub pending_call : (now : Step) (before : List AnyCall) (call : AnyCall) (behind : List AnyCall)
-      → Consumes now (before ++ call ∷ behind) → pending now before ≡ Asks (Some call.ask)
-  pending_call now [] call behind h = rw (moving now call.ask h.0, h.0) refl
-  pending_call now (one ∷ before) call behind h =
-      rw (moving now one.ask h.0) (pending_call (step_after now one.told) before call behind h.1)
+  -- a call of a work's or behind it is what is pending after those before it, or these leave others before it
+  pub pends : (now : Step) (mine others before : List AnyCall) (call : AnyCall) (behind : List AnyCall)
+      → Consumes now mine → mine ++ others ≡ before ++ call ∷ behind → (pending now before ≡ Asks (Some call.ask))
+      ⊎ ((later : List AnyCall) × ((pending now before ≡ Left later) × (others ≡ later ++ call ∷ behind)))
+  pends now [] others before call behind h e = inr (before, (rw h (pending-rest before), e))
+  pends now (m ∷ mine) others [] call behind h e = grind (arith, moving)
+  pends now (m ∷ mine) others (b ∷ before) call behind h e =
+      grind (arith, moving, pends (step_after now m.told) mine others before call behind h.1 (cc))
 
 -- ---- works one after another
 
@@ -87,26 +76,6 @@ Plays kind [] calls = calls ≡ []
 Plays kind (work ∷ more) calls = (calls ≡ []) ⊎ ((mine : List AnyCall) × ((others : List AnyCall)
     × (calls ≡ mine ++ others) × (Consumes kind work.line work.first mine) × Plays kind more others))
 
--- two lists that are one, cut in two ways: the second cut is within the first part or behind it
-pub data Where {X : Type 0} (mine others before : List X) (x : X) (behind : List X) : Type 0 where
-  Within : (more : List X) → mine ≡ before ++ x ∷ more → Where mine others before x behind
-  Behind : (more : List X) → before ≡ mine ++ more → others ≡ more ++ x ∷ behind → Where mine others before x behind
-
-cut_where : {X : Type 0} (mine others before : List X) (x : X) (behind : List X)
-    → mine ++ others ≡ before ++ x ∷ behind → Where mine others before x behind
-cut_where [] others before x behind e = Behind before refl e
-cut_where (m ∷ mine) others [] x behind e =
-    let same : m ≡ x = cc in
-    Within mine (ap (λ y. y ∷ mine) same)
-cut_where (m ∷ mine) others (b ∷ before) x behind e = further (cut_where mine others before x behind (cc e))
-  where
-    same : m ≡ b
-    same = cc e
-
-    further : Where mine others before x behind → Where (m ∷ mine) others (b ∷ before) x behind
-    further (Within more is) = Within more (cc)
-    further (Behind more is rest) = Behind more (cc) rest
-
 nothing_before : (call : AnyCall) (xs behind : List AnyCall) → [] ≡ xs ++ call ∷ behind → ⊥
 nothing_before call [] behind e = cc
 nothing_before call (x ∷ xs) behind e = cc
@@ -115,13 +84,9 @@ nothing_before call (x ∷ xs) behind e = cc
 pub next_of : (kind : Kind) (ws : List Work) (calls before : List AnyCall) (call : AnyCall) (behind : List AnyCall)
     → Plays kind ws calls → calls ≡ before ++ call ∷ behind → next_ask kind ws before ≡ Some call.ask
 next_of kind [] calls before call behind plays e = absurd (nothing_before call before behind (sym plays ∙ e))
-next_of kind (work ∷ more) calls before call behind (inl none) e = absurd
-    (nothing_before call before behind (sym none ∙ e))
+next_of kind (work ∷ more) calls before call behind (inl none) e = grind (arith, nothing_before)
 next_of kind (work ∷ more) calls before call behind (inr (mine, (others, whole, consumes, rest))) e =
-    at_cut (cut_where mine others before call behind (sym whole ∙ e))
-    (λ later left. next_of kind more others later call behind rest left)
-  where
-    at_cut : Where mine others before call behind → ((later : List AnyCall) → others ≡ later ++ call ∷ behind
-        → next_ask kind more later ≡ Some call.ask) → next_ask kind (work ∷ more) before ≡ Some call.ask
-    at_cut (Within later is) more_asked = grind (arith, pending_call)
-    at_cut (Behind later is left) more_asked = grind (arith, done_left)
+    elim (pends kind work.line work.first mine others before call behind consumes (sym whole ∙ e)) [
+      | inl asks ↦ rw asks refl
+      | inr (later, (left, is)) ↦ rw left (next_of kind more others later call behind rest is)
+    ]

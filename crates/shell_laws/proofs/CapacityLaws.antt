@@ -1,9 +1,7 @@
 -- The content fits the instance that it is in, and the new one of a rebuild.
-use Rattle.shell_laws.proofs.Imports.{◌≡◌, ℕ, Bool, true, false, IsTrue, List, [], ◌++◌, Option, None, Some, refl, sym, subst, arith, if◌then◌else◌, is_some, Stage, Quiesce, Connect, Copy, Stopping, Caps, Kind, StrForm, CfId, ConnId, without_member, What, Entry, Shape, after_what, replay, Fits, IsNoMore, IsNoMoreOf, Machine, departure_from, room_of, with_back_of, with_made, Meaning, unless_refused, fresh_of, is_held_up, is_switch, shape_of, Leaver, Shell, content_cause, emptied, Rebuild, outcome_of, rebuild_in, HasRoom, IsHeld, IsManned, IsPlaced}
-use Rattle.cf_types.specs.declared.forms.Kind.TheVariants as kind
-use Rattle.engine_api.specs.declared.asks.What.TheVariants as what
+use Rattle.shell_laws.proofs.Imports.{◌≡◌, ℕ, Bool, true, false, IsTrue, List, [], ◌++◌, Option, None, Some, sym, subst, arith, if◌then◌else◌, is_some, Stage, Caps, Kind, StrForm, CfId, ConnId, without_member, What, Entry, Shape, after_what, replay, Fits, IsNoMore, IsNoMoreOf, Machine, departure_from, room_of, with_back_of, Meaning, fresh_of, is_held_up, shape_of, Leaver, Shell, content_cause, emptied, Rebuild, rebuild_in, HasRoom, IsHeld, IsManned, IsPlaced}
 use Rattle.shell_laws.proofs.MemberLaws.{content_waits, kept-manned, rebuild_in_it, sound_of}
-use Rattle.shell_laws.proofs.MoveLaws.{Past, kept-call, kept-mark}
+use Rattle.shell_laws.proofs.MoveLaws.{Past, kept-call, kept-mark, made_under}
 use Rattle.shell_laws.proofs.PlaceLaws.{placed-owed, switch_stands}
 use Rattle.shell_laws.proofs.ShellMoves.{Allows, IsSound, Move, Standing, gone_if, gone_on, left_by, standing_of}
 use Rattle.shell_laws.proofs.ShellMoves.Move.{Connects, Departs, Forces, Deallocates, Starts, Gives, Places, Stops, Fails}
@@ -11,16 +9,12 @@ use Rattle.shell_laws.proofs.ShellMoves.Move.{Connects, Departs, Forces, Dealloc
 -- ---- needs and capacities
 
 no_more_of : (kind : Kind) (need other : Caps) → IsNoMore need other → IsNoMoreOf kind need other
-no_more_of kind.Cache need other less = less
-no_more_of (kind.List headers locks refs) need other less = less
-no_more_of kind.Lock need other less = less.1
+no_more_of kind need other less = grind arith
 
 -- where a new instance stands, content commands wait
 held_up : (at : Stage) (members owing : List ConnId) (fresh : Option CfId) → IsPlaced at members owing fresh
     → is_some fresh ≡ true → is_held_up at true ≡ true
-held_up Quiesce members owing fresh placed stands = absurd (let wrong : false ≡ true = rw placed at stands in cc)
-held_up Stopping members owing fresh placed stands = absurd (let wrong : false ≡ true = rw placed at stands in cc)
-held_up at members owing fresh placed stands = refl
+held_up at members owing fresh placed stands = grind arith
 
 -- so none stands where a command on the content is accepted
 pub none_fresh_then : (shell : Shell) (by : ConnId) → IsManned shell → content_cause shell by ≡ None
@@ -59,18 +53,11 @@ module _ {C R I S : Type 0} (meaning : Meaning C R I S) (is_kind : Kind → Bool
     abbrev Held : Standing → S → ℕ → Type 0
     Held s content copied = IsContent (shape_of form) s.caps content × HasRoom meaning form s.rebuild content
 
-    -- a step leads from content to content, refused or not
-    stepped : (caps : Caps) (state : S) (by : ConnId) (cmd : C) → IsContent (shape_of form) caps state
-        → IsContent (shape_of form) caps (unless_refused (meaning.cause (shape_of form) caps state by cmd) state
-        (meaning.done (shape_of form) caps state by cmd)).state
-    stepped caps state by cmd is = grind arith
-
     -- ---- room in a new instance
 
     room_less : (rebuild : Option Rebuild) (content less : S) → IsNoMoreOf form.kind (need_of less) (need_of content)
         → HasRoom meaning form rebuild content → HasRoom meaning form rebuild less
-    room_less None content less is room = tt
-    room_less (Some rebuild) content less is room = grind arith
+    room_less rebuild content less is room = grind arith
 
     room_nothing : (rebuild : Option Rebuild) (content : S) → HasRoom meaning form rebuild content
         → HasRoom meaning form rebuild nothing
@@ -80,40 +67,21 @@ module _ {C R I S : Type 0} (meaning : Meaning C R I S) (is_kind : Kind → Bool
 
     room_in : (at : Stage) (rebuild : Rebuild) (content : S) → HasRoom meaning form (Some rebuild) content
         → HasRoom meaning form (Some (rebuild_in at rebuild)) content
-    room_in Connect rebuild content room = room
-    room_in Copy rebuild content room = room
-    room_in at rebuild content room = λ stands. absurd (cc)
+    room_in at rebuild content room = grind arith
 
     room_emptied : (rebuild : Option Rebuild) (content : S) → HasRoom meaning form rebuild content
         → HasRoom meaning form (emptied rebuild) content
-    room_emptied None content room = tt
-    room_emptied (Some rebuild) content room = grind arith
+    room_emptied rebuild content room = grind arith
 
     -- ---- what goes, and what goes on
 
     held-gone : (gone : Bool) (s : Standing) (content : S) (copied : ℕ) → Held s content copied
         → Held (gone_if gone form s) (if gone then nothing else content) copied
-    held-gone true s content copied held = grind (arith, room_nothing)
-    held-gone false s content copied held = held
-
-    -- behind COPY the content is in the new instance, and keeps no registrations
-    held-onward : (given : Rebuild) (s : Standing) (content : S) (copied : ℕ)
-        → (is_switch (outcome_of given) ≡ true → is_some given.fresh ≡ true)
-        → IsContent (shape_of form) s.caps content → HasRoom meaning form (Some given) content
-        → Held (gone_on given s) (if is_switch (outcome_of given) then meaning.forget content else content) copied
-    held-onward given s content copied fresh is room = grind (arith, room_in)
+    held-gone gone s content copied held = grind (arith, room_nothing)
 
     content_taken_up : (caps : Caps) (back : Option ConnId) (content : S) → IsContent (shape_of form) caps content
         → IsContent (shape_of form) caps (with_back_of meaning form back content)
-    content_taken_up caps None content is = is
-    content_taken_up caps (Some conn) content is = laws.content_back (shape_of form) caps content conn is
-
-    -- a new instance leaves the content as it is
-    made_rebuilding : (rebuilding : Bool) (made : Option CfId) (content : S) → rebuilding ≡ true
-        → with_made meaning form rebuilding made content ≡ content
-    made_rebuilding rebuilding None content is = refl
-    made_rebuilding true (Some cf) content is = refl
-    made_rebuilding false (Some cf) content is = absurd (cc)
+    content_taken_up caps back content is = grind arith
 
     module _ (machine : Machine S) (sound : IsSound (standing_of machine.shell))
         (held : Held (standing_of machine.shell) machine.content machine.copied) where
@@ -149,9 +117,8 @@ module _ {C R I S : Type 0} (meaning : Meaning C R I S) (is_kind : Kind → Bool
           held-gone gone (record s { rebuild = emptied s.rebuild }) _ 0 (left.0, room_emptied s.rebuild _ left.1)
       held-move Deallocates may = held-gone true s machine.content 0 held
       held-move (Starts number caps) may = (held.0, λ stands. absurd (cc))
-      held-move (Gives rebuild who) may =
-          grind (arith, held-onward, switch_stands, placed-owed, rebuild_in_it, room_under)
-      held-move (Places rebuild who at made) may = grind (arith, gone_on, made_rebuilding, held-onward, room_under)
+      held-move (Gives rebuild who) may = grind (arith, switch_stands, placed-owed, rebuild_in_it, room_under)
+      held-move (Places rebuild who at made) may = grind (arith, gone_on, made_under, room_under)
       held-move (Stops rebuild) may = (held.0, λ stands. absurd (cc))
       held-move Fails may = (laws.content_empty (shape_of form) form.caps, tt)
       held-move _ may = held
@@ -163,18 +130,18 @@ module _ {C R I S : Type 0} (meaning : Meaning C R I S) (is_kind : Kind → Bool
 
     held-after : (machine : Machine S) (by : ConnId) (told : What C) → IsManned machine.shell → IsHeldBy machine
         → IsHeldBy (after_what meaning form machine by told)
-    held-after machine by (what.Call asked) manned held =
+    held-after machine by (What.Call asked) manned held =
         let sound : IsSound (standing_of machine.shell) = sound_of machine.shell manned in
         let both = kept-call meaning form Held machine manned.places sound
         (held-move machine sound (held.content, held.room)) (held.content, held.room)
-        (grind (arith, stepped, room_for_any, none_fresh_then)) by asked in
+        (grind (arith, room_for_any, none_fresh_then)) by asked in
         record { content = both.0; room = both.1 }
       where
         room_for_any : (rebuild : Option Rebuild) (content : S) → fresh_of rebuild ≡ None
             → HasRoom meaning form rebuild content
         room_for_any None content none = tt
         room_for_any (Some rebuild) content none = grind arith
-    held-after machine by (what.Lost cf) manned held =
+    held-after machine by (What.Lost cf) manned held =
         grind (arith, IsSound, standing_of, sound_of, kept-mark, held-move)
 
     pub held-replay : (history : List (Entry C R)) → IsHeldBy (replay meaning form history)

@@ -1,24 +1,10 @@
 -- Refusals in their order: where none holds, each of them doesn't.
-use Rattle.shell_laws.proofs.Imports.{◌≡◌, ◌≤◌, ℕ, Bool, true, false, List, [], ◌∷◌, ◌++◌, Option, None, Some, refl, arith, nat_lt, ltb-false, Refusal, first_refusal, if_rebuilding, refusal_when, Rebuild}
-
--- none of these holds
-abbrev pub NoneHolds : List (Option Refusal) → Type 0
-NoneHolds [] = Unit {0}
-NoneHolds (cause ∷ causes) = (cause ≡ None) × NoneHolds causes
-
-pub none_holds : (causes : List (Option Refusal)) → first_refusal causes ≡ None → NoneHolds causes
-none_holds [] fine = tt
-none_holds (None ∷ causes) fine = (refl, none_holds causes fine)
-none_holds (Some refusal ∷ causes) fine = absurd (cc)
+use Rattle.shell_laws.proofs.Imports.{◌≡◌, ◌≤◌, ℕ, Bool, false, List, [], ◌∷◌, ◌++◌, Option, None, Some, arith, nat_lt, ltb-false, Refusal, first_refusal, if_rebuilding, refusal_when, Rebuild, none_hold}
 
 pub past_front : (front rest : List (Option Refusal)) → first_refusal (front ++ rest) ≡ None → first_refusal rest ≡ None
 past_front [] rest fine = fine
 past_front (None ∷ front) rest fine = past_front front rest fine
 past_front (Some refusal ∷ front) rest fine = absurd (cc)
-
-pub past_first : (first : Option Refusal) (rest : List (Option Refusal)) → first_refusal (first ∷ rest) ≡ None
-    → first_refusal rest ≡ None
-past_first first rest fine = past_front (first ∷ []) rest fine
 
 pub past_second : (first second : Option Refusal) (rest : List (Option Refusal))
     → first_refusal (first ∷ second ∷ rest) ≡ None → first_refusal rest ≡ None
@@ -26,16 +12,15 @@ past_second first second rest fine = past_front (first ∷ second ∷ []) rest f
 
 pub third_none : (first second third : Option Refusal) (rest : List (Option Refusal))
     → first_refusal (first ∷ second ∷ third ∷ rest) ≡ None → third ≡ None
-third_none first second third rest fine = (none_holds (first ∷ second ∷ third ∷ rest) fine).1.1.0
+third_none first second third rest fine = (none_hold (first ∷ second ∷ third ∷ rest) fine).1.1.0
 
 pub fourth_none : (first second third fourth : Option Refusal) (rest : List (Option Refusal))
     → first_refusal (first ∷ second ∷ third ∷ fourth ∷ rest) ≡ None → fourth ≡ None
-fourth_none first second third fourth rest fine = (none_holds (first ∷ second ∷ third ∷ fourth ∷ rest) fine).1.1.1.0
+fourth_none first second third fourth rest fine = (none_hold (first ∷ second ∷ third ∷ fourth ∷ rest) fine).1.1.1.0
 
 -- what isn't refused isn't so
 pub not_so : (b : Bool) (why : Refusal) → refusal_when b why ≡ None → b ≡ false
-not_so true why fine = absurd (cc)
-not_so false why fine = refl
+not_so b why fine = grind arith
 
 -- a number that is refused where it is above another isn't above it
 pub not_above : (low high : ℕ) (why : Refusal) → refusal_when (nat_lt low high) why ≡ None → high ≤ low
@@ -45,5 +30,4 @@ pub nothing_left : (n : ℕ) (why : Refusal) → refusal_when (nat_lt 0 n) why �
 nothing_left n why fine = omega (arith, not_above 0 n why fine)
 
 pub idle_rebuild : (rebuild : Option Rebuild) → if_rebuilding rebuild ≡ None → rebuild ≡ None
-idle_rebuild None fine = refl
-idle_rebuild (Some rebuild) fine = absurd (cc)
+idle_rebuild rebuild fine = grind arith

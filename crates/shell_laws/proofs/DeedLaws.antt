@@ -1,11 +1,10 @@
 -- What deeds make of the capacities of the instances, and that those of a command may be done.
-use Rattle.shell_laws.proofs.Imports.{arith, ◌≡◌, Bool, true, false, List, [], ◌∷◌, Option, None, Some, inr, refl, sym, ap, ◌∙◌, subst, if◌then◌else◌, ◌||◌, ◌&&◌, is_some, is_none, both_ways, Stage, Quiesce, Connect, Copy, Cleanup, Stopping, Caps, StrForm, CfId, ConnId, ShellCmd, without_member, Deeds, Room, Fits, Machine, items_of, room_of, Meaning, fresh_of, is_switch, Shell, caps_in, emptied, is_drop, mark_outcome, shell_cause, Rebuild, outcome, outcome_of, rebuild_emptied, rebuild_left, rebuild_without, with_place, without_owing, AreFitting, caps_behind, fresh_behind, fresh_caps, HasMembers, IsManned, IsPlaced, Somebody}
-use Rattle.shell_laws.proofs.LossLaws.{loss-cases}
-use Rattle.shell_laws.proofs.MemberLaws.{rebuild_in_it, sound_of}
+use Rattle.shell_laws.proofs.Imports.{arith, ◌≡◌, Bool, true, false, List, [], Option, None, Some, inr, refl, sym, ap, ◌∙◌, subst, if◌then◌else◌, ◌||◌, ◌&&◌, is_some, both_ways, Stage, Copy, Caps, StrForm, CfId, ConnId, ShellCmd, without_member, Deeds, Room, Fits, Machine, items_of, room_of, Meaning, fresh_of, is_switch, Shell, caps_in, emptied, mark_outcome, shell_cause, Rebuild, outcome, outcome_of, rebuild_left, with_place, without_owing, AreFitting, caps_behind, fresh_behind, fresh_caps, HasMembers, IsManned, IsPlaced, Somebody}
 use Rattle.shell_laws.proofs.PlaceLaws.{IsRebuild, is-without, no_switch, no_switch_outside, placed-owed, switch_copy, switch_stands}
-use Rattle.shell_laws.proofs.ShellMoves.{Allows, IsSound, Move, Standing, Work, deeds_of, left_by, moved, standing_of}
 use Rattle.shell_laws.proofs.ShellMoves.Move.{Connects, Departs, Forces, Deallocates, Starts, Gives, Places, Stops}
+use Rattle.shell_laws.proofs.ShellMoves.{Allows, IsSound, Move, Standing, Work, deeds_of, left_by, moved, standing_of}
 use Rattle.shell_laws.proofs.StepLaws.{done, move_by}
+use Rattle.shell_laws.proofs.{LossLaws.loss-cases, MemberLaws.rebuild_in_it, MemberLaws.sound_of}
 
 -- what the deeds of a mark make of the capacities is what the shell has behind it
 pub capacities-loss : (form : StrForm) (cf : CfId) (shell : Shell) → let acted = mark_outcome form cf shell in
@@ -25,64 +24,18 @@ capacities-loss form cf shell = loss-cases form cf shell (λ acted. (acted.shell
 fresh_passed : (at : Stage) (members owing before : List ConnId) (rebuild : Rebuild) → Somebody members
     → IsPlaced at members before rebuild.fresh → fresh_caps (rebuild_left (outcome at members owing)
     rebuild) ≡ (if is_switch (outcome at members owing) || false then None else fresh_caps (Some rebuild))
-fresh_passed at [] owing before rebuild (conn, (others, are)) placed = absurd (cc)
-fresh_passed at (conn ∷ conns) (other ∷ others) before rebuild somebody placed = refl
-fresh_passed Quiesce (conn ∷ conns) [] before rebuild somebody placed = refl
-fresh_passed Connect (conn ∷ conns) [] before rebuild somebody placed = refl
-fresh_passed Copy (conn ∷ conns) [] before rebuild somebody placed = refl
-fresh_passed at (conn ∷ conns) [] before rebuild somebody placed = rw placed refl
-
--- and it is dropped where the rebuild ends with a departure
-fresh_left : (at : Stage) (members owing : List ConnId) (rebuild : Rebuild)
-    → is_switch (outcome at members owing) ≡ false → let after = rebuild_left (outcome at members owing) rebuild in
-    fresh_caps after ≡ (if is_some rebuild.fresh && is_none after then None else fresh_caps (Some rebuild))
-fresh_left at members owing rebuild = go at members owing
-  where
-    ends : (stands : Bool) → None ≡ (if stands && true then None else if stands then Some rebuild.caps else None)
-    ends true = refl
-    ends false = refl
-
-    goes_on : (stands : Bool) (caps : Option Caps) → caps ≡ (if stands && false then None else caps)
-    goes_on true caps = refl
-    goes_on false caps = refl
-
-    go : (at : Stage) (members owing : List ConnId) → is_switch (outcome at members owing) ≡ false
-        → let after = rebuild_left (outcome at members owing) rebuild in
-        fresh_caps after ≡ (if is_some rebuild.fresh && is_none after then None else fresh_caps (Some rebuild))
-    go at [] owing stays = ends (is_some rebuild.fresh)
-    go at (conn ∷ conns) (other ∷ others) stays = goes_on (is_some rebuild.fresh) (fresh_caps (Some rebuild))
-    go Copy (conn ∷ conns) [] stays = absurd (cc)
-    go Cleanup (conn ∷ conns) [] stays = ends (is_some rebuild.fresh)
-    go Stopping (conn ∷ conns) [] stays = ends (is_some rebuild.fresh)
-    go at (conn ∷ conns) [] stays = goes_on (is_some rebuild.fresh) (fresh_caps (Some rebuild))
+fresh_passed at members owing before rebuild somebody placed = grind arith
 
 -- an emptied new instance keeps its capacity
 fresh_emptied : (rebuild : Option Rebuild) → fresh_caps (emptied rebuild) ≡ fresh_caps rebuild
-fresh_emptied None = refl
-fresh_emptied (Some rebuild) = go rebuild.stage
-  where
-    go : (at : Stage) → fresh_caps (Some (rebuild_emptied at rebuild)) ≡ fresh_caps (Some rebuild)
-    go Copy = refl
-    go at = refl
+fresh_emptied rebuild = grind arith
 
 -- where nobody is active there is no rebuild
 no_rebuild : (rebuild : Option Rebuild) (active : List ConnId) → HasMembers rebuild active → active ≡ []
     → rebuild ≡ None
-no_rebuild None active members none = refl
-no_rebuild (Some rebuild) [] (are, (conn, (others, some))) none = absurd (cc)
-no_rebuild (Some rebuild) (first ∷ rest) members none = absurd (cc)
+no_rebuild rebuild active members none = grind arith
 
 -- ---- the capacities behind a move
-
-caps-move : (form : StrForm) (room : Room) (s : Standing) (move : Move) → Allows form room s move
-    → let deeds = deeds_of move s in
-    (moved form move s).caps
-    ≡ (if deeds.drop_all then form.caps else if deeds.switch then caps_in s.rebuild s.caps else s.caps)
-caps-move form room s (Gives rebuild who) may = ap (λ (r : Option Rebuild). if is_switch
-    (outcome_of (without_owing who rebuild)) then caps_in r s.caps else s.caps) (sym may.is)
-caps-move form room s (Places rebuild who at made) may = ap (λ (r : Option Rebuild). if is_switch
-    (outcome_of (without_owing who (with_place at rebuild))) then caps_in r s.caps else s.caps) (sym may.is)
-caps-move form room s _ may = refl
 
 fresh-move : (form : StrForm) (room : Room) (s : Standing) → IsSound s → (move : Move) → Allows form room s move
     → let deeds = deeds_of move s in
@@ -96,14 +49,7 @@ fresh-move form room s sound (Connects active made back) may = rw (may.idle) (ne
 fresh-move form room s sound (Departs who true) may =
     ap fresh_caps (no_rebuild (left_by who.conn s.rebuild) (without_member who.conn s.active)
     (is-without who.conn s.rebuild s.active (sound.members, sound.placed)).0 (may refl))
-fresh-move form room s sound (Departs who false) may = go s.rebuild
-  where
-    go : (rebuild : Option Rebuild) → fresh_caps (left_by who.conn rebuild)
-        ≡ (if is_drop rebuild (left_by who.conn rebuild) then None else fresh_caps rebuild)
-    go None = refl
-    go (Some rebuild) =
-        let left : Rebuild = rebuild_without who.conn rebuild in
-        fresh_left left.stage left.members left.owing left (no_switch who.conn rebuild)
+fresh-move form room s sound (Departs who false) may = grind (arith, left_by, no_switch)
 fresh-move form room s sound (Forces other true) may = grind (arith, fresh_emptied, no_rebuild)
 fresh-move form room s sound (Forces other false) may = fresh_emptied s.rebuild
 fresh-move form room s sound Deallocates may = ap fresh_caps (no_rebuild s.rebuild s.active sound.members may)
@@ -205,12 +151,7 @@ module _ {C R I S : Type 0} (meaning : Meaning C R I S) (form : StrForm) (machin
       let sound : IsSound (standing_of machine.shell) = sound_of machine.shell manned in
       let s : Standing = standing_of machine.shell in
       let may = is.allows manned.places sound in
-      let room : Room = room_of meaning form machine in (
-        ap (λ (w : Work). w.0.caps) is.does
-            ∙ caps-move form room s is.move may ∙ ap (λ (w : Work). caps_behind form machine.shell w.1) (sym is.does),
-        ap (λ (w : Work). fresh_caps w.0.rebuild) is.does ∙ fresh-move form room s sound is.move may
-            ∙ ap (λ (w : Work). fresh_behind machine.shell w.1) (sym is.does),
-      )
+      let room : Room = room_of meaning form machine in (grind (arith, Work, fresh-move, Gives, Places))
 
   -- the deeds of a command are such as may be done
   pub fitting-command : (command : ShellCmd) → IsManned machine.shell

@@ -1,18 +1,16 @@
 -- The rebuild that the machine keeps is the one that its history tells of.
 use Rattle.shell_laws.proofs.Imports.{arith, ◌≡◌, List, [], ◌∷◌, ◌++◌, Option, None, option_map, refl, sym, ap, ◌∙◌, subst, fold, StrForm, ConnId, actives, Reply, What, Entry, after_what, machine_after, replay, IsLegal, Machine, Meaning, replay-push, continues_legal, Rebuild, actives_after, HasMembers, Reading, read_from, read_next, rebuild_of, rebuild_told, rebuild_next, Telling, telling_of, telling_entry}
-use Rattle.engine_api.specs.declared.asks.What.TheVariants as what
 use Rattle.shell_laws.proofs.Answered.{reply_for, AreAnswered, continues-answered}
-use Rattle.shell_laws.proofs.MemberLaws.{manned-replay}
 use Rattle.shell_laws.proofs.ReadingLaws.{IsGoing, told-next, going-next}
-use Rattle.shell_laws.proofs.StepLaws.{rebuild-step, rebuild-loss}
+use Rattle.shell_laws.proofs.{MemberLaws.manned-replay, StepLaws.rebuild-step, StepLaws.rebuild-loss}
 
 module _ {C R I S : Type 0} (meaning : Meaning C R I S) (form : StrForm) where
   -- what an entry tells is what the machine keeps
   kept_next : (machine : Machine S) (by : ConnId) (told : What C) (answer : Reply R)
       → answer ≡ reply_for meaning form machine by told → rebuild_next (actives machine.shell.conns)
       by (telling_of told answer) machine.shell.rebuild ≡ (after_what meaning form machine by told).shell.rebuild
-  kept_next machine by (what.Call asked) answer answered = grind (arith, rebuild-step)
-  kept_next machine by (what.Lost cf) answer answered = rw answered (sym (rebuild-loss meaning form machine by cf))
+  kept_next machine by (What.Call asked) answer answered = grind (arith, rebuild-step)
+  kept_next machine by (What.Lost cf) answer answered = rw answered (sym (rebuild-loss meaning form machine by cf))
 
   kept : (before entries : List (Entry C R)) (read : Option Reading) → IsGoing read → option_map rebuild_of
       read ≡ (replay meaning form before).shell.rebuild → AreAnswered meaning form (replay meaning form before)

@@ -1,7 +1,5 @@
 -- What is to be shown of what holds after every history.
-use Rattle.shell_laws.proofs.Imports.{◌≡◌, Bool, false, ◌&&◌, List, [], ◌∷◌, ◌++◌, None, Some, Caps, StrForm, ConnId, ShellCmd, Entry, Meaning, replay, shape_of, Leaver, leaver, accepted_as}
-use Rattle.cf_types.specs.declared.shell_commands.ShellCmd.TheVariants as cmd
-use Rattle.engine_api.specs.declared.asks.Ask.TheVariants as ask
+use Rattle.shell_laws.proofs.Imports.{◌≡◌, Bool, false, ◌&&◌, List, [], ◌∷◌, ◌++◌, None, Some, Caps, StrForm, ConnId, ShellCmd, Entry, Meaning, replay, shape_of, Leaver, leaver, accepted_as, Ask}
 use Rattle.engine_api.specs.declared.asks.What.TheVariants as what
 use Rattle.shell_laws.proofs.Moves.{stands_in}
 
@@ -23,13 +21,13 @@ module _ {C R I S : Type 0} (meaning : Meaning C R I S) (form : StrForm) where
   -- the entry is one by which a connector departs
   pub record IsDeparture (history : List (Entry C R)) (entry : Entry C R) (who : Leaver) : Type 0 where
     pub command : ShellCmd
-    pub asked : entry.what ≡ what.Call (ask.Shell command)
+    pub asked : entry.what ≡ what.Call (Ask.Shell command)
     pub leaves : leaver (replay meaning form history).shell entry.by command ≡ Some who
 
   -- the caller of the entry comes back
   pub record IsReturn (entry : Entry C R) : Type 0 where
     pub keep : Bool
-    pub asked : entry.what ≡ what.Call (ask.Shell (cmd.Connect keep))
+    pub asked : entry.what ≡ what.Call (Ask.Shell (ShellCmd.Connect keep))
 
   abbrev pub IsGone : (history : List (Entry C R)) → Entry C R → Type 0
   IsGone history entry =

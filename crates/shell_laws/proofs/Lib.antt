@@ -7,7 +7,6 @@ pub mod ShellMoves
 pub mod StepLaws
 pub mod PlaceLaws
 pub mod MoveLaws
-pub mod PairLaws
 pub mod HistoryLaws
 pub mod MemberLaws
 pub mod FillingLaws

@@ -1,13 +1,11 @@
 -- In a rebuild the members are just the connectors that are active, of whom there are some, and the instances stand
 -- that there are to be: each move keeps it, so it holds after every history.
-use Rattle.shell_laws.proofs.Imports.{arith, ◌≡◌, ◌≢◌, ℕ, Bool, true, false, List, [], ◌∷◌, length, Option, None, Some, refl, sym, ap, ◌∙◌, subst, fold, is_some, if◌then◌else◌, both_ways, CALLERS, Stage, Quiesce, Stopping, StrForm, CfId, ConnId, actives, no_connections, without_member, defined_count-unconnected, Ask, What, Room, Entry, after_what, machine_after, replay, Instances, Machine, loss_step, opening, room_of, step, Meaning, is_held_up, Shell, content_cause, emptied, length-conns-step, length-conns-replay, conns-loss, Rebuild, HasMembers, HasPlace, IsManned, Somebody}
-use Rattle.engine_api.specs.declared.asks.What.TheVariants as what
-use Rattle.shell_laws.proofs.CauseLaws.{fourth_none}
-use Rattle.shell_laws.proofs.MoveLaws.{kept-call, kept-mark}
-use Rattle.shell_laws.proofs.PlaceLaws.{IsRebuild, is-emptied, is-onward, is-without, nobody, nobody_active, placed-owed, somebody_without, switch_stands}
-use Rattle.shell_laws.proofs.ShellMoves.{Allows, ArePaired, IsSound, Move, Standing, gone_if, gone_on, left_by, moved, standing_of}
+use Rattle.shell_laws.proofs.Imports.{arith, ◌≡◌, ◌≢◌, ℕ, Bool, true, false, List, [], ◌∷◌, length, Option, None, Some, sym, ap, ◌∙◌, subst, fold, is_some, both_ways, CALLERS, StrForm, CfId, ConnId, actives, no_connections, without_member, defined_count-unconnected, Ask, What, Room, Entry, after_what, machine_after, replay, Instances, Machine, loss_step, opening, room_of, step, Meaning, is_held_up, Shell, content_cause, emptied, length-conns-step, length-conns-replay, conns-loss, Rebuild, HasMembers, IsManned, Somebody}
+use Rattle.shell_laws.proofs.PlaceLaws.{IsRebuild, is-emptied, is-without, nobody, nobody_active, placed-owed, somebody_without}
 use Rattle.shell_laws.proofs.ShellMoves.Move.{Quiet, Connects, Departs, Forces, Deallocates, Starts, Gives, Places, Stops, Simplexes, Fails, Duplexes}
+use Rattle.shell_laws.proofs.ShellMoves.{Allows, ArePaired, IsSound, Move, Standing, gone_if, left_by, moved, standing_of}
 use Rattle.shell_laws.proofs.StepLaws.{active_member, active_of, first_none}
+use Rattle.shell_laws.proofs.{CauseLaws.fourth_none, MoveLaws.kept-call, MoveLaws.kept-mark}
 
 -- ---- what each move keeps
 
@@ -16,8 +14,7 @@ alone : (at : Instances) (rebuild : Option Rebuild) → at.secondary ≡ None �
 alone at rebuild none = grind arith
 
 missing : {X : Type 0} (o : Option X) → (is_some o ≡ true → ⊥) → o ≡ None
-missing None never = refl
-missing (Some x) never = absurd (never refl)
+missing o never = grind arith
 
 stands_none : {X : Type 0} (o : Option X) (x : X) → o ≡ Some x → o ≡ None → ⊥
 stands_none o x some none = let wrong : Some x ≡ None = sym some ∙ none in cc
@@ -33,12 +30,6 @@ module _ (form : StrForm) (s : Standing) (sound : IsSound s) where
       → IsSound (record s { rebuild = rebuild; active = active })
   sound-rebuilt rebuild active is idle were = grind arith
 
-  -- it goes on
-  sound-onward : (rebuild given : Rebuild) → s.rebuild ≡ Some rebuild → given.members ≡ rebuild.members
-      → HasPlace (Some given) → IsSound (gone_on given s)
-  sound-onward rebuild given is same placed =
-      grind (arith, switch_stands, alone, gone_on, missing, stands_none, IsRebuild, is-onward, rebuild_in_it)
-
 -- the structure goes where nobody is active
 sound-gone : (form : StrForm) (gone : Bool) (s : Standing) → (gone ≡ true → s.active ≡ []) → IsSound s
     → IsSound (gone_if gone form s)
@@ -50,16 +41,16 @@ pub sound-move : (form : StrForm) (room : Room) (s : Standing) → IsSound s →
 sound-move form room s sound Quiet may = sound
 sound-move form room s sound (Connects active made back) may =
     grind (arith, both_ways, ArePaired, alone, missing, stands_none)
-sound-move form room s sound (Departs who gone) may = sound-gone form gone
-    (record s { active = without_member who.conn s.active; rebuild = left_by who.conn s.rebuild }) may (sound-rebuilt
-    form s sound (left_by who.conn s.rebuild) (without_member who.conn s.active) (is-without who.conn s.rebuild
-    s.active (sound.members, sound.placed)) (λ idle. ap (left_by who.conn) idle) (somebody_without who.conn s.active))
+sound-move form room s sound (Departs who gone) may = sound-gone
+    form gone (record s { active = without_member who.conn s.active; rebuild = left_by who.conn s.rebuild })
+    may (sound-rebuilt form s sound (left_by who.conn s.rebuild) (without_member who.conn s.active)
+    (grind (arith, is-without)) (λ idle. ap (left_by who.conn) idle) (somebody_without who.conn s.active))
 sound-move form room s sound (Forces other gone) may =
     sound-gone form gone (record s { rebuild = emptied s.rebuild }) may (grind (arith, sound-rebuilt, is-emptied))
 sound-move form room s sound Deallocates may = sound-gone form true s (λ gone. may) sound
 sound-move form room s sound (Starts number caps) may = grind (arith, alone, moved, Starts, both_ways)
-sound-move form room s sound (Gives rebuild who) may = grind (arith, sound-onward, placed-owed, rebuild_in_it)
-sound-move form room s sound (Places rebuild who at made) may = grind (arith, sound-onward)
+sound-move form room s sound (Gives rebuild who) may = grind (arith, placed-owed, rebuild_in_it)
+sound-move form room s sound (Places rebuild who at made) may = grind arith
 sound-move form room s sound (Stops rebuild) may = grind (arith, sound-rebuilt, rebuild_in_it, stands_none)
 sound-move form room s sound (Simplexes lost left) may = grind (arith, alone, moved, Simplexes, both_ways)
 sound-move form room s sound Fails may = grind (arith, alone)
@@ -84,19 +75,14 @@ module _ {C R I S : Type 0} (meaning : Meaning C R I S) (form : StrForm) where
       → IsManned (step meaning form machine by asked).machine.shell
   manned-step machine by asked manned =
       let sound : IsSound (standing_of machine.shell) = sound_of machine.shell manned in
-      manned_of (step meaning form machine by asked).machine.shell (length-conns-step meaning form machine by asked
-      ∙ manned.places) (kept-call meaning form Sound machine manned.places sound (sound-move form
+      manned_of (step meaning form machine by asked).machine.shell
+      (grind (arith, length-conns-step)) (kept-call meaning form Sound machine manned.places sound (sound-move form
       (room_of meaning form machine) (standing_of machine.shell) sound) sound (λ by command accepted. sound) by asked)
 
   pub manned-loss : (machine : Machine S) (cf : CfId) → IsManned machine.shell
       → IsManned (loss_step meaning form machine cf).machine.shell
   manned-loss machine cf manned =
       grind (arith, IsSound, standing_of, sound_of, manned_of, conns-loss, kept-mark, sound-move)
-
-  pub manned-after : (machine : Machine S) (by : ConnId) (told : What C) → IsManned machine.shell
-      → IsManned (after_what meaning form machine by told).shell
-  manned-after machine by (what.Call asked) manned = manned-step machine by asked manned
-  manned-after machine by (what.Lost cf) manned = manned-loss machine cf manned
 
   pub manned-opening : IsManned (opening meaning form).shell
   manned-opening = record {
@@ -116,7 +102,7 @@ module _ {C R I S : Type 0} (meaning : Meaning C R I S) (form : StrForm) where
         × P (fold (machine_after meaning form) machine entries)
     kept_fold machine [] manned is = (manned, is)
     kept_fold machine (entry ∷ entries) manned is = kept_fold (machine_after meaning form machine entry)
-        entries (manned-after machine entry.by entry.what manned) (step machine entry.by entry.what manned is)
+        entries (grind (arith, manned-step, manned-loss)) (step machine entry.by entry.what manned is)
 
     pub kept-manned : (history : List (Entry C R)) → P (opening meaning form)
         → IsManned (replay meaning form history).shell × P (replay meaning form history)
@@ -132,13 +118,8 @@ pub manned-members : (shell : Shell) (rebuild : Rebuild) → IsManned shell → 
     → HasMembers (Some rebuild) (actives shell.conns)
 manned-members shell rebuild manned is = grind arith
 
-held_up_either : (at : Stage) (owes : Bool) → is_held_up at true ≡ true → is_held_up at owes ≡ true
-held_up_either Quiesce owes held = absurd (cc)
-held_up_either Stopping owes held = absurd (cc)
-held_up_either at owes held = refl
-
 -- all connectors' content commands are refused then
 pub content_waits : (shell : Shell) (rebuild : Rebuild) (by : ConnId) → IsManned shell → shell.rebuild ≡ Some rebuild
     → is_held_up rebuild.stage true ≡ true → content_cause shell by ≢ None
 content_waits shell rebuild by manned is held =
-    grind (arith, manned-members, active_of, first_none, active_member, held_up_either, fourth_none)
+    grind (arith, manned-members, active_of, first_none, active_member, fourth_none)

@@ -1,9 +1,13 @@
 -- A law of what stands, of the content and of the items copied: what each move and each command on the content keeps,
 -- calls and marks keep.
-use Rattle.shell_laws.proofs.Imports.{◌≡◌, ℕ, ◌+◌, Bool, false, length, Option, None, Some, refl, sym, subst, arith, is_some, CALLERS, StrForm, CfId, ConnId, Refusal, Ask, Room, Machine, command_done, content_after, content_done, copied_after, departure_from, loss_step, room_of, step, unless, Meaning, Leaver, ShellOutcome, content_cause, loss_outcome, shell_cause, Telling}
-use Rattle.engine_api.specs.declared.asks.Ask.TheVariants as ask
+use Rattle.shell_laws.proofs.Imports.{true, with_made, ◌≡◌, ℕ, ◌+◌, Bool, false, length, Option, None, Some, refl, subst, arith, is_some, CALLERS, StrForm, CfId, ConnId, Refusal, Ask, Room, Machine, command_done, content_after, content_done, copied_after, departure_from, loss_step, room_of, step, unless, Meaning, Leaver, ShellOutcome, content_cause, loss_outcome, shell_cause, Telling}
 use Rattle.shell_laws.proofs.ShellMoves.{Allows, IsSound, Move, Standing, Work, standing_of, work_by, work_of}
 use Rattle.shell_laws.proofs.StepLaws.{IsMove, move_by, moves-loss}
+
+-- a rebuild's new instance leaves the content as it is
+pub made_under : {C R I S : Type 0} (meaning : Meaning C R I S) (form : StrForm) (rebuilding : Bool)
+    (made : Option CfId) (content : S) → rebuilding ≡ true → with_made meaning form rebuilding made content ≡ content
+made_under meaning form rebuilding made content is = grind arith
 
 module _ {C R I S : Type 0} (meaning : Meaning C R I S) (form : StrForm) (P : Standing → S → ℕ → Type 0)
     (machine : Machine S) where
@@ -46,11 +50,11 @@ module _ {C R I S : Type 0} (meaning : Meaning C R I S) (form : StrForm) (P : St
         → P s (content_done meaning form machine by command).machine.content machine.copied)
         → (by : ConnId) (asked : Ask C) → let after = (step meaning form machine by asked).machine in
         P (standing_of after.shell) after.content after.copied
-    kept-call keeps contents by (ask.Shell command) = go (shell_cause form room machine.shell by command) refl
+    kept-call keeps contents by (Ask.Shell command) = go (shell_cause form room machine.shell by command) refl
       where
         go : (cause : Option Refusal) → shell_cause form room machine.shell by command ≡ cause
             → Keeps (unless meaning form cause machine (command_done meaning form machine by command)).machine
         go (Some refusal) is = keeps
         go None is = kept (length machine.shell.conns ≡ CALLERS)
             by _ _ _ _ _ places (move_by meaning form machine by command is)
-    kept-call keeps contents by (ask.Content command) = grind arith
+    kept-call keeps contents by (Ask.Content command) = grind arith

@@ -1,8 +1,5 @@
 -- What an entry does to a content.
-use Rattle.shell_laws.proofs.Imports.{◌≡◌, Bool, false, ◌&&◌, is_some, None, Some, StrForm, ConnId, ShellCmd, Reply, What, Machine, Meaning, shape_of, Leaver, leaver, accepted_as}
-use Rattle.cf_types.specs.declared.shell_commands.ShellCmd.TheVariants as cmd
-use Rattle.engine_api.specs.declared.asks.Ask.TheVariants as ask
-use Rattle.engine_api.specs.declared.asks.What.TheVariants as what
+use Rattle.shell_laws.proofs.Imports.{◌≡◌, Bool, false, ◌&&◌, is_some, None, Some, StrForm, ConnId, ShellCmd, Reply, What, Machine, Meaning, shape_of, Leaver, leaver, accepted_as, Ask}
 
 -- an instance stands
 abbrev pub stands_in : {S : Type 0} → Machine S → Bool
@@ -13,10 +10,10 @@ module _ {C R I S : Type 0} (meaning : Meaning C R I S) (form : StrForm) where
   -- one that came back, the same without registrations, or nothing, where no instance stands before it or after it
   pub data Move (before after : Machine S) (by : ConnId) (told : What C) : Type 0 where
     Same : after.content ≡ before.content → Move before after by told
-    Left : (who : Leaver) (command : ShellCmd) → told ≡ what.Call (ask.Shell command) → leaver before.shell
+    Left : (who : Leaver) (command : ShellCmd) → told ≡ What.Call (Ask.Shell command) → leaver before.shell
         by command ≡ Some who → after.content ≡ (meaning.leave (shape_of form) before.content who.conn who.keep).state
         → Move before after by told
-    Returned : (keep : Bool) → told ≡ what.Call (ask.Shell (cmd.Connect keep))
+    Returned : (keep : Bool) → told ≡ What.Call (Ask.Shell (ShellCmd.Connect keep))
         → after.content ≡ meaning.back before.content by → Move before after by told
     Forgotten : after.content ≡ meaning.forget before.content → Move before after by told
     Cleared : after.content ≡ meaning.empty (shape_of form) → stands_in before && stands_in after ≡ false

@@ -1,5 +1,5 @@
 -- The members of a rebuild, its new instance, and the primary, whose place the new one takes.
-use Rattle.shell_laws.proofs.Imports.{arith, ◌≡◌, ◌≢◌, ℕ, Bool, true, false, List, [], ◌∷◌, Option, None, Some, inl, inr, refl, ap, ◌∙◌, if◌then◌else◌, ◌||◌, ◌&&◌, filter, is_some, is_none, eq-eqb, both_ways, false_from_ne_true, Stage, Quiesce, Connect, Copy, Cleanup, Stopping, Pref, StrForm, CfId, ConnId, Refusal, Connections, actives, defined_count, without_member, filter_none_from, gone-from_none_defined, Instances, place_for, units_of, first_refusal, is_copy, is_switch, Shell, candidates, emptied, if_no_place, is_connect, with_primary, Rebuild, outcome, outcome_of, owing_after, rebuild_left, rebuild_onward, rebuild_without, without_owing, HasMembers, HasPlace, IsPlaced, Somebody}
+use Rattle.shell_laws.proofs.Imports.{arith, ◌≡◌, ◌≢◌, ℕ, Bool, true, false, List, [], ◌∷◌, Option, None, Some, refl, if◌then◌else◌, filter, is_some, is_none, eq-eqb, both_ways, false_from_ne_true, Stage, Copy, Pref, StrForm, CfId, ConnId, Refusal, Connections, actives, defined_count, without_member, filter_none_from, gone-from_none_defined, Instances, place_for, units_of, first_refusal, is_copy, is_switch, Shell, candidates, emptied, if_no_place, is_connect, with_primary, Rebuild, outcome, outcome_of, rebuild_onward, rebuild_without, without_owing, HasMembers, HasPlace, Somebody}
 use Rattle.shell_laws.proofs.ShellMoves.{left_by}
 
 -- ---- the members and the new instance
@@ -16,56 +16,27 @@ somebody_without by (first ∷ rest) somebody = (first, (rest, refl))
 abbrev pub IsRebuild : Option Rebuild → List ConnId → Type 0
 IsRebuild rebuild active = HasMembers rebuild active × HasPlace rebuild
 
--- where no member is left the rebuild ends
-rebuild_past : (at : Stage) (members owing : List ConnId) (rebuild : Rebuild) → rebuild.stage ≡ at
-    → rebuild.members ≡ members → rebuild.owing ≡ owing → IsPlaced at members owing rebuild.fresh
-    → IsRebuild (rebuild_left (outcome at members owing) rebuild) members
-rebuild_past at [] owing rebuild in_stage are owe placed = (tt, tt)
-rebuild_past at (conn ∷ conns) (other ∷ others) rebuild in_stage are owe placed = grind arith
-rebuild_past Quiesce (conn ∷ conns) [] rebuild in_stage are owe placed = ((are, (conn, (conns, refl))), inl refl)
-rebuild_past Connect (conn ∷ conns) [] rebuild in_stage are owe (inl all) = absurd (cc)
-rebuild_past Connect (conn ∷ conns) [] rebuild in_stage are owe (inr stands) = ((are, (conn, (conns, refl))), stands)
-rebuild_past Copy (conn ∷ conns) [] rebuild in_stage are owe placed = ((are, (conn, (conns, refl))), refl)
-rebuild_past Cleanup (conn ∷ conns) [] rebuild in_stage are owe placed = (tt, tt)
-rebuild_past Stopping (conn ∷ conns) [] rebuild in_stage are owe placed = (tt, tt)
-
 pub is-onward : (rebuild : Rebuild) (active : List ConnId) → rebuild.members ≡ active → HasPlace (Some rebuild)
     → IsRebuild (rebuild_onward rebuild) active
-is-onward rebuild active are placed = grind (arith, rebuild_past)
-
-placed_without : (at : Stage) (by : ConnId) (members owing : List ConnId) (fresh : Option CfId) → IsPlaced at members
-    owing fresh → IsPlaced at (without_member by members) (owing_after at by (without_member by members) owing) fresh
-placed_without Connect by members owing fresh (inl all) = inl (ap (without_member by) all)
-placed_without Connect by members owing fresh (inr stands) = inr stands
-placed_without at by members owing fresh placed = placed
+is-onward rebuild active are placed = grind arith
 
 pub is-without : (by : ConnId) (rebuild : Option Rebuild) (active : List ConnId) → IsRebuild rebuild active
     → IsRebuild (left_by by rebuild) (without_member by active)
 is-without by None active is = (tt, tt)
-is-without by (Some rebuild) active is = grind (arith, is-onward, placed_without)
-
--- outside CONNECT it does not matter who owes
-placed_owed : (at : Stage) (members owing others : List ConnId) (fresh : Option CfId) → is_connect at ≡ false
-    → IsPlaced at members owing fresh → IsPlaced at members others fresh
-placed_owed Connect members owing others fresh elsewhere placed = absurd (cc)
-placed_owed at members owing others fresh elsewhere placed = placed
+is-without by (Some rebuild) active is = grind (arith, is-onward)
 
 pub placed-owed : (by : ConnId) (rebuild : Rebuild) → is_connect rebuild.stage ≡ false → HasPlace (Some rebuild)
     → HasPlace (Some (without_owing by rebuild))
-placed-owed by rebuild elsewhere placed = grind (arith, placed_owed)
+placed-owed by rebuild elsewhere placed = grind arith
 
 pub is-emptied : (rebuild : Option Rebuild) (active : List ConnId) → IsRebuild rebuild active
     → IsRebuild (emptied rebuild) active
-is-emptied None active is = is
-is-emptied (Some rebuild) active is = grind arith
+is-emptied rebuild active is = grind arith
 
 -- ---- the new instance takes the primary's place
 
 pub switch_copy : (at : Stage) (members owing : List ConnId) → is_switch (outcome at members owing) ≡ true → at ≡ Copy
-switch_copy at [] owing switch = absurd (cc)
-switch_copy at (conn ∷ conns) (other ∷ others) switch = absurd (cc)
-switch_copy Copy (conn ∷ conns) [] switch = refl
-switch_copy at (conn ∷ conns) [] switch = absurd (cc)
+switch_copy at members owing switch = grind arith
 
 -- it stands where it does so
 pub switch_stands : (rebuild : Rebuild) → HasPlace (Some rebuild) → is_switch (outcome_of rebuild) ≡ true
@@ -92,8 +63,7 @@ nobody_active conns none (conn, (others, are)) = grind (arith, nobody, filter_no
 
 pub placed_for : (units : ℕ) (prefs : List Pref) → first_refusal (if_no_place units prefs ∷ []) ≡ None
     → is_some (place_for units prefs) ≡ true
-placed_for units [] fine = absurd (cc)
-placed_for units (pref ∷ prefs) fine = grind arith
+placed_for units prefs fine = grind arith
 
 pub primary-connect : (at : Option CfId) (units : ℕ) (prefs : List Pref) (rest : List (Option Refusal))
     (instances : Instances) → instances.primary ≡ at

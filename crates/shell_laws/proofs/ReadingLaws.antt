@@ -1,5 +1,5 @@
 -- What is read of a history, and what counters keep, with one entry more.
-use Rattle.shell_laws.proofs.Imports.{arith, ◌≡◌, ℕ, Bool, true, false, cond, not, ◌&&◌, ◌||◌, ◌==◌, List, [], ◌∷◌, Option, None, Some, option_map, filter, refl, sym, ap, ◌∙◌, subst, unwrap_or, filter_agree, Stage, Quiesce, Connect, Copy, Cleanup, Stopping, ConnId, without_member, is_copy, filter-filter, filter_swap, Passed, No, next_stage, outcome, owing_after, rebuild_emptied, rebuild_in, rebuild_left, rebuild_onward, HasMembers, Somebody, Reading, awaited, begun, has_given, passed, read_behind, read_next, read_past, rebuild_of, with_entry, with_stage, with_told, rebuild_given, rebuild_next, Telling, TellingEntry, is_awaited, Starts, Places, Stops, Departs, Forces, Fails, Nothing}
+use Rattle.shell_laws.proofs.Imports.{arith, ◌≡◌, Bool, true, false, cond, not, ◌&&◌, ◌||◌, ◌==◌, List, [], ◌∷◌, Option, None, Some, option_map, filter, refl, ap, ◌∙◌, unwrap_or, filter_agree, Stage, Quiesce, Connect, Copy, Cleanup, Stopping, ConnId, without_member, is_copy, filter-filter, filter_swap, Passed, No, next_stage, outcome, owing_after, rebuild_emptied, rebuild_in, rebuild_left, rebuild_onward, HasMembers, Reading, awaited, begun, has_given, passed, read_behind, read_next, rebuild_of, with_entry, with_stage, with_told, rebuild_given, rebuild_next, Telling, TellingEntry, is_awaited, Starts, Places, Stops, Departs, Forces, Fails, Nothing}
 
 filter_true : {X : Type 0} (xs : List X) → filter (λ x. true) xs ≡ xs
 filter_true [] = refl
@@ -10,10 +10,6 @@ module _ (by : ConnId) (given : ConnId → Bool) (conns : List ConnId) where
   owing_given : filter (λ conn. not (((conn.0 == by.0) && true) || given conn)) conns
       ≡ without_member by (filter (λ conn. not (given conn)) conns)
   owing_given = grind (arith, filter_agree, filter-filter)
-
-  owing_same : filter (λ conn. not (((conn.0 == by.0) && false) || given conn)) conns
-      ≡ filter (λ conn. not (given conn)) conns
-  owing_same = grind (arith, filter_agree)
 
 -- ---- a stage that may pass
 
@@ -26,13 +22,9 @@ same_rebuild : (read : Reading) (owing : List ConnId) → awaited read ≡ owing
     → rebuild_of read ≡ record (rebuild_of read) { owing = owing }
 same_rebuild read owing is = ap (λ (o : List ConnId). record (rebuild_of read) { owing = o }) is
 
--- a stage in which all members are awaited hasn't passed
-all_awaited : (read : Reading) → Somebody read.members → awaited read ≡ read.members → IsGoing (Some read)
-all_awaited read (conn, (others, some)) all = ap (outcome read.stage read.members) all ∙ rw some refl
-
 -- it passes as counters do
 past : (read : Reading) → option_map rebuild_of (passed read) ≡ rebuild_onward (rebuild_of read)
-past read = go read.members (awaited read)
+past read = grind (arith, behind)
   where
     begins : (at : Stage) → Some (rebuild_of (with_stage at read)) ≡ Some (rebuild_in at (rebuild_of read))
     begins at = ap Some (same_rebuild (with_stage at read) read.members (filter_true read.members))
@@ -42,12 +34,6 @@ past read = go read.members (awaited read)
     behind Connect = begins Copy
     behind Copy = begins Cleanup
     behind at = refl
-
-    go : (members owing : List ConnId) → option_map rebuild_of
-        (read_past members owing read) ≡ rebuild_left (outcome read.stage members owing) (rebuild_of read)
-    go [] owing = refl
-    go (member ∷ members) [] = behind read.stage
-    go (member ∷ members) (conn ∷ owing) = refl
 
 past_as : (read : Reading) (owing : List ConnId) → awaited read ≡ owing
     → option_map rebuild_of (passed read) ≡ rebuild_onward (record (rebuild_of read) { owing = owing })
@@ -62,8 +48,7 @@ module _ (by : ConnId) (telling : Telling) (read : Reading) (going : IsGoing (So
 
   given_or_not : (b : Bool) → is_awaited read.stage read.number telling ≡ b
       → option_map rebuild_of (passed longer) ≡ rebuild_given b by (rebuild_of read)
-  given_or_not false other = past_as longer (awaited read) (rw other (owing_same by (has_given read.stage
-      read.number read.entries) read.members)) ∙ ap (λ (p : Passed). rebuild_left p (rebuild_of read)) going
+  given_or_not false other = grind (arith, past_as, filter_agree)
   given_or_not true awaits = past_as longer (without_member by (awaited read))
       (rw awaits (owing_given by (has_given read.stage read.number read.entries) read.members))
 
@@ -86,12 +71,11 @@ awaited_left by read = go read.stage
         → filter (λ conn. not (has_given at read.number (cond (is_copy at) [] (entry ∷ read.entries)) conn)) left
         ≡ owing_after at by left (filter (λ conn. not (has_given at read.number read.entries conn)) read.members)
     go Copy = filter_true left
-    go at = owing_same by (has_given at read.number read.entries) left ∙ filter_swap _ _ read.members
+    go at = grind (arith, left, filter_swap, filter_agree)
 
 -- the forcing of a connection: in COPY all are awaited again
 still : (at : Stage) (members owing : List ConnId) → outcome at members owing ≡ No → outcome at members members ≡ No
-still at [] owing is = absurd (cc)
-still at (conn ∷ conns) owing is = refl
+still at members owing is = grind arith
 
 forced : (at : Stage) (by : ConnId) (read : Reading) → IsGoing (Some (record read { stage = at }))
     → option_map rebuild_of (passed (with_entry by Forces (record read { stage = at })))
@@ -100,10 +84,6 @@ forced Copy by read going = past_as (record read { stage = Copy; entries = [] })
     (filter_true read.members) ∙ ap (λ (p : Passed). rebuild_left p
     (record (rebuild_of read) { stage = Copy; owing = read.members })) (still Copy read.members _ going)
 forced at by read going = given_or_not by Forces (record read { stage = at }) going false refl
-
-none_awaited : (at : Stage) (number : ℕ) → is_awaited at number Nothing ≡ false
-none_awaited Copy number = refl
-none_awaited _ number = refl
 
 -- counters go on as the reading does
 pub told-next : (actives : List ConnId) (by : ConnId) (telling : Telling) (read : Option Reading) → IsGoing read
@@ -118,7 +98,7 @@ told-next actives by Departs (Some read) going = past_as (with_told by Departs r
 told-next actives by Forces (Some read) going = forced read.stage by read going
 told-next actives by (Places cf) (Some read) going =
     given by (Places cf) (record read { place = Some (unwrap_or read.place cf) }) going
-told-next actives by Nothing (Some read) going = grind (arith, given_or_not, none_awaited)
+told-next actives by Nothing (Some read) going = grind (arith, given_or_not)
 told-next actives by telling (Some read) going = given by telling read going
 told-next actives by _ None going = refl
 
@@ -126,8 +106,8 @@ told-next actives by _ None going = refl
 pub going-next : (actives left : List ConnId) (by : ConnId) (telling : Telling) (read : Option Reading) → IsGoing read
     → HasMembers (option_map rebuild_of (read_next actives by telling read)) left
     → IsGoing (read_next actives by telling read)
-going-next actives left by (Starts number caps) read going some = grind (arith, all_awaited, filter_true)
-going-next actives left by Stops (Some read) going some = grind (arith, all_awaited, filter_true)
+going-next actives left by (Starts number caps) read going some = grind (arith, filter_true)
+going-next actives left by Stops (Some read) going some = grind (arith, filter_true)
 going-next actives left by Fails (Some read) going some = tt
-going-next actives left by telling (Some read) going some = grind (arith, all_awaited, filter_true)
+going-next actives left by telling (Some read) going some = grind (arith, filter_true)
 going-next actives left by _ None going some = tt

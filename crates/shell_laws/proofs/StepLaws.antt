@@ -1,27 +1,19 @@
 -- Each command that isn't refused is a move, and so is a loss: what it makes of what stands, what its entry tells of a
 -- rebuild, and what its causes leave of the move.
-use Rattle.shell_laws.proofs.Imports.{◌≡◌, ℕ, Bool, true, false, List, [], ◌∷◌, length, Option, None, Some, not, is_some, refl, sym, ap, ◌∙◌, subst, arith, if◌then◌else◌, ◌||◌, ◌&&◌, is_none, unwrap_or, and_parts, both_ways, eqb-true, CALLERS, Event, Letter, Stage, Caps, StrForm, CfId, ConnId, Refusal, ShellCmd, ShellReply, Connections, actives, defined_count, is_active, state_of, with_connect, with_departure, with_forced, is_member, without_member, actives-with_answer, actives-with_departure, actives-with_forced, is_active-within, is_member-actives, next_event, owed_event, with_cleared, Ask, Room, Instances, is_at, no_instance, place_for, units_of, Machine, CallOutcome, command_done, departure_from, loss_step, moved_by, room_of, step, unless, Meaning, first_refusal, is_copy, Leaver, Shell, ShellOutcome, candidates, complete_outcome, departure_outcome, emptied, facility_of, fresh_made, given_outcome, goes, idle_outcome, if_failed, is_connect, is_empty, is_kept, is_operator, leaver, loss_outcome, made_at, no_deeds, rebuild_connect_outcome, refusal_when, responded, response_outcome, shell_cause, shell_causes, shell_done, shell_without, simplex_again, stop_outcome, take_event, unless_active, unless_copied_to, vary_outcome, with_off, with_posted, Rebuild, is_response, rebuild_onward, without_owing, HasPlace, Somebody, MayBeTold, rebuild_next, Telling, mark_telling, telling, telling_of, Completes, Nothing, Responds}
-use Rattle.cf_types.specs.declared.connections.ConnState.TheVariants as conn
-use Rattle.cf_types.specs.declared.events.Stage.TheVariants as stage
-use Rattle.cf_types.specs.declared.refusals.Refusal.TheVariants as refusal
-use Rattle.cf_types.specs.declared.shell_commands.ShellCmd.TheVariants as cmd
-use Rattle.cf_types.specs.declared.shell_commands.ShellReply.TheVariants as shown
-use Rattle.engine_api.specs.declared.asks.Ask.TheVariants as ask
-use Rattle.engine_api.specs.declared.asks.What.TheVariants as what
-use Rattle.shell_laws.proofs.CauseLaws.{NoneHolds, idle_rebuild, none_holds, not_so, nothing_left, past_front, not_above}
+use Rattle.shell_laws.proofs.Imports.{◌≡◌, ℕ, Bool, true, false, List, [], ◌∷◌, length, Option, None, Some, not, is_some, refl, sym, ap, ◌∙◌, subst, arith, if◌then◌else◌, ◌||◌, ◌&&◌, is_none, unwrap_or, and_parts, both_ways, eqb-true, CALLERS, Event, Letter, Stage, StrForm, CfId, ConnId, Refusal, ShellCmd, ShellReply, Connections, actives, defined_count, is_active, state_of, with_connect, with_departure, with_forced, is_member, without_member, actives-with_answer, actives-with_departure, actives-with_forced, is_active-within, is_member-actives, next_event, owed_event, Ask, Room, Instances, is_at, no_instance, place_for, units_of, Machine, CallOutcome, command_done, departure_from, loss_step, moved_by, room_of, step, unless, Meaning, first_refusal, is_copy, Leaver, Shell, ShellOutcome, candidates, complete_outcome, departure_outcome, emptied, facility_of, fresh_made, given_outcome, goes, idle_outcome, if_failed, is_connect, is_empty, is_kept, leaver, loss_outcome, made_at, no_deeds, rebuild_connect_outcome, refusal_when, responded, response_outcome, shell_cause, shell_causes, shell_done, simplex_again, stop_outcome, take_event, unless_active, unless_copied_to, with_off, with_posted, Rebuild, is_response, rebuild_onward, without_owing, HasPlace, Somebody, rebuild_next, Telling, mark_telling, telling, telling_of, Completes, Nothing, Responds, What, none_hold, NoneHolds}
+use Rattle.shell_laws.proofs.CauseLaws.{idle_rebuild, not_so, nothing_left, past_front, not_above}
 use Rattle.shell_laws.proofs.LossLaws.{loss-cases}
-use Rattle.shell_laws.proofs.PlaceLaws.{made_apart, no_switch, nobody_active, placed_for, primary-connect}
-use Rattle.shell_laws.proofs.ShellMoves.{Allows, IsKnown, IsSound, MayPlace, Move, Standing, Work, deeds_of, gone_if, gone_on, left_by, moved, standing_of, switched_if, work_by, work_of}
+use Rattle.shell_laws.proofs.PlaceLaws.{made_apart, nobody_active, placed_for, primary-connect}
+use Rattle.shell_laws.proofs.ShellMoves.{Allows, IsKnown, IsSound, MayPlace, Move, Standing, Work, deeds_of, gone_if, gone_on, moved, standing_of, work_by, work_of}
 
 -- an outcome is what a move makes of what stood, and what came before it is what comes before the move; what is told is
--- what becomes of the rebuild, and may be told; and the move is allowed
+-- what becomes of the rebuild; and the move is allowed
 pub record IsMove (form : StrForm) (room : Room) (s : Standing) (places : Type 0) (by : ConnId) (connects : Bool)
     (who : Option Leaver) (copied : ℕ) (told : Telling) (acted : ShellOutcome) : Type 0 where
   pub move : Move
   pub does : work_by who copied acted ≡ work_of form room s move
   pub known : IsKnown connects move s
   pub tells : (moved form move s).rebuild ≡ rebuild_next s.active by told s.rebuild
-  pub may : places → HasPlace s.rebuild → MayBeTold s.active told s.rebuild
   pub allows : places → IsSound s → Allows form room s move
 
 -- ---- what is told where a rebuild is none, or some
@@ -33,8 +25,7 @@ nothing_told actives by (Some rebuild) = refl
 
 forces_told : (active : List ConnId) (by : ConnId) (rebuild : Option Rebuild)
     → emptied rebuild ≡ rebuild_next active by Telling.Forces rebuild
-forces_told active by None = refl
-forces_told active by (Some rebuild) = refl
+forces_told active by rebuild = grind arith
 
 fails_told : (active : List ConnId) (by : ConnId) (rebuild : Option Rebuild)
     → None ≡ rebuild_next active by Telling.Fails rebuild
@@ -43,37 +34,30 @@ fails_told active by (Some rebuild) = refl
 
 -- ---- stages
 
-copy_is : (at : Stage) → is_copy at ≡ true → at ≡ stage.Copy
-copy_is stage.Copy is = refl
-copy_is at is = absurd (cc)
+copy_is : (at : Stage) → is_copy at ≡ true → at ≡ Stage.Copy
+copy_is at is = grind arith
 
 response_elsewhere : (at : Stage) (number : ℕ) (answered : Event) → is_response at number answered ≡ true
     → (is_connect at ≡ false) × (is_copy at ≡ false)
-response_elsewhere stage.Connect number answered awaited = absurd (cc)
-response_elsewhere stage.Copy number answered awaited = absurd (cc)
-response_elsewhere at number answered awaited = (refl, refl)
+response_elsewhere at number answered awaited = grind arith
 
 -- a command of a stage is accepted in it
 in_its : (its owes : Bool) (why : Refusal) → refusal_when (not (its && owes)) why ≡ None → its ≡ true
 in_its true owes why fine = refl
 in_its false owes why fine = absurd (cc)
 
-in_stage : (its : Bool) (why : Refusal) → refusal_when (not its) why ≡ None → its ≡ true
-in_stage true why fine = refl
-in_stage false why fine = absurd (cc)
-
 -- ---- who is active
 
 pub first_none : (first : Option Refusal) (rest : List (Option Refusal)) → first_refusal (first ∷ rest) ≡ None
     → first ≡ None
-first_none first rest fine = (none_holds (first ∷ rest) fine).0
+first_none first rest fine = (none_hold (first ∷ rest) fine).0
 
 pub somebody_member : (conn : ConnId) (conns : List ConnId) → is_member conn conns ≡ true → Somebody conns
 somebody_member conn [] is = absurd (cc)
 somebody_member conn (first ∷ others) is = (first, (others, refl))
 
-pub active_of : (b : Bool) → refusal_when (not b) refusal.NotConnected ≡ None → b ≡ true
-active_of b fine = in_stage b refusal.NotConnected fine
+pub active_of : (b : Bool) → refusal_when (not b) Refusal.NotConnected ≡ None → b ≡ true
+active_of b fine = grind arith
 
 -- whoever is active is one of those that are, since its connection has a place
 pub active_member : (conns : Connections) (conn : ConnId) → length conns ≡ CALLERS → is_active conns conn ≡ true
@@ -93,30 +77,22 @@ none_behind form conns gone = none_active conns (eqb-true (defined_count conns) 
 
 module _ (form : StrForm) (room : Room) (shell : Shell) (by : ConnId) where
   pub connect_stage : (rebuild : Rebuild) (at : Stage) → shell.rebuild ≡ Some rebuild → rebuild.stage ≡ at
-      → shell_cause form room shell by cmd.RebuildConnect ≡ None → rebuild.stage ≡ stage.Connect
-  connect_stage rebuild at is in_stage fine = grind (arith, in_its, none_holds)
+      → shell_cause form room shell by ShellCmd.RebuildConnect ≡ None → rebuild.stage ≡ Stage.Connect
+  connect_stage rebuild at is in_stage fine = grind (arith, in_its, none_hold)
 
 -- ---- instances
 
-stands_of : (at : Option CfId) (why : Refusal) → refusal_when (is_none at) why ≡ None → is_some at ≡ true
-stands_of None why fine = absurd (cc)
-stands_of (Some cf) why fine = refl
-
 none_of : (at : Option CfId) (why : Refusal) → refusal_when (is_some at) why ≡ None → at ≡ None
-none_of None why fine = refl
-none_of (Some cf) why fine = absurd (cc)
+none_of at why fine = grind arith
 
 none_made : (at place : Option CfId) → is_some at ≡ true → (if is_none at then place else None) ≡ None
-none_made None place stands = absurd (cc)
-none_made (Some cf) place stands = refl
+none_made at place stands = grind arith
 
 facility_is : (place : Option CfId) → is_some place ≡ true → place ≡ Some (facility_of place)
-facility_is None found = absurd (cc)
-facility_is (Some cf) found = refl
+facility_is place found = grind arith
 
 at_some : (cf : CfId) (fresh : Option CfId) → is_at cf fresh ≡ true → true ≡ is_some fresh
-at_some cf None there = absurd (cc)
-at_some cf (Some other) there = refl
+at_some cf fresh there = grind arith
 
 -- what has an instance has not failed
 unfailed_with : (s : Standing) → IsSound s → (has : Instances → Bool) → has no_instance ≡ false
@@ -126,7 +102,7 @@ unfailed_with s sound has none stands = grind (arith, both_ways)
 -- ---- what changes nothing, and what is lost
 
 abbrev pub is_connection : ShellCmd → Bool
-is_connection (cmd.Connect keep) = true
+is_connection (ShellCmd.Connect keep) = true
 is_connection _ = false
 
 module _ (form : StrForm) (room : Room) (s : Standing) (places : Type 0) (by : ConnId) (connects : Bool)
@@ -140,7 +116,6 @@ module _ (form : StrForm) (room : Room) (s : Standing) (places : Type 0) (by : C
       does = does;
       known = known;
       tells = same ∙ nothing_told s.active by s.rebuild;
-      may = λ places placed. tt;
       allows = allows;
     }
 
@@ -156,7 +131,7 @@ moves-loss form room shell places by cf =
     let s : Standing = standing_of shell in
     loss-cases form cf shell (λ acted.
     IsMove form room s places by false None 0 (mark_telling acted.reply) acted) (record {
-      none = dull form room s places by false (idle_outcome shown.OkNone shell) refl refl;
+      none = dull form room s places by false (idle_outcome ShellReply.OkNone shell) refl refl;
       simplex = λ left lost. unheard form room s places by false (Move.Simplexes cf (Some left)) None 0 _ refl refl tt
           (λ places sound. (refl, unfailed_with s sound (λ i. is_at cf i.primary || is_at cf i.secondary) refl lost));
       stops = λ rebuild is there. record {
@@ -164,7 +139,6 @@ moves-loss form room shell places by cf =
         does = grind (arith, moved, at_some);
         known = tt;
         tells = rw is refl;
-        may = grind arith;
         allows = λ places sound. is;
       };
       fails = record {
@@ -172,7 +146,6 @@ moves-loss form room shell places by cf =
         does = refl;
         known = tt;
         tells = fails_told s.active by s.rebuild;
-        may = λ places placed. tt;
         allows = λ places sound. tt;
       };
     })
@@ -198,30 +171,21 @@ module _ (form : StrForm) (room : Room) (judged : Shell) (letters : List Letter)
   IsTaken command = shell_cause form room judged by command ≡ None
 
   none : (command : ShellCmd) → IsTaken command → NoneHolds (shell_causes form room judged by command)
-  none command fine = none_holds (shell_causes form room judged by command) fine
+  none command fine = none_hold (shell_causes form room judged by command) fine
 
   unfailed : if_failed judged ≡ None → judged.failed ≡ false
-  unfailed fine = not_so judged.failed refusal.StructureFailed fine
+  unfailed fine = not_so judged.failed Refusal.StructureFailed fine
 
   somebody : HasPlaces → unless_active judged by ≡ None → Somebody (actives judged.conns)
   somebody places fine = somebody_member by (actives judged.conns) (grind (arith, active_member, active_of))
-
-  moves_connect : (keep : Bool) → IsTaken (cmd.Connect keep)
-      → Moves (cmd.Connect keep) (shell_done form room shell by (cmd.Connect keep))
-  moves_connect keep fine =
-      let none = none (cmd.Connect keep) fine in
-      unheard form room s HasPlaces by true (Move.Connects (actives (with_connect by keep judged.conns))
-      (made_at form judged by) (if is_some (state_of judged.conns by) then Some by else None)) None 0 _ refl refl refl
-      (grind (arith, idle_rebuild, unfailed, primary-connect, past_front, none_made))
 
   moves_departure : (keep : Bool) → unless_active judged by ≡ None → IsMove form room s HasPlaces
       by false (Some (record { conn = by; keep = keep })) 0 Telling.Departs (departure_outcome form shell by keep)
   moves_departure keep fine = record {
     move = Move.Departs (record { conn = by; keep = keep }) (goes form conns);
-    does = grind (arith, gone_if, conns, left, active);
+    does = grind (arith, gone_if, conns, active);
     known = tt;
     tells = refl;
-    may = λ places placed. tt;
     allows = λ places sound gone. sym active ∙ none_behind form conns gone;
   }
     where
@@ -231,138 +195,152 @@ module _ (form : StrForm) (room : Room) (judged : Shell) (letters : List Letter)
       active : actives conns ≡ without_member by (actives judged.conns)
       active = grind (arith, actives-with_departure, is_active-within, active_of)
 
-      left : standing_of (shell_without by judged.rebuild (record shell { mail = with_cleared by shell.mail }))
-          ≡ record s { rebuild = left_by by judged.rebuild }
-      left = grind (arith, standing_of, switched_if, no_switch)
-
-  moves_next : (taken : Option Event) → Moves cmd.Next (take_event shell by taken)
+  moves_next : (taken : Option Event) → Moves ShellCmd.Next (take_event shell by taken)
   moves_next None = dull form room s HasPlaces by false _ refl refl
   moves_next (Some taken) = dull form room s HasPlaces by false _ refl refl
 
   -- a member gives what the stage waits for
-  moves_given : (told : Telling) (answer : ShellReply) (rebuild : Rebuild) (noted : Shell)
-      → standing_of noted ≡ s → judged.rebuild ≡ Some rebuild
-      → rebuild_onward (without_owing by rebuild) ≡ rebuild_next s.active by told (Some rebuild) → MayBeTold
-      s.active told s.rebuild → is_connect rebuild.stage ≡ false → (is_copy rebuild.stage ≡ true → room.left ≡ 0)
+  moves_given : (told : Telling) (answer : ShellReply) (rebuild : Rebuild) (noted : Shell) → standing_of noted ≡ s
+      → judged.rebuild ≡ Some rebuild → rebuild_onward (without_owing by rebuild) ≡ rebuild_next s.active
+      by told (Some rebuild) → is_connect rebuild.stage ≡ false → (is_copy rebuild.stage ≡ true → room.left ≡ 0)
       → IsMove form room s HasPlaces by false None 0 told (given_outcome answer by rebuild noted)
-  moves_given told answer rebuild noted same is tells may elsewhere filled = record {
+  moves_given told answer rebuild noted same is tells elsewhere filled = record {
     move = Move.Gives rebuild by;
     does = grind (arith, gone_on, deeds_of);
     known = tt;
     tells = tells ∙ ap (rebuild_next s.active by told) (sym is);
-    may = λ places placed. may;
     allows = λ places sound. record { is = is; elsewhere = elsewhere; filled = filled };
   }
 
-  moves_response : (owed : Option Event) → Moves cmd.Respond (response_outcome shell by owed)
+  moves_response : (owed : Option Event) → Moves ShellCmd.Respond (response_outcome shell by owed)
   moves_response None = dull form room s HasPlaces by false _ refl refl
   moves_response (Some answered) = grind (arith, by_rebuild, actives-with_answer)
     where
       unawaited : (rebuild : Option Rebuild) (noted : Shell) → standing_of noted ≡ s → judged.rebuild ≡ rebuild
           → rebuild ≡ rebuild_next s.active by (Responds answered) rebuild
-          → Moves cmd.Respond (record { reply = shown.Responded answered; shell = noted; deeds = no_deeds })
+          → Moves ShellCmd.Respond (record { reply = ShellReply.Responded answered; shell = noted; deeds = no_deeds })
       unawaited rebuild noted same is tells = record {
         move = Move.Quiet;
         does = λ i. (same i, no_deeds, None, 0);
         known = tt;
         tells = rw is tells;
-        may = λ places placed. tt;
         allows = λ places sound. tt;
       }
 
       by_rebuild : (rebuild : Option Rebuild) (noted : Shell) → standing_of noted ≡ s → judged.rebuild ≡ rebuild
-          → Moves cmd.Respond (responded by answered rebuild noted)
+          → Moves ShellCmd.Respond (responded by answered rebuild noted)
       by_rebuild None noted same is = unawaited None noted same is refl
       by_rebuild (Some rebuild) noted same is = go (is_response rebuild.stage rebuild.number answered) refl
         where
-          go : (b : Bool) → is_response rebuild.stage rebuild.number answered ≡ b → Moves cmd.Respond (if b
-              then given_outcome (shown.Responded answered) by rebuild noted
-              else record { reply = shown.Responded answered; shell = noted; deeds = no_deeds })
+          go : (b : Bool) → is_response rebuild.stage rebuild.number answered ≡ b → Moves ShellCmd.Respond (if b
+              then given_outcome (ShellReply.Responded answered) by rebuild noted
+              else record { reply = ShellReply.Responded answered; shell = noted; deeds = no_deeds })
           go false late = unawaited (Some rebuild) noted same is (rw late refl)
           go true awaited =
               let elsewhere = response_elsewhere rebuild.stage rebuild.number answered awaited in
-              moves_given (Responds answered) (shown.Responded answered) rebuild noted same is (rw awaited refl) tt
+              moves_given (Responds answered) (ShellReply.Responded answered) rebuild noted same is (rw awaited refl)
               elsewhere.0 (λ copy. absurd (both_ways (is_copy rebuild.stage) elsewhere.1 copy))
 
-  moves_start : (caps : Caps) → IsTaken (cmd.RebuildStart caps)
-      → Moves (cmd.RebuildStart caps) (shell_done form room shell by (cmd.RebuildStart caps))
-  moves_start caps fine =
-      let none = none (cmd.RebuildStart caps) fine in record {
-        move = Move.Starts _ caps;
-        does = refl;
-        known = tt;
-        tells = refl;
-        may = λ places placed. some places (is_operator by) none.0;
-        allows = grind (arith, somebody, some, unfailed, idle_rebuild, none_of);
-      }
-    where
-      some : HasPlaces → (b : Bool) → (if b then refusal_when (is_empty (actives judged.conns)) refusal.NotConnected
-          else unless_active judged by) ≡ None → Somebody (actives judged.conns)
-      some places true fine = grind arith
-      some places false fine = somebody places fine
-
-  moves_stop : (rebuild : Option Rebuild) → judged.rebuild ≡ rebuild → IsTaken cmd.RebuildStop
-      → Moves cmd.RebuildStop (stop_outcome shell rebuild)
-  moves_stop None is fine = absurd (let wrong = rw is at ((none cmd.RebuildStop fine).1.1.0) in cc)
+  moves_stop : (rebuild : Option Rebuild) → judged.rebuild ≡ rebuild → IsTaken ShellCmd.RebuildStop
+      → Moves ShellCmd.RebuildStop (stop_outcome shell rebuild)
+  moves_stop None is fine = absurd (let wrong = rw is at ((none ShellCmd.RebuildStop fine).1.1.0) in cc)
   moves_stop (Some rebuild) is fine = record {
     move = Move.Stops rebuild;
     does = refl;
     known = tt;
     tells = rw is refl;
-    may = grind (arith, in_stage, none);
     allows = λ places sound. is;
   }
 
-  may_place : (rebuild : Rebuild) → judged.rebuild ≡ Some rebuild → IsTaken cmd.RebuildConnect → HasPlaces → IsSound s
-      → MayPlace form room s rebuild (fresh_made form judged by rebuild)
+  may_place : (rebuild : Rebuild) → judged.rebuild ≡ Some rebuild → IsTaken ShellCmd.RebuildConnect
+      → HasPlaces → IsSound s → MayPlace form room s rebuild (fresh_made form judged by rebuild)
   may_place rebuild is fine places sound =
-      grind (arith, connect_stage, somebody, unfailed, placed_for, past_front, past, none_holds, not_above)
+      grind (arith, connect_stage, somebody, unfailed, placed_for, past_front, past, none_hold, not_above)
     where
-      none : NoneHolds (shell_causes form room judged by cmd.RebuildConnect)
-      none = none_holds (shell_causes form room judged by cmd.RebuildConnect) fine
+      none : NoneHolds (shell_causes form room judged by ShellCmd.RebuildConnect)
+      none = none_hold (shell_causes form room judged by ShellCmd.RebuildConnect) fine
 
       past : first_refusal (unless_copied_to form judged room by (Some rebuild)) ≡ None
       past = grind (arith, past_front)
 
-  moves_place : (rebuild : Option Rebuild) → judged.rebuild ≡ rebuild → IsTaken cmd.RebuildConnect
-      → Moves cmd.RebuildConnect (rebuild_connect_outcome form shell by rebuild)
-  moves_place None is fine = absurd (let wrong = rw is at ((none cmd.RebuildConnect fine).1.1.0) in cc)
+  moves_place : (rebuild : Option Rebuild) → judged.rebuild ≡ rebuild → IsTaken ShellCmd.RebuildConnect
+      → Moves ShellCmd.RebuildConnect (rebuild_connect_outcome form shell by rebuild)
+  moves_place None is fine = absurd (let wrong = rw is at ((none ShellCmd.RebuildConnect fine).1.1.0) in cc)
   moves_place (Some rebuild) is fine =
       let made = fresh_made form judged by rebuild in record {
         move = Move.Places rebuild by (unwrap_or rebuild.fresh (facility_of made)) made;
         does = refl;
         known = is;
         tells = rw (is, connect_stage form room judged by rebuild rebuild.stage is refl fine) refl;
-        may = λ places placed. rw is (connect_stage form room judged by rebuild rebuild.stage is refl fine);
         allows = may_place rebuild is fine;
       }
 
-  moves_copy : (n : ℕ) (rebuild : Option Rebuild) → judged.rebuild ≡ rebuild → IsTaken (cmd.Copy n)
-      → Moves (cmd.Copy n) (shell_done form room shell by (cmd.Copy n))
-  moves_copy n None is fine = absurd (let wrong = rw is at ((none (cmd.Copy n) fine).1.1.1.0) in cc)
+  moves_copy : (n : ℕ) (rebuild : Option Rebuild) → judged.rebuild ≡ rebuild → IsTaken (ShellCmd.Copy n)
+      → Moves (ShellCmd.Copy n) (shell_done form room shell by (ShellCmd.Copy n))
+  moves_copy n None is fine = absurd (let wrong = rw is at ((none (ShellCmd.Copy n) fine).1.1.1.0) in cc)
   moves_copy n (Some rebuild) is fine = unheard form room s HasPlaces by false (Move.Copies n)
       None _ _ refl refl tt (λ places sound. rw is (copy, rw copy at (subst HasPlace is sound.placed)))
     where
-      copy : rebuild.stage ≡ stage.Copy
-      copy = grind (arith, copy_is, in_stage, none)
+      copy : rebuild.stage ≡ Stage.Copy
+      copy = grind (arith, copy_is, none)
 
-  moves_completion : (rebuild : Option Rebuild) → judged.rebuild ≡ rebuild → IsTaken cmd.RebuildComplete
-      → Moves cmd.RebuildComplete (complete_outcome shell by rebuild)
-  moves_completion None is fine = absurd (let wrong = rw is at ((none cmd.RebuildComplete fine).1.1.0) in cc)
+  moves_completion : (rebuild : Option Rebuild) → judged.rebuild ≡ rebuild → IsTaken ShellCmd.RebuildComplete
+      → Moves ShellCmd.RebuildComplete (complete_outcome shell by rebuild)
+  moves_completion None is fine = absurd (let wrong = rw is at ((none ShellCmd.RebuildComplete fine).1.1.0) in cc)
   moves_completion (Some rebuild) is fine =
-      let none = none cmd.RebuildComplete fine in
-      let copy : rebuild.stage ≡ stage.Copy = grind (arith, copy_is, in_its) in
-      moves_given Completes shown.Ok rebuild shell refl is (rw copy refl) tt (rw copy refl)
+      let none = none ShellCmd.RebuildComplete fine in
+      let copy : rebuild.stage ≡ Stage.Copy = grind (arith, copy_is, in_its) in
+      moves_given Completes ShellReply.Ok rebuild shell refl is (rw copy refl) (rw copy refl)
       (λ copies. nothing_left room.left _ none.1.1.1.1.0)
 
-  moves_forced : (other : ConnId) → IsTaken (cmd.ForceConn other)
-      → Moves (cmd.ForceConn other) (shell_done form room shell by (cmd.ForceConn other))
-  moves_forced other fine = record {
+  moves_duplex : IsTaken ShellCmd.DuplexStart
+      → Moves ShellCmd.DuplexStart (shell_done form room shell by ShellCmd.DuplexStart)
+  moves_duplex fine =
+      let none = none ShellCmd.DuplexStart fine in
+      unheard form room s HasPlaces by false (Move.Duplexes (facility_of place)) None 0 _ refl refl tt
+      (grind (arith, idle_rebuild, unfailed, made_apart, facility_is, place, placed_for))
+    where
+      place : Option CfId
+      place = place_for (units_of judged.caps) (candidates form judged by)
+
+  moves_simplex : (second : Option CfId) → judged.instances.secondary ≡ second
+      → Moves ShellCmd.DuplexStop (simplex_again second shell)
+  moves_simplex None is = dull form room s HasPlaces by false _ refl refl
+  moves_simplex (Some cf) is = unheard form room s HasPlaces
+      by false (Move.Simplexes cf judged.instances.primary) None 0 _ refl refl tt (grind (arith, unfailed_with))
+
+  pub moves-command : (command : ShellCmd) → IsTaken command → Moves command (shell_done form room shell by command)
+  moves-command (ShellCmd.Connect keep) fine =
+      let none = none (ShellCmd.Connect keep) fine in
+      unheard form room s HasPlaces by true (Move.Connects (actives (with_connect by keep judged.conns))
+      (made_at form judged by) (if is_some (state_of judged.conns by) then Some by else None)) None 0 _ refl refl refl
+      (grind (arith, idle_rebuild, unfailed, primary-connect, past_front, none_made))
+  moves-command ShellCmd.Disconnect fine = moves_departure false (none ShellCmd.Disconnect fine).0
+  moves-command ShellCmd.Fail fine = moves_departure (is_kept (state_of judged.conns by)) (none ShellCmd.Fail fine).0
+  moves-command ShellCmd.Next fine = moves_next (next_event shell.mail by)
+  moves-command ShellCmd.Respond fine = moves_response (owed_event shell.mail by)
+  moves-command (ShellCmd.RebuildStart caps) fine =
+      let none = none (ShellCmd.RebuildStart caps) fine in record {
+        move = Move.Starts _ caps;
+        does = refl;
+        known = tt;
+        tells = refl;
+        allows = grind (arith, somebody, some, unfailed, idle_rebuild, none_of);
+      }
+    where
+      some : HasPlaces → (b : Bool) → (if b then refusal_when (is_empty (actives judged.conns)) Refusal.NotConnected
+          else unless_active judged by) ≡ None → Somebody (actives judged.conns)
+      some places true fine = grind arith
+      some places false fine = somebody places fine
+  moves-command ShellCmd.RebuildStop fine = moves_stop judged.rebuild refl fine
+  moves-command ShellCmd.RebuildConnect fine = moves_place judged.rebuild refl fine
+  moves-command (ShellCmd.Copy n) fine = moves_copy n judged.rebuild refl fine
+  moves-command ShellCmd.RebuildComplete fine = moves_completion judged.rebuild refl fine
+  moves-command (ShellCmd.ForceConn other) fine = record {
     move = Move.Forces other (goes form conns);
     does = grind (arith, gone_if, conns, active, deeds_of);
     known = tt;
     tells = forces_told s.active by s.rebuild;
-    may = λ places placed. tt;
     allows = λ places sound gone. sym active ∙ none_behind form conns gone;
   }
     where
@@ -371,46 +349,12 @@ module _ (form : StrForm) (room : Room) (judged : Shell) (letters : List Letter)
 
       active : actives conns ≡ actives judged.conns
       active = grind (arith, actives-with_forced, none)
-
-  moves_structure : IsTaken cmd.ForceStr → Moves cmd.ForceStr (shell_done form room shell by cmd.ForceStr)
-  moves_structure fine = unheard form room s HasPlaces by false
+  moves-command ShellCmd.ForceStr fine = unheard form room s HasPlaces by false
       Move.Deallocates None 0 _ refl refl tt (grind (arith, none_active, nothing_left, none))
-
-  moves_vary : (cf : CfId) (off : Bool) → Moves (cmd.Vary cf off) (vary_outcome form cf off shell)
-  moves_vary cf true = moves-loss form room (with_off cf true shell) HasPlaces by cf
-  moves_vary cf false = dull form room s HasPlaces by false _ refl refl
-
-  moves_duplex : IsTaken cmd.DuplexStart → Moves cmd.DuplexStart (shell_done form room shell by cmd.DuplexStart)
-  moves_duplex fine =
-      let none = none cmd.DuplexStart fine in
-      unheard form room s HasPlaces by false (Move.Duplexes (facility_of place)) None 0 _ refl refl tt
-      (grind (arith, idle_rebuild, unfailed, stands_of, made_apart, facility_is, place, placed_for))
-    where
-      place : Option CfId
-      place = place_for (units_of judged.caps) (candidates form judged by)
-
-  moves_simplex : (second : Option CfId) → judged.instances.secondary ≡ second
-      → Moves cmd.DuplexStop (simplex_again second shell)
-  moves_simplex None is = dull form room s HasPlaces by false _ refl refl
-  moves_simplex (Some cf) is = unheard form room s HasPlaces
-      by false (Move.Simplexes cf judged.instances.primary) None 0 _ refl refl tt (grind (arith, unfailed_with))
-
-  pub moves-command : (command : ShellCmd) → IsTaken command → Moves command (shell_done form room shell by command)
-  moves-command (cmd.Connect keep) fine = moves_connect keep fine
-  moves-command cmd.Disconnect fine = moves_departure false (none cmd.Disconnect fine).0
-  moves-command cmd.Fail fine = moves_departure (is_kept (state_of judged.conns by)) (none cmd.Fail fine).0
-  moves-command cmd.Next fine = moves_next (next_event shell.mail by)
-  moves-command cmd.Respond fine = moves_response (owed_event shell.mail by)
-  moves-command (cmd.RebuildStart caps) fine = moves_start caps fine
-  moves-command cmd.RebuildStop fine = moves_stop judged.rebuild refl fine
-  moves-command cmd.RebuildConnect fine = moves_place judged.rebuild refl fine
-  moves-command (cmd.Copy n) fine = moves_copy n judged.rebuild refl fine
-  moves-command cmd.RebuildComplete fine = moves_completion judged.rebuild refl fine
-  moves-command (cmd.ForceConn other) fine = moves_forced other fine
-  moves-command cmd.ForceStr fine = moves_structure fine
-  moves-command (cmd.Vary cf off) fine = moves_vary cf off
-  moves-command cmd.DuplexStart fine = moves_duplex fine
-  moves-command cmd.DuplexStop fine = moves_simplex judged.instances.secondary refl
+  moves-command (ShellCmd.Vary cf true) fine = moves-loss form room (with_off cf true shell) HasPlaces by cf
+  moves-command (ShellCmd.Vary cf false) fine = dull form room s HasPlaces by false _ refl refl
+  moves-command ShellCmd.DuplexStart fine = moves_duplex fine
+  moves-command ShellCmd.DuplexStop fine = moves_simplex judged.instances.secondary refl
   moves-command command fine = dull form room s HasPlaces by false _ refl refl
 
 module _ {C R I S : Type 0} (meaning : Meaning C R I S) (form : StrForm) (machine : Machine S) (by : ConnId) where
@@ -438,31 +382,26 @@ module _ {C R I S : Type 0} (meaning : Meaning C R I S) (form : StrForm) (machin
   tells_command command fine = grind (arith, move_by, Work)
 
   abbrev pub told : (asked : Ask C) → CallOutcome R S → Telling
-  told asked answered = telling_of (what.Call asked) answered.reply
+  told asked answered = telling_of (What.Call asked) answered.reply
 
-  -- what is told of a rebuild is what becomes of it, and may be told
+  -- what is told of a rebuild is what becomes of it
   abbrev IsTold : Ask C → CallOutcome R S → Type 0
-  IsTold asked answered = (answered.machine.shell.rebuild ≡ rebuild_next
-      active by (told asked answered) machine.shell.rebuild) × (length machine.shell.conns ≡ CALLERS
-      → HasPlace machine.shell.rebuild → MayBeTold active (told asked answered) machine.shell.rebuild)
+  IsTold asked answered =
+      answered.machine.shell.rebuild ≡ rebuild_next active by (told asked answered) machine.shell.rebuild
 
-  told-step : (asked : Ask C) → IsTold asked (step meaning form machine by asked)
-  told-step (ask.Shell command) = go (shell_cause form room machine.shell by command) refl
+  pub rebuild-step : (asked : Ask C) → IsTold asked (step meaning form machine by asked)
+  rebuild-step (Ask.Shell command) = go (shell_cause form room machine.shell by command) refl
     where
       go : (cause : Option Refusal) → shell_cause form room machine.shell by command ≡ cause → IsTold
-          (ask.Shell command) (unless meaning form cause machine (command_done meaning form machine by command))
-      go (Some refusal) is = (nothing_told active by machine.shell.rebuild, λ places placed. tt)
-      go None is = (tells_command command is, (move_by command is).may)
-  told-step (ask.Content command) = grind (arith, nothing_told)
-
-  pub rebuild-step : (asked : Ask C) → (step meaning form machine by asked).machine.shell.rebuild ≡ rebuild_next
-      active by (told asked (step meaning form machine by asked)) machine.shell.rebuild
-  rebuild-step asked = (told-step asked).0
+          (Ask.Shell command) (unless meaning form cause machine (command_done meaning form machine by command))
+      go (Some refusal) is = nothing_told active by machine.shell.rebuild
+      go None is = tells_command command is
+  rebuild-step (Ask.Content command) = grind (arith, nothing_told)
 
   -- ---- a mark
 
   abbrev marked : CfId → Telling
-  marked cf = telling_of {C = C} (what.Lost cf) (loss_step meaning form machine cf).reply
+  marked cf = telling_of {C = C} (What.Lost cf) (loss_step meaning form machine cf).reply
 
   pub rebuild-loss : (cf : CfId) → (loss_step meaning form machine cf).machine.shell.rebuild ≡ rebuild_next
       active by (marked cf) machine.shell.rebuild

@@ -1,7 +1,6 @@
 -- What an entry does to a rebuild, as counters keep it.
-use Rattle.std.specs.Prelude.{◌≡◌, Bool, true, false, List, ◌∷◌, Option, None, Some, ◌⊎◌}
-use Rattle.cf_types.specs.declared.events.Stage.{Stage}
-use Rattle.cf_types.specs.declared.events.Stage.TheVariants.{Quiesce, Connect, Copy, Stopping}
+use Rattle.std.specs.Prelude.{Bool, true, false, List, Option, None, Some}
+use Rattle.cf_types.specs.declared.events.Stage.TheVariants.{Stopping}
 use Rattle.cf_types.specs.declared.numbers.ConnId.{ConnId}
 use Rattle.engine_api.specs.RebuildCore.declared.rebuild.Rebuild.{Rebuild}
 use Rattle.engine_api.specs.RebuildCore.Stages.{new_rebuild, rebuild_in, without_owing, rebuild_without, rebuild_onward, rebuild_emptied, with_place}
@@ -35,17 +34,3 @@ rebuild_if by telling (Some rebuild) = rebuild_by by telling rebuild
 abbrev pub rebuild_next : List ConnId → ConnId → Telling → Option Rebuild → Option Rebuild
 rebuild_next actives by (Starts number caps) rebuild = Some (new_rebuild number actives caps)
 rebuild_next actives by telling rebuild = rebuild_if by telling rebuild
-
--- what may be told next: a start with somebody active, a place in CONNECT, a stop up to COPY
-abbrev pub IsEarly : Stage → Type 0
-IsEarly stage = (stage ≡ Quiesce) ⊎ ((stage ≡ Connect) ⊎ (stage ≡ Copy))
-
-abbrev pub IsInStage : (Stage → Type 0) → Option Rebuild → Type 0
-IsInStage holds None = ⊥
-IsInStage holds (Some rebuild) = holds rebuild.stage
-
-abbrev pub MayBeTold : List ConnId → Telling → Option Rebuild → Type 0
-MayBeTold actives (Starts number caps) rebuild = (conn : ConnId) × ((others : List ConnId) × (actives ≡ conn ∷ others))
-MayBeTold actives (Places cf) rebuild = IsInStage (λ stage. stage ≡ Connect) rebuild
-MayBeTold actives Stops rebuild = IsInStage IsEarly rebuild
-MayBeTold actives _ rebuild = Unit {0}

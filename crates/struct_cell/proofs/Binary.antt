@@ -1,5 +1,5 @@
 -- The bits of a word that is made of bits.
-use Rattle.struct_cell.proofs.Imports.{◌≡◌, ℕ, zero, suc, ◌+◌, ◌-◌, ◌*◌, ◌%◌, ◌^◌, ◌<◌, ◌≤◌, ◌==◌, Fits, w32, Bool, true, false, refl, sym, ◌∙◌, subst, arith, inl, inr, pow-suc, pow_mono, if◌then◌else◌, bit_at, cases_lt, bit_at_cat_low, bit_at_cat_high, bit_in, word_from, whole_word}
+use Rattle.struct_cell.proofs.Imports.{◌≡◌, ℕ, zero, suc, ◌%◌, ◌^◌, ◌<◌, ◌≤◌, ◌==◌, Bool, ◌∙◌, subst, arith, inl, inr, pow-suc, if◌then◌else◌, bit_at, cases_lt, bit_at_cat_low, bit_at_cat_high, bit_in, word_from, whole_word}
 
 abbrev pub one_if : Bool → ℕ
 one_if b = if b then 1 else 0
@@ -8,31 +8,15 @@ pub word-small : (f : ℕ → Bool) (n : ℕ) → word_from f n < 2 ^ n
 word-small f zero = omega arith
 word-small f (suc n) = grind (arith, pow-suc, word-small f n)
 
-one_bit : (b : Bool) → bit_at (one_if b) 0 ≡ one_if b
-one_bit true = refl
-one_bit false = refl
-
 bit-word : (f : ℕ → Bool) (n k : ℕ) → k < n → bit_at (word_from f n) k ≡ one_if (f k)
 bit-word f zero k less = absurd (omega arith)
 bit-word f (suc n) k less = elim (cases_lt k n) [
   | inl low ↦ bit_at_cat_low (one_if (f n)) n (word_from f n) k low ∙ bit-word f n k low
-  | inr high ↦ grind (arith, bit_at_cat_high, word-small, one_bit)
+  | inr high ↦ grind (arith, bit_at_cat_high, word-small)
 ]
 
-tells : (b : Bool) (v : ℕ) → v ≡ one_if b → (v == 1) ≡ b
-tells true v is = subst (λ k. (k == 1) ≡ true) (sym is) refl
-tells false v is = subst (λ k. (k == 1) ≡ false) (sym is) refl
-
 pub word_bits : (f : ℕ → Bool) (n k : ℕ) → n ≤ 32 → k < n → bit_in (word_from f n) k ≡ f k
-word_bits f n k most less = grind (arith, tells, bit-word)
-
-pub sum-fits : (k found : ℕ) → k < 32 → found < 2 ^ k → Fits w32 (found + 1 * 2 ^ k % 4294967296)
-sum-fits k found less low = grind (arith, pow_mono)
-
--- a word with one bit more
-pub next_bit : (f : ℕ → Bool) (k found after : ℕ) (b : Bool) → b ≡ f k → found ≡ word_from f k
-    → after ≡ (if b then 1 else 0) * 2 ^ k + found → after ≡ word_from f (k + 1)
-next_bit f k found after b here was is = grind arith
+word_bits f n k most less = grind (arith, bit-word)
 
 -- the word that a loop over its 32 bits ends with
 pub whole : (f : ℕ → Bool) (k found : ℕ) → k ≡ 32 → found ≡ word_from f k → found ≡ whole_word f

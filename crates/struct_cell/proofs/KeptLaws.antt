@@ -1,23 +1,20 @@
 -- What a cell keeps: at its start, and from one call to the next.
-use Rattle.struct_cell.proofs.Imports.{◌≡◌, ℕ, ◌+◌, ◌/◌, ◌<◌, ◌≤◌, ◌&&◌, Bool, true, false, List, [], ◌∷◌, ◌++◌, length, map, All, refl, sym, ap, subst, ◌∙◌, arith, Option, nat_tests, map-append, All-nil, All-push, StrForm, ConnId, AreAsked, Ask, Reply, Entry, Meaning, opening, Call, Turn, calls, replay, next_entry, with_marks, marks_by, after_turn, links_asked, answers_to, shape_of, calls-turn, call_added, legal_none, legal_turn, number_added, numbered_legal, length-turn, Mark, StructureView, stands_at, IsTurn, Logged, Committed, Place, CallRecord, commits_of, count_of, bit_in, StoresEach, IsSpared, WordTable, SeatSeen, commits-commit, count-push, stores-commits, CellKey, About, commit_of, IsCell, Shows, entered, VectorWords, AreOfTable, AreWordsOf, word_at, words_in}
+use Rattle.struct_cell.proofs.Imports.{replay-push, ◌≡◌, ℕ, ◌+◌, ◌/◌, ◌<◌, ◌≤◌, ◌&&◌, Bool, false, List, [], ◌∷◌, ◌++◌, length, map, All, refl, sym, ap, subst, ◌∙◌, arith, Option, nat_tests, map-append, All-nil, All-push, ConnId, AreAsked, Ask, Reply, Entry, Meaning, opening, Call, Turn, calls, replay, with_marks, marks_by, after_turn, links_asked, answers_to, shape_of, calls-turn, call_added, legal_none, legal_turn, number_added, numbered_legal, length-turn, Mark, StructureView, stands_at, IsTurn, Logged, Committed, Place, CallRecord, commits_of, bit_in, StoresEach, IsSpared, WordTable, SeatSeen, commits-commit, count-push, stores-commits, CellKey, About, commit_of, IsCell, Shows, entered, VectorWords, AreOfTable, AreWordsOf, word_at, words_in}
 use Rattle.engine_api.specs.declared.asks.What.TheVariants as what
-use Rattle.struct_cell.proofs.MirrorLaws.{stores_alike, words_alike}
-use Rattle.struct_cell.proofs.ShownLaws.{shows_next}
-use Rattle.struct_cell.proofs.TurnLaws.{length-entered, IsTaken, few_marks, turn_at, taken, links_more, links_none, room_more}
+use Rattle.struct_cell.proofs.TurnLaws.{entered-told, replay-marks, length-entered, IsTaken, few_marks, turn_at, links_more, links_none, room_more}
+use Rattle.struct_cell.proofs.{MirrorLaws.stores_alike, ShownLaws.shows_next}
 
 zero_bit : (index : ℕ) → bit_in 0 index ≡ false
 zero_bit index = grind (arith, nat_tests)
 
 none_shown : (b : Bool) → false ≡ (b && false)
-none_shown true = refl
-none_shown false = refl
+none_shown b = grind arith
 
 module _ {C R I S L : Type 0} (asks : L → Option ℕ) (downs : L → Option (List ℕ)) (faults : L → ℕ)
     (meaning : Meaning C R I S) where
   -- a cell begins so
-  pub cell_start : (key : CellKey C R L) (standing : StructureView S L) (touched : VectorWords)
-      (seat : SeatSeen (About C R)) (journal : List (Entry C R))
-      → key ≡ record {
+  pub cell_start : (key : CellKey C R L) (standing : StructureView S L)
+      (touched : VectorWords) (seat : SeatSeen (About C R)) (journal : List (Entry C R)) → key ≡ record {
         form = standing.form;
         callers = seat.table.conns;
         limit = key.limit;
@@ -29,7 +26,7 @@ module _ {C R I S L : Type 0} (asks : L → Option ℕ) (downs : L → Option (L
       touched.len touched.words (λ conn index. false) → seat.table.len ≡ standing.form.vector → seat.number ≡ 0
       → seat.log ≡ [] → journal ≡ [] → IsCell asks downs faults meaning key key.limit standing touched journal seat
   cell_start key standing touched seat journal key_is machine_is clear touches bare len idle log none =
-      grind (arith, links_none, words_alike, All-nil, legal_none, zero_bit, none_shown)
+      grind (arith, links_none, All-nil, legal_none, zero_bit, none_shown)
 
   -- a turn keeps it, where its words are stored and its call is committed
   pub cell_turned : (key : CellKey C R L) (limit : ℕ) (standing standing' : StructureView S L)
@@ -56,21 +53,12 @@ module _ {C R I S L : Type 0} (asks : L → Option ℕ) (downs : L → Option (L
       let begun_log : begun.log ≡ seat.log = ap (λ (s : SeatSeen (About C R)). s.log) begun_is in
       let begun_number : begun.number ≡ number = ap (λ (s : SeatSeen (About C R)). s.number) begun_is in
       let begun_table : begun.table ≡ seat.table = ap (λ (s : SeatSeen (About C R)). s.table) begun_is in
-      let stored_number : stored.number ≡ number = ap (λ (s : SeatSeen (About C R)). s.number) each.seat
-      ∙ begun_number in
-      let stored_table : stored.table ≡ seat.table = ap (λ (s : SeatSeen (About C R)). s.table) each.seat
-      ∙ begun_table in
+      let stored_number : stored.number ≡ number = grind arith in
+      let stored_table : stored.table ≡ seat.table = grind arith in
       let log_is : seat'.log ≡ stored.log ++ Committed number turn.by.0 about ∷ [] = grind arith in
       let call : Call C R = call_added meaning form journal turn in
       let here : CallRecord (About C R) = record { number = number; caller = turn.by.0; about = about } in
-      let here_is : here ≡ commit_of call =
-      ap (λ (n : ℕ). (let one : CallRecord
-      (About C R) = record { number = n; caller = turn.by.0; about = about } in one)) number_is
-      ∙ ap (λ (r : Reply R). (let one : CallRecord (About C R) = record {
-        number = call.no;
-        caller = turn.by.0;
-        about = (turn.ask, r);
-      } in one)) replies in
+      let here_is : here ≡ commit_of call = grind arith in
       record {
         form = form_is ∙ cell.form;
         limit_is = cell.limit_is;
@@ -86,23 +74,18 @@ module _ {C R I S L : Type 0} (asks : L → Option ℕ) (downs : L → Option (L
             ∙ ap (λ (cs : List (CallRecord (About C R))). cs ++ here ∷ []) (stores-commits key.words.conns
             key.words.len bits touched'.places begun stored each ∙ ap commits_of begun_log ∙ cell.commits)
             ∙ ap (λ (one : CallRecord (About C R)). map commit_of (calls journal) ++ one ∷ []) here_is
-            ∙ sym (ap (map commit_of) (calls-turn meaning form journal turn)
-            ∙ map-append commit_of (calls journal) (call ∷ []));
-        count = ap count_of log_is ∙ count-push stored.log (Committed number turn.by.0 about)
-            ∙ number_is ∙ sym (length-turn meaning form journal turn);
+            ∙ sym (grind (arith, calls-turn, map-append));
+        count = grind (arith, count-push, length-turn);
         callers = subst (All (λ (c : Call C R). c.by.0 ≤ key.callers)) (sym (calls-turn meaning form journal turn))
             (All-push (λ (c : Call C R). c.by.0 ≤ key.callers) (calls journal) call cell.callers within);
         most = grind (arith, number_added, length-turn);
         room = grind (arith, room_more);
         legal = legal_turn meaning form journal turn cell.legal;
         machine = machine_is;
-        bits = subst (λ (l : List (Logged (About C R))). Shows meaning form key.callers l history) (sym log_is)
-            (shows_next meaning form key.callers journal turn number standing'.machine touched'.places bits seat begun
-            stored turn.by.0 about cell.bits (numbered_legal meaning form journal cell.legal) begun_log begun_number
-            number_is (subst (λ (n : ℕ). StoresEach n form.vector bits touched'.places begun stored) cell.conns
-            (subst (λ (n : ℕ). StoresEach key.words.conns n bits touched'.places begun stored) cell.len each))
-            (λ conn word. are conn word ∙ ap (λ (f : StrForm). words_in meaning f standing'.machine conn word)
-            (form_is ∙ cell.form)) machine_is (grind arith));
+        bits = subst (λ (l : List (Logged (About C R))). Shows meaning form key.callers l history)
+            (sym log_is) (shows_next meaning form key.callers journal turn number standing'.machine touched'.places
+            bits seat begun stored turn.by.0 about cell.bits (numbered_legal meaning form journal cell.legal)
+            begun_log begun_number number_is (grind arith) (grind arith) machine_is (grind arith));
       }
 
   -- so does a turn of the machine, where its marks are entered, its words stored, and its call committed and entered
@@ -130,24 +113,13 @@ module _ {C R I S L : Type 0} (asks : L → Option ℕ) (downs : L → Option (L
       standing' by ask marks reply cell.form cell.machine done in
       let turn : Turn C = record { by = by; ask = ask; down = it.down } in
       let taken_so : IsTaken meaning form journal turn standing'.machine marks reply =
-      taken asks downs faults meaning form journal standing.links standing' by ask marks reply it in
+      grind (arith, replay-marks, entered-told, replay-push) in
       let marked_so : marked ≡ with_marks meaning form journal (marks_by meaning form it.down journal by ask) =
       marked_is ∙ taken_so.marked in
-      let number_is : count ≡ number_added meaning form journal turn =
-      count_is ∙ ap (λ (h : List (Entry C R)). length h + 1) marked_so in
-      let call_is : journal' ≡ after_turn meaning form journal turn = journal_is
-      ∙ ap (λ (n : ℕ). (let added : Entry C R = record { no = n; by = by; what = what.Call ask; reply = reply } in
-      marked ++ added ∷ [])) number_is
-      ∙ ap (λ (r : Reply R). (let added : Entry C R = record {
-        no = number_added meaning form journal turn;
-        by = by;
-        what = what.Call ask;
-        reply = r;
-      } in marked ++ added ∷ [])) taken_so.reply_is ∙ ap (λ (h : List (Entry C R)). h ++ next_entry meaning
-      form (with_marks meaning form journal (marks_by meaning form it.down journal by ask)) by ask ∷ []) marked_so in
+      let number_is : count ≡ number_added meaning form journal turn = grind arith in
+      let call_is : journal' ≡ after_turn meaning form journal turn = grind (arith, number_added) in
       let within : by.0 ≤ key.callers = grind arith in
-      let begun_seat : begun ≡ record seat { number = count } =
-      begun_is ∙ ap (λ (s : SeatSeen (About C R)). record s { number = count }) learned_is in
+      let begun_seat : begun ≡ record seat { number = count } = grind arith in
       let told : ℕ → ℕ → ℕ = word_at touched'.len touched'.words in
       let lens : touched'.len ≡ key.form.vector = same_table.1 ∙ cell.vectors_of.1 in
       let stores : StoresEach key.words.conns key.words.len

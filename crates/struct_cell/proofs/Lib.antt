@@ -10,4 +10,3 @@ pub mod ShownLaws
 pub mod TurnLaws
 pub mod KeptLaws
 pub mod ToldLaws
-pub mod ReplyLaws

@@ -1,43 +1,27 @@
 -- Words that are brought to the bits that are told.
-use Rattle.struct_cell.proofs.Imports.{◌≡◌, ℕ, zero, suc, ◌+◌, ◌*◌, ◌/◌, ◌%◌, ◌^◌, ◌<◌, ◌≤◌, ◌==◌, ◌⊎◌, inl, inr, Bool, true, false, List, [], ◌∷◌, ◌++◌, length, get_or, set, take, fold, refl, sym, ap, ◌∙◌, subst, subst₂, arith, ◌≢◌, ◌&&◌, if◌then◌else◌, replicate, bit_at, AllByRecursion, nat_tests, same_from_bits_below, get_or-replicate, get_or-set_other, get_or_past, length-replicate, take_more, cases_lt, All-push, All-weaker, recursion_from_All, fold_push, BitChange, ConnId, Bits, Gains, bits_told, difference, Stored, Place, word_number, words_of, IsAt, IsSpared, IsWithin, StoresEach, stores_of, SeatSeen, word_number-same, AreMirrorsOf, AreWordsOf, IsEvery, MirrorWords, with_told, word_at, bit_of, whole_word, word_from, word_in}
-use Rattle.struct_cell.proofs.Binary.{one_if, whole-small, word_place}
-use Rattle.struct_cell.proofs.PlaceLaws.{bit-past}
+use Rattle.struct_cell.proofs.Imports.{◌≡◌, ℕ, ◌+◌, ◌*◌, ◌/◌, ◌%◌, ◌^◌, ◌<◌, ◌≤◌, ◌==◌, ◌⊎◌, inl, inr, Bool, true, false, List, [], ◌∷◌, length, get_or, set, take, fold, refl, sym, ap, ◌∙◌, subst, subst₂, arith, ◌≢◌, if◌then◌else◌, replicate, bit_at, AllByRecursion, nat_tests, same_from_bits_below, get_or-replicate, get_or-set_other, get_or_past, length-replicate, take_more, cases_lt, All-push, All-weaker, recursion_from_All, fold_push, BitChange, ConnId, Bits, Gains, bits_told, Stored, Place, word_number, words_of, IsAt, IsSpared, IsWithin, StoresEach, stores_of, SeatSeen, word_number-same, AreMirrorsOf, AreWordsOf, MirrorWords, with_told, word_at, bit_of, whole_word, word_in}
+use Rattle.struct_cell.proofs.{Binary.one_if, Binary.whole-small, Binary.word_place}
 
 -- ---- words by their bits
 
-word_alike : (f g : ℕ → Bool) (n : ℕ) → ((k : ℕ) → k < n → f k ≡ g k) → word_from f n ≡ word_from g n
-word_alike f g zero same = refl
-word_alike f g (suc n) same = grind (arith, one_if, word_alike f g n (λ k less. same k (omega (arith, less))))
-
 pub whole_alike : (f g : ℕ → Bool) → ((k : ℕ) → k < 32 → f k ≡ g k) → whole_word f ≡ whole_word g
 unfolding whole_word
-whole_alike f g same = word_alike f g 32 same
+whole_alike f g same = grind (arith, one_if)
 
 -- a word in which one bit was put
 pub bit_put : (f : ℕ → Bool) (bits after place : ℕ) (bit : Bool) → after < 2 ^ 32 → bit_at after place ≡ one_if bit
     → ((k : ℕ) → k < 32 → k ≢ place → bit_at after k ≡ bit_at bits k) → bits ≡ whole_word f
     → after ≡ whole_word (λ k. if k == place then bit else f k)
 bit_put f bits after place bit small here others was =
-    same_from_bits_below 32 after (whole_word g) small (whole-small g) (λ k below. at k below (k == place) refl)
+    same_from_bits_below 32 after (whole_word g) small (whole-small g) (
+    grind (arith, nat_tests, one_if, word_place, g))
   where
     g : ℕ → Bool
     g k = if k == place then bit else f k
 
-    at : (k : ℕ) → k < 32 → (b : Bool) → k == place ≡ b → bit_at after k ≡ bit_at (whole_word g) k
-    at k below true is = grind (arith, nat_tests, one_if, word_place, g)
-    at k below false is = grind (arith, nat_tests, word_place, one_if, g)
-
-no_bits : (n : ℕ) → word_from (λ k. false) n ≡ 0
-no_bits zero = refl
-no_bits (suc n) = let rest : word_from (λ k. false) n ≡ 0 = no_bits n in omega (arith, rest)
-
 none_whole : whole_word (λ k. false) ≡ 0
 unfolding whole_word
-none_whole = no_bits 32
-
-none_past : (b : Bool) → b && false ≡ false
-none_past true = refl
-none_past false = refl
+none_whole = grind arith
 
 zeros : (none count i : ℕ) → get_or (replicate count none) i none ≡ none
 zeros none count i = grind (arith, cases_lt, get_or-replicate, length-replicate, get_or_past)
@@ -45,16 +29,9 @@ zeros none count i = grind (arith, cases_lt, get_or-replicate, length-replicate,
 -- words without a bit
 pub words_none : (conns len count : ℕ) (words : List ℕ) → words ≡ replicate count 0
     → AreWordsOf conns len words (λ conn index. false)
-words_none conns len count words is conn word some most within =
-    grind (arith, zeros, none_whole, whole_alike, none_past)
+words_none conns len count words is conn word some most within = grind (arith, zeros, none_whole, whole_alike)
 
 -- ---- bits that are told
-
--- the word of a bit that is told
-told_here : (len : ℕ) (bits : Bits) (change : BitChange) (conn word k : ℕ) → change.conn.0 ≡ conn → change.index
-    / 32 ≡ word → change.index < len → k < 32 → (if k == change.index % 32 then change.bit else bit_of len bits
-    (record { 0 = conn }) (32 * word + k)) ≡ bit_of len (with_told bits change) (record { 0 = conn }) (32 * word + k)
-told_here len bits change conn word k conns words below less = grind (arith, nat_tests)
 
 -- another word
 told_apart : (len : ℕ) (bits : Bits) (change : BitChange) (conn word k : ℕ)
@@ -79,18 +56,9 @@ words_told conns len old new bits change after positive below changed here other
 
     go : (b : Bool) → change.conn.0 == conn ≡ b → (e : Bool) → change.index / 32 == word ≡ e
         → word_at len new conn word ≡ word_in len (with_told bits change) conn word
-    go true is true at = grind (arith, nat_tests, whole_alike, told_here)
-    go true is false at =
-        let apart : change.index / 32 ≢ word = grind (arith, nat_tests) in else_where (λ same. apart same.1)
-    go false is e at =
-        let apart : change.conn.0 ≢ conn = grind (arith, nat_tests) in else_where (λ same. apart same.0)
-
--- a bit past the vectors
-pub words_past : (conns len : ℕ) (words : List ℕ) (bits : Bits) (change : BitChange)
-    → (change.conn.0 ≡ 0) ⊎ ((conns < change.conn.0) ⊎ (len ≤ change.index))
-    → AreWordsOf conns len words bits → AreWordsOf conns len words (with_told bits change)
-words_past conns len words bits change past were conn word some most within =
-    grind (arith, whole_alike, nat_tests, bit-past)
+    go true is true at = grind (arith, nat_tests, whole_alike)
+    go true is false at = grind (arith, nat_tests, else_where)
+    go false is e at = grind (arith, nat_tests, else_where)
 
 -- one bit more
 pub told_more : (before : Bits) (changes : List BitChange) (i : ℕ) (d : BitChange) → i < length changes → with_told
@@ -106,17 +74,11 @@ folded : (changes : List BitChange) (before : Bits) (conn : ConnId) (index : ℕ
 folded [] before conn index = refl
 folded (change ∷ changes) before conn index = grind (arith, folded changes (with_told before change) conn index)
 
-last_is : (before after : Bool) → last_told before (difference before after) ≡ after
-last_is false false = refl
-last_is false true = refl
-last_is true false = refl
-last_is true true = refl
-
 -- all that changed
 pub words_gained : (conns len : ℕ) (words : List ℕ) (before after : Bits) (changes : List BitChange) → Gains before
     after [] changes → AreWordsOf conns len words (fold with_told before changes) → AreWordsOf conns len words after
 words_gained conns len words before after changes gains are conn word some most within =
-    grind (arith, whole_alike, folded, last_is)
+    grind (arith, whole_alike, folded)
 
 -- the same where the words are another mirror's
 pub bit_taken : (old new : MirrorWords) (bits : Bits) (change : BitChange) (after : ℕ) → AreMirrorsOf old new
@@ -128,9 +90,7 @@ pub bit_taken : (old new : MirrorWords) (bits : Bits) (change : BitChange) (afte
     → AreWordsOf old.conns old.len old.words bits → AreWordsOf new.conns new.len new.words (with_told bits change)
 bit_taken old new bits change after table positive below changed here others were = subst₂ (λ (n l : ℕ). AreWordsOf n
     l new.words (with_told bits change)) (sym table.0) (sym table.1) (words_told old.conns old.len old.words new.words
-    bits change after positive below changed (ap (λ (l : ℕ). word_at l new.words change.conn.0 (change.index / 32))
-    (sym table.1) ∙ here) (λ conn word some within apart. ap (λ (l : ℕ). word_at l new.words conn word) (sym table.1)
-    ∙ others conn word some within apart) were)
+    bits change after positive below changed (grind arith) (grind arith) were)
 
 -- one word that is put in leaves the others
 pub put_other : (conns len : ℕ) (words : List ℕ) (place : Place) (number bits conn word : ℕ)
@@ -151,7 +111,7 @@ pub looked_more : (start old new : MirrorWords) (bits : ℕ → ℕ → ℕ) (pl
     conn word ⊎ (word_at old.len old.words conn word ≡ bits conn word)) → (conn word : ℕ) → 0 < conn → word < words_of
     start.len → IsSpared (take (i + 1) places) conn word ⊎ (word_at new.len new.words conn word ≡ bits conn word)
 looked_more start old new bits places i d below table here others was conn word some within =
-    go (place.conn.0 == conn) refl (place.word == word) refl
+    grind (arith, nat_tests, else_where)
   where
     place : Place
     place = get_or places i d
@@ -163,26 +123,6 @@ looked_more start old new bits places i d below table here others was conn word 
           (All-push (λ (p : Place). ¬ IsAt conn word p) (take i places) place spared apart))
       | inr is ↦ inr (others conn word some (subst (λ (n : ℕ). word < words_of n) (sym table.1) within) apart ∙ is)
     ]
-
-    go : (b : Bool) → place.conn.0 == conn ≡ b → (e : Bool) → place.word == word ≡ e
-        → IsSpared (take (i + 1) places) conn word ⊎ (word_at new.len new.words conn word ≡ bits conn word)
-    go true is true at = grind (arith, nat_tests)
-    go true is false at =
-        let apart : place.word ≢ word = grind (arith, nat_tests) in else_where (λ same. apart same.1)
-    go false is e at =
-        let apart : place.conn.0 ≢ conn = grind (arith, nat_tests) in else_where (λ same. apart same.0)
-
--- every word was
-pub looked_all : (start new : MirrorWords) (vector : ℕ) (bits : Bits) (places : List Place) → AreMirrorsOf start new
-    → IsEvery start.conns start.len places → start.len ≡ vector → ((conn word : ℕ) → 0 < conn → word < words_of
-    start.len → IsSpared places conn word ⊎ (word_at new.len new.words conn word ≡ word_in vector bits conn word))
-    → AreWordsOf new.conns new.len new.words bits
-looked_all start new vector bits places table every same are conn word some most within = grind arith
-
--- the same bits by another name
-pub words_alike : (conns len : ℕ) (words : List ℕ) (before after : Bits) → ((conn : ConnId) (index : ℕ)
-    → before conn index ≡ after conn index) → AreWordsOf conns len words before → AreWordsOf conns len words after
-words_alike conns len words before after same are conn word some most within = grind (arith, whole_alike)
 
 -- ---- stores of them
 

@@ -1,22 +1,11 @@
 -- Words that places name, and bits whose words they are.
-use Rattle.struct_cell.proofs.Imports.{◌≡◌, ℕ, ◌+◌, ◌/◌, ◌<◌, ◌≤◌, false, List, [], ◌∷◌, ◌++◌, take, length, get_or, Some, refl, sym, subst, ◌∙◌, arith, inl, inr, All, Contains, ◌⊎◌, cases_lt, All-pop, All-push, All-contains, take_more, get_or_default, get_or-take, length-take-le, nat_tests, BitChange, ConnId, is_for, Place, IsAt, IsSpared, AreDistinct}
+use Rattle.struct_cell.proofs.Imports.{◌≡◌, ℕ, ◌+◌, ◌<◌, ◌≤◌, false, List, [], ◌∷◌, ◌++◌, take, length, get_or, Some, refl, sym, subst, arith, inl, inr, All, cases_lt, All-pop, All-push, take_more, get_or_default, get_or-take, length-take-le, BitChange, ConnId, is_for, Place, IsAt, IsSpared, AreDistinct}
 
 -- no place of a list and one more
 pub spared-front : (places : List Place) (place : Place) (conn word : ℕ) → IsSpared (places ++ place ∷ []) conn word
     → IsSpared places conn word
 spared-front places place conn word spared =
     (All-pop (λ p. ¬ IsAt conn word p) (places ++ place ∷ []) places (Some place) refl spared).0
-
--- a bit whose word isn't this one is another bit
-pub bit-apart : (change : BitChange) (conn : ConnId) (index : ℕ) → ¬ IsAt conn.0 (index / 32)
-    (record { conn = change.conn; word = change.index / 32 }) → is_for conn index change ≡ false
-bit-apart change conn index apart = grind (arith, nat_tests)
-
--- nor is a bit that the vectors don't have one that they have
-pub bit-past : (change : BitChange) (conns len : ℕ) (conn : ConnId) (index : ℕ)
-    → (change.conn.0 ≡ 0) ⊎ ((conns < change.conn.0) ⊎ (len ≤ change.index))
-    → 0 < conn.0 → conn.0 ≤ conns → index < len → is_for conn index change ≡ false
-bit-past change conns len conn index past some most below = grind (arith, nat_tests)
 
 -- one change more
 pub none-named : (d : BitChange) (changes : List BitChange) (i : ℕ) (conn : ConnId) (index : ℕ) → i < length changes
@@ -25,12 +14,6 @@ pub none-named : (d : BitChange) (changes : List BitChange) (i : ℕ) (conn : Co
 none-named d changes i conn index within all here =
     let P : BitChange → Type 0 = λ c. is_for conn index c ≡ false in
     subst (All P) (sym (take_more changes i d within)) (All-push P (take i changes) (get_or changes i d) all here)
-
--- a place that is named already
-pub bit-named : (named : List Place) (change : BitChange) (place : Place) (conn : ConnId) (index : ℕ)
-    → place ≡ record { conn = change.conn; word = change.index / 32 }
-    → Contains named place → IsSpared named conn.0 (index / 32) → is_for conn index change ≡ false
-bit-named named change place conn index is has spared = grind (arith, bit-apart, All-contains)
 
 -- the words of one connector's vector, one more
 pub words-more : (places now : List Place) (conn n : ℕ)
@@ -57,6 +40,5 @@ pub spared-before : (places : List Place) (i : ℕ) (d : Place) → i < length p
 spared-before places i d within distinct k e below is =
     let short : length (take i places) ≡ i = length-take-le i places (omega arith) in
     let before : k < i = omega (arith, short, below) in
-    let there : get_or (take i places) k e ≡ get_or places k d = get_or-take i places k e before
-    ∙ get_or_default places k e d (omega arith) in
+    let there : get_or (take i places) k e ≡ get_or places k d = grind (arith, get_or-take, get_or_default) in
     distinct k i d before within (subst (IsAt (get_or places i d).conn.0 (get_or places i d).word) there is)

@@ -1,5 +1,5 @@
 -- What the words show after one more turn: a call, and the marks before it.
-use Rattle.struct_cell.proofs.Imports.{◌≡◌, ℕ, ◌+◌, ◌*◌, ◌/◌, ◌%◌, ◌<◌, ◌≤◌, inl, inr, List, [], ◌∷◌, ◌++◌, length, take, sym, ap, subst, ◌∙◌, arith, cases_lt, nat_tests, take-append-le, StrForm, ConnId, Entry, Meaning, Machine, Turn, replay, after_turn, last_call_below, IsNumbered, added_turn, number_added, number_past, last_below-turn, last_below-past, length-turn, bits_at, Logged, Committed, Place, steps_of, word_number, bit_in, StoresEach, IsSpared, SeatSeen, bits-commit, stores-below, stores-from, shown_in, words_in, About, Shows, shown_after, shown_below}
+use Rattle.struct_cell.proofs.Imports.{◌≡◌, ℕ, ◌+◌, ◌/◌, ◌<◌, ◌≤◌, inl, inr, List, [], ◌∷◌, ◌++◌, length, take, sym, ap, subst, ◌∙◌, arith, cases_lt, take-append-le, StrForm, ConnId, Entry, Meaning, Machine, Turn, replay, after_turn, last_call_below, IsNumbered, added_turn, number_added, number_past, last_below-turn, last_below-past, length-turn, bits_at, Logged, Committed, Place, steps_of, word_number, bit_in, StoresEach, IsSpared, SeatSeen, bits-commit, stores-below, stores-from, shown_in, words_in, About, Shows, shown_after, shown_below}
 use Rattle.std.proofs.Common.{take_all}
 use Rattle.struct_cell.proofs.Binary.{whole_bit}
 
@@ -31,11 +31,6 @@ module _ {C R I S : Type 0} (meaning : Meaning C R I S) (form : StrForm) where
       → bit_in (words_in meaning form machine conn.0 (index / 32)) index ≡ shown_in meaning form machine conn index
   bit_of_word machine conn index = grind (arith, whole_bit)
 
-  masked : (one other : Machine S) (conn : ConnId) (index : ℕ)
-      → (index < form.vector → meaning.stands one.content conn index ≡ meaning.stands other.content conn index)
-      → shown_in meaning form one conn index ≡ shown_in meaning form other conn index
-  masked one other conn index same = grind (arith, nat_tests)
-
   -- a call's stores, and its commit. Whatever its marks and the call itself left is in the words that are stored
   pub shows_next : (conns : ℕ) (history : List (Entry C R)) (turn : Turn C) (number : ℕ) (machine : Machine S)
       (named : List Place) (bits : ℕ → ℕ → ℕ) (before begun stored : SeatSeen (About C R)) (caller : ℕ)
@@ -52,8 +47,7 @@ module _ {C R I S : Type 0} (meaning : Meaning C R I S) (form : StrForm) where
       let above : length history < added = number_past meaning form history turn in
       let w = word_number form.vector conn.0 (index / 32) in
       let after : shown_after meaning form (after_turn meaning form history turn) conn index
-      ≡ shown_in meaning form machine conn index =
-      ap (λ (m : Machine S). shown_in meaning form m conn index) (sym machine_is) in
+      ≡ shown_in meaning form machine conn index = grind arith in
       ap (λ (b : ℕ). bit_in b index) (bits-commit stored.log number caller about w n) ∙ elim (cases_lt n number) [
         | inl low ↦ ap (λ (b : ℕ). bit_in b index) (stores-below
             conns form.vector bits named begun stored w n each (subst (λ (k : ℕ). n < k) (sym begins) low)
@@ -61,7 +55,6 @@ module _ {C R I S : Type 0} (meaning : Meaning C R I S) (form : StrForm) where
             conn some most below ∙ sym (shown-old history turn (n + 1) conn index was (omega (arith, low, number_is)))
         | inr high ↦ stores-from conns form.vector bits named begun stored conn.0 (index / 32)
             n (λ (b : ℕ). bit_in b index ≡ shown_in meaning form machine conn index) each some below
-            (subst (λ (k : ℕ). k ≤ n) (sym begins) high) (ap (λ (b : ℕ). bit_in b index) (are conn.0 (index / 32))
-            ∙ bit_of_word machine conn index) (grind (arith, shown-end, masked)) ∙ sym after
-            ∙ sym (shown-new history turn (n + 1) conn index (omega (arith, high, number_is)))
+            (subst (λ (k : ℕ). k ≤ n) (sym begins) high) (grind (arith, bit_of_word)) (grind (arith, shown-end))
+            ∙ sym after ∙ sym (shown-new history turn (n + 1) conn index (omega (arith, high, number_is)))
       ]

@@ -1,5 +1,5 @@
--- Places that are found by their numbers, and places in order.
-use Rattle.struct_cell.proofs.Imports.{◌≡◌, ℕ, ◌+◌, ◌<◌, List, [], ◌∷◌, ◌++◌, length, get_or, set, Some, ◌∙◌, arith, inl, inr, ◌⊎◌, ◌≢◌, slice_get, cases_lt, get_or_append_left, get_or_push, get_or-set_same, get_or-set_other, length_push, length-set, All-push, All-weaker, slice_get-get_or, Place, word_number, IsWithin, word_number-same, AreSpotted, ComeBefore}
+-- Places that are found by their numbers.
+use Rattle.struct_cell.proofs.Imports.{◌≡◌, ℕ, ◌<◌, List, [], ◌∷◌, ◌++◌, length, get_or, set, Some, ◌∙◌, arith, inl, inr, ◌≢◌, slice_get, cases_lt, get_or_append_left, get_or_push, get_or-set_same, get_or-set_other, length_push, length-set, All-push, slice_get-get_or, Place, word_number, IsWithin, word_number-same, AreSpotted}
 
 same_place : (one other : Place) → one.conn.0 ≡ other.conn.0 → one.word ≡ other.word → one ≡ other
 same_place one other conn word = λ j. record { conn = record { 0 = conn j }; word = word j }
@@ -33,9 +33,3 @@ spotted_push conns len places spots place number is here number_is below absent 
     | inr high ↦ grind (arith, length_push, get_or_push, get_or-set_same)
   ];
 }
-
--- ---- places in order
-
--- what comes before a word of a connector comes before all words of the next one
-pub before_next : (places : List Place) (conn word : ℕ) → ComeBefore places conn word → ComeBefore places (conn + 1) 0
-before_next places conn word before = grind (arith, All-weaker)

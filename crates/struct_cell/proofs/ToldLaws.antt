@@ -1,5 +1,5 @@
--- What a cell's history tells of passes: their tests, and their calls.
-use Rattle.struct_cell.proofs.Imports.{◌≡◌, ℕ, ◌+◌, ◌-◌, ◌/◌, ◌<◌, ◌≤◌, ◌==◌, inl, inr, Bool, true, false, nat_lt, List, [], ◌∷◌, length, get_or, take, map, filter, All, refl, sym, ap, subst, ◌∙◌, arith, Contains, Option, nat_tests, length-map, get_or-map, All-map, All-weaker, ConnId, Links, AreAsked, Entry, Meaning, answers, Call, calls, numbers, own, IsPoint, stands_after, last_call_below, StructureView, bits_at, Sight, steps_of, calls_in, word_number, words_of, bit_in, IsIssued, IsHonest, WordTable, SeatSeen, PassSeen, IsShown, committed-all, numbered_legal, CellKey, About, own_call_of, commit_of, IsCell, shown_after, shown_below, VectorWords, IsTold}
+-- What a cell's history tells of passes: their tests, their calls, and the replies of these.
+use Rattle.struct_cell.proofs.Imports.{◌≡◌, ℕ, ◌+◌, ◌-◌, ◌/◌, ◌<◌, ◌≤◌, ◌==◌, inl, inr, Bool, true, false, nat_lt, List, [], ◌∷◌, length, get_or, take, map, filter, All, refl, sym, ap, subst, ◌∙◌, arith, Contains, Option, nat_tests, length-map, get_or-map, All-map, All-weaker, ConnId, Entry, Meaning, Call, calls, numbers, own, IsPoint, stands_after, last_call_below, StructureView, bits_at, Sight, steps_of, calls_in, word_number, words_of, bit_in, IsIssued, IsHonest, WordTable, SeatSeen, PassSeen, IsShown, committed-all, numbered_legal, CellKey, About, own_call_of, commit_of, IsCell, shown_after, shown_below, VectorWords, IsTold, zero, suc, None, Some, option_and_then, slice_get, number_legal, calls_of, reply_for, reply_at, reply_to}
 
 module _ {C R : Type 0} where
   -- a call's number is among the numbers
@@ -15,6 +15,51 @@ module _ {C R : Type 0} where
       → calls_in owner (map commit_of all) ≡ map own_call_of (filter (λ call. call.by.0 == owner) all)
   own_calls owner [] = refl
   own_calls owner (call ∷ all) = grind (arith, own_calls owner all)
+
+  -- ---- the entry of a number, and the call of that number among its caller's calls: both have the same reply
+
+  -- entries whose numbers count on from behind so many
+  abbrev CountFrom : ℕ → List (Entry C R) → Type 0
+  CountFrom before [] = Unit {0}
+  CountFrom before (entry ∷ entries) = (entry.no ≡ before + 1) × CountFrom (before + 1) entries
+
+  count_from : (before : ℕ) (entries : List (Entry C R)) → ((i : ℕ) (entry : Entry C R)
+      → slice_get entries i ≡ Some entry → entry.no ≡ before + i + 1) → CountFrom before entries
+  count_from before [] each = tt
+  count_from before (entry ∷ entries) each = (
+    (let here : entry.no ≡ before + 0 + 1 = each 0 entry refl in omega (arith, here)),
+    count_from (before + 1) entries
+        (λ i other is. (let there : other.no ≡ before + suc i + 1 = each (suc i) other is in omega (arith, there))),
+  )
+
+  -- a caller's calls, of these entries
+  abbrev heard : ConnId → List (Entry C R) → List (ℕ × About C R)
+  heard owner entries = map own_call_of (own entries owner)
+
+  -- no call has a number up to where the entries begin
+  none_below : (owner : ConnId) (number before : ℕ) (entries : List (Entry C R)) → CountFrom before entries
+      → number ≤ before → reply_to number (heard owner entries) ≡ None
+  none_below owner number before [] count low = refl
+  none_below owner number before (entry ∷ entries) count low =
+      grind (arith, nat_tests, none_below owner number (before + 1) entries count.1 (omega (arith, low)))
+
+  -- the reply of an entry for a caller, and that of the caller's call with its number
+  reply_there : (owner : ConnId) (before : ℕ) (entries : List (Entry C R)) (i : ℕ) → CountFrom before entries
+      → reply_to (before + i + 1) (heard owner entries) ≡ option_and_then (reply_for owner) (slice_get entries i)
+  reply_there owner before [] i count = refl
+  reply_there owner before (entry ∷ entries) zero count = grind (arith, none_below, nat_tests)
+  reply_there owner before (entry ∷ entries) (suc i) count =
+      grind (arith, nat_tests, reply_there owner (before + 1) entries i count.1)
+
+  -- the same by the number
+  reply_numbered : (owner : ConnId) (entries : List (Entry C R)) (number : ℕ) → CountFrom 0 entries
+      → reply_to number (heard owner entries) ≡ reply_at entries owner number
+  reply_numbered owner entries zero count = none_below owner 0 0 entries count (omega arith)
+  reply_numbered owner entries (suc i) count =
+      let same : 0 + i + 1 ≡ suc i = omega arith in
+      let back : suc i - 1 ≡ i = omega arith in
+      let some : suc i == 0 ≡ false = grind (arith, nat_tests) in
+      rw (some, back) (grind (arith, reply_there))
 
 module _ {C R I S L : Type 0} (asks : L → Option ℕ) (downs : L → Option (List ℕ)) (faults : L → ℕ)
     (meaning : Meaning C R I S) (key : CellKey C R L) (limit : ℕ)
@@ -38,8 +83,7 @@ module _ {C R I S L : Type 0} (asks : L → Option ℕ) (downs : L → Option (L
 
   shown_none : (h : List (Entry C R)) (conn : ConnId) (index : ℕ) → key.form.vector ≤ index
       → shown_after meaning key.form h conn index ≡ false
-  shown_none h conn index past = let is : nat_lt index key.form.vector ≡ false = grind (arith, nat_tests) in rw is
-      refl
+  shown_none h conn index past = grind (arith, nat_tests)
 
   pub told : (owner : ℕ) (test : Sight) → owner ≤ key.callers → IsHonest seat.log seat.number key.words.len owner test
       → IsTold meaning key.form journal owner test
@@ -49,16 +93,13 @@ module _ {C R I S L : Type 0} (asks : L → Option ℕ) (downs : L → Option (L
       let point : IsPoint journal test.at = issued_point test.at honest.issued in
       let bits_of : ℕ → ℕ
       → Bool = λ len n. bit_in (bits_at (steps_of seat.log) (word_number len owner (test.index / 32)) n) test.index in
-      let within : test.index / 32 < words_of key.form.vector = subst
-      (λ (n : ℕ). test.index / 32 < words_of n) cell.len honest.within in
+      let within : test.index / 32 < words_of key.form.vector = grind arith in
       let at_number : (n : ℕ) → bits_of key.words.len n ≡ shown_below meaning key.form journal (n + 1) conn test.index
       = λ n. ap (λ (len : ℕ). bits_of len n) cell.len ∙ cell.bits n test.index conn honest.connector most within in
       let here : shown_below meaning key.form journal (test.at + 1) conn test.index ≡ shown_after meaning key.form
       (take test.at journal) conn test.index = grind arith in
       let before : test.sure < test.at → shown_below meaning key.form journal (test.at - 1 + 1) conn test.index
-      ≡ shown_after meaning key.form (take (last_call_below journal test.at) journal) conn test.index =
-      λ later. (let same : test.at - 1 + 1 ≡ test.at = omega (arith, later) in
-      ap (λ (k : ℕ). shown_below meaning key.form journal k conn test.index) same) in
+      ≡ shown_after meaning key.form (take (last_call_below journal test.at) journal) conn test.index = grind arith in
       record {
         point = point;
         seen = honest.not_before;
@@ -70,15 +111,19 @@ module _ {C R I S L : Type 0} (asks : L → Option ℕ) (downs : L → Option (L
   pub tests_told : (pass : PassSeen (About C R)) → pass.table ≡ key.words → IsShown seat pass
       → All (IsTold meaning key.form journal pass.owner) pass.tests
   tests_told pass table shown =
-      let most : pass.owner ≤ key.callers = subst (λ (n : ℕ). pass.owner ≤ n)
-      (ap (λ w. w.conns) table ∙ cell.conns) shown.owner in
+      let most : pass.owner ≤ key.callers = grind arith in
       All-weaker (IsHonest seat.log seat.number pass.table.len pass.owner)
       (IsTold meaning key.form journal pass.owner) (λ test honest. told pass.owner test most
       (subst (λ w. IsHonest seat.log seat.number w.len pass.owner test) table honest)) pass.tests shown.tests
 
-  pub mine_own : (pass : PassSeen (About C R)) → IsShown seat pass
-      → pass.mine ≡ map own_call_of (own journal (record { 0 = pass.owner }))
-  mine_own pass shown = shown.mine ∙ ap (calls_in pass.owner) cell.commits ∙ own_calls pass.owner (calls journal)
+  -- of a cell's journal the entry of a number has for a caller what the caller's call of that number was replied
+  pub reply_own : (owner : ConnId) (mine : List (ℕ × About C R)) (number : ℕ) → mine ≡ calls_of owner.0 seat.log
+      → reply_at journal owner number ≡ reply_to number mine
+  reply_own owner mine number is =
+      let all : mine ≡ heard owner journal = grind (arith, own_calls) in
+      sym (ap (reply_to number) all ∙ reply_numbered owner journal number (count_from 0 journal
+      (λ i entry there. (let no : entry.no ≡ i + 1 = number_legal meaning key.form journal cell.legal i entry there in
+      omega (arith, no)))))
 
 -- ---- a cell that is closed
 
@@ -87,21 +132,9 @@ module _ {C R I S L : Type 0} (asks : L → Option ℕ) (downs : L → Option (L
     (touched : VectorWords) (journal history : List (Entry C R)) (seat : SeatSeen (About C R))
     (passes : List (PassSeen (About C R))) (cell : IsCell asks downs faults meaning key limit
     standing touched journal seat) (key_is : key ≡ seen) (history_is : history ≡ journal) where
-  -- its links, with those that are handed out
-  pub closed_links : (handed : Links L) → handed ≡ standing.links
-      → AreAsked asks downs faults (answers meaning seen.form history) seen.links handed
-  closed_links handed same = grind arith
-
-  pub closed_callers : All (λ (call : Call C R). call.by.0 ≤ seen.callers) (calls history)
-  closed_callers = grind arith
-
   pub closed_mine : All (IsShown seat) passes → All
       (λ (pass : PassSeen (About C R)). pass.mine ≡ map own_call_of (own history (record { 0 = pass.owner }))) passes
-  closed_mine shown = subst (λ (h : List (Entry C R)). All (λ (pass : PassSeen (About C R)). pass.mine ≡ map
-      own_call_of (own h (record { 0 = pass.owner }))) passes) (sym history_is) (All-weaker (IsShown seat)
-      (λ (pass : PassSeen (About C R)). pass.mine ≡ map own_call_of (own journal (record { 0 = pass.owner })))
-      (λ pass it. mine_own asks downs faults meaning key limit standing touched journal seat cell pass it)
-      passes shown)
+  closed_mine shown = grind (arith, All-weaker, own_calls)
 
   pub closed_known : All (IsShown seat) passes
       → All (λ (pass : PassSeen (About C R)). IsPoint history pass.known × (pass.known ≤ length history)) passes

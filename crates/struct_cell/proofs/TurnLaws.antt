@@ -1,6 +1,5 @@
 -- What a turn of the machine makes of the journal: marks are entered, and then the call.
-use Rattle.struct_cell.proofs.Imports.{◌≡◌, ℕ, suc, ◌+◌, ◌<◌, ◌≤◌, Bool, List, [], ◌∷◌, ◌++◌, length, get_or, take, fold, refl, sym, ap, ◌∙◌, arith, length-append, Option, map-append, take_more, fold_push, Links, AreAsked, asked-append, StrForm, CfId, ConnId, Ask, ShellReply, Reply, Entry, operator, links_asked, answers_to, Meaning, Machine, Turn, numbers, replay, with_mark, with_marks, marks_by, after_turn, IsLegal, told_of, answers, marks_few, two_asked, answers-turn, legal_group, replay-push, by_turns, calls-turn, call_added, number_added, length-turn, reply_as, Mark, StructureView, lost_at, behind_marks, AreTold, IsTurn, AreMadeBelow, with_entry, entered}
-use Rattle.engine_api.specs.declared.asks.Reply.TheVariants as reply
+use Rattle.struct_cell.proofs.Imports.{◌≡◌, ℕ, suc, ◌+◌, ◌<◌, ◌≤◌, Bool, List, [], ◌∷◌, ◌++◌, length, get_or, take, fold, refl, sym, ap, ◌∙◌, arith, length-append, Option, map-append, take_more, fold_push, Links, AreAsked, asked-append, StrForm, CfId, ConnId, Ask, ShellReply, Reply, Entry, operator, links_asked, answers_to, Meaning, Machine, Turn, numbers, replay, with_mark, with_marks, marks_by, after_turn, IsLegal, answers, marks_few, two_asked, answers-turn, legal_group, replay-push, by_turns, calls-turn, call_added, number_added, length-turn, reply_as, Mark, StructureView, lost_at, behind_marks, AreTold, IsTurn, AreMadeBelow, with_entry, entered}
 use Rattle.engine_api.specs.declared.asks.What.TheVariants as what
 
 module _ {C R : Type 0} where
@@ -9,22 +8,10 @@ module _ {C R : Type 0} where
   length-entered journal [] = omega arith
   length-entered journal (mark ∷ marks) = grind (arith, length-append, length-entered (with_entry journal mark) marks)
 
-  -- what is told of a call has its number
-  pub told-number : (number : ℕ) (ask : Ask C) (reply : Reply R)
-      → (let told = told_of number ask reply in told.no) ≡ number
-  told-number number ask (reply.Shell answer) = refl
-  told-number number ask (reply.Content answer) = refl
-  told-number number ask (reply.Refused refusal) = refl
-
   -- the number of the call behind them is above what was known
   pub number-later : (journal after : List (Entry C R)) (marks : List Mark) (known number told : ℕ) → known ≤ length
       journal → after ≡ entered journal marks → number ≡ length after + 1 → told ≡ number → known < told
   number-later journal after marks known number told most is number_is told_is = grind (arith, length-entered)
-
-  -- with the marks of a call that found room the journal is hardly longer
-  pub count-entered : (journal after : List (Entry C R)) (marks : List Mark) (limit : ℕ)
-      → length journal < limit → length marks ≤ 2 → after ≡ entered journal marks → length after ≤ limit + 1
-  count-entered journal after marks limit below two is = grind (arith, length-entered)
 
   -- one mark more
   pub entered-more : (journal now after : List (Entry C R)) (marks : List Mark) (i : ℕ) (d : Mark)
@@ -33,22 +20,20 @@ module _ {C R : Type 0} where
         no = number;
         by = operator;
         what = what.Lost (get_or marks i d).cf;
-        reply = reply.Shell told;
+        reply = Reply.Shell told;
       } ∷ [] → after ≡ entered journal (take (i + 1) marks)
   entered-more journal now after marks i d number told below was number_is told_is more =
       let mark : Mark = get_or marks i d in
-      more
-      ∙ ap (λ (n : ℕ). (let entry : Entry C R = record {
+      more ∙ ap (λ (n : ℕ). (let entry : Entry C R = record {
         no = n;
         by = operator;
         what = what.Lost mark.cf;
-        reply = reply.Shell told;
-      } in now ++ entry ∷ [])) number_is
-      ∙ ap (λ (r : ShellReply). (let entry : Entry C R = record {
+        reply = Reply.Shell told;
+      } in now ++ entry ∷ [])) number_is ∙ ap (λ (r : ShellReply). (let entry : Entry C R = record {
         no = length now + 1;
         by = operator;
         what = what.Lost mark.cf;
-        reply = reply.Shell r;
+        reply = Reply.Shell r;
       } in now ++ entry ∷ [])) told_is ∙ ap (λ (h : List (Entry C R)). with_entry h mark) was ∙ sym (fold_push
       with_entry journal (take i marks) mark) ∙ ap (entered journal) (sym (take_more marks i d below))
 
@@ -62,8 +47,7 @@ module _ {C R I S : Type 0} (meaning : Meaning C R I S) (form : StrForm) where
   entered-told journal (cf ∷ cfs) (mark ∷ marks) told = grind (
     arith,
     replay-push,
-    entered-told (with_mark meaning form journal cf) cfs marks (
-        grind (arith, replay-push)),
+    entered-told (with_mark meaning form journal cf) cfs marks (grind (arith, replay-push)),
   )
 
   -- as many as there are losses
@@ -102,12 +86,6 @@ module _ {C R I S L : Type 0} (asks : L → Option ℕ) (downs : L → Option (L
       meaning (record { form = form; machine = machine; links = old.links }) new by ask marks reply
   turn_at form machine old new by ask marks reply form_is machine_is it = grind arith
 
-  pub taken : (form : StrForm) (journal : List (Entry C R)) (links : Links L) (new : StructureView S L)
-      (by : ConnId) (ask : Ask C) (marks : List Mark) (reply : Reply R) → (it : IsTurn asks downs faults
-      meaning (record { form = form; machine = replay meaning form journal; links = links }) new by ask marks reply)
-      → IsTaken meaning form journal (record { by = by; ask = ask; down = it.down }) new.machine marks reply
-  taken form journal links new by ask marks reply it = grind (arith, replay-marks, entered-told, replay-push)
-
   -- the links of a cell, asked since the start as its journal's answers say
   pub links_more : (form : StrForm) (journal : List (Entry C R)) (turn : Turn C) (start before after : Links L)
       → IsLegal meaning form journal → AreAsked asks downs faults (answers meaning form journal) start before
@@ -122,8 +100,7 @@ module _ {C R I S L : Type 0} (asks : L → Option ℕ) (downs : L → Option (L
       (λ cf. answers-turn meaning form journal turn cf (legal_group meaning form journal legal)) in
       record {
         asked = grind (arith, asked-append);
-        others = λ cf other.
-            more cf ∙ ap (λ (some : List Bool). some ++ told cf) (since.others cf other) ∙ asked.others cf other;
+        others = grind arith;
       }
 
   pub links_none : (form : StrForm) (links : Links L)
@@ -142,17 +119,14 @@ made_push limit last [] number made below = (below, tt)
 made_push limit last (first ∷ some) number made below = (made.0, made_push limit first some number made.1 below)
 
 module _ {C R I S : Type 0} (meaning : Meaning C R I S) (form : StrForm) where
-  numbers-turn : (history : List (Entry C R)) (turn : Turn C)
-      → numbers (after_turn meaning form history turn) ≡ numbers history ++ number_added meaning form history turn ∷ []
-  numbers-turn history turn = grind (arith, calls-turn, map-append, call_added)
-
   -- a legal history ends with a call
   ends_at : (history : List (Entry C R)) → IsLegal meaning form history → last_of 0 (numbers history) ≡ length history
   ends_at history legal = by_turns meaning form (λ (h : List (Entry C R)). last_of 0 (numbers h) ≡ length h)
-      refl (grind (arith, numbers-turn, fold_push, number_added, length-turn)) history legal
+      refl (grind (arith, calls-turn, map-append, call_added, fold_push, number_added, length-turn)) history legal
 
   -- one more turn, where there was room
   pub room_more : (limit : ℕ) (history : List (Entry C R)) (turn : Turn C) → IsLegal meaning form history
       → AreMadeBelow limit 0 (numbers history) → length history < limit
       → AreMadeBelow limit 0 (numbers (after_turn meaning form history turn))
-  room_more limit history turn legal made below = grind (arith, numbers-turn, made_push, number_added, ends_at)
+  room_more limit history turn legal made below =
+      grind (arith, calls-turn, map-append, call_added, made_push, number_added, ends_at)

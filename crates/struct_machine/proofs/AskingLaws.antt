@@ -1,5 +1,5 @@
 -- The links that a call asks, one after another.
-use Rattle.struct_machine.proofs.Imports.{arith, ◌≡◌, ℕ, ◌==◌, Bool, true, false, ◌&&◌, ◌||◌, List, [], ◌∷◌, ◌++◌, ◌≢◌, refl, sym, ◌∙◌, Option, None, Some, IfSome, All, filter, is_some, if◌then◌else◌, All-from_recursion, filter-append, Links, AreAsked, link_at, asked-append, CfId, IsFacility, Asks, AreDistinct, apart, has, reached, marks_of, answers_to, listed, filter_agreed, has_other, same_cf, itself, both_ways, eq-eqb, IsAsked, Asked, unless_same, asks_in}
+use Rattle.struct_machine.proofs.Imports.{arith, ◌≡◌, ℕ, Bool, true, false, ◌&&◌, ◌||◌, List, [], ◌∷◌, ◌++◌, ◌≢◌, refl, Option, None, Some, IfSome, All, filter, is_some, if◌then◌else◌, All-from_recursion, filter-append, Links, AreAsked, link_at, asked-append, CfId, IsFacility, Asks, AreDistinct, apart, has, reached, marks_of, answers_to, listed, filter_agreed, has_other, same_cf, itself, both_ways, eq-eqb, IsAsked, Asked, unless_same, asks_in}
 
 -- ---- two places
 
@@ -14,19 +14,13 @@ distinct_parts : (xs ys : List CfId) (cf : CfId) → AreDistinct (xs ++ ys) → 
 distinct_parts [] ys cf distinct there = absurd cc
 distinct_parts (x ∷ xs) ys cf distinct there = grind (arith, has-append, same_cf, distinct_parts xs ys cf distinct.1)
 
-or_false : (b : Bool) → b || false ≡ b
-or_false true = refl
-or_false false = refl
-
 reached_last : (stops : Bool) (d : CfId → Bool) (at : Option CfId) → reached stops d (listed at) ≡ listed at
-reached_last stops d None = refl
-reached_last stops d (Some x) = grind arith
+reached_last stops d at = grind arith
 
 -- both are asked, unless the first ends that
 reached_both : (stops : Bool) (d : CfId → Bool) (first second : Option CfId) → ((cf : CfId) → has (listed first) cf
     ≡ true → stops && d cf ≡ false) → reached stops d (listed first ++ listed second) ≡ listed first ++ listed second
-reached_both stops d None second goes = reached_last stops d second
-reached_both stops d (Some x) second goes = grind (arith, itself, reached_last)
+reached_both stops d first second goes = grind (arith, reached_last, itself)
 
 -- a place whose link isn't asked isn't told to be down
 not_told : (at lost : Option CfId) (cf : CfId) → listed lost ≡ marks_of (has (listed lost)) (alone at)
@@ -35,9 +29,7 @@ not_told at lost cf here none = grind (arith, has_other, reached_last)
 
 goes_on : (stops : Bool) (lost other : Option CfId) (cf : CfId) → stops && is_some lost ≡ false
     → has (listed other) cf ≡ false → stops && has (listed lost ++ listed other) cf ≡ false
-goes_on false lost other cf goes none = refl
-goes_on true None other cf goes none = none
-goes_on true (Some x) other cf goes none = absurd cc
+goes_on stops lost other cf goes none = grind arith
 
 -- where the first doesn't end it, the answers are those of the two
 answers_both : (first second lost other : Option CfId) (stops : Bool) (cf : CfId)
@@ -46,7 +38,7 @@ answers_both : (first second lost other : Option CfId) (stops : Bool) (cf : CfId
     → answers_to (has (listed lost ++ listed other)) (record { links = listed first ++ listed second; stops = stops })
     cf ≡ answers_to (has (listed lost)) (alone first) cf ++ answers_to (has (listed other)) (alone second) cf
 answers_both first second lost other stops cf distinct here there goes =
-    grind (arith, reached_both, goes_on, not_told, distinct_parts, reached_last, has-append, or_false)
+    grind (arith, reached_both, goes_on, not_told, distinct_parts, reached_last, has-append)
 
 module _ {L : Type 0} (calls : L → Option ℕ) (downs : L → Option (List ℕ)) (faults : L → ℕ) where
   -- the two places, one after the other
@@ -64,7 +56,7 @@ module _ {L : Type 0} (calls : L → Option ℕ) (downs : L → Option (List ℕ
 filtered : (at lost : Option CfId) (others : List CfId) → listed lost ≡ marks_of (has (listed lost)) (alone at)
     → ((cf : CfId) → has (listed at) cf ≡ true → has others cf ≡ false)
     → filter (has (listed lost ++ others)) (listed at) ≡ listed lost
-filtered at lost others here apart_so = grind (arith, filter_agreed, has-append, or_false, reached_last)
+filtered at lost others here apart_so = grind (arith, filter_agreed, has-append, reached_last)
 
 filtered_behind : (at other : Option CfId) (others : List CfId) → listed other ≡ marks_of
     (has (listed other)) (alone at) → ((cf : CfId) → has (listed at) cf ≡ true → has others cf ≡ false)
@@ -98,34 +90,24 @@ if_down cf down = if down then Some cf else None
 
 pub marks_single : (cf : CfId) (down : Bool)
     → listed (if_down cf down) ≡ marks_of (has (listed (if_down cf down))) (alone (Some cf))
-marks_single cf true = sym (rw (itself cf) refl)
-marks_single cf false = refl
+marks_single cf down = grind (arith, itself)
 
 pub told_single : (cf : CfId) (down : Bool) → has (listed (if_down cf down)) cf ≡ down
-told_single cf true = rw (itself cf) refl
-told_single cf false = refl
+told_single cf down = grind (arith, itself)
 
 module _ {L : Type 0} (calls : L → Option ℕ) (downs : L → Option (List ℕ)) (faults : L → ℕ) where
-  answer_at : (down : CfId → Bool) (cf other : CfId) (b : Bool) → cf.0 == other.0 ≡ b
-      → answers_to down (alone (Some cf)) other ≡ (if b then down other ∷ [] else [])
-  answer_at down cf other true same = rw same refl
-  answer_at down cf other false same = rw same refl
-
   -- it was asked, and no other
   pub asked_place : (cf : CfId) (lost : Option CfId) (down : Bool) (old new : Links L) → IsFacility cf
       → has (listed lost) cf ≡ down → IsAsked calls downs faults down (link_at old cf) (link_at new cf)
       → ((other : CfId) → IsFacility other → other.0 ≢ cf.0 → link_at new other ≡ link_at old other)
       → AreAsked calls downs faults (answers_to (has (listed lost)) (alone (Some cf))) old new
-  asked_place cf lost down old new is told asked others = grind (arith, same_cf, answer_at, both_ways, eq-eqb)
+  asked_place cf lost down old new is told asked others = grind (arith, same_cf, both_ways, eq-eqb)
 
 -- ---- each once
 
 pub apart_both : (first second : Option CfId)
     → listed first ++ listed (unless_same first second) ≡ apart (listed first ++ listed second)
-apart_both None None = refl
-apart_both None (Some two) = refl
-apart_both (Some one) None = refl
-apart_both (Some one) (Some two) = grind arith
+apart_both first second = grind arith
 
 pub places_both : (first second : Option CfId) → IfSome first IsFacility → IfSome second IsFacility
     → All IsFacility (listed first ++ listed (unless_same first second))

@@ -1,6 +1,5 @@
 -- Which bits stand as before.
-use Rattle.struct_machine.proofs.Imports.{arith, ◌≡◌, ℕ, Bool, true, false, List, [], ◌∷◌, All, Option, None, Some, is_some, filter, refl, sym, ap, ◌∙◌, ◌||◌, ◌&&◌, recursion_from_All, AllByRecursion, BitChange, StrForm, ConnId, Refusal, gains_none, Bits, Gains, is_for, bits_told, difference, Ask, Machine, room_of, call_cause, bits_of, Meaning, Held, state_in, ChangeList, IsUntouched, Names, any_failure, may_be_any, Mark}
-use Rattle.engine_api.specs.declared.asks.Ask.TheVariants as ask
+use Rattle.struct_machine.proofs.Imports.{arith, ◌≡◌, ℕ, Bool, true, false, List, [], ◌∷◌, All, Option, Some, is_some, filter, refl, recursion_from_All, AllByRecursion, BitChange, StrForm, ConnId, Refusal, gains_none, Bits, Gains, is_for, bits_told, Ask, Machine, room_of, call_cause, bits_of, Meaning, Held, state_in, ChangeList, IsUntouched, Names, may_be_any, Mark}
 
 -- ---- what is told covers what changed
 
@@ -13,16 +12,10 @@ told_unnamed : (changes : List BitChange) (conn : ConnId) (index : ℕ)
     → All (λ change. is_for conn index change ≡ false) changes → bits_told changes conn index ≡ []
 told_unnamed changes conn index unnamed = grind (arith, filter_none, recursion_from_All)
 
-difference_same : (a b : Bool) → difference a b ≡ [] → b ≡ a
-difference_same false false none = refl
-difference_same false true none = absurd cc
-difference_same true false none = absurd cc
-difference_same true true none = refl
-
 -- a bit that is none of those that may have changed stands as before
 pub untouched_same : (before after : Bits) (changed : ChangeList) → Names changed before after
     → (conn : ConnId) (index : ℕ) → IsUntouched changed conn index → after conn index ≡ before conn index
-untouched_same before after changed names conn index untouched = grind (arith, told_unnamed, difference_same)
+untouched_same before after changed names conn index untouched = grind (arith, told_unnamed)
 
 -- where nothing changed, nothing is named
 pub names_nothing : {S : Type 0} (bits_in : S → Bits) (was now : S) (changed : ChangeList) → changed.bits ≡ []
@@ -34,9 +27,7 @@ pub gains_held : {C R I S : Type 0} (meaning : Meaning C R I S) (form : StrForm)
     (bits : List BitChange) → is_some was ≡ true → is_some now ≡ true
     → Gains (bits_of meaning was) (bits_of meaning now) [] bits
     → Gains (meaning.stands (state_in meaning form was)) (meaning.stands (state_in meaning form now)) [] bits
-gains_held meaning form None now bits stands left gains = absurd (cc)
-gains_held meaning form (Some was) None bits stands left gains = absurd (cc)
-gains_held meaning form (Some was) (Some now) bits stands left gains = gains
+gains_held meaning form was now bits stands left gains = grind arith
 
 -- ---- when any bit may have changed
 
@@ -45,5 +36,4 @@ module _ {C R I S : Type 0} (meaning : Meaning C R I S) (form : StrForm) (machin
   -- a call that is refused
   pub refused_all : (call : Ask C) (refusal : Refusal) → call_cause form (room_of meaning form machine) machine.shell
       by call ≡ Some refusal → marks ≡ [] → all ≡ false → all ≡ may_be_any meaning form machine by call marks
-  refused_all (ask.Shell command) refusal is unmarked quiet = grind arith
-  refused_all (ask.Content command) refusal is unmarked quiet = quiet ∙ sym (ap any_failure unmarked)
+  refused_all call refusal is unmarked quiet = grind arith

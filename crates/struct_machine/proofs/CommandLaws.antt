@@ -1,13 +1,9 @@
 -- A command that isn't refused, done to a shell and to instances of one form.
-use Rattle.struct_machine.proofs.Imports.{arith, ◌≡◌, ◌+◌, ◌⊎◌, inl, inr, Bool, true, false, ◌≢◌, [], List, Option, None, Some, IfSome, refl, sym, ap, ◌∙◌, subst, subst₂, ◌||◌, if◌then◌else◌, is_some, both_ways, false_from_ne_true, Caps, StrForm, CfId, ConnId, Refusal, ShellCmd, Deeds, Machine, content_after, copied_after, moved_by, room_of, departure_from, command_done, unless, with_entered, entered_machine, CallOutcome, Meaning, Held, Departure, items_of as held_items, Fits, Instances, MayCommand, Shape, IsCaller, IsFacility, fresh_of, shape_of, Shell, ShellOutcome, Leaver, shell_cause, leaver, with_posted, caps_made, entered, ShellView, Fresh, Kept, AreFitting, caps_behind, fresh_behind, fresh_caps, IsFilled, IsFilling, IsManned, capacities-command, fitting-command, filled-step, departure_empties, forced_empties, manned-step, done, Spares, AreSpares, AreAdmitted, MayMake, MayAdd, MayDrop, fresh_left, fresh_before, kept_past, places_past, makes_second, held_past, HasNone, AreOf, IsOf, machine_of, state_in, left_in, copied_in, caps_of, ChangeList, may_change_bits}
-use Rattle.cf_types.specs.declared.shell_commands.ShellCmd.TheVariants as cmd
-use Rattle.engine_api.specs.declared.asks.Ask.TheVariants as ask
-use Rattle.engine_api.specs.declared.asks.Reply.TheVariants as reply
-use Rattle.struct_machine.proofs.ToldLaws.{manned-told, filled-told}
-use Rattle.struct_machine.proofs.DeedLaws.{IsEmptyOf, AreIdle, back_caller, caps_past, copied_past, of_past, state_past}
+use Rattle.struct_machine.proofs.Imports.{arith, ◌≡◌, ◌+◌, ◌⊎◌, inl, Bool, true, false, Option, None, Some, IfSome, refl, sym, ap, ◌∙◌, subst, subst₂, is_some, both_ways, false_from_ne_true, Caps, StrForm, CfId, ConnId, Refusal, ShellCmd, Machine, content_after, copied_after, moved_by, room_of, departure_from, command_done, unless, with_entered, entered_machine, CallOutcome, Meaning, Held, Departure, Instances, MayCommand, IsCaller, IsFacility, fresh_of, shape_of, Shell, ShellOutcome, shell_cause, leaver, caps_made, entered, ShellView, Fresh, Kept, AreFitting, caps_behind, fresh_behind, fresh_caps, IsFilled, IsFilling, IsManned, capacities-command, fitting-command, filled-step, departure_empties, forced_empties, manned-step, done, Spares, AreSpares, AreAdmitted, MayMake, MayAdd, fresh_before, kept_past, places_past, makes_second, held_past, HasNone, AreOf, IsOf, machine_of, state_in, left_in, copied_in, caps_of, Ask, Reply}
+use Rattle.struct_machine.proofs.DeedLaws.{state_past, IsEmptyOf, AreIdle, back_caller, caps_past, copied_past, of_past}
 use Rattle.struct_machine.proofs.InstanceLaws.{IsPlacing, IsSeconding, IsDropping, placing_command, facility_behind}
-use Rattle.struct_machine.proofs.KeptLaws.{caps_none, fresh_none, fresh_stands, fresh_under, held_stands, rebuild_held, room_left}
-use Rattle.struct_machine.proofs.BeforeLaws.{IsSudden, MakesOrSwitches, adds_quietly, before_caps, copied_more, left_copied, making, none_under, nothing_lacks, same_empty, same_more, seconding, sudden, switched_caps}
+use Rattle.struct_machine.proofs.KeptLaws.{manned-told, filled-told, caps_none, fresh_none, fresh_stands, fresh_under, held_stands, rebuild_held, room_left}
+use Rattle.struct_machine.proofs.BeforeLaws.{IsSudden, MakesOrSwitches, adds_quietly, copied_more, making, none_under, nothing_lacks, same_more, seconding}
 
 -- ---- a command that isn't refused
 
@@ -37,14 +33,14 @@ module _ {C R I S : Type 0} (meaning : Meaning C R I S) (form : StrForm) (shelle
 
   -- none stands before a command's deeds where none stood
   none_before : kept.fresh ≡ None → before ≡ None
-  none_before none = grind (arith, caps_none, before_caps)
+  none_before none = grind (arith, caps_none)
 
   caps_before : caps_of before ≡ fresh_caps shelled.shell.rebuild
-  caps_before = before_caps meaning shelled.shell by command kept.held kept.fresh ∙ of.fresh
+  caps_before = grind arith
 
   -- one that makes an instance, or puts one in the primary's place
   sudden_one : MakesOrSwitches acted.deeds → IsSudden meaning shelled.shell by command
-  sudden_one either = grind (arith, sudden)
+  sudden_one either = grind arith
 
   state_kept : MakesOrSwitches acted.deeds → gone.state ≡ machine.content
   state_kept either = rw ((sudden_one either).nobody) refl
@@ -56,17 +52,14 @@ module _ {C R I S : Type 0} (meaning : Meaning C R I S) (form : StrForm) (shelle
   under_switch does = fresh_under meaning form shelled kept of (fitting.stands does)
 
   whole_again : (held : Option (Held S)) → left_in (state_in meaning form held) held ≡ held
-  whole_again None = refl
-  whole_again (Some held) = refl
+  whole_again held = grind arith
 
   left_some : (state : S) (held : Option (Held S)) → is_some (left_in state held) ≡ is_some held
-  left_some state None = refl
-  left_some state (Some held) = refl
+  left_some state held = grind arith
 
   left_of : (state : S) (caps : Caps) (held : Option (Held S)) → IsOf meaning form caps held
       → IsOf meaning form caps (left_in state held)
-  left_of state caps None of = of
-  left_of state caps (Some held) of = of
+  left_of state caps held of = grind arith
 
   -- the items in the new instance are those that the machine counts
   copied_behind_it : copied_after acted.deeds (copied_in before)
@@ -79,21 +72,12 @@ module _ {C R I S : Type 0} (meaning : Meaning C R I S) (form : StrForm) (shelle
           (fresh_before meaning shelled.shell by command kept.held kept.fresh)) ≡ copied_after (done meaning
           form machine by command).deeds (copied_in kept.fresh + moved_by (room_of meaning form machine) command)
 
-      parted : (who : Leaver) (deeds : Deeds) → (IsFilling shelled.shell.rebuild
-          → (deeds.restart || (deeds.switch || (deeds.drop_fresh || deeds.drop_all))) ≡ true)
-          → (copied_in kept.fresh ≡ 0) ⊎ IsFilling shelled.shell.rebuild → copied_after deeds
-          (copied_in (fresh_left shelled.shell (Some who) kept.fresh)) ≡ copied_after deeds (copied_in kept.fresh + 0)
-      parted who deeds empties (inl none) = left_copied shelled.shell (Some who) kept.fresh deeds (inl none)
-      parted who deeds empties (inr filling) =
-          left_copied shelled.shell (Some who) kept.fresh deeds (inr (empties filling))
-
       go : (command : ShellCmd) → Goes command
-      go cmd.Disconnect filling = grind (arith, parted, done, departure_empties)
-      go cmd.Fail filling = grind (arith, parted, done, departure_empties)
-      go (cmd.Copy n) filling = grind (arith, copied_more, nothing_lacks, room_left)
-      go (cmd.ForceConn other) filling = grind (arith, parted, done, forced_empties)
-      go command filling =
-          ap (copied_after (done meaning form machine by command).deeds) (same_more (copied_in kept.fresh))
+      go ShellCmd.Disconnect filling = grind (arith, done, departure_empties)
+      go ShellCmd.Fail filling = grind (arith, done, departure_empties)
+      go (ShellCmd.Copy n) filling = grind (arith, copied_more, nothing_lacks, room_left)
+      go (ShellCmd.ForceConn other) filling = grind (arith, done, forced_empties)
+      go command filling = grind (arith, done, same_more)
 
   -- ---- the laws of rebuilds stay
 
@@ -101,13 +85,13 @@ module _ {C R I S : Type 0} (meaning : Meaning C R I S) (form : StrForm) (shelle
   manned_behind = manned-told acted.shell.mail
       acted.shell.lost (entered acted.shell) (subst (λ (cause : Option Refusal). IsManned (with_entered
       (unless meaning form cause machine (command_done meaning form machine by command))).machine.shell)
-      accepted (manned-step meaning form machine by (ask.Shell command) of.manned))
+      accepted (manned-step meaning form machine by (Ask.Shell command) of.manned))
 
   pub filled_behind : IsFilled meaning form (command_done meaning form machine by command).machine
   filled_behind = filled-told meaning form acted.shell.mail acted.shell.lost (entered_machine
       (command_done meaning form machine by command).machine) (subst (λ (cause : Option Refusal). IsFilled meaning
       form (with_entered (unless meaning form cause machine (command_done meaning form machine by command))).machine)
-      accepted (filled-step meaning form machine by (ask.Shell command) of.manned of.filled))
+      accepted (filled-step meaning form machine by (Ask.Shell command) of.manned of.filled))
 
   -- what came before the command, and the engines that were made for it
   pub record IsLeft (spares : Spares S) (left : Kept S) : Type 0 where
@@ -130,7 +114,7 @@ module _ {C R I S : Type 0} (meaning : Meaning C R I S) (form : StrForm) (shelle
     of_left = grind (arith, left_of)
 
     empty_made : is_some acted.deeds.make ≡ true → IsEmptyOf meaning form (caps_made shelled.shell) spares.empty
-    empty_made some = grind (arith, same_empty, making)
+    empty_made some = grind (arith, making)
 
     may_make : (cf : CfId) → acted.deeds.make ≡ Some cf → MayMake meaning form rebuilding left spares.empty cf
     may_make cf makes = record {
@@ -141,7 +125,7 @@ module _ {C R I S : Type 0} (meaning : Meaning C R I S) (form : StrForm) (shelle
       bare = λ outside. ap (λ (at : Instances). at.primary) at_is ∙ placing.bare some outside;
       stands = λ under. stands_left ∙ rebuild_held meaning form shelled kept of under;
       shape = λ under. shape_so left.held of_left;
-      room = λ under. rw (same_held (state_kept (inl some)), made) (room_so under kept.held refl of.held);
+      room = λ under. rw (same_held (state_kept (inl some)), made) (grind (arith, some));
     }
       where
         some : is_some acted.deeds.make ≡ true
@@ -155,15 +139,6 @@ module _ {C R I S : Type 0} (meaning : Meaning C R I S) (form : StrForm) (shelle
         shape_so None of = tt
         shape_so (Some held) of = of.0
 
-        room_so : rebuilding ≡ true
-            → (held : Option (Held S)) → kept.held ≡ held → IsOf meaning form shelled.shell.caps held → IfSome
-            held (λ (h : Held S). Fits form.kind (meaning.need (held_items meaning h)) (caps_made shelled.shell))
-        room_so under None there of = tt
-        room_so under (Some held) there of =
-            subst (λ (items : List I). Fits form.kind (meaning.need items) (caps_made shelled.shell))
-            (ap (λ (o : Option (Held S)). meaning.items (shape_of form) (state_in meaning form o)) there
-            ∙ ap (λ (shape : Shape). meaning.items shape held.state) (sym of.0)) (fitting.room some under)
-
     -- the deeds may be done to the instances as they stand before them
     pub admitted : MayCommand by command
         → AreAdmitted meaning form rebuilding acted.deeds (fresh_of shelled.shell.rebuild) spares left
@@ -171,7 +146,7 @@ module _ {C R I S : Type 0} (meaning : Meaning C R I S) (form : StrForm) (shelle
       back = by_back acted.deeds.back refl;
       make = by_make acted.deeds.make refl;
       second = by_second acted.deeds.second refl;
-      dropped = by_drop acted.deeds.drop_at refl;
+      dropped = grind (arith, IsDropping, at_is);
       switch = λ yes. (
         record {
           stands = grind (arith, fresh_kept, fresh_stands);
@@ -189,8 +164,7 @@ module _ {C R I S : Type 0} (meaning : Meaning C R I S) (form : StrForm) (shelle
     }
       where
         callers : IfSome acted.deeds.back IsCaller
-        callers =
-            back_caller form (room_of meaning form machine) (with_posted gone.letters shelled.shell) by command may
+        callers = grind (arith, back_caller)
 
         by_back : (back : Option ConnId) → acted.deeds.back ≡ back
             → IfSome back (λ conn. IsCaller conn × (left.fresh ≡ None) × (rebuilding ≡ false))
@@ -210,17 +184,8 @@ module _ {C R I S : Type 0} (meaning : Meaning C R I S) (form : StrForm) (shelle
             (IsSeconding shelled.shell.instances acted.deeds)) adds placing.second in
             let command_adds : makes_second command ≡ true = grind (arith, seconding) in
             let copied : spares.second ≡ kept.held = is.spared.second command_adds in
-            let quiet : gone.state ≡ machine.content =
-            rw (adds_quietly shelled.shell by command command_adds) refl in (
+            let quiet : gone.state ≡ machine.content = grind (arith, adds_quietly) in (
             grind (arith, stands_left, held_stands, at_is, same_held))
-
-        by_drop : (drop : Option CfId) → acted.deeds.drop_at ≡ drop → IfSome drop
-            (λ cf. MayDrop left cf × HasNone acted.deeds.back × HasNone acted.deeds.make × HasNone acted.deeds.second)
-        by_drop None drops = tt
-        by_drop (Some cf) drops =
-            let d : IsDropping shelled.shell.instances acted.deeds cf =
-            subst (λ (o : Option CfId). IfSome o (IsDropping shelled.shell.instances acted.deeds)) drops placing.dropped
-            in grind (arith, at_is)
 
     -- ---- what the deeds leave
 
@@ -250,7 +215,7 @@ module _ {C R I S : Type 0} (meaning : Meaning C R I S) (form : StrForm) (shelle
 
     -- so the call's outcome is the machine's
     pub command_same : (after : ShellOutcome) (now : Kept S) → after ≡ acted → now ≡ past → record {
-      reply = reply.Shell after.reply;
+      reply = Reply.Shell after.reply;
       machine = record {
         shell = after.shell;
         content = state_in meaning form now.held;
@@ -279,7 +244,7 @@ module _ {C R I S : Type 0} (meaning : Meaning C R I S) (form : StrForm) (shelle
       held = subst₂ (IsOf meaning form)
           (sym capacities.0 ∙ sym (ap (λ (s : Shell). s.caps) there)) (ap (λ (k : Kept S). k.held) (sym does))
           (of_past meaning form (caps_made shelled.shell) spares.empty acted.deeds shelled.shell left.fresh left.held
-          of_left refl empty_made fitting.unmade (grind (arith, switched_caps, caps_left, fresh_kept, fresh_stands)));
+          of_left refl empty_made fitting.unmade (grind (arith, caps_left, fresh_kept, fresh_stands)));
       fresh = ap (λ (k : Kept S). caps_of k.fresh) does ∙ caps_past meaning form (caps_made shelled.shell)
           spares.empty acted.deeds shelled.shell left.fresh caps_left refl empty_made ∙ sym capacities.1
           ∙ sym (ap (λ (s : Shell). fresh_caps s.rebuild) there);
@@ -304,10 +269,3 @@ module _ {C R I S : Type 0} (meaning : Meaning C R I S) (form : StrForm) (shelle
         → after ≡ acted → under ≡ rebuilding → fresh ≡ fresh_of shelled.shell.rebuild
         → AreAdmitted meaning form under after.deeds fresh spares left
     admitted_then may after under fresh acts of_rebuild of_fresh = grind (arith, admitted)
-
-    -- whether any bit may have changed
-    pub all_then : (after : ShellOutcome) → after ≡ acted → (under : Bool) → under ≡ rebuilding
-        → (named changed : ChangeList) → changed ≡ record named { all = may_change_bits under after.deeds }
-        → changed.all ≡ may_change_bits rebuilding acted.deeds
-    all_then after acts under of_rebuild named changed noted =
-        ap (λ (list : ChangeList). list.all) noted ∙ (λ i. may_change_bits (of_rebuild i) (acts i).deeds)

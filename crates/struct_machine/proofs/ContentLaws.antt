@@ -1,29 +1,13 @@
 -- What becomes of a pair that loses one of two, and of a content that somebody leaves.
-use Rattle.struct_machine.proofs.Imports.{arith, ◌≡◌, Bool, true, false, ◌||◌, [], Option, None, Some, option_map, refl, sym, subst₂, IsTrue, is_some, if◌then◌else◌, Caps, Kind, CfId, ConnId, PairView, elsewhere, facility_of, first_left, instances_of, second_left, without_at, Placed, Shape, Instances, is_at, IsNoMoreOf, Meaning, Held, with_departure, FillingView, copy_left, AreStanding, IsHeldAt, begun_anew, at_left}
+use Rattle.struct_machine.proofs.Imports.{arith, ◌≡◌, Bool, true, false, ◌||◌, [], Option, None, Some, option_map, refl, subst₂, IsTrue, is_some, Caps, Kind, CfId, ConnId, PairView, instances_of, without_at, Shape, is_at, IsNoMoreOf, Meaning, Held, with_departure, FillingView, copy_left, AreStanding, IsHeldAt, begun_anew, at_left}
 
 -- the other is left, and is the primary
-module _ {E : Type 0} (cf : CfId) where
-  abbrev left_at : Option (Placed E) → Option (Placed E) → Instances
-  left_at one other = record {
-    primary = facility_of (first_left (elsewhere (Some cf) one) (elsewhere (Some cf) other));
-    secondary = facility_of (second_left (elsewhere (Some cf) one) (elsewhere (Some cf) other));
-  }
-
-  left_so : (one other : Option (Placed E)) → (is_at cf (facility_of one) || is_at cf (facility_of other)) ≡ true
-      → is_some (facility_of one) ≡ true → is_some (facility_of other) ≡ true
-      → (is_at cf (facility_of one) ≡ true → is_at cf (facility_of other) ≡ false)
-      → (left_at one other ≡ at_left cf (record { primary = facility_of one; secondary = facility_of other }))
-      × (is_some (first_left (elsewhere (Some cf) one) (elsewhere (Some cf) other)) ≡ true)
-  left_so None other there stands two apart = absurd (cc)
-  left_so (Some p) None there stands two apart = absurd (cc)
-  left_so (Some p) (Some q) there stands two apart = grind arith
-
 pub left_places : {E L : Type 0} (cf : CfId) (pair : PairView E L)
     → (is_at cf (instances_of pair).primary || is_at cf (instances_of pair).secondary) ≡ true
     → is_some (instances_of pair).primary ≡ true → is_some (instances_of pair).secondary ≡ true
     → (is_at cf (instances_of pair).primary ≡ true → is_at cf (instances_of pair).secondary ≡ false) → (instances_of
     (without_at cf pair) ≡ at_left cf (instances_of pair)) × (is_some (without_at cf pair).primary ≡ true)
-left_places cf pair there stands two apart = left_so cf pair.primary pair.secondary there stands two apart
+left_places cf pair there stands two apart = grind arith
 
 -- ---- a departure
 
@@ -42,8 +26,7 @@ module _ {C R I S : Type 0} (meaning : Meaning C R I S) (is_kind : Kind → Bool
       (conn : ConnId) (keep : Bool) → now ≡ option_map (λ (held : Held S). with_departure meaning held conn keep) was
       → after ≡ option_map begun_anew filling → AreStanding meaning is_kind IsContent IsOrder was filling
       → AreStanding meaning is_kind IsContent IsOrder now after
-  left_standing laws was now filling after conn keep same anew standing =
-      subst₂ (AreStanding meaning is_kind IsContent IsOrder) (sym same) (sym anew) (go was filling standing)
+  left_standing laws was now filling after conn keep same anew standing = grind (arith, subst₂, go)
     where
       held_left : (held : Held S) → IsHeldAt meaning is_kind IsContent IsOrder held
           → IsHeldAt meaning is_kind IsContent IsOrder (with_departure meaning held conn keep)

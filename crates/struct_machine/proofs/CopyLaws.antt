@@ -1,63 +1,40 @@
 -- COPY behind the marks that its links make.
-use Rattle.struct_machine.proofs.Imports.{arith, ◌≡◌, ℕ, ◌+◌, ◌-◌, ◌⊎◌, inl, inr, true, List, [], ◌∷◌, ◌++◌, Option, None, Some, IfSome, is_some, refl, sym, ap, ◌∙◌, subst, if◌then◌else◌, min, StrForm, CfId, ConnId, Refusal, ShellReply, Lost, Reply, Room, listed, Machine, CallOutcome, command_done, copied_after, moved_by, room_of, unless, Meaning, first_refusal, fresh_of, Shell, ShellOutcome, failed_outcome, mark_outcome, shell_cause, shell_done, stopped_outcome, unless_rebuilding, itself, ShellView, Rebuild, IsManned, fourth_none, with_copied, Kept, lacking_in, AreOf, copy_reply, judged, machine_of, AreTold, behind_marks, lost_at, marks_in, Mark}
-use Rattle.cf_types.specs.declared.refusals.Refusal.TheVariants as refusal
-use Rattle.cf_types.specs.declared.shell_commands.ShellCmd.TheVariants as cmd
-use Rattle.cf_types.specs.declared.shell_commands.ShellReply.TheVariants as shown
-use Rattle.engine_api.specs.declared.asks.Ask.TheVariants as ask
-use Rattle.engine_api.specs.declared.asks.Reply.TheVariants as reply
-use Rattle.struct_machine.proofs.BeforeLaws.{copied_caps, copied_more, nothing_lacks}
-use Rattle.struct_machine.proofs.CommandLaws.{filled_behind}
+use Rattle.struct_machine.proofs.Imports.{arith, ◌≡◌, ℕ, ◌+◌, ◌⊎◌, true, List, ◌++◌, Option, None, Some, IfSome, is_some, ap, ◌∙◌, subst, if◌then◌else◌, min, StrForm, CfId, ConnId, Refusal, ShellReply, Lost, Reply, Room, listed, Machine, CallOutcome, command_done, copied_after, moved_by, room_of, unless, Meaning, fresh_of, Shell, ShellOutcome, failed_outcome, mark_outcome, shell_cause, shell_done, stopped_outcome, itself, ShellView, Rebuild, IsManned, fourth_none, with_copied, Kept, lacking_in, AreOf, copy_reply, judged, machine_of, AreTold, behind_marks, lost_at, marks_in, Mark, ShellCmd, Ask}
+use Rattle.struct_machine.proofs.BeforeLaws.{copied_more, nothing_lacks}
 use Rattle.struct_machine.proofs.KeptLaws.{room_left}
 
--- a refusal among causes
-first_some : (front : List (Option Refusal)) (why : Refusal) (rest : List (Option Refusal))
-    → is_some (first_refusal (front ++ Some why ∷ rest)) ≡ true
-first_some [] why rest = refl
-first_some (None ∷ front) why rest = first_some front why rest
-first_some (Some cause ∷ front) why rest = refl
-
-under_way : (rebuild : Option Rebuild) → unless_rebuilding rebuild ≡ None → (r : Rebuild) × (rebuild ≡ Some r)
-under_way None fine = absurd (cc)
-under_way (Some r) fine = (r, refl)
-
 no_other : (second : Option CfId) → (is_some second ≡ true → ⊥) → second ≡ None
-no_other None none = refl
-no_other (Some cf) none = absurd (none refl)
+no_other second none = grind arith
 
 -- what copied items count for ends with all, and with the new instance
 record IsEnded (form : StrForm) (shell : Shell) (by : ConnId) (n : ℕ) (acted : ShellOutcome) : Type 0 where
   pub copied : (k : ℕ) → copied_after acted.deeds k ≡ 0
-  pub refused : (room : Room) → is_some (shell_cause form room acted.shell by (cmd.Copy n)) ≡ true
+  pub refused : (room : Room) → is_some (shell_cause form room acted.shell by (ShellCmd.Copy n)) ≡ true
 
 module _ (form : StrForm) (shell : Shell) (by : ConnId) (n : ℕ) (cf : CfId) where
   abbrev marked : ShellOutcome → ShellOutcome
   marked lost = record lost { shell = record lost.shell { lost = if lost.shell.failed then Some cf else None } }
 
   failed_ends : IsEnded form shell by n (marked (failed_outcome form shell))
-  failed_ends = grind (arith, first_some)
+  failed_ends = grind arith
 
   stopped_ends : (rebuild : Rebuild) → IsEnded form shell by n (marked (stopped_outcome rebuild shell))
-  stopped_ends rebuild = grind (arith, first_some)
-
-  -- the loss of the old instance, and that of the new one
-  loss_ends : shell.instances.secondary ≡ None → (shell.instances.primary ≡ Some cf)
-      ⊎ (fresh_of shell.rebuild ≡ Some cf) → IsEnded form shell by n (mark_outcome form cf shell)
-  loss_ends alone either = grind (arith, itself, stopped_ends, failed_ends)
+  stopped_ends rebuild = grind arith
 
 -- ---- the whole of it
 
 module _ {C R I S : Type 0} (meaning : Meaning C R I S) (form : StrForm) (machine : Machine S) (by : ConnId) (n : ℕ)
     (manned : IsManned machine.shell)
-    (accepted : shell_cause form (room_of meaning form machine) machine.shell by (cmd.Copy n) ≡ None) where
+    (accepted : shell_cause form (room_of meaning form machine) machine.shell by (ShellCmd.Copy n) ≡ None) where
   abbrev room : Room
   room = room_of meaning form machine
 
   alone : machine.shell.instances.secondary ≡ None
-  alone = grind (arith, no_other, under_way, fourth_none)
+  alone = grind (arith, no_other, fourth_none)
 
   ends : (cf : CfId) → (machine.shell.instances.primary ≡ Some cf) ⊎ (fresh_of machine.shell.rebuild ≡ Some cf)
       → IsEnded form machine.shell by n (mark_outcome form cf machine.shell)
-  ends cf either = loss_ends form machine.shell by n cf alone either
+  ends cf either = grind (arith, alone, itself, stopped_ends, failed_ends)
 
   -- with so many items more in the new instance
   abbrev pub with_items : ℕ → Machine S
@@ -71,57 +48,39 @@ module _ {C R I S : Type 0} (meaning : Meaning C R I S) (form : StrForm) (machin
   refused_so : (cause : Option Refusal) (answer : CallOutcome R S) (behind : Machine S) (told : Reply R)
       → is_some cause ≡ true → (answered : ShellReply) → told ≡ copy_reply cause answered
       → Path (CallOutcome R S) (record { reply = told; machine = behind }) (unless meaning form cause behind answer)
-  refused_so None answer behind told some answered is = absurd (cc)
-  refused_so (Some refusal) answer behind told some answered is = λ i. record { reply = is i; machine = behind }
+  refused_so cause answer behind told some answered is = grind arith
 
   -- what COPY answers behind the marks, and leaves
   pub copy_done : (lost : Lost) (now : Machine S) (seen : Room) (told : Reply R)
       → IfSome lost.first (λ cf. machine.shell.instances.primary ≡ Some cf) → IfSome lost.second
       (λ cf. fresh_of machine.shell.rebuild ≡ Some cf) → (is_some lost.first ≡ true → lost.second ≡ None)
-      → now ≡ behind_marks meaning form (with_items (moved_by room (cmd.Copy n))) (marks_in lost)
-      → seen.left ≡ room.left → told ≡ copy_reply (shell_cause form seen now.shell by (cmd.Copy n)) (shell_done
-      form seen now.shell by (cmd.Copy n)).reply → Path (CallOutcome R S) (record { reply = told; machine = now })
-      (judged meaning form (behind_marks meaning form machine (marks_in lost)) by (ask.Shell (cmd.Copy n)))
-  copy_done lost now seen told first second stopped behind left is =
-      go lost.first lost.second first second stopped behind
+      → now ≡ behind_marks meaning form (with_items (moved_by room (ShellCmd.Copy n))) (marks_in lost)
+      → seen.left ≡ room.left → told ≡ copy_reply (shell_cause form seen now.shell by (ShellCmd.Copy n)) (shell_done
+      form seen now.shell by (ShellCmd.Copy n)).reply → Path (CallOutcome R S) (record { reply = told; machine = now })
+      (judged meaning form (behind_marks meaning form machine (marks_in lost)) by (Ask.Shell (ShellCmd.Copy n)))
+  copy_done lost now seen told first second stopped behind left is = grind (arith, Goes, alone_lost)
     where
       more : ℕ
-      more = moved_by room (cmd.Copy n)
+      more = moved_by room (ShellCmd.Copy n)
 
       Goes : Option CfId → Option CfId → Type 0
       Goes one two = now ≡ behind_marks meaning form (with_items more) (listed one ++ listed two)
           → Path (CallOutcome R S) (record { reply = told; machine = now }) (judged meaning
-          form (behind_marks meaning form machine (listed one ++ listed two)) by (ask.Shell (cmd.Copy n)))
+          form (behind_marks meaning form machine (listed one ++ listed two)) by (Ask.Shell (ShellCmd.Copy n)))
 
       alone_lost : (cf : CfId) → (machine.shell.instances.primary ≡ Some cf) ⊎ (fresh_of machine.shell.rebuild ≡ Some
           cf) → now ≡ lost_at meaning form (with_items more) cf → Path (CallOutcome R S) (record {
             reply = told;
             machine = now;
-          }) (judged meaning form (lost_at meaning form machine cf) by (ask.Shell (cmd.Copy n)))
+          }) (judged meaning form (lost_at meaning form machine cf) by (Ask.Shell (ShellCmd.Copy n)))
       alone_lost cf either behind =
           let behind_it : now ≡ lost_at meaning form machine cf = behind ∙ same_loss cf more either in
           let ended : IsEnded form machine.shell by n (mark_outcome form cf machine.shell) = ends cf either in
-          subst (λ (m : Machine S). Path (CallOutcome R S) (record { reply = told; machine = now })
-          (judged meaning form m by (ask.Shell (cmd.Copy n)))) behind_it (refused_so (shell_cause form
-          (room_of meaning form now) now.shell by (cmd.Copy n)) (command_done meaning form now by (cmd.Copy n)) now
-          told (ap (λ (m : Machine S). is_some (shell_cause form (room_of meaning form now) m.shell by (cmd.Copy n)))
+          subst (λ (m : Machine S). Path (CallOutcome R S) (record { reply = told; machine = now }) (judged meaning
+          form m by (Ask.Shell (ShellCmd.Copy n)))) behind_it (refused_so (shell_cause form (room_of meaning form now)
+          now.shell by (ShellCmd.Copy n)) (command_done meaning form now by (ShellCmd.Copy n)) now told
+          (ap (λ (m : Machine S). is_some (shell_cause form (room_of meaning form now) m.shell by (ShellCmd.Copy n)))
           behind_it ∙ ended.refused (room_of meaning form now)) _ is)
-
-      go : (one two : Option CfId) → IfSome one (λ cf. machine.shell.instances.primary ≡ Some cf) → IfSome
-          two (λ cf. fresh_of machine.shell.rebuild ≡ Some cf) → (is_some one ≡ true → two ≡ None) → Goes one two
-      go None None first second stopped behind = subst (λ (cause : Option Refusal). Path (CallOutcome R S)
-          (record { reply = told; machine = now }) (unless meaning form cause machine (command_done meaning
-          form machine by (cmd.Copy n)))) (sym accepted) (λ i. record { reply = told_so i; machine = behind i })
-        where
-          told_so : told ≡ reply.Shell (shell_done form room machine.shell by (cmd.Copy n)).reply
-          told_so = is ∙ ap (λ (m : Machine S). copy_reply (shell_cause form seen m.shell by (cmd.Copy n))
-              (shell_done form seen m.shell by (cmd.Copy n)).reply) behind
-              ∙ ap (λ (cause : Option Refusal). copy_reply cause (shell_done form seen machine.shell by
-              (cmd.Copy n)).reply) accepted ∙ ap (λ (l : ℕ). reply.Shell (shown.Copied (min n l) (l - min n l))) left
-      go None (Some cf) first second stopped behind = alone_lost cf (inr second) behind
-      go (Some cf) None first second stopped behind = alone_lost cf (inl first) behind
-      go (Some cf) (Some other) first second stopped behind =
-          absurd (let wrong : Some other ≡ None = stopped refl in cc)
 
   -- the marks tell the same of the machine before the items were copied
   pub told_before : (lost : Lost) (more : ℕ) (marks : List Mark) → (is_some lost.first ≡ true → lost.second ≡ None)
@@ -134,15 +93,12 @@ module _ {C R I S : Type 0} (meaning : Meaning C R I S) (form : StrForm) (machin
 module _ {C R I S : Type 0} (meaning : Meaning C R I S) (form : StrForm) (shelled : ShellView) (kept : Kept S)
     (of : AreOf meaning form shelled kept) (by : ConnId) (n : ℕ)
     (accepted : shell_cause form (room_of meaning form (machine_of meaning form shelled kept)) shelled.shell by
-    (cmd.Copy n) ≡ None) (now : ShellView) (after : Kept S) (same : now.form ≡ shelled.form)
+    (ShellCmd.Copy n) ≡ None) (now : ShellView) (after : Kept S) (same : now.form ≡ shelled.form)
     (came : now.shell ≡ shelled.shell) (at : after.at ≡ kept.at) (holds : after.held ≡ kept.held)
     (copied : after.fresh ≡ with_copied (min n (lacking_in meaning kept.held kept.fresh)) kept.fresh) where
   abbrev before : Machine S
   before = machine_of meaning form shelled kept
 
   pub copied_machine : machine_of meaning form now after
-      ≡ record before { copied = before.copied + moved_by (room_of meaning form before) (cmd.Copy n) }
+      ≡ record before { copied = before.copied + moved_by (room_of meaning form before) (ShellCmd.Copy n) }
   copied_machine = grind (arith, copied_more, nothing_lacks, room_left)
-
-  pub kept_copied : AreOf meaning form now after
-  kept_copied = grind (arith, copied_caps, copied_machine, filled_behind)

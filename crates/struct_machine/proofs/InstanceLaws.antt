@@ -1,10 +1,7 @@
 -- Where the instances of a structure stand behind a command, and which of its deeds may be done.
-use Rattle.struct_machine.proofs.Imports.{arith, ◌≡◌, ◌≢◌, Bool, true, false, ◌==◌, ◌||◌, List, [], ◌∷◌, ◌++◌, Option, None, Some, IfSome, refl, ap, ◌∙◌, if◌then◌else◌, is_some, is_none, eq-eqb, eqb-true, false_from_ne_true, Event, Connect, StrForm, CfId, ConnId, Refusal, ShellCmd, ShellReply, state_of, IsFacility, IsForm, next_event, owed_event, Deeds, Instances, no_instance, is_at, place_for, units_of, Machine, room_of, Meaning, first_refusal, fresh_of, Shell, ShellOutcome, candidates, complete_outcome, departure_outcome, given_outcome, idle_outcome, if_duplexed, if_no_place, if_rebuilding, is_kept, loss_outcome, no_deeds, rebuild_connect_outcome, refusal_when, response_outcome, shell_cause, shell_without, simplex_again, simplex_outcome, stop_outcome, take_event, unless_allocated, unless_copied_to, vary_outcome, with_off, Rebuild, IsManned, IsPaired, idle_rebuild, past_first, past_front, past_second, third_none, change-command, paired-change, no_switch, placed_for, switch_copy, acting, connect_stage, done, first_none, tells_command, mark_telling, telling, places_past, at_left, at_switched}
-use Rattle.cf_types.specs.declared.refusals.Refusal.TheVariants as refusal
-use Rattle.cf_types.specs.declared.shell_commands.ShellCmd.TheVariants as cmd
-use Rattle.cf_types.specs.declared.shell_commands.ShellReply.TheVariants as shown
+use Rattle.struct_machine.proofs.Imports.{arith, made_apart, ◌≡◌, ◌≢◌, Bool, true, false, ◌||◌, List, Option, None, Some, IfSome, refl, if◌then◌else◌, is_some, eq-eqb, eqb-true, false_from_ne_true, Event, Connect, StrForm, CfId, ConnId, Refusal, ShellCmd, ShellReply, IsFacility, IsForm, next_event, owed_event, Deeds, Instances, no_instance, is_at, Machine, room_of, Meaning, first_refusal, fresh_of, Shell, ShellOutcome, complete_outcome, departure_outcome, loss_outcome, no_deeds, rebuild_connect_outcome, response_outcome, shell_cause, simplex_outcome, stop_outcome, take_event, vary_outcome, Rebuild, IsManned, IsPaired, idle_rebuild, past_front, past_second, third_none, placed_for, switch_copy, acting, connect_stage, done, tells_command, mark_telling, telling, places_past, at_left, at_switched, none_hold}
 use Rattle.engine_api.specs.Shell.{facility_of, fresh_made}
-use Rattle.struct_machine.proofs.FacilityLaws.{found_facility, facility_next, InFacility, IsPlaceTold}
+use Rattle.struct_machine.proofs.FacilityLaws.{found_facility, InFacility, IsPlaceTold}
 
 -- ---- what a command makes of the instances, and which deeds it has
 
@@ -55,20 +52,9 @@ nothing_common = record { back = refl; make = refl; second = refl; drop_at = ref
 
 -- ---- a rebuild goes on
 
-given_places : (before : Shell) (answer : ShellReply) (by : ConnId) (rebuild : Rebuild) (shell : Shell)
-    → before.rebuild ≡ Some rebuild → shell.instances ≡ before.instances
-    → IsPlacing before (given_outcome answer by rebuild shell)
-given_places before answer by rebuild shell is same = grind (arith, placing_common)
-
-instances_without : (by : ConnId) (rebuild : Option Rebuild) (shell : Shell)
-    → (shell_without by rebuild shell).instances ≡ shell.instances
-instances_without by None shell = refl
-instances_without by (Some rebuild) shell =
-    ap (λ (b : Bool). at_switched b rebuild.fresh shell.instances) (no_switch by rebuild)
-
 departure_places : (form : StrForm) (before shell : Shell) (by : ConnId) (keep : Bool)
     → shell.instances ≡ before.instances → IsPlacing before (departure_outcome form shell by keep)
-departure_places form before shell by keep same = grind (arith, placing_common, instances_without)
+departure_places form before shell by keep same = grind (arith, placing_common)
 
 -- ---- what is lost
 
@@ -90,35 +76,19 @@ loss_places form cf before shell paired same = grind (arith, placing_common, not
 
 vary_places : (form : StrForm) (cf : CfId) (off : Bool) (before shell : Shell) → IsPaired before
     → shell.instances ≡ before.instances → IsPlacing before (vary_outcome form cf off shell)
-vary_places form cf true before shell paired same = loss_places form cf before (with_off cf true shell) paired same
-vary_places form cf false before shell paired same =
-    placing_common before (idle_outcome shown.Ok (with_off cf false shell)) nothing_common same
-
--- ---- duplexing
-
--- the secondary is dropped
-again_places : (before shell : Shell) → IsPaired before → shell.instances ≡ before.instances
-    → (second : Option CfId) → before.instances.secondary ≡ second → IsPlacing before (simplex_again second shell)
-again_places before shell paired same None other =
-    placing_common before (simplex_again None shell) nothing_common same
-again_places before shell paired same (Some cf) other =
-    grind (arith, eq-eqb, paired_apart, false_from_ne_true, eqb-true)
+vary_places form cf off before shell paired same = grind (arith, loss_places, placing_common, nothing_common)
 
 -- ---- what tells no place
 
 pub mark_told : (rebuild : Option Rebuild) (reply : ShellReply) → IsPlaceTold rebuild (mark_telling reply)
-mark_told rebuild (shown.Stopped number) = tt
-mark_told rebuild shown.FailedNow = tt
-mark_told rebuild _ = tt
+mark_told rebuild reply = grind arith
 
 reached : (b : Bool) (xs ys : List (Option Refusal)) → b ≡ true → first_refusal (if b then xs else ys) ≡ None
     → first_refusal xs ≡ None
-reached true xs ys is fine = fine
-reached false xs ys is fine = absurd (cc)
+reached b xs ys is fine = grind arith
 
 found : (place : Option CfId) → is_some place ≡ true → IfSome place IsFacility → IsFacility (facility_of place)
-found None there is = absurd (cc)
-found (Some cf) there is = is
+found place there is = grind arith
 
 -- ---- commands
 
@@ -135,138 +105,72 @@ module _ {C R I S : Type 0} (meaning : Meaning C R I S) (form : StrForm) (machin
 
   -- ---- who connects first makes the primary
 
-  idle_connect : (keep : Bool) → IsTaken (cmd.Connect keep) → machine.shell.rebuild ≡ None
-  idle_connect keep fine =
-      idle_rebuild machine.shell.rebuild (third_none _ _ (if_rebuilding machine.shell.rebuild) _ fine)
+  idle_connect : (keep : Bool) → IsTaken (ShellCmd.Connect keep) → machine.shell.rebuild ≡ None
+  idle_connect keep fine = grind (arith, idle_rebuild, third_none)
 
-  connect_places : (keep : Bool) → IsTaken (cmd.Connect keep)
-      → PlacesBy (done meaning form machine by (cmd.Connect keep))
-  connect_places keep fine = grind (arith, idle_connect, found_facility, past_second, placed_for, reached)
+  next_places : (taken : Option Event) → PlacesBy (take_event (before_it ShellCmd.Next) by taken)
+  next_places taken = grind (arith, placing_common, nothing_common)
 
-  next_places : (taken : Option Event) → PlacesBy (take_event (before_it cmd.Next) by taken)
-  next_places None = placing_common machine.shell _ nothing_common refl
-  next_places (Some taken) =
-      placing_common machine.shell (take_event (before_it cmd.Next) by (Some taken)) nothing_common refl
-
-  respond_places : (owed : Option Event) → PlacesBy (response_outcome (before_it cmd.Respond) by owed)
+  respond_places : (owed : Option Event) → PlacesBy (response_outcome (before_it ShellCmd.Respond) by owed)
   respond_places None = placing_common machine.shell _ nothing_common refl
-  respond_places (Some answered) = grind (arith, placing_common, nothing_common, given_places)
+  respond_places (Some answered) = grind (arith, placing_common, nothing_common)
 
-  stop_places : (rebuild : Option Rebuild) → PlacesBy (stop_outcome (before_it cmd.RebuildStop) rebuild)
-  stop_places None = placing_common machine.shell _ nothing_common refl
-  stop_places (Some rebuild) = grind (arith, placing_common)
+  stop_places : (rebuild : Option Rebuild) → PlacesBy (stop_outcome (before_it ShellCmd.RebuildStop) rebuild)
+  stop_places rebuild = grind (arith, placing_common, nothing_common)
 
   complete_places : (rebuild : Option Rebuild) → machine.shell.rebuild ≡ rebuild
-      → PlacesBy (complete_outcome (before_it cmd.RebuildComplete) by rebuild)
+      → PlacesBy (complete_outcome (before_it ShellCmd.RebuildComplete) by rebuild)
   complete_places None is = placing_common machine.shell _ nothing_common refl
-  complete_places (Some rebuild) is =
-      given_places machine.shell shown.Ok by rebuild (before_it cmd.RebuildComplete) is refl
+  complete_places (Some rebuild) is = grind arith
 
   -- ---- who connects to the new instance first makes it
 
-  connection_places : (rebuild : Option Rebuild) → machine.shell.rebuild ≡ rebuild → IsTaken cmd.RebuildConnect
-      → PlacesBy (rebuild_connect_outcome form (before_it cmd.RebuildConnect) by rebuild)
-  connection_places None is fine = placing_common machine.shell _ nothing_common refl
-  connection_places (Some rebuild) is fine =
-      grind (arith, false_from_ne_true, switch_copy, connect_stage, found_facility)
+  connection_places : (rebuild : Option Rebuild) → machine.shell.rebuild ≡ rebuild → IsTaken ShellCmd.RebuildConnect
+      → PlacesBy (rebuild_connect_outcome form (before_it ShellCmd.RebuildConnect) by rebuild)
+  connection_places rebuild is fine =
+      grind (arith, placing_common, nothing_common, false_from_ne_true, switch_copy, connect_stage, found_facility)
 
-  -- ---- a second instance
-
-  second_places : IsTaken cmd.DuplexStart → PlacesBy (done meaning form machine by cmd.DuplexStart)
-  second_places fine = grind (arith, found, shell, there, found_facility, alone_so, stands_so, apart_so)
-    where
-      shell : Shell
-      shell = before_it cmd.DuplexStart
-
-      unallocated : Option Refusal
-      unallocated = unless_allocated machine.shell
-
-      no_place : Option Refusal
-      no_place = if_no_place (units_of machine.shell.caps) (candidates form machine.shell by)
-
-      behind : first_refusal (if_duplexed machine.shell ∷ unallocated ∷ no_place ∷ []) ≡ None
-      behind = grind (arith, past_second, unallocated, no_place)
-
-      past : first_refusal (unallocated ∷ no_place ∷ []) ≡ None
-      past = past_first (if_duplexed machine.shell) (unallocated ∷ no_place ∷ []) behind
-
-      alone_so : machine.shell.instances.secondary ≡ None
-      alone_so = go machine.shell.instances.secondary (first_none (if_duplexed machine.shell) _ behind)
-        where
-          go : (second : Option CfId) → refusal_when (is_some second) refusal.AlreadyDuplexed ≡ None → second ≡ None
-          go None fine = refl
-          go (Some cf) fine = absurd (cc)
-
-      stands_so : is_some machine.shell.instances.primary ≡ true
-      stands_so = go machine.shell.instances.primary (first_none unallocated (no_place ∷ []) past)
-        where
-          go : (primary : Option CfId) → refusal_when (is_none primary) refusal.NotAllocated ≡ None
-              → is_some primary ≡ true
-          go None fine = absurd (cc)
-          go (Some cf) fine = refl
-
-      there : is_some (place_for (units_of machine.shell.caps) (candidates form machine.shell by)) ≡ true
-      there = grind (arith, placed_for, past_first, unallocated, no_place, past)
-
-      paired : IsPaired (done meaning form machine by cmd.DuplexStart).shell
-      paired = paired-change machine.shell (done meaning form machine by cmd.DuplexStart).shell
-          (change-command meaning form machine by manned cmd.DuplexStart fine) manned.paired
-
-      apart_so : (primary : Option CfId) → machine.shell.instances.primary ≡ primary → IfSome
-          primary (λ at. (facility_of (place_for (units_of machine.shell.caps) (candidates form shell by))).0 ≢ at.0)
-      apart_so None is = tt
-      apart_so (Some one) is = paired.apart one _ is refl
+  -- a second instance stands in another facility
+  second_places : IsTaken ShellCmd.DuplexStart → PlacesBy (done meaning form machine by ShellCmd.DuplexStart)
+  second_places fine = grind (arith, none_hold, found, found_facility, placed_for, made_apart)
 
   -- ---- all of them
 
   pub placing_command : (command : ShellCmd) → IsTaken command
       → IsPlacing machine.shell (done meaning form machine by command)
-  placing_command (cmd.Connect keep) fine = connect_places keep fine
-  placing_command cmd.Disconnect fine = departure_places form machine.shell (before_it cmd.Disconnect) by false refl
-  placing_command cmd.Fail fine =
-      departure_places form machine.shell (before_it cmd.Fail) by (is_kept (state_of machine.shell.conns by)) refl
-  placing_command cmd.Next fine = next_places (next_event (before_it cmd.Next).mail by)
-  placing_command cmd.Respond fine = respond_places (owed_event (before_it cmd.Respond).mail by)
-  placing_command cmd.RebuildStop fine = stop_places machine.shell.rebuild
-  placing_command cmd.RebuildConnect fine = connection_places machine.shell.rebuild refl fine
-  placing_command cmd.RebuildComplete fine = complete_places machine.shell.rebuild refl
-  placing_command (cmd.ForceConn other) fine = grind (arith, placing_common, done)
-  placing_command cmd.ForceStr fine = grind (arith, placing_common, done)
-  placing_command (cmd.Vary cf off) fine =
-      vary_places form cf off machine.shell (before_it (cmd.Vary cf off)) manned.paired refl
-  placing_command cmd.DuplexStart fine = second_places fine
-  placing_command cmd.DuplexStop fine =
-      again_places machine.shell (before_it cmd.DuplexStop) manned.paired refl machine.shell.instances.secondary refl
-  placing_command command fine =
-      placing_common machine.shell (done meaning form machine by command) nothing_common refl
+  placing_command (ShellCmd.Connect keep) fine =
+      grind (arith, idle_connect, found_facility, past_second, placed_for, reached)
+  placing_command ShellCmd.Disconnect fine = grind (arith, departure_places)
+  placing_command ShellCmd.Fail fine = grind (arith, departure_places)
+  placing_command ShellCmd.Next fine = next_places (next_event (before_it ShellCmd.Next).mail by)
+  placing_command ShellCmd.Respond fine = respond_places (owed_event (before_it ShellCmd.Respond).mail by)
+  placing_command ShellCmd.RebuildStop fine = stop_places machine.shell.rebuild
+  placing_command ShellCmd.RebuildConnect fine = connection_places machine.shell.rebuild refl fine
+  placing_command ShellCmd.RebuildComplete fine = complete_places machine.shell.rebuild refl
+  placing_command (ShellCmd.ForceConn other) fine = grind (arith, placing_common, done)
+  placing_command ShellCmd.ForceStr fine = grind (arith, placing_common, done)
+  placing_command (ShellCmd.Vary cf off) fine =
+      vary_places form cf off machine.shell (before_it (ShellCmd.Vary cf off)) manned.paired refl
+  placing_command ShellCmd.DuplexStart fine = second_places fine
+  placing_command ShellCmd.DuplexStop fine =
+      grind (arith, placing_common, nothing_common, eq-eqb, paired_apart, false_from_ne_true, eqb-true)
+  placing_command command fine = grind (arith, placing_common, done, nothing_common)
 
   -- ---- the new instance stands in a facility
 
-  -- the first to connect finds a place
-  connecting_past : (rebuild : Rebuild) → machine.shell.rebuild ≡ Some rebuild → IsTaken cmd.RebuildConnect
-      → first_refusal (unless_copied_to form machine.shell (room_of meaning form machine) by (Some rebuild)) ≡ None
-  connecting_past rebuild is fine = grind (arith, past_second)
-
-  place_found : (rebuild : Rebuild) → machine.shell.rebuild ≡ Some rebuild → IsTaken cmd.RebuildConnect
-      → rebuild.fresh ≡ None → IsFacility (facility_of (fresh_made form (before_it cmd.RebuildConnect) by rebuild))
-  place_found rebuild is fine none = grind (arith, found, placed_for, past_front, connecting_past, found_facility)
-
-  place_told : (rebuild : Option Rebuild) → machine.shell.rebuild ≡ rebuild → IsTaken cmd.RebuildConnect
-      → IsPlaceTold machine.shell.rebuild (telling cmd.RebuildConnect
-      (rebuild_connect_outcome form (before_it cmd.RebuildConnect) by rebuild).reply)
-  place_told None is fine = tt
-  place_told (Some rebuild) is fine = grind (arith, place_found)
+  place_found : (rebuild : Rebuild) → machine.shell.rebuild ≡ Some rebuild → IsTaken ShellCmd.RebuildConnect
+      → rebuild.fresh ≡ None → IsFacility (facility_of (fresh_made form (before_it ShellCmd.RebuildConnect) by rebuild))
+  place_found rebuild is fine none = grind (arith, found, placed_for, past_front, found_facility)
 
   told_places : (command : ShellCmd) → IsTaken command
       → IsPlaceTold machine.shell.rebuild (telling command (done meaning form machine by command).reply)
-  told_places cmd.Respond fine = grind arith
-  told_places cmd.RebuildStop fine = grind arith
-  told_places cmd.RebuildConnect fine = place_told machine.shell.rebuild refl fine
-  told_places cmd.RebuildComplete fine = grind arith
-  told_places (cmd.Vary cf off) fine =
-      mark_told machine.shell.rebuild (done meaning form machine by (cmd.Vary cf off)).reply
+  told_places ShellCmd.Respond fine = grind arith
+  told_places ShellCmd.RebuildStop fine = grind arith
+  told_places ShellCmd.RebuildConnect fine = grind (arith, place_found)
+  told_places ShellCmd.RebuildComplete fine = grind arith
+  told_places (ShellCmd.Vary cf off) fine = grind (arith, mark_told, done)
   told_places command fine = tt
 
   pub facility_behind : (command : ShellCmd) → IsTaken command → InFacility machine.shell.rebuild
       → InFacility (done meaning form machine by command).shell.rebuild
-  facility_behind command fine is = grind (arith, InFacility, tells_command, facility_next, told_places)
+  facility_behind command fine is = grind (arith, InFacility, tells_command, told_places)

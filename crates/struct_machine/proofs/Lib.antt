@@ -2,10 +2,7 @@ pub use Rattle.duplex_pair.proofs.CfLink as CfLink
 pub use Rattle.engine_api.proofs as EngineApi
 pub use Rattle.shell_laws.proofs as ShellLaws
 pub mod Imports
-mod RoomLaws
-mod ToldLaws
 mod RefusalLaws
-mod PostedLaws
 pub mod ChangeLaws
 mod FacilityLaws
 mod InstanceLaws

@@ -1,21 +1,12 @@
 -- What a lost facility makes of shell and instances.
-use Rattle.struct_machine.proofs.Imports.{arith, ◌≡◌, true, false, ◌||◌, Some, refl, sym, ap, ◌∙◌, subst, is_some, StrForm, CfId, Deeds, Machine, Meaning, Shell, ShellOutcome, loss_outcome, mark_outcome, no_deeds, reply_as, ShellView, LostAs, fresh_caps, IsManned, capacities-loss, filled-loss, loss-cases, manned-loss, rebuild-loss, is_failure, Kept, at_left, AreOf, IsOf, machine_of, caps_of, IsEnding, kept_without, lost_at}
-use Rattle.plex_shell.specs.declared.lost_as.LostAs.TheVariants as told
-use Rattle.struct_machine.proofs.FacilityLaws.{facility_next}
+use Rattle.struct_machine.proofs.Imports.{arith, ◌≡◌, true, false, Some, refl, sym, ap, ◌∙◌, subst, is_some, StrForm, CfId, Deeds, Machine, Meaning, Shell, ShellOutcome, loss_outcome, mark_outcome, no_deeds, reply_as, ShellView, LostAs, fresh_caps, IsManned, capacities-loss, filled-loss, loss-cases, manned-loss, rebuild-loss, is_failure, Kept, at_left, AreOf, IsOf, machine_of, caps_of, IsEnding, kept_without, lost_at}
 use Rattle.struct_machine.proofs.InstanceLaws.{IsPlacing, IsDropping, loss_places, mark_told}
 
 -- the deeds of a loss that is told so
 abbrev deeds_as : LostAs → CfId → Deeds
-deeds_as (told.Simplex left) cf = record no_deeds { drop_at = Some cf }
-deeds_as (told.Stopped number) cf = record no_deeds { drop_fresh = true }
-deeds_as told.FailedNow cf = record no_deeds { drop_all = true }
-
-abbrev TellsSo : LostAs → CfId → ShellOutcome → Type 0
-TellsSo how cf acted = reply_as how ≡ acted.reply → acted.deeds ≡ deeds_as how cf
-
-deeds_told : (form : StrForm) (cf : CfId) (shell : Shell) (how : LostAs) → TellsSo how cf (loss_outcome form cf shell)
-deeds_told form cf shell (told.Simplex left) = grind (arith, loss-cases)
-deeds_told form cf shell how = grind (arith, loss-cases)
+deeds_as (LostAs.Simplex left) cf = record no_deeds { drop_at = Some cf }
+deeds_as (LostAs.Stopped number) cf = record no_deeds { drop_fresh = true }
+deeds_as LostAs.FailedNow cf = record no_deeds { drop_all = true }
 
 module _ {C R I S : Type 0} (meaning : Meaning C R I S) (form : StrForm) (shelled : ShellView) (kept : Kept S)
     (of : AreOf meaning form shelled kept) (cf : CfId) (how : LostAs)
@@ -27,13 +18,13 @@ module _ {C R I S : Type 0} (meaning : Meaning C R I S) (form : StrForm) (shelle
   acted = mark_outcome form cf shelled.shell
 
   deeds_so : acted.deeds ≡ deeds_as how cf
-  deeds_so = deeds_told form cf shelled.shell how tells
+  deeds_so = grind (arith, loss-cases)
 
   placing : IsPlacing shelled.shell (loss_outcome form cf shelled.shell)
   placing = loss_places form cf shelled.shell shelled.shell of.manned.paired refl
 
   pub ending : IsEnding how cf kept
-  ending = grind (arith, deeds_told, IsDropping)
+  ending = grind (arith, IsDropping)
 
   -- the machine is the one behind the mark
   pub lost_same : (now : ShellView) (after : Kept S) → now.shell ≡ acted.shell → after ≡ kept_without how cf kept
@@ -48,25 +39,25 @@ module _ {C R I S : Type 0} (meaning : Meaning C R I S) (form : StrForm) (shelle
     places = ap (λ (k : Kept S). k.at) ends ∙ places_so how deeds_so ∙ sym (ap (λ (s : Shell). s.instances) came);
     held = grind (arith, held_so, deeds_so);
     fresh = grind (arith, fresh_so, deeds_so);
-    fresh_at = grind (arith, rebuild-loss, facility_next, mark_told);
+    fresh_at = grind (arith, rebuild-loss, mark_told);
     stands = stands;
     manned = subst IsManned (sym came) (manned-loss meaning form machine cf of.manned);
     filled = grind (arith, lost_same, filled-loss);
   }
     where
       places_so : (how : LostAs) → acted.deeds ≡ deeds_as how cf → (kept_without how cf kept).at ≡ acted.shell.instances
-      places_so (told.Simplex left) is = ap (at_left cf) of.places ∙ sym (placing.places ∙ rw is refl)
-      places_so (told.Stopped number) is = of.places ∙ sym (placing.places ∙ rw is refl)
-      places_so told.FailedNow is = sym (placing.places ∙ rw is refl)
+      places_so (LostAs.Simplex left) is = ap (at_left cf) of.places ∙ sym (placing.places ∙ rw is refl)
+      places_so (LostAs.Stopped number) is = of.places ∙ sym (placing.places ∙ rw is refl)
+      places_so LostAs.FailedNow is = sym (placing.places ∙ rw is refl)
 
       held_so : (how : LostAs) → acted.deeds ≡ deeds_as how cf
           → IsOf meaning form acted.shell.caps (kept_without how cf kept).held
-      held_so told.FailedNow is = tt
+      held_so LostAs.FailedNow is = tt
       held_so how is = grind (arith, capacities-loss)
 
       fresh_so : (how : LostAs) → acted.deeds ≡ deeds_as how cf
           → caps_of (kept_without how cf kept).fresh ≡ fresh_caps acted.shell.rebuild
-      fresh_so (told.Simplex left) is = of.fresh ∙ sym ((capacities-loss form cf shelled.shell).1 ∙ rw is refl)
+      fresh_so (LostAs.Simplex left) is = of.fresh ∙ sym ((capacities-loss form cf shelled.shell).1 ∙ rw is refl)
       fresh_so how is = sym ((capacities-loss form cf shelled.shell).1 ∙ rw is refl)
 
   -- where the structure doesn't fail, the content stays

@@ -548,7 +548,7 @@ fn copy_judged<R: Drop, C>(shell: &mut Shell, call: &CommonCall<'_, C>) -> Reply
 }
 
 // A common command that the shell doesn't refuse. What bits it may have changed is told.
-#[tactic(auto, using(crate::proofs::RoomLaws::cause_seen, crate::proofs::RoomLaws::done_seen, crate::proofs::PostedLaws::accepted_posted, crate::proofs::PostedLaws::letters_none))]
+#[tactic(auto, using(crate::proofs::RefusalLaws::cause_seen, crate::proofs::RefusalLaws::done_seen, crate::proofs::RefusalLaws::accepted_posted, crate::proofs::RefusalLaws::letters_none))]
 fn do_command<E: Engine, L: Link>(
     alloc: Global,
     form: &StrForm,

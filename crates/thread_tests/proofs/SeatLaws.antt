@@ -3,8 +3,7 @@ use Rattle.std.proofs.Common.{◌≡◌, ℕ, ◌+◌, List, [], ◌∷◌, map,
 use Rattle.std.specs.Prelude.{All}
 use Rattle.std.specs.List.{range_with_len}
 use Rattle.std.proofs.lemmas.List.Elements.{All-cons, All-map, All-nil, All-same}
-use Rattle.plex_board.specs.Desks.{DeskShown}
-use Rattle.plex_board.specs.Boards.{BoardShown, IsDeskOf, new_desk}
+use Rattle.plex_board.specs.{Desks.DeskShown, Boards.BoardShown, Boards.IsDeskOf, Boards.new_desk}
 use Rattle.plex_board.proofs.DeskLaws.{new_desk-of_board}
 
 abbrev owner_of : DeskShown → ℕ

@@ -7,11 +7,9 @@ use Rattle.std.proofs.lemmas.List.FromFn.{length-map-range_with_len}
 use Rattle.std.proofs.lemmas.List.Elements.{All-nil, All-cons, All-same}
 use Rattle.plex_board.specs.CfTypes.declared.limits.TheConstants.{CONNECTORS}
 use Rattle.plex_board.specs.PlexScript.declared.scripts.Script.{Script}
-use Rattle.plex_board.specs.PlexScript.Scripts.{IsScript}
-use Rattle.plex_board.proofs.PlexScript.FormedLines.{script-formed}
-use Rattle.plex_board.specs.Desks.{DeskShown}
 use Rattle.plex_board.specs.Boards.{BoardShown, IsPolicy, IsDeskOf, new_desk}
-use Rattle.plex_board.proofs.DeskLaws.{new_desk-of_board}
+use Rattle.plex_board.proofs.{PlexScript.FormedLines.script-formed, DeskLaws.new_desk-of_board}
+use Rattle.plex_board.specs.{PlexScript.Scripts.IsScript, Desks.DeskShown}
 use Rattle.two_members.specs.Members.{HasPool, IsMember, Stays}
 
 -- what a text says states a policy

@@ -6,13 +6,10 @@ use Rattle.std.proofs.Math.Seq.{get_or-append_seam}
 use Rattle.std.proofs.lemmas.List.{length-append}
 use Rattle.std.proofs.lemmas.Option.{slice_get_within, slice_get-get_or, slice_get-map}
 use Rattle.plex_board.specs.CfTypes.declared.forms.StrForm.{StrForm}
-use Rattle.plex_board.specs.PlexScript.declared.asks.AnyHistory.{AnyHistory}
-use Rattle.plex_board.specs.PlexScript.declared.asks.AnyHistory.TheVariants as history
-use Rattle.plex_board.specs.PlexScript.declared.scripts.Script.{Script}
-use Rattle.plex_board.specs.Passes.{reply_numbered}
-use Rattle.plex_board.specs.Cells.{CellShown, IsAnyTold, own_replies}
-use Rattle.plex_board.specs.Desks.{DeskShown, pass_at}
+use Rattle.plex_board.specs.PlexScript.declared.{asks.AnyHistory.AnyHistory, scripts.Script.Script}
 use Rattle.plex_board.specs.Boards.{BoardShown, IsDeskOf, IsAccount, AreClosed}
+use Rattle.plex_board.specs.Desks.{DeskShown, pass_at}
+use Rattle.plex_board.specs.{Passes.reply_numbered, Cells.CellShown, Cells.IsAnyTold, Cells.own_replies}
 use Rattle.plex_board.proofs.DeskLaws.{desk-pass_owner}
 use Rattle.two_members.specs.Members.{HasPool, HasRead, HasTested, IsOutcome, gbp, reader, sight_of}
 use Rattle.two_members.specs.declared.seen.Seen.{Seen}
@@ -30,10 +27,10 @@ module _ {L : Type 0} (board : BoardShown L) (script : Script) (histories : List
       → AreClosed board desks histories → desks ≡ left ++ b ∷ [] → IsDeskOf board b → b.owner ≡ reader
       → HasRead b seen.no seen.reply → HasTested b seen.tested → IsOutcome script histories seen
   outcome pool forms closed last of_board owner read has =
-      let entries : AnyHistory = get_or histories 0 (history.Cache []) in
+      let entries : AnyHistory = get_or histories 0 (AnyHistory.Cache []) in
       let some : 0 < length board.cells = slice_get_within board.cells 0 pool.cell pool.there in
       let first : slice_get histories 0 ≡ Some entries =
-      slice_get-get_or histories 0 (history.Cache []) (omega (arith, some, closed.structures)) in
+      slice_get-get_or histories 0 (AnyHistory.Cache []) (omega (arith, some, closed.structures)) in
       let says = closed.closed gbp pool.cell entries pool.there first in
       let account : IsAccount pool.cell entries (pass_at b gbp) =
       all_last (λ desk. IsAccount pool.cell entries (pass_at desk gbp)) left desks b last says.1 in

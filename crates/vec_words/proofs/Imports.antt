@@ -9,17 +9,13 @@ pub use Rattle.atomic_table.proofs.Lists.{at_set, set_again}
 pub use Rattle.atomic_table.specs.Seated.{TableId}
 pub use Rattle.atomic_table.specs.Table.{Me, keeps, opening, Allows, Splits, Joins}
 pub use Rattle.vec_world.proofs.LogLaws.{Carries-at, Leaves, Moves, leaves-commit, store-cases, settled-max, settled-below, bits_at-push_store, bits_at-push_above, bits_at-push_other, bits_at-push_commit, Carries-nil, Carries-push_other, Carries-push_commit, CarriesWord-push_store, stamp_of-word_of, StampsUpTo-from_each, settled-store, settled-commit}
-pub use Rattle.vec_world.specs.declared.step.Step.{Step}
-pub use Rattle.vec_world.specs.declared.step.Step.TheVariants.{Store, Commit}
+pub use Rattle.vec_world.specs.declared.{step.Step.Step, step.Step.TheVariants.Store, step.Step.TheVariants.Commit}
 pub use Rattle.vec_words.specs.Logged.{steps_of, count_of, flying_of, CallRecord, commits_of, calls_in, calls_of, left_in, IsOrderly, Tells, bit_in, words_of, word_number, sight, IsIssued, IsHonest, step_of, count_after, flying_after, left_after}
 unfoldable pub use Rattle.vec_words.specs.Logged.{indices_of}
 pub use Rattle.vec_words.specs.Rule.{Settled, IsKept, Roll, Fits, AllFit, Shows, AreLeft, Kept}
 pub use Rattle.vec_words.specs.Stores.{IsAt, IsWithin, IsSpared, store_of, stores_of, StoresEach, AreDistinct}
 pub use Rattle.vec_words.specs.Tokens.{IsBegun, WordTable, PassSeen, SeatSeen, pass_seen, seat_seen, IsShown, learned_pass, new_pass, IsFirst}
 pub use Rattle.vec_words.specs.View.{with_log, note_view, blank_view, first_view, made_one, next_pass, note_of, told_of, without_log, log_alone, tested_of, learned_of, Becomes, stored_to, committed_of}
-pub use Rattle.vec_words.specs.declared.logged.Logged.{Logged}
 pub use Rattle.vec_words.specs.declared.logged.Logged.TheVariants.{Stored, Committed}
-pub use Rattle.vec_words.specs.declared.logged.Sight.{Sight}
-pub use Rattle.vec_words.specs.declared.stores.Place.{Place}
 pub use Rattle.vec_words.specs.declared.view.Shape.{Shape}
-pub use Rattle.vec_words.specs.declared.view.View.{View}
+pub use Rattle.vec_words.specs.declared.{logged.Logged.Logged, logged.Sight.Sight, stores.Place.Place, view.View.View}

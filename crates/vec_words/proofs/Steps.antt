@@ -1,7 +1,6 @@
 -- Each step that stores nothing keeps the rule.
 use Rattle.vec_words.proofs.Imports.{◌≡◌, ◌≢◌, ◌==◌, ◌+◌, ◌*◌, ◌/◌, ◌^◌, ◌<◌, ◌≤◌, ℕ, zero, suc, Bool, true, false, true≢false, List, [], ◌∷◌, map, length, set, replicate, refl, sym, ap, ◌∙◌, subst, inl, ⊎_elim, arith, ne_eqb, All, max, slice_index, if◌then◌else◌, set-get_or, length-replicate, All-weaker, All-nil, All-append, All-map, some, some-injective, some-ne-none, get_elem?, Me, keeps, opening, Allows, Splits, Joins, at_set, set_again, bits_of, stamp_of, settled-max, Logged, View, Shape, words_of, word_number, steps_of, count_of, flying_of, left_in, calls_of, IsOrderly, sight, note_view, blank_view, first_view, made_one, next_pass, note_of, told_of, without_log, log_alone, with_log, tested_of, learned_of, Becomes, Settled, IsKept, Roll, Fits, AllFit, AreLeft, Kept, Shows}
-use Rattle.vec_words.proofs.Sound.{orderly-nil, settled-count}
-use Rattle.vec_words.proofs.Kept.{kept-now, all_set, all_push}
+use Rattle.vec_words.proofs.{Sound.orderly-nil, Sound.settled-count, Kept.kept-now, Kept.all_set, Kept.all_push}
 
 off : false ≡ true → ⊥
 off e = true≢false (sym e)

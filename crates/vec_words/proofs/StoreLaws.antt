@@ -1,8 +1,7 @@
 -- What the stores of one call do to the readings of a log.
 use Rattle.vec_words.proofs.Imports.{◌≡◌, ◌≢◌, ℕ, ◌+◌, ◌<◌, ◌≤◌, true, false, Bool, List, [], ◌∷◌, ◌++◌, length, take, Some, refl, sym, ap, ◌∙◌, subst, ⊎_elim, arith, append-nil, append_assoc, All, Contains, slice_get, cases_eq, take_more, map-append, get_or-take, length-take-le, slice_get_within, get_or_from_slice_get, slice_get-get_or, All-nil, All-cons, All-head, All-tail, All-push, All-pop, All-contains, all_pairs_push, bits_at, HasStore, Logged, Stored, Place, words_of, word_number, steps_of, commits_of, SeatSeen, IsAt, IsWithin, IsSpared, store_of, stores_of, StoresEach}
 use Rattle.vec_words.proofs.Logs.{bits-other, bits-above, bits-here, has_store-store}
-use Rattle.vec_words.proofs.Commits.{commits_of-append}
-use Rattle.vec_words.proofs.Places.{word_number-same}
+use Rattle.vec_words.proofs.{Commits.commits_of-append, Places.word_number-same}
 
 -- a place is this word, or it isn't
 at_cases : (conn word : ℕ) (place : Place) (G : Type 0) → (IsAt conn word place → G) → (¬ IsAt conn word place → G)

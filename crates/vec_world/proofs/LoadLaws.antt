@@ -1,5 +1,5 @@
 -- The law of a load: what it tells stays told by every log that later steps make.
-use Rattle.vec_world.proofs.Imports.{◌≡◌, ℕ, ◌+◌, ◌-◌, ◌^◌, ◌<◌, ◌≤◌, List, [], ◌∷◌, ◌++◌, length, take, drop, get_or, Option, Some, None, sym, ap, ◌∙◌, subst, inl, arith, All, fold, cond_both, length_push, drop-append-le, take-append-drop, fold-append, fold_more, All-drop, All-take, Step, Store, Commit, Load, LoadCount, Split, Join, World, IsOpen, FitsHalf, bits_of, stamp_of, word_at, known_by, start, is_open, has_word, has_pass, can_store, with_store, with_commit, with_learned, with_note, with_note_told, act, world_of, Tells, TellsWord, EachLoadTells, known_at_load, logged_since}
+use Rattle.vec_world.proofs.Imports.{◌≡◌, ℕ, ◌+◌, ◌^◌, ◌<◌, ◌≤◌, List, [], ◌∷◌, ◌++◌, length, take, drop, get_or, Option, Some, None, sym, ap, ◌∙◌, subst, inl, arith, All, fold, cond_both, length_push, drop-append-le, take-append-drop, fold-append, fold_more, All-drop, All-take, Step, Store, Commit, Load, LoadCount, Split, Join, World, IsOpen, FitsHalf, bits_of, stamp_of, word_at, start, is_open, has_word, has_pass, can_store, with_store, with_commit, with_learned, with_note, with_note_told, act, world_of, Tells, TellsWord, EachLoadTells, known_at_load, logged_since}
 use Rattle.vec_world.proofs.LogLaws.{Carries-at, StampsUpTo-weaker, settled-store, settled-commit, settled-max, settled-below, Tells-push_commit, Tells-push_store}
 use Rattle.vec_world.proofs.WorldLaws.{Settled, IsSound, CanStore, can_store_from_test, open_from_test, stamp-above, settled-known, settled-stamp, sound-stored, sound-committed, sound-learned, sound-noted, sound-told, sound-act, sound-world_of, fold-act}
 

@@ -1,5 +1,5 @@
 -- What every step of the machine keeps.
-use Rattle.vec_world.proofs.Imports.{◌≡◌, ◌≢◌, ◌⊎◌, ℕ, ◌-◌, ◌^◌, ◌<◌, ◌≤◌, true, ◌&&◌, ◌||◌, max, List, [], ◌∷◌, ◌++◌, length, take, get_or, set, replicate, Option, Some, None, refl, sym, ◌∙◌, subst, inl, inr, arith, All, fold, slice_get, cases_eq, cases_lt, and_parts, or_cases, ltb-true, eqb-true, eqb-false, not-true, cond_both, slice_get_within, get_or_from_slice_get, get_or-set_same, get_or-set_other, get_or-replicate, get_or_past, length-replicate, All-nil, All-head, All-tail, All-get_or, All-push, All-set, All-take, All-weaker, All-replicate, Contains-push, Step, Store, Commit, Load, LoadCount, Split, Join, World, IsOpen, IsSettled, FitsHalf, bits_of, stamp_of, word_of, CarriesWord, word_at, known_by, start, is_open, has_word, has_pass, can_store, with_store, with_commit, with_learned, with_note, with_note_told, act, world_of, IsGenuine, HasGenuineNumbers}
+use Rattle.vec_world.proofs.Imports.{◌≡◌, ◌≢◌, ◌⊎◌, ℕ, ◌-◌, ◌^◌, ◌<◌, true, max, List, [], ◌∷◌, ◌++◌, length, take, get_or, set, Option, Some, None, refl, sym, subst, inl, inr, arith, All, fold, slice_get, cases_eq, cases_lt, and_parts, or_cases, ltb-true, eqb-true, eqb-false, not-true, cond_both, slice_get_within, get_or_from_slice_get, get_or-set_same, get_or-set_other, get_or-replicate, get_or_past, length-replicate, All-nil, All-head, All-tail, All-get_or, All-push, All-set, All-take, All-weaker, All-replicate, Contains-push, Step, Store, Commit, Load, LoadCount, Split, Join, World, IsOpen, IsSettled, FitsHalf, bits_of, stamp_of, word_of, CarriesWord, word_at, known_by, start, is_open, has_word, has_pass, can_store, with_store, with_commit, with_learned, with_note, with_note_told, act, world_of, IsGenuine, HasGenuineNumbers}
 use Rattle.vec_world.proofs.LogLaws.{Carries-nil, Carries-push_other, Carries-push_commit, CarriesWord-push_store, stamp_of-word_of, settled-store, settled-commit, settled-max}
 
 -- What holds of each world that steps make.

@@ -56,6 +56,7 @@ pub(crate) fn refusal(
 }
 
 /// Does the command.
+#[tactic(auto, using(crate::proofs::FoundLaws::found_told, list_kept::proofs::ToldLaws::content_at))]
 pub(crate) fn act(
     kept: &mut Kept,
     at: At,

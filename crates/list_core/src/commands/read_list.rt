@@ -28,6 +28,7 @@ fn push(ids: &mut Vec<EntryId>, id: EntryId) -> Result<(), NoMemory>
 }
 
 // The ids of a header's records.
+#[tactic(auto, using(crate::proofs::RowLaws::rows_told, std::proofs::lemmas::List::take_all))]
 fn ids_of(alloc: Global, kept: &Kept, header: u32) -> Result<Vec<EntryId>, NoMemory>
     ensures { IfOk result (λ ids. ids.items
         ≡ map (λ (rec : Record). rec.id) (records_of kept.now.content.lists header)) }

@@ -81,6 +81,7 @@ fn updated(kept: &Kept, at: At, adj: Option<Adjunct>) -> Bare
 ghost use Rattle.list_core.specs.Found.{updated_with};
 
 /// Does the command.
+#[tactic(auto, using(crate::proofs::FoundLaws::found_told, list_kept::proofs::ToldLaws::content_at))]
 pub(crate) fn act(kept: &mut Kept, at: At, body: &Option<Body>, adj: Option<Adjunct>)
     requires found { IsFound kept.old.content.lists at }
     requires orderly { IsOrderly kept.old.elements

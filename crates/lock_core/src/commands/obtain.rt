@@ -25,7 +25,7 @@ pub(crate) fn request(by: ConnId, r: Resource, excl: bool, rec: Option<Adjunct>)
 }
 
 // Whether anybody waits for a resource.
-#[tactic(auto, using(crate::proofs::ReadLaws::any_by))]
+#[tactic(auto, using(lock_interests::proofs::OwnerLaws::found_any))]
 fn is_awaited(locks: &Locks, r: &Resource) -> bool
     ensures { result ≡ obtain.is_awaited r.now locks.now.content.waiters }
 {

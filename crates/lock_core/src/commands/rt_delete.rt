@@ -12,6 +12,7 @@ use cf_types::{ConnId, Effects, Resource};
 use lock_interests::Interests;
 
 /// Why the command is refused.
+#[tactic(auto, using(crate::proofs::ReadLaws::refusal_told))]
 pub(crate) fn refusal(interests: &Interests, r: &Resource, conn: ConnId) -> Judged
     ensures { result_err result
         ≡ first_refusal (rt_delete.causes r.now conn interests.now.interests) }

@@ -9,6 +9,7 @@ use cf_types::ConnId;
 use lock_interests::Interests;
 
 /// Why the command is refused.
+#[tactic(auto, using(crate::proofs::ReadLaws::refusal_told))]
 pub(crate) fn refusal(interests: &Interests, conn: ConnId) -> Judged
     ensures { result_err result ≡ first_refusal (rt_read.causes conn interests.now.interests) }
 {

@@ -1,4 +1,4 @@
-use Rattle.cache_core.proofs.Imports.{◌≡◌, ◌≤◌, ◌∙◌, false, vec_len, sym, ap, arith, Vec, Global, Name16, is_enough}
+use Rattle.cache_core.proofs.Imports.{◌≡◌, ◌∙◌, false, vec_len, sym, ap, arith, Vec, Global, Name16, is_enough}
 use Rattle.cache_core.proofs.FrontLaws.{fronting_start, fronting_enough, fronting_fits, fronting_some, fronting_none, fronting_end}
 use Rattle.cache_core.proofs.room.front.Goals.{in-Some+in_ok-push-in-Some, in-None}
 use Rattle.cache_core.proofs.room.front.Goals as goal

@@ -1,4 +1,4 @@
-use Rattle.cache_reclaim.proofs.Imports.{arith, ◌≡◌, ◌++◌, sym, subst, ◌∙◌, append-nil, ◌<◌, length}
+use Rattle.cache_reclaim.proofs.Imports.{arith, sym, subst, ◌∙◌, append-nil, ◌<◌, length}
 use Rattle.cache_reclaim.proofs.SlotLaws.{seam_moved, copy_missing, copy_place, copy_whole}
 use Rattle.cache_reclaim.proofs.slots.copied.Goals as goal
 

@@ -1,4 +1,4 @@
-use Rattle.cache_reclaim.proofs.Imports.{arith, ◌≡◌, ◌++◌, ◌∙◌}
+use Rattle.cache_reclaim.proofs.Imports.{arith}
 use Rattle.cache_reclaim.proofs.PlaceLaws.{names_moved, names_all}
 use Rattle.cache_reclaim.proofs.slots.push_names.Goals as goal
 

@@ -1,4 +1,4 @@
-use Rattle.cache_reclaim.proofs.Imports.{arith, ◌∙◌}
+use Rattle.cache_reclaim.proofs.Imports.{arith}
 use Rattle.cache_reclaim.proofs.SlotLaws.{slot_named, slot_there}
 use Rattle.cache_reclaim.proofs.slots.slot_for.Goals as goal
 

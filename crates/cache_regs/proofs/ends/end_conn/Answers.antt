@@ -1,4 +1,4 @@
-use Rattle.cache_regs.proofs.Imports.{◌≡◌, ◌+◌, ◌∙◌, refl, arith}
+use Rattle.cache_regs.proofs.Imports.{◌∙◌, refl, arith}
 use Rattle.cache_regs.proofs.EndLaws.{fits_step, ended_never, ended_then, ended_same, filter_within, below_first, below_more, below_of, below_all}
 use Rattle.cache_regs.proofs.ends.end_conn.Goals as goal
 

@@ -1,4 +1,4 @@
-use Rattle.cache_regs.proofs.Imports.{◌≡◌, ◌+◌, ◌∙◌, refl, arith}
+use Rattle.cache_regs.proofs.Imports.{◌∙◌, refl, arith}
 use Rattle.cache_regs.proofs.EndLaws.{fits_step, ended_never, ended_then, ended_same, filter_within, name_first, name_more, name_of_all, name_all}
 use Rattle.cache_regs.proofs.ends.end_name.Goals as goal
 

@@ -1,6 +1,5 @@
 use Rattle.cache_regs.proofs.Imports.{arith, is_some, sym, ap, ◌∙◌}
-use Rattle.cache_regs.proofs.MapLaws.{removed_regs, stands_law, removed_len}
-use Rattle.cache_regs.proofs.AgreeLaws.{removed_agreed}
+use Rattle.cache_regs.proofs.{MapLaws.removed_regs, MapLaws.stands_law, MapLaws.removed_len, AgreeLaws.removed_agreed}
 use Rattle.cache_regs.proofs.maps.take_out.Goals as goal
 
 pub returns-in-Some-clause-agreed : goal.returns-in-Some-clause-agreed

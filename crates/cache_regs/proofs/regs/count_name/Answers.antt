@@ -1,4 +1,4 @@
-use Rattle.cache_regs.proofs.Imports.{◌≡◌, ◌∙◌, arith}
+use Rattle.cache_regs.proofs.Imports.{arith}
 use Rattle.cache_regs.proofs.ListedLaws.{count_first, count_more, count_all}
 use Rattle.cache_regs.proofs.regs.count_name.Goals as goal
 

@@ -1,4 +1,4 @@
-use Rattle.cache_regs.proofs.Imports.{◌∙◌, arith, none_filtered, length-filter-le, length-insertion, is_at}
+use Rattle.cache_regs.proofs.Imports.{arith, none_filtered, length-filter-le, length-insertion, is_at}
 use Rattle.cache_regs.proofs.EndLaws.{unnamed}
 use Rattle.cache_regs.proofs.regs.replace.Goals as goal
 

@@ -1,4 +1,4 @@
-use Rattle.cache_rows.proofs.Imports.{ℕ, ◌∙◌, arith, le-leb}
+use Rattle.cache_rows.proofs.Imports.{arith, le-leb}
 use Rattle.cache_rows.proofs.TallyLaws.{can_grow, tally_come}
 use Rattle.cache_rows.proofs.rows.set_row.Goals as goal
 

@@ -1,4 +1,4 @@
-use Rattle.cache_rows.proofs.Imports.{ℕ, Some, ◌∙◌, arith, le-leb, elements_of, rows_without, item_with}
+use Rattle.cache_rows.proofs.Imports.{Some, arith, le-leb, elements_of, rows_without, item_with}
 use Rattle.cache_rows.proofs.TallyLaws.{can_grow, tally_come}
 use Rattle.cache_rows.proofs.rows.write_row.Goals as goal
 

@@ -1,4 +1,4 @@
-use Rattle.cache_rows.proofs.Imports.{arith, ◌+◌, ◌∙◌, ap, chain_of}
+use Rattle.cache_rows.proofs.Imports.{arith, ◌∙◌, ap, chain_of}
 use Rattle.cache_rows.proofs.StoreLaws.{ended_stored, ended_items, body_at}
 use Rattle.cache_rows.proofs.store.end_in.Goals as goal
 

@@ -1,6 +1,5 @@
 use Rattle.cf_lists.proofs.Imports.{rules, Bool, IsPartitionPoint-from_clause, Resource, resource_before, resource_up_to}
-use Rattle.cf_lists.proofs.PlaceLaws.{partitioned, partition_is}
-use Rattle.cf_lists.proofs.EntryKeyLaws.{before_front}
+use Rattle.cf_lists.proofs.{PlaceLaws.partitioned, PlaceLaws.partition_is, EntryKeyLaws.before_front}
 use Rattle.cf_lists.proofs.keys.start_of.Goals as goal
 
 pub returns : goal.returns

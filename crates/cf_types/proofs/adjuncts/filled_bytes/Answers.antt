@@ -1,4 +1,4 @@
-use Rattle.cf_types.proofs.Imports.{◌≡◌, ◌-◌, length, ◌++◌, drop, replicate, ap, drop-replicate, ADJUNCT_BYTES}
+use Rattle.cf_types.proofs.Imports.{length, ◌++◌, ap, drop-replicate, ADJUNCT_BYTES}
 use Rattle.cf_types.proofs.adjuncts.filled_bytes.Goals as goal
 
 pub returns : goal.returns

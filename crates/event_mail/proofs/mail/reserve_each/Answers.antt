@@ -1,4 +1,4 @@
-use Rattle.event_mail.proofs.Imports.{◌≡◌, ◌<◌, ◌∙◌, arith, get_or_default}
+use Rattle.event_mail.proofs.Imports.{arith, get_or_default}
 use Rattle.event_mail.proofs.PostLaws.{mailboxes_of-same, room_at-set}
 use Rattle.event_mail.proofs.mail.reserve_each.Goals as goal
 

@@ -1,8 +1,7 @@
 -- The desk is the caller's, and stays so whatever the call is answered.
 use Rattle.std.proofs.Common.{sym, ap, subst}
 use Rattle.plex_board.specs.CfTypes.declared.numbers.ConnId.{ConnId}
-use Rattle.plex_board.specs.EngineApi.Asking.{MayAsk}
-use Rattle.plex_board.specs.Desks.{DeskShown}
+use Rattle.plex_board.specs.{EngineApi.Asking.MayAsk, Desks.DeskShown}
 use Rattle.failover.proofs.SeatLaws.{seat_is, still_seated}
 use Rattle.failover.proofs.members.call.Goals as goal
 

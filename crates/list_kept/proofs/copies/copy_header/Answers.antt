@@ -1,4 +1,4 @@
-use Rattle.list_kept.proofs.Imports.{◌≡◌, ℕ, Option, Some, List, Bor, slice_get, option_map, sym, ap, ◌∙◌, arith, list_any, front_next, front_whole, front_long, front_alone, Rec, Record, record_in, record_id, is_id, records_of, all_records, none_within, none_shown}
+use Rattle.list_kept.proofs.Imports.{◌≡◌, ℕ, Option, Some, List, Bor, slice_get, option_map, sym, ap, ◌∙◌, arith, list_any, front_next, front_alone, Rec, Record, record_in, record_id, is_id, records_of, all_records}
 use Rattle.list_kept.proofs.copies.copy_header.Goals as goal
 
 -- the record that was found stands at its place
@@ -6,9 +6,6 @@ there : (chains : List (Option (List ℕ))) (lists : List (List Record)) (h n : 
     → option_map (λ r. record_in chains r.now) o ≡ slice_get (records_of lists h) n
     → o ≡ Some rec → slice_get (records_of lists h) n ≡ Some (record_in chains rec.now)
 there chains lists h n o rec e is = sym e ∙ ap (option_map (λ (r : Bor Rec). record_in chains r.now)) is
-
-pub push_copy-requires-clause-header : goal.push_copy-requires-clause-header
-push_copy-requires-clause-header c = grind (arith, front_long)
 
 pub push_copy-requires-clause-alone : goal.push_copy-requires-clause-alone
 push_copy-requires-clause-alone c =
@@ -20,11 +17,5 @@ push_copy-requires-clause-alone c =
     ∙ front_alone record_id lists c.args.header c.loop-place.place (record_in chains c.in-Some.rec.now)
     c.at.ensures.apart at
 
-pub unreachable-requires : goal.unreachable-requires
-unreachable-requires c = grind (arith, none_within, none_shown)
-
 pub loop-place-preserved : goal.loop-place-preserved
 loop-place-preserved c = grind (arith, front_next, there)
-
-pub returns-clause-lists : goal.returns-clause-lists
-returns-clause-lists c = grind (arith, front_whole)

@@ -1,4 +1,4 @@
-use Rattle.list_kept.proofs.Imports.{arith, ap, ◌∙◌, list_any, found_passes, gone, record_id, Lists, all_records, is_id, record_in, ordered_without}
+use Rattle.list_kept.proofs.Imports.{arith, ap, ◌∙◌, list_any, found_passes, gone, record_id, Lists, all_records, is_id, record_in}
 use Rattle.list_kept.proofs.placing.put_again.Goals as goal
 
 pub put_record-requires-clause-alone : goal.put_record-requires-clause-alone
@@ -7,6 +7,3 @@ put_record-requires-clause-alone c =
     let rec = record_in c.args.store.now.chains c.take-rec.result in
     ap (λ (l : Lists). list_any (is_id c.take-rec.result.id) (all_records l)) c.take-rec.ensures.lists
     ∙ gone record_id c.args.id.0 lists rec (grind (arith, found_passes))
-
-pub put_record-requires-clause-ordered : goal.put_record-requires-clause-ordered
-put_record-requires-clause-ordered c = grind (arith, ordered_without)

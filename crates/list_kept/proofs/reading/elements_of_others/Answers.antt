@@ -1,5 +1,5 @@
 use Rattle.list_kept.proofs.Imports.{◌≡◌, Some, arith, record_in, record_of}
-use Rattle.list_kept.proofs.NamedLaws.{elements_found, elements_absent}
+use Rattle.list_kept.proofs.NamedLaws.{elements_found}
 use Rattle.list_kept.proofs.reading.elements_of_others.Goals as goal
 
 pub overflow_sub-result : goal.overflow_sub-result
@@ -23,6 +23,3 @@ returns-in-Some c =
       c.need.ensures,
       elements_found c.args.id lists (record_in c.args.kept.now.chains c.in-Some.rec.now) c.get.ensures.apart there,
     )
-
-pub returns-in-None : goal.returns-in-None
-returns-in-None c = grind (arith, elements_absent)

@@ -1,4 +1,4 @@
-use Rattle.list_store.proofs.Imports.{◌∙◌, ap, sym, ℕ, arith, List, length, length-map, Vec, Global, orders_in, get_within, lists_without, rec_id, lists_at}
+use Rattle.list_store.proofs.Imports.{◌∙◌, ap, sym, ℕ, arith, List, length, length-map, Vec, Global, orders_in, lists_without, rec_id, lists_at}
 use Rattle.list_store.proofs.TiedLaws.{key_stands, header_stands, found_pulled, unfound_record, without_unfound}
 use Rattle.list_store.proofs.ties.take_out.Goals as goal
 
@@ -23,9 +23,6 @@ pull-requires-clause-header c = omega (
   header_stands c.args.slab.now (orders_in c.args.orders.now.items) c.args.spots.now.entries c.requires.tied
       c.args.id.0 _ _ (sym c.spot_for.ensures ∙ c.in-Some.is),
 )
-
-pub pull-requires-clause-place : goal.pull-requires-clause-place
-pull-requires-clause-place c = grind (arith, get_within)
 
 pub returns-in-Some-clause-record : goal.returns-in-Some-clause-record
 returns-in-Some-clause-record c = (found_pulled c.args.slab.now (orders_in c.args.orders.now.items)

@@ -1,5 +1,5 @@
-use Rattle.lock_core.proofs.Imports.{◌≡◌, ◌∷◌, length, append_assoc, append-nil, sym, ap, arith, Settlement, grant, granted_letter, content_granted}
-use Rattle.lock_core.proofs.GrantLaws.{next-waits, grant-next, grant-none}
+use Rattle.lock_core.proofs.Imports.{◌≡◌, ◌∷◌, length, append_assoc, sym, ap, arith, Settlement, grant, granted_letter, content_granted}
+use Rattle.lock_core.proofs.GrantLaws.{next-waits, grant-next}
 use Rattle.lock_core.proofs.grants.grant.Goals as goal
 
 pub grant_one-requires-clause-waits : goal.grant_one-requires-clause-waits
@@ -19,15 +19,3 @@ grant_one-requires-clause-letter c =
 
 pub loop-w-preserved : goal.loop-w-preserved
 loop-w-preserved c = grind (arith, grant-next, append_assoc)
-
-pub returns-clause-content : goal.returns-clause-content
-returns-clause-content c = grind (arith, grant-none)
-
-pub returns-clause-mail : goal.returns-clause-mail
-returns-clause-mail c = grind (arith, grant-none, append-nil)
-
-pub returns-clause-letters : goal.returns-clause-letters
-returns-clause-letters c = grind (arith, grant-none)
-
-pub returns-clause-fewer : goal.returns-clause-fewer
-returns-clause-fewer c = grind (arith, grant-none)

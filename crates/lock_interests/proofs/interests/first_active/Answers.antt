@@ -1,7 +1,6 @@
-use Rattle.lock_interests.proofs.Imports.{rules, tests, not, YieldsList-from_first, find_from_yields_List, Held, owners_left}
+use Rattle.lock_interests.proofs.Imports.{rules, tests, YieldsList-from_first, find_from_yields_List, owners_left}
 use Rattle.lock_interests.proofs.interests.first_active.Goals as goal
 
 pub returns : goal.returns
-returns c =
-    find_from_yields_List (λ (held : Held). not held.retained) c.find.new.self _ c.find.result c.find.ensures.ran
-    (YieldsList-from_first (λ x. x.now) owners_left (owners_left c.args.owners) cc) (λ x b q k. search (rules, tests))
+returns c = find_from_yields_List _ c.find.new.self _ _ c.find.ensures.ran
+    (YieldsList-from_first _ _ (owners_left c.args.owners) cc) (λ x b q k. search (rules, tests))

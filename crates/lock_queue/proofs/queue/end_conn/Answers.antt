@@ -1,6 +1,5 @@
-use Rattle.lock_queue.proofs.Imports.{◌≡◌, ◌≤◌, List, map, not, length, ap, arith, ConnId, length-filter-le, resource_by, joined, left_seen, left_table, length_seen, Waiter, is_by, waiters_without_conn, part_of, waiters_in, AreEntries}
-use Rattle.lock_queue.proofs.CountLaws.{recorded_few}
-use Rattle.lock_queue.proofs.WaiterLaws.{queue-filter}
+use Rattle.lock_queue.proofs.Imports.{◌≡◌, ◌≤◌, List, map, not, length, ap, arith, ConnId, length-filter-le, joined, left_seen, left_table, length_seen, Waiter, is_by, waiters_without_conn, part_of, waiters_in, AreEntries}
+use Rattle.lock_queue.proofs.{CountLaws.recorded_few, WaiterLaws.queue-filter}
 use Rattle.lock_queue.proofs.queue.end_conn.Goals as goal
 
 left : (conn : ConnId) (entries new : List (List Waiter)) → AreEntries entries
@@ -20,9 +19,8 @@ pub count_all-count-requires : goal.count_all-count-requires
 count_all-count-requires c = grind (arith, fewer)
 
 pub returns-clause-kept : goal.returns-clause-kept
-returns-clause-kept c =
-    rw c.take_out_conn.ensures.entries (left_table part_of c.args.entries.now (map (resource_by part_of)
-    (waiters_in c.args.entries.now)) c.requires.kept (λ (waiter : Waiter). not (is_by c.args.conn waiter)))
+returns-clause-kept c = rw c.take_out_conn.ensures.entries
+    (left_table part_of _ _ c.requires.kept (λ (waiter : Waiter). not (is_by c.args.conn waiter)))
 
 pub returns-clause-fits : goal.returns-clause-fits
 returns-clause-fits c = grind (arith, fewer)
@@ -31,9 +29,8 @@ pub returns-clause-less : goal.returns-clause-less
 returns-clause-less c = grind (arith, fewer)
 
 pub returns-clause-queue : goal.returns-clause-queue
-returns-clause-queue c = rw (left c.args.conn c.args.entries.now
-    c.take_out_conn.new.entries c.requires.kept c.take_out_conn.ensures.entries) (queue-filter
-    (λ (waiter : Waiter). not (is_by c.args.conn waiter)) (waiters_in c.args.entries.now) c.requires.queue)
+returns-clause-queue c = rw (left c.args.conn _ _ c.requires.kept c.take_out_conn.ensures.entries)
+    (queue-filter _ _ c.requires.queue)
 
 pub recorded_all-recorded-requires : goal.recorded_all-recorded-requires
 recorded_all-recorded-requires c = grind (arith, recorded_few, fewer)

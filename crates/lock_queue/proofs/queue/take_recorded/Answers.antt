@@ -5,12 +5,5 @@ use Rattle.lock_queue.proofs.queue.take_recorded.Goals as goal
 pub overflow_sub-result : goal.overflow_sub-result
 overflow_sub-result c =
     let had = c.recorded_of-had.ensures ∙ ap recorded_of c.find_on.ensures in
-    omega (
-      arith,
-      had,
-      recorded_less c.args.r.now c.args.conn (waiters_in c.args.entries.now) c.requires.kept.one_each,
-      c.requires.recorded,
-    )
-
-pub returns : goal.returns
-returns c = grind (arith, recorded_less)
+    let less = recorded_less c.args.r.now c.args.conn (waiters_in c.args.entries.now) c.requires.kept.one_each in
+    omega (arith, had, less, c.requires.recorded)

@@ -3,16 +3,14 @@ use Rattle.lock_table.proofs.table.count_all.Goals as goal
 
 pub overflow_add-count : goal.overflow_add-count
 overflow_add-count c =
-    let next = counted_next (λ (l : List Held). length l) length-append c.args.entries.now
-    c.loop-entry.entry-index c.loop-entry.count c.len-count.result
-    _ c.entry-item.result c.loop-entry-test.true c.entry-item.is c.len-count.ensures c.loop-entry.invariant in
+    let next = counted_next (λ (l : List Held). length l) length-append _ _ _ _ _ _ c.loop-entry-test.true
+    c.entry-item.is c.len-count.ensures c.loop-entry.invariant in
     omega (arith, next, c.requires)
 
 pub loop-entry-preserved : goal.loop-entry-preserved
-loop-entry-preserved c = counted_next (λ (l : List Held). length l)
-    length-append c.args.entries.now c.loop-entry.entry-index c.loop-entry.count c.len-count.result
-    _ c.entry-item.result c.loop-entry-test.true c.entry-item.is c.len-count.ensures c.loop-entry.invariant
+loop-entry-preserved c = counted_next (λ (l : List Held). length l) length-append _ _ _ _
+    _ _ c.loop-entry-test.true c.entry-item.is c.len-count.ensures c.loop-entry.invariant
 
 pub returns : goal.returns
-returns c = counted_past (λ (l : List Held). length l) length-append c.args.entries.now
-    c.loop-entry.entry-index c.loop-entry.count _ c.loop-entry-test.false refl c.loop-entry.invariant
+returns c = counted_past (λ (l : List Held). length l) length-append _ _ _ _ c.loop-entry-test.false refl
+    c.loop-entry.invariant

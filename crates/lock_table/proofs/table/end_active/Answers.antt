@@ -1,4 +1,4 @@
-use Rattle.lock_table.proofs.Imports.{◌≡◌, ◌≤◌, ◌&&◌, List, map, not, length, ap, arith, ConnId, length-filter-le, resource_by, joined, left_seen, left_table, length_seen, Held, is_by, owners_without_active, part_of, owners_in, AreEntries}
+use Rattle.lock_table.proofs.Imports.{◌≡◌, ◌≤◌, ◌&&◌, List, map, not, length, ap, arith, ConnId, length-filter-le, joined, left_seen, left_table, length_seen, Held, is_by, owners_without_active, part_of, owners_in, AreEntries}
 use Rattle.lock_table.proofs.table.end_active.Goals as goal
 
 left : (conn : ConnId) (entries new : List (List Held)) → AreEntries entries
@@ -19,8 +19,7 @@ count_all-requires c = grind (arith, fewer)
 
 pub returns-clause-kept : goal.returns-clause-kept
 returns-clause-kept c = rw c.take_active.ensures.entries
-    (left_table part_of c.args.entries.now (map (resource_by part_of) (owners_in c.args.entries.now))
-    c.requires.kept (λ (held : Held). not (is_by c.args.conn held && not held.retained)))
+    (left_table part_of _ _ c.requires.kept (λ (held : Held). not (is_by c.args.conn held && not held.retained)))
 
 pub returns-clause-fits : goal.returns-clause-fits
 returns-clause-fits c = grind (arith, fewer)

@@ -6,9 +6,6 @@ pub loop-number-preserved : goal.loop-number-preserved
 loop-number-preserved g c = record {
   of_board = c.depart.ensures.of_board;
   owner = c.depart.ensures.owner ∙ c.loop-number.invariant.owner;
-  rest = λ after more. c.loop-number.invariant.rest after (departs_next c.args.board.now
-      (record { desk = c.loop-number.desk; shown = c.loop-number.shown }) (record {
-        desk = c.depart.new.desk;
-        shown = c.depart.new.shown;
-      }) after c.loop-number.number (search rules) c.depart.ensures.departed more);
+  rest = λ after more. c.loop-number.invariant.rest after
+      (departs_next c.args.board.now _ _ after c.loop-number.number (search rules) c.depart.ensures.departed more);
 }

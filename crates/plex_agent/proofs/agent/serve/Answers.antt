@@ -1,4 +1,4 @@
-use Rattle.plex_agent.proofs.Imports.{rules, ◌∙◌}
+use Rattle.plex_agent.proofs.Imports.{arith, rules, ◌∙◌}
 use Rattle.plex_agent.proofs.CallerLaws.{line_fits, does_own, does_others}
 use Rattle.plex_agent.proofs.agent.serve.Goals as goal
 use Rattle.plex_agent.proofs.agent.serve.Goals.{then-eq, else-eq}
@@ -14,19 +14,8 @@ loop-line-preserved g c =
         of_board = w.gated_turn.ensures.of_board;
         owner = w.gated_turn.ensures.owner ∙ c.loop-line.invariant.owner;
         rest = λ after more. c.loop-line.invariant.rest after
-            (does_own c.args.board.now (record { desk = c.loop-line.desk; shown = c.loop-line.shown })
-            (record { desk = w.gated_turn.new.desk; shown = w.gated_turn.new.shown }) after
-            c.args.desk.now.owner c.args.lines.now c.loop-line.line-index c.line-item.result c.line-item.result
-            (search rules) c.line-item.is (search rules) fits w.gated_turn.ensures.turned more);
+            (does_own _ _ _ _ c.args.desk.now.owner c.args.lines.now c.loop-line.line-index c.line-item.result
+            c.line-item.result (search rules) c.line-item.is (search rules) fits w.gated_turn.ensures.turned more);
       })
-      | else-eq w ↦ rw (w.desk-is, w.shown-is) (record {
-        of_board = c.loop-line.invariant.of_board;
-        owner = c.loop-line.invariant.owner;
-        rest = λ after more. c.loop-line.invariant.rest after (does_others c.args.board.now
-            (record { desk = c.loop-line.desk; shown = c.loop-line.shown }) (record {
-              desk = c.loop-line.desk;
-              shown = c.loop-line.shown;
-            }) after c.args.desk.now.owner c.args.lines.now c.loop-line.line-index
-            c.line-item.result c.line-item.result (search rules) c.line-item.is (search rules) more);
-      })
+      | else-eq w ↦ rw (w.desk-is, w.shown-is) (grind (arith, does_others))
     ]

@@ -4,13 +4,11 @@ use Rattle.plex_agent.proofs.CrewLaws.{crew_is_idle, lines_fit, work_each, worke
 use Rattle.plex_agent.proofs.at_once.work.Goals as goal
 
 pub returns-in-Err-clause-of_board : goal.returns-in-Err-clause-of_board
-returns-in-Err-clause-of_board g c = new_desks-are c.args.board.now
-    c.args.desks.items c.requires.desks c.in-Err.desks.items c.in-Err.ensures.handed_back
+returns-in-Err-clause-of_board g c = new_desks-are _ _ c.requires.desks _ c.in-Err.ensures.handed_back
 
 pub work_all-requires-clause-workers : goal.work_all-requires-clause-workers
-work_all-requires-clause-workers g c κs within =
-    crew_is_idle c.args.board.now c.as_mut_slice.result.now (c.as_mut_slice.ensures.value ∙ new_crew c.args.board.now
-    c.args.desks.items c.requires.desks c.in-Ok.seated.0.items c.in-Ok.ensures.workers) c.requires.few
+work_all-requires-clause-workers g c κs within = crew_is_idle c.args.board.now _ (c.as_mut_slice.ensures.value
+    ∙ new_crew c.args.board.now _ c.requires.desks _ c.in-Ok.ensures.workers) c.requires.few
 
 pub work_all-requires-clause-lines : goal.work_all-requires-clause-lines
 work_all-requires-clause-lines g c κs within = lines_fit _ _ _ c.items.ensures c.requires.lines
@@ -24,9 +22,7 @@ returns-clause-of_board g c =
     let long = c.work_all.ensures.callers in
     let count = c.in-Ok.seated.0.ok.0 in
     let same : length c.work_all.new.workers ≡ c.in-Ok.seated.0.len = omega arith in
-    callers-desks c.args.board.now c.work_all.new.workers (worked-callers c.args.board.now c.args.script.now.lines
-    c.work_all.new.workers (work_each c.args.board.now c.items.result.now c.args.script.now.lines
-    c.as_mut_slice.result.now c.work_all.new.workers c.items.ensures (c.as_mut_slice.ensures.value
-    ∙ new_crew c.args.board.now c.args.desks.items c.requires.desks c.in-Ok.seated.0.items c.in-Ok.ensures.workers)
-    c.work_all.ensures)) c.part-desks.result.0.items (c.part-desks.ensures.desks ∙ ap (λ (it : List AtWork). map
+    let worked = work_each _ _ _ _ _ c.items.ensures (c.as_mut_slice.ensures.value
+    ∙ new_crew c.args.board.now _ c.requires.desks _ c.in-Ok.ensures.workers) c.work_all.ensures in
+    callers-desks _ _ (worked-callers _ _ _ worked) _ (c.part-desks.ensures.desks ∙ ap (λ (it : List AtWork). map
     (λ (worker : AtWork). worker.desk) it) (with_items_is c.in-Ok.seated.0 c.work_all.new.workers same))

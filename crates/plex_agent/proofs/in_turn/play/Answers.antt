@@ -1,19 +1,16 @@
-use Rattle.plex_agent.proofs.Imports.{List, Option, length, refl, sym, ◌∙◌, ap, subst, arith, NoteShown, IsTrayOf, AtWork, Floor, AreCallersOf, IsFloorOf}
+use Rattle.plex_agent.proofs.Imports.{length, refl, sym, ◌∙◌, ap, subst, arith, IsTrayOf, AreCallersOf, IsFloorOf}
 use Rattle.plex_agent.proofs.SeatedLaws.{new_callers, new_crew, new_desks-are, callers-desks}
 use Rattle.plex_agent.proofs.FloorLaws.{new_floor_is, new_floor_fits}
 use Rattle.plex_agent.proofs.in_turn.play.Goals as goal
 
 pub returns-in_default-clause-of_board : goal.returns-in_default-clause-of_board
-returns-in_default-clause-of_board g c =
-    new_desks-are c.args.board.now c.args.desks.items c.requires.desks c.args.desks.items refl
+returns-in_default-clause-of_board g c = new_desks-are _ _ c.requires.desks _ refl
 
 pub returns-in_default-nobody-clause-of_board : goal.returns-in_default-nobody-clause-of_board
-returns-in_default-nobody-clause-of_board g c =
-    new_desks-are c.args.board.now c.args.desks.items c.requires.desks c.args.desks.items refl
+returns-in_default-nobody-clause-of_board g c = new_desks-are _ _ c.requires.desks _ refl
 
 pub returns-in-Err-clause-of_board : goal.returns-in-Err-clause-of_board
-returns-in-Err-clause-of_board g c = new_desks-are c.args.board.now
-    c.args.desks.items c.requires.desks c.in-Err.desks.items c.in-Err.ensures.handed_back
+returns-in-Err-clause-of_board g c = new_desks-are _ _ c.requires.desks _ c.in-Err.ensures.handed_back
 
 pub play-played-requires-clause-start : goal.play-played-requires-clause-start
 play-played-requires-clause-start g c κs within = grind (arith, new_floor_is, new_crew)
@@ -26,8 +23,8 @@ play-played-requires-clause-floor g c κs within = subst (λ floor. IsFloorOf c.
 pub part-desks-requires : goal.part-desks-requires
 part-desks-requires g c =
     let room = c.in-Ok-seat.ensures.room in
-    let came = ap (λ it. length it) (new_crew c.args.board.now c.args.desks.items c.requires.desks
-    c.in-Ok-seat.seated.0.items c.in-Ok-seat.ensures.workers) ∙ (new_callers c.args.board.now).callers in
+    let came = ap (λ it. length it) (new_crew c.args.board.now _ c.requires.desks _ c.in-Ok-seat.ensures.workers)
+    ∙ (new_callers c.args.board.now).callers in
     let left = ap (λ floor. length floor.workers) c.floor.view_is ∙ c.play-played.ensures.of_board.workers.callers in
     let count = c.in-Ok-seat.seated.0.ok.0 in
     let count' = c.floor.inside.workers.ok.0 in

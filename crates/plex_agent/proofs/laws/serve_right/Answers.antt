@@ -1,5 +1,4 @@
-use Rattle.plex_agent.proofs.Alone.{alone_serves}
-use Rattle.plex_agent.proofs.ServeLaw.{serve_right}
+use Rattle.plex_agent.proofs.{Alone.alone_serves, ServeLaw.serve_right}
 use Rattle.plex_agent.proofs.laws.serve_right.Goals as goal
 
 pub returns-clause-shows : goal.returns-clause-shows

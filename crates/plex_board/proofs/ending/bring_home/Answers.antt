@@ -1,4 +1,4 @@
-use Rattle.plex_board.proofs.Imports.{arith, ◌≡◌, ◌<◌, ◌++◌, ◌∷◌, [], ◌∙◌}
+use Rattle.plex_board.proofs.Imports.{arith}
 use Rattle.plex_board.proofs.PutLaws.{put-there, put-type, put-room, put-fits, put-row}
 use Rattle.plex_board.proofs.ending.bring_home.Goals as goal
 

@@ -1,4 +1,4 @@
-use Rattle.plex_board.proofs.Imports.{◌≡◌, ◌+◌, ◌*◌, ◌≤◌, ◌++◌, List, length, vec_len, vec_capacity, into_iter_items, AnyHistory, AreEachAsked, homes_shown, AreHomes, AreEnded}
+use Rattle.plex_board.proofs.Imports.{◌+◌, ◌*◌, ◌≤◌, ◌++◌, List, length, vec_len, vec_capacity, into_iter_items, AnyHistory, AreEachAsked, homes_shown, AreHomes, AreEnded}
 use Rattle.plex_board.proofs.ending.end.Given as goal
 
 abbrev pub invariant-loop-station : goal.invariant-loop-station

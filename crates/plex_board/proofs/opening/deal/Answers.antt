@@ -1,4 +1,4 @@
-use Rattle.plex_board.proofs.Imports.{◌-◌, ◌<◌, ◌≤◌, arith, ◌∙◌, length-set}
+use Rattle.plex_board.proofs.Imports.{arith, length-set}
 use Rattle.plex_board.proofs.DealLaws.{deal-some, deal-next, deal-desks, deal-unused, few-left}
 use Rattle.plex_board.proofs.opening.deal.Goals as goal
 

@@ -1,4 +1,4 @@
-use Rattle.plex_load.proofs.SummaryLaws.{calls_more}
+use Rattle.plex_load.proofs.NumberLaws.{calls_more}
 use Rattle.plex_load.proofs.summing.put_callers.Goals as goal
 
 pub loop-caller-preserved : goal.loop-caller-preserved

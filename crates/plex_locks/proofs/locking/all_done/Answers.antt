@@ -1,12 +1,6 @@
-use Rattle.plex_locks.proofs.Imports.{arith, ◌≡◌, ◌<◌, ℕ, map, sym, ◌∙◌, subst, All, List, AllPairs, slice_index, length-map-range_with_len, Name16, AreCompatible, HandSeen, AreAll, HasValue, all_held, IsOthers, Line, HandTold, AtLocks, AreIdle, IsLocked, told_of}
-use Rattle.plex_locks.proofs.ToldLaws.{length-idle, all-ready, all-hands, told-right}
+use Rattle.plex_locks.proofs.Imports.{arith, ◌≡◌, ℕ, map, sym, ◌∙◌, subst, List, AreAll, HandTold, AtLocks, AreIdle, IsLocked, told_of}
+use Rattle.plex_locks.proofs.ToldLaws.{all-ready, all-hands, told-right}
 use Rattle.plex_locks.proofs.locking.all_done.Goals as goal
-
-pub workers_of-requires-clause-count : goal.workers_of-requires-clause-count
-workers_of-requires-clause-count g c = grind (arith, length-map-range_with_len)
-
-pub work_each-requires-clause-callers : goal.work_each-requires-clause-callers
-work_each-requires-clause-callers g c κs within = grind (arith, length-idle)
 
 pub work_each-requires-clause-ready : goal.work_each-requires-clause-ready
 work_each-requires-clause-ready g c κs within = grind (arith, all-ready)
@@ -17,16 +11,14 @@ close-words-requires g c =
     let idle = c.in_ok-workers.workers.items in
     let after = c.work_each.new.workers.items in
     let hands : c.in_ok-hands.hands.items ≡ map (λ (w : AtLocks). w.hand) after = c.in_ok-hands.ensures.hands in
-    let idles : AreIdle c.args.script.now.connectors c.args.script.now.lines c.in-Ok.hands.items idle =
-    subst (λ (x : List Name16 × List Line). AreIdle x.0 x.1 c.in-Ok.hands.items idle)
-    (λ i. (c.items-connectors.ensures i, c.items.ensures i)) c.in_ok-workers.ensures in
+    let idles : AreIdle c.args.script.now.connectors c.args.script.now.lines c.in-Ok.hands.items idle = grind arith in
     let form = c.in-Ok.ensures.form in
     let some_hands = c.requires.callers.0 in record {
       hands = (
         omega (arith, form.1, some_hands),
         subst (AreAll locks) (sym hands)
-            (all-hands c.args.script.now locks c.args.callers idle after c.in-Ok.hands.items (form.0
-            ∙ c.requires.entries.1) c.requires.callers.2 c.in-Ok.ensures.hands idles c.work_each.ensures form.1),
+            (all-hands c.args.script.now locks c.args.callers idle after c.in-Ok.hands.items
+            (grind arith) c.requires.callers.2 c.in-Ok.ensures.hands idles c.work_each.ensures form.1),
       );
     }
 
@@ -37,16 +29,11 @@ returns g c =
     let after = c.work_each.new.workers.items in
     let hands : c.in_ok-hands.hands.items ≡ map (λ (w : AtLocks). w.hand) after = c.in_ok-hands.ensures.hands in
     let told : c.in_ok-hands.told.items ≡ map told_of after = c.in_ok-hands.ensures.told in
-    let idles : AreIdle c.args.script.now.connectors c.args.script.now.lines c.in-Ok.hands.items idle =
-    subst (λ (x : List Name16 × List Line). AreIdle x.0 x.1 c.in-Ok.hands.items idle)
-    (λ i. (c.items-connectors.ensures i, c.items.ensures i)) c.in_ok-workers.ensures in
+    let idles : AreIdle c.args.script.now.connectors c.args.script.now.lines c.in-Ok.hands.items idle = grind arith in
     let form = c.in-Ok.ensures.form in
     let words = c.close-words.result.items in
     subst (λ (t : List HandTold × List ℕ). IsLocked c.args.script.now (record { hands = t.0; words = t.1 }))
     (λ i. (sym (c.from_vec.ensures ∙ told) i, sym c.from_vec-2.ensures i))
     (told-right c.args.script.now locks c.args.callers idle after c.in-Ok.hands.items (form.0 ∙ c.requires.entries.1)
-    c.requires.callers.2 c.in-Ok.ensures.hands idles c.work_each.ensures words c.close-words.ensures.count (subst
-    (λ (l : List HandSeen). (word : ℕ) → word < locks.words → HasValue (all_held l) word (slice_index words word))
-    hands c.close-words.ensures.words) (subst (λ (l : List HandSeen). AllPairs AreCompatible (all_held l)) hands
-    c.close-words.ensures.compatible) (subst (λ (l : List HandSeen). All (λ (h : HandSeen). All (IsOthers l h.number)
-    h.read) l) hands c.close-words.ensures.read))
+    c.requires.callers.2 c.in-Ok.ensures.hands idles c.work_each.ensures words c.close-words.ensures.count (
+    grind arith) (grind arith) (grind arith))

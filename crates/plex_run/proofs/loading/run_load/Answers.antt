@@ -1,4 +1,4 @@
-use Rattle.plex_run.proofs.Imports.{IfOk-weaker, wires, reading_of}
+use Rattle.plex_run.proofs.Imports.{IfOk-weaker}
 use Rattle.plex_run.proofs.LoadRunLaws.{load_runnable, load_run}
 use Rattle.plex_run.proofs.loading.run_load.Goals as goal
 
@@ -6,7 +6,5 @@ pub run_over-requires-clause-script : goal.run_over-requires-clause-script
 run_over-requires-clause-script g c κs within = load_runnable c.in_ok-script.script c.in_ok-script.ensures.load
 
 pub returns-clause-run : goal.returns-clause-run
-returns-clause-run g c = IfOk-weaker c.run_over.result
-    _ _ (λ it run. load_run (wires g.L.Link.calls g.L.Link.downs g.L.Link.faults c.args.links.now.items
-    c.run_over.new.links.items) c.args.n c.in_ok-script.script (reading_of it) c.valid_is_fresh.ensures
+returns-clause-run g c = IfOk-weaker c.run_over.result _ _ (λ it run. load_run c.args.n c.valid_is_fresh.ensures
     c.within_script.ensures c.in_ok-script.ensures.script c.in_ok-script.ensures.load run) c.run_over.ensures.run

@@ -1,11 +1,9 @@
-use Rattle.plex_run.proofs.Imports.{output, script_limit, locks_word}
-use Rattle.plex_run.proofs.UnreadLaws.{longer, unread_long}
-use Rattle.plex_run.proofs.TextLaws.{unread_ends}
+use Rattle.plex_run.proofs.Imports.{script_limit}
+use Rattle.plex_run.proofs.{UnreadLaws.longer, UnreadLaws.unread_long, TextLaws.unread_ends}
 use Rattle.plex_run.proofs.locks.locked_in.Goals as goal
 
 pub returns-in-Err-clause-ends : goal.returns-in-Err-clause-ends
-returns-in-Err-clause-ends g c = unread_ends locks_word (g.S.Source.left c.args.source.now) (output g.K.Sink.held
-    g.K.Sink.faults c.args.sink.now c.say_unread.new.sink) c.say_unread.result c.say_unread.ensures.statuses
+returns-in-Err-clause-ends g c = unread_ends (g.S.Source.left c.args.source.now) c.say_unread.ensures.statuses
     (longer script_limit) (unread_long _ (g.S.Source.left c.args.source.now) _ _ c.in-Err.end
     c.say_unread.result c.in-Err.ensures.cause c.say_unread.ensures.status) c.say_unread.ensures.no_memory
 

@@ -1,4 +1,4 @@
-use Rattle.plex_script.proofs.Imports.{arith, empty_script}
+use Rattle.plex_script.proofs.Imports.{arith}
 use Rattle.plex_script.proofs.LineLaws.{all-clean}
 use Rattle.plex_script.proofs.laws.never_both.Goals as goal
 

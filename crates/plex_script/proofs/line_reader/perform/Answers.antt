@@ -1,4 +1,4 @@
-use Rattle.plex_script.proofs.Imports.{arith, ◌≡◌, ◌∙◌, ap, Some, List, err_from_is_err_and, StrForm, structure_of, Line, Script, kind_of, script_of}
+use Rattle.plex_script.proofs.Imports.{arith, ◌≡◌, ◌∙◌, ap, Some, err_from_is_err_and, structure_of, kind_of, script_of}
 use Rattle.plex_script.proofs.CauseLaws.{caller-fault, adds-done}
 use Rattle.plex_script.proofs.line_reader.perform.Goals as goal
 

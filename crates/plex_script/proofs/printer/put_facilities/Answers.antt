@@ -1,4 +1,3 @@
-use Rattle.plex_script.proofs.Imports.{facility_line}
 use Rattle.plex_script.proofs.Spaced.{line_more}
 use Rattle.plex_script.proofs.printer.put_facilities.Goals as goal
 

@@ -1,5 +1,5 @@
 -- A member's letter is the first of those that are left.
-use Rattle.plex_shell.proofs.Imports.{◌<◌, arith, ◌∙◌}
+use Rattle.plex_shell.proofs.Imports.{arith}
 use Rattle.plex_shell.proofs.CallerSets.{leads_member, leads_nobody, leads_all}
 use Rattle.plex_shell.proofs.letters.tell.Goals as goal
 use Rattle.plex_shell.proofs.letters.tell.Goals.{then-has, else-has}

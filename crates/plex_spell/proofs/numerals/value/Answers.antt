@@ -1,4 +1,4 @@
-use Rattle.plex_spell.proofs.Imports.{arith, ◌≡◌, ◌∙◌}
+use Rattle.plex_spell.proofs.Imports.{arith}
 use Rattle.plex_spell.proofs.NumberLaws.{IsUtf8-numeral, parsed-numeral}
 use Rattle.plex_spell.proofs.numerals.value.Goals as goal
 

@@ -1,5 +1,4 @@
-use Rattle.run_laws.proofs.CacheCapacityLaws.{content_within}
-use Rattle.run_laws.proofs.UniqueLaws.{unique, orderly_replay}
+use Rattle.run_laws.proofs.UniqueLaws.{content_within, unique, orderly_replay}
 use Rattle.run_laws.proofs.caches.unique.Goals as goal
 
 pub returns-clause-unique : goal.returns-clause-unique

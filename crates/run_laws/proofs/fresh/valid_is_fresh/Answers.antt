@@ -1,4 +1,4 @@
-use Rattle.run_laws.proofs.ValidLaws.{valid_is_fresh}
+use Rattle.run_laws.proofs.FreshLaws.{valid_is_fresh}
 use Rattle.run_laws.proofs.fresh.valid_is_fresh.Goals as goal
 
 pub returns : goal.returns

@@ -1,4 +1,4 @@
-use Rattle.struct_cell.proofs.Imports.{arith, ◌+◌, ◌∙◌}
+use Rattle.struct_cell.proofs.Imports.{arith}
 use Rattle.struct_cell.proofs.TurnLaws.{entered-more}
 use Rattle.struct_cell.proofs.inside.enter_marks.Goals as goal
 

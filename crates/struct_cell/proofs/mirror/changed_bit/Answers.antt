@@ -1,6 +1,5 @@
 use Rattle.struct_cell.proofs.Imports.{rules, ◌<◌, ◌^◌, ap, sym, ◌∙◌}
-use Rattle.struct_cell.proofs.Binary.{one_if}
-use Rattle.struct_cell.proofs.MirrorLaws.{bit_put}
+use Rattle.struct_cell.proofs.{Binary.one_if, MirrorLaws.bit_put}
 use Rattle.struct_cell.proofs.mirror.changed_bit.Goals as goal
 
 pub returns-then-bit : goal.returns-then-bit

@@ -1,6 +1,5 @@
-use Rattle.struct_cell.proofs.Imports.{arith, ◌≡◌, List, [], ◌∷◌, ◌++◌, subst, ◌≢◌, Place, IsSpared}
-use Rattle.struct_cell.proofs.PlaceLaws.{spared-front}
-use Rattle.struct_cell.proofs.SpotLaws.{spotted_push}
+use Rattle.struct_cell.proofs.Imports.{arith, List, subst, Place, IsSpared}
+use Rattle.struct_cell.proofs.{PlaceLaws.spared-front, SpotLaws.spotted_push}
 use Rattle.struct_cell.proofs.place_set.insert_at.Goals as goal
 
 pub returns-clause-spotted : goal.returns-clause-spotted

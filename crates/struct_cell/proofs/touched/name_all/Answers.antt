@@ -1,4 +1,4 @@
-use Rattle.struct_cell.proofs.Imports.{rules, ◌/◌, ◌<◌, ◌≤◌, ℕ, subst, sym, ◌∙◌}
+use Rattle.struct_cell.proofs.Imports.{arith, rules, ◌<◌, ◌≤◌, ℕ, subst, sym, ◌∙◌}
 use Rattle.struct_cell.proofs.PlaceLaws.{none-named}
 use Rattle.struct_cell.proofs.touched.name_all.Goals as goal
 
@@ -9,7 +9,7 @@ loop-change-preserved c =
     record {
       table = (c.name_one.ensures.table.0 ∙ same.0, c.name_one.ensures.table.1 ∙ same.1);
       spared = λ conn index some most below spared. none-named _ c.args.bits.now c.loop-change.change-index
-          conn index c.loop-change-test.true (inv.spared conn index some most below (c.name_one.ensures.others
-          conn.0 (index / 32) spared)) (c.name_one.ensures.spared (search rules) conn index some
+          conn index c.loop-change-test.true (inv.spared conn index some most below (grind arith))
+          (c.name_one.ensures.spared (search rules) conn index some
           (subst (λ (n : ℕ). conn.0 ≤ n) (sym same.0) most) (subst (λ (n : ℕ). index < n) (sym same.1) below) spared);
     }

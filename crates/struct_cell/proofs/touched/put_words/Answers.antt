@@ -1,5 +1,5 @@
+use Rattle.struct_cell.proofs.Imports.{arith}
 use Rattle.struct_cell.proofs.PlaceLaws.{words-more}
-use Rattle.struct_cell.proofs.SpotLaws.{before_next}
 use Rattle.struct_cell.proofs.touched.put_words.Goals as goal
 
 pub loop-word-preserved : goal.loop-word-preserved
@@ -16,5 +16,4 @@ loop-word-preserved c =
     }
 
 pub returns-clause-before : goal.returns-clause-before
-returns-clause-before c = before_next c.loop-word.places.items c.args.conn.0 c.loop-word.word
-    c.loop-word.invariant.ordered
+returns-clause-before c = grind arith

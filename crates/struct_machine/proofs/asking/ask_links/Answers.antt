@@ -1,4 +1,4 @@
-use Rattle.struct_machine.proofs.Imports.{arith, ◌≡◌, ◌&&◌, and_left, and_right}
+use Rattle.struct_machine.proofs.Imports.{arith, and_left, and_right}
 use Rattle.struct_machine.proofs.AskingLaws.{asked_both, marks_both}
 use Rattle.struct_machine.proofs.asking.ask_links.Goals as goal
 use Rattle.struct_machine.proofs.asking.ask_links.Goals.{else-asked-via-then-asked+else-is_some, else-asked-via-else-asked}

@@ -1,8 +1,6 @@
 -- A common command but COPY asks no link.
-use Rattle.struct_machine.proofs.Imports.{arith, ◌≡◌, None, false, sym, ◌∙◌, rules, Reply, command_done, room_of, kept_of, shell_cause, is_copying, machine_of, IsJudgedTurn}
-use Rattle.engine_api.specs.declared.asks.Ask.TheVariants as ask
-use Rattle.engine_api.specs.declared.asks.Reply.TheVariants as reply
-use Rattle.struct_machine.proofs.TurnLaws.{command_asks, command_judged, ok_map, turn_quiet}
+use Rattle.struct_machine.proofs.Imports.{arith, ◌≡◌, None, false, sym, ◌∙◌, rules, Reply, command_done, room_of, kept_of, shell_cause, is_copying, machine_of, IsJudgedTurn, Ask}
+use Rattle.struct_machine.proofs.TurnLaws.{command_asks, ok_map, turn_quiet}
 use Rattle.struct_machine.proofs.doing.answer_judged.Goals as goal
 
 pub returns-else-is_copying-clause-turn : goal.returns-else-is_copying-clause-turn
@@ -14,13 +12,12 @@ returns-else-is_copying-clause-turn g c =
     let accepted : shell_cause c.args.form.now (room_of g.E.Engine.meaning c.args.form.now machine)
     c.args.shell.now.shell c.args.by c.in-Shell.cmd ≡ None = search rules in
     let other : is_copying c.in-Shell.cmd ≡ false = sym c.is_copying.ensures ∙ c.if-is_copying.false in
-    rw c.in-Shell.is (ok_map c.do_command.result
-    (λ (r : Reply g.row.E-Reply.Denot). (record { reply = r; machine = now }) ≡ command_done g.E.Engine.meaning
-    c.args.form.now machine c.args.by c.in-Shell.cmd) (λ (r : Reply g.row.E-Reply.Denot). IsJudgedTurn g.L.Link.calls
-    g.L.Link.downs g.L.Link.faults g.E.Engine.meaning c.args.form.now machine now c.args.content.now.pair.links
-    c.do_command.new.content.pair.links c.args.by (ask.Shell c.in-Shell.cmd) c.do_command.new.changed.marks r)
-    (λ r done. turn_quiet g.E.Engine.meaning c.args.form.now g.L.Link.calls g.L.Link.downs g.L.Link.faults
-    machine now c.args.content.now.pair.links c.do_command.new.content.pair.links c.args.by (ask.Shell c.in-Shell.cmd)
-    c.do_command.new.changed.marks r (command_asks g.E.Engine.meaning c.args.form.now machine c.args.by c.in-Shell.cmd
-    other) c.do_command.ensures.links (c.do_command.ensures.marks ∙ c.requires.unmarked) (done ∙ command_judged
-    g.E.Engine.meaning c.args.form.now machine c.args.by c.in-Shell.cmd accepted)) c.do_command.ensures.ok)
+    rw c.in-Shell.is (ok_map c.do_command.result (λ (r : Reply g.row.E-Reply.Denot). (record
+    { reply = r; machine = now }) ≡ command_done g.E.Engine.meaning c.args.form.now machine c.args.by c.in-Shell.cmd)
+    (λ (r : Reply g.row.E-Reply.Denot). IsJudgedTurn g.L.Link.calls g.L.Link.downs g.L.Link.faults
+    g.E.Engine.meaning c.args.form.now machine now c.args.content.now.pair.links c.do_command.new.content.pair.links
+    c.args.by (Ask.Shell c.in-Shell.cmd) c.do_command.new.changed.marks r) (λ r done. turn_quiet g.E.Engine.meaning
+    c.args.form.now g.L.Link.calls g.L.Link.downs g.L.Link.faults machine now c.args.content.now.pair.links
+    c.do_command.new.content.pair.links c.args.by (Ask.Shell c.in-Shell.cmd) c.do_command.new.changed.marks
+    r (grind (arith, command_asks)) c.do_command.ensures.links (c.do_command.ensures.marks ∙ c.requires.unmarked) (
+    grind arith)) c.do_command.ensures.ok)

@@ -1,12 +1,11 @@
 -- A command on the content leaves the instances where they stand.
-use Rattle.struct_machine.proofs.Imports.{arith, ◌≡◌, ◌∙◌, rules, content_of, letters_by, kept_of}
+use Rattle.struct_machine.proofs.Imports.{arith, ◌≡◌, rules, letters_by, kept_of}
 use Rattle.struct_machine.proofs.ChangeLaws.{gains_held}
-use Rattle.struct_machine.proofs.KeptLaws.{answered_some, content_alone, content_held, content_same, kept_content}
+use Rattle.struct_machine.proofs.KeptLaws.{content_stands, held_stands, answered_some, content_alone, content_same, kept_content}
 use Rattle.struct_machine.proofs.doing.apply.Goals as goal
 
 pub apply-answer-requires-clause-stands : goal.apply-answer-requires-clause-stands
-apply-answer-requires-clause-stands g c κs within = content_held g.E.Engine.meaning c.args.form.now
-    c.args.shell.now (kept_of g.E.Engine.held c.args.content.now) c.requires.of_form c.args.by c.requires.accepted
+apply-answer-requires-clause-stands g c κs within = grind (arith, held_stands, content_stands)
 
 pub apply-answer-requires-clause-alone : goal.apply-answer-requires-clause-alone
 apply-answer-requires-clause-alone g c κs within = content_alone g.E.Engine.meaning c.args.form.now
@@ -20,19 +19,12 @@ returns-clause-done g c =
     rw c.content_reply.ensures (content_same g.E.Engine.meaning
     c.args.form.now c.args.shell.now c.post_all.new.shell kept (kept_of g.E.Engine.held c.apply-answer.new.self)
     c.items.result.now c.args.by c.args.cmd.now c.apply-answer.result of
-    (content_held g.E.Engine.meaning c.args.form.now c.args.shell.now kept of c.args.by c.requires.accepted)
+    (grind (arith, held_stands, content_stands))
     c.post_all.ensures.shell sent c.apply-answer.ensures.step (content_alone g.E.Engine.meaning
     c.args.form.now c.args.shell.now kept of c.args.by c.requires.accepted) c.apply-answer.ensures.fresh)
 
 pub returns-clause-bits : goal.returns-clause-bits
-returns-clause-bits g c =
-    let kept = kept_of g.E.Engine.held c.args.content.now in
-    let now = content_of g.E.Engine.held c.apply-answer.new.self.pair in
-    let stands = content_held g.E.Engine.meaning c.args.form.now c.args.shell.now kept c.requires.of_form c.args.by
-    c.requires.accepted in
-    gains_held g.E.Engine.meaning c.args.form.now kept.held
-    now c.apply-answer.new.out.bits.items stands (answered_some g.E.Engine.meaning c.args.form.now
-    c.args.by c.args.cmd.now c.apply-answer.result kept.held now c.apply-answer.ensures.step ∙ stands) (grind arith)
+returns-clause-bits g c = grind (arith, gains_held, answered_some, held_stands, content_stands)
 
 pub returns-clause-of_form : goal.returns-clause-of_form
 returns-clause-of_form g c =

@@ -1,6 +1,6 @@
 -- The links of a command on the content are asked, and each that is down makes a mark.
-use Rattle.struct_machine.proofs.Imports.{arith, ◌≡◌, [], sym, ap, ◌∙◌, subst, List, listed, Machine, kept_of, machine_of, AreTold, asks_in, behind_marks, content_asks_of, Mark}
-use Rattle.struct_machine.proofs.TurnLaws.{behind_both, content_places, marks_made}
+use Rattle.struct_machine.proofs.Imports.{arith, ◌≡◌, [], ap, ◌∙◌, listed, Machine, kept_of, machine_of, AreTold, asks_in, behind_marks, content_asks_of}
+use Rattle.struct_machine.proofs.TurnLaws.{behind_both, marks_made}
 use Rattle.struct_machine.proofs.doing.ask_and_mark.Goals as goal
 
 pub returns-clause-marked : goal.returns-clause-marked
@@ -17,11 +17,10 @@ returns-clause-marked g c =
     let two = behind_both meaning form machine (machine_of meaning form c.mark-alone.new.shell
     (kept_of g.E.Engine.held c.mark-alone.new.content)) (machine_of meaning form c.mark-both.new.shell
     (kept_of g.E.Engine.held c.mark-both.new.content)) lost.first lost.second one c.mark-both.ensures.machine in
-    let unmarked : AreTold meaning form machine [] c.args.marks.now =
-    subst (λ (marks : List Mark). AreTold meaning form machine [] marks) (sym c.requires.unmarked) tt in
+    let unmarked : AreTold meaning form machine [] c.args.marks.now = grind arith in
     let first_told = c.mark-alone.ensures.told machine [] (same, unmarked) in
     let told = c.mark-both.ensures.told machine (listed lost.first) (one, first_told) in
     marks_made meaning form g.L.Link.calls g.L.Link.downs g.L.Link.faults machine (machine_of meaning
     form c.mark-both.new.shell (kept_of g.E.Engine.held c.mark-both.new.content)) c.args.content.now.pair.links
     c.mark-both.new.content.pair.links (asks_in c.both.result) (content_asks_of c.args.shell.now.shell)
-    lost c.mark-both.new.marks (grind (arith, content_places)) c.ask_links-lost.ensures.marks (grind arith) told two
+    lost c.mark-both.new.marks (grind arith) c.ask_links-lost.ensures.marks (grind arith) told two

@@ -1,8 +1,7 @@
 -- A common command does to shell and instances what the machine's step does.
 use Rattle.struct_machine.proofs.Imports.{arith, rules, ◌≡◌, None, is_some, refl, ◌∙◌, option_map, Room, departure_from, room_of, fresh_of, ShellOutcome, leaver, shell_cause, with_posted, kept_of, Spares, machine_of}
 use Rattle.struct_machine.proofs.CommandLaws as law
-use Rattle.struct_machine.proofs.KeptLaws.{kept_stands}
-use Rattle.struct_machine.proofs.RoomLaws.{done_seen}
+use Rattle.struct_machine.proofs.RefusalLaws.{done_seen}
 use Rattle.struct_machine.proofs.doing.do_command.Goals as goal
 
 pub do_deeds-requires-clause-admitted : goal.do_deeds-requires-clause-admitted
@@ -28,8 +27,7 @@ do_deeds-requires-clause-admitted g c κs within =
     let is : law.IsLeft g.E.Engine.meaning c.args.form.now c.args.shell.now kept of by cmd accepted
     spares left = grind arith in
     let acts : after ≡ law.acted g.E.Engine.meaning c.args.form.now c.args.shell.now kept of by cmd
-    accepted = (rw (c.prepare.ensures.form, of.shell_form, c.in_ok-prepare.ensures.ok_shell, c.requires.room)
-    at c.act-reply.ensures.acts)
+    accepted = (grind arith)
     ∙ done_seen c.args.form.now room (with_posted gone.letters c.args.shell.now.shell) by cmd in
     let under : c.is_rebuilding-rebuilding.result ≡ is_some c.args.shell.now.shell.rebuild = grind arith in
     let fresh : c.instances-fresh.result.2 ≡ fresh_of c.args.shell.now.shell.rebuild = grind arith in
@@ -59,8 +57,7 @@ returns g c =
     let is : law.IsLeft g.E.Engine.meaning c.args.form.now c.args.shell.now kept of by cmd accepted
     spares left = grind arith in
     let acts : after ≡ law.acted g.E.Engine.meaning c.args.form.now c.args.shell.now kept of by cmd
-    accepted = (rw (c.prepare.ensures.form, of.shell_form, c.in_ok-prepare.ensures.ok_shell, c.requires.room)
-    at c.act-reply.ensures.acts)
+    accepted = (grind arith)
     ∙ done_seen c.args.form.now room (with_posted gone.letters c.args.shell.now.shell) by cmd in
     let under : c.is_rebuilding-rebuilding.result ≡ is_some c.args.shell.now.shell.rebuild = grind arith in
     let now = kept_of g.E.Engine.held c.do_deeds.new.content in
@@ -69,14 +66,9 @@ returns g c =
     record {
       ok = law.command_same _ _ _ _ of _ _ accepted _ _ is after now acts done;
       bits = grind (arith, done_seen);
-      all = law.all_then _ _ _ _ of _ _ accepted _ _ is after acts c.is_rebuilding-rebuilding.result under (record {
-        all = c.changed.inside.all;
-        bits = c.prepare.new.out.bits.items;
-        marks = c.changed.inside.marks;
-      }) c.note.new.self c.note.ensures;
-      of_form = law.kept_behind _ _ _ _ of _ _ accepted _ _ is after c.act-reply.new.self now acts done
-          (kept_stands g.E.Engine.held c.do_deeds.new.content)
-          (c.act-reply.ensures.form ∙ c.prepare.ensures.form ∙ of.shell_form) refl;
+      all = grind arith;
+      of_form = law.kept_behind _ _ _ _ of _ _ accepted _ _ is after c.act-reply.new.self
+          now acts done (grind arith) (c.act-reply.ensures.form ∙ c.prepare.ensures.form ∙ of.shell_form) refl;
       links = search rules;
       marks = search rules;
       err = search rules;

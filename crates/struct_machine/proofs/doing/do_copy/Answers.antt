@@ -1,16 +1,14 @@
 -- COPY is done behind the marks that its links make: with a loss it is refused, and its items have gone.
-use Rattle.struct_machine.proofs.Imports.{arith, ◌≡◌, [], None, IfSome, sym, ap, ◌∙◌, subst, Option, Some, false, min, both_ways, CfId, ShellCmd, content_of, Ask, Room, listed, Machine, moved_by, room_of, fresh_of, Shell, shell_cause, Held, with_copied, ChangeList, kept_of, lacking_in, items_named, judged, machine_of, state_in, behind_marks, copy_asks_of, marks_in}
+use Rattle.struct_machine.proofs.Imports.{arith, ◌≡◌, [], None, sym, ap, ◌∙◌, Option, false, min, both_ways, ShellCmd, content_of, Ask, Room, listed, Machine, moved_by, room_of, Shell, shell_cause, Held, with_copied, ChangeList, kept_of, lacking_in, items_named, judged, machine_of, state_in, behind_marks, copy_asks_of, marks_in}
 use Rattle.std.specs.Prelude.{refl}
-use Rattle.cf_types.specs.declared.shell_commands.ShellCmd.TheVariants as cmd
-use Rattle.engine_api.specs.declared.asks.Ask.TheVariants as ask
 use Rattle.struct_machine.proofs.ChangeLaws.{names_nothing}
-use Rattle.struct_machine.proofs.CopyLaws.{copied_machine, copy_done, kept_copied, told_before, with_items}
-use Rattle.struct_machine.proofs.TurnLaws.{behind_both, copy_asks, copy_is, turn_made}
+use Rattle.struct_machine.proofs.CopyLaws.{copied_machine, copy_done, told_before, with_items}
+use Rattle.struct_machine.proofs.TurnLaws.{behind_both, copy_is, turn_made}
 use Rattle.struct_machine.proofs.doing.do_copy.Goals as goal
 use Rattle.struct_machine.proofs.doing.do_copy.Goals.{then-alone, else-alone}
 
 pub mark-alone-requires-clause-of_form : goal.mark-alone-requires-clause-of_form
-mark-alone-requires-clause-of_form g c κs within = grind (arith, copy_is, kept_copied)
+mark-alone-requires-clause-of_form g c κs within = grind (arith, copy_is)
 
 pub returns-clause-turn : goal.returns-clause-turn
 returns-clause-turn g c =
@@ -21,8 +19,8 @@ returns-clause-turn g c =
     let kept = kept_of g.E.Engine.held c.args.content.now in
     let machine = machine_of meaning form c.args.shell.now kept in
     let n = items_named c.args.call.now.cmd.now in
-    let is : c.args.call.now.cmd.now ≡ cmd.Copy n = copy_is c.args.call.now.cmd.now c.requires.copying in
-    let accepted : shell_cause form (room_of meaning form machine) c.args.shell.now.shell by (cmd.Copy n) ≡
+    let is : c.args.call.now.cmd.now ≡ ShellCmd.Copy n = copy_is c.args.call.now.cmd.now c.requires.copying in
+    let accepted : shell_cause form (room_of meaning form machine) c.args.shell.now.shell by (ShellCmd.Copy n) ≡
     None = grind arith in
     let after = kept_of g.E.Engine.held c.ask_copy-lost.new.content in
     let at : after.at ≡ kept.at = grind arith in
@@ -31,7 +29,7 @@ returns-clause-turn g c =
     let lost = c.ask_copy-lost.result in
     let shell : c.ready.new.self.shell ≡ c.args.shell.now.shell = c.ready.ensures.shell in
     let items = with_items meaning form machine by n of.manned accepted (moved_by (room_of meaning form
-    machine) (cmd.Copy n)) in
+    machine) (ShellCmd.Copy n)) in
     let copies = copied_machine meaning form c.args.shell.now kept of by n accepted c.ready.new.self after
     c.ready.ensures.form c.ready.ensures.shell at holds copied in
     let one = c.mark-alone.ensures.machine ∙ ap (λ (m : Machine g.row.E-State.Denot). behind_marks meaning form m
@@ -40,26 +38,21 @@ returns-clause-turn g c =
     (kept_of g.E.Engine.held c.mark-alone.new.content)) (machine_of meaning form c.mark-both.new.shell
     (kept_of g.E.Engine.held c.mark-both.new.content)) lost.first lost.second one c.mark-both.ensures.machine in
     let now = machine_of meaning form c.copy_judged.new.shell (kept_of g.E.Engine.held c.mark-both.new.content) in
-    let behind : now ≡ behind_marks meaning form items (marks_in lost) =
-    ap (λ (s : Shell). (let m : Machine g.row.E-State.Denot = record now { shell = s } in m))
-    c.copy_judged.ensures.shell ∙ two in
+    let behind : now ≡ behind_marks meaning form items (marks_in lost) = grind arith in
     let first_told = c.mark-alone.ensures.told items [] (grind arith) in
     let told = c.mark-both.ensures.told items (listed lost.first) (one, first_told) in
-    let calls = c.requires.asked ∙ ap (λ (command : ShellCmd). (let a : Ask g.row.E-Cmd.Denot = ask.Shell command in
+    let calls = c.requires.asked ∙ ap (λ (command : ShellCmd). (let a : Ask g.row.E-Cmd.Denot = Ask.Shell command in
     a)) is in
     let replied = c.copy_judged.ensures.reply in
-    turn_made meaning form g.L.Link.calls g.L.Link.downs g.L.Link.faults
-    machine now c.args.content.now.pair.links c.mark-both.new.content.pair.links by c.args.call.now.ask.now
-    (copy_asks_of c.ready.new.self.shell) lost c.mark-both.new.marks c.copy_judged.result
-    (copy_asks meaning form machine by c.args.call.now.ask.now n c.ready.new.self.shell calls accepted shell)
-    c.ask_copy-lost.ensures.marks (grind arith) (told_before meaning form machine by n of.manned accepted lost
-    (moved_by (room_of meaning form machine) (cmd.Copy n)) c.mark-both.new.marks c.ask_copy-lost.ensures.stopped told)
-    (copy_done meaning form machine by n of.manned accepted lost now c.args.call.now.room c.copy_judged.result
-    (subst (λ (s : Shell). IfSome lost.first (λ (cf : CfId). s.instances.primary ≡ Some cf)) shell
-    c.ask_copy-lost.ensures.first) (subst (λ (s : Shell). IfSome lost.second (λ (cf : CfId). fresh_of s.rebuild ≡ Some
-    cf)) shell c.ask_copy-lost.ensures.second) c.ask_copy-lost.ensures.stopped behind
-    (ap (λ (r : Room). r.left) c.requires.room) (grind arith) ∙ ap (λ (a : Ask g.row.E-Cmd.Denot). judged meaning
-    form (behind_marks meaning form machine (marks_in lost)) by a) (sym calls))
+    turn_made meaning form g.L.Link.calls g.L.Link.downs g.L.Link.faults machine now c.args.content.now.pair.links
+    c.mark-both.new.content.pair.links by c.args.call.now.ask.now (copy_asks_of c.ready.new.self.shell) lost
+    c.mark-both.new.marks c.copy_judged.result (grind arith) c.ask_copy-lost.ensures.marks (grind arith) (told_before
+    meaning form machine by n of.manned accepted lost (moved_by (room_of meaning form machine) (ShellCmd.Copy n))
+    c.mark-both.new.marks c.ask_copy-lost.ensures.stopped told) (copy_done meaning form machine
+    by n of.manned accepted lost now c.args.call.now.room c.copy_judged.result (grind arith)
+    (grind arith) c.ask_copy-lost.ensures.stopped behind (ap (λ (r : Room). r.left) c.requires.room) (grind arith)
+    ∙ ap (λ (a : Ask g.row.E-Cmd.Denot). judged meaning form (behind_marks meaning form machine (marks_in lost)) by a)
+    (sym calls))
 
 -- a copy changes no bit, unless a loss ends the structure
 

@@ -1,7 +1,6 @@
 -- The parts behind a lost facility are of the form.
 use Rattle.struct_machine.proofs.Imports.{arith, ap, ◌∙◌, StrForm, mark_outcome, kept_of}
-use Rattle.struct_machine.proofs.KeptLaws.{kept_stands}
-use Rattle.struct_machine.proofs.LossLaws.{ending, kept_lost}
+use Rattle.struct_machine.proofs.{LossLaws.ending, LossLaws.kept_lost}
 use Rattle.struct_machine.proofs.losing.lose.Goals as goal
 
 pub end_lost-requires-clause-ending : goal.end_lost-requires-clause-ending
@@ -17,4 +16,4 @@ returns-clause-of_form g c =
     ∙ ap (λ (form : StrForm). (mark_outcome form c.args.cf c.args.shell.now.shell).shell) of.shell_form in
     kept_lost g.E.Engine.meaning c.args.form.now c.args.shell.now kept of c.args.cf c.lost-told.result tells
     c.lost-told.new.self (kept_of g.E.Engine.held c.end_lost.new.content) c.lost-told.ensures.form came
-    c.end_lost.ensures.kept (kept_stands g.E.Engine.held c.end_lost.new.content)
+    c.end_lost.ensures.kept (grind arith)

@@ -1,4 +1,4 @@
-use Rattle.vec_world.proofs.Imports.{arith, ◌<◌, length, take_all, All-more, FitsHalf}
+use Rattle.vec_world.proofs.Imports.{arith, take_all, All-more, FitsHalf}
 use Rattle.vec_world.proofs.WorldLaws.{IsSound, sound-world_of, genuine_from_sound}
 use Rattle.vec_world.proofs.LoadLaws.{each_load_tells, world_of-more}
 use Rattle.vec_world.proofs.machine.run.Goals as goal

@@ -1,4 +1,4 @@
-use Rattle.cache_core.proofs.Imports.{◌≤◌, ◌∙◌, arith, length-filter-le, content-without, content_of}
+use Rattle.cache_core.proofs.Imports.{◌∙◌, arith, length-filter-le, content-without, content_of}
 use Rattle.cache_core.proofs.engine.CacheEngineEngine.leave.Goals as goal
 
 pub drop_conn-requires : goal.drop_conn-requires

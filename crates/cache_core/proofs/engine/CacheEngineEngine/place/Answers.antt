@@ -1,6 +1,5 @@
-use Rattle.cache_core.proofs.Imports.{arith, ◌≡◌, ◌∙◌, ◌++◌, ◌∷◌, [], IsTrue, List, sym, subst, is_cache, content-placed, CacheItem, IsContent, content_with, cache_meaning, alone-next, cache-fronts, EngineView, content_of}
-use Rattle.cache_core.proofs.NextLaws.{before_next}
-use Rattle.cache_core.proofs.PlanLaws.{either_way}
+use Rattle.cache_core.proofs.Imports.{arith, ◌∙◌, ◌++◌, ◌∷◌, [], IsTrue, List, sym, subst, is_cache, content-placed, CacheItem, IsContent, content_with, cache_meaning, alone-next, cache-fronts, EngineView, content_of}
+use Rattle.cache_core.proofs.{NextLaws.before_next, PlanLaws.either_way}
 use Rattle.cache_core.proofs.engine.CacheEngineEngine.place.Goals as goal
 
 pub push-requires-clause-last : goal.push-requires-clause-last

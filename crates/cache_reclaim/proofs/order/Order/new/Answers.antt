@@ -1,4 +1,4 @@
-use Rattle.cache_reclaim.proofs.Imports.{◌∙◌, arith}
+use Rattle.cache_reclaim.proofs.Imports.{arith}
 use Rattle.cache_reclaim.proofs.SlotLaws.{free_tied, free_order}
 use Rattle.cache_reclaim.proofs.order.Order.new.Goals as goal
 

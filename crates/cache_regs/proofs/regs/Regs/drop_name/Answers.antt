@@ -1,6 +1,5 @@
 use Rattle.cache_regs.proofs.Imports.{◌≡◌, ◌≤◌, ◌+◌, ◌-◌, min, not, length, filter, subst, arith, list_all-filter, Registration, ends_with_name, Registry}
-use Rattle.cache_regs.proofs.RegLaws.{registry-filter}
-use Rattle.cache_regs.proofs.EndLaws.{fits_few, left_counted}
+use Rattle.cache_regs.proofs.{RegLaws.registry-filter, EndLaws.fits_few, EndLaws.left_counted}
 use Rattle.cache_regs.proofs.regs.Regs.drop_name.Goals as goal
 
 pub end_name-requires-clause-room : goal.end_name-requires-clause-room

@@ -1,8 +1,7 @@
-use Rattle.cache_regs.proofs.Imports.{◌≡◌, ◌≤◌, ◌<◌, ◌+◌, ◌-◌, length, ap, sym, subst, arith, lt-ltb, insertion, none_filtered, Registration, stands_before, regs_with}
-use Rattle.cache_regs.proofs.RegLaws.{one_elsewhere, filter-replaced, registry-with}
-use Rattle.cache_regs.proofs.BitLaws.{gains_with}
-use Rattle.cache_regs.proofs.EndLaws.{fits_few, left_few, left_counted}
+use Rattle.cache_regs.proofs.Imports.{◌≡◌, ◌≤◌, ◌+◌, length, ap, sym, subst, arith, lt-ltb, insertion, none_filtered, Registration, stands_before, regs_with}
 use Rattle.cache_regs.proofs.KeptLaws.{all_with}
+use Rattle.cache_regs.proofs.RegLaws.{one_elsewhere, filter-replaced, registry-with}
+use Rattle.cache_regs.proofs.{BitLaws.gains_with, EndLaws.fits_few, EndLaws.left_few, EndLaws.left_counted}
 use Rattle.cache_regs.proofs.regs.Regs.set.Goals as goal
 
 pub end_elsewhere-requires : goal.end_elsewhere-requires

@@ -1,4 +1,4 @@
-use Rattle.cache_rows.proofs.Imports.{arith, ◌∙◌, ◌+◌, ap, row_at, rows_without, IsIndexed, listed_of}
+use Rattle.cache_rows.proofs.Imports.{arith, ◌∙◌, ap, row_at, rows_without, IsIndexed, listed_of}
 use Rattle.cache_rows.proofs.IndexedLaws.{taken, listed, listed_is}
 use Rattle.cache_rows.proofs.directory.Directory.end.Goals as goal
 

@@ -1,5 +1,4 @@
-use Rattle.cache_rows.proofs.Imports.{arith, ◌++◌, ◌∙◌}
-use Rattle.cache_reclaim.specs.LastUse as last_use
+use Rattle.cache_rows.proofs.Imports.{arith}
 use Rattle.cache_rows.proofs.IndexedLaws.{names_are}
 use Rattle.cache_rows.proofs.directory.Directory.names.Goals as goal
 

@@ -1,4 +1,4 @@
-use Rattle.cache_rows.proofs.Imports.{◌∙◌, ◌+◌, ◌≤◌, ◌<◌, Some, ap, length, subst, sym, arith, row_at, rows_replaced, item_with, Listed, IsIndexed, listed_of}
+use Rattle.cache_rows.proofs.Imports.{◌∙◌, ◌<◌, Some, ap, length, subst, sym, arith, row_at, rows_replaced, item_with, Listed, IsIndexed, listed_of}
 use Rattle.cache_rows.proofs.IndexedLaws.{replaced, fewer_unchanged, listed, listed_is}
 use Rattle.cache_rows.proofs.directory.Directory.write.Goals as goal
 

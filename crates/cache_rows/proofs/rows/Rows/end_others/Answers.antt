@@ -1,4 +1,4 @@
-use Rattle.cache_rows.proofs.Imports.{◌∙◌, arith}
+use Rattle.cache_rows.proofs.Imports.{arith}
 use Rattle.cache_rows.proofs.ChangeLaws.{but-more, but-all}
 use Rattle.cache_rows.proofs.rows.Rows.end_others.Goals as goal
 

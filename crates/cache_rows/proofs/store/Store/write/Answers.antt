@@ -1,4 +1,4 @@
-use Rattle.cache_rows.proofs.Imports.{◌+◌, ◌≤◌, ◌∙◌, arith}
+use Rattle.cache_rows.proofs.Imports.{arith}
 use Rattle.cache_rows.proofs.StoreLaws.{shown_at, shown_writes, writes_twice}
 use Rattle.cache_rows.proofs.store.Store.write.Goals as goal
 

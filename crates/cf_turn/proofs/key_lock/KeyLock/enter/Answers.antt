@@ -1,4 +1,4 @@
-use Rattle.cf_turn.proofs.Imports.{arith, rules, [], ◌∙◌}
+use Rattle.cf_turn.proofs.Imports.{arith, rules}
 use Rattle.cf_turn.proofs.Steps.{enters}
 use Rattle.cf_turn.proofs.key_lock.KeyLock.enter.Goals as goal
 

@@ -1,6 +1,5 @@
-use Rattle.std.proofs.Common.{◌≡◌, ℕ, ◌+◌, Bool, cond, filter, List, subst, ◌∙◌, arith}
-use Rattle.cf_types.specs.declared.limits.TheConstants.{CALLERS}
-use Rattle.cf_types.specs.declared.numbers.ConnId.{ConnId}
+use Rattle.std.proofs.Common.{◌≡◌, ℕ, ◌+◌, Bool, cond, filter, List, subst, arith}
+use Rattle.cf_types.specs.declared.{limits.TheConstants.CALLERS, numbers.ConnId.ConnId}
 use Rattle.cf_types.specs.ConnSets.{conns_from, with_member}
 use Rattle.cf_types.specs.Connections.{Connections, is_active, actives}
 use Rattle.cf_types.proofs.ConnSetLaws.{filter-from_zero_more}

@@ -1,6 +1,5 @@
 use Rattle.std.proofs.Common.{◌≡◌, filter}
-use Rattle.cf_types.specs.ConnSets.{conns_from}
-use Rattle.cf_types.specs.Connections.{is_active}
+use Rattle.cf_types.specs.{ConnSets.conns_from, Connections.is_active}
 use Rattle.conn_core.proofs.conns.Conns.active.Given as goal
 
 -- the active ones below this number

@@ -1,8 +1,5 @@
-use Rattle.list_core.proofs.Imports.{◌≡◌, ◌++◌, ◌∷◌, [], Some, Bor, List, map, take, option_map, slice_get, sym, ap, ◌∙◌, arith, map-append, take_all, take_next, EntryId, Rec, records_of, Record, record_in, none_within, none_shown}
+use Rattle.list_core.proofs.Imports.{◌≡◌, ◌++◌, ◌∷◌, [], Some, Bor, List, map, take, option_map, slice_get, sym, ap, ◌∙◌, map-append, take_next, EntryId, Rec, records_of, Record, record_in}
 use Rattle.list_core.proofs.commands.read_list.ids_of.Goals as goal
-
-pub unreachable-requires : goal.unreachable-requires
-unreachable-requires c = grind (arith, none_within, none_shown)
 
 pub loop-place-preserved : goal.loop-place-preserved
 loop-place-preserved c =
@@ -13,6 +10,3 @@ loop-place-preserved c =
     c.in_ok-push-in-Some.ensures ∙ ap (λ (l : List EntryId). l ++ rec.id ∷ []) c.loop-place.invariant
     ∙ sym (ap (map (λ (r : Record). r.id)) (take_next recs c.loop-place.place rec there)
     ∙ map-append (λ (r : Record). r.id) (take c.loop-place.place recs) (rec ∷ []))
-
-pub returns : goal.returns
-returns c = grind (arith, take_all)

@@ -1,4 +1,4 @@
-use Rattle.list_core.proofs.Imports.{◌≡◌, ◌∙◌, ℕ, IsTrue, sym, subst, arith, Shape, Caps, is_list, IsNextItem, content-placed, ListItem, Controls, Row, Content, IsContent, content_with, list_meaning, next-fits, list-fronts, IsPlaceable, EngineView}
+use Rattle.list_core.proofs.Imports.{◌≡◌, ◌∙◌, ℕ, arith, Shape, Caps, is_list, IsNextItem, content-placed, ListItem, Controls, Row, Content, IsContent, content_with, list_meaning, next-fits, list-fronts, IsPlaceable}
 use Rattle.list_core.proofs.PlanLaws.{either_way}
 use Rattle.list_core.proofs.engine.ListEngineEngine.place.Goals as goal
 
@@ -20,32 +20,23 @@ placeable shape caps elements content (Row header id version name key body adj) 
 pub place_item-requires : goal.place_item-requires
 place_item-requires c =
     let e = c.self.inside in
-    let held = c.args.self.now.held in
-    let next = subst (λ (s : EngineView). IsNextItem list_meaning IsContent s.held.shape s.held.state c.args.item)
-    (sym c.self.view_is) c.requires.next in
-    let kind : IsTrue (is_list held.shape.kind) = subst (λ (s : EngineView). IsTrue (is_list s.held.shape.kind))
-    c.self.view_is c.self.invariant.list in
-    let placed : IsContent e.shape e.caps (content_with e.kept.content c.args.item) =
-    subst (λ (s : EngineView). IsContent s.held.shape s.held.caps (content_with s.held.state c.args.item))
-    (sym c.self.view_is) (content-placed list_meaning is_list
-    IsContent list-fronts held.shape held.state c.args.item c.requires.next held.caps kind c.requires.fits) in
+    let next = rw (← c.self.view_is) at c.requires.next in
+    let fits = rw (← c.self.view_is) at c.requires.fits in
+    let placed = content-placed list_meaning is_list IsContent
+    list-fronts e.shape e.kept.content c.args.item next e.caps c.self.invariant.list fits in
     placeable e.shape e.caps e.kept.elements e.kept.content c.args.item next c.self.invariant.pool placed
 
 pub invariant_of-self : goal.invariant_of-self
 invariant_of-self c =
     let e = c.self.inside in
-    let held = c.args.self.now.held in
-    let kind : IsTrue (is_list held.shape.kind) = subst (λ (s : EngineView). IsTrue (is_list s.held.shape.kind))
-    c.self.view_is c.self.invariant.list in
-    let placed : IsContent e.shape e.caps (content_with e.kept.content c.args.item) =
-    subst (λ (s : EngineView). IsContent s.held.shape s.held.caps (content_with s.held.state c.args.item))
-    (sym c.self.view_is) (content-placed list_meaning is_list
-    IsContent list-fronts held.shape held.state c.args.item c.requires.next held.caps kind c.requires.fits) in
+    let next = rw (← c.self.view_is) at c.requires.next in
+    let fits = rw (← c.self.view_is) at c.requires.fits in
+    let placed = content-placed list_meaning is_list IsContent
+    list-fronts e.shape e.kept.content c.args.item next e.caps c.self.invariant.list fits in
     record {
       list = c.self.invariant.list;
       caps = c.self.invariant.caps;
-      content = either_way (λ (k : Content). IsContent e.shape e.caps k) c.place_item.result
-          e.kept.content (content_with e.kept.content c.args.item) c.place_item.new.kept.content
+      content = either_way (λ (k : Content). IsContent e.shape e.caps k) c.place_item.result _ _ _
           c.place_item.ensures.ok c.place_item.ensures.err placed c.self.invariant.content;
       pool = c.place_item.ensures.elements ∙ c.self.invariant.pool;
       vector = c.place_item.ensures.vector ∙ c.self.invariant.vector;

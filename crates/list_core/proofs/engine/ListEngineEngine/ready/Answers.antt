@@ -2,5 +2,4 @@ use Rattle.list_core.proofs.Imports.{new-alone}
 use Rattle.list_core.proofs.engine.ListEngineEngine.ready.Goals as goal
 
 pub make_plan-requires-clause-alone : goal.make_plan-requires-clause-alone
-make_plan-requires-clause-alone c = new-alone c.self.inside.shape c.self.inside.caps c.self.inside.kept.content
-    c.self.invariant.content
+make_plan-requires-clause-alone c = new-alone _ _ _ c.self.invariant.content

@@ -2,9 +2,6 @@ use Rattle.list_kept.proofs.Imports.{arith, all_records}
 use Rattle.list_kept.proofs.DataLaws.{free_elements}
 use Rattle.list_kept.proofs.keeping.Kept.elements.Goals as goal
 
-pub overflow_sub-result : goal.overflow_sub-result
-overflow_sub-result c = grind (arith, free_elements)
-
 pub returns : goal.returns
 returns c =
     let s = c.self.inside.store in

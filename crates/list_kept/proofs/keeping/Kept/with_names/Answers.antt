@@ -1,6 +1,5 @@
 use Rattle.list_kept.proofs.Imports.{ℕ, List, Option, None, length, sym, ap, ◌∙◌, subst, list_all, length-replicate, Watched, is_told, Lists, all_records, AreUsed, AreNamed, IsOrderly}
-use Rattle.list_kept.proofs.DataLaws.{no_chains}
-use Rattle.list_kept.proofs.PlaceLaws.{orderly-none, named_none}
+use Rattle.list_kept.proofs.{DataLaws.no_chains, PlaceLaws.orderly-none, PlaceLaws.named_none}
 use Rattle.list_kept.proofs.keeping.Kept.with_names.Goals as goal
 
 pub invariant_of-result : goal.invariant_of-result

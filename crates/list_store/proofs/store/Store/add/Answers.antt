@@ -1,6 +1,6 @@
-use Rattle.list_store.proofs.Imports.{◌≡◌, ◌∙◌, ◌<◌, ap, sym, subst, arith, refl, false, List, length, map, list_any, length-map, with-map, any-map, Rec, StoreView, rec_id, record_id, is_id, record_in, HasChain, AreHeld, loose_in}
+use Rattle.list_store.proofs.Imports.{◌∙◌, ◌<◌, ap, sym, subst, arith, List, length, map, length-map, with-map, Rec, StoreView, record_in, HasChain, AreHeld, loose_in}
 use Rattle.list_store.specs.Lists.{all_records}
-use Rattle.list_store.proofs.StoreLaws.{added_held, added_loose}
+use Rattle.list_store.proofs.StoreLaws.{added_held, added_loose, shown_any}
 use Rattle.list_store.proofs.store.Store.add.Goals as goal
 
 within : (c : goal.After-add) → c.args.header < length c.self.inside.table.lists
@@ -9,11 +9,6 @@ within c = grind (arith, length-map)
 own : (c : goal.After-add)
     → HasChain (loose_in c.self.inside.pool.chains (all_records c.self.inside.table.lists)) c.args.rec.body
 own c = subst (λ (s : StoreView). HasChain s.loose c.args.rec.body) (sym c.self.view_is) c.requires.chain
-
-pub add-requires-clause-alone : goal.add-requires-clause-alone
-add-requires-clause-alone c = sym (any-map (record_in c.self.inside.pool.chains) rec_id record_id
-    (λ x. refl) c.args.rec.id.0 c.self.inside.table.lists) ∙ subst (λ (s : StoreView). list_any (is_id c.args.rec.id)
-    (all_records s.lists) ≡ false) (sym c.self.view_is) c.requires.alone
 
 pub invariant_of-self : goal.invariant_of-self
 invariant_of-self c =
@@ -32,3 +27,7 @@ returns-clause-lists c =
 
 pub returns-clause-loose : goal.returns-clause-loose
 returns-clause-loose c = grind (arith, added_loose, within, own)
+
+pub add-requires-clause-alone : goal.add-requires-clause-alone
+add-requires-clause-alone c = sym (shown_any c.self.inside.pool.chains c.self.inside.table.lists c.args.rec.id.0)
+    ∙ (rw (← c.self.view_is) at c.requires.alone)

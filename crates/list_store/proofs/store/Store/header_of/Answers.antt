@@ -1,6 +1,5 @@
-use Rattle.list_store.proofs.Imports.{◌∙◌, ℕ, ap, sym, refl, option_map, spot-map, apart-map, rec_id, record_id, record_in}
-use Rattle.list_store.proofs.SpotLaws.{header_is}
-use Rattle.list_store.proofs.StoreLaws.{shown}
+use Rattle.list_store.proofs.Imports.{◌∙◌, ℕ, ap, sym, refl, option_map, spot-map, rec_id, record_id, record_in}
+use Rattle.list_store.proofs.{SpotLaws.header_is, StoreLaws.shown, StoreLaws.shown_apart}
 use Rattle.list_store.proofs.store.Store.header_of.Goals as goal
 
 pub returns-clause-header : goal.returns-clause-header
@@ -12,5 +11,5 @@ returns-clause-header c =
     rec_id record_id (λ x. refl) c.args.id.0 lists)) ∙ header_is c.args.id (shown chains lists))
 
 pub returns-clause-apart : goal.returns-clause-apart
-returns-clause-apart c = rw (← c.self.view_is) (apart-map (record_in c.self.inside.pool.chains)
-    rec_id record_id (λ x. refl) c.self.inside.table.lists ∙ c.header_of.ensures.apart)
+returns-clause-apart c = rw (← c.self.view_is)
+    (shown_apart c.self.inside.pool.chains c.self.inside.table.lists c.header_of.ensures.apart)

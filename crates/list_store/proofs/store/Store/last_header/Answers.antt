@@ -1,6 +1,5 @@
 use Rattle.list_store.proofs.Imports.{◌≡◌, [], IsLastFull, all_records, last-map, none-map, record_in}
-use Rattle.list_store.proofs.TiedLaws.{weaker_some, weaker_none}
-use Rattle.list_store.proofs.StoreLaws.{shown}
+use Rattle.list_store.proofs.{TiedLaws.weaker_some, TiedLaws.weaker_none, StoreLaws.shown}
 use Rattle.list_store.proofs.store.Store.last_header.Goals as goal
 
 pub returns-clause-found : goal.returns-clause-found

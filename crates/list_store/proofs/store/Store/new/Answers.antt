@@ -1,4 +1,4 @@
-use Rattle.list_store.proofs.Imports.{arith, ◌∙◌, ap, List, map, Rec, record_in}
+use Rattle.list_store.proofs.Imports.{◌∙◌, ap, List, map, Rec, record_in}
 use Rattle.list_store.proofs.StoreLaws.{shown_none, held_none, whole_none}
 use Rattle.list_store.proofs.store.Store.new.Goals as goal
 
@@ -11,6 +11,3 @@ invariant_of-result c = record {
 pub returns-in-Ok-clause-lists : goal.returns-in-Ok-clause-lists
 returns-in-Ok-clause-lists c = ap (λ (l : List (List Rec)). map (map (record_in c.in-Ok.pool.chains)) l)
     c.in_ok-table.ensures ∙ shown_none c.in-Ok.pool.chains c.args.headers
-
-pub returns-in-Ok-clause-loose : goal.returns-in-Ok-clause-loose
-returns-in-Ok-clause-loose c = grind (arith, held_none)

@@ -1,8 +1,8 @@
-use Rattle.list_store.proofs.Imports.{◌≡◌, ◌∙◌, ◌-◌, [], Some, refl, ap, List, take, length, option_map, IsLastFull, last-map, none-map, popped-map, record-map, without-map, apart-map, Rec, rec_id, record_id, with_records, record_in}
+use Rattle.list_store.proofs.Imports.{◌≡◌, ◌∙◌, ◌-◌, [], Some, refl, ap, List, take, length, option_map, IsLastFull, last-map, none-map, popped-map, Rec, rec_id, with_records, record_in}
 use Rattle.cf_lists.specs.Lists as generic
 use Rattle.list_store.specs.Lists.{all_records, records_of, record_of, lists_without}
 use Rattle.list_store.proofs.TiedLaws.{weaker_some, weaker_none}
-use Rattle.list_store.proofs.StoreLaws.{shown, PoppedOut, popped_out}
+use Rattle.list_store.proofs.StoreLaws.{shown, PoppedOut, popped_out, shown_apart, shown_record, shown_without}
 use Rattle.list_store.proofs.store.Store.pop.Goals as goal
 
 popped : (c : goal.After-pop)
@@ -26,8 +26,7 @@ returns-clause-found c =
     let lists = c.self.inside.table.lists in
     rw (← c.self.view_is) (weaker_some c.pop.result (λ out. generic.record_of rec_id (rec_id out.1)
     lists ≡ Some out.1) (λ out. record_of out.1.id (shown chains lists) ≡ Some (record_in chains out.1))
-    (λ out is. record-map (record_in chains) rec_id record_id (λ x. refl) out.1.id.0 lists
-    ∙ ap (option_map (record_in chains)) is) c.pop.ensures.found)
+    (λ out is. shown_record chains lists out.1.id.0 ∙ ap (option_map (record_in chains)) is) c.pop.ensures.found)
 
 pub returns-clause-without : goal.returns-clause-without
 returns-clause-without c =
@@ -36,7 +35,7 @@ returns-clause-without c =
     rw (← c.self.view_is) (weaker_some c.pop.result (λ out. c.pop.new.self.lists ≡ generic.lists_without rec_id
     (rec_id out.1) lists) (λ out. shown chains c.pop.new.self.lists ≡ lists_without out.1.id (shown chains lists))
     (λ out is. ap (λ (l : List (List Rec)). shown chains l) is
-    ∙ without-map (record_in chains) rec_id record_id (λ x. refl) out.1.id.0 lists) c.pop.ensures.lists)
+    ∙ shown_without chains lists out.1.id.0) c.pop.ensures.lists)
 
 pub returns-clause-lists : goal.returns-clause-lists
 returns-clause-lists c =
@@ -60,5 +59,5 @@ returns-clause-none c = rw (← c.self.view_is) (weaker_none c.pop.result (all_r
     (none-map (record_in c.self.inside.pool.chains) c.self.inside.table.lists) c.pop.ensures.none)
 
 pub returns-clause-apart : goal.returns-clause-apart
-returns-clause-apart c = rw (← c.self.view_is) (apart-map (record_in c.self.inside.pool.chains)
-    rec_id record_id (λ x. refl) c.self.inside.table.lists ∙ c.pop.ensures.apart)
+returns-clause-apart c = rw (← c.self.view_is)
+    (shown_apart c.self.inside.pool.chains c.self.inside.table.lists c.pop.ensures.apart)

@@ -1,5 +1,4 @@
-use Rattle.list_store.proofs.Imports.{arith}
-use Rattle.list_store.proofs.StoreLaws.{put_held, put_view, put_whole, new_fresh}
+use Rattle.list_store.proofs.StoreLaws.{put_held, put_view, put_whole}
 use Rattle.list_store.proofs.store.Store.put_body.Goals as goal
 
 pub invariant_of-self : goal.invariant_of-self
@@ -13,6 +12,3 @@ invariant_of-self c = record {
 pub returns-clause-put : goal.returns-clause-put
 returns-clause-put c = rw (← c.self.view_is) (put_view c.self.inside.table c.self.inside.pool
     c.put.new.self c.self.invariant.held c.args.bytes.now c.put.result c.put.ensures.fresh c.put.ensures.put)
-
-pub returns-clause-fresh_loose : goal.returns-clause-fresh_loose
-returns-clause-fresh_loose c = grind (arith, new_fresh)

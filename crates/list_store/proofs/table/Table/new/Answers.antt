@@ -1,6 +1,5 @@
 use Rattle.list_store.proofs.Imports.{◌≡◌, ◌∙◌, ap, ℕ, arith, List, replicate, [], length-map, length-replicate, orders_in, is_few, list_all, lists_at}
-use Rattle.list_store.proofs.VecLaws.{few-replicate}
-use Rattle.list_store.proofs.TiedLaws.{new_tied, no_lists}
+use Rattle.list_store.proofs.{VecLaws.few-replicate, TiedLaws.new_tied, TiedLaws.no_lists}
 use Rattle.list_store.proofs.table.Table.new.Goals as goal
 
 pub invariant_of-result : goal.invariant_of-result

@@ -1,13 +1,9 @@
-use Rattle.list_watch.proofs.Imports.{not, List, sym, subst, arith, length-filter-le, Watched, is_of, AreMonitors, monitors_of}
+use Rattle.list_watch.proofs.Imports.{arith}
 use Rattle.list_watch.proofs.MonitorLaws.{monitors-filter}
 use Rattle.list_watch.proofs.watch.Watch.drop_conn.Goals as goal
 
-pub end-requires-clause-room : goal.end-requires-clause-room
-end-requires-clause-room c = grind (arith, length-filter-le)
-
 pub invariant_of-self : goal.invariant_of-self
 invariant_of-self c = record {
-  monitors = subst (λ (l : List Watched). AreMonitors (monitors_of l)) (sym c.end.ensures.rows) (monitors-filter
-      (λ row. not (is_of c.args.conn row.monitor)) c.self.inside.rows.items c.self.invariant.monitors);
+  monitors = rw c.end.ensures.rows (monitors-filter _ _ c.self.invariant.monitors);
   few = omega (arith, c.end.ensures.fewer, c.self.invariant.few);
 }

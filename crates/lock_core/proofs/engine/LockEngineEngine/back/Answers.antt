@@ -7,7 +7,6 @@ invariant_of-self c = record {
   lock = c.self.invariant.lock;
   caps = c.self.invariant.caps;
   limit = c.back.ensures.limit ∙ c.self.invariant.limit;
-  content = rw c.back.ensures.content (back-content c.self.inside.caps c.self.inside.locks.content c.args.conn
-      c.self.invariant.content);
+  content = rw c.back.ensures.content (back-content _ _ c.args.conn c.self.invariant.content);
   counted = grind (arith, counted-returned);
 }

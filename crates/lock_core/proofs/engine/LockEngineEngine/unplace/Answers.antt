@@ -7,7 +7,6 @@ invariant_of-self c = record {
   lock = c.self.invariant.lock;
   caps = c.self.invariant.caps;
   limit = c.unplace.ensures.limit ∙ c.self.invariant.limit;
-  content = rw c.unplace.ensures.content (content-without_last c.self.inside.caps c.self.inside.locks.content
-      c.self.invariant.content);
-  counted = rw c.unplace.ensures.content (counted-last c.self.inside.locks.content c.self.invariant.counted);
+  content = rw c.unplace.ensures.content (content-without_last _ _ c.self.invariant.content);
+  counted = rw c.unplace.ensures.content (counted-last _ c.self.invariant.counted);
 }

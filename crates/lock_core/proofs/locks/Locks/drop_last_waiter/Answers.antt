@@ -1,8 +1,5 @@
-use Rattle.lock_core.proofs.Imports.{◌≡◌, ◌-◌, ◌<◌, List, Some, None, [], ◌∷◌, length, get_or, sym, ◌∙◌, arith, slice_get, slice_get-get_or, Waiter, waiters_without-last}
+use Rattle.lock_core.proofs.Imports.{◌≡◌, ◌-◌, ◌<◌, List, Some, None, [], ◌∷◌, length, get_or, sym, ◌∙◌, arith, slice_get, slice_get-get_or, Waiter}
 use Rattle.lock_core.proofs.locks.Locks.drop_last_waiter.Goals as goal
-
-pub returns-in-Some-clause-content : goal.returns-in-Some-clause-content
-returns-in-Some-clause-content c = grind (arith, waiters_without-last)
 
 last_there : (waiters : List Waiter) → 0 < length waiters → slice_get waiters (length waiters - 1) ≡ None → ⊥
 last_there [] some h = absurd (omega (arith, some))

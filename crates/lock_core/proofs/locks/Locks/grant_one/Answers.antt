@@ -1,7 +1,6 @@
 use Rattle.lock_core.proofs.Imports.{◌≡◌, Some, sym, subst, arith, IsQueue, waiter_of, Stock, HasRoom}
-use Rattle.lock_core.proofs.GrantLaws.{length-waits, records-waits}
+use Rattle.lock_core.proofs.{GrantLaws.records-waits}
 use Rattle.lock_core.proofs.locks.Locks.grant_one.Goals as goal
-use Rattle.lock_core.proofs.locks.Locks.grant_one.Goals.{After-push}
 
 pub grant-requires-clause-record_room : goal.grant-requires-clause-record_room
 grant-requires-clause-record_room c =
@@ -10,9 +9,3 @@ grant-requires-clause-record_room c =
     let waits : waiter_of w.r w.conn c.self.inside.queue.waiters ≡ Some w = grind arith in
     let room = subst (λ (s : Stock). HasRoom 0 s) (sym c.self.view_is) c.requires.room in
     omega (arith, room.records, records-waits w c.self.inside.queue.waiters is waits)
-
-pub returns-clause-room : goal.returns-clause-room
-returns-clause-room c = grind (arith, length-waits, records-waits)
-
-pub returns-clause-fewer : goal.returns-clause-fewer
-returns-clause-fewer c = grind (arith, length-waits, records-waits)

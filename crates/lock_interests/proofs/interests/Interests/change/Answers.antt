@@ -1,7 +1,6 @@
-use Rattle.lock_interests.proofs.Imports.{arith, ◌≡◌, true, sym, subst₂, ap, ◌∙◌, has_interest, InterestsView, AreOwned}
+use Rattle.lock_interests.proofs.Imports.{◌≡◌, true, sym, subst₂, ap, ◌∙◌, has_interest, InterestsView, AreOwned}
 use Rattle.lock_model.specs.Interests as interests
-use Rattle.lock_interests.proofs.JoinLaws.{joined-changed}
-use Rattle.lock_interests.proofs.CountLaws.{has-joined, changed_none, owned-altered}
+use Rattle.lock_interests.proofs.CountLaws.{has-joined, owned-altered}
 use Rattle.lock_interests.proofs.interests.Interests.change.Goals as goal
 
 pub invariant_of-self : goal.invariant_of-self
@@ -14,9 +13,3 @@ invariant_of-self c =
     ∙ sym c.has_interest.ensures ∙ c.if-has_interest.true in
     subst₂ AreOwned (sym c.set.ensures.owners) (sym c.give_record.ensures.records)
     (owned-altered w.r w.conn w.excl w.rec owners records has c.self.invariant)
-
-pub returns-then-has_interest-clause-interests : goal.returns-then-has_interest-clause-interests
-returns-then-has_interest-clause-interests c = grind (arith, joined-changed)
-
-pub returns-else-has_interest-clause-interests : goal.returns-else-has_interest-clause-interests
-returns-else-has_interest-clause-interests c = grind (arith, changed_none)

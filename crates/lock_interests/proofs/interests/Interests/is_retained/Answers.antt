@@ -1,6 +1,5 @@
 use Rattle.lock_interests.proofs.Imports.{◌==◌, ◌∙◌, ap, find, Held, is_held_retained}
-use Rattle.lock_interests.proofs.OwnerLaws.{find_both, retained-found}
-use Rattle.lock_interests.proofs.ReadLaws.{retained-joined}
+use Rattle.lock_interests.proofs.{OwnerLaws.find_both, OwnerLaws.retained-found, ReadLaws.retained-joined}
 use Rattle.lock_interests.proofs.interests.Interests.is_retained.Goals as goal
 
 pub returns : goal.returns

@@ -1,6 +1,4 @@
-use Rattle.lock_interests.proofs.JoinLaws.{joined-gone}
-use Rattle.lock_interests.proofs.CountLaws.{owned-gone}
-use Rattle.lock_interests.proofs.OwnerLaws.{left_all}
+use Rattle.lock_interests.proofs.{JoinLaws.joined-gone, CountLaws.owned-gone, OwnerLaws.left_all}
 use Rattle.lock_interests.proofs.interests.Interests.leave_all.Goals as goal
 
 pub returns-clause-interests : goal.returns-clause-interests

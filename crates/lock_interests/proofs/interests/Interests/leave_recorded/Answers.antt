@@ -1,7 +1,5 @@
 use Rattle.lock_interests.proofs.Imports.{true}
-use Rattle.lock_interests.proofs.JoinLaws.{joined-kept}
-use Rattle.lock_interests.proofs.CountLaws.{owned-kept}
-use Rattle.lock_interests.proofs.OwnerLaws.{left_recorded}
+use Rattle.lock_interests.proofs.{JoinLaws.joined-kept, CountLaws.owned-kept, OwnerLaws.left_recorded}
 use Rattle.lock_interests.proofs.interests.Interests.leave_recorded.Goals as goal
 
 pub returns-clause-interests : goal.returns-clause-interests

@@ -1,5 +1,4 @@
-use Rattle.engine_api.specs.Instances.{is_at}
-use Rattle.engine_api.specs.Rebuilds.{fresh_of}
+use Rattle.engine_api.specs.{Instances.is_at, Rebuilds.fresh_of}
 use Rattle.part_tests.proofs.AskedLaws.{asked_facility, asked_stands}
 use Rattle.part_tests.proofs.tests.machines.lose_asked.Goals as goal
 

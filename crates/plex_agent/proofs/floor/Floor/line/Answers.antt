@@ -1,5 +1,4 @@
 use Rattle.plex_agent.proofs.Imports.{arith, refl, sym, ◌∙◌}
-use Rattle.plex_board.specs.PlexScript.declared.scripts.Act.TheVariants as act
 use Rattle.plex_agent.proofs.PlayLaws.{on_ok, plays_line, plays_nothing}
 use Rattle.plex_agent.proofs.floor.Floor.line.Goals as goal
 

@@ -1,4 +1,4 @@
-use Rattle.plex_agent.proofs.Imports.{◌≡◌, ◌<◌, List, length, get_or, sym, ◌∙◌, ap, subst, arith, Line, connectors, Plays, IsPlayable}
+use Rattle.plex_agent.proofs.Imports.{◌<◌, List, length, get_or, sym, ◌∙◌, ap, subst, arith, connectors, IsPlayable}
 use Rattle.plex_agent.proofs.PlayLaws.{lines_more, closings_more}
 use Rattle.plex_agent.proofs.floor.Floor.play.Goals as goal
 
@@ -21,8 +21,7 @@ loop-line-preserved g c =
     let below : c.loop-line.line-index < length c.args.script.now.lines = omega arith in
     record {
       fits = c.in_ok-line.ensures.of_board;
-      rest = lines_more c.args.board.now c.args.script.now.lines c.line-item.result c.loop-line.line-index
-          c.args.self.now c.loop-line.self c.line.new.self below item c.loop-line.invariant.rest
+      rest = lines_more c.args.board.now _ _ _ _ _ _ below item c.loop-line.invariant.rest
           c.in_ok-line.ensures.played;
     }
 
@@ -33,7 +32,5 @@ loop-before-preserved g c =
     let below : c.loop-before.before < length c.args.script.now.connectors = omega arith in
     record {
       fits = c.close.ensures.of_board;
-      rest = closings_more c.args.board.now c.loop-before.before (length c.args.script.now.connectors)
-          (λ after. Plays c.args.board.now c.args.script.now.lines (connectors c.args.script.now) after)
-          c.loop-before.self c.close.new.self below c.loop-before.invariant.rest c.close.ensures.closed;
+      rest = closings_more c.args.board.now _ _ _ _ _ below c.loop-before.invariant.rest c.close.ensures.closed;
     }

@@ -1,19 +1,18 @@
-use Rattle.plex_board.proofs.Imports.{arith, sym, subst, MayAskAny}
+use Rattle.plex_board.proofs.Imports.{arith, sym}
 use Rattle.plex_board.proofs.PlaceLaws.{place-is, cell-is, cell-some, changed-of_board, changed-at, full-on, still-on, answered-on, call-fixed}
 use Rattle.plex_board.proofs.board.Board.call.Goals as goal
 
 pub call-requires-clause-place : goal.call-requires-clause-place
-call-requires-clause-place g c κs within =
-    (place-is _ _ _ _ c.args.on _ _ _ _ (sym c.self.view_is) (sym c.desk.view_is) c.requires.desk c.requires.place
-    c.from.ensures c.from-2.ensures c.index.ensures c.index_mut.ensures.value).of_cell
+call-requires-clause-place g c κs within = (place-is c.args.on c.self.view_is c.desk.view_is c.requires.desk
+    c.requires.place c.from.ensures c.from-2.ensures c.index.ensures c.index_mut.ensures.value).of_cell
 
 pub call-requires-clause-ask : goal.call-requires-clause-ask
 call-requires-clause-ask g c κs within = grind (arith, cell-some, cell-is)
 
 pub call-requires-clause-may : goal.call-requires-clause-may
-call-requires-clause-may g c κs within = subst (λ owner. MayAskAny owner c.args.ask) (sym
-    (place-is _ _ _ _ c.args.on _ _ _ _ (sym c.self.view_is) (sym c.desk.view_is) c.requires.desk c.requires.place
-    c.from.ensures c.from-2.ensures c.index.ensures c.index_mut.ensures.value).owner_is) c.requires.may
+call-requires-clause-may g c κs within =
+    rw (place-is c.args.on c.self.view_is c.desk.view_is c.requires.desk c.requires.place c.from.ensures
+    c.from-2.ensures c.index.ensures c.index_mut.ensures.value).owner_is c.requires.may
 
 pub returns-clause-answered : goal.returns-clause-answered
 returns-clause-answered g c = grind (arith, answered-on, place-is)

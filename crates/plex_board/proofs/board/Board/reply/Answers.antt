@@ -1,23 +1,18 @@
-use Rattle.plex_board.proofs.Imports.{◌≡◌, sym, ap, subst, IfOk, is_some, call_numbered, PassShown, reply_numbered, fixed_of}
+use Rattle.plex_board.proofs.Imports.{sym, ap, fixed_of}
 use Rattle.plex_board.proofs.PlaceLaws.{place-is, changed-of_board, unread-on}
 use Rattle.plex_board.proofs.board.Board.reply.Goals as goal
 
 pub reply-requires-clause-place : goal.reply-requires-clause-place
-reply-requires-clause-place g c κs within =
-    (place-is _ _ _ _ c.args.on _ _ _ _ (sym c.self.view_is) (sym c.desk.view_is) c.requires.desk c.requires.place
-    c.from.ensures c.from-2.ensures c.index.ensures c.index_mut.ensures.value).of_cell
+reply-requires-clause-place g c κs within = (place-is c.args.on c.self.view_is c.desk.view_is c.requires.desk
+    c.requires.place c.from.ensures c.from-2.ensures c.index.ensures c.index_mut.ensures.value).of_cell
 
 pub returns-clause-reply : goal.returns-clause-reply
-returns-clause-reply g c =
-    subst (λ (pass : PassShown). IfOk c.reply.result (λ reply. reply ≡ reply_numbered c.args.no pass.replies))
-    (sym (place-is _ _ _ _ c.args.on _ _ _ _ (sym c.self.view_is) (sym c.desk.view_is) c.requires.desk c.requires.place
-    c.from.ensures c.from-2.ensures c.index.ensures c.index_mut.ensures.value).pass_is) c.reply.ensures.reply
+returns-clause-reply g c = rw (place-is c.args.on c.self.view_is c.desk.view_is c.requires.desk c.requires.place
+    c.from.ensures c.from-2.ensures c.index.ensures c.index_mut.ensures.value).pass_is c.reply.ensures.reply
 
 pub returns-clause-own : goal.returns-clause-own
-returns-clause-own g c = subst (λ (pass : PassShown). IfOk c.reply.result
-    (λ reply. is_some reply ≡ is_some (call_numbered c.args.no pass.calls))) (sym
-    (place-is _ _ _ _ c.args.on _ _ _ _ (sym c.self.view_is) (sym c.desk.view_is) c.requires.desk c.requires.place
-    c.from.ensures c.from-2.ensures c.index.ensures c.index_mut.ensures.value).pass_is) c.reply.ensures.own
+returns-clause-own g c = rw (place-is c.args.on c.self.view_is c.desk.view_is c.requires.desk c.requires.place
+    c.from.ensures c.from-2.ensures c.index.ensures c.index_mut.ensures.value).pass_is c.reply.ensures.own
 
 pub returns-clause-no_memory : goal.returns-clause-no_memory
 returns-clause-no_memory g c = unread-on c.args.desk.now _ _

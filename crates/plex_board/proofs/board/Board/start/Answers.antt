@@ -1,5 +1,5 @@
-use Rattle.plex_board.proofs.Imports.{length, ap, ◌∙◌, arith, take_all, into_iter_items}
-use Rattle.plex_board.proofs.StartLaws.{item-formed, forms-more, links-more, start-none, count-more, opened-forms, opened-cells, opened-links, opened-desks}
+use Rattle.plex_board.proofs.Imports.{length, ap, arith, All-get_or, take_all, into_iter_items}
+use Rattle.plex_board.proofs.StartLaws.{forms-more, links-more, start-none, count-more, opened-cells, opened-links, opened-desks}
 use Rattle.plex_board.proofs.board.Board.start.Goals as goal
 
 pub loop-form-init : goal.loop-form-init
@@ -14,7 +14,7 @@ loop-form-init g c =
     }
 
 pub add-requires-clause-formed : goal.add-requires-clause-formed
-add-requires-clause-formed g c κs within = grind (arith, item-formed)
+add-requires-clause-formed g c κs within = grind (arith, All-get_or)
 
 pub loop-form-preserved : goal.loop-form-preserved
 loop-form-preserved g c =
@@ -30,7 +30,7 @@ loop-form-preserved g c =
     }
 
 pub returns-clause-forms : goal.returns-clause-forms
-returns-clause-forms g c = grind (arith, opened-forms, take_all)
+returns-clause-forms g c = grind (arith, All-get_or, take_all)
 
 pub returns-clause-cells : goal.returns-clause-cells
 returns-clause-cells g c = opened-cells c.loop-form.opening.stations.items

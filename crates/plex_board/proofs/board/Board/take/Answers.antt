@@ -3,9 +3,8 @@ use Rattle.plex_board.proofs.PlaceLaws.{place-is, changed-of_board}
 use Rattle.plex_board.proofs.board.Board.take.Goals as goal
 
 pub take-requires-after_bounds : goal.take-requires-after_bounds
-take-requires-after_bounds g c κs within =
-    (place-is _ _ _ _ c.args.on _ _ _ _ (sym c.self.view_is) (sym c.desk.view_is) c.requires.desk c.requires.place
-    c.from.ensures c.from-2.ensures c.index.ensures c.index_mut.ensures.value).of_cell
+take-requires-after_bounds g c κs within = (place-is c.args.on c.self.view_is c.desk.view_is c.requires.desk
+    c.requires.place c.from.ensures c.from-2.ensures c.index.ensures c.index_mut.ensures.value).of_cell
 
 pub returns-clause-of_board : goal.returns-clause-of_board
 returns-clause-of_board g c = changed-of_board c.args.self.now c.args.desk.now

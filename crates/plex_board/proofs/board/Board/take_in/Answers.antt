@@ -4,9 +4,8 @@ use Rattle.plex_board.proofs.TrayLaws.{slot-is, tray-same}
 use Rattle.plex_board.proofs.board.Board.take_in.Goals as goal
 
 pub take_in-requires-clause-place : goal.take_in-requires-clause-place
-take_in-requires-clause-place g c κs within =
-    (place-is _ _ _ _ c.args.on _ _ _ _ (sym c.self.view_is) (sym c.desk.view_is) c.requires.desk c.requires.place
-    c.from.ensures c.from-2.ensures c.index.ensures c.index_mut.ensures.value).of_cell
+take_in-requires-clause-place g c κs within = (place-is c.args.on c.self.view_is c.desk.view_is c.requires.desk
+    c.requires.place c.from.ensures c.from-2.ensures c.index.ensures c.index_mut.ensures.value).of_cell
 
 pub take_in-requires-clause-slot : goal.take_in-requires-clause-slot
 take_in-requires-clause-slot g c κs within = slot-is c.args.self.now c.args.tray.now c.args.on c.index.result.now

@@ -1,8 +1,6 @@
-use Rattle.plex_board.proofs.Imports.{◌+◌, ◌≤◌, sym, subst, ◌∙◌, arith, length-map}
-use Rattle.plex_board.proofs.StationLaws.{started-passes}
-use Rattle.plex_board.proofs.HomeLaws.{count-of-homes}
-use Rattle.plex_board.proofs.UnusedLaws.{desks-few}
+use Rattle.plex_board.proofs.Imports.{◌≤◌, sym, subst, arith, length-map}
 use Rattle.plex_board.proofs.OpenLaws.{unused-calls, started-cell, more-started, more-desks, more-homes, more-empty, empty-home}
+use Rattle.plex_board.proofs.{StationLaws.started-passes, HomeLaws.count-of-homes, UnusedLaws.desks-few}
 use Rattle.plex_board.proofs.opening.Opening.add.Goals as goal
 
 pub deal-requires-clause-unused : goal.deal-requires-clause-unused
@@ -17,7 +15,7 @@ push_reserved-requires-2 g c = grind (arith, count-of-homes, length-map)
 pub returns-clause-opening : goal.returns-clause-opening
 returns-clause-opening g c =
     let old = c.requires.opening in
-    let passes = started-passes _ _ _ _ _ _ _ c.in_ok-station.ensures.cell c.in_ok-station.ensures.passes in
+    let passes = started-passes _ c.in_ok-station.ensures.cell c.in_ok-station.ensures.passes in
     record {
       started = more-started _ _ _ c.push_reserved.ensures.items _ _ old.started
           (started-cell _ _ _ _ _ c.in_ok-station.ensures.cell c.in_ok-station.ensures.words);

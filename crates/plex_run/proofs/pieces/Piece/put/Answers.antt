@@ -1,6 +1,5 @@
 use Rattle.plex_run.proofs.Imports.{on_ok_weaker, on_err_weaker}
-use Rattle.plex_run.proofs.Written.{GainsPrefix-after}
-use Rattle.plex_run.proofs.Passing.{passes-flushed}
+use Rattle.plex_run.proofs.{Written.GainsPrefix-after, Passing.passes-flushed}
 use Rattle.plex_run.proofs.pieces.Piece.put.Goals as goal
 
 pub returns-clause-passed : goal.returns-clause-passed

@@ -1,6 +1,5 @@
 -- What was asked for adds up.
-use Rattle.plex_seat.proofs.Imports.{rules, ◌≡◌, ◌<◌, ◌≤◌, ◌+◌, length, arith, AnyAsk, pass_of, type_at, common_ask}
-use Rattle.plex_board.specs.CfTypes.declared.shell_commands.ShellCmd.TheVariants as cmd
+use Rattle.plex_seat.proofs.Imports.{rules, ◌≡◌, ◌<◌, ◌≤◌, ◌+◌, length, arith, AnyAsk, pass_of, type_at, common_ask, ShellCmd}
 use Rattle.plex_seat.proofs.EventLaws.{asked_more, asked_within, asked_fault, known_more, calls_more, same_same}
 use Rattle.plex_seat.proofs.seat.Seat.await_event.Goals as goal
 
@@ -19,7 +18,7 @@ returns-in-Some-clause-asked g c =
 
 pub loop-preserved : goal.loop-preserved
 loop-preserved g c =
-    let asks : AnyAsk = common_ask (type_at c.loop.self) cmd.Next in
+    let asks : AnyAsk = common_ask (type_at c.loop.self) ShellCmd.Next in
     let kept : (pass_of c.loop.self).known ≤ (pass_of c.next_event.new.self).known = known_more asks
     c.in-Ok.answer.no c.loop.self c.next_event.new.self c.next_event.ensures.same c.in-Ok.ensures.answer.called in
     let more : length (pass_of c.next_event.new.self).calls ≡ length (pass_of c.loop.self).calls + 1 =

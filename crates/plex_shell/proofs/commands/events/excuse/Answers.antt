@@ -1,5 +1,5 @@
 -- Whoever isn't leaving awaits no answer.
-use Rattle.plex_shell.proofs.Imports.{arith, ◌≡◌, with_answer-same}
+use Rattle.plex_shell.proofs.Imports.{arith, with_answer-same}
 use Rattle.plex_shell.proofs.commands.events.excuse.Goals as goal
 
 pub returns-in-Some-Active : goal.returns-in-Some-Active

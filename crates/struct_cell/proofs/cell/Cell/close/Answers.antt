@@ -1,5 +1,5 @@
 use Rattle.struct_cell.proofs.Imports.{arith, rules, ap, sym, ◌∙◌}
-use Rattle.struct_cell.proofs.ToldLaws.{closed_links, closed_callers, closed_mine, closed_known, closed_tests, same_tables, same_shown}
+use Rattle.struct_cell.proofs.ToldLaws.{closed_mine, closed_known, closed_tests, same_tables, same_shown}
 use Rattle.struct_cell.proofs.cell.Cell.close.Goals as goal
 
 pub learn_all-requires-clause-passes : goal.learn_all-requires-clause-passes
@@ -8,19 +8,17 @@ learn_all-requires-clause-passes g c =
     (ap (λ k. k.words) (sym c.self.view_is) ∙ c.self.invariant.0) (search rules) c.requires.passes
 
 pub returns-clause-callers : goal.returns-clause-callers
-returns-clause-callers g c = grind (arith, closed_callers)
+returns-clause-callers g c = grind arith
 
 pub returns-clause-mine : goal.returns-clause-mine
 returns-clause-mine g c = closed_mine g.L.Link.calls g.L.Link.downs g.L.Link.faults g.E.Engine.meaning
     c.self.inside.lock.key c.args.self _ _ _ c.ended-inside.result.journal.items c.from_vec.result
-    _ c.args.passes.items c.ended-inside.ensures c.self.view_is c.from_vec.ensures (same_shown
-    c.ended-inside.result.seat c.args.passes.items c.as_mut_slice.result.now (search rules) c.learn_all.ensures.shown)
+    _ c.args.passes.items c.ended-inside.ensures c.self.view_is c.from_vec.ensures (grind (arith, same_shown))
 
 pub returns-clause-known : goal.returns-clause-known
 returns-clause-known g c = closed_known g.L.Link.calls g.L.Link.downs g.L.Link.faults g.E.Engine.meaning
     c.self.inside.lock.key c.args.self _ _ _ c.ended-inside.result.journal.items c.from_vec.result
-    _ c.args.passes.items c.ended-inside.ensures c.self.view_is c.from_vec.ensures (same_shown
-    c.ended-inside.result.seat c.args.passes.items c.as_mut_slice.result.now (search rules) c.learn_all.ensures.shown)
+    _ c.args.passes.items c.ended-inside.ensures c.self.view_is c.from_vec.ensures (grind (arith, same_shown))
 
 pub returns-clause-tests : goal.returns-clause-tests
 returns-clause-tests g c = closed_tests g.L.Link.calls g.L.Link.downs g.L.Link.faults g.E.Engine.meaning
@@ -29,4 +27,4 @@ returns-clause-tests g c = closed_tests g.L.Link.calls g.L.Link.downs g.L.Link.f
     c.ended-inside.result.seat c.args.passes.items c.as_mut_slice.result.now (search rules) c.learn_all.ensures.shown)
 
 pub returns-clause-links : goal.returns-clause-links
-returns-clause-links g c = grind (arith, closed_links)
+returns-clause-links g c = grind arith

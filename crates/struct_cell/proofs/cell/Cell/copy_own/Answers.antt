@@ -1,5 +1,5 @@
 use Rattle.struct_cell.proofs.Imports.{ap, sym, ◌∙◌, calls_of, reply_at}
-use Rattle.struct_cell.proofs.ReplyLaws.{reply_own}
+use Rattle.struct_cell.proofs.ToldLaws.{reply_own}
 use Rattle.struct_cell.proofs.cell.Cell.copy_own.Goals as goal
 
 pub returns-clause-reply : goal.returns-clause-reply

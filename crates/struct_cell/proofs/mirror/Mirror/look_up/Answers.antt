@@ -1,4 +1,4 @@
-use Rattle.struct_cell.proofs.Imports.{◌≡◌, ◌⊎◌, arith, ◌∙◌, take_all, words_in}
+use Rattle.struct_cell.proofs.Imports.{arith, ◌∙◌, take_all, words_in}
 use Rattle.struct_cell.proofs.MirrorLaws.{looked_more}
 use Rattle.struct_cell.proofs.mirror.Mirror.look_up.Goals as goal
 

@@ -1,9 +1,9 @@
-use Rattle.struct_cell.proofs.Imports.{arith, ◌≡◌, ◌<◌, ◌≤◌, ◌⊎◌, subst, ◌∙◌, MirrorWords}
-use Rattle.struct_cell.proofs.MirrorLaws.{bit_taken, words_past}
+use Rattle.struct_cell.proofs.Imports.{arith, ◌<◌, subst, ◌∙◌, MirrorWords}
+use Rattle.struct_cell.proofs.MirrorLaws.{bit_taken}
 use Rattle.struct_cell.proofs.mirror.Mirror.take_bit.Goals as goal
 
 pub returns-then-is_past-clause-words : goal.returns-then-is_past-clause-words
-returns-then-is_past-clause-words c = grind (arith, words_past)
+returns-then-is_past-clause-words c = grind arith
 
 pub returns-clause-words : goal.returns-clause-words
 returns-clause-words c = λ before are.

@@ -1,4 +1,4 @@
-use Rattle.struct_cell.proofs.Imports.{arith, ◌<◌, ◌≤◌}
+use Rattle.struct_cell.proofs.Imports.{arith}
 use Rattle.struct_cell.proofs.touched.Touched.note.Goals as goal
 
 pub follow-requires-clause-every : goal.follow-requires-clause-every

@@ -1,8 +1,7 @@
 -- A number that begins has no store, and the two words are two.
 use Rattle.std.proofs.Common.{◌≡◌, ℕ, subst, ⊎_elim, arith}
-use Rattle.plex_board.specs.VecWorld.Log.{HasStore}
-use Rattle.plex_board.specs.VecWords.Logged.{steps_of, word_number}
 use Rattle.plex_board.specs.VecWords.Tokens.{SeatSeen}
+use Rattle.plex_board.specs.{VecWorld.Log.HasStore, VecWords.Logged.steps_of, VecWords.Logged.word_number}
 use Rattle.plex_board.proofs.VecWords.Logs.{has_store-store}
 use Rattle.thread_tests.proofs.tests.words.make_call.Goals as goal
 

@@ -1,6 +1,5 @@
 use Rattle.vec_words.proofs.Imports.{rules, ◌≡◌, ◌∙◌, ap, get_or, count_of, PassSeen, SeatSeen, learned_pass, IsShown}
-use Rattle.vec_words.proofs.Walked.{walked-of, walked-step, walked-all}
-use Rattle.vec_words.proofs.Learned.{shown_pass}
+use Rattle.vec_words.proofs.{Walked.walked-of, Walked.walked-step, Walked.walked-all, Learned.shown_pass}
 use Rattle.vec_words.proofs.vectors.Vectors.learn_all.Goals as goal
 
 pub learn-requires-clause-pass : goal.learn-requires-clause-pass

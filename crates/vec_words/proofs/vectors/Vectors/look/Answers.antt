@@ -1,6 +1,5 @@
 use Rattle.vec_words.proofs.Imports.{◌≡◌, ◌*◌, ◌/◌, ◌<◌, ◌≤◌, ℕ, suc, ap, sym, ◌∙◌, subst, arith, WordTable, PassSeen, words_of, word_number}
-use Rattle.vec_words.proofs.Steps.{looks}
-use Rattle.vec_words.proofs.Tables.{id_of, words_here}
+use Rattle.vec_words.proofs.{Steps.looks, Tables.id_of, Tables.words_here}
 use Rattle.vec_words.proofs.vectors.Vectors.look.Goals as goal
 
 pub load-found-requires : goal.load-found-requires

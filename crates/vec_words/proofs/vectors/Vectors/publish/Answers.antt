@@ -1,6 +1,5 @@
 use Rattle.vec_words.proofs.Imports.{ap, sym, ◌∙◌, subst, arith, IsOpen, count_of, flying_of, WordTable}
-use Rattle.vec_words.proofs.Begun.{open_begun}
-use Rattle.vec_words.proofs.Writes.{publishes}
+use Rattle.vec_words.proofs.{Begun.open_begun, Writes.publishes}
 use Rattle.vec_words.proofs.vectors.Vectors.publish.Goals as goal
 
 pub store-requires : goal.store-requires

@@ -1,7 +1,5 @@
 use Rattle.vec_words.proofs.Imports.{◌≡◌, ◌*◌, ◌^◌, ◌<◌, ℕ, suc, ap, sym, ◌∙◌, subst, arith, word_of, WordTable, words_of}
-use Rattle.vec_words.proofs.Begun.{open_begun}
-use Rattle.vec_words.proofs.Writes.{puts}
-use Rattle.vec_words.proofs.Tables.{words_here}
+use Rattle.vec_words.proofs.{Begun.open_begun, Writes.puts, Tables.words_here}
 use Rattle.vec_words.proofs.vectors.Vectors.put.Goals as goal
 
 pub store-requires : goal.store-requires
