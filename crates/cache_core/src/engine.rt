@@ -250,6 +250,8 @@ impl Engine for CacheEngine {
 
     ghost content_back = { λ shape caps content conn is. is };
 
+    ghost bits_back = { λ content conn. refl };
+
     ghost made_again = { cache-fronts.made_again };
 
     ghost items_front = { cache-fronts.items_front };

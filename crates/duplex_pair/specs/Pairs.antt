@@ -98,6 +98,13 @@ module _ {C R I S : Type 0} (meaning : Meaning C R I S) where
   letters_on_leave conn keep None = []
   letters_on_leave conn keep (Some held) = (departure meaning held conn keep).letters
 
+-- ---- effects
+
+-- neither a bit nor a letter is told
+pub record AreNone (effects : Effects) : Type 0 where
+  pub bits : effects.bits.items ≡ []
+  pub mail : effects.mail.items ≡ []
+
 -- ---- readiness
 
 -- The primary is ready with these effects. So is the secondary, which may have to take the primary's place, and with

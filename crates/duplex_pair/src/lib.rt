@@ -16,3 +16,4 @@ pub use ended::Ended;
 pub use lost::Lost;
 pub use pair::Pair;
 pub use placed::Placed;
+pub use together::fresh_mail;

@@ -16,8 +16,8 @@ use crate::lost::Lost;
 use crate::placed::Placed;
 use crate::reached::{ask_instance, is_down};
 use crate::together::{
-    follow_command, follow_forget, follow_leave, for_command, for_forget, for_leave, make_room,
-    take_back,
+    follow_command, follow_forget, follow_leave, for_command, for_forget, for_leave, fresh_spare,
+    make_room, take_back,
 };
 use cf_link::{Down, Link, Links};
 use cf_types::{Caps, CfId, ConnId, Effects, NoMemory, Refusal};
@@ -37,7 +37,7 @@ pub struct Pair<E: Engine, L: Link> {
 }
 
 impl<E: Engine, L: Link> Model for Pair<E, L> {
-    ghost use Rattle.duplex_pair.specs.Pairs.{PairView, ArePaired};
+    ghost use Rattle.duplex_pair.specs.Pairs.{PairView, AreNone, ArePaired};
 
     ghost Value = { PairView E L };
 
@@ -48,7 +48,7 @@ impl<E: Engine, L: Link> Model for Pair<E, L> {
       links = p.links;
     } };
 
-    ghost invariant = { λ p. ArePaired E.held p.primary p.secondary };
+    ghost invariant = { λ p. ArePaired E.held p.primary p.secondary × AreNone p.spare };
 }
 
 impl<E: Engine, L: Link> Pair<E, L> {
@@ -221,7 +221,13 @@ impl<E: Engine, L: Link> Pair<E, L> {
 
     /// Takes all memory that a command on the content, its reply and its effects need, whichever
     /// instance is lost before it is done.
-    pub fn ready(&mut self, by: ConnId, cmd: &E::Cmd, out: &mut Effects) -> Result<(), NoMemory>
+    pub fn ready(
+        &mut self,
+        alloc: Global,
+        by: ConnId,
+        cmd: &E::Cmd,
+        out: &mut Effects,
+    ) -> Result<(), NoMemory>
         requires caller { IsCaller by }
         ensures ready { OnOk result (AreReady E.is_ready self.new (ForCmd by cmd.now) out.new) }
         ensures content { content_of E.held self.new ≡ content_of E.held self.old }
@@ -230,6 +236,7 @@ impl<E: Engine, L: Link> Pair<E, L> {
         ensures bits { out.new.bits.items ≡ out.old.bits.items }
         ensures mail { out.new.mail.items ≡ out.old.mail.items }
     {
+        fresh_spare(alloc, &self.secondary, &mut self.spare);
         for_command(&mut self.primary, by, cmd, out)?;
         for_command(&mut self.secondary, by, cmd, &mut self.spare)?;
         make_room(out, &self.spare)
@@ -267,7 +274,12 @@ impl<E: Engine, L: Link> Pair<E, L> {
     }
 
     /// Takes all memory that a departure of the connector needs.
-    pub fn leave_ready(&mut self, conn: ConnId, out: &mut Effects) -> Result<(), NoMemory>
+    pub fn leave_ready(
+        &mut self,
+        alloc: Global,
+        conn: ConnId,
+        out: &mut Effects,
+    ) -> Result<(), NoMemory>
         requires caller { IsCaller conn }
         ensures ready { OnOk result (AreReady E.is_ready self.new (ForLeave conn) out.new) }
         ensures content { content_of E.held self.new ≡ content_of E.held self.old }
@@ -276,6 +288,7 @@ impl<E: Engine, L: Link> Pair<E, L> {
         ensures bits { out.new.bits.items ≡ out.old.bits.items }
         ensures mail { out.new.mail.items ≡ out.old.mail.items }
     {
+        fresh_spare(alloc, &self.secondary, &mut self.spare);
         for_leave(&mut self.primary, conn, out)?;
         for_leave(&mut self.secondary, conn, &mut self.spare)?;
         make_room(out, &self.spare)
@@ -307,7 +320,7 @@ impl<E: Engine, L: Link> Pair<E, L> {
     }
 
     /// Takes all memory that the end of registrations needs.
-    pub fn forget_ready(&mut self, out: &mut Effects) -> Result<(), NoMemory>
+    pub fn forget_ready(&mut self, alloc: Global, out: &mut Effects) -> Result<(), NoMemory>
         ensures ready { OnOk result (AreReady E.is_ready self.new ForForget out.new) }
         ensures content { content_of E.held self.new ≡ content_of E.held self.old }
         ensures places { instances_of self.new ≡ instances_of self.old }
@@ -315,6 +328,7 @@ impl<E: Engine, L: Link> Pair<E, L> {
         ensures bits { out.new.bits.items ≡ out.old.bits.items }
         ensures mail { out.new.mail.items ≡ out.old.mail.items }
     {
+        fresh_spare(alloc, &self.secondary, &mut self.spare);
         for_forget(&mut self.primary, out)?;
         for_forget(&mut self.secondary, &mut self.spare)?;
         make_room(out, &self.spare)

@@ -1,13 +1,46 @@
 //! What is done to an instance, where it stands, and to the secondary beside a primary.
-ghost use Rattle.std.specs.Prelude.{◌≡◌, ◌≤◌, OnOk, IfSome, option_map};
+ghost use Rattle.std.specs.Prelude.{◌≡◌, ◌≤◌, [], OnOk, IfSome, option_map};
 ghost use Rattle.cf_types.specs.Forms.{IsCaller};
 ghost use Rattle.engine_api.specs.Meaning.{answer, with_departure, with_back, with_forgotten};
 ghost use Rattle.engine_api.specs.Meaning.Wish.{ForCmd, ForLeave, ForForget};
-ghost use Rattle.duplex_pair.specs.Pairs.{facility_of, held_in};
+ghost use Rattle.duplex_pair.specs.Pairs.{AreNone, facility_of, held_in};
 
 use crate::placed::Placed;
-use cf_types::{ConnId, Effects, NoMemory};
+use cf_types::limits::CALLERS;
+use cf_types::{Batch, ConnId, Effects, NoMemory};
 use engine_api::Engine;
+use std::alloc::Global;
+
+/// For how many letters effects keep their room from one call to the next.
+const KEPT_LETTERS: usize = 2 * CALLERS as usize;
+
+/// Ends the letters. Where there is room for many it is given back, so that one departure with many
+/// letters makes no later call take room for as many.
+pub fn fresh_mail(alloc: Global, out: &mut Effects)
+    ensures bits { out.new.bits ≡ out.old.bits }
+    ensures mail { out.new.mail.items ≡ [] }
+{
+    if out.mail.room() > KEPT_LETTERS {
+        out.mail = Batch::new(alloc);
+    } else {
+        out.mail.clear();
+    }
+}
+
+// Effects for a secondary. Where none stands there is room for nothing.
+pub(crate) fn fresh_spare<E: Engine>(
+    alloc: Global,
+    secondary: &Option<Placed<E>>,
+    spare: &mut Effects,
+)
+    requires { AreNone spare.old }
+    ensures { AreNone spare.new }
+{
+    match secondary {
+        Some(_) => fresh_mail(alloc, spare),
+        None => *spare = Effects::new(alloc),
+    }
+}
 
 // Effects with as much room as others have.
 pub(crate) fn make_room(out: &mut Effects, like: &Effects) -> Result<(), NoMemory>
@@ -90,6 +123,8 @@ pub(crate) fn follow_command<E: Engine>(
 )
     requires caller { IsCaller by }
     requires ready { IfSome secondary.old (λ p. E.is_ready p.engine (ForCmd by cmd.now) spare.old) }
+    requires none { AreNone spare.old }
+    ensures none { AreNone spare.new }
     ensures place { facility_of secondary.new ≡ facility_of secondary.old }
     ensures held { held_in E.held secondary.new
         ≡ option_map (λ held. (answer E.meaning held by cmd.now).held)
@@ -110,6 +145,8 @@ pub(crate) fn follow_leave<E: Engine>(
 )
     requires caller { IsCaller conn }
     requires ready { IfSome secondary.old (λ p. E.is_ready p.engine (ForLeave conn) spare.old) }
+    requires none { AreNone spare.old }
+    ensures none { AreNone spare.new }
     ensures place { facility_of secondary.new ≡ facility_of secondary.old }
     ensures held { held_in E.held secondary.new
         ≡ option_map (λ held. with_departure E.meaning held conn keep)
@@ -124,6 +161,8 @@ pub(crate) fn follow_leave<E: Engine>(
 // And so is the end of registrations.
 pub(crate) fn follow_forget<E: Engine>(secondary: &mut Option<Placed<E>>, spare: &mut Effects)
     requires ready { IfSome secondary.old (λ p. E.is_ready p.engine ForForget spare.old) }
+    requires none { AreNone spare.old }
+    ensures none { AreNone spare.new }
     ensures place { facility_of secondary.new ≡ facility_of secondary.old }
     ensures held { held_in E.held secondary.new
         ≡ option_map (with_forgotten E.meaning) (held_in E.held secondary.old) }

@@ -208,6 +208,10 @@ pub trait Engine: Sized + Send + Drop {
     ghost content_back: { (shape : Shape) (caps : Caps) (state : Self.State) (conn : ConnId)
         → is_content shape caps state → is_content shape caps (meaning.back state conn) };
 
+    /// A connection that is taken up again turns no bit.
+    ghost bits_back: { (state : Self.State) (conn : ConnId)
+        → meaning.stands (meaning.back state conn) ≡ meaning.stands state };
+
     /// The items of a content make the content again, without its registrations.
     ghost made_again: { (shape : Shape) (caps : Caps) (state : Self.State)
         → is_content shape caps state → content_of_items meaning shape (meaning.items shape state) ≡

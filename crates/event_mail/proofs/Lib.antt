@@ -1,3 +1,4 @@
 pub mod Imports
+pub mod CallerSets
 pub mod PostLaws
 pub mod RemovalLaws

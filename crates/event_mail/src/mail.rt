@@ -1,11 +1,12 @@
-ghost use Rattle.std.specs.Prelude.{◌≡◌, ◌+◌, ◌<◌, ◌≤◌, ℕ, OnOk, IfOk, All, length, slice_index_or};
-ghost use Rattle.cf_types.specs.declared.limits.TheConstants.{CONNECTORS};
-ghost use Rattle.cf_types.specs.Mailboxes.{empty_mail, with_letter, next_event, owed_event, with_taken, with_response, with_cleared};
+ghost use Rattle.std.specs.Prelude.{◌≡◌, ◌≢◌, ◌+◌, ◌<◌, ◌≤◌, ℕ, OnOk, IfOk, All, length, slice_index_or};
+ghost use Rattle.cf_types.specs.declared.limits.TheConstants.{CALLERS, CONNECTORS};
+ghost use Rattle.cf_types.specs.Mailboxes.{empty_mail, letters_to, with_letter, with_letters, next_event, owed_event, with_taken, with_response, with_cleared};
+ghost use Rattle.event_mail.specs.Callers.{AreCallers};
 ghost use Rattle.event_mail.specs.Post.{Box, mailboxes_of};
 
 use crate::letterbox::Letterbox;
 use cf_types::limits::{CALLERS, CONNECTORS};
-use cf_types::{ConnId, Event, Letter, NoMemory};
+use cf_types::{ConnId, ConnSet, Event, Letter, NoMemory};
 use std::alloc::Global;
 use std::marker::Model;
 
@@ -44,6 +45,40 @@ fn reserve_each(boxes: &mut [Letterbox], letters: usize) -> Result<(), NoMemory>
         mailbox.reserve(letters)?;
     }
     Ok(())
+}
+
+/// One event more waits for each member of a set of callers.
+fn put_each(boxes: &mut [Letterbox], to: ConnSet, event: Event)
+    requires callers { AreCallers to }
+    requires places { length boxes.old ≡ CALLERS }
+    requires room { All (λ box. 0 < box.room) boxes.old }
+    ensures mailboxes { mailboxes_of boxes.new
+        ≡ with_letters (mailboxes_of boxes.old) (letters_to to event) }
+    ensures room { (k : ℕ) (d : Box) → k < length boxes.old
+        → (slice_index_or boxes.old k d).room ≤ (slice_index_or boxes.new k d).room + 1 }
+{
+    for number in 0..CALLERS {
+        let conn = ConnId(number);
+        if to.has(conn) {
+            put_at(boxes, conn, event);
+        }
+    }
+}
+
+/// One event more waits in a mailbox.
+fn put_at(boxes: &mut [Letterbox], conn: ConnId, event: Event)
+    requires place { conn.0 < length boxes.old }
+    requires room { (d : Box) → 0 < (slice_index_or boxes.old conn.0 d).room }
+    ensures mailboxes { mailboxes_of boxes.new
+        ≡ with_letter (mailboxes_of boxes.old) (record { to = conn; event = event }) }
+    ensures places { length boxes.new ≡ length boxes.old }
+    ensures less { (d : Box) → (slice_index_or boxes.old conn.0 d).room
+        ≤ (slice_index_or boxes.new conn.0 d).room + 1 }
+    ensures others { (k : ℕ) (d : Box) → k ≢ conn.0
+        → slice_index_or boxes.new k d ≡ slice_index_or boxes.old k d }
+{
+    let mailbox = &mut boxes[usize::from(conn.0)];
+    mailbox.put(event);
 }
 
 impl Mail {
@@ -112,6 +147,19 @@ impl Mail {
         } else {
             self.lose_letter(letter);
         }
+    }
+
+    /// The same event waits for each member of a set, behind the others: one letter to a mailbox at
+    /// most.
+    pub fn tell(&mut self, to: ConnSet, event: Event)
+        requires callers { AreCallers to }
+        requires room { 0 < self.old.room }
+        ensures boxes { self.new.boxes
+            ≡ with_letters self.old.boxes (letters_to to event) }
+        ensures room { self.old.room ≤ self.new.room + 1 }
+    {
+        put_each(&mut self.boxes, to, event);
+        self.room -= 1;
     }
 
     /// The first event that waits for a connector, none exactly where none waits.

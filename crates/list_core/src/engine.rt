@@ -217,6 +217,8 @@ impl Engine for ListEngine {
 
     ghost content_back = { λ shape caps content conn is. is };
 
+    ghost bits_back = { λ content conn. refl };
+
     ghost made_again = { list-fronts.made_again };
 
     ghost items_front = { list-fronts.items_front };

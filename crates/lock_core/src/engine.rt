@@ -240,6 +240,8 @@ impl Engine for LockEngine {
 
     ghost content_back = { λ shape caps content conn. back-content caps content conn };
 
+    ghost bits_back = { λ content conn. refl };
+
     ghost made_again = { lock-fronts.made_again };
 
     ghost items_front = { lock-fronts.items_front };

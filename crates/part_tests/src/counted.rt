@@ -218,6 +218,8 @@ impl Engine for Counted {
 
     ghost content_back = { λ shape caps state conn is. tt };
 
+    ghost bits_back = { λ content conn. refl };
+
     ghost made_again = { λ shape caps state is. made state };
 
     ghost items_front = { λ shape caps state front others is e. made front };

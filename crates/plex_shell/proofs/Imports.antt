@@ -6,5 +6,5 @@ pub use Rattle.std.proofs.Common.{◌≡◌, ℕ, ◌+◌, ◌-◌, ◌<◌, ◌
 pub use Rattle.cf_types.proofs.ConnSetLaws.{filter_agree_from, is_member-from, without_member-from}
 pub use Rattle.cf_types.proofs.ConnectionLaws.{with_answer-same}
 pub use Rattle.cf_types.specs.declared.{events.Event.Event, limits.TheConstants.CALLERS, numbers.ConnId.ConnId}
-pub use Rattle.plex_shell.specs.Callers.{AreCallers}
+pub use Rattle.event_mail.specs.Callers.{AreCallers}
 pub use Rattle.plex_shell.specs.Losses.{reply_as}

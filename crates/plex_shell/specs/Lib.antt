@@ -1,4 +1,3 @@
-pub mod Callers
 pub mod Losses
 pub mod ShellView
 pub mod Verdicts

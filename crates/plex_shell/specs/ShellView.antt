@@ -5,7 +5,7 @@ use Rattle.cf_types.specs.Forms.{IsForm, IsCapacity}
 use Rattle.engine_api.specs.Shell.{Shell}
 use Rattle.engine_api.specs.RebuildCore.declared.rebuild.Rebuild.{Rebuild}
 use Rattle.plex_shell.specs.declared.shell.Shell.TheInside.{Inside}
-use Rattle.plex_shell.specs.Callers.{AreCallers}
+use Rattle.event_mail.specs.Callers.{AreCallers}
 
 -- the form, what the shell keeps, and for how many letters there is room
 pub record ShellView : Type 0 where

@@ -6,7 +6,6 @@ mod commands;
 mod connectivity;
 mod duplex_causes;
 mod judging;
-mod letters;
 mod lost_as;
 mod places;
 mod rebuild_causes;

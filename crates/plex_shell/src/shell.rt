@@ -12,7 +12,6 @@ ghost use Rattle.plex_shell.specs.Verdicts.{refused_or, doer_of, verdict, leaver
 use crate::connectivity::Connectivity;
 use crate::varied::VariedOff;
 use crate::verdicts::{Judged, Verdict};
-use cf_types::limits::CALLERS;
 use cf_types::{
     Caps, CfId, ConnId, ConnState, Letter, Listing, NoMemory, Refusal, ShellCmd, ShellReply,
     StrForm,
@@ -24,8 +23,8 @@ use event_mail::Mail;
 use std::alloc::Global;
 use std::marker::Model;
 
-/// The most letters that `act` posts, and `lost`.
-pub const ACT_LETTERS: u32 = 2 * CALLERS as u32;
+/// The most letters that `act` posts to one mailbox, and `lost`.
+pub const ACT_LETTERS: u32 = 2;
 
 /// The shell of one structure. Contracts see the form, what the shell keeps (instances, connections
 /// and mail), and for how many letters room is taken.

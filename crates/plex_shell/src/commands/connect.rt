@@ -4,7 +4,6 @@ ghost use Rattle.cf_types.specs.Connections.{state_of};
 ghost use Rattle.engine_api.specs.Shell.{if_connected, connect_outcome, facility_of};
 ghost use Rattle.plex_shell.specs.declared.shell.TheConstants.{ACT_LETTERS};
 
-use crate::letters::tell;
 use crate::shell::{Shell, no_deeds};
 use cf_types::{CfId, ConnId, Event, ShellReply};
 use engine_api::Deeds;
@@ -24,7 +23,7 @@ impl Shell {
         let make = self.made_at(by);
         let others = self.conns.active().without(by);
         let again = self.conns.connect(by, keep);
-        tell(&mut self.mail, others, Event::NewConn { conn: by });
+        self.mail.tell(others, Event::NewConn { conn: by });
         if make.is_some() {
             self.primary = make;
         }

@@ -4,7 +4,6 @@ ghost use Rattle.cf_types.specs.Forms.{IsCaller};
 ghost use Rattle.engine_api.specs.Shell.{departure_outcome, is_restart, is_drop, goes, deallocated, unless_gone, no_deeds};
 ghost use Rattle.plex_shell.specs.declared.shell.TheConstants.{ACT_LETTERS};
 
-use crate::letters::tell;
 use crate::rebuild_causes::is_copy;
 use crate::shell::{Shell, no_deeds};
 use cf_types::{ConnId, Event, ShellReply};
@@ -28,7 +27,7 @@ impl Shell {
         self.leave_rebuild(by);
         self.conns.depart(by, keep);
         let departure = Event::DiscFail { conn: by };
-        tell(&mut self.mail, self.conns.active(), departure);
+        self.mail.tell(self.conns.active(), departure);
         let deeds = self.end_if_gone();
         let restart = is_restart(&before, &self.rebuild);
         let drop_fresh = is_drop(&before, &self.rebuild);

@@ -1,5 +1,4 @@
 ghost use Rattle.std.specs.Prelude.{◌≡◌, ◌≤◌, ◌+◌, IsSome};
-ghost use Rattle.cf_types.specs.declared.limits.TheConstants.{CALLERS};
 ghost use Rattle.cf_types.specs.Connections.{with_answer};
 ghost use Rattle.cf_types.specs.Forms.{IsCaller};
 ghost use Rattle.cf_types.specs.Mailboxes.{next_event, owed_event};
@@ -28,11 +27,11 @@ impl Shell {
     pub(crate) fn respond(&mut self, by: ConnId) -> (ShellReply, Deeds)
         requires caller { IsCaller by }
         requires owes { IsSome (owed_event self.old.shell.mail by) }
-        requires room { CALLERS ≤ self.old.room }
+        requires room { 1 ≤ self.old.room }
         ensures form { self.new.form ≡ self.old.form }
         ensures acts { record { reply = result.0; shell = self.new.shell; deeds = result.1 }
             ≡ response_outcome self.old.shell by (owed_event self.old.shell.mail by) }
-        ensures room { self.old.room ≤ self.new.room + CALLERS }
+        ensures room { self.old.room ≤ self.new.room + 1 }
     {
         let event = self.mail.respond(by).unwrap();
         answer(&mut self.conns, by, event);

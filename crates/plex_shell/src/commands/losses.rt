@@ -1,13 +1,11 @@
 //! VARY, lost facilities, and what becomes of a structure that loses an instance.
 ghost use Rattle.std.specs.Prelude.{◌≡◌, ◌≤◌, ◌+◌, true};
-ghost use Rattle.cf_types.specs.declared.limits.TheConstants.{CALLERS};
 ghost use Rattle.cf_types.specs.Forms.{IsFacility};
 ghost use Rattle.engine_api.specs.Shell.{vary_outcome, mark_outcome, loss_outcome, primary_loss, fresh_loss, simplex_outcome, failed_outcome, stands_at};
 ghost use Rattle.plex_shell.specs.Losses.{reply_as, is_loss};
 ghost use Rattle.plex_shell.specs.declared.shell.TheConstants.{ACT_LETTERS};
 
 use crate::commands::connect::facility_of;
-use crate::letters::tell;
 use crate::lost_as::LostAs;
 use crate::places::is_at;
 use crate::shell::{Shell, no_deeds};
@@ -70,11 +68,11 @@ impl Shell {
 
     // The primary is lost: the secondary takes its place, where one stands.
     fn lose_primary(&mut self, cf: CfId) -> (ShellReply, Deeds)
-        requires { CALLERS ≤ self.old.room }
+        requires { 1 ≤ self.old.room }
         ensures form { self.new.form ≡ self.old.form }
         ensures acts { record { reply = result.0; shell = self.new.shell; deeds = result.1 }
             ≡ primary_loss self.old.form cf self.old.shell.instances.secondary self.old.shell }
-        ensures room { self.old.room ≤ self.new.room + CALLERS }
+        ensures room { self.old.room ≤ self.new.room + 1 }
     {
         match self.secondary {
             None => self.fail(),
@@ -103,18 +101,18 @@ impl Shell {
     // The last instance is lost: the structure fails, a rebuild ends, the capacity is the policy's
     // again, and the active connectors are told.
     fn fail(&mut self) -> (ShellReply, Deeds)
-        requires { CALLERS ≤ self.old.room }
+        requires { 1 ≤ self.old.room }
         ensures form { self.new.form ≡ self.old.form }
         ensures acts { record { reply = result.0; shell = self.new.shell; deeds = result.1 }
             ≡ failed_outcome self.old.form self.old.shell }
-        ensures room { self.old.room ≤ self.new.room + CALLERS }
+        ensures room { self.old.room ≤ self.new.room + 1 }
     {
         self.primary = None;
         self.secondary = None;
         self.rebuild = None;
         self.failed = true;
         self.caps = self.form.caps;
-        tell(&mut self.mail, self.conns.active(), Event::StrFail);
+        self.mail.tell(self.conns.active(), Event::StrFail);
         (
             ShellReply::FailedNow,
             Deeds {
@@ -126,11 +124,11 @@ impl Shell {
 
     // A rebuild whose new instance stands in the facility loses it, and stops.
     fn lose_fresh(&mut self, cf: CfId) -> (ShellReply, Deeds)
-        requires { CALLERS ≤ self.old.room }
+        requires { 1 ≤ self.old.room }
         ensures form { self.new.form ≡ self.old.form }
         ensures acts { record { reply = result.0; shell = self.new.shell; deeds = result.1 }
             ≡ fresh_loss cf self.old.shell.rebuild self.old.shell }
-        ensures room { self.old.room ≤ self.new.room + CALLERS }
+        ensures room { self.old.room ≤ self.new.room + 1 }
     {
         match self.rebuild {
             Some(rebuild) if is_at(cf, rebuild.fresh) => {

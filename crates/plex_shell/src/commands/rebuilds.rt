@@ -1,6 +1,5 @@
 //! REBUILD START, STOP, CONNECT and COMPLETE, and the passing of their stages.
 ghost use Rattle.std.specs.Prelude.{◌≡◌, ◌≤◌, ◌+◌, Some, None};
-ghost use Rattle.cf_types.specs.declared.limits.TheConstants.{CALLERS};
 ghost use Rattle.cf_types.specs.Forms.{IsCapacity, IsCaller};
 ghost use Rattle.cf_types.specs.declared.shell_commands.ShellReply.TheVariants as replies;
 ghost use Rattle.engine_api.specs.Rebuilds.{event_past, beginning_of, end_of, is_switch, is_copy};
@@ -9,7 +8,6 @@ ghost use Rattle.engine_api.specs.RebuildCore.Stages.{outcome_of, next_rebuild, 
 ghost use Rattle.plex_shell.specs.ShellView.{IsKeptRebuild};
 
 use crate::commands::connect::facility_of;
-use crate::letters::tell;
 use crate::rebuild_causes::is_copy;
 use crate::shell::{Shell, no_deeds};
 use cf_types::{Caps, CfId, ConnId, Event, ShellReply, Stage};
@@ -20,27 +18,27 @@ impl Shell {
     /// REBUILD START: the active connectors are its members, and are told.
     pub(crate) fn start_rebuild(&mut self, caps: Caps) -> (ShellReply, Deeds)
         requires caps { IsCapacity caps }
-        requires room { CALLERS ≤ self.old.room }
+        requires room { 1 ≤ self.old.room }
         ensures form { self.new.form ≡ self.old.form }
         ensures acts { record { reply = result.0; shell = self.new.shell; deeds = result.1 }
             ≡ start_outcome self.old.shell caps }
-        ensures room { self.old.room ≤ self.new.room + CALLERS }
+        ensures room { self.old.room ≤ self.new.room + 1 }
     {
         let number = self.started + 1;
         let members = self.conns.active();
         self.rebuild = Some(Rebuild::start(number, members, caps));
         self.started = number;
-        tell(&mut self.mail, members, Event::Quiesce { number });
+        self.mail.tell(members, Event::Quiesce { number });
         (ShellReply::OkNumber { number }, no_deeds())
     }
 
     /// REBUILD STOP: the new instance is given up, and the members are told.
     pub(crate) fn stop_rebuild(&mut self) -> (ShellReply, Deeds)
-        requires { CALLERS ≤ self.old.room }
+        requires { 1 ≤ self.old.room }
         ensures form { self.new.form ≡ self.old.form }
         ensures acts { record { reply = result.0; shell = self.new.shell; deeds = result.1 }
             ≡ stop_outcome self.old.shell self.old.shell.rebuild }
-        ensures room { self.old.room ≤ self.new.room + CALLERS }
+        ensures room { self.old.room ≤ self.new.room + 1 }
     {
         match self.rebuild {
             None => (ShellReply::Ok, no_deeds()),
@@ -61,10 +59,10 @@ impl Shell {
     /// The rebuild stops without its new instance, and its members are told.
     pub(crate) fn give_up(&mut self, rebuild: Rebuild)
         requires kept { IsKeptRebuild rebuild }
-        requires room { CALLERS ≤ self.old.room }
+        requires room { 1 ≤ self.old.room }
         ensures form { self.new.form ≡ self.old.form }
         ensures shell { self.new.shell ≡ stopped_shell rebuild self.old.shell }
-        ensures room { self.old.room ≤ self.new.room + CALLERS }
+        ensures room { self.old.room ≤ self.new.room + 1 }
     {
         let mut stopped = rebuild;
         stopped.stop();
@@ -72,7 +70,7 @@ impl Shell {
         let stop = Event::Stop {
             number: rebuild.number,
         };
-        tell(&mut self.mail, rebuild.members, stop);
+        self.mail.tell(rebuild.members, stop);
     }
 
     // A rebuild goes on, or its stage has passed: the members are told, and behind COPY the new
@@ -81,19 +79,19 @@ impl Shell {
         requires kept { IsKeptRebuild before }
         requires passed { passed ≡ outcome_of before }
         requires after { after ≡ next_rebuild before }
-        requires room { CALLERS ≤ self.old.room }
+        requires room { 1 ≤ self.old.room }
         ensures form { self.new.form ≡ self.old.form }
         ensures shell { self.new.shell ≡ shell_onward before self.old.shell }
         ensures switch { result ≡ is_switch (outcome_of before) }
         ensures conns { self.new.shell.conns ≡ self.old.shell.conns }
-        ensures room { self.old.room ≤ self.new.room + CALLERS }
+        ensures room { self.old.room ≤ self.new.room + 1 }
     {
         self.rebuild = match passed {
             Passed::No | Passed::Into(_) => Some(after),
             Passed::Ended => None,
         };
         if let Some(event) = event_past(passed, before.number, before.stage) {
-            tell(&mut self.mail, before.members, event);
+            self.mail.tell(before.members, event);
         }
         let switch = is_switch(passed);
         if switch {
@@ -107,11 +105,11 @@ impl Shell {
     pub(crate) fn connect_rebuild(&mut self, by: ConnId) -> (ShellReply, Deeds)
         requires caller { IsCaller by }
         requires owed { unless_owed is_connect by self.old.shell.rebuild ≡ None }
-        requires room { CALLERS ≤ self.old.room }
+        requires room { 1 ≤ self.old.room }
         ensures form { self.new.form ≡ self.old.form }
         ensures acts { record { reply = result.0; shell = self.new.shell; deeds = result.1 }
             ≡ rebuild_connect_outcome self.old.form self.old.shell by self.old.shell.rebuild }
-        ensures room { self.old.room ≤ self.new.room + CALLERS }
+        ensures room { self.old.room ≤ self.new.room + 1 }
     {
         match self.rebuild {
             None => (ShellReply::Ok, no_deeds()),
@@ -138,11 +136,11 @@ impl Shell {
     pub(crate) fn complete_rebuild(&mut self, by: ConnId) -> (ShellReply, Deeds)
         requires caller { IsCaller by }
         requires owed { unless_owed is_copy by self.old.shell.rebuild ≡ None }
-        requires room { CALLERS ≤ self.old.room }
+        requires room { 1 ≤ self.old.room }
         ensures form { self.new.form ≡ self.old.form }
         ensures acts { record { reply = result.0; shell = self.new.shell; deeds = result.1 }
             ≡ complete_outcome self.old.shell by self.old.shell.rebuild }
-        ensures room { self.old.room ≤ self.new.room + CALLERS }
+        ensures room { self.old.room ≤ self.new.room + 1 }
     {
         match self.rebuild {
             None => (ShellReply::Ok, no_deeds()),
@@ -165,14 +163,14 @@ impl Shell {
     /// where the new instance takes the old one's place.
     pub(crate) fn answer_rebuild(&mut self, by: ConnId, event: &Event) -> bool
         requires caller { IsCaller by }
-        requires room { CALLERS ≤ self.old.room }
+        requires room { 1 ≤ self.old.room }
         ensures form { self.new.form ≡ self.old.form }
         ensures acts { record {
           reply = replies.Responded event.now;
           shell = self.new.shell;
           deeds = record no_deeds { switch = result };
         } ≡ responded by event.now self.old.shell.rebuild self.old.shell }
-        ensures room { self.old.room ≤ self.new.room + CALLERS }
+        ensures room { self.old.room ≤ self.new.room + 1 }
     {
         match self.rebuild {
             Some(rebuild) if is_response(rebuild.stage, rebuild.number, event) => {
@@ -187,11 +185,11 @@ impl Shell {
     /// A connector that departs is no member any more.
     pub(crate) fn leave_rebuild(&mut self, by: ConnId)
         requires caller { IsCaller by }
-        requires room { CALLERS ≤ self.old.room }
+        requires room { 1 ≤ self.old.room }
         ensures form { self.new.form ≡ self.old.form }
         ensures shell { self.new.shell ≡ shell_without by self.old.shell.rebuild self.old.shell }
         ensures conns { self.new.shell.conns ≡ self.old.shell.conns }
-        ensures room { self.old.room ≤ self.new.room + CALLERS }
+        ensures room { self.old.room ≤ self.new.room + 1 }
     {
         if let Some(rebuild) = self.rebuild {
             let mut after = rebuild;
