@@ -219,15 +219,17 @@ impl<E: Engine, L: Link> Pair<E, L> {
         }
     }
 
+    /// Gives back the room that earlier calls took for what the secondary brings: all of it where no
+    /// secondary stands, and room for many letters.
+    pub fn renew(&mut self, alloc: Global)
+        ensures { self.new ≡ record self.old { spare = self.new.spare } }
+    {
+        fresh_spare(alloc, &self.secondary, &mut self.spare);
+    }
+
     /// Takes all memory that a command on the content, its reply and its effects need, whichever
     /// instance is lost before it is done.
-    pub fn ready(
-        &mut self,
-        alloc: Global,
-        by: ConnId,
-        cmd: &E::Cmd,
-        out: &mut Effects,
-    ) -> Result<(), NoMemory>
+    pub fn ready(&mut self, by: ConnId, cmd: &E::Cmd, out: &mut Effects) -> Result<(), NoMemory>
         requires caller { IsCaller by }
         ensures ready { OnOk result (AreReady E.is_ready self.new (ForCmd by cmd.now) out.new) }
         ensures content { content_of E.held self.new ≡ content_of E.held self.old }
@@ -236,7 +238,6 @@ impl<E: Engine, L: Link> Pair<E, L> {
         ensures bits { out.new.bits.items ≡ out.old.bits.items }
         ensures mail { out.new.mail.items ≡ out.old.mail.items }
     {
-        fresh_spare(alloc, &self.secondary, &mut self.spare);
         for_command(&mut self.primary, by, cmd, out)?;
         for_command(&mut self.secondary, by, cmd, &mut self.spare)?;
         make_room(out, &self.spare)
@@ -274,12 +275,7 @@ impl<E: Engine, L: Link> Pair<E, L> {
     }
 
     /// Takes all memory that a departure of the connector needs.
-    pub fn leave_ready(
-        &mut self,
-        alloc: Global,
-        conn: ConnId,
-        out: &mut Effects,
-    ) -> Result<(), NoMemory>
+    pub fn leave_ready(&mut self, conn: ConnId, out: &mut Effects) -> Result<(), NoMemory>
         requires caller { IsCaller conn }
         ensures ready { OnOk result (AreReady E.is_ready self.new (ForLeave conn) out.new) }
         ensures content { content_of E.held self.new ≡ content_of E.held self.old }
@@ -288,7 +284,6 @@ impl<E: Engine, L: Link> Pair<E, L> {
         ensures bits { out.new.bits.items ≡ out.old.bits.items }
         ensures mail { out.new.mail.items ≡ out.old.mail.items }
     {
-        fresh_spare(alloc, &self.secondary, &mut self.spare);
         for_leave(&mut self.primary, conn, out)?;
         for_leave(&mut self.secondary, conn, &mut self.spare)?;
         make_room(out, &self.spare)
@@ -320,7 +315,7 @@ impl<E: Engine, L: Link> Pair<E, L> {
     }
 
     /// Takes all memory that the end of registrations needs.
-    pub fn forget_ready(&mut self, alloc: Global, out: &mut Effects) -> Result<(), NoMemory>
+    pub fn forget_ready(&mut self, out: &mut Effects) -> Result<(), NoMemory>
         ensures ready { OnOk result (AreReady E.is_ready self.new ForForget out.new) }
         ensures content { content_of E.held self.new ≡ content_of E.held self.old }
         ensures places { instances_of self.new ≡ instances_of self.old }
@@ -328,7 +323,6 @@ impl<E: Engine, L: Link> Pair<E, L> {
         ensures bits { out.new.bits.items ≡ out.old.bits.items }
         ensures mail { out.new.mail.items ≡ out.old.mail.items }
     {
-        fresh_spare(alloc, &self.secondary, &mut self.spare);
         for_forget(&mut self.primary, out)?;
         for_forget(&mut self.secondary, &mut self.spare)?;
         make_room(out, &self.spare)

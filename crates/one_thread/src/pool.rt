@@ -51,7 +51,7 @@ pub fn start_pool(alloc: Global) -> Result<Pool, NoMemory> {
         three: Steady,
         four: Steady,
     };
-    match Machine::start(alloc, form(alloc)?, links) {
+    match Machine::start(alloc, form(alloc)?, 2, links) {
         Ok(pool) => Ok(pool),
         Err(_) => Err(NoMemory),
     }

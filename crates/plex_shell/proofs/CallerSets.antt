@@ -1,5 +1,5 @@
 -- Sets of callers: that the active connectors are one.
-use Rattle.plex_shell.proofs.Imports.{◌≡◌, ℕ, ◌+◌, ◌-◌, ◌<◌, ◌≤◌, Bool, true, false, not, ◌&&◌, ◌==◌, List, [], ◌∷◌, filter, refl, subst, arith, eq-eqb, ne_eqb, and_right, CALLERS, Event, ConnId, conns_from, is_member, without_member, Connections, is_active, actives, Mailboxes, with_letter, with_letters, letters_to, filter_agree_from, is_member-from, without_member-from, AreCallers}
+use Rattle.plex_shell.proofs.Imports.{◌≡◌, Bool, true, false, not, ◌&&◌, ◌==◌, List, filter, refl, subst, arith, eq-eqb, ne_eqb, and_right, CALLERS, ConnId, conns_from, without_member, Connections, is_active, actives, filter_agree_from, is_member-from, without_member-from, AreCallers}
 
 -- those of the callers that pass a test
 AreCallers-filter : (p : ConnId → Bool) → AreCallers (filter p (conns_from 0 CALLERS))

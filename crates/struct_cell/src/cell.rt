@@ -116,7 +116,7 @@ impl<E: Engine, L: Link> Cell<E, L> {
         let Ok((vectors, seat, passes)) = Vectors::start(alloc, callers, len) else {
             return Err(links);
         };
-        let machine = Machine::start(alloc, form, links)?;
+        let machine = Machine::start(alloc, form, callers, links)?;
         let inside = Inside {
             limit,
             machine,

@@ -1,6 +1,6 @@
 -- A command that isn't refused, done to a shell and to instances of one form.
-use Rattle.struct_machine.proofs.Imports.{arith, ◌≡◌, ◌+◌, ◌⊎◌, inl, Bool, true, false, Option, None, Some, IfSome, refl, sym, ap, ◌∙◌, subst, subst₂, is_some, both_ways, false_from_ne_true, Caps, StrForm, CfId, ConnId, Refusal, ShellCmd, Machine, content_after, copied_after, moved_by, room_of, departure_from, command_done, unless, with_entered, entered_machine, CallOutcome, Meaning, Held, Departure, Instances, MayCommand, IsCaller, IsFacility, fresh_of, shape_of, Shell, ShellOutcome, shell_cause, leaver, caps_made, entered, ShellView, Fresh, Kept, AreFitting, caps_behind, fresh_behind, fresh_caps, IsFilled, IsFilling, IsManned, capacities-command, fitting-command, filled-step, departure_empties, forced_empties, manned-step, done, Spares, AreSpares, AreAdmitted, MayMake, MayAdd, fresh_left, kept_past, places_past, makes_second, held_past, HasNone, AreOf, IsOf, machine_of, room_in, state_in, left_in, copied_in, caps_of, is_copying, Ask, Reply}
-use Rattle.struct_machine.proofs.DeedLaws.{state_past, IsEmptyOf, AreIdle, back_caller, caps_past, copied_past, of_past}
+use Rattle.struct_machine.proofs.Imports.{arith, ◌≡◌, ◌+◌, ◌⊎◌, inl, Bool, true, false, Option, None, Some, IfSome, refl, sym, ap, ◌∙◌, subst, subst₂, is_some, both_ways, false_from_ne_true, Caps, StrForm, CfId, ConnId, Refusal, ShellCmd, Machine, content_after, copied_after, moved_by, room_of, departure_from, command_done, unless, with_entered, entered_machine, CallOutcome, Meaning, Held, Departure, Instances, MayCommand, IsCaller, IsFacility, fresh_of, shape_of, Shell, ShellOutcome, shell_cause, leaver, caps_made, entered, ShellView, Fresh, Kept, AreFitting, caps_behind, fresh_behind, fresh_caps, IsFilled, IsFilling, IsManned, capacities-command, fitting-command, filled-step, departure_empties, forced_empties, manned-step, done, Spares, AreSpares, AreAdmitted, MayMake, MayAdd, fresh_left, kept_past, places_past, makes_second, held_past, HasNone, AreOf, IsOf, machine_of, room_in, bits_in, may_change_bits, Deeds, state_in, left_in, copied_in, caps_of, is_copying, Ask, Reply}
+use Rattle.struct_machine.proofs.DeedLaws.{TurnsNone, bits_past, state_past, IsEmptyOf, AreIdle, back_caller, caps_past, copied_past, of_past}
 use Rattle.struct_machine.proofs.InstanceLaws.{IsPlacing, IsSeconding, IsDropping, placing_command, facility_behind}
 use Rattle.struct_machine.proofs.KeptLaws.{of_equal, manned-told, filled-told, caps_none, fresh_none, fresh_stands, fresh_under, held_stands, rebuild_held, room_left}
 use Rattle.struct_machine.proofs.BeforeLaws.{MakesOrSwitches, adds_quietly, making, none_under, same_more, seconding}
@@ -266,6 +266,19 @@ module _ {C R I S : Type 0} (meaning : Meaning C R I S) (shelled : ShellView) (k
       where
         there : view.shell ≡ acted.shell
         there = shell ∙ ap (λ (outcome : ShellOutcome). outcome.shell) acts
+
+    -- deeds that don't end the primary turn no bit
+    pub bits_same : TurnsNone meaning → (deeds : Deeds) (now : Kept S)
+        → deeds ≡ acted.deeds → now ≡ past → may_change_bits deeds ≡ false
+        → bits_in meaning shelled.form now.held ≡ bits_in meaning shelled.form left.held
+    bits_same turns deeds now acts does quiet = ap (λ (k : Kept S). bits_in meaning form k.held) does
+        ∙ bits_past meaning form (caps_made shelled.shell) spares.empty turns rebuilding acted.deeds left.fresh left.held
+        (subst (λ (d : Deeds). may_change_bits d ≡ false) acts quiet) empty_made bare
+      where
+        bare : is_some acted.deeds.make ≡ true → rebuilding ≡ false → left.held ≡ None
+        bare some outside =
+            let none : shelled.shell.instances.primary ≡ None = placing.bare some outside in
+            grind (arith, stands_left, of.stands, of.places)
 
     -- ---- whatever shell acted, and whatever deeds were done
 

@@ -1,5 +1,5 @@
 -- What a command's deeds name, and what they do.
-use Rattle.struct_machine.proofs.Imports.{if◌then◌else◌, ◌≡◌, Bool, true, false, Option, None, Some, IfSome, arith, is_some, Caps, StrForm, ConnId, ShellCmd, IsCaller, Deeds, Room, MayCommand, shape_of, Meaning, Held, new_held, content_after, copied_after, with_back_of, Shell, caps_made, shell_done, rebuild_connect_outcome, Rebuild, Fresh, caps_or, caps_behind, fresh_behind, fresh_caps, fresh_past, held_back, held_past, copied_in, caps_of, state_in, left_in, IsOf}
+use Rattle.struct_machine.proofs.Imports.{if◌then◌else◌, ◌≡◌, Bool, true, false, Option, None, Some, IfSome, arith, is_some, Caps, StrForm, ConnId, ShellCmd, IsCaller, Deeds, Room, MayCommand, shape_of, Meaning, Held, new_held, content_after, copied_after, with_back_of, Shell, caps_made, shell_done, rebuild_connect_outcome, Rebuild, Fresh, caps_or, caps_behind, fresh_behind, fresh_caps, fresh_past, held_back, held_made, held_past, copied_in, caps_of, state_in, bits_in, left_in, IsOf, may_change_bits, refl, CfId}
 
 -- ---- whose connection is taken up again
 
@@ -23,6 +23,11 @@ back_caller form room shell by command may = grind arith
 -- an empty instance of this form
 abbrev pub IsEmptyOf : {C R I S : Type 0} → Meaning C R I S → StrForm → Caps → Option (Held S) → Type 0
 IsEmptyOf meaning form caps empty = empty ≡ Some (new_held meaning (shape_of form) caps)
+
+-- an engine's law: a connection that is taken up again turns no bit
+abbrev pub TurnsNone : {C R I S : Type 0} → Meaning C R I S → Type 0
+TurnsNone {C} {R} {I} {S} meaning =
+    (state : S) (conn : ConnId) → meaning.stands (meaning.back state conn) ≡ meaning.stands state
 
 module _ {C R I S : Type 0} (meaning : Meaning C R I S) (form : StrForm) (caps : Caps) (empty : Option (Held S)) where
   -- how many items the new instance has behind deeds
@@ -48,6 +53,34 @@ module _ {C R I S : Type 0} (meaning : Meaning C R I S) (form : StrForm) (caps :
   state_back : (back : Option ConnId) (held : Held S) → (state : S) → state_in meaning form
       (held_back meaning back (Some (record held { state = state }))) ≡ with_back_of meaning form back state
   state_back back held state = grind arith
+
+  bits_back : TurnsNone meaning → (back : Option ConnId) (held : Option (Held S))
+      → bits_in meaning form (held_back meaning back held) ≡ bits_in meaning form held
+  bits_back turns None held = refl
+  bits_back turns (Some conn) None = refl
+  bits_back turns (Some conn) (Some held) = turns held.state conn
+
+  -- a primary that is made where none stood has none
+  bits_made : (rebuilding : Bool) (make : Option CfId) (held : Option (Held S)) → (is_some make ≡ true → IsEmptyOf
+      meaning form caps empty) → (is_some make ≡ true → rebuilding ≡ false → held ≡ None)
+      → bits_in meaning form (held_made rebuilding make empty held) ≡ bits_in meaning form held
+  bits_made rebuilding None held made bare = refl
+  bits_made true (Some cf) held made bare = refl
+  bits_made false (Some cf) held made bare = rw (made refl, bare refl refl) refl
+
+  -- deeds that don't put the new instance in the primary's place, and don't end all, turn no bit
+  pub bits_past : TurnsNone meaning → (rebuilding : Bool) (deeds : Deeds) (fresh : Option Fresh) (held : Option (Held S))
+      → may_change_bits deeds ≡ false → (is_some deeds.make ≡ true → IsEmptyOf meaning form caps empty)
+      → (is_some deeds.make ≡ true → rebuilding ≡ false → held ≡ None)
+      → bits_in meaning form (held_past meaning rebuilding deeds empty fresh held) ≡ bits_in meaning form held
+  bits_past turns rebuilding deeds fresh held quiet made bare = grind (arith, bits_back, bits_made, back_none)
+    where
+      back_none : (is_some deeds.make ≡ true → rebuilding ≡ false → held_back meaning deeds.back held ≡ None)
+      back_none some outside = rw (bare some outside) (none_back deeds.back)
+        where
+          none_back : (back : Option ConnId) → held_back meaning back None ≡ None
+          none_back None = refl
+          none_back (Some conn) = refl
 
   -- without an instance deeds do nothing to what is held, but that they make one
   pub record AreIdle (rebuilding : Bool) (deeds : Deeds) : Type 0 where

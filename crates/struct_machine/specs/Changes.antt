@@ -1,5 +1,5 @@
 -- Which vector bits a call may have changed.
-use Rattle.std.specs.Prelude.{◌≡◌, ℕ, Bool, false, not, ◌&&◌, ◌||◌, List, [], All, is_none, is_some}
+use Rattle.std.specs.Prelude.{◌≡◌, ℕ, Bool, false, ◌&&◌, ◌||◌, List, [], All, is_none}
 use Rattle.std.specs.List.{list_any}
 use Rattle.cf_types.specs.declared.effects.BitChange.{BitChange}
 use Rattle.cf_types.specs.declared.forms.StrForm.{StrForm}
@@ -31,11 +31,10 @@ pub record IsUntouched (changed : ChangeList) (conn : ConnId) (index : ℕ) : Ty
 abbrev pub Names : ChangeList → Bits → Bits → Type 0
 Names changed before after = changed.all ≡ false → Gains before after [] changed.bits
 
--- A command may change bits where it takes a connection up again, makes the primary, puts a rebuild's new instance in
--- its place, or ends all instances.
-abbrev pub may_change_bits : (rebuilding : Bool) → Deeds → Bool
-may_change_bits rebuilding deeds =
-    is_some deeds.back || ((is_some deeds.make && not rebuilding) || (deeds.switch || deeds.drop_all))
+-- A command may change bits that aren't named where it puts a rebuild's new instance in the primary's place, or ends
+-- all instances.
+abbrev pub may_change_bits : Deeds → Bool
+may_change_bits deeds = deeds.switch || deeds.drop_all
 
 -- a mark says that the structure failed
 abbrev pub any_failure : List Mark → Bool
@@ -51,7 +50,7 @@ module _ {C R I S : Type 0} (meaning : Meaning C R I S) (form : StrForm) where
   abbrev pub command_may_change : Machine S → ConnId → ShellCmd → Bool
   command_may_change machine by command =
       is_none (shell_cause form (room_of meaning form machine) machine.shell by command)
-      && may_change_bits (is_some machine.shell.rebuild) (deeds_by machine by command)
+      && may_change_bits (deeds_by machine by command)
 
   -- Any bit may have changed where a mark says that the structure failed, and where a common command that nothing
   -- refuses does so by its deeds. A command on the content names its bits.

@@ -8,8 +8,8 @@ use std::alloc::Global;
 use std::marker::Model;
 
 /// What marks a call made, and which vector bits marks and call may have changed. Most calls name
-/// each bit that they changed; one that makes the primary, replaces it or ends it, or takes a
-/// connection up again, may have changed any, and so may a mark that ends all instances.
+/// each bit that they changed; one that puts a rebuild's new instance in the primary's place or ends
+/// all instances may have changed any, and so may a mark that ends all instances.
 #[derive(Drop)]
 pub struct Changed {
     pub(crate) effects: Effects,
@@ -73,12 +73,9 @@ impl Changed {
 
     // What a command did beside the bits that are named. Where it may have changed others, that is
     // any bit: the bits of what ends aren't looked up one by one.
-    pub(crate) fn note(&mut self, deeds: Deeds, rebuilding: bool)
-        ensures { self.new ≡ record self.old { all = may_change_bits rebuilding deeds } }
+    pub(crate) fn note(&mut self, deeds: Deeds)
+        ensures { self.new ≡ record self.old { all = may_change_bits deeds } }
     {
-        self.all = deeds.back.is_some()
-            || (deeds.make.is_some() && !rebuilding)
-            || deeds.switch
-            || deeds.drop_all;
+        self.all = deeds.switch || deeds.drop_all;
     }
 }

@@ -183,6 +183,16 @@ impl<E: Engine, L: Link> Content<E, L> {
         self.primary().copy(alloc)
     }
 
+    /// Gives back room that earlier calls took.
+    pub(crate) fn renew(&mut self, alloc: Global)
+        ensures held { content_of E.held self.new.pair ≡ content_of E.held self.old.pair }
+        ensures places { instances_of self.new.pair ≡ instances_of self.old.pair }
+        ensures fresh { self.new.fresh ≡ self.old.fresh }
+        ensures links { self.new.pair.links ≡ self.old.pair.links }
+    {
+        self.pair.renew(alloc);
+    }
+
     /// Takes all memory that a command on the content, its reply and its effects need.
     pub(crate) fn ready(
         &mut self,

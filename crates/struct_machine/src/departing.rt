@@ -12,7 +12,8 @@ ghost use Rattle.struct_machine.specs.Deeds.{fresh_left};
 ghost use Rattle.struct_machine.specs.Kept.{AreOf, bits_in, gone_by, left_in};
 
 use crate::content::Content;
-use cf_types::{Batch, ConnId, Effects, Letter, NoMemory, ShellCmd};
+use cf_types::{ConnId, Effects, Letter, NoMemory, ShellCmd};
+use duplex_pair::fresh_mail;
 use duplex_pair::links::Link;
 use engine_api::Engine;
 use plex_shell::{ACT_LETTERS, Shell};
@@ -108,6 +109,7 @@ fn leave_content<E: Engine, L: Link>(
     ensures err_shell { OnErr result (shell.new.shell ≡ shell.old.shell) }
 {
     fresh_mail(alloc, out);
+    content.renew(alloc);
     content.leave_ready(conn, out)?;
     let letters = letter_count(out)?;
     let Some(all) = letters.checked_add(READY_LETTERS) else {
@@ -128,19 +130,6 @@ pub(crate) fn post_all(shell: &mut Shell, letters: &[Letter])
 {
     for letter in letters {
         shell.post(*letter);
-    }
-}
-
-// Ends the letters. Room for more than a command of the shell posts is given back, so that one
-// departure with many letters makes no later call take room for as many.
-pub(crate) fn fresh_mail(alloc: Global, out: &mut Effects)
-    ensures bits { out.new.bits ≡ out.old.bits }
-    ensures mail { out.new.mail.items ≡ [] }
-{
-    if out.mail.room() > ACT_LETTERS as usize {
-        out.mail = Batch::new(alloc);
-    } else {
-        out.mail.clear();
     }
 }
 

@@ -22,11 +22,11 @@ use crate::asking::{Asked, ask_links};
 use crate::changed::Changed;
 use crate::content::Content;
 use crate::deeds::{do_deeds, make_engines};
-use crate::departing::{READY_LETTERS, depart_first, fresh_mail, letter_count, post_all};
+use crate::departing::{READY_LETTERS, depart_first, letter_count, post_all};
 use crate::losing::mark;
 use crate::marks::Marks;
 use cf_types::{Caps, ConnId, Effects, NoMemory, Refusal, ShellCmd};
-use duplex_pair::Lost;
+use duplex_pair::{Lost, fresh_mail};
 use duplex_pair::links::Link;
 use engine_api::{Ask, Engine, Reply, Room};
 use plex_shell::{ACT_LETTERS, Shell, Verdict};
@@ -273,6 +273,7 @@ fn do_content<E: Engine, L: Link>(
 {
     let out = &mut changed.effects;
     fresh_mail(alloc, out);
+    content.renew(alloc);
     content.ready(call.by, call.cmd, out)?;
     ready_letters(shell, out)?;
     let marks = &mut changed.marks;
@@ -566,7 +567,7 @@ fn do_command<E: Engine, L: Link>(
         (bits_in E.meaning shell.old.form (content_of E.held content.old.pair))
         (bits_in E.meaning shell.old.form (content_of E.held content.new.pair))) }
     ensures all { OnOk result (changed.new.all
-        ≡ may_change_bits (is_some shell.old.shell.rebuild) (deeds_by E.meaning shell.old.form
+        ≡ may_change_bits (deeds_by E.meaning shell.old.form
         (machine_of E.meaning shell.old (kept_of E.held content.old)) call.now.by
         call.now.cmd.now)) }
     ensures of_form { AreOf E.meaning shell.new (kept_of E.held content.new) }
@@ -581,7 +582,7 @@ fn do_command<E: Engine, L: Link>(
     let rebuilding = shell.is_rebuilding();
     let (_, _, fresh) = shell.instances();
     let (reply, deeds) = shell.act(call.by, call.cmd, &call.room);
-    changed.note(deeds, rebuilding);
+    changed.note(deeds);
     do_deeds(content, made, deeds, rebuilding, fresh);
     Ok(Reply::Shell(reply))
 }

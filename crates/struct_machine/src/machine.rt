@@ -1,5 +1,6 @@
-ghost use Rattle.std.specs.Prelude.{◌≡◌, ℕ, All, IfOk, IfErr, OnOk, OnErr, IsTrue, IfSome, Some, is_some, option_map, true};
+ghost use Rattle.std.specs.Prelude.{◌≡◌, ◌≤◌, ℕ, All, IfOk, IfErr, OnOk, OnErr, IsTrue, IfSome, Some, is_some, option_map, true};
 ghost use Rattle.cf_types.specs.Forms.{IsForm, IsCaller, IsFacility};
+ghost use Rattle.cf_types.specs.declared.limits.TheConstants.{CONNECTORS};
 ghost use Rattle.cf_types.specs.declared.numbers.ConnId.{ConnId};
 ghost use Rattle.engine_api.specs.Asking.{MayAsk};
 ghost use Rattle.engine_api.specs.declared.asks.Reply.TheVariants as replies;
@@ -22,7 +23,6 @@ use crate::changed::Changed;
 use crate::content::{Content, Left};
 use crate::doing::answer;
 use crate::losing::lose_marked;
-use cf_types::limits::CONNECTORS;
 use cf_types::{CfId, ConnId, NoMemory, StrForm};
 use duplex_pair::links::{Link, Links};
 use engine_api::{Ask, Engine, Reply};
@@ -69,18 +69,25 @@ pub struct Parts<E, L> {
 }
 
 impl<E: Engine, L: Link> Machine<E, L> {
-    /// A structure of this form, without calls yet.
+    /// A structure of this form, without calls yet. `callers` is the greatest number of a connector
+    /// for whose letters room is taken already.
     ///
     /// # Errors
     ///
     /// The links, where memory lacks.
-    pub fn start(alloc: Global, form: StrForm, links: Links<L>) -> Result<Machine<E, L>, Links<L>>
+    pub fn start(
+        alloc: Global,
+        form: StrForm,
+        callers: u8,
+        links: Links<L>,
+    ) -> Result<Machine<E, L>, Links<L>>
         requires formed { IsForm form }
         requires kind { IsTrue (E.is_kind form.kind) }
+        requires callers { callers ≤ CONNECTORS }
         ensures ok { IfOk result (λ machine. machine ≡ new_structure E.meaning form links) }
         ensures err { IfErr result (λ back. back ≡ links) }
     {
-        let Ok(shell) = Shell::start(alloc, form, CONNECTORS) else {
+        let Ok(shell) = Shell::start(alloc, form, callers) else {
             return Err(links);
         };
         let content = Content::bare(alloc, links);

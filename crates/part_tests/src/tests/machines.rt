@@ -119,7 +119,7 @@ fn machine_of(
 ) -> Result<Machine<Counted, ListLink>, NoMemory> {
     let form = form_of(alloc)?;
     let links = links_of(alloc, one, two)?;
-    match Machine::start(alloc, form, links) {
+    match Machine::start(alloc, form, 2, links) {
         Ok(machine) => Ok(machine),
         Err(_) => Err(NoMemory),
     }

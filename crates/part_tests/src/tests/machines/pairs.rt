@@ -27,7 +27,6 @@ fn two_of(alloc: Global) -> Result<Pair<Counted, ListLink>, NoMemory>
 
 // Whether a number is stored in both.
 fn stores(
-    alloc: Global,
     pair: &mut Pair<Counted, ListLink>,
     share: &Option<Share>,
     out: &mut Effects,
@@ -36,7 +35,7 @@ fn stores(
     ensures { is_some pair.new.primary ≡ true }
 {
     let token = Token::new(7, share)?;
-    pair.ready(alloc, A, &token, out)?;
+    pair.ready(A, &token, out)?;
     Ok(pair.apply(A, &token, out).is_ok())
 }
 
@@ -59,7 +58,7 @@ fn forgets(
 ) -> Result<Option<u32>, NoMemory>
     requires { is_some pair.old.primary ≡ true }
 {
-    pair.forget_ready(alloc, out)?;
+    pair.forget_ready(out)?;
     pair.forget(out);
     first_of(alloc, pair)
 }
@@ -73,7 +72,7 @@ fn keeps_its_number(
 ) -> Result<bool, NoMemory>
     requires { is_some pair.old.primary ≡ true }
 {
-    let stored = stores(alloc, pair, share, out)? && live(share) == 2;
+    let stored = stores(pair, share, out)? && live(share) == 2;
     let first = forgets(alloc, pair, out)?;
     Ok(stored && first == Some(7) && live(share) == 2)
 }

@@ -1,5 +1,5 @@
 -- A common command does to shell and instances what the machine's step does.
-use Rattle.struct_machine.proofs.Imports.{arith, rules, ◌≡◌, None, is_some, refl, ◌∙◌, option_map, Room, departure_from, room_of, fresh_of, ShellOutcome, leaver, shell_cause, with_posted, kept_of, Spares, machine_of}
+use Rattle.struct_machine.proofs.Imports.{arith, rules, ap, ◌≡◌, None, is_some, refl, ◌∙◌, option_map, Room, departure_from, room_of, fresh_of, ShellOutcome, leaver, shell_cause, with_posted, kept_of, Spares, machine_of}
 use Rattle.struct_machine.proofs.CommandLaws as law
 use Rattle.struct_machine.proofs.RefusalLaws.{done_seen}
 use Rattle.struct_machine.proofs.doing.do_command.Goals as goal
@@ -60,14 +60,17 @@ returns g c =
     accepted = (grind arith)
     ∙ done_seen c.args.shell.now.form room (with_posted gone.letters c.args.shell.now.shell) by cmd in
     let under : c.is_rebuilding-rebuilding.result ≡ is_some c.args.shell.now.shell.rebuild = grind arith in
+    let from = g.met.E.Engine g.world.𝓛 g.world.𝓜 g.world.𝓡 ((λ s x. x), (λ x. x), (λ x. x), λ x. x) in
     let same = c.act-reply.ensures.form ∙ c.depart_first.ensures.form in
     let now = kept_of g.E.Engine.held c.do_deeds.new.content in
     let done : now ≡ law.past
     g.E.Engine.meaning c.args.shell.now kept of by cmd accepted spares left is = grind arith in
+    let turned = law.bits_same g.E.Engine.meaning c.args.shell.now kept of by cmd accepted spares left is from.bits_back
+    after.deeds now (ap (λ (o : ShellOutcome). o.deeds) acts) done in
     record {
       form = same;
       ok = law.command_same _ _ _ of _ _ accepted _ _ is after c.act-reply.new.self.form now acts same done;
-      bits = grind (arith, done_seen);
+      bits = grind (arith, done_seen, turned);
       all = grind arith;
       of_form = law.kept_behind _ _ _ of _ _ accepted _ _ is after c.act-reply.new.self
           now acts done (grind arith) same refl;
