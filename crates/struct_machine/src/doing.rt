@@ -188,11 +188,7 @@ fn command_looks(cmd: &ShellCmd) -> bool
 
 // What the instances know. The need, for which the whole content is gone through, is found only
 // where it is looked at.
-fn room_of<E: Engine, L: Link>(
-    shell: &Shell,
-    content: &Content<E, L>,
-    looks: bool,
-) -> Room
+fn room_of<E: Engine, L: Link>(shell: &Shell, content: &Content<E, L>, looks: bool) -> Room
     requires { AreOf E.meaning shell.now (kept_of E.held content.now) }
     ensures { result ≡ room_seen looks
         (room_in E.meaning shell.now (kept_of E.held content.now)) }

@@ -147,14 +147,7 @@ impl<E: Engine, L: Link> Machine<E, L> {
         ensures err { OnErr result (self.new ≡ self.old) }
     {
         changed.clear();
-        answer(
-            alloc,
-            &mut self.shell,
-            &mut self.content,
-            changed,
-            by,
-            ask,
-        )
+        answer(alloc, &mut self.shell, &mut self.content, changed, by, ask)
     }
 
     /// The links that a call would ask: none where it is refused. Nothing is asked yet; `answer` asks

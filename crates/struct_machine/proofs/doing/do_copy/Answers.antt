@@ -1,5 +1,5 @@
 -- COPY is done behind the marks that its links make: with a loss it is refused, and its items have gone.
-use Rattle.struct_machine.proofs.Imports.{arith, ◌≡◌, [], None, sym, ap, ◌∙◌, Option, false, min, both_ways, ShellCmd, content_of, Ask, Room, listed, Machine, moved_by, room_of, Shell, shell_cause, Held, with_copied, ChangeList, kept_of, lacking_in, items_named, judged, machine_of, state_in, behind_marks, copy_asks_of, marks_in}
+use Rattle.struct_machine.proofs.Imports.{arith, ◌≡◌, [], None, sym, ap, ◌∙◌, Option, false, min, both_ways, ShellCmd, content_of, Ask, Room, listed, moved_by, room_of, Shell, shell_cause, Held, with_copied, ChangeList, kept_of, lacking_in, items_named, judged, machine_of, state_in, behind_marks, copy_asks_of, marks_in}
 use Rattle.std.specs.Prelude.{refl}
 use Rattle.struct_machine.proofs.ChangeLaws.{names_nothing}
 use Rattle.struct_machine.proofs.CopyLaws.{copied_machine, copy_done, told_before, with_items}
@@ -42,7 +42,7 @@ returns-clause-turn g c =
     c.mark-alone.new.shell.form alone alone both (listed lost.second) marked refl c.mark-both.ensures.machine) in
     let now = machine_of meaning c.copy_judged.new.shell (kept_of g.E.Engine.held c.mark-both.new.content) in
     let behind : now ≡ behind_marks meaning form items (marks_in lost) = grind arith in
-    let first_told = told_equal meaning form c.ready.new.self.form ready c.args.changed.now.marks (listed lost.first)
+    let first_told = told_equal meaning form c.ready.new.self.form ready c.changed.inside.marks (listed lost.first)
     c.mark-alone.new.marks c.ready.ensures.form c.mark-alone.ensures.told items [] (grind arith) in
     let told = told_equal meaning form c.mark-alone.new.shell.form alone c.mark-alone.new.marks (listed lost.second)
     c.mark-both.new.marks marked c.mark-both.ensures.told items (listed lost.first) (one, first_told) in
