@@ -34,6 +34,7 @@ pub record IsKept (e : Inside) : Type 0 where
   pub caps : IsCapacity e.caps
   pub content : IsContent e.caps (content_of e)
   pub vector : e.regs.len ≡ e.shape.vector
+  pub places : e.rows.entries ≡ e.caps.entries + 1
   pub elements : e.rows.elements ≡ e.caps.elements
 
 -- the plan is that for the command, and there is room for a row, a registration and the bits that change

@@ -204,7 +204,7 @@ impl Engine for CacheEngine {
         self.rows.copy_of(alloc, &name)
     }
 
-    fn place(&mut self, item: CacheItem) -> Result<(), CacheItem> {
+    fn place(&mut self, item: CacheItem) -> Result<(), (CacheItem, NoMemory)> {
         self.rows.push(item)
     }
 

@@ -167,7 +167,7 @@ impl Engine for ListEngine {
         self.item(alloc, k)
     }
 
-    fn place(&mut self, item: ListItem) -> Result<(), ListItem> {
+    fn place(&mut self, item: ListItem) -> Result<(), (ListItem, NoMemory)> {
         place_item(self.alloc, &mut self.kept, item)
     }
 

@@ -38,6 +38,7 @@ invariant_of-self c =
       content = subst (λ (k : Content). IsContent e.caps k) (sym left) (content-done e.shape.vector
           e.caps (content_of e) c.args.by c.args.cmd.now c.self.invariant.content accepted.none);
       vector = c.act.ensures.len ∙ c.self.invariant.vector;
+      places = c.act.ensures.entries ∙ c.self.invariant.places;
       elements = c.act.ensures.elements ∙ c.self.invariant.elements;
     }
 

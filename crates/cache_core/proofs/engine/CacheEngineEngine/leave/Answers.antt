@@ -11,5 +11,6 @@ invariant_of-self c = record {
   content = rw (c.release.ensures.rows, c.drop_conn.ensures.regs) (content-without c.self.inside.caps
       (content_of c.self.inside) c.args.conn c.self.invariant.content);
   vector = c.drop_conn.ensures.len ∙ c.self.invariant.vector;
+  places = c.release.ensures.entries ∙ c.self.invariant.places;
   elements = c.release.ensures.elements ∙ c.self.invariant.elements;
 }

@@ -15,6 +15,7 @@ invariant_of-self c = record {
   content = subst (λ (content : Content). IsContent c.self.inside.caps content) (sym (left c))
       (content-without_last c.self.inside.caps (content_of c.self.inside) c.self.invariant.content);
   vector = c.self.invariant.vector;
+  places = c.pop.ensures.entries ∙ c.self.invariant.places;
   elements = c.pop.ensures.elements ∙ c.self.invariant.elements;
 }
 
