@@ -39,7 +39,7 @@ fn end_of(on: StrNo, refusal: CallRefused) -> AgentEnd
 {
     match refusal {
         CallRefused::JournalFull { .. } => AgentEnd::JournalFull { on },
-        CallRefused::NoMemory => AgentEnd::NoMemory,
+        CallRefused::NoMemory(cause) => AgentEnd::NoMemory(cause),
     }
 }
 
@@ -65,9 +65,9 @@ fn ask_step<L: Link>(
         (at_work desk.old items.old.items ended.Done)
         (at_work desk.new items.new.items ended.Done))) }
     ensures refused { IfErr result (λ _. IsLaterOn call.now.on desk.old desk.new) }
-    ensures no_memory { IfErr result (λ refusal. refusal ≡ refused.NoMemory
+    ensures no_memory { IfErr result (λ refusal. refusal ≡ refused.NoMemory want
         → desk.new ≡ desk.old) }
-    ensures full { IfErr result (λ refusal. refusal ≢ refused.NoMemory
+    ensures full { IfErr result (λ refusal. refusal ≢ refused.NoMemory want
         → IfSome (cell_on board.now call.now.on)
         (λ cell. cell.limit ≤ (pass_at desk.new call.now.on).known)) }
     ensures items { IfErr result (λ _. items.new.items ≡ items.old.items) }

@@ -30,6 +30,16 @@ pub struct Finished {
     pub transcripts: Listing<Transcript>,
 }
 
+// What a caller's work ended for that ended for want of memory.
+fn cause_of(broken: Transcript) -> NoMemory
+    requires { broken.end ≡ ended.NoMemory want }
+{
+    match broken.end {
+        AgentEnd::NoMemory(cause) => cause,
+        AgentEnd::Done | AgentEnd::JournalFull { .. } => unreachable!(),
+    }
+}
+
 /// A run, of what the callers were shown and of the histories, unless some caller's work ended for
 /// want of memory.
 pub(crate) fn finish(
@@ -40,12 +50,12 @@ pub(crate) fn finish(
     ensures transcripts { IfOk result
         (λ it. IsOkAnd shown (λ transcripts. it.transcripts ≡ transcripts.items)) }
     ensures had_memory { IfOk result
-        (λ it. All (λ transcript. transcript.end ≢ ended.NoMemory) it.transcripts) }
+        (λ it. All (λ transcript. transcript.end ≢ ended.NoMemory want) it.transcripts) }
 {
-    let transcripts = shown?;
-    for transcript in &transcripts {
-        if transcript.end == AgentEnd::NoMemory {
-            return Err(NoMemory);
+    let mut transcripts = shown?;
+    for place in 0..transcripts.len() {
+        if matches!(transcripts[place].end, AgentEnd::NoMemory(_)) {
+            return Err(cause_of(transcripts.swap_remove(place)));
         }
     }
     Ok(Finished {
@@ -71,15 +81,17 @@ fn play<L: Link>(
         (λ shown. IsPlayed board.now script.now result.1.items shown.items) }
     ensures of_board { AreDesksOf board.now result.1.items }
 {
-    let Ok(tray) = board.new_tray(alloc) else {
-        return (Err(NoMemory), desks);
+    let tray = match board.new_tray(alloc) {
+        Ok(tray) => tray,
+        Err(cause) => return (Err(cause), desks),
     };
-    let Ok(last) = nobody(alloc, board.structures()) else {
-        return (Err(NoMemory), desks);
+    let last = match nobody(alloc, board.structures()) {
+        Ok(last) => last,
+        Err(cause) => return (Err(cause), desks),
     };
     let (workers, room) = match seat(alloc, desks) {
         Ok(seated) => seated,
-        Err(desks) => return (Err(NoMemory), desks),
+        Err((desks, cause)) => return (Err(cause), desks),
     };
     let mut floor = Floor {
         workers,
@@ -97,7 +109,7 @@ fn play<L: Link>(
     let (desks, shown) = room.part(workers);
     match played {
         Ok(()) => (Ok(shown), desks),
-        Err(NoMemory) => (Err(NoMemory), desks),
+        Err(cause) => (Err(cause), desks),
     }
 }
 
@@ -129,7 +141,7 @@ pub fn serial<L: Link>(
 {
     let (board, desks) = match Board::start(rt, alloc, script, limit, links) {
         Ok(begun) => begun,
-        Err(links) => return (Err(NoMemory), links),
+        Err((links, cause)) => return (Err(cause), links),
     };
     let (shown, desks) = play(rt, alloc, script, &board, desks);
     let (histories, links) = board.close(rt, desks);

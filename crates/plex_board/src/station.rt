@@ -60,7 +60,7 @@ impl<L: Link> Station<L> {
     ///
     /// # Errors
     ///
-    /// Where there is no memory the links come back.
+    /// Where there is no memory the links come back, with the cause.
     pub(crate) fn start(
         rt: &impl Wait,
         alloc: Global,
@@ -68,7 +68,7 @@ impl<L: Link> Station<L> {
         callers: u8,
         limit: u32,
         links: Links<L>,
-    ) -> Result<(Station<L>, AnyPasses), Links<L>>
+    ) -> Result<(Station<L>, AnyPasses), (Links<L>, NoMemory)>
         requires formed { IsForm form }
         requires callers { callers ≤ CONNECTORS }
         requires limit { (1 ≤ limit) × (limit ≤ 4294967000) }
@@ -87,7 +87,7 @@ impl<L: Link> Station<L> {
             (range_with_len 0 (callers + 1))) }
         ensures passes_type { IfOk result (λ r. type_of_passes r.1 ≡ type_of_kind form.kind) }
         ensures room { IfOk result (λ r. callers + 1 ≤ room_of r.1) }
-        ensures handed_back { IfErr result (λ back. back ≡ links) }
+        ensures handed_back { IfErr result (λ back. back.0 ≡ links) }
     {
         let (kind, vector) = (form.kind, form.vector);
         let (cell, mut passes) = AnyCell::start(alloc, form, callers, limit, links)?;
@@ -105,11 +105,11 @@ impl<L: Link> Station<L> {
                 },
                 passes,
             )),
-            Err(first) => {
+            Err((first, cause)) => {
                 drop(first);
                 let (history, links) = cell.close(rt, passes);
                 drop(history);
-                Err(links)
+                Err((links, cause))
             }
         }
     }
@@ -149,9 +149,9 @@ impl<L: Link> Station<L> {
         ensures later { IfOk result (λ told. place.old.known < told.no) }
         ensures answered { IfOk result (λ told. IsAnswered ask told place.old place.new) }
         ensures refused { IfErr result (λ _. IsLater place.old place.new) }
-        ensures no_memory { IfErr result (λ refusal. refusal ≡ refused.NoMemory
+        ensures no_memory { IfErr result (λ refusal. refusal ≡ refused.NoMemory want
             → place.new ≡ place.old) }
-        ensures full { IfErr result (λ refusal. refusal ≢ refused.NoMemory
+        ensures full { IfErr result (λ refusal. refusal ≢ refused.NoMemory want
             → (refusal ≡ refused.JournalFull self.now.limit)
             × (self.now.limit ≤ place.new.known)) }
     {

@@ -28,7 +28,7 @@ fn add_pref(
 ) -> Result<(), LineFault>
     ensures ok { OnOk result (structures.new.items ≡ with_pref structures.old.items on pref) }
     ensures len { length structures.new.items ≡ length structures.old.items }
-    ensures err { IfErr result (λ fault. fault ≡ LineFault.NoMemory) }
+    ensures err { IfErr result (λ fault. fault ≡ LineFault.NoMemory want) }
 {
     let place = on.0 as usize;
     if place < structures.len() {
@@ -50,7 +50,7 @@ fn add_declaration(
     requires { HasRoom (script_of draft.old) declaration }
     ensures ok { OnOk result (script_of draft.new ≡ with_declaration
         (script_of draft.old) declaration) }
-    ensures err { IfErr result (λ fault. fault ≡ LineFault.NoMemory) }
+    ensures err { IfErr result (λ fault. fault ≡ LineFault.NoMemory want) }
 {
     match declaration {
         Declaration::Facility(pref) => draft.facilities.push(pref)?,

@@ -71,8 +71,8 @@ module _ {L : Type 0} where
   -- the call wasn't made: the journal was full, and the member may have seen more complete; or memory lacked
   pub record IsNotMade (refusal : CallRefused) (before after : SeatShown L) : Type 0 where
     pub later : IsLaterOn before.on before.desk after.desk
-    pub no_memory : refusal ≡ NoMemory → after.desk ≡ before.desk
-    pub full : refusal ≢ NoMemory → IfSome (cell_on before.board before.on)
+    pub no_memory : refusal ≡ NoMemory want → after.desk ≡ before.desk
+    pub full : refusal ≢ NoMemory want → IfSome (cell_on before.board before.on)
         (λ cell. (refusal ≡ JournalFull cell.limit) × (cell.limit ≤ (pass_at after.desk before.on).known))
 
   -- Why there is no answer: the structure is of another type, and nothing was asked; or the call wasn't made; or it was
