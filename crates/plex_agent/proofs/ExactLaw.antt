@@ -201,7 +201,7 @@ module _ {L : Type 0} (limit : ℕ) (told : ℕ → CfId → Telling) (script : 
   -- ---- the histories fit what has been done in the end
 
   module _ (state : State) (at : IsFloor stage floor state) (known : Known stage state)
-      (memory : All (λ worker. worker.shown.end ≢ AgentEnd.NoMemory) floor.workers) where
+      (memory : All (λ worker. worker.shown.end ≢ AgentEnd.NoMemory want) floor.workers) where
     worker_within : (c : ℕ) → c ≤ board.callers → c < length floor.workers
     worker_within c inside = omega (arith, at.workers)
 
@@ -260,7 +260,7 @@ module _ {L : Type 0} (limit : ℕ) (told : ℕ → CfId → Telling) (script : 
   -- Where the links answered what they tell, the histories of the closed structures are those of the script's run by
   -- the machine alone, and so is what the callers were shown.
   pub exact : Plays board script.lines (connectors script) floor → All (λ worker. worker.shown.end
-      ≢ AgentEnd.NoMemory) floor.workers → (histories ≡ (serial_run limit told script).histories)
+      ≢ AgentEnd.NoMemory want) floor.workers → (histories ≡ (serial_run limit told script).histories)
       × (map (λ worker. worker.shown) floor.workers ≡ (serial_run limit told script).transcripts)
   exact plays memory =
       let all = whole plays in

@@ -168,9 +168,9 @@ module _ (stage : Stage) (shows shows' : Shows)
         )) makes
 
     -- where memory was lacking nothing more is claimed
-    pub goes_none : (goes : Run → Run)
-        → Goes stage shows shows' state (stopped_state on by pass AgentEnd.NoMemory state) goes
-    goes_none goes = grind (arith, goes_stop, put_same)
+    pub goes_none : (cause : NoMemory) (goes : Run → Run)
+        → Goes stage shows shows' state (stopped_state on by pass (AgentEnd.NoMemory cause) state) goes
+    goes_none cause goes = grind (arith, goes_stop, put_same)
 
     -- the run stops at the full journal
     pub goes_full : IsStage stage → Goes stage shows shows' state

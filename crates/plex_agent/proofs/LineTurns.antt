@@ -73,10 +73,10 @@ heard_desk stage on by worker floor state within is known size pass_is =
 
 -- ---- out of memory
 
-pub goes_out : (stage : Stage) (shows shows' : Shows) (on by : ℕ) (goes : Run → Run) (state : State) → on <
-    stage.cells → by ≤ stage.callers → (state.shown by).end ≡ AgentEnd.Done → Goes stage shows shows' state (turned on
-    by ((state.spots on).passes by) (state.spots on) (record (state.shown by) { end = AgentEnd.NoMemory }) state) goes
-goes_out stage shows shows' on by goes state within caller works =
+pub goes_out : (stage : Stage) (shows shows' : Shows) (on by : ℕ) (cause : NoMemory) (goes : Run → Run)
+    (state : State) → on < stage.cells → by ≤ stage.callers → (state.shown by).end ≡ AgentEnd.Done → Goes stage shows shows' state (turned on
+    by ((state.spots on).passes by) (state.spots on) (record (state.shown by) { end = AgentEnd.NoMemory cause }) state) goes
+goes_out stage shows shows' on by cause goes state within caller works =
     grind (arith, Spot, known_acted, noticed, known_noticed, fits_acted, fits_put, put_other, put_same)
 
 -- ---- what is said of callers
@@ -178,7 +178,7 @@ module _ {stage : Stage} {on by : ℕ} {self : AtWork} {floor : Floor} {before :
         → TurnGoes stage shows shows' before floor' goes
     out_turn {shows} {shows'} goes out =
         plain_turn ((before.spots on).passes by) (before.spots on) _ refl refl (grind (arith, str, set-get_or))
-        (grind arith) (goes_out stage shows shows' on by goes before begins.within begins.caller begins.works)
+        (grind arith) (goes_out stage shows shows' on by want goes before begins.within begins.caller begins.works)
 
     -- ---- behind a hearing
 
@@ -398,7 +398,7 @@ module _ {L : Type 0} (board : BoardShown L) (script : Script) (stage : Stage) (
           ) refl) turn.goes_on;
         }
     line_case cell there (AgentEnd.JournalFull place) ends same = idle _ there _ ends refl same
-    line_case cell there AgentEnd.NoMemory ends same = idle cell there AgentEnd.NoMemory ends refl same
+    line_case cell there (AgentEnd.NoMemory cause) ends same = idle cell there (AgentEnd.NoMemory cause) ends refl same
 
     pub line_goes : PlaysLine board line floor floor'
         → TurnGoes stage of_all of_all before floor' (λ run. after_line stage.limit stage.told script run line)

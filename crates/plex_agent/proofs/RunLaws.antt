@@ -46,7 +46,7 @@ lines_playable limit script board is may = λ k d below. line_playable limit scr
 
 -- nobody's work ended for want of memory
 abbrev pub HadMemory : List Transcript → Type 0
-HadMemory transcripts = All (λ (transcript : Transcript). transcript.end ≢ AgentEnd.NoMemory) transcripts
+HadMemory transcripts = All (λ (transcript : Transcript). transcript.end ≢ AgentEnd.NoMemory want) transcripts
 
 -- what holds of the histories, and of what was shown where nobody lacked memory, holds of a run that is left
 pub finished_is : (finished : Result Finished NoMemory) (shown : Result (Vec Transcript Global) NoMemory)
@@ -60,8 +60,8 @@ finished_is (Ok it) (Err e) histories Shows Holds same items had shows law = abs
 finished_is (Err e) shown histories Shows Holds same items had shows law = tt
 
 pub had_memory : (workers : List AtWork) → HadMemory (map (λ worker. worker.shown) workers)
-    → All (λ (worker : AtWork). worker.shown.end ≢ AgentEnd.NoMemory) workers
-had_memory workers had k d below = subst (λ (transcript : Transcript). transcript.end ≢ AgentEnd.NoMemory)
+    → All (λ (worker : AtWork). worker.shown.end ≢ AgentEnd.NoMemory want) workers
+had_memory workers had k d below = subst (λ (transcript : Transcript). transcript.end ≢ AgentEnd.NoMemory want)
     (get_or-map (λ (worker : AtWork). worker.shown) workers k d d.shown below)
     (had k d.shown (omega (arith, below, length-map workers (λ (worker : AtWork). worker.shown))))
 

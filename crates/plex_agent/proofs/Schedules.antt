@@ -344,7 +344,7 @@ pub serial_shows : {L : Type 0} (limit : ℕ) (script : Script) (board : BoardSh
     (histories : List AnyHistory) → map (λ cell. cell.form) board.cells ≡ script.structures
     → All (IsStarted (length script.connectors) limit) board.cells → board.callers ≡ length script.connectors
     → All (λ line. line.by.0 ≤ board.callers) script.lines → Plays board script.lines (connectors script) floor
-    → All (λ worker. worker.shown.end ≢ AgentEnd.NoMemory) floor.workers → AreClosed board (map (λ worker. worker.desk)
+    → All (λ worker. worker.shown.end ≢ AgentEnd.NoMemory want) floor.workers → AreClosed board (map (λ worker. worker.desk)
     floor.workers) histories → ShowsHistories limit script histories (map (λ worker. worker.shown) floor.workers)
 serial_shows limit script board floor histories forms started callers lines plays memory closed =
     let right : IsOrderly board floor = ends_orderly in

@@ -34,7 +34,7 @@ Known stage state = (x : ℕ) → x < stage.cells → IsKnown stage.callers (sta
 -- what a caller that stopped knows stays as it is, and is a point of the history
 pub record Fits (stage : Stage) (state : State) : Type 0 where
   pub at : (x : ℕ) → x < stage.cells → FitsAt (stage.form x) (stage.entries x) stage.callers (state.spots x)
-  pub memory : (c : ℕ) → c ≤ stage.callers → (state.shown c).end ≢ AgentEnd.NoMemory
+  pub memory : (c : ℕ) → c ≤ stage.callers → (state.shown c).end ≢ AgentEnd.NoMemory want
   pub stopped : (x c : ℕ) → x < stage.cells → c ≤ stage.callers → (state.shown c).end ≢ AgentEnd.Done
       → IsAnyPoint (stage.entries x) ((state.spots x).passes c).known
 

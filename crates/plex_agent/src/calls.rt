@@ -1,6 +1,7 @@
 //! The calls of a line.
 ghost use Rattle.std.specs.Prelude.{◌≡◌, ◌≢◌, ◌<◌, ◌≤◌, ◌↔◌, IsTrue, IfSome, IfOk, IfErr, length};
 ghost use Rattle.std.specs.Option.{option_copied};
+ghost use Rattle.plex_board.specs.CfTypes.NoMemory.Wants.{want};
 ghost use Rattle.plex_board.specs.StructCell.declared.refused.CallRefused.TheVariants as refused;
 ghost use Rattle.plex_board.specs.PlexScript.declared.agents.Step.TheVariants as step;
 ghost use Rattle.plex_board.specs.PlexScript.declared.transcripts.AgentEnd.TheVariants as ended;

@@ -2,6 +2,7 @@
 ghost use Rattle.std.specs.Prelude.{◌≡◌, ◌≢◌, ◌+◌, ◌≤◌, IfOk, IsOkAnd, All, length, map};
 ghost use Rattle.std.specs.Vec.{vec_len};
 ghost use Rattle.std.specs.List.{range_with_len};
+ghost use Rattle.plex_board.specs.CfTypes.NoMemory.Wants.{want};
 ghost use Rattle.plex_board.specs.CfTypes.declared.limits.TheConstants.{CONNECTORS, LINKS};
 ghost use Rattle.plex_board.specs.PlexScript.declared.transcripts.AgentEnd.TheVariants as ended;
 ghost use Rattle.plex_board.specs.Headline.{ShowsHistories};
@@ -30,7 +31,7 @@ pub struct Finished {
     pub transcripts: Listing<Transcript>,
 }
 
-// What a caller's work ended for that ended for want of memory.
+// The want of memory for which a caller's work ended.
 fn cause_of(broken: Transcript) -> NoMemory
     requires { broken.end ≡ ended.NoMemory want }
 {

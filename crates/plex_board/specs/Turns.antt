@@ -1,6 +1,7 @@
 -- What a caller's turn at a structure does to its desk and its transcript: the work of one line of a script, or of
 -- its closing.
 use Rattle.std.specs.Prelude.{◌≡◌, ◌⊎◌, ℕ, ◌*◌, ◌^◌, ◌≤◌, ◌<◌, nat_lt, Bool, true, false, MatchBool, List, [], ◌∷◌, ◌++◌, map, Option, None, Some}
+use Rattle.plex_script.specs.CfTypes.NoMemory.Wants.{want}
 use Rattle.plex_script.specs.CfTypes.declared.forms.Kind.{Kind}
 use Rattle.plex_script.specs.CfTypes.declared.forms.StrForm.{StrForm}
 use Rattle.plex_script.specs.CfTypes.declared.numbers.ConnId.{ConnId}

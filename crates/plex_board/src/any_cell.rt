@@ -4,6 +4,7 @@ ghost use Rattle.std.specs.List.{range_with_len};
 ghost use Rattle.plex_script.specs.CfTypes.declared.limits.TheConstants.{CONNECTORS};
 ghost use Rattle.struct_cell.specs.CfLink.Links.{AreAsked};
 ghost use Rattle.plex_script.specs.CfTypes.Forms.{IsForm};
+ghost use Rattle.plex_script.specs.CfTypes.NoMemory.Wants.{want};
 ghost use Rattle.plex_script.specs.Heard.{any_calls, any_length, call_numbered, own_calls};
 ghost use Rattle.struct_cell.specs.declared.refused.CallRefused.TheVariants as refused;
 ghost use Rattle.struct_cell.specs.VecWords.Logged.{words_of, indices_of, sight};

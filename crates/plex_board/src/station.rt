@@ -5,6 +5,7 @@ ghost use Rattle.plex_script.specs.CfTypes.declared.limits.TheConstants.{CONNECT
 ghost use Rattle.struct_cell.specs.CfLink.Links.{AreAsked};
 ghost use Rattle.plex_script.specs.CfTypes.Forms.{IsForm};
 ghost use Rattle.plex_script.specs.Heard.{any_calls, any_length, call_numbered, own_calls};
+ghost use Rattle.plex_script.specs.CfTypes.NoMemory.Wants.{want};
 ghost use Rattle.struct_cell.specs.declared.refused.CallRefused.TheVariants as refused;
 ghost use Rattle.struct_cell.specs.VecWords.Logged.{words_of, indices_of, sight};
 ghost use Rattle.plex_board.specs.Types.{type_of_kind, type_of_history};

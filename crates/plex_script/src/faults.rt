@@ -30,9 +30,10 @@ pub enum ReadFault {
 
 impl<T: Drop> From<AllocFailed<T>> for ReadFault {
     ghost use Rattle.std.specs.Prelude.{◌≡◌};
-    ghost use Rattle.plex_script.specs.declared.faults.ReadFault.TheVariants as fault;
+    ghost use Rattle.cf_types.specs.NoMemory.Wants.{want};
+    ghost use Rattle.plex_script.specs.declared.faults.ReadFault.TheVariants as faults;
 
-    ghost from_gives = { λ _ fault. fault ≡ fault.NoMemory want };
+    ghost from_gives = { λ _ fault. fault ≡ faults.NoMemory want };
 
     fn from(failed: AllocFailed<T>) -> Self {
         ReadFault::NoMemory(failed.into())
@@ -41,9 +42,10 @@ impl<T: Drop> From<AllocFailed<T>> for ReadFault {
 
 impl From<AllocError> for ReadFault {
     ghost use Rattle.std.specs.Prelude.{◌≡◌};
-    ghost use Rattle.plex_script.specs.declared.faults.ReadFault.TheVariants as fault;
+    ghost use Rattle.cf_types.specs.NoMemory.Wants.{want};
+    ghost use Rattle.plex_script.specs.declared.faults.ReadFault.TheVariants as faults;
 
-    ghost from_gives = { λ _ fault. fault ≡ fault.NoMemory want };
+    ghost from_gives = { λ _ fault. fault ≡ faults.NoMemory want };
 
     fn from(failed: AllocError) -> Self {
         ReadFault::NoMemory(failed.into())

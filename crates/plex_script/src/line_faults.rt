@@ -13,9 +13,10 @@ pub(crate) enum LineFault {
 
 impl<T: Drop> From<AllocFailed<T>> for LineFault {
     ghost use Rattle.std.specs.Prelude.{◌≡◌};
-    ghost use Rattle.plex_script.specs.declared.line_faults.LineFault.TheVariants as fault;
+    ghost use Rattle.cf_types.specs.NoMemory.Wants.{want};
+    ghost use Rattle.plex_script.specs.declared.line_faults.LineFault.TheVariants as faults;
 
-    ghost from_gives = { λ _ fault. fault ≡ fault.NoMemory want };
+    ghost from_gives = { λ _ fault. fault ≡ faults.NoMemory want };
 
     fn from(failed: AllocFailed<T>) -> Self {
         LineFault::NoMemory(failed.into())

@@ -1,4 +1,5 @@
 ghost use Rattle.std.specs.Prelude.{◌≡◌, ◌||◌, ◌<◌, ◌∷◌, List, ℕ, IsTrue, not, OnOk, IfErr, length, true, false, nat_lt};
+ghost use Rattle.cf_types.specs.NoMemory.Wants.{want};
 ghost use Rattle.plex_plain.specs.PlexSpell.Words.{words_of};
 ghost use Rattle.plex_script.specs.Causes.{has_lines, is_full, PolicyCause, StrangeCause, CallerCause, EmptyCause, LineCause, strange_why};
 ghost use Rattle.plex_script.specs.Scripts.{with_pref, with_declaration, AddsDeclaration, AddsLine, AddsOfCaller, AddsWords, Adds};

@@ -10,6 +10,7 @@ use Rattle.plex_board.specs.PlexScript.declared.scripts.Script.{Script}
 use Rattle.plex_board.specs.PlexScript.Heard.{AnyCall}
 use Rattle.plex_report.specs.Lines.{reply_words}
 use Rattle.plex_report.specs.ReplyWords.{cache_reply_words, list_reply_words, lock_reply_words}
+use Rattle.plex_board.specs.CfTypes.NoMemory.Wants.{want}
 use Rattle.plex_board.specs.StructCell.declared.refused.CallRefused.{CallRefused}
 use Rattle.plex_board.specs.StructCell.declared.refused.CallRefused.TheVariants.{JournalFull, NoMemory}
 use Rattle.plex_board.specs.Types.{StrType, OfCache, OfList, OfLock, type_of_ask}

@@ -12,9 +12,10 @@ pub enum Miss {
 
 impl<T: Drop> From<AllocFailed<T>> for Miss {
     ghost use Rattle.std.specs.Prelude.{◌≡◌};
-    ghost use Rattle.plex_spell.specs.declared.misses.Miss.TheVariants as miss;
+    ghost use Rattle.cf_types.specs.NoMemory.Wants.{want};
+    ghost use Rattle.plex_spell.specs.declared.misses.Miss.TheVariants as misses;
 
-    ghost from_gives = { λ _ miss. miss ≡ miss.NoMemory want };
+    ghost from_gives = { λ _ miss. miss ≡ misses.NoMemory want };
 
     fn from(failed: AllocFailed<T>) -> Self {
         Miss::NoMemory(failed.into())
@@ -23,9 +24,10 @@ impl<T: Drop> From<AllocFailed<T>> for Miss {
 
 impl From<AllocError> for Miss {
     ghost use Rattle.std.specs.Prelude.{◌≡◌};
-    ghost use Rattle.plex_spell.specs.declared.misses.Miss.TheVariants as miss;
+    ghost use Rattle.cf_types.specs.NoMemory.Wants.{want};
+    ghost use Rattle.plex_spell.specs.declared.misses.Miss.TheVariants as misses;
 
-    ghost from_gives = { λ _ miss. miss ≡ miss.NoMemory want };
+    ghost from_gives = { λ _ miss. miss ≡ misses.NoMemory want };
 
     fn from(failed: AllocError) -> Self {
         Miss::NoMemory(failed.into())

@@ -4,6 +4,7 @@ ghost use Rattle.std.specs.List.{range_with_len};
 ghost use Rattle.cf_types.specs.declared.limits.TheConstants.{CONNECTORS};
 ghost use Rattle.struct_machine.specs.CfLink.Links.{AreAsked};
 ghost use Rattle.cf_types.specs.Forms.{IsForm};
+ghost use Rattle.cf_types.specs.NoMemory.Wants.{want};
 ghost use Rattle.engine_api.specs.Asking.{MayAsk};
 ghost use Rattle.engine_api.specs.Answers.{answers};
 ghost use Rattle.engine_api.specs.History.{calls, numbers, own, replay, IsLegal, IsPoint};
