@@ -1,10 +1,11 @@
 //! The run of a script on one thread.
-ghost use Rattle.std.specs.Prelude.{◌≡◌, ◌≢◌, ◌+◌, ◌≤◌, IfOk, IsOkAnd, All, length, map};
+ghost use Rattle.std.specs.Prelude.{◌≡◌, ◌≢◌, ◌+◌, ◌<◌, ◌≤◌, IfOk, IfNone, IfSome, IsOkAnd, All, length, map, slice_index_or};
 ghost use Rattle.std.specs.Vec.{vec_len};
 ghost use Rattle.std.specs.List.{range_with_len};
 ghost use Rattle.plex_board.specs.CfTypes.NoMemory.Wants.{want};
 ghost use Rattle.plex_board.specs.CfTypes.declared.limits.TheConstants.{CONNECTORS, LINKS};
 ghost use Rattle.plex_board.specs.PlexScript.declared.transcripts.AgentEnd.TheVariants as ended;
+ghost use Rattle.plex_board.specs.PlexScript.declared.transcripts.Transcript.{Transcript};
 ghost use Rattle.plex_board.specs.Headline.{ShowsHistories};
 ghost use Rattle.plex_board.specs.Runnable.{IsRunnable};
 ghost use Rattle.plex_board.specs.RunLinks.{AreRunLinks};
@@ -31,6 +32,22 @@ pub struct Finished {
     pub transcripts: Listing<Transcript>,
 }
 
+// The first caller whose work ended for want of memory.
+fn first_broken(transcripts: &[Transcript]) -> Option<usize>
+    ensures none { IfNone result
+        (All (λ transcript. transcript.end ≢ ended.NoMemory want) transcripts.now) }
+    ensures some { IfSome result (λ place. (place < length transcripts.now)
+        × ((d : Transcript) → (slice_index_or transcripts.now place d).end
+        ≡ ended.NoMemory want)) }
+{
+    for place in 0..transcripts.len() {
+        if matches!(transcripts[place].end, AgentEnd::NoMemory(_)) {
+            return Some(place);
+        }
+    }
+    None
+}
+
 // The want of memory for which a caller's work ended.
 fn cause_of(broken: Transcript) -> NoMemory
     requires { broken.end ≡ ended.NoMemory want }
@@ -54,10 +71,8 @@ pub(crate) fn finish(
         (λ it. All (λ transcript. transcript.end ≢ ended.NoMemory want) it.transcripts) }
 {
     let mut transcripts = shown?;
-    for place in 0..transcripts.len() {
-        if matches!(transcripts[place].end, AgentEnd::NoMemory(_)) {
-            return Err(cause_of(transcripts.swap_remove(place)));
-        }
+    if let Some(place) = first_broken(&transcripts) {
+        return Err(cause_of(transcripts.swap_remove(place)));
     }
     Ok(Finished {
         histories: Listing::from_vec(histories),

@@ -56,7 +56,10 @@ fn summed<K: Sink>(alloc: Global, n: u32, finished: &Finished, sink: &mut K) -> 
     let transcripts = finished.transcripts.items();
     let text = match summary(alloc, n, histories, transcripts) {
         Ok(text) => text,
-        Err(cause) => return say_no_memory(cause, sink),
+        Err(cause) => {
+            say_no_memory(cause, sink);
+            return 6;
+        }
     };
     match write_all(sink, &text) {
         Ok(()) => 0,
@@ -88,7 +91,10 @@ pub(crate) fn loaded<R: Threads + Wait + Sync, K: Sink, L: Link, G: Gate>(
 {
     let finished = match run_load(rt, alloc, n, links, gate) {
         Ok(finished) => finished,
-        Err(cause) => return say_no_memory(cause, sink),
+        Err(cause) => {
+            say_no_memory(cause, sink);
+            return 6;
+        }
     };
     summed(alloc, n, &finished, sink)
 }

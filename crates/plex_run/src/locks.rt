@@ -61,7 +61,10 @@ fn written<K: Sink>(alloc: Global, script: &Script, told: &Locked, sink: &mut K)
 {
     let text = match locks_text(alloc, script, told) {
         Ok(text) => text,
-        Err(cause) => return say_no_memory(cause, sink),
+        Err(cause) => {
+            say_no_memory(cause, sink);
+            return 6;
+        }
     };
     match write_all(sink, &text) {
         Ok(()) => 0,
@@ -91,12 +94,18 @@ fn locked_text<R: Threads + Sync, K: Sink, G: Gate>(
         Ok(script) => script,
         Err(Untaken::Fault { line, why }) => return refused(alloc, line, why_text(why), sink),
         Err(Untaken::NotWords { line }) => return refused(alloc, line, b"NOTWORDS", sink),
-        Err(Untaken::NoMemory(cause)) => return say_no_memory(cause, sink),
+        Err(Untaken::NoMemory(cause)) => {
+            say_no_memory(cause, sink);
+            return 6;
+        }
     };
     well_formed(text, &script);
     let told = match locked(rt, alloc, &script, gate) {
         Ok(told) => told,
-        Err(cause) => return say_no_memory(cause, sink),
+        Err(cause) => {
+            say_no_memory(cause, sink);
+            return 6;
+        }
     };
     written(alloc, &script, &told, sink)
 }

@@ -51,7 +51,10 @@ pub(crate) fn refused<K: Sink>(alloc: Global, line: u32, why: &[u8], sink: &mut 
             say(sink, &text);
             3
         }
-        Err(cause) => say_no_memory(cause, sink),
+        Err(cause) => {
+            say_no_memory(cause, sink);
+            6
+        }
     }
 }
 
@@ -83,7 +86,10 @@ fn judged<R: Threads + Wait + Sync, K: Sink, L: Link, G: Gate>(
     let script = match read(alloc, text) {
         Ok(script) => script,
         Err(ReadFault::Script { line, why }) => return refused(alloc, line, why_text(why), sink),
-        Err(ReadFault::NoMemory(cause)) => return say_no_memory(cause, sink),
+        Err(ReadFault::NoMemory(cause)) => {
+            say_no_memory(cause, sink);
+            return 6;
+        }
     };
     well_formed(text, &script);
     valid_is_fresh();

@@ -89,7 +89,8 @@ fn written<K: Sink>(alloc: Global, script: &Script, finished: &Finished, sink: &
     let full = full_structure(script.structures.items(), finished.transcripts.items());
     let wrote = write_run(alloc, full, script, finished, sink);
     if let Err(Unwritten::NoMemory(cause)) = wrote {
-        return say_no_memory(cause, sink);
+        say_no_memory(cause, sink);
+        return 6;
     }
     if full.is_some() {
         return 8;
@@ -120,7 +121,10 @@ pub(crate) fn reported<R: Threads + Wait + Sync, K: Sink, L: Link, G: Gate>(
 {
     let finished = match run_over(rt, alloc, way, script, links, gate) {
         Ok(finished) => finished,
-        Err(cause) => return say_no_memory(cause, sink),
+        Err(cause) => {
+            say_no_memory(cause, sink);
+            return 6;
+        }
     };
     written(alloc, script, &finished, sink)
 }

@@ -41,14 +41,12 @@ pub(crate) fn say<K: Sink>(sink: &mut K, line: &[u8])
     let _ = write_all(sink, line);
 }
 
-/// Tells that there was no memory, and the status.
-pub(crate) fn say_no_memory<K: Sink>(_cause: NoMemory, sink: &mut K) -> u8
-    ensures status { result ≡ 6 }
+/// Tells that there was no memory.
+pub(crate) fn say_no_memory<K: Sink>(_cause: NoMemory, sink: &mut K)
     ensures gains { Gains (output K.held K.faults sink.old sink.new) memory_line }
     ensures faults { K.faults sink.old ≤ K.faults sink.new }
 {
     say(sink, b"NOMEMORY\n");
-    6
 }
 
 // Tells of a text that is too long.
@@ -78,7 +76,10 @@ pub(crate) fn say_unread<K: Sink>(end: ReadEnd, sink: &mut K) -> u8
             say_too_long(sink);
             7
         }
-        ReadEnd::NoMemory(cause) => say_no_memory(cause, sink),
+        ReadEnd::NoMemory(cause) => {
+            say_no_memory(cause, sink);
+            6
+        }
     }
 }
 
