@@ -230,10 +230,7 @@ fn leave<V: Drop, K>(seat: Seat<V, Stand<K>>)
 impl<F: Keeps> KeyLock<Boxed<F>> {
     /// A free lock round the value in a box, so that a turn moves a pointer however large the value
     /// is. Where there is no memory the value comes back, with the cause.
-    pub fn boxed(
-        alloc: Global,
-        value: F::Value,
-    ) -> Result<KeyLock<Boxed<F>>, (F::Value, NoMemory)>
+    pub fn boxed(alloc: Global, value: F::Value) -> Result<KeyLock<Boxed<F>>, (F::Value, NoMemory)>
         requires { F.stands (F.key_of value) value }
         ensures made { IfOk result (λ lock. lock.key ≡ F.key_of value) }
         ensures refused { IfErr result (λ back. back.0 ≡ value) }

@@ -43,13 +43,7 @@ fn main(rt: HostRuntime) -> Result<(), Fault> {
 fn share(rt: &impl Print, alloc: Global, pool: &mut Pool) -> Result<(), Fault> {
     call(rt, alloc, pool, A, &Ask::Content(read(P1)))?;
     call(rt, alloc, pool, B, &Ask::Content(read(P1)))?;
-    call(
-        rt,
-        alloc,
-        pool,
-        A,
-        &Ask::Content(write(alloc)?),
-    )?;
+    call(rt, alloc, pool, A, &Ask::Content(write(alloc)?))?;
     call(rt, alloc, pool, B, &Ask::Content(read(P1)))?;
     call(rt, alloc, pool, B, &Ask::Content(read(P2)))
 }

@@ -1,5 +1,5 @@
 -- The calls of one line: what they keep, and the steps of the run by the machine alone that go with them.
-use Rattle.plex_agent.proofs.Imports.{◌≡◌, ◌≢◌, ℕ, zero, suc, ◌≤◌, ◌<◌, List, [], ◌∷◌, ◌++◌, map, slice_get, Option, Some, refl, ap, ◌∙◌, arith, append-nil, append_assoc, nat_tests, StrForm, Kind, CfId, ConnId, Telling, StrNo, Told, Step, AnyAsk, AnyHistory, AgentEnd, Shown, Transcript, step_after, most_asks, asked_by, rests, fewer_asks, some_goes, any_length, any_told, Run, stopped_at, steps_made, AnyReply, PassShown, IsLater, with_call, Steps, call_item}
+use Rattle.plex_agent.proofs.Imports.{◌≡◌, ◌≢◌, ℕ, zero, suc, ◌≤◌, ◌<◌, List, [], ◌∷◌, ◌++◌, map, slice_get, Option, Some, refl, ap, ◌∙◌, arith, append-nil, append_assoc, nat_tests, StrForm, Kind, CfId, ConnId, Telling, StrNo, Told, Step, AnyAsk, AnyHistory, AgentEnd, Shown, Transcript, step_after, most_asks, asked_by, rests, fewer_asks, some_goes, any_length, any_told, Run, stopped_at, steps_made, AnyReply, PassShown, IsLater, with_call, Steps, call_item, NoMemory}
 use Rattle.plex_agent.proofs.Spots.{conn, str, put, put_same, put_other, Spot, moved, called}
 use Rattle.plex_agent.proofs.Stages.{Stage, IsStage, State, Shows, Goes, goes_then, goes_not, goes_where}
 use Rattle.plex_agent.proofs.ExactMoves.{SaysLess, called_state, run_called, next_here, stopped_state, stop_point, full_here, goes_call, goes_full, says_same, goes_none}

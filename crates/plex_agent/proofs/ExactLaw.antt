@@ -1,6 +1,6 @@
 -- The law of a script's work at one board on one thread: the callers were shown what the run by the machine alone
 -- shows, and the histories that the closed structures left are the run's.
-use Rattle.plex_agent.proofs.Imports.{same_lists, IsBoardOf, ◌≡◌, ◌≢◌, ℕ, ◌≤◌, ◌<◌, List, [], length, map, fold, slice_get, Some, sym, ap, subst, ◌∙◌, arith, append-nil, All, length-map, get_or-map, slice_get-map, slice_get-get_or, CfId, ConnId, Telling, AnyHistory, Script, any_calls, any_length, own_calls, AreAnyAsTold, end_of, calls_rise, same_calls, take_all, end_length, Run, start, connectors, after_line, after_closing, serial_run, IsRunnable, CellShown, IsAnyTold, pass_at, BoardShown, IsStarted, IsAccount, AreClosed, Floor, Plays, worker_of, no_worker, zero, suc, ◌+◌, false, replicate, Option, None, refl, get_or-replicate, length-replicate, length-map-range_with_len, get_or-map-range_with_len, All-nil, All-weaker, get_or_from_slice_get, get_within, StrForm, Kind, AreMadeBelow, AnyCall, no_calls, numbers_from, any_numbers, take_none, unused_pass, no_pass, new_desk, IsClosed, no_items, new_floor, AgentEnd}
+use Rattle.plex_agent.proofs.Imports.{same_lists, IsBoardOf, ◌≡◌, ◌≢◌, ℕ, ◌≤◌, ◌<◌, List, [], length, map, fold, slice_get, Some, sym, ap, subst, ◌∙◌, arith, append-nil, All, length-map, get_or-map, slice_get-map, slice_get-get_or, CfId, ConnId, Telling, AnyHistory, Script, any_calls, any_length, own_calls, AreAnyAsTold, end_of, calls_rise, same_calls, take_all, end_length, Run, start, connectors, after_line, after_closing, serial_run, IsRunnable, CellShown, IsAnyTold, pass_at, BoardShown, IsStarted, IsAccount, AreClosed, Floor, Plays, worker_of, no_worker, zero, suc, ◌+◌, false, replicate, Option, None, refl, get_or-replicate, length-replicate, length-map-range_with_len, get_or-map-range_with_len, All-nil, All-weaker, get_or_from_slice_get, get_within, StrForm, Kind, AreMadeBelow, AnyCall, no_calls, numbers_from, any_numbers, take_none, unused_pass, no_pass, new_desk, IsClosed, no_items, new_floor, AgentEnd, want}
 use Rattle.plex_agent.proofs.LineTurns.{lines_go, IsStageOf, of_all, of_none, TurnGoes, turn_then}
 use Rattle.plex_agent.proofs.Lookups.{some_same, all_get, kind_of_type}
 use Rattle.plex_agent.proofs.Spots.{conn, str, Spot, IsKnownPass}

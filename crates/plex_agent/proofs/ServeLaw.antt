@@ -1,6 +1,6 @@
 -- Callers at work at one board, whatever the schedule was: each works at its own desk, and what is known of the
 -- others is what the histories say.
-use Rattle.plex_agent.proofs.Imports.{◌≡◌, ◌≢◌, ℕ, ◌+◌, ◌≤◌, ◌<◌, inl, inr, List, length, map, Some, None, Option, sym, ap, subst, ◌∙◌, arith, append-nil, slice_get, All, cases_lt, length-map, get_or_past, All-nil, slice_get_within, get_within, StrForm, ConnId, StrNo, AnyHistory, Script, Transcript, AnyCall, any_calls, any_length, own_calls, calls_of, calls_on, length_of, length_on, AgreesWith, numbers_on, TestsTell, EndsRight, IsHistoryOf, ShowsHistories, CellShown, IsAnyTold, Rising, calls_rise, DeskShown, no_pass, pass_at, BoardShown, IsStarted, IsClosed, IsAccount, AreClosed, new_desk, AtWork, no_items, Serves, WorkEnds, ShowsWork, AgentEnd}
+use Rattle.plex_agent.proofs.Imports.{◌≡◌, ◌≢◌, ℕ, ◌+◌, ◌≤◌, ◌<◌, inl, inr, List, length, map, Some, None, Option, sym, ap, subst, ◌∙◌, arith, append-nil, slice_get, All, cases_lt, length-map, get_or_past, All-nil, slice_get_within, get_within, StrForm, ConnId, StrNo, AnyHistory, Script, Transcript, AnyCall, any_calls, any_length, own_calls, calls_of, calls_on, length_of, length_on, AgreesWith, numbers_on, TestsTell, EndsRight, IsHistoryOf, ShowsHistories, CellShown, IsAnyTold, Rising, calls_rise, DeskShown, no_pass, pass_at, BoardShown, IsStarted, IsClosed, IsAccount, AreClosed, new_desk, AtWork, no_items, Serves, WorkEnds, ShowsWork, AgentEnd, want}
 use Rattle.plex_agent.proofs.Lookups.{get_map, get_mapped, all_get, kind_of_type}
 use Rattle.plex_agent.proofs.Work.{caller_of, begins_long, begins_owning, begins_shown, Finished, finishes}
 use Rattle.plex_agent.proofs.{Passes.Caller, Passes.IsWithin, Moves.AreWithin, Moves.IsTranscript, Lines.IsSetting}

@@ -1,6 +1,6 @@
 -- What has been done at all structures, and the steps of it: what each keeps, what it says of what was done before,
 -- and that the run by the machine alone goes with it.
-use Rattle.plex_agent.proofs.Imports.{arith, ◌≡◌, ◌≢◌, ℕ, ◌+◌, ◌≤◌, ◌<◌, length, set, slice_get, Some, StrForm, CfId, Telling, cases_eq, AnyHistory, Transcript, IsAnyLegal, AreAnyAsTold, IsAnyPoint, any_numbers, AreMadeBelow, Run, AgentEnd}
+use Rattle.plex_agent.proofs.Imports.{arith, ◌≡◌, ◌≢◌, ℕ, ◌+◌, ◌≤◌, ◌<◌, length, set, slice_get, Some, StrForm, CfId, Telling, cases_eq, AnyHistory, Transcript, IsAnyLegal, AreAnyAsTold, IsAnyPoint, any_numbers, AreMadeBelow, Run, AgentEnd, want}
 use Rattle.plex_agent.proofs.Spots.{put, put_all, put_same, put_other, Spot, IsKnown}
 use Rattle.plex_agent.proofs.Fits.{put_back, FitsAt}
 use Rattle.plex_agent.proofs.Agreements.{AgreesAt}
