@@ -82,7 +82,7 @@ pub fn use_engine(
     let nanos = start.elapsed(rt)?.as_nanos();
     match done {
         Ok(count) => Ok(Timed { count, nanos }),
-        Err(NoMemory) => Err(no_memory()),
+        Err(_) => Err(no_memory()),
     }
 }
 
@@ -111,7 +111,7 @@ pub fn copy_all(rt: &impl Clock, alloc: Global, rows: u32) -> io::Result<Timed>
     let nanos = start.elapsed(rt)?.as_nanos();
     match done {
         Ok(count) => Ok(Timed { count, nanos }),
-        Err(NoMemory) => Err(no_memory()),
+        Err(_) => Err(no_memory()),
     }
 }
 
@@ -137,6 +137,6 @@ pub fn depart(rt: &impl Clock, alloc: Global, rows: u32) -> io::Result<Timed>
     let nanos = start.elapsed(rt)?.as_nanos();
     match done {
         Ok(()) => Ok(Timed { count: 1, nanos }),
-        Err(NoMemory) => Err(no_memory()),
+        Err(_) => Err(no_memory()),
     }
 }

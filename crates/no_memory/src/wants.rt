@@ -1,6 +1,7 @@
-ghost use Rattle.std.specs.Prelude.{Some, codes};
+ghost use Rattle.std.specs.Prelude.{◌≡◌, Some, codes};
 
-use std::alloc::{AllocError, AllocFailed};
+use atomic_table::Refused;
+use std::alloc::{AllocError, AllocFailed, Allocator};
 use std::error::Error;
 use std::fmt;
 
@@ -15,6 +16,13 @@ impl NoMemory {
     /// want of memory, though no allocator told of any.
     pub fn beyond_counts() -> NoMemory {
         NoMemory { told: () }
+    }
+
+    /// What an allocator had no memory for, and the want that it told.
+    pub fn handing_back<T>(failed: AllocFailed<T>) -> (T, NoMemory)
+        ensures { result.0 ≡ failed.value }
+    {
+        (failed.value, NoMemory { told: () })
     }
 }
 
@@ -36,6 +44,12 @@ impl From<AllocError> for NoMemory {
 
 impl<T: Drop> From<AllocFailed<T>> for NoMemory {
     fn from(_: AllocFailed<T>) -> NoMemory {
+        NoMemory { told: () }
+    }
+}
+
+impl<S: Drop, A: Allocator + Drop> From<Refused<S, A>> for NoMemory {
+    fn from(_: Refused<S, A>) -> NoMemory {
         NoMemory { told: () }
     }
 }

@@ -1,5 +1,6 @@
 //! A caller's turns.
 ghost use Rattle.std.specs.Prelude.{◌≡◌, ◌<◌, IfSome, OnOk, OnErr, All, length};
+ghost use Rattle.plex_board.specs.CfTypes.NoMemory.Wants.{want};
 ghost use Rattle.plex_board.specs.CfTypes.Forms.{IsCaller, IsConnector};
 ghost use Rattle.plex_board.specs.PlexScript.declared.transcripts.AgentEnd.TheVariants as ended;
 ghost use Rattle.plex_board.specs.Boards.{IsDeskOf, cell_on};
@@ -20,11 +21,11 @@ use std::sync::Wait;
 // How a caller's work stands behind what shows one item.
 fn end_after(shown: Result<(), NoMemory>) -> AgentEnd
     ensures done { OnOk shown (result ≡ ended.Done) }
-    ensures no_memory { OnErr shown (result ≡ ended.NoMemory) }
+    ensures no_memory { OnErr shown (result ≡ ended.NoMemory want) }
 {
     match shown {
         Ok(()) => AgentEnd::Done,
-        Err(NoMemory) => AgentEnd::NoMemory,
+        Err(cause) => AgentEnd::NoMemory(cause),
     }
 }
 
@@ -90,7 +91,7 @@ pub fn turn<L: Link>(
     ensures of_board { IsDeskOf board.now desk.new }
     ensures owner { desk.new.owner ≡ desk.old.owner }
 {
-    if !is_done(shown.end) {
+    if !is_done(&shown.end) {
         return;
     }
     let mut items = take_items(alloc, shown);
@@ -120,7 +121,7 @@ fn depart<L: Link>(
     ensures of_board { IsDeskOf board.now desk.new }
     ensures owner { desk.new.owner ≡ desk.old.owner }
 {
-    if !is_done(shown.end) || !desk.linked(on) {
+    if !is_done(&shown.end) || !desk.linked(on) {
         return;
     }
     let ask = closing_ask(board.kind(on));
@@ -183,7 +184,7 @@ fn gated_turn<L: Link, G: Gate>(
     ensures of_board { IsDeskOf board.now desk.new }
     ensures owner { desk.new.owner ≡ desk.old.owner }
 {
-    if !is_done(shown.end) {
+    if !is_done(&shown.end) {
         return;
     }
     gate.before(line.by, line.at);

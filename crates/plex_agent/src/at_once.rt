@@ -70,7 +70,7 @@ fn work<R: Threads + Wait + Sync, L: Link, G: Gate>(
 {
     let (mut workers, room) = match seat(alloc, desks) {
         Ok(seated) => seated,
-        Err(desks) => return (Err(NoMemory), desks),
+        Err((desks, cause)) => return (Err(cause), desks),
     };
     let callers = workers.len();
     work_all(
@@ -114,7 +114,7 @@ pub fn threads<R: Threads + Wait + Sync, L: Link, G: Gate>(
 {
     let (board, desks) = match Board::start(rt, alloc, script, limit, links) {
         Ok(begun) => begun,
-        Err(links) => return (Err(NoMemory), links),
+        Err((links, cause)) => return (Err(cause), links),
     };
     let (shown, desks) = work(rt, alloc, script, &board, desks, gate);
     let (histories, links) = board.close(rt, desks);

@@ -1,6 +1,7 @@
 //! The calls of a line.
 ghost use Rattle.std.specs.Prelude.{◌≡◌, ◌≢◌, ◌<◌, ◌≤◌, ◌↔◌, IsTrue, IfSome, IfOk, IfErr, length};
 ghost use Rattle.std.specs.Option.{option_copied};
+ghost use Rattle.plex_board.specs.CfTypes.NoMemory.Wants.{want};
 ghost use Rattle.plex_board.specs.StructCell.declared.refused.CallRefused.TheVariants as refused;
 ghost use Rattle.plex_board.specs.PlexScript.declared.agents.Step.TheVariants as step;
 ghost use Rattle.plex_board.specs.PlexScript.declared.transcripts.AgentEnd.TheVariants as ended;
@@ -39,7 +40,7 @@ fn end_of(on: StrNo, refusal: CallRefused) -> AgentEnd
 {
     match refusal {
         CallRefused::JournalFull { .. } => AgentEnd::JournalFull { on },
-        CallRefused::NoMemory => AgentEnd::NoMemory,
+        CallRefused::NoMemory(cause) => AgentEnd::NoMemory(cause),
     }
 }
 
@@ -65,9 +66,9 @@ fn ask_step<L: Link>(
         (at_work desk.old items.old.items ended.Done)
         (at_work desk.new items.new.items ended.Done))) }
     ensures refused { IfErr result (λ _. IsLaterOn call.now.on desk.old desk.new) }
-    ensures no_memory { IfErr result (λ refusal. refusal ≡ refused.NoMemory
+    ensures no_memory { IfErr result (λ refusal. refusal ≡ refused.NoMemory want
         → desk.new ≡ desk.old) }
-    ensures full { IfErr result (λ refusal. refusal ≢ refused.NoMemory
+    ensures full { IfErr result (λ refusal. refusal ≢ refused.NoMemory want
         → IfSome (cell_on board.now call.now.on)
         (λ cell. cell.limit ≤ (pass_at desk.new call.now.on).known)) }
     ensures items { IfErr result (λ _. items.new.items ≡ items.old.items) }

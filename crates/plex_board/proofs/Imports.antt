@@ -13,6 +13,7 @@ pub use Rattle.std.proofs.lemmas.Bool.{eq-eqb, ne_eqb, false≢true, cases_lt}
 pub use Rattle.std.proofs.lemmas.Bool.Decides.{nat_tests, same_from_decides, Decides-by_or, Decides-eqb}
 pub use Rattle.std.proofs.lemmas.List.Sums.{fold_push, sum_by_push}
 pub use Rattle.std.proofs.lemmas.Option.{slice_get_within, get_or_from_slice_get, slice_get_read, slice_get-map}
+pub use Rattle.plex_script.specs.CfTypes.NoMemory.Wants.{want}
 pub use Rattle.plex_script.specs.CfTypes.declared.limits.TheConstants.{LINKS, STRUCTURES}
 pub use Rattle.plex_script.specs.CfTypes.declared.{forms.Kind.Kind, forms.StrForm.StrForm, numbers.CfId.CfId}
 pub use Rattle.plex_script.specs.CfTypes.declared.{numbers.ConnId.ConnId, numbers.StrNo.StrNo}

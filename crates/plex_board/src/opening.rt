@@ -57,7 +57,7 @@ impl<L: Link> Opening<L> {
     ///
     /// # Errors
     ///
-    /// Where there is no memory the links come back, and nothing was done.
+    /// Where there is no memory the links come back, with the cause, and nothing was done.
     pub(crate) fn add(
         &mut self,
         rt: &impl Wait,
@@ -66,7 +66,7 @@ impl<L: Link> Opening<L> {
         callers: u8,
         limit: u32,
         links: Links<L>,
-    ) -> Result<(), Links<L>>
+    ) -> Result<(), (Links<L>, NoMemory)>
         requires formed { IsForm form.now }
         requires callers { callers ≤ CONNECTORS }
         requires limit { (1 ≤ limit) × (limit ≤ 4294967000) }
@@ -77,11 +77,12 @@ impl<L: Link> Opening<L> {
             ≡ map (λ cell. cell.form) self.old.stations.items ++ form.now ∷ []) }
         ensures links { OnOk result (flat_map (λ cell. four_of cell.links) self.new.stations.items
             ≡ flat_map (λ cell. four_of cell.links) self.old.stations.items ++ four_of links) }
-        ensures handed_back { IfErr result (λ back. back ≡ links) }
+        ensures handed_back { IfErr result (λ back. back.0 ≡ links) }
         ensures same { OnErr result (self.new ≡ self.old) }
     {
-        let Ok(form) = copy_form(alloc, form) else {
-            return Err(links);
+        let form = match copy_form(alloc, form) {
+            Ok(form) => form,
+            Err(cause) => return Err((links, cause)),
         };
         let (station, mut home) = Station::start(rt, alloc, form, callers, limit, links)?;
         deal(&mut self.desks, &mut home);
@@ -118,7 +119,7 @@ impl<L: Link> Opening<L> {
     ///
     /// # Errors
     ///
-    /// Where there is no memory all links come back.
+    /// Where there is no memory all links come back, with the cause.
     pub(crate) fn open(
         self,
         rt: &impl Wait,
@@ -126,7 +127,7 @@ impl<L: Link> Opening<L> {
         callers: u8,
         limit: u32,
         left: IntoIter<L>,
-    ) -> Result<(Board<L>, Vec<Desk>), Vec<L>>
+    ) -> Result<(Board<L>, Vec<Desk>), (Vec<L>, NoMemory)>
         requires callers { callers ≤ CONNECTORS }
         requires opening { IsOpening callers limit self }
         requires few { length self.stations.items ≤ STRUCTURES }
@@ -138,7 +139,7 @@ impl<L: Link> Opening<L> {
         }) }
         ensures desks { IfOk result (λ r. r.1.items
             ≡ map (desk_at self.stations.items) (range_with_len 0 (callers + 1))) }
-        ensures handed_back { IfErr result (λ back. back.items
+        ensures handed_back { IfErr result (λ back. back.0.items
             ≡ flat_map (λ cell. four_of cell.links) self.stations.items
             ++ into_iter_items left) }
     {
@@ -150,7 +151,7 @@ impl<L: Link> Opening<L> {
         push_left(&mut rest.spare, left);
         match KeyLock::new(alloc, rest) {
             Ok(rest) => Ok((Board::of(stations, callers, rest), desks)),
-            Err(rest) => Err(end_unused(rt, stations, rest, desks)),
+            Err((rest, cause)) => Err((end_unused(rt, stations, rest, desks), cause)),
         }
     }
 }

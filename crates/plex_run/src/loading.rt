@@ -54,9 +54,12 @@ fn summed<K: Sink>(alloc: Global, n: u32, finished: &Finished, sink: &mut K) -> 
 {
     let histories = finished.histories.items();
     let transcripts = finished.transcripts.items();
-    let Ok(text) = summary(alloc, n, histories, transcripts) else {
-        say_no_memory(sink);
-        return 6;
+    let text = match summary(alloc, n, histories, transcripts) {
+        Ok(text) => text,
+        Err(cause) => {
+            say_no_memory(cause, sink);
+            return 6;
+        }
     };
     match write_all(sink, &text) {
         Ok(()) => 0,
@@ -86,9 +89,12 @@ pub(crate) fn loaded<R: Threads + Wait + Sync, K: Sink, L: Link, G: Gate>(
     ensures faults { K.faults sink.old ≤ K.faults sink.new }
     ensures count { length links.new.items ≡ length links.old.items }
 {
-    let Ok(finished) = run_load(rt, alloc, n, links, gate) else {
-        say_no_memory(sink);
-        return 6;
+    let finished = match run_load(rt, alloc, n, links, gate) {
+        Ok(finished) => finished,
+        Err(cause) => {
+            say_no_memory(cause, sink);
+            return 6;
+        }
     };
     summed(alloc, n, &finished, sink)
 }

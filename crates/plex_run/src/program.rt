@@ -26,7 +26,6 @@ use plex_agent::Gate;
 use plex_agent::links::Link;
 use plex_agent::sources::{Sink, Source, read_all};
 use plex_load::scripts::{ReadFault, never_both, one_script, read, well_formed};
-use plex_load::types::NoMemory;
 use run_laws::{only_reading, valid_is_fresh, within_script};
 use std::alloc::Global;
 use std::sync::Wait;
@@ -52,8 +51,8 @@ pub(crate) fn refused<K: Sink>(alloc: Global, line: u32, why: &[u8], sink: &mut 
             say(sink, &text);
             3
         }
-        Err(NoMemory) => {
-            say_no_memory(sink);
+        Err(cause) => {
+            say_no_memory(cause, sink);
             6
         }
     }
@@ -87,8 +86,8 @@ fn judged<R: Threads + Wait + Sync, K: Sink, L: Link, G: Gate>(
     let script = match read(alloc, text) {
         Ok(script) => script,
         Err(ReadFault::Script { line, why }) => return refused(alloc, line, why_text(why), sink),
-        Err(ReadFault::NoMemory) => {
-            say_no_memory(sink);
+        Err(ReadFault::NoMemory(cause)) => {
+            say_no_memory(cause, sink);
             return 6;
         }
     };

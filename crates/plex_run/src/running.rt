@@ -88,8 +88,8 @@ fn written<K: Sink>(alloc: Global, script: &Script, finished: &Finished, sink: &
 {
     let full = full_structure(script.structures.items(), finished.transcripts.items());
     let wrote = write_run(alloc, full, script, finished, sink);
-    if let Err(Unwritten::NoMemory) = wrote {
-        say_no_memory(sink);
+    if let Err(Unwritten::NoMemory(cause)) = wrote {
+        say_no_memory(cause, sink);
         return 6;
     }
     if full.is_some() {
@@ -119,9 +119,12 @@ pub(crate) fn reported<R: Threads + Wait + Sync, K: Sink, L: Link, G: Gate>(
     ensures faults { K.faults sink.old ≤ K.faults sink.new }
     ensures count { length links.new.items ≡ length links.old.items }
 {
-    let Ok(finished) = run_over(rt, alloc, way, script, links, gate) else {
-        say_no_memory(sink);
-        return 6;
+    let finished = match run_over(rt, alloc, way, script, links, gate) {
+        Ok(finished) => finished,
+        Err(cause) => {
+            say_no_memory(cause, sink);
+            return 6;
+        }
     };
     written(alloc, script, &finished, sink)
 }

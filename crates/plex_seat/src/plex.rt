@@ -78,15 +78,13 @@ impl Plex {
         ensures new { IfOk result (λ r. r.1.items
             ≡ map (new_desk r.0) (range_with_len 0 (length script.now.connectors + 1))) }
     {
-        let Ok(links) = vec![in alloc; Steady; LINKS] else {
-            return Err(NoMemory);
-        };
+        let links = vec![in alloc; Steady; LINKS]?;
         match Board::start(rt, alloc, script, calls, links) {
             Ok((board, desks)) => {
                 let count = desks.len();
                 Ok((Plex { board, count }, desks))
             }
-            Err(_) => Err(NoMemory),
+            Err((_, cause)) => Err(cause),
         }
     }
 

@@ -4,6 +4,7 @@ ghost use Rattle.std.specs.List.{range_with_len};
 ghost use Rattle.cf_types.specs.declared.limits.TheConstants.{CONNECTORS};
 ghost use Rattle.struct_machine.specs.CfLink.Links.{AreAsked};
 ghost use Rattle.cf_types.specs.Forms.{IsForm};
+ghost use Rattle.cf_types.specs.NoMemory.Wants.{want};
 ghost use Rattle.engine_api.specs.Asking.{MayAsk};
 ghost use Rattle.engine_api.specs.Answers.{answers};
 ghost use Rattle.engine_api.specs.History.{calls, numbers, own, replay, IsLegal, IsPoint};
@@ -84,14 +85,14 @@ impl<E: Engine, L: Link> Drop for Cell<E, L> {
 impl<E: Engine, L: Link> Cell<E, L> {
     /// A cell of a structure without calls yet, with a pass for each caller from the operator, 0,
     /// on. A call is made where its journal has fewer than `limit` entries. Where there is no memory
-    /// the links come back.
+    /// the links come back, with the cause.
     pub fn start(
         alloc: Global,
         form: StrForm,
         callers: u8,
         limit: u32,
         links: Links<L>,
-    ) -> Result<(Cell<E, L>, Vec<Pass<(Ask<E::Cmd>, Reply<E::Reply>)>>), Links<L>>
+    ) -> Result<(Cell<E, L>, Vec<Pass<(Ask<E::Cmd>, Reply<E::Reply>)>>), (Links<L>, NoMemory)>
         requires formed { IsForm form }
         requires kind { IsTrue (E.is_kind form.kind) }
         requires callers { callers ≤ CONNECTORS }
@@ -107,14 +108,16 @@ impl<E: Engine, L: Link> Cell<E, L> {
             × (r.0.words.len ≡ form.vector)) }
         ensures passes { IfOk result (λ r. r.1.items ≡ map (new_pass r.0.words)
             (range_with_len 0 (callers + 1))) }
-        ensures handed_back { IfErr result (λ back. back ≡ links) }
+        ensures handed_back { IfErr result (λ back. back.0 ≡ links) }
     {
         let len = form.vector;
-        let Ok(touched) = Touched::none(alloc, callers, len) else {
-            return Err(links);
+        let touched = match Touched::none(alloc, callers, len) {
+            Ok(touched) => touched,
+            Err(cause) => return Err((links, cause)),
         };
-        let Ok((vectors, seat, passes)) = Vectors::start(alloc, callers, len) else {
-            return Err(links);
+        let (vectors, seat, passes) = match Vectors::start(alloc, callers, len) {
+            Ok(started) => started,
+            Err(cause) => return Err((links, cause)),
         };
         let machine = Machine::start(alloc, form, links)?;
         let inside = Inside {
@@ -127,7 +130,7 @@ impl<E: Engine, L: Link> Cell<E, L> {
         };
         match KeyLock::boxed(alloc, inside) {
             Ok(lock) => Ok((Cell { lock, vectors }, passes)),
-            Err(Inside { machine, .. }) => Err(machine.into_parts().links),
+            Err((Inside { machine, .. }, cause)) => Err((machine.into_parts().links, cause)),
         }
     }
 
@@ -152,9 +155,9 @@ impl<E: Engine, L: Link> Cell<E, L> {
         ensures later { IfOk result (λ told. pass.old.known < told.no) }
         ensures answered { IfOk result (λ told. IsAnswered ask told pass.old pass.new) }
         ensures refused { IfErr result (λ _. IsLater pass.old pass.new) }
-        ensures no_memory { IfErr result (λ refusal. refusal ≡ refused.NoMemory
+        ensures no_memory { IfErr result (λ refusal. refusal ≡ refused.NoMemory want
             → pass.new ≡ pass.old) }
-        ensures full { IfErr result (λ refusal. refusal ≢ refused.NoMemory
+        ensures full { IfErr result (λ refusal. refusal ≢ refused.NoMemory want
             → (refusal ≡ refused.JournalFull self.now.limit) × (self.now.limit ≤ pass.new.known)) }
     {
         let (mut inside, ticket) = self.lock.take(rt);
@@ -180,9 +183,9 @@ impl<E: Engine, L: Link> Cell<E, L> {
         ensures later { IfOk result (λ told. pass.old.known < told.no) }
         ensures answered { IfOk result (λ told. IsAnswered ask told pass.old pass.new) }
         ensures refused { IfErr result (λ _. IsLater pass.old pass.new) }
-        ensures no_memory { IfErr result (λ refusal. refusal ≡ refused.NoMemory
+        ensures no_memory { IfErr result (λ refusal. refusal ≡ refused.NoMemory want
             → pass.new ≡ pass.old) }
-        ensures full { IfErr result (λ refusal. refusal ≢ refused.NoMemory
+        ensures full { IfErr result (λ refusal. refusal ≢ refused.NoMemory want
             → (refusal ≡ refused.JournalFull self.now.limit) × (self.now.limit ≤ pass.new.known)) }
     {
         let count = inside.journal.len();

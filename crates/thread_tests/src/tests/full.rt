@@ -21,7 +21,7 @@ use std::thread::{Threads, join_mut};
 const FULL: u32 = 300;
 
 // How many writes were answered, and why the next one wasn't.
-#[derive(Clone, Copy, Debug)]
+#[derive(Debug, Drop)]
 struct Filled {
     answered: u32,
     refusal: CallRefused,
