@@ -58,13 +58,12 @@ impl Model for Shell {
 impl Shell {
     /// The shell of a structure of this form, in which nobody is connected. `callers` is the
     /// greatest number of a connector, 64 at most.
-    pub fn start(alloc: Global, form: &StrForm, callers: u8) -> Result<Shell, NoMemory>
-        requires form { IsForm form.now }
+    pub fn start(alloc: Global, form: StrForm, callers: u8) -> Result<Shell, NoMemory>
+        requires form { IsForm form }
         requires callers { callers ≤ CONNECTORS }
-        ensures form { IfOk result (λ shell. shell.form ≡ form.now) }
-        ensures shell { IfOk result (λ shell. shell.shell ≡ opening_shell form.now) }
+        ensures form { IfOk result (λ shell. shell.form ≡ form) }
+        ensures shell { IfOk result (λ shell. shell.shell ≡ opening_shell form) }
     {
-        let form = copy_form(alloc, form)?;
         let mail = Mail::new(alloc, callers)?;
         let caps = form.caps;
         Ok(Shell {
@@ -81,6 +80,14 @@ impl Shell {
             lost: None,
             caps,
         })
+    }
+
+    /// The form of the structure.
+    pub fn form(&self) -> &StrForm
+        ensures form { result.now ≡ self.now.form }
+        ensures formed { IsForm result.now }
+    {
+        &self.form
     }
 
     /// What is to be done with a call: the first refusal that holds, or who does it.

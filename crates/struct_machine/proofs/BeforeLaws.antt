@@ -1,5 +1,5 @@
 -- What comes before a command acts, and which commands make an instance.
-use Rattle.struct_machine.proofs.Imports.{◌≡◌, ℕ, ◌+◌, ◌⊎◌, true, Option, None, refl, arith, not, if◌then◌else◌, is_some, is_none, min, min-le_right, StrForm, CfId, ConnId, ShellCmd, Deeds, Room, Meaning, Held, fresh_of, Shell, shell_done, leaver, rebuild_connect_outcome, Fresh, with_copied, lacking_in, Rebuild, fresh_before, makes_empty, makes_second, copied_in}
+use Rattle.struct_machine.proofs.Imports.{◌≡◌, ℕ, ◌+◌, ◌⊎◌, true, Option, None, refl, arith, not, if◌then◌else◌, is_some, is_none, min, min-le_right, StrForm, CfId, ConnId, ShellCmd, Deeds, Room, Meaning, Held, fresh_of, Shell, shell_done, leaver, rebuild_connect_outcome, Fresh, with_copied, lacking_in, Rebuild, makes_empty, makes_second, copied_in}
 
 -- ---- the new instance before a command acts
 
@@ -49,13 +49,6 @@ module _ (form : StrForm) (room : Room) (shell : Shell) (by : ConnId) where
   seconding ShellCmd.RebuildConnect some = absurd (unmade _ (connection_adds form shell by shell.rebuild) some)
   seconding ShellCmd.DuplexStart some = refl
   seconding command some = grind (arith, unmade)
-
--- nothing comes before the command
-pub record IsSudden {C R I S : Type 0} (meaning : Meaning C R I S) (shell : Shell) (by : ConnId) (command : ShellCmd) :
-    Type 0 where
-  pub nobody : leaver shell by command ≡ None
-  pub nothing : (held : Option (Held S)) (fresh : Option Fresh)
-      → fresh_before meaning shell by command held fresh ≡ fresh
 
 abbrev pub MakesOrSwitches : Deeds → Type 0
 MakesOrSwitches deeds = (is_some deeds.make ≡ true) ⊎ (deeds.switch ≡ true)

@@ -1,17 +1,20 @@
 -- A command that isn't refused, done to a shell and to instances of one form.
-use Rattle.struct_machine.proofs.Imports.{arith, ◌≡◌, ◌+◌, ◌⊎◌, inl, Bool, true, false, Option, None, Some, IfSome, refl, sym, ap, ◌∙◌, subst, subst₂, is_some, both_ways, false_from_ne_true, Caps, StrForm, CfId, ConnId, Refusal, ShellCmd, Machine, content_after, copied_after, moved_by, room_of, departure_from, command_done, unless, with_entered, entered_machine, CallOutcome, Meaning, Held, Departure, Instances, MayCommand, IsCaller, IsFacility, fresh_of, shape_of, Shell, ShellOutcome, shell_cause, leaver, caps_made, entered, ShellView, Fresh, Kept, AreFitting, caps_behind, fresh_behind, fresh_caps, IsFilled, IsFilling, IsManned, capacities-command, fitting-command, filled-step, departure_empties, forced_empties, manned-step, done, Spares, AreSpares, AreAdmitted, MayMake, MayAdd, fresh_before, kept_past, places_past, makes_second, held_past, HasNone, AreOf, IsOf, machine_of, state_in, left_in, copied_in, caps_of, Ask, Reply}
+use Rattle.struct_machine.proofs.Imports.{arith, ◌≡◌, ◌+◌, ◌⊎◌, inl, Bool, true, false, Option, None, Some, IfSome, refl, sym, ap, ◌∙◌, subst, subst₂, is_some, both_ways, false_from_ne_true, Caps, StrForm, CfId, ConnId, Refusal, ShellCmd, Machine, content_after, copied_after, moved_by, room_of, departure_from, command_done, unless, with_entered, entered_machine, CallOutcome, Meaning, Held, Departure, Instances, MayCommand, IsCaller, IsFacility, fresh_of, shape_of, Shell, ShellOutcome, shell_cause, leaver, caps_made, entered, ShellView, Fresh, Kept, AreFitting, caps_behind, fresh_behind, fresh_caps, IsFilled, IsFilling, IsManned, capacities-command, fitting-command, filled-step, departure_empties, forced_empties, manned-step, done, Spares, AreSpares, AreAdmitted, MayMake, MayAdd, fresh_left, kept_past, places_past, makes_second, held_past, HasNone, AreOf, IsOf, machine_of, room_in, state_in, left_in, copied_in, caps_of, is_copying, Ask, Reply}
 use Rattle.struct_machine.proofs.DeedLaws.{state_past, IsEmptyOf, AreIdle, back_caller, caps_past, copied_past, of_past}
 use Rattle.struct_machine.proofs.InstanceLaws.{IsPlacing, IsSeconding, IsDropping, placing_command, facility_behind}
-use Rattle.struct_machine.proofs.KeptLaws.{manned-told, filled-told, caps_none, fresh_none, fresh_stands, fresh_under, held_stands, rebuild_held, room_left}
-use Rattle.struct_machine.proofs.BeforeLaws.{IsSudden, MakesOrSwitches, adds_quietly, copied_more, making, none_under, nothing_lacks, same_more, seconding}
+use Rattle.struct_machine.proofs.KeptLaws.{of_equal, manned-told, filled-told, caps_none, fresh_none, fresh_stands, fresh_under, held_stands, rebuild_held, room_left}
+use Rattle.struct_machine.proofs.BeforeLaws.{MakesOrSwitches, adds_quietly, making, none_under, same_more, seconding}
 
 -- ---- a command that isn't refused
 
-module _ {C R I S : Type 0} (meaning : Meaning C R I S) (form : StrForm) (shelled : ShellView)
-    (kept : Kept S) (of : AreOf meaning form shelled kept) (by : ConnId) (command : ShellCmd) (accepted : shell_cause
-    form (room_of meaning form (machine_of meaning form shelled kept)) shelled.shell by command ≡ None) where
+module _ {C R I S : Type 0} (meaning : Meaning C R I S) (shelled : ShellView) (kept : Kept S)
+    (of : AreOf meaning shelled kept) (by : ConnId) (command : ShellCmd)
+    (accepted : shell_cause shelled.form (room_in meaning shelled kept) shelled.shell by command ≡ None) where
+  abbrev form : StrForm
+  form = shelled.form
+
   abbrev machine : Machine S
-  machine = machine_of meaning form shelled kept
+  machine = machine_of meaning shelled kept
 
   abbrev pub gone : Departure S
   gone = departure_from meaning form (leaver shelled.shell by command) machine
@@ -23,7 +26,7 @@ module _ {C R I S : Type 0} (meaning : Meaning C R I S) (form : StrForm) (shelle
   rebuilding = is_some shelled.shell.rebuild
 
   abbrev before : Option Fresh
-  before = fresh_before meaning shelled.shell by command kept.held kept.fresh
+  before = fresh_left shelled.shell (leaver shelled.shell by command) kept.fresh
 
   fitting : AreFitting meaning form machine acted.deeds
   fitting = fitting-command meaning form machine by command of.manned accepted
@@ -39,17 +42,17 @@ module _ {C R I S : Type 0} (meaning : Meaning C R I S) (form : StrForm) (shelle
   caps_before = grind arith
 
   -- one that makes an instance, or puts one in the primary's place
-  sudden_one : MakesOrSwitches acted.deeds → IsSudden meaning shelled.shell by command
+  sudden_one : MakesOrSwitches acted.deeds → leaver shelled.shell by command ≡ None
   sudden_one either = grind arith
 
   state_kept : MakesOrSwitches acted.deeds → gone.state ≡ machine.content
-  state_kept either = rw ((sudden_one either).nobody) refl
+  state_kept either = rw (sudden_one either) refl
 
   fresh_kept : MakesOrSwitches acted.deeds → before ≡ kept.fresh
-  fresh_kept either = (sudden_one either).nothing kept.held kept.fresh
+  fresh_kept either = rw (sudden_one either) refl
 
   under_switch : acted.deeds.switch ≡ true → rebuilding ≡ true
-  under_switch does = fresh_under meaning form shelled kept of (fitting.stands does)
+  under_switch does = fresh_under meaning shelled kept of (fitting.stands does)
 
   whole_again : (held : Option (Held S)) → left_in (state_in meaning form held) held ≡ held
   whole_again held = grind arith
@@ -62,22 +65,22 @@ module _ {C R I S : Type 0} (meaning : Meaning C R I S) (form : StrForm) (shelle
   left_of state caps held of = grind arith
 
   -- the items in the new instance are those that the machine counts
-  copied_behind_it : copied_after acted.deeds (copied_in before)
+  copied_behind_it : is_copying command ≡ false → copied_after acted.deeds (copied_in before)
       ≡ copied_after acted.deeds (copied_in kept.fresh + moved_by (room_of meaning form machine) command)
-  copied_behind_it = go command of.filled.filling
+  copied_behind_it other = go command other of.filled.filling
     where
       Goes : ShellCmd → Type 0
-      Goes command = (copied_in kept.fresh ≡ 0)
-          ⊎ IsFilling shelled.shell.rebuild → copied_after (done meaning form machine by command).deeds (copied_in
-          (fresh_before meaning shelled.shell by command kept.held kept.fresh)) ≡ copied_after (done meaning
+      Goes command = is_copying command ≡ false → (copied_in kept.fresh ≡ 0) ⊎ IsFilling shelled.shell.rebuild
+          → copied_after (done meaning form machine by command).deeds (copied_in
+          (fresh_left shelled.shell (leaver shelled.shell by command) kept.fresh)) ≡ copied_after (done meaning
           form machine by command).deeds (copied_in kept.fresh + moved_by (room_of meaning form machine) command)
 
       go : (command : ShellCmd) → Goes command
-      go ShellCmd.Disconnect filling = grind (arith, done, departure_empties)
-      go ShellCmd.Fail filling = grind (arith, done, departure_empties)
-      go (ShellCmd.Copy n) filling = grind (arith, copied_more, nothing_lacks, room_left)
-      go (ShellCmd.ForceConn other) filling = grind (arith, done, forced_empties)
-      go command filling = grind (arith, done, same_more)
+      go ShellCmd.Disconnect other filling = grind (arith, done, departure_empties)
+      go ShellCmd.Fail other filling = grind (arith, done, departure_empties)
+      go (ShellCmd.Copy n) other filling = absurd (cc)
+      go (ShellCmd.ForceConn conn) other filling = grind (arith, done, forced_empties)
+      go command other filling = grind (arith, done, same_more)
 
   -- ---- the laws of rebuilds stay
 
@@ -95,6 +98,7 @@ module _ {C R I S : Type 0} (meaning : Meaning C R I S) (form : StrForm) (shelle
 
   -- what came before the command, and the engines that were made for it
   pub record IsLeft (spares : Spares S) (left : Kept S) : Type 0 where
+    pub other : is_copying command ≡ false
     pub spared : AreSpares meaning form shelled.shell command kept.held spares
     pub at : left.at ≡ kept.at
     pub held : left.held ≡ left_in gone.state kept.held
@@ -116,15 +120,15 @@ module _ {C R I S : Type 0} (meaning : Meaning C R I S) (form : StrForm) (shelle
     empty_made : is_some acted.deeds.make ≡ true → IsEmptyOf meaning form (caps_made shelled.shell) spares.empty
     empty_made some = grind (arith, making)
 
-    may_make : (cf : CfId) → acted.deeds.make ≡ Some cf → MayMake meaning form rebuilding left spares.empty cf
+    may_make : (cf : CfId) → acted.deeds.make ≡ Some cf → MayMake meaning rebuilding left spares.empty cf
     may_make cf makes = record {
       place = subst (λ (o : Option CfId). IfSome o IsFacility) makes placing.facility;
       there = rw made refl;
       new = rw made refl;
-      alone = is.fresh ∙ none_before (fresh_none meaning form shelled kept of (fitting.alone some));
+      alone = is.fresh ∙ none_before (fresh_none meaning shelled kept of (fitting.alone some));
       bare = λ outside. ap (λ (at : Instances). at.primary) at_is ∙ placing.bare some outside;
-      stands = λ under. stands_left ∙ rebuild_held meaning form shelled kept of under;
-      shape = λ under. shape_so left.held of_left;
+      stands = λ under. stands_left ∙ rebuild_held meaning shelled kept of under;
+      shape = λ under. rw made (shape_so left.held of_left);
       room = λ under. rw (same_held (state_kept (inl some)), made) (grind (arith, some));
     }
       where
@@ -135,13 +139,13 @@ module _ {C R I S : Type 0} (meaning : Meaning C R I S) (form : StrForm) (shelle
         made = empty_made some
 
         shape_so : (held : Option (Held S)) → IsOf meaning form shelled.shell.caps held
-            → IfSome held (λ (h : Held S). h.shape ≡ shape_of form)
+            → IfSome held (λ (h : Held S). shape_of form ≡ h.shape)
         shape_so None of = tt
-        shape_so (Some held) of = of.0
+        shape_so (Some held) of = sym of.0
 
     -- the deeds may be done to the instances as they stand before them
     pub admitted : MayCommand by command
-        → AreAdmitted meaning form rebuilding acted.deeds (fresh_of shelled.shell.rebuild) spares left
+        → AreAdmitted meaning rebuilding acted.deeds (fresh_of shelled.shell.rebuild) spares left
     admitted may = record {
       back = by_back acted.deeds.back refl;
       make = by_make acted.deeds.make refl;
@@ -172,7 +176,7 @@ module _ {C R I S : Type 0} (meaning : Meaning C R I S) (form : StrForm) (shelle
         by_back (Some conn) backs = grind (arith, callers, none_before, fresh_none)
 
         by_make : (make : Option CfId) → acted.deeds.make ≡ make
-            → IfSome make (MayMake meaning form rebuilding left spares.empty)
+            → IfSome make (MayMake meaning rebuilding left spares.empty)
         by_make None makes = tt
         by_make (Some cf) makes = may_make cf makes
 
@@ -210,19 +214,20 @@ module _ {C R I S : Type 0} (meaning : Meaning C R I S) (form : StrForm) (shelle
     copied_so : copied_in past.fresh
         ≡ copied_after acted.deeds (copied_in kept.fresh + moved_by (room_of meaning form machine) command)
     copied_so = copied_past meaning form (caps_made shelled.shell) spares.empty rebuilding acted.deeds left.fresh
-        (λ some. is.fresh ∙ none_before (fresh_none meaning form shelled kept of (fitting.alone some))) empty_made
-        ∙ ap (λ (f : Option Fresh). copied_after acted.deeds (copied_in f)) is.fresh ∙ copied_behind_it
+        (λ some. is.fresh ∙ none_before (fresh_none meaning shelled kept of (fitting.alone some))) empty_made
+        ∙ ap (λ (f : Option Fresh). copied_after acted.deeds (copied_in f)) is.fresh ∙ copied_behind_it is.other
 
     -- so the call's outcome is the machine's
-    pub command_same : (after : ShellOutcome) (now : Kept S) → after ≡ acted → now ≡ past → record {
+    pub command_same : (after : ShellOutcome) (f : StrForm) (now : Kept S) → after ≡ acted → f ≡ shelled.form
+        → now ≡ past → record {
       reply = Reply.Shell after.reply;
       machine = record {
         shell = after.shell;
-        content = state_in meaning form now.held;
+        content = state_in meaning f now.held;
         copied = copied_in now.fresh;
       };
     } ≡ command_done meaning form machine by command
-    command_same after now acts does = grind (arith, told, counted)
+    command_same after f now acts same does = grind (arith, told, counted)
       where
         told : state_in meaning form now.held ≡ content_after meaning form rebuilding acted.deeds gone.state
         told = ap (λ (k : Kept S). state_in meaning form k.held) does ∙ ap (λ (o : Option (Held S)). state_in meaning
@@ -235,10 +240,9 @@ module _ {C R I S : Type 0} (meaning : Meaning C R I S) (form : StrForm) (shelle
         counted = ap (λ (k : Kept S). copied_in k.fresh) does ∙ copied_so
 
     pub kept_behind : (after : ShellOutcome) (view : ShellView) (now : Kept S) → after ≡ acted → now ≡ past → is_some
-        now.held ≡ is_some now.at.primary → view.form ≡ form → view.shell ≡ after.shell → AreOf meaning form view now
-    kept_behind after view now acts does stands same shell = record {
+        now.held ≡ is_some now.at.primary → view.form ≡ shelled.form → view.shell ≡ after.shell → AreOf meaning view now
+    kept_behind after view now acts does stands same shell = of_equal meaning form view now same (record {
       formed = of.formed;
-      shell_form = same;
       places = ap (λ (k : Kept S). k.at) does ∙ ap (places_past rebuilding acted.deeds
           (fresh_of shelled.shell.rebuild)) at_is ∙ sym placing.places ∙ sym (ap (λ (s : Shell). s.instances) there);
       held = subst₂ (IsOf meaning form)
@@ -257,8 +261,8 @@ module _ {C R I S : Type 0} (meaning : Meaning C R I S) (form : StrForm) (shelle
         content = state_in meaning form now.held;
         copied = copied_in now.fresh;
       })) (sym shell) (subst (λ (outcome : CallOutcome R S). IsFilled
-          meaning form outcome.machine) (sym (command_same after now acts does)) filled_behind);
-    }
+          meaning form outcome.machine) (sym (command_same after form now acts refl does)) filled_behind);
+    })
       where
         there : view.shell ≡ acted.shell
         there = shell ∙ ap (λ (outcome : ShellOutcome). outcome.shell) acts
@@ -267,5 +271,5 @@ module _ {C R I S : Type 0} (meaning : Meaning C R I S) (form : StrForm) (shelle
 
     pub admitted_then : MayCommand by command → (after : ShellOutcome) (under : Bool) (fresh : Option CfId)
         → after ≡ acted → under ≡ rebuilding → fresh ≡ fresh_of shelled.shell.rebuild
-        → AreAdmitted meaning form under after.deeds fresh spares left
+        → AreAdmitted meaning under after.deeds fresh spares left
     admitted_then may after under fresh acts of_rebuild of_fresh = grind (arith, admitted)

@@ -1,5 +1,5 @@
 -- COPY behind the marks that its links make.
-use Rattle.struct_machine.proofs.Imports.{arith, ◌≡◌, ℕ, ◌+◌, ◌⊎◌, true, List, ◌++◌, Option, None, Some, IfSome, is_some, ap, ◌∙◌, subst, if◌then◌else◌, min, StrForm, CfId, ConnId, Refusal, ShellReply, Lost, Reply, Room, listed, Machine, CallOutcome, command_done, copied_after, moved_by, room_of, unless, Meaning, fresh_of, Shell, ShellOutcome, failed_outcome, mark_outcome, shell_cause, shell_done, stopped_outcome, itself, ShellView, Rebuild, IsManned, fourth_none, with_copied, Kept, lacking_in, AreOf, copy_reply, judged, machine_of, AreTold, behind_marks, lost_at, marks_in, Mark, ShellCmd, Ask}
+use Rattle.struct_machine.proofs.Imports.{arith, ◌≡◌, ℕ, ◌+◌, ◌⊎◌, true, List, ◌++◌, Option, None, Some, IfSome, is_some, ap, ◌∙◌, subst, if◌then◌else◌, min, StrForm, CfId, ConnId, Refusal, ShellReply, Lost, Reply, Room, listed, Machine, CallOutcome, command_done, copied_after, moved_by, room_of, unless, Meaning, fresh_of, Shell, ShellOutcome, failed_outcome, mark_outcome, shell_cause, shell_done, stopped_outcome, itself, ShellView, Rebuild, IsManned, fourth_none, with_copied, Kept, lacking_in, AreOf, copy_reply, judged, machine_of, room_in, AreTold, behind_marks, lost_at, marks_in, Mark, ShellCmd, Ask}
 use Rattle.struct_machine.proofs.BeforeLaws.{copied_more, nothing_lacks}
 use Rattle.struct_machine.proofs.KeptLaws.{room_left}
 
@@ -90,15 +90,14 @@ module _ {C R I S : Type 0} (meaning : Meaning C R I S) (form : StrForm) (machin
 
 -- ---- once the items are copied
 
-module _ {C R I S : Type 0} (meaning : Meaning C R I S) (form : StrForm) (shelled : ShellView) (kept : Kept S)
-    (of : AreOf meaning form shelled kept) (by : ConnId) (n : ℕ)
-    (accepted : shell_cause form (room_of meaning form (machine_of meaning form shelled kept)) shelled.shell by
-    (ShellCmd.Copy n) ≡ None) (now : ShellView) (after : Kept S) (same : now.form ≡ shelled.form)
+module _ {C R I S : Type 0} (meaning : Meaning C R I S) (shelled : ShellView) (kept : Kept S)
+    (of : AreOf meaning shelled kept) (by : ConnId) (n : ℕ)
+    (accepted : shell_cause shelled.form (room_in meaning shelled kept) shelled.shell by (ShellCmd.Copy n) ≡ None) (now : ShellView) (after : Kept S) (same : now.form ≡ shelled.form)
     (came : now.shell ≡ shelled.shell) (at : after.at ≡ kept.at) (holds : after.held ≡ kept.held)
     (copied : after.fresh ≡ with_copied (min n (lacking_in meaning kept.held kept.fresh)) kept.fresh) where
   abbrev before : Machine S
-  before = machine_of meaning form shelled kept
+  before = machine_of meaning shelled kept
 
-  pub copied_machine : machine_of meaning form now after
-      ≡ record before { copied = before.copied + moved_by (room_of meaning form before) (ShellCmd.Copy n) }
+  pub copied_machine : machine_of meaning now after
+      ≡ record before { copied = before.copied + moved_by (room_in meaning shelled kept) (ShellCmd.Copy n) }
   copied_machine = grind (arith, copied_more, nothing_lacks, room_left)

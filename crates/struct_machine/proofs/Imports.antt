@@ -39,10 +39,10 @@ pub use Rattle.shell_laws.proofs.StepLaws.{done, acting, connect_stage, first_no
 pub use Rattle.struct_machine.specs.Asking.{unless_same}
 pub use Rattle.struct_machine.specs.Changes.{ChangeList, IsUntouched, Names, may_be_any}
 pub use Rattle.struct_machine.specs.Content.{lacking_in, Kept, AreStanding, IsHeldAt, begun_anew, kept_of, nothing_kept}
-pub use Rattle.struct_machine.specs.Deeds.{fresh_before, makes_empty, makes_second, Spares, AreSpares, AreAdmitted, MayMake, MayAdd, kept_past, places_past, held_past, HasNone, at_left, fresh_past, held_back, at_switched}
-pub use Rattle.struct_machine.specs.Kept.{copied_in, caps_of, state_in, AreOf, IsOf, machine_of, left_in, copy_reply, judged, command_looks, room_seen, is_copying, items_named}
+pub use Rattle.struct_machine.specs.Deeds.{fresh_left, makes_empty, makes_second, Spares, AreSpares, AreAdmitted, MayMake, MayAdd, kept_past, places_past, held_past, HasNone, at_left, fresh_past, held_back, at_switched}
+pub use Rattle.struct_machine.specs.Kept.{copied_in, caps_of, state_in, AreOf, IsOf, machine_of, room_in, left_in, copy_reply, judged, command_looks, room_seen, is_copying, items_named}
 pub use Rattle.struct_machine.specs.Losses.{IsEnding, kept_without}
 pub use Rattle.struct_machine.specs.Marks.{is_failure}
-pub use Rattle.struct_machine.specs.Turns.{asks_in, AreTold, behind_marks, lost_at, marks_in, AreMarked, IsJudgedTurn, content_asks_of, copy_asks_of, IsTurn}
+pub use Rattle.struct_machine.specs.Turns.{asks_in, AreTold, TellMore, behind_marks, lost_at, marks_in, AreMarked, IsJudgedTurn, content_asks_of, copy_asks_of, IsTurn}
 pub use Rattle.struct_machine.specs.declared.{asking.Asked.Asked, marks.Mark.Mark}
 pub use Rattle.engine_api.proofs.CauseLaws.{none_hold}

@@ -1,5 +1,5 @@
 -- A shell and instances of one form.
-use Rattle.struct_machine.proofs.Imports.{CfId, Mailboxes, Machine, IsFilled, ◌≡◌, true, List, Option, None, Result, option_map, inl, refl, sym, ap, ◌∙◌, subst, arith, is_some, Letter, StrForm, ConnId, Instances, CallOutcome, room_of, content_done, content_reply, Meaning, Held, Answer, answer, fresh_of, Shell, opening_shell, content_cause, if_failed, if_lost, unless_active, with_posted, letters_by, ShellView, Fresh, Rebuild, actives, IsForm, Refusal, fresh_caps, IsManned, none_fresh_then, not_so, third_none, manned-opening, active_member, active_of, first_none, somebody_member, Kept, nothing_kept, lacking_in, AreOf, machine_of, caps_of}
+use Rattle.struct_machine.proofs.Imports.{CfId, Mailboxes, Machine, IsFilled, ◌≡◌, true, List, Option, None, Result, option_map, inl, refl, sym, ap, ◌∙◌, subst, arith, is_some, Letter, StrForm, ConnId, Instances, CallOutcome, content_done, content_reply, Meaning, Held, Answer, answer, fresh_of, Shell, opening_shell, content_cause, if_failed, if_lost, unless_active, with_posted, letters_by, ShellView, Fresh, Rebuild, actives, IsForm, Refusal, fresh_caps, IsManned, none_fresh_then, not_so, third_none, manned-opening, active_member, active_of, first_none, somebody_member, Kept, nothing_kept, lacking_in, AreOf, machine_of, room_in, caps_of}
 
 -- ---- letters, and what was told of a loss: the laws of rebuilds speak of neither
 
@@ -33,8 +33,8 @@ content_stands shell by manned accepted = manned.primary (somebody_member
     by (actives shell.conns) (grind (arith, active_member, active_of, first_none))) (not_so shell.failed
     Refusal.StructureFailed (third_none (unless_active shell by) (if_lost shell) (if_failed shell) _ accepted))
 
-module _ {C R I S : Type 0} (meaning : Meaning C R I S) (form : StrForm)
-    (shelled : ShellView) (kept : Kept S) (of : AreOf meaning form shelled kept) where
+module _ {C R I S : Type 0} (meaning : Meaning C R I S) (shelled : ShellView) (kept : Kept S)
+    (of : AreOf meaning shelled kept) where
   pub fresh_none : fresh_of shelled.shell.rebuild ≡ None → kept.fresh ≡ None
   fresh_none none = grind (arith, caps_none)
 
@@ -51,17 +51,22 @@ module _ {C R I S : Type 0} (meaning : Meaning C R I S) (form : StrForm)
   pub fresh_under : is_some (fresh_of shelled.shell.rebuild) ≡ true → is_some shelled.shell.rebuild ≡ true
   fresh_under stands = grind arith
 
-  pub room_left : lacking_in meaning kept.held kept.fresh ≡ (room_of meaning form (machine_of meaning form shelled
-      kept)).left
+  pub room_left : lacking_in meaning kept.held kept.fresh ≡ (room_in meaning shelled kept).left
   room_left = grind (arith, rebuild_held, fresh_under, same_standing)
 
   -- no new instance stands where a command on the content is accepted, and a primary does
   pub content_alone : (by : ConnId) → content_cause shelled.shell by ≡ None → kept.fresh ≡ None
   content_alone by accepted = fresh_none (none_fresh_then shelled.shell by of.manned accepted)
 
+-- what is of one form is of an equal one
+pub of_equal : {C R I S : Type 0} (meaning : Meaning C R I S) (form : StrForm) (shelled : ShellView) (kept : Kept S)
+    → shelled.form ≡ form → AreOf meaning (record shelled { form = form }) kept → AreOf meaning shelled kept
+of_equal meaning form shelled kept same of =
+    subst (λ (f : StrForm). AreOf meaning (record shelled { form = f }) kept) (sym same) of
+
 -- ---- after a command on the content, and the letters that it sent
 
-module _ {C R I S : Type 0} (meaning : Meaning C R I S) (form : StrForm) where
+module _ {C R I S : Type 0} (meaning : Meaning C R I S) where
   -- what the instances hold then, and the reply
   abbrev pub IsAnswered : ConnId → C → Result R Refusal → (was now : Option (Held S)) → Type 0
   IsAnswered by command reply was now = Path (Option (Answer R S))
@@ -73,32 +78,31 @@ module _ {C R I S : Type 0} (meaning : Meaning C R I S) (form : StrForm) where
   answered_some by command reply was now is = grind arith
 
   pub kept_content : (shelled now : ShellView) (kept after : Kept S) (letters : List Letter) (by : ConnId)
-      (command : C) (reply : Result R Refusal) → AreOf meaning form shelled kept → now.form ≡ shelled.form
+      (command : C) (reply : Result R Refusal) → AreOf meaning shelled kept → now.form ≡ shelled.form
       → now.shell ≡ with_posted letters shelled.shell → IsAnswered by command reply kept.held after.held
-      → after.at ≡ kept.at → kept.fresh ≡ None → after.fresh ≡ None → AreOf meaning form now after
+      → after.at ≡ kept.at → kept.fresh ≡ None → after.fresh ≡ None → AreOf meaning now after
   kept_content shelled now kept after letters by command reply of same posted is at alone none =
       grind (arith, answered_some, manned-told)
 
   -- the call's outcome is the machine's
   pub content_same : (shelled now : ShellView) (kept after : Kept S) (letters : List Letter) (by : ConnId)
-      (command : C) (reply : Result R Refusal) → AreOf meaning form shelled kept → is_some kept.held ≡ true
-      → now.shell ≡ with_posted letters shelled.shell → letters ≡ letters_by meaning by command kept.held
+      (command : C) (reply : Result R Refusal) → AreOf meaning shelled kept → is_some kept.held ≡ true
+      → now.form ≡ shelled.form → now.shell ≡ with_posted letters shelled.shell → letters ≡ letters_by meaning by command kept.held
       → IsAnswered by command reply kept.held after.held → kept.fresh ≡ None → after.fresh ≡ None
-      → Path (CallOutcome R S) (record { reply = content_reply reply; machine = machine_of meaning form now after })
-      (content_done meaning form (machine_of meaning form shelled kept) by command)
-  content_same shelled now kept after letters by command reply of stands posted sent is alone none = grind arith
+      → Path (CallOutcome R S) (record { reply = content_reply reply; machine = machine_of meaning now after })
+      (content_done meaning shelled.form (machine_of meaning shelled kept) by command)
+  content_same shelled now kept after letters by command reply of stands same posted sent is alone none = grind arith
 
   -- before the first call
-  pub kept_opening : (shelled : ShellView) (kept : Kept S) → IsForm form → shelled.form ≡ form
-      → shelled.shell ≡ opening_shell form → kept ≡ nothing_kept → AreOf meaning form shelled kept
-  kept_opening shelled kept formed same opens nothing = subst (AreOf meaning form shelled) (sym nothing) (record {
+  pub kept_opening : (shelled : ShellView) (kept : Kept S) → IsForm shelled.form
+      → shelled.shell ≡ opening_shell shelled.form → kept ≡ nothing_kept → AreOf meaning shelled kept
+  kept_opening shelled kept formed opens nothing = subst (AreOf meaning shelled) (sym nothing) (record {
     formed = formed;
-    shell_form = same;
     places = sym (ap (λ (shell : Shell). shell.instances) opens);
     held = tt;
     fresh = rw opens refl;
     fresh_at = rw opens tt;
     stands = refl;
-    manned = subst IsManned (sym opens) (manned-opening meaning form);
+    manned = subst IsManned (sym opens) (manned-opening meaning shelled.form);
     filled = record { filling = inl refl; within = omega arith };
   })

@@ -1,5 +1,6 @@
 -- What a lost facility makes of shell and instances.
 use Rattle.struct_machine.proofs.Imports.{arith, ◌≡◌, true, false, Some, refl, sym, ap, ◌∙◌, subst, is_some, StrForm, CfId, Deeds, Machine, Meaning, Shell, ShellOutcome, loss_outcome, mark_outcome, no_deeds, reply_as, ShellView, LostAs, fresh_caps, IsManned, capacities-loss, filled-loss, loss-cases, manned-loss, rebuild-loss, is_failure, Kept, at_left, AreOf, IsOf, machine_of, caps_of, IsEnding, kept_without, lost_at}
+use Rattle.struct_machine.proofs.KeptLaws.{of_equal}
 use Rattle.struct_machine.proofs.InstanceLaws.{IsPlacing, IsDropping, loss_places, mark_told}
 
 -- the deeds of a loss that is told so
@@ -8,11 +9,14 @@ deeds_as (LostAs.Simplex left) cf = record no_deeds { drop_at = Some cf }
 deeds_as (LostAs.Stopped number) cf = record no_deeds { drop_fresh = true }
 deeds_as LostAs.FailedNow cf = record no_deeds { drop_all = true }
 
-module _ {C R I S : Type 0} (meaning : Meaning C R I S) (form : StrForm) (shelled : ShellView) (kept : Kept S)
-    (of : AreOf meaning form shelled kept) (cf : CfId) (how : LostAs)
-    (tells : reply_as how ≡ (mark_outcome form cf shelled.shell).reply) where
+module _ {C R I S : Type 0} (meaning : Meaning C R I S) (shelled : ShellView) (kept : Kept S)
+    (of : AreOf meaning shelled kept) (cf : CfId) (how : LostAs)
+    (tells : reply_as how ≡ (mark_outcome shelled.form cf shelled.shell).reply) where
+  abbrev form : StrForm
+  form = shelled.form
+
   abbrev machine : Machine S
-  machine = machine_of meaning form shelled kept
+  machine = machine_of meaning shelled kept
 
   abbrev acted : ShellOutcome
   acted = mark_outcome form cf shelled.shell
@@ -27,23 +31,22 @@ module _ {C R I S : Type 0} (meaning : Meaning C R I S) (form : StrForm) (shelle
   ending = grind (arith, IsDropping)
 
   -- the machine is the one behind the mark
-  pub lost_same : (now : ShellView) (after : Kept S) → now.shell ≡ acted.shell → after ≡ kept_without how cf kept
-      → machine_of meaning form now after ≡ lost_at meaning form machine cf
-  lost_same now after came ends = grind (arith, deeds_so)
+  pub lost_same : (now : ShellView) (after : Kept S) → now.form ≡ shelled.form → now.shell ≡ acted.shell
+      → after ≡ kept_without how cf kept → machine_of meaning now after ≡ lost_at meaning shelled.form machine cf
+  lost_same now after same came ends = grind (arith, deeds_so)
 
   pub kept_lost : (now : ShellView) (after : Kept S) → now.form ≡ shelled.form → now.shell ≡ acted.shell →
-      after ≡ kept_without how cf kept → is_some after.held ≡ is_some after.at.primary → AreOf meaning form now after
-  kept_lost now after same came ends stands = record {
+      after ≡ kept_without how cf kept → is_some after.held ≡ is_some after.at.primary → AreOf meaning now after
+  kept_lost now after same came ends stands = of_equal meaning form now after same (record {
     formed = of.formed;
-    shell_form = same ∙ of.shell_form;
     places = ap (λ (k : Kept S). k.at) ends ∙ places_so how deeds_so ∙ sym (ap (λ (s : Shell). s.instances) came);
     held = grind (arith, held_so, deeds_so);
     fresh = grind (arith, fresh_so, deeds_so);
     fresh_at = grind (arith, rebuild-loss, mark_told);
     stands = stands;
     manned = subst IsManned (sym came) (manned-loss meaning form machine cf of.manned);
-    filled = grind (arith, lost_same, filled-loss);
-  }
+    filled = grind (arith, lost_same (record now { form = form }) after refl came ends, filled-loss);
+  })
     where
       places_so : (how : LostAs) → acted.deeds ≡ deeds_as how cf → (kept_without how cf kept).at ≡ acted.shell.instances
       places_so (LostAs.Simplex left) is = ap (at_left cf) of.places ∙ sym (placing.places ∙ rw is refl)

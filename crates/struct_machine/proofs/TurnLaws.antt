@@ -1,5 +1,5 @@
 -- A call with the links that it asks, put together.
-use Rattle.struct_machine.proofs.Imports.{arith, ◌≡◌, ℕ, true, false, List, [], ◌∷◌, ◌++◌, Option, None, Some, Result, IfOk, fold-append, Links, AreAsked, StrForm, CfId, ConnId, Refusal, ShellCmd, Lost, Ask, Reply, Asks, has, links_asked, listed, marks_of, answers_to, Machine, CallOutcome, loss_step, room_of, Meaning, Shell, call_cause, content_cause, reply_as, Mark, is_copying, items_named, judged, AreMarked, AreTold, IsJudgedTurn, content_asks_of, marks_in, behind_marks, lost_at}
+use Rattle.struct_machine.proofs.Imports.{arith, subst, ◌≡◌, ℕ, true, false, List, [], ◌∷◌, ◌++◌, Option, None, Some, Result, IfOk, fold-append, Links, AreAsked, StrForm, CfId, ConnId, Refusal, ShellCmd, Lost, Ask, Reply, Asks, has, links_asked, listed, marks_of, answers_to, Machine, CallOutcome, loss_step, room_of, Meaning, Shell, call_cause, content_cause, reply_as, Mark, is_copying, items_named, judged, AreMarked, AreTold, TellMore, IsJudgedTurn, content_asks_of, marks_in, behind_marks, lost_at}
 
 module _ {C R I S : Type 0} (meaning : Meaning C R I S) (form : StrForm) where
   -- one mark more
@@ -12,6 +12,16 @@ module _ {C R I S : Type 0} (meaning : Meaning C R I S) (form : StrForm) where
   told_more start machine (cf ∷ cfs) [] mark behind tells told = absurd told
   told_more start machine (cf ∷ cfs) (m ∷ marks) mark behind tells told =
       (told.0, told.1, told_more (lost_at meaning form start cf) machine cfs marks mark behind tells told.2)
+
+  -- what is said of marks by an equal form
+  pub behind_equal : (equal : StrForm) (start machine one : Machine S) (cfs : List CfId) → equal ≡ form
+      → start ≡ machine → one ≡ behind_marks meaning equal start cfs → one ≡ behind_marks meaning form machine cfs
+  behind_equal equal start machine one cfs same from is = grind arith
+
+  pub told_equal : (equal : StrForm) (machine : Machine S) (before : List Mark) (cfs : List CfId) (marks : List Mark)
+      → equal ≡ form → TellMore meaning equal machine before cfs marks → TellMore meaning form machine before cfs marks
+  told_equal equal machine before cfs marks same told =
+      subst (λ (f : StrForm). TellMore meaning f machine before cfs marks) same told
 
   -- the marks of both, one after the other
   pub behind_both : (machine one two : Machine S) (first second : Option CfId)

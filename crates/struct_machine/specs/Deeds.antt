@@ -1,5 +1,5 @@
 -- What deeds do to the instances of a structure, and to a rebuild's new one.
-use Rattle.std.specs.Prelude.{◌≡◌, ◌≢◌, ◌||◌, ◌&&◌, not, min, Bool, true, false, is_some, if◌then◌else◌, IfSome, Option, None, Some, option_map}
+use Rattle.std.specs.Prelude.{◌≡◌, ◌≢◌, ◌||◌, ◌&&◌, not, Bool, true, false, is_some, if◌then◌else◌, IfSome, Option, None, Some, option_map}
 use Rattle.cf_types.specs.declared.forms.StrForm.{StrForm}
 use Rattle.cf_types.specs.declared.numbers.CfId.{CfId}
 use Rattle.cf_types.specs.declared.numbers.ConnId.{ConnId}
@@ -13,7 +13,7 @@ use Rattle.engine_api.specs.Meaning.{Meaning, Held, new_held, items_of, with_bac
 use Rattle.engine_api.specs.Rebuilds.{fresh_of}
 use Rattle.engine_api.specs.Shapes.{shape_of}
 use Rattle.engine_api.specs.Shell.{Shell, Leaver, leaver, caps_made}
-use Rattle.rebuild_copy.specs.Filling.{Fresh, emptied, switched, with_copied}
+use Rattle.rebuild_copy.specs.Filling.{Fresh, emptied, switched}
 use Rattle.struct_machine.specs.Content.{Kept, new_fresh, lacking_in}
 
 -- ---- engines that are made before a command acts
@@ -122,11 +122,6 @@ pub record MayDrop {S : Type 0} (kept : Kept S) (cf : CfId) : Type 0 where
   pub apart : is_at cf kept.at.primary ≡ true → is_at cf kept.at.secondary ≡ false
 
 module _ {C R I S : Type 0} (meaning : Meaning C R I S) where
-  -- the new instance before a command acts: COPY's items are in it, or somebody departed
-  abbrev pub fresh_before : Shell → ConnId → ShellCmd → Option (Held S) → Option Fresh → Option Fresh
-  fresh_before shell by (cmd.Copy n) held fresh = with_copied (min n (lacking_in meaning held fresh)) fresh
-  fresh_before shell by command held fresh = fresh_left shell (leaver shell by command) fresh
-
   -- a failed connection is taken up again
   abbrev pub held_back : Option ConnId → Option (Held S) → Option (Held S)
   held_back None held = held
@@ -152,17 +147,16 @@ module _ {C R I S : Type 0} (meaning : Meaning C R I S) where
       }
 
   -- an empty instance may be made in this facility: a rebuild's new one, or the primary
-  pub record MayMake (form : StrForm) (rebuilding : Bool) (kept : Kept S) (empty : Option (Held S)) (cf : CfId) :
-      Type 0 where
+  pub record MayMake (rebuilding : Bool) (kept : Kept S) (empty : Option (Held S)) (cf : CfId) : Type 0 where
     pub place : IsFacility cf
     pub there : is_some empty ≡ true
-    pub new : IfSome empty (λ held. held ≡ new_held meaning (shape_of form) held.caps)
+    pub new : IfSome empty (λ held. held ≡ new_held meaning held.shape held.caps)
     pub alone : kept.fresh ≡ None
     pub bare : rebuilding ≡ false → kept.at.primary ≡ None
     pub stands : rebuilding ≡ true → is_some kept.held ≡ true
-    pub shape : rebuilding ≡ true → IfSome kept.held (λ held. held.shape ≡ shape_of form)
+    pub shape : rebuilding ≡ true → IfSome kept.held (λ held. IfSome empty (λ new. new.shape ≡ held.shape))
     pub room : rebuilding ≡ true → IfSome kept.held (λ held. IfSome empty (λ new.
-        Fits form.kind (meaning.need (items_of meaning held)) new.caps))
+        Fits held.shape.kind (meaning.need (items_of meaning held)) new.caps))
 
   -- the new one may take the primary's place
   pub record MaySwitch (fresh : Option CfId) (kept : Kept S) : Type 0 where
@@ -174,10 +168,10 @@ module _ {C R I S : Type 0} (meaning : Meaning C R I S) where
 
   -- deeds that instances like these admit: a pair is changed, or the new one takes the primary's place, where nothing
   -- else is done
-  pub record AreAdmitted (form : StrForm) (rebuilding : Bool) (deeds : Deeds) (fresh : Option CfId)
-      (spares : Spares S) (kept : Kept S) : Type 0 where
+  pub record AreAdmitted (rebuilding : Bool) (deeds : Deeds) (fresh : Option CfId) (spares : Spares S)
+      (kept : Kept S) : Type 0 where
     pub back : IfSome deeds.back (λ conn. IsCaller conn × (kept.fresh ≡ None) × (rebuilding ≡ false))
-    pub make : IfSome deeds.make (MayMake form rebuilding kept spares.empty)
+    pub make : IfSome deeds.make (MayMake rebuilding kept spares.empty)
     pub second : IfSome deeds.second (λ cf. MayAdd kept spares.second cf × HasNone deeds.back × HasNone deeds.make)
     pub dropped : IfSome deeds.drop_at (λ cf.
         MayDrop kept cf × HasNone deeds.back × HasNone deeds.make × HasNone deeds.second)

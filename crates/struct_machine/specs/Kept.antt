@@ -8,6 +8,7 @@ use Rattle.cf_types.specs.declared.shell_commands.ShellCmd.TheVariants as cmd
 use Rattle.cf_types.specs.declared.refusals.Refusal.{Refusal}
 use Rattle.cf_types.specs.declared.shell_commands.ShellReply.{ShellReply}
 use Rattle.cf_types.specs.Forms.{IsForm, IsFacility}
+use Rattle.cf_types.specs.Gains.{Bits}
 use Rattle.engine_api.specs.declared.asks.Reply.{Reply}
 use Rattle.engine_api.specs.declared.asks.Reply.TheVariants as reply
 use Rattle.engine_api.specs.declared.asks.Ask.{Ask}
@@ -82,29 +83,36 @@ module _ {C R I S : Type 0} (meaning : Meaning C R I S) where
   state_in form None = meaning.empty (shape_of form)
   state_in form (Some held) = held.state
 
+  -- its vector bits
+  abbrev pub bits_in : StrForm → Option (Held S) → Bits
+  bits_in form held = meaning.stands (state_in form held)
+
   -- the machine of a shell and of the instances
-  abbrev pub machine_of : StrForm → ShellView → Kept S → Machine S
-  machine_of form shelled kept =
-      record { shell = shelled.shell; content = state_in form kept.held; copied = copied_in kept.fresh }
+  abbrev pub machine_of : ShellView → Kept S → Machine S
+  machine_of shelled kept =
+      record { shell = shelled.shell; content = state_in shelled.form kept.held; copied = copied_in kept.fresh }
+
+  -- what the instances know
+  abbrev pub room_in : ShellView → Kept S → Room
+  room_in shelled kept = room_of meaning shelled.form (machine_of shelled kept)
 
   -- who departs by a common command leaves the content first
-  abbrev pub gone_by : StrForm → ShellView → Kept S → ConnId → ShellCmd → Departure S
-  gone_by form shelled kept by command =
-      departure_from meaning form (leaver shelled.shell by command) (machine_of form shelled kept)
+  abbrev pub gone_by : ShellView → Kept S → ConnId → ShellCmd → Departure S
+  gone_by shelled kept by command =
+      departure_from meaning shelled.form (leaver shelled.shell by command) (machine_of shelled kept)
 
   -- what an instance holds is of the form's shape, and of this capacity
   abbrev pub IsOf : StrForm → Caps → Option (Held S) → Type 0
   IsOf form caps None = Unit {0}
   IsOf form caps (Some held) = (held.shape ≡ shape_of form) × (held.caps ≡ caps)
 
-  -- a shell and instances are of one form: they stand where the shell says so, at its capacities
-  pub record AreOf (form : StrForm) (shelled : ShellView) (kept : Kept S) : Type 0 where
-    pub formed : IsForm form
-    pub shell_form : shelled.form ≡ form
+  -- instances are of a shell's form: they stand where the shell says so, at its capacities
+  pub record AreOf (shelled : ShellView) (kept : Kept S) : Type 0 where
+    pub formed : IsForm shelled.form
     pub places : kept.at ≡ shelled.shell.instances
-    pub held : IsOf form shelled.shell.caps kept.held
+    pub held : IsOf shelled.form shelled.shell.caps kept.held
     pub fresh : caps_of kept.fresh ≡ fresh_caps shelled.shell.rebuild
     pub fresh_at : IfSome (fresh_of shelled.shell.rebuild) IsFacility
     pub stands : is_some kept.held ≡ is_some kept.at.primary
     pub manned : IsManned shelled.shell
-    pub filled : IsFilled meaning form (machine_of form shelled kept)
+    pub filled : IsFilled meaning shelled.form (machine_of shelled kept)

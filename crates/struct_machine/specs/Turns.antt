@@ -64,6 +64,12 @@ module _ {C R I S : Type 0} (meaning : Meaning C R I S) (form : StrForm) where
   abbrev pub LeadTo : Machine S → List CfId → List Mark → Machine S → Type 0
   LeadTo start cfs marks machine = (machine ≡ behind_marks start cfs) × AreTold start cfs marks
 
+  -- where marks have led to a machine, those behind tell of these facilities too
+  abbrev pub TellMore : Machine S → (before : List Mark) → List CfId → List Mark → Type 0
+  TellMore machine before cfs marks =
+      (start : Machine S) (earlier : List CfId) → LeadTo start earlier before machine
+      → AreTold start (earlier ++ cfs) marks
+
   -- the facilities that a call marks, where links answer so
   abbrev pub lost_by : (CfId → Bool) → Machine S → ConnId → Ask C → List CfId
   lost_by down machine by asked = marks_of down (links_asked meaning form machine by asked)
@@ -100,12 +106,12 @@ pub record AreMarked {C R I S L : Type 0} (calls : L → Option ℕ) (downs : L 
   pub links : AreAsked calls downs faults (answers_to down asks) before after
 
 -- a structure in its parts
-abbrev pub structure_of : {C R I S E L : Type 0} → Meaning C R I S → (E → Held S) → StrForm → ShellView
-    → ContentView E L → StructureView S L
-structure_of meaning holds form shelled content =
+abbrev pub structure_of : {C R I S E L : Type 0} → Meaning C R I S → (E → Held S) → ShellView → ContentView E L
+    → StructureView S L
+structure_of meaning holds shelled content =
     record {
-      form = form;
-      machine = machine_of meaning form shelled (kept_of holds content);
+      form = shelled.form;
+      machine = machine_of meaning shelled (kept_of holds content);
       links = content.pair.links;
     }
 

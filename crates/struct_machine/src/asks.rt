@@ -9,45 +9,41 @@ ghost use Rattle.struct_machine.specs.Turns.{asks_in};
 
 use crate::asking::Asked;
 use crate::content::Content;
-use crate::doing::{cause_of, is_copying, looks_at_need, room_of};
-use cf_types::{ConnId, StrForm};
+use crate::doing::{is_copying, judge};
+use cf_types::ConnId;
 use duplex_pair::links::Link;
 use engine_api::{Ask, Engine};
 use plex_shell::Shell;
 
 /// The links that a call would ask: none where it is refused.
 pub(crate) fn asks<E: Engine, L: Link>(
-    form: &StrForm,
     shell: &Shell,
     content: &Content<E, L>,
     by: ConnId,
     ask: &Ask<E::Cmd>,
 ) -> Asked
     requires may { MayAsk by ask.now }
-    requires of_form { AreOf E.meaning form.now shell.now (kept_of E.held content.now) }
-    ensures asks { asks_in result ≡ links_asked E.meaning form.now
-        (machine_of E.meaning form.now shell.now (kept_of E.held content.now)) by ask.now }
+    requires of_form { AreOf E.meaning shell.now (kept_of E.held content.now) }
+    ensures asks { asks_in result ≡ links_asked E.meaning shell.now.form
+        (machine_of E.meaning shell.now (kept_of E.held content.now)) by ask.now }
     ensures places { All IsFacility (asks_in result).links }
 {
-    let room = room_of(form, shell, content, looks_at_need(ask));
-    match cause_of(form, shell, content, by, ask, &room) {
-        Some(_) => Asked::both(None, None, false),
-        None => asks_accepted(form, shell, content, ask),
+    match judge(shell, content, by, ask) {
+        (_, Some(_)) => Asked::both(None, None, false),
+        (_, None) => asks_accepted(shell, content, ask),
     }
 }
 
 // Those that a call would ask that isn't refused.
 fn asks_accepted<E: Engine, L: Link>(
-    form: &StrForm,
     shell: &Shell,
     content: &Content<E, L>,
     ask: &Ask<E::Cmd>,
 ) -> Asked
-    requires of_form { AreOf E.meaning form.now shell.now (kept_of E.held content.now) }
+    requires of_form { AreOf E.meaning shell.now (kept_of E.held content.now) }
     ensures asks { asks_in result ≡ asked_unless None (asks_of shell.now.shell ask.now) }
     ensures places { All IsFacility (asks_in result).links }
 {
-    let _ = form;
     let (first, second) = content.places();
     match ask {
         Ask::Shell(cmd) => {

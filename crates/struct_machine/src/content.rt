@@ -124,6 +124,19 @@ impl<E: Engine, L: Link> Content<E, L> {
         self.pair.ask_at(cf).is_err()
     }
 
+    /// The primary, where one stands.
+    pub(crate) fn first(&self) -> Option<&E>
+        ensures { option_map (λ engine. E.held engine.now) result
+            ≡ content_of E.held self.now.pair }
+    {
+        let (primary, _) = self.pair.places();
+        if primary.is_some() {
+            Some(self.pair.primary())
+        } else {
+            None
+        }
+    }
+
     // The primary.
     fn primary(&self) -> &E
         requires stands { is_some (content_of E.held self.now.pair) ≡ true }

@@ -1,6 +1,6 @@
 //! What deeds do to a structure's instances.
 ghost use Rattle.std.specs.Prelude.{◌≡◌, ◌&&◌, ◌||◌, IfSome, IfOk, IsTrue, None, Some, is_some, true, false, not, option_map, if◌then◌else◌};
-ghost use Rattle.cf_types.specs.Forms.{IsForm, IsCaller, IsCapacity};
+ghost use Rattle.cf_types.specs.Forms.{IsCaller, IsCapacity};
 ghost use Rattle.duplex_pair.specs.Pairs.{instances_of, content_of};
 ghost use Rattle.struct_machine.specs.Content.{kept_of};
 ghost use Rattle.struct_machine.specs.Deeds.{Spares, AreSpares, AreAdmitted, MayMake, MayAdd, MayDrop, MaySwitch, HasNone, kept_past, held_back, held_made, held_switched, at_made, at_second, at_dropped, at_switched, fresh_made, fresh_ended, makes_empty, makes_second};
@@ -9,7 +9,7 @@ ghost use Rattle.engine_api.specs.Shapes.{shape_of};
 ghost use Rattle.engine_api.specs.Shell.{caps_made};
 
 use crate::content::Content;
-use cf_types::{CfId, ConnId, NoMemory, ShellCmd, StrForm};
+use cf_types::{CfId, ConnId, NoMemory, ShellCmd};
 use duplex_pair::links::Link;
 use engine_api::{Deeds, Engine};
 use plex_shell::Shell;
@@ -26,20 +26,20 @@ pub(crate) struct Made<E> {
 /// Makes the engines that a command needs, before it acts.
 pub(crate) fn make_engines<E: Engine, L: Link>(
     alloc: Global,
-    form: &StrForm,
     shell: &Shell,
     content: &Content<E, L>,
     cmd: &ShellCmd,
 ) -> Result<Made<E>, NoMemory>
-    requires form { IsForm form.now }
-    requires kind { IsTrue (E.is_kind form.now.kind) }
+    requires kind { IsTrue (E.is_kind shell.now.form.kind) }
     requires stands { makes_second cmd.now ≡ true
         → is_some (content_of E.held content.now.pair) ≡ true }
-    ensures { IfOk result (λ made. AreSpares E.meaning form.now shell.now.shell cmd.now
+    ensures kind { IfOk result (λ made. IfSome made.empty
+        (λ engine. IsTrue (E.is_kind (E.held engine).shape.kind))) }
+    ensures spares { IfOk result (λ made. AreSpares E.meaning shell.now.form shell.now.shell cmd.now
         (content_of E.held content.now.pair)
         (record { empty = option_map E.held made.empty; second = option_map E.held made.second })) }
 {
-    let empty = make_empty(alloc, form, shell, cmd)?;
+    let empty = make_empty(alloc, shell, cmd)?;
     let second = make_second(alloc, content, cmd)?;
     Ok(Made { empty, second })
 }
@@ -47,18 +47,18 @@ pub(crate) fn make_engines<E: Engine, L: Link>(
 // An empty engine, where the command may make an instance.
 fn make_empty<E: Engine>(
     alloc: Global,
-    form: &StrForm,
     shell: &Shell,
     cmd: &ShellCmd,
 ) -> Result<Option<E>, NoMemory>
-    requires form { IsForm form.now }
-    requires kind { IsTrue (E.is_kind form.now.kind) }
-    ensures { IfOk result (λ made. makes_empty shell.now.shell cmd.now ≡ true
+    requires { IsTrue (E.is_kind shell.now.form.kind) }
+    ensures kind { IfOk result (λ made. IfSome made
+        (λ engine. IsTrue (E.is_kind (E.held engine).shape.kind))) }
+    ensures empty { IfOk result (λ made. makes_empty shell.now.shell cmd.now ≡ true
         → option_map E.held made
-        ≡ Some (new_held E.meaning (shape_of form.now) (caps_made shell.now.shell))) }
+        ≡ Some (new_held E.meaning (shape_of shell.now.form) (caps_made shell.now.shell))) }
 {
     if makes_empty(shell, cmd) {
-        let engine = E::empty(alloc, form, shell.caps())?;
+        let engine = E::empty(alloc, shell.form(), shell.caps())?;
         Ok(Some(engine))
     } else {
         Ok(None)
@@ -100,15 +100,14 @@ fn make_second<E: Engine, L: Link>(
 /// What a command does to the instances, in the order of the deeds. A rebuild's new instance stands
 /// in the facility `fresh`.
 pub(crate) fn do_deeds<E: Engine, L: Link>(
-    form: &StrForm,
     content: &mut Content<E, L>,
     made: Made<E>,
     deeds: Deeds,
     rebuilding: bool,
     fresh: Option<CfId>,
 )
-    requires kind { IsTrue (E.is_kind form.now.kind) }
-    requires admitted { AreAdmitted E.meaning form.now rebuilding deeds fresh
+    requires kind { IfSome made.empty (λ engine. IsTrue (E.is_kind (E.held engine).shape.kind)) }
+    requires admitted { AreAdmitted E.meaning rebuilding deeds fresh
         (record { empty = option_map E.held made.empty; second = option_map E.held made.second })
         (kept_of E.held content.old) }
     ensures kept { kept_of E.held content.new ≡ kept_past E.meaning rebuilding deeds fresh
@@ -122,7 +121,7 @@ pub(crate) fn do_deeds<E: Engine, L: Link>(
     }
     let Made { empty, second } = made;
     take_back(content, deeds.back);
-    make_instance(form, content, empty, deeds.make, rebuilding);
+    make_instance(content, empty, deeds.make, rebuilding);
     change_pair(content, second, deeds.second, deeds.drop_at);
     end_fresh(content, deeds, fresh);
 }
@@ -143,15 +142,14 @@ fn take_back<E: Engine, L: Link>(content: &mut Content<E, L>, back: Option<ConnI
 
 // An empty instance is made: a rebuild's new one, or the primary.
 fn make_instance<E: Engine, L: Link>(
-    form: &StrForm,
     content: &mut Content<E, L>,
     empty: Option<E>,
     make: Option<CfId>,
     rebuilding: bool,
 )
-    requires kind { IsTrue (E.is_kind form.now.kind) }
-    requires may { IfSome make (MayMake E.meaning form.now rebuilding
-        (kept_of E.held content.old) (option_map E.held empty)) }
+    requires kind { IfSome empty (λ engine. IsTrue (E.is_kind (E.held engine).shape.kind)) }
+    requires may { IfSome make (MayMake E.meaning rebuilding (kept_of E.held content.old)
+        (option_map E.held empty)) }
     ensures held { content_of E.held content.new.pair ≡ held_made rebuilding make
         (option_map E.held empty) (content_of E.held content.old.pair) }
     ensures places { instances_of content.new.pair
@@ -160,7 +158,6 @@ fn make_instance<E: Engine, L: Link>(
         ≡ fresh_made rebuilding make (option_map E.held empty) content.old.fresh }
     ensures links { content.new.pair.links ≡ content.old.pair.links }
 {
-    let _ = form;
     if let Some(at) = make {
         match empty {
             Some(engine) if rebuilding => content.make(engine),

@@ -1,18 +1,18 @@
-//! What comes before a command: a departure from the content, or the next items of a copy.
-ghost use Rattle.std.specs.Prelude.{◌≡◌, ◌≤◌, ◌+◌, [], min, is_some, true, OnOk, OnErr, length, option_map};
+//! What comes before a command: a departure from the content.
+ghost use Rattle.std.specs.Prelude.{◌≡◌, ◌≤◌, ◌+◌, [], is_some, true, OnOk, OnErr, length, option_map};
 ghost use Rattle.cf_types.specs.Forms.{IsCaller};
 ghost use Rattle.cf_types.specs.Gains.{Gains};
 ghost use Rattle.duplex_pair.specs.Pairs.{instances_of, content_of, bits_of, letters_on_leave};
 ghost use Rattle.engine_api.specs.Asking.{MayCommand};
 ghost use Rattle.engine_api.specs.Meaning.{with_departure};
 ghost use Rattle.engine_api.specs.Shell.{leaver, with_posted};
-ghost use Rattle.rebuild_copy.specs.Filling.{emptied, with_copied};
-ghost use Rattle.struct_machine.specs.Content.{kept_of, lacking_in};
-ghost use Rattle.struct_machine.specs.Deeds.{fresh_left, fresh_before};
-ghost use Rattle.struct_machine.specs.Kept.{AreOf, gone_by, state_in, left_in};
+ghost use Rattle.rebuild_copy.specs.Filling.{emptied};
+ghost use Rattle.struct_machine.specs.Content.{kept_of};
+ghost use Rattle.struct_machine.specs.Deeds.{fresh_left};
+ghost use Rattle.struct_machine.specs.Kept.{AreOf, bits_in, gone_by, left_in};
 
 use crate::content::Content;
-use cf_types::{Batch, ConnId, Effects, Letter, NoMemory, ShellCmd, StrForm};
+use cf_types::{Batch, ConnId, Effects, Letter, NoMemory, ShellCmd};
 use duplex_pair::links::Link;
 use engine_api::Engine;
 use plex_shell::{ACT_LETTERS, Shell};
@@ -22,72 +22,10 @@ use std::alloc::Global;
 /// room for `ACT_LETTERS` behind.
 pub(crate) const READY_LETTERS: usize = 2 * ACT_LETTERS;
 
-// Who departs leaves the content first, where an instance stands, and COPY's items are copied; room
-// for the command's own letters is taken in any case. The effects name the bits that the departure
-// changed.
-pub(crate) fn prepare<E: Engine, L: Link>(
-    alloc: Global,
-    form: &StrForm,
-    shell: &mut Shell,
-    content: &mut Content<E, L>,
-    out: &mut Effects,
-    by: ConnId,
-    cmd: &ShellCmd,
-) -> Result<(), NoMemory>
-    requires may { MayCommand by cmd.now }
-    requires unnamed { out.old.bits.items ≡ [] }
-    requires of_form { AreOf E.meaning form.now shell.old (kept_of E.held content.old) }
-    ensures form { shell.new.form ≡ shell.old.form }
-    ensures places { instances_of content.new.pair ≡ instances_of content.old.pair }
-    ensures links { content.new.pair.links ≡ content.old.pair.links }
-    ensures ok_held { OnOk result (content_of E.held content.new.pair ≡ left_in
-        (gone_by E.meaning form.now shell.old (kept_of E.held content.old) by cmd.now).state
-        (content_of E.held content.old.pair)) }
-    ensures ok_shell { OnOk result (shell.new.shell ≡ with_posted
-        (gone_by E.meaning form.now shell.old (kept_of E.held content.old) by cmd.now).letters
-        shell.old.shell) }
-    ensures ok_fresh { OnOk result (content.new.fresh ≡ fresh_before E.meaning shell.old.shell by
-        cmd.now (content_of E.held content.old.pair) content.old.fresh) }
-    ensures room { OnOk result (ACT_LETTERS ≤ shell.new.room) }
-    ensures bits { OnOk result (Gains
-        (E.meaning.stands (state_in E.meaning form.now (content_of E.held content.old.pair)))
-        (E.meaning.stands (state_in E.meaning form.now (content_of E.held content.new.pair)))
-        [] out.new.bits.items) }
-    ensures err_shell { OnErr result (shell.new.shell ≡ shell.old.shell) }
-    ensures err_held { OnErr result
-        (content_of E.held content.new.pair ≡ content_of E.held content.old.pair) }
-    ensures err_fresh { OnErr result (content.new.fresh ≡ content.old.fresh) }
-{
-    match cmd {
-        ShellCmd::Copy { n } => copy_items(alloc, shell, content, *n),
-        _ => depart_first(alloc, form, shell, content, out, by, cmd),
-    }
-}
-
-// Copies the next items. Room for the letters of the command itself is taken.
-fn copy_items<E: Engine, L: Link>(
-    alloc: Global,
-    shell: &mut Shell,
-    content: &mut Content<E, L>,
-    n: u32,
-) -> Result<(), NoMemory>
-    ensures form { shell.new.form ≡ shell.old.form }
-    ensures shell { shell.new.shell ≡ shell.old.shell }
-    ensures pair { content.new.pair ≡ content.old.pair }
-    ensures room { OnOk result (ACT_LETTERS ≤ shell.new.room) }
-    ensures ok { OnOk result (content.new.fresh ≡ with_copied (min n (lacking_in E.meaning
-        (content_of E.held content.old.pair) content.old.fresh)) content.old.fresh) }
-    ensures err { OnErr result (content.new.fresh ≡ content.old.fresh) }
-{
-    shell.ready(ACT_LETTERS)?;
-    content.copy(alloc, n)
-}
-
 // Who departs leaves the content first, where an instance stands; room for the command's own
 // letters is taken in any case. The effects name the bits that the departure changed.
-fn depart_first<E: Engine, L: Link>(
+pub(crate) fn depart_first<E: Engine, L: Link>(
     alloc: Global,
-    form: &StrForm,
     shell: &mut Shell,
     content: &mut Content<E, L>,
     out: &mut Effects,
@@ -96,29 +34,28 @@ fn depart_first<E: Engine, L: Link>(
 ) -> Result<(), NoMemory>
     requires may { MayCommand by cmd.now }
     requires unnamed { out.old.bits.items ≡ [] }
-    requires of_form { AreOf E.meaning form.now shell.old (kept_of E.held content.old) }
+    requires of_form { AreOf E.meaning shell.old (kept_of E.held content.old) }
     ensures form { shell.new.form ≡ shell.old.form }
     ensures places { instances_of content.new.pair ≡ instances_of content.old.pair }
     ensures links { content.new.pair.links ≡ content.old.pair.links }
     ensures ok_held { OnOk result (content_of E.held content.new.pair ≡ left_in
-        (gone_by E.meaning form.now shell.old (kept_of E.held content.old) by cmd.now).state
+        (gone_by E.meaning shell.old (kept_of E.held content.old) by cmd.now).state
         (content_of E.held content.old.pair)) }
     ensures ok_shell { OnOk result (shell.new.shell ≡ with_posted
-        (gone_by E.meaning form.now shell.old (kept_of E.held content.old) by cmd.now).letters
+        (gone_by E.meaning shell.old (kept_of E.held content.old) by cmd.now).letters
         shell.old.shell) }
     ensures ok_fresh { OnOk result (content.new.fresh
         ≡ fresh_left shell.old.shell (leaver shell.old.shell by cmd.now) content.old.fresh) }
     ensures room { OnOk result (ACT_LETTERS ≤ shell.new.room) }
     ensures bits { OnOk result (Gains
-        (E.meaning.stands (state_in E.meaning form.now (content_of E.held content.old.pair)))
-        (E.meaning.stands (state_in E.meaning form.now (content_of E.held content.new.pair)))
+        (bits_in E.meaning shell.old.form (content_of E.held content.old.pair))
+        (bits_in E.meaning shell.old.form (content_of E.held content.new.pair))
         [] out.new.bits.items) }
     ensures err_shell { OnErr result (shell.new.shell ≡ shell.old.shell) }
     ensures err_held { OnErr result
         (content_of E.held content.new.pair ≡ content_of E.held content.old.pair) }
     ensures err_fresh { OnErr result (content.new.fresh ≡ content.old.fresh) }
 {
-    let _ = form;
     let (primary, _, _) = shell.instances();
     match shell.leaving(by, cmd) {
         Some((conn, keep)) if primary.is_some() => {

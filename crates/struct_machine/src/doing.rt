@@ -8,24 +8,24 @@ ghost use Rattle.duplex_pair.specs.Pairs.{content_of, AreReady};
 ghost use Rattle.engine_api.specs.Asking.{MayAsk, MayCommand};
 ghost use Rattle.engine_api.specs.declared.asks.Ask.TheVariants as asks;
 ghost use Rattle.engine_api.specs.LinkAsks.{answers_to, has, marks_of};
-ghost use Rattle.engine_api.specs.Machine.{content_done, content_reply, command_done, room_of};
+ghost use Rattle.engine_api.specs.Machine.{content_done, content_reply, command_done};
 ghost use Rattle.engine_api.specs.Meaning.{Wish};
 ghost use Rattle.engine_api.specs.Meaning.Wish.{ForCmd};
 ghost use Rattle.engine_api.specs.Rebuilds.{fresh_of};
 ghost use Rattle.engine_api.specs.Shell.{call_cause, shell_cause, shell_done, content_cause};
 ghost use Rattle.struct_machine.specs.Changes.{Names, any_failure, deeds_by, may_be_any, may_change_bits};
 ghost use Rattle.struct_machine.specs.Content.{kept_of};
-ghost use Rattle.struct_machine.specs.Kept.{AreOf, answered, machine_of, state_in, judged, command_looks, copy_reply, is_copying, items_named, looks_at_need, room_seen};
+ghost use Rattle.struct_machine.specs.Kept.{AreOf, answered, machine_of, bits_in, judged, command_looks, copy_reply, is_copying, items_named, looks_at_need, room_in, room_seen};
 ghost use Rattle.struct_machine.specs.Turns.{IsMarked, IsTurn, IsJudgedCall, content_asks_of, copy_asks_of, marks_in, structure_of};
 
 use crate::asking::{Asked, ask_links};
 use crate::changed::Changed;
 use crate::content::Content;
 use crate::deeds::{do_deeds, make_engines};
-use crate::departing::{READY_LETTERS, fresh_mail, post_all, prepare};
+use crate::departing::{READY_LETTERS, depart_first, fresh_mail, post_all};
 use crate::losing::mark;
 use crate::marks::Marks;
-use cf_types::{Caps, ConnId, Effects, NoMemory, Refusal, ShellCmd, StrForm};
+use cf_types::{Caps, ConnId, Effects, NoMemory, Refusal, ShellCmd};
 use duplex_pair::Lost;
 use duplex_pair::links::Link;
 use engine_api::{Ask, Engine, Reply, Room};
@@ -70,35 +70,35 @@ struct ContentCall<'a, C> {
 // they tell, and has come then. What bits may have changed is told.
 pub(crate) fn answer<E: Engine, L: Link>(
     alloc: Global,
-    form: &StrForm,
     shell: &mut Shell,
     content: &mut Content<E, L>,
     changed: &mut Changed,
     by: ConnId,
     ask: &Ask<E::Cmd>,
 ) -> Result<Reply<E::Reply>, NoMemory>
-    requires kind { IsTrue (E.is_kind form.now.kind) }
+    requires kind { IsTrue (E.is_kind shell.old.form.kind) }
     requires may { MayAsk by ask.now }
     requires unnamed { changed.old.bits ≡ [] }
     requires unmarked { changed.old.marks ≡ [] }
     requires quiet { changed.old.all ≡ false }
-    requires of_form { AreOf E.meaning form.now shell.old (kept_of E.held content.old) }
+    requires of_form { AreOf E.meaning shell.old (kept_of E.held content.old) }
+    ensures form { shell.new.form ≡ shell.old.form }
     ensures turn { IfOk result (λ reply. IsTurn L.calls L.downs L.faults E.meaning
-        (structure_of E.meaning E.held form.now shell.old content.old)
-        (structure_of E.meaning E.held form.now shell.new content.new)
+        (structure_of E.meaning E.held shell.old content.old)
+        (structure_of E.meaning E.held shell.new content.new)
         by ask.now changed.new.marks reply) }
     ensures bits { OnOk result (Names changed.new
-        (E.meaning.stands (state_in E.meaning form.now (content_of E.held content.old.pair)))
-        (E.meaning.stands (state_in E.meaning form.now (content_of E.held content.new.pair)))) }
-    ensures all { OnOk result (changed.new.all ≡ may_be_any E.meaning form.now
-        (machine_of E.meaning form.now shell.old (kept_of E.held content.old)) by ask.now
+        (bits_in E.meaning shell.old.form (content_of E.held content.old.pair))
+        (bits_in E.meaning shell.old.form (content_of E.held content.new.pair))) }
+    ensures all { OnOk result (changed.new.all ≡ may_be_any E.meaning shell.old.form
+        (machine_of E.meaning shell.old (kept_of E.held content.old)) by ask.now
         changed.new.marks) }
-    ensures of_form { AreOf E.meaning form.now shell.new (kept_of E.held content.new) }
-    ensures err { OnErr result (machine_of E.meaning form.now shell.new (kept_of E.held content.new)
-        ≡ machine_of E.meaning form.now shell.old (kept_of E.held content.old)) }
+    ensures of_form { AreOf E.meaning shell.new (kept_of E.held content.new) }
+    ensures err { OnErr result (machine_of E.meaning shell.new (kept_of E.held content.new)
+        ≡ machine_of E.meaning shell.old (kept_of E.held content.old)) }
     ensures err_links { OnErr result (content.new.pair.links ≡ content.old.pair.links) }
 {
-    let reply = answer_judged(alloc, form, shell, content, changed, by, ask)?;
+    let reply = answer_judged(alloc, shell, content, changed, by, ask)?;
     shell.entered();
     Ok(reply)
 }
@@ -108,50 +108,50 @@ pub(crate) fn answer<E: Engine, L: Link>(
 #[tactic(auto, using(crate::proofs::TurnLaws::turn_quiet, crate::proofs::TurnLaws::refused_asks, crate::proofs::TurnLaws::refused_done, crate::proofs::ChangeLaws::refused_all))]
 fn answer_judged<E: Engine, L: Link>(
     alloc: Global,
-    form: &StrForm,
     shell: &mut Shell,
     content: &mut Content<E, L>,
     changed: &mut Changed,
     by: ConnId,
     ask: &Ask<E::Cmd>,
 ) -> Result<Reply<E::Reply>, NoMemory>
-    requires kind { IsTrue (E.is_kind form.now.kind) }
+    requires kind { IsTrue (E.is_kind shell.old.form.kind) }
     requires may { MayAsk by ask.now }
     requires unnamed { changed.old.bits ≡ [] }
     requires unmarked { changed.old.marks ≡ [] }
     requires quiet { changed.old.all ≡ false }
-    requires of_form { AreOf E.meaning form.now shell.old (kept_of E.held content.old) }
+    requires of_form { AreOf E.meaning shell.old (kept_of E.held content.old) }
+    ensures form { shell.new.form ≡ shell.old.form }
     ensures turn { IfOk result (λ reply. IsJudgedCall L.calls L.downs L.faults E.meaning
-        (structure_of E.meaning E.held form.now shell.old content.old)
-        (structure_of E.meaning E.held form.now shell.new content.new)
+        (structure_of E.meaning E.held shell.old content.old)
+        (structure_of E.meaning E.held shell.new content.new)
         by ask.now changed.new.marks reply) }
     ensures bits { OnOk result (Names changed.new
-        (E.meaning.stands (state_in E.meaning form.now (content_of E.held content.old.pair)))
-        (E.meaning.stands (state_in E.meaning form.now (content_of E.held content.new.pair)))) }
-    ensures all { OnOk result (changed.new.all ≡ may_be_any E.meaning form.now
-        (machine_of E.meaning form.now shell.old (kept_of E.held content.old)) by ask.now
+        (bits_in E.meaning shell.old.form (content_of E.held content.old.pair))
+        (bits_in E.meaning shell.old.form (content_of E.held content.new.pair))) }
+    ensures all { OnOk result (changed.new.all ≡ may_be_any E.meaning shell.old.form
+        (machine_of E.meaning shell.old (kept_of E.held content.old)) by ask.now
         changed.new.marks) }
-    ensures of_form { AreOf E.meaning form.now shell.new (kept_of E.held content.new) }
-    ensures err { OnErr result (machine_of E.meaning form.now shell.new (kept_of E.held content.new)
-        ≡ machine_of E.meaning form.now shell.old (kept_of E.held content.old)) }
+    ensures of_form { AreOf E.meaning shell.new (kept_of E.held content.new) }
+    ensures err { OnErr result (machine_of E.meaning shell.new (kept_of E.held content.new)
+        ≡ machine_of E.meaning shell.old (kept_of E.held content.old)) }
     ensures err_links { OnErr result (content.new.pair.links ≡ content.old.pair.links) }
 {
-    let room = room_of(form, shell, content, looks_at_need(ask));
-    if let Some(refusal) = cause_of(form, shell, content, by, ask, &room) {
+    let (room, cause) = judge(shell, content, by, ask);
+    if let Some(refusal) = cause {
         return Ok(Reply::Refused(refusal));
     }
     match ask {
         Ask::Shell(cmd) => {
             let call = CommonCall { by, ask, cmd, room };
             if is_copying(cmd) {
-                do_copy(alloc, form, shell, content, changed, &call)
+                do_copy(alloc, shell, content, changed, &call)
             } else {
-                do_command(alloc, form, shell, content, changed, &call)
+                do_command(alloc, shell, content, changed, &call)
             }
         }
         Ask::Content(cmd) => {
             let call = ContentCall { by, ask, cmd };
-            do_content(alloc, form, shell, content, changed, &call)
+            do_content(alloc, shell, content, changed, &call)
         }
     }
 }
@@ -167,7 +167,7 @@ pub(crate) fn is_copying(cmd: &ShellCmd) -> bool
 }
 
 // Whether the content's need is among what a call is judged by.
-pub(crate) fn looks_at_need<C>(ask: &Ask<C>) -> bool
+fn looks_at_need<C>(ask: &Ask<C>) -> bool
     ensures { result ≡ looks_at_need ask.now }
 {
     match ask {
@@ -188,18 +188,15 @@ fn command_looks(cmd: &ShellCmd) -> bool
 
 // What the instances know. The need, for which the whole content is gone through, is found only
 // where it is looked at.
-pub(crate) fn room_of<E: Engine, L: Link>(
-    form: &StrForm,
+fn room_of<E: Engine, L: Link>(
     shell: &Shell,
     content: &Content<E, L>,
     looks: bool,
 ) -> Room
-    requires { AreOf E.meaning form.now shell.now (kept_of E.held content.now) }
+    requires { AreOf E.meaning shell.now (kept_of E.held content.now) }
     ensures { result ≡ room_seen looks
-        (room_of E.meaning form.now
-        (machine_of E.meaning form.now shell.now (kept_of E.held content.now))) }
+        (room_in E.meaning shell.now (kept_of E.held content.now)) }
 {
-    let _ = form;
     let (primary, _, _) = shell.instances();
     let need = if looks && primary.is_some() {
         content.need()
@@ -225,35 +222,30 @@ fn refusal_of<C>(shell: &Shell, by: ConnId, ask: &Ask<C>, room: &Room) -> Option
     }
 }
 
-// The same by all that the instances know, also where `room` leaves out the need.
-pub(crate) fn cause_of<E: Engine, L: Link>(
-    form: &StrForm,
+// What the instances know that a call is judged by, and why the shell refuses the call by all that
+// they know, if it does.
+pub(crate) fn judge<E: Engine, L: Link>(
     shell: &Shell,
     content: &Content<E, L>,
     by: ConnId,
     ask: &Ask<E::Cmd>,
-    room: &Room,
-) -> Option<Refusal>
+) -> (Room, Option<Refusal>)
     requires may { MayAsk by ask.now }
-    requires room { room.now ≡ room_seen (looks_at_need ask.now)
-        (room_of E.meaning form.now
-        (machine_of E.meaning form.now shell.now (kept_of E.held content.now))) }
-    requires of_form { AreOf E.meaning form.now shell.now (kept_of E.held content.now) }
-    ensures { result ≡ call_cause form.now
-        (room_of E.meaning form.now
-        (machine_of E.meaning form.now shell.now (kept_of E.held content.now))) shell.now.shell by
-        ask.now }
+    requires of_form { AreOf E.meaning shell.now (kept_of E.held content.now) }
+    ensures room { result.0 ≡ room_seen (looks_at_need ask.now)
+        (room_in E.meaning shell.now (kept_of E.held content.now)) }
+    ensures cause { result.1 ≡ call_cause shell.now.form
+        (room_in E.meaning shell.now (kept_of E.held content.now)) shell.now.shell by ask.now }
 {
-    let _ = form;
-    let _ = content;
-    refusal_of(shell, by, ask, room)
+    let room = room_of(shell, content, looks_at_need(ask));
+    let cause = refusal_of(shell, by, ask, &room);
+    (room, cause)
 }
 
 // A command on the content that the shell doesn't refuse: all memory is taken, and then its links
 // are asked. The bits that changed are named.
 fn do_content<E: Engine, L: Link>(
     alloc: Global,
-    form: &StrForm,
     shell: &mut Shell,
     content: &mut Content<E, L>,
     changed: &mut Changed,
@@ -264,18 +256,19 @@ fn do_content<E: Engine, L: Link>(
     requires accepted { content_cause shell.old.shell call.now.by ≡ None }
     requires unnamed { changed.old.bits ≡ [] }
     requires unmarked { changed.old.marks ≡ [] }
-    requires of_form { AreOf E.meaning form.now shell.old (kept_of E.held content.old) }
+    requires of_form { AreOf E.meaning shell.old (kept_of E.held content.old) }
+    ensures form { shell.new.form ≡ shell.old.form }
     ensures turn { IfOk result (λ reply. IsJudgedCall L.calls L.downs L.faults E.meaning
-        (structure_of E.meaning E.held form.now shell.old content.old)
-        (structure_of E.meaning E.held form.now shell.new content.new)
+        (structure_of E.meaning E.held shell.old content.old)
+        (structure_of E.meaning E.held shell.new content.new)
         call.now.by call.now.ask.now changed.new.marks reply) }
     ensures bits { OnOk result (Names changed.new
-        (E.meaning.stands (state_in E.meaning form.now (content_of E.held content.old.pair)))
-        (E.meaning.stands (state_in E.meaning form.now (content_of E.held content.new.pair)))) }
+        (bits_in E.meaning shell.old.form (content_of E.held content.old.pair))
+        (bits_in E.meaning shell.old.form (content_of E.held content.new.pair))) }
     ensures failed { OnOk result (changed.new.all ≡ any_failure changed.new.marks) }
-    ensures of_form { AreOf E.meaning form.now shell.new (kept_of E.held content.new) }
-    ensures err { OnErr result (machine_of E.meaning form.now shell.new (kept_of E.held content.new)
-        ≡ machine_of E.meaning form.now shell.old (kept_of E.held content.old)) }
+    ensures of_form { AreOf E.meaning shell.new (kept_of E.held content.new) }
+    ensures err { OnErr result (machine_of E.meaning shell.new (kept_of E.held content.new)
+        ≡ machine_of E.meaning shell.old (kept_of E.held content.old)) }
     ensures err_links { OnErr result (content.new.pair.links ≡ content.old.pair.links) }
 {
     let out = &mut changed.effects;
@@ -283,7 +276,7 @@ fn do_content<E: Engine, L: Link>(
     content.ready(call.by, call.cmd, out)?;
     ready_letters(shell, out)?;
     let marks = &mut changed.marks;
-    let (reply, failed) = ask_and_apply(form, shell, content, out, marks, call);
+    let (reply, failed) = ask_and_apply(shell, content, out, marks, call);
     changed.all = failed;
     Ok(reply)
 }
@@ -305,7 +298,6 @@ fn ready_letters(shell: &mut Shell, out: &Effects) -> Result<(), NoMemory>
 // and done by the instances that are left. Whether the structure failed is told too.
 #[tactic(auto, using(crate::proofs::TurnLaws::turn_behind))]
 fn ask_and_apply<E: Engine, L: Link>(
-    form: &StrForm,
     shell: &mut Shell,
     content: &mut Content<E, L>,
     out: &mut Effects,
@@ -321,37 +313,38 @@ fn ask_and_apply<E: Engine, L: Link>(
     requires ready { AreReady E.is_ready content.old.pair
         (ForCmd call.now.by call.now.cmd.now) out.old }
     requires room { out.old.mail.room + MARK_LETTERS ≤ shell.old.room }
-    requires of_form { AreOf E.meaning form.now shell.old (kept_of E.held content.old) }
+    requires of_form { AreOf E.meaning shell.old (kept_of E.held content.old) }
+    ensures form { shell.new.form ≡ shell.old.form }
     ensures turn { IsJudgedCall L.calls L.downs L.faults E.meaning
-        (structure_of E.meaning E.held form.now shell.old content.old)
-        (structure_of E.meaning E.held form.now shell.new content.new)
+        (structure_of E.meaning E.held shell.old content.old)
+        (structure_of E.meaning E.held shell.new content.new)
         call.now.by call.now.ask.now marks.new result.0 }
     ensures failed { result.1 ≡ any_failure marks.new }
     ensures bits { result.1 ≡ false → Gains
-        (E.meaning.stands (state_in E.meaning form.now (content_of E.held content.old.pair)))
-        (E.meaning.stands (state_in E.meaning form.now (content_of E.held content.new.pair)))
+        (bits_in E.meaning shell.old.form (content_of E.held content.old.pair))
+        (bits_in E.meaning shell.old.form (content_of E.held content.new.pair))
         [] out.new.bits.items }
-    ensures of_form { AreOf E.meaning form.now shell.new (kept_of E.held content.new) }
+    ensures of_form { AreOf E.meaning shell.new (kept_of E.held content.new) }
 {
-    let failed = ask_and_mark(form, shell, content, marks);
-    let reply = apply_judged(form, shell, content, out, call);
+    let failed = ask_and_mark(shell, content, marks);
+    let reply = apply_judged(shell, content, out, call);
     (reply, failed)
 }
 
 // The links of a command on the content are asked, and what they tell to be lost is marked. Whether
 // the structure failed is told.
 fn ask_and_mark<E: Engine, L: Link>(
-    form: &StrForm,
     shell: &mut Shell,
     content: &mut Content<E, L>,
     marks: &mut Marks,
 ) -> bool
     requires unmarked { marks.old ≡ [] }
     requires room { MARK_LETTERS ≤ shell.old.room }
-    requires of_form { AreOf E.meaning form.now shell.old (kept_of E.held content.old) }
+    requires of_form { AreOf E.meaning shell.old (kept_of E.held content.old) }
+    ensures form { shell.new.form ≡ shell.old.form }
     ensures marked { IsMarked L.calls L.downs L.faults E.meaning
-        (structure_of E.meaning E.held form.now shell.old content.old)
-        (structure_of E.meaning E.held form.now shell.new content.new)
+        (structure_of E.meaning E.held shell.old content.old)
+        (structure_of E.meaning E.held shell.new content.new)
         (content_asks_of shell.old.shell) marks.new }
     ensures failed { result ≡ any_failure marks.new }
     ensures same { result ≡ false
@@ -360,12 +353,12 @@ fn ask_and_mark<E: Engine, L: Link>(
         → AreReady E.is_ready content.old.pair wish out
         → AreReady E.is_ready content.new.pair wish out }
     ensures room { shell.old.room ≤ shell.new.room + MARK_LETTERS }
-    ensures of_form { AreOf E.meaning form.now shell.new (kept_of E.held content.new) }
+    ensures of_form { AreOf E.meaning shell.new (kept_of E.held content.new) }
 {
     let (first, second) = content.places();
     let lost = ask_links(content, Asked::both(first, second, false));
-    let alone = mark(form, shell, content, marks, lost.first);
-    let both = mark(form, shell, content, marks, lost.second);
+    let alone = mark(shell, content, marks, lost.first);
+    let both = mark(shell, content, marks, lost.second);
     is_either(alone, both)
 }
 
@@ -378,7 +371,6 @@ fn is_either(one: bool, other: bool) -> bool
 
 // A command on the content is judged, and done where the shell doesn't refuse it.
 fn apply_judged<E: Engine, L: Link>(
-    form: &StrForm,
     shell: &mut Shell,
     content: &mut Content<E, L>,
     out: &mut Effects,
@@ -391,29 +383,29 @@ fn apply_judged<E: Engine, L: Link>(
     requires ready { AreReady E.is_ready content.old.pair
         (ForCmd call.now.by call.now.cmd.now) out.old }
     requires room { out.old.mail.room ≤ shell.old.room }
-    requires of_form { AreOf E.meaning form.now shell.old (kept_of E.held content.old) }
+    requires of_form { AreOf E.meaning shell.old (kept_of E.held content.old) }
+    ensures form { shell.new.form ≡ shell.old.form }
     ensures done { record {
       reply = result;
-      machine = machine_of E.meaning form.now shell.new (kept_of E.held content.new);
-    } ≡ judged E.meaning form.now
-        (machine_of E.meaning form.now shell.old (kept_of E.held content.old)) call.now.by
+      machine = machine_of E.meaning shell.new (kept_of E.held content.new);
+    } ≡ judged E.meaning shell.old.form
+        (machine_of E.meaning shell.old (kept_of E.held content.old)) call.now.by
         call.now.ask.now }
     ensures bits { Gains
-        (E.meaning.stands (state_in E.meaning form.now (content_of E.held content.old.pair)))
-        (E.meaning.stands (state_in E.meaning form.now (content_of E.held content.new.pair)))
+        (bits_in E.meaning shell.old.form (content_of E.held content.old.pair))
+        (bits_in E.meaning shell.old.form (content_of E.held content.new.pair))
         [] out.new.bits.items }
-    ensures of_form { AreOf E.meaning form.now shell.new (kept_of E.held content.new) }
+    ensures of_form { AreOf E.meaning shell.new (kept_of E.held content.new) }
     ensures links { content.new.pair.links ≡ content.old.pair.links }
 {
     match refusal_of(shell, call.by, call.ask, &NO_ROOM) {
         Some(refusal) => Reply::Refused(refusal),
-        None => apply(form, shell, content, out, call.by, call.cmd),
+        None => apply(shell, content, out, call.by, call.cmd),
     }
 }
 
 // A command on the content that the shell doesn't refuse is done.
 fn apply<E: Engine, L: Link>(
-    form: &StrForm,
     shell: &mut Shell,
     content: &mut Content<E, L>,
     out: &mut Effects,
@@ -426,20 +418,20 @@ fn apply<E: Engine, L: Link>(
     requires unsent { out.old.mail.items ≡ [] }
     requires ready { AreReady E.is_ready content.old.pair (ForCmd by cmd.now) out.old }
     requires room { out.old.mail.room ≤ shell.old.room }
-    requires of_form { AreOf E.meaning form.now shell.old (kept_of E.held content.old) }
+    requires of_form { AreOf E.meaning shell.old (kept_of E.held content.old) }
+    ensures form { shell.new.form ≡ shell.old.form }
     ensures done { record {
       reply = result;
-      machine = machine_of E.meaning form.now shell.new (kept_of E.held content.new);
-    } ≡ content_done E.meaning form.now
-        (machine_of E.meaning form.now shell.old (kept_of E.held content.old)) by cmd.now }
+      machine = machine_of E.meaning shell.new (kept_of E.held content.new);
+    } ≡ content_done E.meaning shell.old.form
+        (machine_of E.meaning shell.old (kept_of E.held content.old)) by cmd.now }
     ensures bits { Gains
-        (E.meaning.stands (state_in E.meaning form.now (content_of E.held content.old.pair)))
-        (E.meaning.stands (state_in E.meaning form.now (content_of E.held content.new.pair)))
+        (bits_in E.meaning shell.old.form (content_of E.held content.old.pair))
+        (bits_in E.meaning shell.old.form (content_of E.held content.new.pair))
         [] out.new.bits.items }
-    ensures of_form { AreOf E.meaning form.now shell.new (kept_of E.held content.new) }
+    ensures of_form { AreOf E.meaning shell.new (kept_of E.held content.new) }
     ensures links { content.new.pair.links ≡ content.old.pair.links }
 {
-    let _ = form;
     let answer = content.apply(by, cmd, out);
     post_all(shell, out.mail.items());
     content_reply(answer)
@@ -449,7 +441,6 @@ fn apply<E: Engine, L: Link>(
 // is down it is refused behind the mark, and the copy has ended with its instance.
 fn do_copy<E: Engine, L: Link>(
     alloc: Global,
-    form: &StrForm,
     shell: &mut Shell,
     content: &mut Content<E, L>,
     changed: &mut Changed,
@@ -459,32 +450,32 @@ fn do_copy<E: Engine, L: Link>(
     requires asked { call.now.ask.now ≡ asks.Shell call.now.cmd.now }
     requires copying { is_copying call.now.cmd.now ≡ true }
     requires room { call.now.room ≡ room_seen (command_looks call.now.cmd.now)
-        (room_of E.meaning form.now
-        (machine_of E.meaning form.now shell.old (kept_of E.held content.old))) }
-    requires accepted { shell_cause form.now (room_of E.meaning form.now
-        (machine_of E.meaning form.now shell.old (kept_of E.held content.old))) shell.old.shell
-        call.now.by call.now.cmd.now ≡ None }
+        (room_in E.meaning shell.old (kept_of E.held content.old)) }
+    requires accepted { shell_cause shell.old.form
+        (room_in E.meaning shell.old (kept_of E.held content.old)) shell.old.shell call.now.by
+        call.now.cmd.now ≡ None }
     requires unnamed { changed.old.bits ≡ [] }
     requires unmarked { changed.old.marks ≡ [] }
-    requires of_form { AreOf E.meaning form.now shell.old (kept_of E.held content.old) }
+    requires of_form { AreOf E.meaning shell.old (kept_of E.held content.old) }
+    ensures form { shell.new.form ≡ shell.old.form }
     ensures turn { IfOk result (λ reply. IsJudgedCall L.calls L.downs L.faults E.meaning
-        (structure_of E.meaning E.held form.now shell.old content.old)
-        (structure_of E.meaning E.held form.now shell.new content.new)
+        (structure_of E.meaning E.held shell.old content.old)
+        (structure_of E.meaning E.held shell.new content.new)
         call.now.by call.now.ask.now changed.new.marks reply) }
     ensures bits { OnOk result (Names changed.new
-        (E.meaning.stands (state_in E.meaning form.now (content_of E.held content.old.pair)))
-        (E.meaning.stands (state_in E.meaning form.now (content_of E.held content.new.pair)))) }
+        (bits_in E.meaning shell.old.form (content_of E.held content.old.pair))
+        (bits_in E.meaning shell.old.form (content_of E.held content.new.pair))) }
     ensures failed { OnOk result (changed.new.all ≡ any_failure changed.new.marks) }
-    ensures of_form { AreOf E.meaning form.now shell.new (kept_of E.held content.new) }
-    ensures err { OnErr result (machine_of E.meaning form.now shell.new (kept_of E.held content.new)
-        ≡ machine_of E.meaning form.now shell.old (kept_of E.held content.old)) }
+    ensures of_form { AreOf E.meaning shell.new (kept_of E.held content.new) }
+    ensures err { OnErr result (machine_of E.meaning shell.new (kept_of E.held content.new)
+        ≡ machine_of E.meaning shell.old (kept_of E.held content.old)) }
     ensures err_links { OnErr result (content.new.pair.links ≡ content.old.pair.links) }
 {
     shell.ready(COPY_LETTERS)?;
     content.copy(alloc, items_of(call.cmd))?;
-    let lost = ask_copy(form, shell, content);
-    let alone = mark(form, shell, content, &mut changed.marks, lost.first);
-    let both = mark(form, shell, content, &mut changed.marks, lost.second);
+    let lost = ask_copy(shell, content);
+    let alone = mark(shell, content, &mut changed.marks, lost.first);
+    let both = mark(shell, content, &mut changed.marks, lost.second);
     changed.all = alone || both;
     Ok(copy_judged(shell, call))
 }
@@ -501,8 +492,8 @@ fn items_of(cmd: &ShellCmd) -> u32
 
 // COPY's links are asked: that of the old instance, and that of the new one, unless the first is
 // down.
-fn ask_copy<E: Engine, L: Link>(form: &StrForm, shell: &Shell, content: &mut Content<E, L>) -> Lost
-    requires of_form { AreOf E.meaning form.now shell.now (kept_of E.held content.old) }
+fn ask_copy<E: Engine, L: Link>(shell: &Shell, content: &mut Content<E, L>) -> Lost
+    requires of_form { AreOf E.meaning shell.now (kept_of E.held content.old) }
     ensures marks { marks_in result
         ≡ marks_of (has (marks_in result)) (copy_asks_of shell.now.shell) }
     ensures asked { AreAsked L.calls L.downs L.faults
@@ -518,7 +509,6 @@ fn ask_copy<E: Engine, L: Link>(form: &StrForm, shell: &Shell, content: &mut Con
       pair = record content.old.pair { links = content.new.pair.links };
     } }
 {
-    let _ = form;
     let (first, _) = content.places();
     let (_, _, fresh) = shell.instances();
     ask_links(content, Asked::both(first, fresh, true))
@@ -550,55 +540,48 @@ fn copy_judged<R: Drop, C>(shell: &mut Shell, call: &CommonCall<'_, C>) -> Reply
 #[tactic(auto, using(crate::proofs::RefusalLaws::cause_seen, crate::proofs::RefusalLaws::done_seen, crate::proofs::RefusalLaws::accepted_posted, crate::proofs::RefusalLaws::letters_none))]
 fn do_command<E: Engine, L: Link>(
     alloc: Global,
-    form: &StrForm,
     shell: &mut Shell,
     content: &mut Content<E, L>,
     changed: &mut Changed,
     call: &CommonCall<'_, E::Cmd>,
 ) -> Result<Reply<E::Reply>, NoMemory>
-    requires kind { IsTrue (E.is_kind form.now.kind) }
+    requires kind { IsTrue (E.is_kind shell.old.form.kind) }
     requires may { MayCommand call.now.by call.now.cmd.now }
+    requires other { is_copying call.now.cmd.now ≡ false }
     requires room { call.now.room ≡ room_seen (command_looks call.now.cmd.now)
-        (room_of E.meaning form.now
-        (machine_of E.meaning form.now shell.old (kept_of E.held content.old))) }
-    requires accepted { shell_cause form.now (room_of E.meaning form.now
-        (machine_of E.meaning form.now shell.old (kept_of E.held content.old))) shell.old.shell
-        call.now.by call.now.cmd.now ≡ None }
+        (room_in E.meaning shell.old (kept_of E.held content.old)) }
+    requires accepted { shell_cause shell.old.form
+        (room_in E.meaning shell.old (kept_of E.held content.old)) shell.old.shell call.now.by
+        call.now.cmd.now ≡ None }
     requires unnamed { changed.old.bits ≡ [] }
-    requires of_form { AreOf E.meaning form.now shell.old (kept_of E.held content.old) }
+    requires of_form { AreOf E.meaning shell.old (kept_of E.held content.old) }
+    ensures form { shell.new.form ≡ shell.old.form }
     ensures ok { IfOk result (λ reply. answered reply
-        (machine_of E.meaning form.now shell.new (kept_of E.held content.new))
-        ≡ command_done E.meaning form.now
-        (machine_of E.meaning form.now shell.old (kept_of E.held content.old)) call.now.by
+        (machine_of E.meaning shell.new (kept_of E.held content.new))
+        ≡ command_done E.meaning shell.old.form
+        (machine_of E.meaning shell.old (kept_of E.held content.old)) call.now.by
         call.now.cmd.now) }
     ensures bits { OnOk result (Names changed.new
-        (E.meaning.stands (state_in E.meaning form.now (content_of E.held content.old.pair)))
-        (E.meaning.stands (state_in E.meaning form.now (content_of E.held content.new.pair)))) }
+        (bits_in E.meaning shell.old.form (content_of E.held content.old.pair))
+        (bits_in E.meaning shell.old.form (content_of E.held content.new.pair))) }
     ensures all { OnOk result (changed.new.all
-        ≡ may_change_bits (is_some shell.old.shell.rebuild) (deeds_by E.meaning form.now
-        (machine_of E.meaning form.now shell.old (kept_of E.held content.old)) call.now.by
+        ≡ may_change_bits (is_some shell.old.shell.rebuild) (deeds_by E.meaning shell.old.form
+        (machine_of E.meaning shell.old (kept_of E.held content.old)) call.now.by
         call.now.cmd.now)) }
-    ensures of_form { AreOf E.meaning form.now shell.new (kept_of E.held content.new) }
+    ensures of_form { AreOf E.meaning shell.new (kept_of E.held content.new) }
     ensures links { content.new.pair.links ≡ content.old.pair.links }
     ensures marks { changed.new.marks ≡ changed.old.marks }
-    ensures err { OnErr result (machine_of E.meaning form.now shell.new (kept_of E.held content.new)
-        ≡ machine_of E.meaning form.now shell.old (kept_of E.held content.old)) }
+    ensures err { OnErr result (machine_of E.meaning shell.new (kept_of E.held content.new)
+        ≡ machine_of E.meaning shell.old (kept_of E.held content.old)) }
 {
-    let made = make_engines(alloc, form, shell, content, call.cmd)?;
-    prepare(
-        alloc,
-        form,
-        shell,
-        content,
-        &mut changed.effects,
-        call.by,
-        call.cmd,
-    )?;
+    let made = make_engines(alloc, shell, content, call.cmd)?;
+    let out = &mut changed.effects;
+    depart_first(alloc, shell, content, out, call.by, call.cmd)?;
     let rebuilding = shell.is_rebuilding();
     let (_, _, fresh) = shell.instances();
     let (reply, deeds) = shell.act(call.by, call.cmd, &call.room);
     changed.note(deeds, rebuilding);
-    do_deeds(form, content, made, deeds, rebuilding, fresh);
+    do_deeds(content, made, deeds, rebuilding, fresh);
     Ok(Reply::Shell(reply))
 }
 

@@ -30,11 +30,10 @@ use plex_shell::{LostAs, Shell};
 use std::alloc::Global;
 use std::marker::Model;
 
-/// A structure on one thread: its form, its shell, and its instances with the links to them. It
-/// keeps no journal: contracts see the form and the state that the calls so far have led to.
+/// A structure on one thread: its shell, and its instances with the links to them. It keeps no
+/// journal: contracts see the form and the state that the calls so far have led to.
 #[derive(Drop)]
 pub struct Machine<E: Engine, L: Link> {
-    form: StrForm,
     shell: Shell,
     content: Content<E, L>,
 }
@@ -48,13 +47,13 @@ impl<E: Engine, L: Link> Model for Machine<E, L> {
     ghost Value = { StructureView E.State L };
 
     ghost view = { λ m. record {
-      form = m.form;
-      machine = machine_of E.meaning m.form m.shell (kept_of E.held m.content);
+      form = m.shell.form;
+      machine = machine_of E.meaning m.shell (kept_of E.held m.content);
       links = m.content.pair.links;
     } };
 
-    ghost invariant = { λ m. AreOf E.meaning m.form m.shell (kept_of E.held m.content)
-        × IsTrue (E.is_kind m.form.kind) };
+    ghost invariant = { λ m. AreOf E.meaning m.shell (kept_of E.held m.content)
+        × IsTrue (E.is_kind m.shell.form.kind) };
 }
 
 /// What is left of a structure that ends: its instances, where they stand, and the links.
@@ -85,16 +84,12 @@ impl<E: Engine, L: Link> Machine<E, L> {
         ensures ok { IfOk result (λ machine. machine ≡ new_structure E.meaning form links) }
         ensures err { IfErr result (λ back. back.0 ≡ links) }
     {
-        let shell = match Shell::start(alloc, &form, CONNECTORS) {
+        let shell = match Shell::start(alloc, form, CONNECTORS) {
             Ok(shell) => shell,
             Err(cause) => return Err((links, cause)),
         };
         let content = Content::bare(alloc, links);
-        Ok(Machine {
-            form,
-            shell,
-            content,
-        })
+        Ok(Machine { shell, content })
     }
 
     /// The form.
@@ -103,7 +98,28 @@ impl<E: Engine, L: Link> Machine<E, L> {
         ensures formed { IsForm result.now }
         ensures of_engine { IsTrue (E.is_kind result.now.kind) }
     {
-        &self.form
+        self.shell.form()
+    }
+
+    /// What structures of each kind have alike: connections, events, and where instances stand.
+    pub fn shell(&self) -> &Shell
+        ensures form { result.now.form ≡ self.now.form }
+        ensures shell { result.now.shell ≡ self.now.machine.shell }
+    {
+        &self.shell
+    }
+
+    /// The primary, where one stands.
+    pub fn primary(&self) -> Option<&E>
+        ensures stands { is_some result ≡ is_some self.now.machine.shell.instances.primary }
+        ensures content { IfSome result
+            (λ engine. (E.held engine.now).state ≡ self.now.machine.content) }
+        ensures shape { IfSome result
+            (λ engine. (E.held engine.now).shape ≡ shape_of self.now.form) }
+        ensures caps { IfSome result
+            (λ engine. (E.held engine.now).caps ≡ self.now.machine.shell.caps) }
+    {
+        self.content.first()
     }
 
     /// The bit of a connector's vector.
@@ -138,7 +154,6 @@ impl<E: Engine, L: Link> Machine<E, L> {
         changed.clear();
         answer(
             alloc,
-            &self.form,
             &mut self.shell,
             &mut self.content,
             changed,
@@ -155,7 +170,7 @@ impl<E: Engine, L: Link> Machine<E, L> {
             ≡ links_asked E.meaning self.now.form self.now.machine by ask.now }
         ensures places { All IsFacility (asks_in result).links }
     {
-        asks(&self.form, &self.shell, &self.content, by, ask)
+        asks(&self.shell, &self.content, by, ask)
     }
 
     /// The instance in a facility is lost, as a mark tells it, and what becomes of the structure is
@@ -173,7 +188,7 @@ impl<E: Engine, L: Link> Machine<E, L> {
             ≡ loss_step E.meaning self.old.form self.old.machine cf) }
         ensures err { OnErr result (self.new ≡ self.old) }
     {
-        lose_marked(&self.form, &mut self.shell, &mut self.content, cf)
+        lose_marked(&mut self.shell, &mut self.content, cf)
     }
 
     /// The instances where they stand: all of the structure's shape, the primary and the secondary

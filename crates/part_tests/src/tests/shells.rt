@@ -124,7 +124,7 @@ fn cache(alloc: Global) -> Result<StrForm, NoMemory>
 // A shell of that cache.
 fn shell(alloc: Global) -> Result<Shell, NoMemory> {
     let form = cache(alloc)?;
-    Shell::start(alloc, &form, 2)
+    Shell::start(alloc, form, 2)
 }
 
 // What the engines know where nothing is in the structure.

@@ -3,7 +3,7 @@ use Rattle.struct_machine.proofs.Imports.{arith, ◌≡◌, [], None, sym, ap, �
 use Rattle.std.specs.Prelude.{refl}
 use Rattle.struct_machine.proofs.ChangeLaws.{names_nothing}
 use Rattle.struct_machine.proofs.CopyLaws.{copied_machine, copy_done, told_before, with_items}
-use Rattle.struct_machine.proofs.TurnLaws.{behind_both, copy_is, turn_made}
+use Rattle.struct_machine.proofs.TurnLaws.{behind_both, behind_equal, copy_is, told_equal, turn_made}
 use Rattle.struct_machine.proofs.doing.do_copy.Goals as goal
 use Rattle.struct_machine.proofs.doing.do_copy.Goals.{then-alone, else-alone}
 
@@ -14,10 +14,10 @@ pub returns-clause-turn : goal.returns-clause-turn
 returns-clause-turn g c =
     let by = c.args.call.now.by in
     let meaning = g.E.Engine.meaning in
-    let form = c.args.form.now in
+    let form = c.args.shell.now.form in
     let of = c.requires.of_form in
     let kept = kept_of g.E.Engine.held c.args.content.now in
-    let machine = machine_of meaning form c.args.shell.now kept in
+    let machine = machine_of meaning c.args.shell.now kept in
     let n = items_named c.args.call.now.cmd.now in
     let is : c.args.call.now.cmd.now ≡ ShellCmd.Copy n = copy_is c.args.call.now.cmd.now c.requires.copying in
     let accepted : shell_cause form (room_of meaning form machine) c.args.shell.now.shell by (ShellCmd.Copy n) ≡
@@ -30,17 +30,22 @@ returns-clause-turn g c =
     let shell : c.ready.new.self.shell ≡ c.args.shell.now.shell = c.ready.ensures.shell in
     let items = with_items meaning form machine by n of.manned accepted (moved_by (room_of meaning form
     machine) (ShellCmd.Copy n)) in
-    let copies = copied_machine meaning form c.args.shell.now kept of by n accepted c.ready.new.self after
+    let ready = machine_of meaning c.ready.new.self after in
+    let copies = copied_machine meaning c.args.shell.now kept of by n accepted c.ready.new.self after
     c.ready.ensures.form c.ready.ensures.shell at holds copied in
-    let one = c.mark-alone.ensures.machine ∙ ap (λ (m : Machine g.row.E-State.Denot). behind_marks meaning form m
-    (listed lost.first)) copies in
-    let two = behind_both meaning form items (machine_of meaning form c.mark-alone.new.shell
-    (kept_of g.E.Engine.held c.mark-alone.new.content)) (machine_of meaning form c.mark-both.new.shell
-    (kept_of g.E.Engine.held c.mark-both.new.content)) lost.first lost.second one c.mark-both.ensures.machine in
-    let now = machine_of meaning form c.copy_judged.new.shell (kept_of g.E.Engine.held c.mark-both.new.content) in
+    let alone = machine_of meaning c.mark-alone.new.shell (kept_of g.E.Engine.held c.mark-alone.new.content) in
+    let both = machine_of meaning c.mark-both.new.shell (kept_of g.E.Engine.held c.mark-both.new.content) in
+    let marked = c.mark-alone.ensures.form ∙ c.ready.ensures.form in
+    let one = behind_equal meaning form c.ready.new.self.form ready items alone (listed lost.first)
+    c.ready.ensures.form copies c.mark-alone.ensures.machine in
+    let two = behind_both meaning form items alone both lost.first lost.second one (behind_equal meaning form
+    c.mark-alone.new.shell.form alone alone both (listed lost.second) marked refl c.mark-both.ensures.machine) in
+    let now = machine_of meaning c.copy_judged.new.shell (kept_of g.E.Engine.held c.mark-both.new.content) in
     let behind : now ≡ behind_marks meaning form items (marks_in lost) = grind arith in
-    let first_told = c.mark-alone.ensures.told items [] (grind arith) in
-    let told = c.mark-both.ensures.told items (listed lost.first) (one, first_told) in
+    let first_told = told_equal meaning form c.ready.new.self.form ready c.args.changed.now.marks (listed lost.first)
+    c.mark-alone.new.marks c.ready.ensures.form c.mark-alone.ensures.told items [] (grind arith) in
+    let told = told_equal meaning form c.mark-alone.new.shell.form alone c.mark-alone.new.marks (listed lost.second)
+    c.mark-both.new.marks marked c.mark-both.ensures.told items (listed lost.first) (one, first_told) in
     let calls = c.requires.asked ∙ ap (λ (command : ShellCmd). (let a : Ask g.row.E-Cmd.Denot = Ask.Shell command in
     a)) is in
     let replied = c.copy_judged.ensures.reply in
@@ -59,7 +64,7 @@ returns-clause-turn g c =
 pub returns-clause-bits : goal.returns-clause-bits
 returns-clause-bits g c = λ quiet.
     let meaning = g.E.Engine.meaning in
-    let form = c.args.form.now in
+    let form = c.args.shell.now.form in
     let was = content_of g.E.Engine.held c.args.content.now.pair in
     let now = content_of g.E.Engine.held c.mark-both.new.content.pair in
     let asked : content_of g.E.Engine.held c.ask_copy-lost.new.content.pair ≡ was = grind arith in

@@ -5,7 +5,7 @@ use Rattle.struct_machine.proofs.losing.mark.Goals as goal
 
 pub returns-in-Some-clause-told : goal.returns-in-Some-clause-told
 returns-in-Some-clause-told g c = λ start cfs lead. rw (c.in-Some.is, c.push.ensures) (told_more g.E.Engine.meaning
-    c.args.form.now start (machine_of g.E.Engine.meaning c.args.form.now c.args.shell.now (kept_of g.E.Engine.held
+    c.args.shell.now.form start (machine_of g.E.Engine.meaning c.args.shell.now (kept_of g.E.Engine.held
     c.args.content.now)) cfs c.args.marks.now (record { cf = c.in-Some.cf; lost = c.lose-told.result })
     lead.0 (grind arith) lead.1)
 

@@ -6,7 +6,7 @@ use Rattle.struct_machine.proofs.machine.Machine.start.Goals as goal
 pub invariant_of-result : goal.invariant_of-result
 invariant_of-result g c =
     let nothing : kept_of g.E.Engine.held c.bare-content.result ≡ nothing_kept = grind arith in (
-      kept_opening g.E.Engine.meaning c.args.form c.in-Ok.shell (kept_of g.E.Engine.held c.bare-content.result)
-          c.requires.formed c.in-Ok.ensures.form c.in-Ok.ensures.shell nothing,
-      c.requires.kind,
+      kept_opening g.E.Engine.meaning c.in-Ok.shell (kept_of g.E.Engine.held c.bare-content.result) (grind arith)
+          (grind arith) nothing,
+      grind arith,
     )
