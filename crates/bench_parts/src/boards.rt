@@ -9,13 +9,14 @@ ghost use Rattle.bench_parts.specs.Seats.{IsOneCache, IsCacheBoard, IsOperated, 
 
 use crate::faults::{Timed, call_error};
 use crate::pages::{PAGES, form, name, read, write};
+use plex_board::Desk;
 use plex_board::api::{Ask, Told};
 use plex_board::cells::CallRefused;
 use plex_board::links::Steady;
 use plex_board::scripts::{AnyAsk, Script};
 use plex_board::types::limits::LINKS;
 use plex_board::types::{CacheCmd, Listing, NoMemory, ShellCmd, StrNo};
-use plex_board::{Board, Desk};
+use plex_engines::Board;
 use std::alloc::Global;
 use std::io;
 use std::sync::Wait;

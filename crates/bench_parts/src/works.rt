@@ -4,8 +4,8 @@ ghost use Rattle.plex_board.specs.CfTypes.Forms.{IsCaller};
 
 use crate::row_pages::page;
 use plex_board::api::Engine;
-use plex_board::caches::CacheEngine;
 use plex_board::types::{Body, CacheCmd, ConnId, Effects, Name16, NoMemory};
+use plex_engines::caches::CacheEngine;
 use std::alloc::Global;
 
 /// What is done again and again: a READ of a page that has a row; one of a page that has none, for

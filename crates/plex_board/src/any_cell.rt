@@ -17,9 +17,7 @@ ghost use Rattle.plex_board.specs.Cells.{IsPassOf, IsNoteOf, IsAskOf, IsAnyTold,
 use crate::any_note::AnyNote;
 use crate::any_pass::{AnyPass, AnyPasses};
 use crate::any_reply::{AnyReply, of_cache, of_list, of_lock};
-use cache_core::CacheEngine;
-use list_core::ListEngine;
-use lock_core::LockEngine;
+use crate::kinds::Kinds;
 use plex_script::api::Told;
 use plex_script::types::{Kind, NoMemory, StrForm};
 use plex_script::{AnyAsk, AnyHistory};
@@ -31,13 +29,13 @@ use struct_cell::{CallRefused, Cell, Closed};
 
 /// A structure that threads share by `&`, of whatever type. Contracts see what never changes.
 #[derive(Drop)]
-pub enum AnyCell<L: Link> {
-    Cache(Cell<CacheEngine, L>),
-    List(Cell<ListEngine, L>),
-    Lock(Cell<LockEngine, L>),
+pub enum AnyCell<K: Kinds, L: Link> {
+    Cache(Cell<K::Cache, L>),
+    List(Cell<K::List, L>),
+    Lock(Cell<K::Lock, L>),
 }
 
-impl<L: Link> AnyCell<L> {
+impl<K: Kinds, L: Link> AnyCell<K, L> {
     /// A cell of a structure of this form without calls yet (what the first IXLCONN allocates),
     /// with a pass for each caller from the operator, 0, on. A call is made where its journal has
     /// fewer than `limit` entries.
@@ -52,7 +50,7 @@ impl<L: Link> AnyCell<L> {
         callers: u8,
         limit: u32,
         links: Links<L>,
-    ) -> Result<(AnyCell<L>, AnyPasses), (Links<L>, NoMemory)>
+    ) -> Result<(AnyCell<K, L>, AnyPasses), (Links<L>, NoMemory)>
         requires formed { IsForm form }
         requires callers { callers ≤ CONNECTORS }
         requires limit { (1 ≤ limit) × (limit ≤ 4294967000) }

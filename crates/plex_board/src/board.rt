@@ -19,6 +19,7 @@ ghost use Rattle.plex_board.specs.Boards.{IsPolicy, IsStarted, IsDeskOf, IsTrayO
 use crate::any_reply::AnyReply;
 use crate::desk::Desk;
 use crate::ending::{end, gather};
+use crate::kinds::Kinds;
 use crate::opening::{Opening, next_four};
 use crate::rest::Rest;
 use crate::station::Station;
@@ -36,13 +37,13 @@ use struct_cell::vectors::{Tested, TestedWord};
 
 /// The structures of a script, which threads share by `&`. Contracts see what of them never
 /// changes.
-pub struct Board<L: Link> {
-    stations: Vec<Station<L>>,
+pub struct Board<K: Kinds, L: Link> {
+    stations: Vec<Station<K, L>>,
     callers: u8,
     rest: KeyLock<Rest<L>>,
 }
 
-impl<L: Link> Model for Board<L> {
+impl<K: Kinds, L: Link> Model for Board<K, L> {
     ghost use Rattle.plex_board.specs.Boards.{BoardShown};
     ghost use Rattle.plex_board.specs.Rests.{IsReady};
 
@@ -57,7 +58,7 @@ impl<L: Link> Model for Board<L> {
     ghost invariant = { λ b. IsReady b.stations.items b.callers b.rest.key };
 }
 
-impl<L: Link> Drop for Board<L> {
+impl<K: Kinds, L: Link> Drop for Board<K, L> {
     fn drop(self) {
         let Board {
             stations: _,
@@ -67,7 +68,7 @@ impl<L: Link> Drop for Board<L> {
     }
 }
 
-impl<L: Link> Board<L> {
+impl<K: Kinds, L: Link> Board<K, L> {
     /// The structures of a script without calls yet, and a desk for each caller from the operator,
     /// 0, on. A call is made where its structure's journal has fewer than `limit` entries.
     /// Structure `s`, from 0 in the order of the script, has the links `4 * s` to `4 * s + 3`, one
@@ -82,7 +83,7 @@ impl<L: Link> Board<L> {
         script: &Script,
         limit: u32,
         links: Vec<L>,
-    ) -> Result<(Board<L>, Vec<Desk>), (Vec<L>, NoMemory)>
+    ) -> Result<(Board<K, L>, Vec<Desk>), (Vec<L>, NoMemory)>
         requires policy { IsPolicy script.now }
         requires limit { (1 ≤ limit) × (limit ≤ 4294967000) }
         requires links { vec_len links ≡ LINKS }
@@ -115,7 +116,11 @@ impl<L: Link> Board<L> {
     }
 
     // A board of these structures.
-    pub(crate) fn of(stations: Vec<Station<L>>, callers: u8, rest: KeyLock<Rest<L>>) -> Board<L>
+    pub(crate) fn of(
+        stations: Vec<Station<K, L>>,
+        callers: u8,
+        rest: KeyLock<Rest<L>>,
+    ) -> Board<K, L>
         requires { IsReady stations.items callers rest.key }
         ensures { result ≡ record {
           cells = stations.items;

@@ -14,6 +14,7 @@ use crate::any_pass::{AnyPass, AnyPasses};
 use crate::board::Board;
 use crate::desk::Desk;
 use crate::ending::{end_unused, push_four, push_left};
+use crate::kinds::Kinds;
 use crate::place::Place;
 use crate::rest::Rest;
 use crate::station::Station;
@@ -28,15 +29,15 @@ use struct_cell::turns::KeyLock;
 
 /// A board as its structures are made, one after the other.
 #[derive(Drop)]
-pub(crate) struct Opening<L: Link> {
-    pub(crate) stations: Vec<Station<L>>,
+pub(crate) struct Opening<K: Kinds, L: Link> {
+    pub(crate) stations: Vec<Station<K, L>>,
     pub(crate) rest: Rest<L>,
     pub(crate) desks: Vec<Desk>,
 }
 
-impl<L: Link> Opening<L> {
+impl<K: Kinds, L: Link> Opening<K, L> {
     /// All memory that doesn't need links, and desks without places.
-    pub(crate) fn new(alloc: Global, callers: u8) -> Result<Opening<L>, NoMemory>
+    pub(crate) fn new(alloc: Global, callers: u8) -> Result<Opening<K, L>, NoMemory>
         requires { callers ≤ CONNECTORS }
         ensures opening { IfOk result (λ opening. (limit : ℕ) → IsOpening callers limit opening) }
         ensures none { IfOk result (λ opening. opening.stations.items ≡ []) }
@@ -127,7 +128,7 @@ impl<L: Link> Opening<L> {
         callers: u8,
         limit: u32,
         left: IntoIter<L>,
-    ) -> Result<(Board<L>, Vec<Desk>), (Vec<L>, NoMemory)>
+    ) -> Result<(Board<K, L>, Vec<Desk>), (Vec<L>, NoMemory)>
         requires callers { callers ≤ CONNECTORS }
         requires opening { IsOpening callers limit self }
         requires few { length self.stations.items ≤ STRUCTURES }

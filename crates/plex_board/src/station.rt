@@ -19,6 +19,7 @@ use crate::any_cell::AnyCell;
 use crate::any_note::AnyNote;
 use crate::any_pass::AnyPasses;
 use crate::any_reply::AnyReply;
+use crate::kinds::Kinds;
 use crate::note_box::NoteBox;
 use crate::place::Place;
 use plex_script::api::Told;
@@ -36,14 +37,14 @@ use struct_cell::vectors::{Tested, TestedWord};
 /// A structure that threads share by `&`, with the note that was posted last. Contracts see its
 /// cell.
 #[derive(Drop)]
-pub(crate) struct Station<L: Link> {
-    cell: AnyCell<L>,
+pub(crate) struct Station<K: Kinds, L: Link> {
+    cell: AnyCell<K, L>,
     posted: KeyLock<NoteBox>,
     kind: Kind,
     vector: u32,
 }
 
-impl<L: Link> Model for Station<L> {
+impl<K: Kinds, L: Link> Model for Station<K, L> {
     ghost use Rattle.plex_board.specs.Passes.{note_shown};
     ghost use Rattle.plex_board.specs.Cells.{CellShown, cell_shown};
     ghost use Rattle.plex_board.specs.Stations.{IsKept};
@@ -55,7 +56,7 @@ impl<L: Link> Model for Station<L> {
     ghost invariant = { λ s. IsKept (cell_shown s.cell) (note_shown s.posted.key) s.kind s.vector };
 }
 
-impl<L: Link> Station<L> {
+impl<K: Kinds, L: Link> Station<K, L> {
     /// A structure of this form without calls yet, with a pass for each caller from the operator,
     /// 0, on, and nothing posted. A call is made where its journal has fewer than `limit` entries.
     ///
@@ -69,7 +70,7 @@ impl<L: Link> Station<L> {
         callers: u8,
         limit: u32,
         links: Links<L>,
-    ) -> Result<(Station<L>, AnyPasses), (Links<L>, NoMemory)>
+    ) -> Result<(Station<K, L>, AnyPasses), (Links<L>, NoMemory)>
         requires formed { IsForm form }
         requires callers { callers ≤ CONNECTORS }
         requires limit { (1 ≤ limit) × (limit ≤ 4294967000) }
