@@ -1,5 +1,7 @@
 use Rattle.cache_core.proofs.Imports.{arith, ◌∙◌, ◌++◌, ◌∷◌, [], IsTrue, List, sym, subst, is_cache, content-placed, CacheItem, IsContent, content_with, cache_meaning, alone-next, cache-fronts, EngineView, content_of, sum_by-append, elements_in, ◌≤◌}
 use Rattle.cache_core.proofs.{NextLaws.before_next, PlanLaws.either_way}
+use Rattle.cache_core.specs.EngineView.{bound_of}
+use Rattle.cache_core.proofs.BaseLaws.{less, wider}
 use Rattle.cache_core.proofs.engine.CacheEngineEngine.place.Goals as goal
 
 pub push-requires-clause-last : goal.push-requires-clause-last
@@ -29,14 +31,16 @@ invariant_of-self c =
     let held = c.args.self.now.held in
     let kind : IsTrue (is_cache held.shape.kind) = subst (λ (e : EngineView). IsTrue (is_cache e.held.shape.kind))
     c.self.view_is c.self.invariant.cache in
-    let placed : IsContent c.self.inside.caps (content_with (content_of c.self.inside) c.args.item) =
-    subst (λ (e : EngineView). IsContent e.held.caps (content_with e.held.state c.args.item)) (sym c.self.view_is)
+    let placed : IsContent (bound_of c.self.inside.base) (content_with (content_of c.self.inside) c.args.item) =
+    wider c.self.inside.caps (bound_of c.self.inside.base) _ (less c.self.inside.caps c.self.inside.base
+    c.self.invariant.within) (subst (λ (e : EngineView). IsContent e.held.caps (content_with e.held.state c.args.item)) (sym c.self.view_is)
     (content-placed cache_meaning is_cache (λ shape caps content. IsContent caps content) cache-fronts held.shape
-    held.state c.args.item c.requires.next held.caps kind c.requires.fits) in
+    held.state c.args.item c.requires.next held.caps kind c.requires.fits)) in
     record {
       cache = c.self.invariant.cache;
-      caps = c.self.invariant.caps;
-      content = either_way (λ (l : List CacheItem). IsContent c.self.inside.caps (record {
+      base = c.self.invariant.base;
+      within = c.self.invariant.within;
+      content = either_way (λ (l : List CacheItem). IsContent (bound_of c.self.inside.base) (record {
         rows = l;
         regs = c.self.inside.regs.regs;
       })) c.push.result c.self.inside.rows.rows (c.self.inside.rows.rows ++
