@@ -358,8 +358,3 @@ content-done vector caps content by (Castout name) is h = content-castout caps c
 content-done vector caps content by (Unlock name) is h = content-unlock caps content by name is h
 content-done vector caps content by (Delete name) is h = content-delete caps content name is
 content-done vector caps content by _ is h = is
-
-pub content-step : (vector : ℕ) (caps : Caps) (content : Content) (by : ConnId) (cmd : CacheCmd)
-    → IsContent caps content
-    → IsContent caps (unless_refused (cause vector caps content by cmd) content (done caps content by cmd)).state
-content-step vector caps content by cmd is = grind (arith, content-done)
