@@ -367,8 +367,3 @@ pub content-done : (vector : ℕ) (caps : Caps) (content : Content) (by : ConnId
     caps content → cause vector caps content by cmd ≡ None → IsContent caps (done caps content by cmd).state
 content-done vector caps content by cmd is h =
     bounded-done caps caps (omega arith, omega arith) vector content by cmd is h
-
-pub content-step : (vector : ℕ) (caps : Caps) (content : Content) (by : ConnId) (cmd : CacheCmd)
-    → IsContent caps content
-    → IsContent caps (unless_refused (cause vector caps content by cmd) content (done caps content by cmd)).state
-content-step vector caps content by cmd is = grind (arith, content-done)
