@@ -123,7 +123,8 @@ class Page:
                 self.words[name] = Word(name, sort, int(low), int(high), note.replace('`', ''))
         self.parts = {bare(name): (bare(form), bare(note)) for name, form, note in tables['Parts']}
         self.retry = self.nodes_of('[RETRY times]')
-        self.forms = [self.form(section, row) for section in SECTIONS for row in tables[section]]
+        self.section_of = {self.form(section, row): section for section in SECTIONS for row in tables[section]}
+        self.forms = list(self.section_of)
 
     def form(self, section, row):
         kinds, is_call = SECTIONS[section]

@@ -174,7 +174,7 @@ class Hints:
         elsewhere = [form for form in PAGE.commands() if form.verb == verb]
         verbs = list(dict.fromkeys(form.verb for form in PAGE.commands(kind, by)))
         if verb.startswith('TEST') and kind == 'LOCK':
-            return ['a lock structure has no vectors, so there is nothing to test']
+            return [f'{verb} is no command of a LOCK structure, which {on} is: it has no vectors, so there is nothing to test']
         if elsewhere:
             return [f'{verb} is no command of a {kind} structure, which {on} is, but of {kind_says(elsewhere[0].kinds)}',
                     f'commands here: {listed(verbs)} (docs/FORMS.md)']
