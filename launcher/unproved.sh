@@ -1,6 +1,5 @@
 # How ./plexrun runs the sources, where no proved program is there; and what it keeps of that.
 
-answers=$main/out/answers
 KEPT=50
 
 # Says so, once, where a child of this script has to wait for another rt: where that stands in what rt says.
