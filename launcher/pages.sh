@@ -6,6 +6,11 @@ tell() {
     python3 "$top/launcher/tell.py" "$@"
 }
 
+# Whether a report has calls, and each of them was refused.
+are_refused() {
+    awk '/^HISTORY / { left = $3; next } left > 0 { left--; calls++; if (/ -> REFUSED /) refused++; else exit } END { exit !(calls && calls == refused) }'
+}
+
 # Shows the line that an answer `SCRIPT line WHY` names, of the script on standard input, and what is wrong with it.
 explain() {
     set -- $1

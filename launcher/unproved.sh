@@ -81,7 +81,7 @@ run_unproved() {
     question=$(question "$@")
     find_answer "$question" || find_out "$question" "$@"
     case $status in
-    0) [ "$1" != serial ] && [ "$1" != threads ] || tell refused </proc/self/fd/5 ;;
+    0) ! are_refused </proc/self/fd/5 || tell refused </proc/self/fd/5 ;;
     3) [ -n "$judged" ] || explain "$(head -n 1 /proc/self/fd/5)" ;;
     esac
     cat <&5 || status=5
