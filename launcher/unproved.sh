@@ -61,6 +61,7 @@ find_out() {
     say 'this run is not proved. It compiles the sources first: the answer takes 75 seconds, or more where other work is done'
     say 'it ends without an answer after 120 seconds of the run itself (50,000 calls are too many)'
     say './build, in another window, proves and builds the program'
+    [ -z "$judged" ] || say "the run goes on for the program's own verdict; Ctrl-C ends it"
     # (rt itself would fail there; the program answers so)
     [ "$input" = nothing ] || is_readable || { echo 'FAULT READ'; exit 4; }
     try "$@"
