@@ -12,23 +12,30 @@ import re
 import sys
 
 sys.dont_write_bytecode = True
-from hints import form_says, hints, by_says, kind_says, listed, near, quoted
+from hints import by_says, form_says, hints, kind_says, listed, near
 from joined import NotOfScript, joined
 from judge import PAGE, first_fault
+
+# How many characters of a line are shown.
+SHOWN = 160
 
 
 def say(text):
     print(f'plexrun: {text}', file=sys.stderr)
 
 
-def wrong(number, why):
-    text = sys.stdin.buffer.read()
-    line = text.split(b'\n')[int(number) - 1].removesuffix(b'\r')
-    say(f'line {number} is: {quoted(line.decode("latin-1")[:160]) if len(line) > 160 else ascii(line.decode("latin-1"))[1:-1]}')
-    first, *more = hints(text, int(number), why) or ['docs/SCRIPT.md, "What is wrong with a text", says when that comes']
+def show_fault(text, number, why):
+    """Shows the line that is wrong, and what is wrong with it."""
+    line = text.split(b'\n')[number - 1].removesuffix(b'\r').decode('latin-1')
+    say(f'line {number} is: {ascii(line[:SHOWN])[1:-1]}' + (' ..' if len(line) > SHOWN else ''))
+    first, *more = hints(text, number, why) or ['docs/SCRIPT.md, "What is wrong with a text", says when that comes']
     say(f'{why}: {first}')
     for it in more:
         say(f'  {it}')
+
+
+def wrong(number, why):
+    show_fault(sys.stdin.buffer.read(), int(number), why)
     return 0
 
 
@@ -37,9 +44,8 @@ def judged():
     fault = first_fault(text)
     if not fault:
         return 0
-    sys.stdin.buffer.seek(0)
-    say(f'line {fault[0]} is wrong, as it was judged by the launcher, not by the program:')
-    wrong(*fault)
+    say(f'line {fault[0]} is wrong, as judged by the launcher, not by the program:')
+    show_fault(text, *fault)
     return 1
 
 
