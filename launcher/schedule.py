@@ -18,6 +18,8 @@ PROGRAM = "plex_main"
 A_LINE, FLOOR = 0.03, 10
 # A chain as dear as this part of the dearest is one of those that the build waits for.
 NEARLY = 0.9
+# How many jobs there may be for a processor.
+SHARED = 2
 # How nice an rt is whose crate the build doesn't wait for.
 FILLING = 10
 
@@ -112,10 +114,14 @@ class Schedule:
         dearest = max([it.chain() for it in self.open()], default=0)
         free = self.processors - len(runs)
         spare = self.processors - sum(it.jobs for it in runs if it.nice)
+        # (each job takes memory; where that is short the prover itself takes fewer)
+        room = SHARED * self.processors - sum(it.jobs for it in runs)
         starts = []
         for at, crate in enumerate(ready[:free]):
             if crate.chain() >= NEARLY * dearest:
-                starts.append(Start(crate, self.processors, 0))
+                jobs = max(min(self.processors, room), 1)
+                room -= jobs
+                starts.append(Start(crate, jobs, 0))
                 continue
             jobs = max(spare // min(len(ready) - at, free - at), 1)
             spare -= jobs
