@@ -63,8 +63,12 @@ class Form:
     def __init__(self, text, nodes, kinds=(), by=(), example='', page='', is_call=False):
         self.text, self.nodes, self.kinds, self.by, self.example, self.page, self.is_call = text, nodes, kinds, by, example, page, is_call
         self.verb = text.split()[0]
-        self.words = []
+        self.words, self.literals = [], set()
         self.pattern = re.compile(self.pattern_of(nodes))
+
+    def has(self, word):
+        """Whether the word stands as it is in the form."""
+        return word in self.literals
 
     def pattern_of(self, nodes):
         """A pattern of words with one blank behind each, with a group for each word that is filled in."""
@@ -72,6 +76,7 @@ class Form:
 
     def pattern_of_node(self, node):
         if isinstance(node, str):
+            self.literals.add(node)
             return re.escape(node) + ' '
         if isinstance(node, Word):
             self.words.append(node)

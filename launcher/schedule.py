@@ -18,7 +18,7 @@ PROGRAM = "plex_main"
 A_LINE, FLOOR = 0.03, 10
 # A chain as dear as this part of the dearest is one of those that the build waits for.
 NEARLY = 0.9
-# How many jobs there may be for a processor.
+# How many jobs there may be for a processor, but for those of the crate that heads the dearest chain.
 SHARED = 2
 # How nice an rt is whose crate the build doesn't wait for.
 FILLING = 10
@@ -119,7 +119,7 @@ class Schedule:
         starts = []
         for at, crate in enumerate(ready[:free]):
             if crate.chain() >= NEARLY * dearest:
-                jobs = max(min(self.processors, room), 1)
+                jobs = self.processors if crate.chain() >= dearest else max(min(self.processors, room), 1)
                 room -= jobs
                 starts.append(Start(crate, jobs, 0))
                 continue

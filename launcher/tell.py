@@ -84,8 +84,8 @@ def refused():
 
 
 def help_says(word):
-    """The forms that begin with a word."""
-    forms = [form for form in PAGE.forms if form.verb == word.upper()]
+    """The forms that begin with a word, or else those that have it."""
+    forms = [form for form in PAGE.forms if form.verb == word.upper()] or [form for form in PAGE.forms if form.has(word.upper())]
     if not forms:
         like = near(word, PAGE.verbs())
         print(f'{word} begins no line and no command' + (f' ({like} does)' if like else '') + f': {listed(dict.fromkeys(form.verb for form in PAGE.forms))}')
