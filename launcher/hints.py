@@ -30,14 +30,14 @@ def kind_says(kinds):
 
 
 def by_says(by):
-    return listed({'c': 'a connector', 'OP': 'the operator (OP)'}[it] for it in by)
+    return listed(({'c': 'a connector', 'OP': 'the operator (OP)'}[it] for it in by), 'or')
 
 
 def form_says(form, who='', on=''):
     """The row of a form: as a line, where somebody gives it at a structure."""
     text = ' '.join([*([who or '..', on or '..'] if form.kinds else []), form.text] + ['[RETRY times]'] * form.is_call)
     parts = [f'{part} is {PAGE.parts[part][0][1:-1]}' for part in PAGE.parts if re.search(rf'\b{part}\b', form.text)]
-    return text + (f'; {listed(parts)}' if parts else '')
+    return '; '.join([text, *parts])
 
 
 def shown(forms, who='', on=''):

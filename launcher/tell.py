@@ -14,7 +14,7 @@ import sys
 sys.dont_write_bytecode = True
 from hints import by_says, form_says, hints, kind_says, listed, near
 from joined import NotOfScript, joined
-from judge import PAGE, first_fault
+from judge import PAGE, first_fault, without_return
 
 # How many characters of a line are shown.
 SHOWN = 160
@@ -26,7 +26,7 @@ def say(text):
 
 def show_fault(text, number, why):
     """Shows the line that is wrong, and what is wrong with it."""
-    line = text.split(b'\n')[number - 1].removesuffix(b'\r').decode('latin-1')
+    line = without_return(text.split(b'\n')[number - 1]).decode('latin-1')
     say(f'line {number} is: {ascii(line[:SHOWN])[1:-1]}' + (' ..' if len(line) > SHOWN else ''))
     first, *more = hints(text, number, why) or ['docs/SCRIPT.md, "What is wrong with a text", says when that comes']
     say(f'{why}: {first}')
