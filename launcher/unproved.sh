@@ -57,7 +57,11 @@ find_answer() {
 find_out() {
     key=$1
     shift
-    command -v rt >/dev/null 2>&1 || { say 'no proved program is here, and no command rt of the Rattle kit to run the sources'; exit 69; }
+    if ! command -v rt >/dev/null 2>&1; then
+        say 'no proved program is here, and no command rt of the Rattle kit to run the sources'
+        say 'without the kit there are scripts with their reports: ./plexrun joined examples/first-cache.plex examples/first-cache.report'
+        exit 69
+    fi
     say 'this run is not proved. It compiles the sources first: the answer takes 75 seconds, or more where other work is done'
     say 'it ends without an answer after 120 seconds of the run itself (50,000 calls are too many)'
     say './build, in another window, proves and builds the program'
