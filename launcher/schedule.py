@@ -15,7 +15,7 @@ import sys
 TOP = os.path.dirname(os.path.dirname(os.path.realpath(__file__)))
 PROGRAM = "plex_main"
 # Seconds of a processor for a line of a source, where no time was recorded, and for any crate.
-A_LINE, FLOOR = 0.03, 10
+A_LINE, FLOOR = 0.04, 10
 # A chain as dear as this part of the dearest is one of those that the build waits for.
 NEARLY = 0.9
 # How many jobs there may be for a processor, but for those of the crate that heads the dearest chain.
