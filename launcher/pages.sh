@@ -21,10 +21,10 @@ explain() {
 # The rows of launcher/words, each with what the word does.
 words_told() {
     awk '/^[a-z]/ {
-        word = $1; operand = ($2 == "-") ? "" : " " $2; files = ($3 == "script") ? " [FILE]" : ($3 == "script+report") ? " [SCRIPT REPORT]" : ($3 == "files") ? " .." : ""
+        word = $1; operand = ($2 == "-") ? "" : " " $2; files = ($3 == "script") ? " [FILE]" : ($3 == "script+report") ? " [SCRIPT REPORT]" : ($3 == "files") ? " SCRIPT [REPORT]" : ""
         what = $0
         for (i = 0; i < 5; i++) sub(/^[^ ]+ +/, "", what)
-        printf "  %-18s %s\n", word operand files, what
+        printf "  %-23s %s\n", word operand files, what
     }' "$top/launcher/words"
 }
 
@@ -48,8 +48,8 @@ plexrun $(cat "$top/VERSION"): what a coupling facility answers to a script of c
 usage: ./plexrun WORD
 
 $(words_told)
-  help [COMMAND ..]  this page, or the form of a line, as in ./plexrun help READ
-  --version          which version this is, and whether the program is proved
+  help [COMMAND ..]       this page, or the form of a line, as in ./plexrun help READ
+  --version               which version this is, and whether the program is proved
 
 A script comes from FILE, or else from standard input. Standard output is the report; what the launcher says goes to standard error.
 ./build proves and builds the program. ./build --install FOLDER puts it in FOLDER, with the manual page and the examples.
