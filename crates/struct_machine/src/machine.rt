@@ -73,15 +73,20 @@ impl<E: Engine, L: Link> Machine<E, L> {
     ///
     /// # Errors
     ///
-    /// The links, where memory lacks.
-    pub fn start(alloc: Global, form: StrForm, links: Links<L>) -> Result<Machine<E, L>, Links<L>>
+    /// The links with the cause, where memory lacks.
+    pub fn start(
+        alloc: Global,
+        form: StrForm,
+        links: Links<L>,
+    ) -> Result<Machine<E, L>, (Links<L>, NoMemory)>
         requires formed { IsForm form }
         requires kind { IsTrue (E.is_kind form.kind) }
         ensures ok { IfOk result (λ machine. machine ≡ new_structure E.meaning form links) }
-        ensures err { IfErr result (λ back. back ≡ links) }
+        ensures err { IfErr result (λ back. back.0 ≡ links) }
     {
-        let Ok(shell) = Shell::start(alloc, form, CONNECTORS) else {
-            return Err(links);
+        let shell = match Shell::start(alloc, form, CONNECTORS) {
+            Ok(shell) => shell,
+            Err(cause) => return Err((links, cause)),
         };
         let content = Content::bare(alloc, links);
         Ok(Machine { shell, content })
