@@ -1,13 +1,20 @@
 # What ./plexrun and ./build share. `top` is the repository's folder.
-main=$top/crates/plex_main
-program=$main/out/plex_main
-sources=$main/out/plex_main.sources
+
+# Sets which program is meant, by its crate, and where it, its sources and what is kept of it stand.
+program_is() {
+    root=$1
+    main=$top/crates/$root
+    program=$main/out/$root
+    sources=$main/out/$root.sources
+    answers=$main/out/answers
+}
+program_is plex_main
 
 say() { printf '%s: %s\n' "${0##*/}" "$*" >&2; }
 
 # The program's crate and those that it stands on, one a line, each behind the word that is given.
 crates() {
-    awk -v before="$1" '
+    awk -v before="$1" -v root="$root" '
         function take(name, list, n, i) {
             if (name in taken || !(name in below)) return
             taken[name] = 1
@@ -15,7 +22,7 @@ crates() {
             for (i = 1; i <= n; i++) take(list[i])
         }
         /^[a-z]/ { colon = index($0, ":"); split($0, head, /[ :]/); below[head[1]] = substr($0, colon + 1) }
-        END { take("plex_main"); for (name in taken) print before name }
+        END { take(root); for (name in taken) print before name }
     ' "$top/crates.txt"
 }
 

@@ -7,7 +7,6 @@ standard error. The exit status is 0 where all was built, 1 where a crate was no
 
 import contextlib
 import fcntl
-import functools
 import os
 import re
 import shutil
@@ -18,10 +17,13 @@ import tempfile
 import time
 import zlib
 
-PROGRAM = "plex_main"
+sys.dont_write_bytecode = True
+from schedule import PROGRAM, Schedule, read_crates
+
 SHOWN = 40
-# What one rt takes of memory at most, in kilobytes.
-NEEDED = 4_500_000
+# What the rt of the dearest crate takes of memory, and what one beside it takes at most, in kilobytes.
+DEAREST, BESIDE = 6_000_000, 3_000_000
+SO_FAR = re.compile(r"(?:so far: |checked \S+, )(\d+) of (\d+)\b")
 WAITS = re.compile(r"rt: waiting for another rt .*|.*another copy of the repository is building.*")
 
 
@@ -33,7 +35,7 @@ def processors():
     """How many processors there are to use, and to find memory for."""
     with open("/proc/meminfo", encoding="ascii") as it:
         free = int(re.search(r"MemAvailable:\s+(\d+)", it.read())[1])
-    return max(min(len(os.sched_getaffinity(0)), free // NEEDED), 1)
+    return max(min(len(os.sched_getaffinity(0)), 1 + (free - DEAREST) // BESIDE), 1)
 
 
 PROCESSORS = processors()
@@ -54,56 +56,6 @@ def replace(of, to):
     """Puts a folder's files in the place of another folder."""
     shutil.rmtree(to, ignore_errors=True)
     shutil.copytree(of, to, symlinks=True, copy_function=copied)
-
-
-def lines_of(folder):
-    """How many lines the sources of a crate have: what its proof is likely to cost goes by them."""
-    total = 0
-    for at, folders, files in os.walk(folder):
-        folders[:] = [it for it in folders if it != "out"]
-        for file in files:
-            if file.endswith((".rt", ".antt")):
-                with open(os.path.join(at, file), "rb") as it:
-                    total += it.read().count(b"\n")
-    return total
-
-
-class Crate:
-    def __init__(self, top, name, waits):
-        self.name, self.needs, self.above = name, [], []
-        # (a line is dearer where threads share what it speaks of)
-        self.cost = (50 + lines_of(f"{top}/crates/{name}")) * (3 if waits else 1)
-        self.is_done = self.is_begun = False
-
-    @functools.cached_property
-    def below(self):
-        return {it for need in self.needs for it in [need, *need.below]}
-
-    @functools.cached_property
-    def chain(self):
-        """The cost of the dearest chain of crates from this one up."""
-        return self.cost + max([it.chain for it in self.above], default=0)
-
-    def is_ready(self):
-        return not self.is_begun and all(it.is_done for it in self.needs)
-
-
-def read_crates(top, names):
-    """The crates of these names, as crates.txt has them, each with those that it needs."""
-    lists, waiting = {}, set()
-    with open(f"{top}/crates.txt", encoding="utf-8") as it:
-        for line in it:
-            if re.match("[a-z]", line):
-                head, _, needs = line.partition(":")
-                lists[head.split()[0]] = needs.split()
-                if "may_wait=" in head:
-                    waiting.add(head.split()[0])
-    crates = {it: Crate(top, it, it in waiting) for it in lists if it in names}
-    for it in crates.values():
-        it.needs = [crates[need] for need in lists[it.name] if need in crates]
-        for need in it.needs:
-            need.above.append(it)
-    return list(crates.values())
 
 
 class Lane:
@@ -187,15 +139,16 @@ def make_lanes(top, crates, room):
 class Run:
     """An rt that builds one crate in a lane."""
 
-    def __init__(self, crate, lane, jobs, log):
-        self.crate, self.lane, self.jobs, self.log = crate, lane, jobs, log
-        self.start, self.has_told = time.monotonic(), False
+    def __init__(self, start, lane, log):
+        self.crate, self.jobs, self.nice, self.lane, self.log = start.crate, start.jobs, start.nice, lane, log
+        self.start, self.has_told, self.used = time.monotonic(), False, 0.0
+        crate, jobs = self.crate, str(self.jobs)
         crate.is_begun = True
         lane.begin(crate)
-        verb = ["run", "--jobs", str(jobs), "--", "serial"] if crate.name == PROGRAM else ["lib", "--jobs", str(jobs)]
+        verb = ["run", "--jobs", jobs, "--", "serial"] if crate.name == PROGRAM else ["lib", "--jobs", jobs]
         with open(log, "wb") as it:
             self.process = subprocess.Popen(
-                ["rt", *verb],
+                ["nice", "-n", str(self.nice), "rt", *verb],
                 cwd=f"{lane.folder}/crates/{crate.name}",
                 stdin=subprocess.DEVNULL,
                 stdout=it,
@@ -210,6 +163,22 @@ class Run:
         with open(self.log, errors="replace") as it:
             return it.read().splitlines()
 
+    def has_ended(self):
+        """Whether it has ended. What it used of a processor is known then."""
+        if self.process.returncode is None:
+            ended, status, usage = os.wait4(self.process.pid, os.WNOHANG)
+            if ended:
+                self.process.returncode = os.waitstatus_to_exitcode(status)
+                self.used = usage.ru_utime + usage.ru_stime
+        return self.process.returncode is not None
+
+    def look(self):
+        """Notes how far the crate is, as rt tells it."""
+        told = [SO_FAR.search(line) for line in self.said()]
+        far = next((it for it in reversed(told) if it), None)
+        if far and int(far[2]):
+            self.crate.part = max(self.crate.part, min(int(far[1]) / int(far[2]), 0.95))
+
     def tell_wait(self):
         """Says once that another rt holds the folders."""
         last = self.said()[-1:]
@@ -223,53 +192,45 @@ class Run:
 
     def leave(self):
         """Waits for the end of a run that was stopped, and keeps what it proved."""
-        try:
-            self.process.wait(30)
+        until = time.monotonic() + 30
+        while not self.has_ended() and time.monotonic() < until:
+            time.sleep(0.1)
+        if self.has_ended():
             self.lane.give(self.crate)
-        except subprocess.TimeoutExpired:
+        else:
             say(f"{self.crate.name}: rt goes on as process {self.process.pid}")
 
 
 class Build:
     def __init__(self, top, names):
-        self.top, self.crates = top, read_crates(top, names)
+        self.top = top
+        self.schedule = Schedule(read_crates(top, names), PROCESSORS)
         self.logs = f"{top}/crates/{PROGRAM}/out/build"
         self.runs, self.free = [], []
         self.start = self.told = time.monotonic()
-        # what crates of so many lines took, and how many jobs they had
-        self.spent = self.done_cost = 0
-
-    def ready(self):
-        return sorted([it for it in self.crates if it.is_ready()], key=lambda it: -it.chain)
+        # what crates took that were proved, and what was recorded of them
+        self.used = self.recorded = 0.0
 
     def begin(self):
-        """Starts what can start. Where there is less to do than there are processors each gets more of them."""
-        ready = self.ready()
-        spare = PROCESSORS - sum(it.jobs for it in self.runs)
-        while ready and spare > 0:
-            jobs = max(spare // len(ready), 1)
-            crate = ready.pop(0)
+        """Starts what can start."""
+        for start in self.schedule.starts(self.runs):
             # the program is linked in the repository itself
-            at = 0 if crate.name == PROGRAM else len(self.free) - 1
-            lane = self.free.pop(at)
-            self.runs.append(Run(crate, lane, jobs, f"{self.logs}/{crate.name}.log"))
-            spare -= jobs
+            at = 0 if start.crate.name == PROGRAM else len(self.free) - 1
+            self.runs.append(Run(start, self.free.pop(at), f"{self.logs}/{start.crate.name}.log"))
 
-    def left(self):
-        """About how many minutes are left, by what a line took up to now; 0 before that can be said."""
-        if self.spent < 60:
-            return 0
-        open_ = [it for it in self.crates if not it.is_done]
-        cost = max(sum(it.cost for it in open_) / PROCESSORS, max([it.chain for it in open_], default=0) / 2)
-        return round(cost * self.spent / self.done_cost / 60)
+    def pace(self):
+        """How many times what was recorded the crates take here, as far as one knows."""
+        return self.used / self.recorded if self.recorded > 30 else 1.0
 
     def tell(self):
         self.told = time.monotonic()
-        done = sum(it.is_done for it in self.crates)
-        minutes, left = round((self.told - self.start) / 60), self.left()
-        about = f", about {left} min to go" if left else ""
+        for run in self.runs:
+            run.look()
+        crates = self.schedule.crates
+        done, minutes = sum(it.is_done for it in crates), round((self.told - self.start) / 60)
+        left = max(round(self.schedule.seconds_left(self.pace()) / 60), 1)
         now = ", ".join(it.crate.name for it in self.runs)
-        say(f"{done} of {len(self.crates)} crates, {minutes} min{about}{'; at ' if now else ''}{now}")
+        say(f"{done} of {len(crates)} crates, {minutes} min, about {left} min to go{'; at ' if now else ''}{now}")
 
     def end(self, run):
         """Takes the end of a run in; whether it ended well."""
@@ -280,8 +241,8 @@ class Build:
         run.crate.is_done = run.process.returncode == 0
         # what was kept says nothing of what is to come
         if run.seconds() > 5:
-            self.spent += run.seconds() * run.jobs
-            self.done_cost += run.crate.cost
+            self.used += run.used
+            self.recorded += run.crate.cost
         return run.crate.is_done
 
     def fail(self, run):
@@ -295,7 +256,7 @@ class Build:
             if not self.runs:
                 return True
             time.sleep(0.2)
-            for run in [it for it in self.runs if it.process.poll() is not None]:
+            for run in [it for it in self.runs if it.has_ended()]:
                 if not self.end(run):
                     self.fail(run)
                     return False
@@ -312,7 +273,7 @@ class Build:
         try:
             # (one is there where a build was killed)
             shutil.rmtree(room, ignore_errors=True)
-            self.free = make_lanes(self.top, self.crates, room)
+            self.free = make_lanes(self.top, self.schedule.crates, room)
             return self.work()
         finally:
             on_signals(unheard)

@@ -7,9 +7,9 @@ ghost use Rattle.plex_board.specs.VecWords.Tokens.{new_pass};
 use crate::faults::Timed;
 use crate::pages::{PAGES, form, read, write};
 use plex_board::api::Engine;
-use plex_board::caches::CacheEngine;
 use plex_board::types::{CacheCmd, CacheReply, ConnId, Effects, NoMemory, Refusal};
 use plex_board::vectors::{EngineSeat, Pass, Vectors};
+use plex_engines::caches::CacheEngine;
 use std::alloc::Global;
 use std::io;
 use std::time::{Clock, Instant};
@@ -61,7 +61,7 @@ pub fn use_engine(rt: &impl Clock, alloc: Global, reads: u32) -> io::Result<Time
     let nanos = start.elapsed(rt)?.as_nanos();
     match read {
         Ok(count) => Ok(Timed { count, nanos }),
-        Err(NoMemory) => Err(io::Error::from(io::ErrorKind::OutOfMemory)),
+        Err(_) => Err(io::Error::from(io::ErrorKind::OutOfMemory)),
     }
 }
 
@@ -118,7 +118,7 @@ fn words_of(alloc: Global) -> Result<(Vectors<u32>, Pass<u32>), NoMemory>
 {
     let (vectors, seat, passes) = Vectors::start(alloc, 1, PAGES)?;
     let Some(mut pass) = last_pass(&vectors, passes) else {
-        return Err(NoMemory);
+        return Err(NoMemory::beyond_counts());
     };
     set_bits(&vectors, seat, &mut pass);
     Ok((vectors, pass))

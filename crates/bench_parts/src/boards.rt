@@ -9,13 +9,14 @@ ghost use Rattle.bench_parts.specs.Seats.{IsOneCache, IsCacheBoard, IsOperated, 
 
 use crate::faults::{Timed, call_error};
 use crate::pages::{PAGES, form, name, read, write};
+use plex_board::Desk;
 use plex_board::api::{Ask, Told};
 use plex_board::cells::CallRefused;
 use plex_board::links::Steady;
 use plex_board::scripts::{AnyAsk, Script};
 use plex_board::types::limits::LINKS;
 use plex_board::types::{CacheCmd, Listing, NoMemory, ShellCmd, StrNo};
-use plex_board::{Board, Desk};
+use plex_engines::Board;
 use std::alloc::Global;
 use std::io;
 use std::sync::Wait;
@@ -130,7 +131,7 @@ fn open(
     alloc: Global,
     policy: &Script,
     links: Vec<Steady>,
-) -> Result<(Board<Steady>, Vec<Desk>), Vec<Steady>>
+) -> Result<(Board<Steady>, Vec<Desk>), (Vec<Steady>, NoMemory)>
     requires policy { IsOneCache policy.now }
     requires links { vec_len links ≡ LINKS }
     ensures board { IfOk result (λ r. IsCacheBoard r.0) }
@@ -149,17 +150,16 @@ fn start(
     ensures { IfOk result (λ r. IsSeated r.0 r.1) }
 {
     let policy = policy(alloc)?;
-    let Ok(links) = vec![in alloc; Steady; LINKS] else {
-        return Err(CallRefused::NoMemory);
-    };
-    let Ok((board, mut desks)) = open(rt, alloc, &policy, links) else {
-        return Err(CallRefused::NoMemory);
+    let links = vec![in alloc; Steady; LINKS].map_err(NoMemory::from)?;
+    let (board, mut desks) = match open(rt, alloc, &policy, links) {
+        Ok(begun) => begun,
+        Err((_, cause)) => return Err(CallRefused::NoMemory(cause)),
     };
     let Some(mut desk) = last_desk(&board, &mut desks) else {
-        return Err(CallRefused::NoMemory);
+        return Err(CallRefused::JournalFull { limit: 0 });
     };
     let Some(mut operator) = operator_desk(&board, desks) else {
-        return Err(CallRefused::NoMemory);
+        return Err(CallRefused::JournalFull { limit: 0 });
     };
     fill(rt, alloc, &board, &mut desk)?;
     if duplexed {

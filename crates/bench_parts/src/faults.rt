@@ -12,7 +12,7 @@ pub struct Timed {
 /// A refused call as an error of the program.
 pub fn call_error(refusal: CallRefused) -> io::Error {
     io::Error::from(match refusal {
-        CallRefused::NoMemory => io::ErrorKind::OutOfMemory,
+        CallRefused::NoMemory(_) => io::ErrorKind::OutOfMemory,
         CallRefused::JournalFull { .. } => io::ErrorKind::Other,
     })
 }

@@ -3,7 +3,7 @@ ghost use Rattle.std.specs.Prelude.{◌≡◌, IfOk};
 ghost use Rattle.bench_parts.specs.Seats.{IsCacheForm};
 
 use plex_board::types::{
-    CacheCmd, Caps, CfId, Kind, Listing, Name16, NoMemory, Pref, StrForm, parse_body,
+    Body, CacheCmd, Caps, CfId, Kind, Listing, Name16, NoMemory, Pref, StrForm,
 };
 use std::alloc::Global;
 
@@ -65,17 +65,15 @@ pub fn read(k: u32) -> CacheCmd {
 
 /// WRITE_DATA of a page at its own index, counted round.
 pub fn write(alloc: Global, k: u32) -> Result<CacheCmd, NoMemory> {
-    match parse_body(alloc, DATA) {
-        Ok(body) => Ok(CacheCmd::Write {
-            name: page(k),
-            index: k % PAGES,
-            body,
-            class: None,
-            adj: None,
-            old: None,
-            stg: 1,
-            when_reg: false,
-        }),
-        Err(_) => Err(NoMemory),
-    }
+    let body = Body::from_vec(Vec::from_slice(alloc, DATA)?);
+    Ok(CacheCmd::Write {
+        name: page(k),
+        index: k % PAGES,
+        body,
+        class: None,
+        adj: None,
+        old: None,
+        stg: 1,
+        when_reg: false,
+    })
 }

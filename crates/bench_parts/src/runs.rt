@@ -4,8 +4,8 @@ ghost use Rattle.std.specs.Prelude.{◌≤◌};
 use crate::row_pages::form;
 use crate::works::{Work, are_changed, next_number, work_once, write_page};
 use plex_board::api::Engine;
-use plex_board::caches::CacheEngine;
 use plex_board::types::{ConnId, Effects, NoMemory};
+use plex_engines::caches::CacheEngine;
 use std::alloc::Global;
 use std::io;
 use std::time::{Clock, Instant};
@@ -82,7 +82,7 @@ pub fn use_engine(
     let nanos = start.elapsed(rt)?.as_nanos();
     match done {
         Ok(count) => Ok(Timed { count, nanos }),
-        Err(NoMemory) => Err(no_memory()),
+        Err(_) => Err(no_memory()),
     }
 }
 
@@ -111,7 +111,7 @@ pub fn copy_all(rt: &impl Clock, alloc: Global, rows: u32) -> io::Result<Timed>
     let nanos = start.elapsed(rt)?.as_nanos();
     match done {
         Ok(count) => Ok(Timed { count, nanos }),
-        Err(NoMemory) => Err(no_memory()),
+        Err(_) => Err(no_memory()),
     }
 }
 
@@ -137,6 +137,6 @@ pub fn depart(rt: &impl Clock, alloc: Global, rows: u32) -> io::Result<Timed>
     let nanos = start.elapsed(rt)?.as_nanos();
     match done {
         Ok(()) => Ok(Timed { count: 1, nanos }),
-        Err(NoMemory) => Err(no_memory()),
+        Err(_) => Err(no_memory()),
     }
 }

@@ -114,7 +114,7 @@ fn take_pass(vectors: &Vectors<u32>, passes: &mut Vec<Pass<u32>>) -> Result<Pass
     ensures rest { All (λ p. p.table ≡ vectors.now) passes.new.items }
     ensures pass { IfOk result (λ p. p.table ≡ vectors.now) }
 {
-    passes.pop().ok_or(NoMemory)
+    passes.pop().ok_or(NoMemory::beyond_counts())
 }
 
 /// Tests, alone or while another thread makes calls.

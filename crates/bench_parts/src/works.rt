@@ -4,8 +4,8 @@ ghost use Rattle.plex_board.specs.CfTypes.Forms.{IsCaller};
 
 use crate::row_pages::page;
 use plex_board::api::Engine;
-use plex_board::caches::CacheEngine;
-use plex_board::types::{CacheCmd, ConnId, Effects, Name16, NoMemory, parse_body};
+use plex_board::types::{Body, CacheCmd, ConnId, Effects, Name16, NoMemory};
+use plex_engines::caches::CacheEngine;
 use std::alloc::Global;
 
 /// What is done again and again: a READ of a page that has a row; one of a page that has none, for
@@ -61,19 +61,17 @@ fn write(
     last: Name16,
     class: Option<u32>,
 ) -> Result<CacheCmd, NoMemory> {
-    match parse_body(alloc, DATA) {
-        Ok(body) => Ok(CacheCmd::Write {
-            name,
-            index: 3,
-            body,
-            class,
-            adj: None,
-            old: Some(last),
-            stg: 1,
-            when_reg: false,
-        }),
-        Err(_) => Err(NoMemory),
-    }
+    let body = Body::from_vec(Vec::from_slice(alloc, DATA)?);
+    Ok(CacheCmd::Write {
+        name,
+        index: 3,
+        body,
+        class,
+        adj: None,
+        old: Some(last),
+        stg: 1,
+        when_reg: false,
+    })
 }
 
 /// The castout class of a page, where its rows are changed.

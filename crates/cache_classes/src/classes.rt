@@ -216,13 +216,12 @@ impl Classes {
     }
 
     /// Takes room for one name more. Want of memory changes nothing.
+    #[tactic(auto, using(crate::proofs::MapLaws::length_in))]
     pub fn room(&mut self) -> Result<(), NoMemory>
+        requires few { length self.old.names < 4294967295 }
         ensures names { self.new.names ≡ self.old.names }
         ensures room { OnOk result (1 ≤ self.new.room) }
     {
-        if self.map.len() >= u32::MAX as usize {
-            return Err(NoMemory);
-        }
         self.map.reserve(1)?;
         Ok(())
     }

@@ -6,3 +6,4 @@ pub mod NextLaws
 pub mod EndLaws
 pub mod FrontLaws
 pub mod PlanLaws
+mod BaseLaws

@@ -3,6 +3,8 @@ use Rattle.std.specs.Prelude.{◌≡◌, ℕ, ◌+◌, ◌≤◌, IsTrue, length
 use Rattle.cf_types.specs.declared.effects.Effects.{Effects}
 use Rattle.cf_types.specs.declared.cache_commands.CacheCmd.{CacheCmd}
 use Rattle.cf_types.specs.Forms.{IsCapacity, is_cache}
+use Rattle.cf_types.specs.declared.forms.Caps.{Caps}
+use Rattle.engine_api.specs.Instances.{units_of}
 use Rattle.engine_api.specs.Meaning.{Held, Wish}
 use Rattle.engine_api.specs.Meaning.Wish.{ForCmd, ForLeave, ForForget}
 use Rattle.cache_core.specs.declared.plans.Plan.{Plan}
@@ -23,18 +25,24 @@ content_of e = record { rows = e.rows.rows; regs = e.regs.regs }
 abbrev pub view_of : Inside → EngineView
 view_of e =
     record {
-      held = record { shape = e.shape; base = e.caps; caps = e.caps; state = content_of e };
+      held = record { shape = e.shape; base = e.base; caps = e.caps; state = content_of e };
       plan = e.plan;
       row_room = e.rows.room;
       reg_room = e.regs.room;
     }
 
+-- all units of the base as rows, and as elements
+abbrev pub bound_of : Caps → Caps
+bound_of base = record { entries = units_of base; elements = units_of base }
+
 pub record IsKept (e : Inside) : Type 0 where
   pub cache : IsTrue (is_cache e.shape.kind)
-  pub caps : IsCapacity e.caps
-  pub content : IsContent e.caps (content_of e)
+  pub base : IsCapacity e.base
+  pub within : units_of e.caps ≤ units_of e.base
+  pub content : IsContent (bound_of e.base) (content_of e)
   pub vector : e.regs.len ≡ e.shape.vector
-  pub elements : e.rows.elements ≡ e.caps.elements
+  pub places : e.rows.entries ≡ units_of e.base + 1
+  pub elements : e.rows.elements ≡ units_of e.base
 
 -- the plan is that for the command, and there is room for a row, a registration and the bits that change
 pub record IsReadyFor (e : EngineView) (plan : Plan) (out : Effects) : Type 0 where

@@ -5,7 +5,7 @@ use cache_model::CacheItem;
 use cache_model::registrations::Regs;
 use cache_rows::Rows;
 use cf_types::{CacheCmd, CacheReply, Caps, ConnId, Effects, Name16, NoMemory, Refusal, StrForm};
-use engine_api::{Engine, Shape};
+use engine_api::{Engine, SetCaps, Shape};
 use std::alloc::Global;
 use std::marker::Model;
 
@@ -39,6 +39,7 @@ fn name_at(names: &[Name16], k: u32) -> Name16
 pub struct CacheEngine {
     alloc: Global,
     shape: Shape,
+    base: Caps,
     caps: Caps,
     rows: Rows,
     regs: Regs,
@@ -60,6 +61,7 @@ impl Drop for CacheEngine {
         let CacheEngine {
             alloc: _,
             shape: _,
+            base: _,
             caps: _,
             rows: _,
             regs: _,
@@ -103,13 +105,16 @@ impl Engine for CacheEngine {
     ghost is_ready = { IsReady };
 
     fn empty(alloc: Global, form: &StrForm, caps: Caps) -> Result<Self, NoMemory> {
-        // One place more than there are entries, since room for a command's row is taken before
-        // other rows go.
-        let rows = Rows::new(alloc, caps.entries + 1, caps.elements)?;
+        // Entries and elements may be exchanged for each other, so there is room for as many of
+        // each as there are together; and for one row more, since room for a command's row is taken
+        // before other rows go.
+        let units = caps.entries + caps.elements;
+        let rows = Rows::new(alloc, units + 1, units)?;
         let regs = Regs::new(alloc, form.conns, form.vector)?;
         Ok(CacheEngine {
             alloc,
             shape: Shape::of(form),
+            base: caps,
             caps,
             rows,
             regs,
@@ -123,6 +128,7 @@ impl Engine for CacheEngine {
         Ok(CacheEngine {
             alloc,
             shape: self.shape,
+            base: self.base,
             caps: self.caps,
             rows,
             regs,
@@ -204,7 +210,7 @@ impl Engine for CacheEngine {
         self.rows.copy_of(alloc, &name)
     }
 
-    fn place(&mut self, item: CacheItem) -> Result<(), CacheItem> {
+    fn place(&mut self, item: CacheItem) -> Result<(), (CacheItem, NoMemory)> {
         self.rows.push(item)
     }
 
@@ -264,4 +270,20 @@ impl Engine for CacheEngine {
 
     ghost need_leave = { λ shape caps content conn keep kind is. need-leave shape.kind content
         conn };
+}
+
+impl SetCaps for CacheEngine {
+    ghost use Rattle.cache_model.proofs.EngineLaws.{content-at, content-fits};
+
+    fn base(&self) -> Caps {
+        self.base
+    }
+
+    fn set_caps(&mut self, caps: Caps) {
+        self.caps = caps;
+    }
+
+    ghost content_fits = { content-fits };
+
+    ghost content_at = { content-at };
 }

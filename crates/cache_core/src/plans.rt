@@ -202,6 +202,7 @@ pub(crate) fn act(
         out.new.bits.items }
     ensures mail { out.new.mail ≡ out.old.mail }
     ensures len { regs.new.len ≡ regs.old.len }
+    ensures entries { rows.new.entries ≡ rows.old.entries }
     ensures elements { rows.new.elements ≡ rows.old.elements }
 {
     match cmd {

@@ -1,13 +1,12 @@
 -- A valid bit tells a fresh copy: what a registered connector has at the index is what the name's row has.
-use Rattle.cache_model.proofs.Imports.{◌≡◌, ℕ, Bool, true, false, not, ◌&&◌, ◌||◌, ◌==◌, cond, List, [], ◌∷◌, ◌++◌, Option, Some, None, option_map, filter, map, refl, sym, ap, ◌∙◌, subst, arith, option_and_then, and_parts, or_parts, not-true, false≢true, eqb-true, nat_tests, find-append, Caps, Name16, ConnId, Refusal, CacheCmd, Read, Write, CrossInval, Castout, Unlock, Delete, same_name, unless_refused, insertion, find-filter, find_none, none_filtered, find-insertion_past, find-insertion_here, Registration, is_replaced, registered_at, stands_before as before, regs_with, ends_with_name, same_name-eq, same_name-refl, same_name-sym, CacheItem, is_row_of, is_changed, row_of, has_row, rows_without, rows_replaced, row_or_new, IsDirectory, Content, IsContent, no_content, content_without, without_hold, is_among, rows_spared, done, after, Copy, Copies, Deed, after_deed, after_run, row_copy, copy_in, reply_copy, copies_with, copies_done, copies_unless, copies_after, copies_run, Calls, Leaves, Forgets}
+use Rattle.cache_model.proofs.Imports.{◌≡◌, ℕ, Bool, true, false, not, ◌&&◌, ◌||◌, ◌==◌, cond, List, [], ◌∷◌, ◌++◌, Option, Some, None, option_map, filter, map, refl, sym, ap, ◌∙◌, subst, arith, option_and_then, and_parts, or_parts, not-true, false≢true, eqb-true, nat_tests, find-append, Caps, Name16, ConnId, Refusal, CacheCmd, Read, Write, CrossInval, Castout, Unlock, Delete, same_name, unless_refused, insertion, find-filter, find_none, none_filtered, find-insertion_past, find-insertion_here, Registration, is_replaced, registered_at, stands_before as before, regs_with, ends_with_name, same_name-eq, same_name-refl, same_name-sym, CacheItem, is_row_of, is_changed, row_of, has_row, rows_without, rows_replaced, row_or_new, IsDirectory, IsOrderly, Content, no_content, content_without, without_hold, is_among, rows_spared, done, after, Copy, Copies, Deed, after_deed, after_run, row_copy, copy_in, reply_copy, copies_with, copies_done, copies_unless, copies_after, copies_run, Calls, Leaves, Forgets}
 use Rattle.cache_model.specs.{Rows.stands_before, Step.victims}
 use Rattle.cache_model.specs.Commands.Read as read
 use Rattle.cache_model.specs.Commands.Write as write
 use Rattle.cache_model.specs.Commands.Castout as castout
 use Rattle.cache_model.specs.Commands.Unlock as unlock
 use Rattle.cache_model.specs.Commands.Delete as delete
-use Rattle.cache_model.proofs.ContentLaws.{not_both, content-step, content-without, content-forgotten}
-use Rattle.cache_model.proofs.EngineLaws.{content-nothing}
+use Rattle.cache_model.proofs.{ContentLaws.not_both, OrderLaws.orderly-deed, OrderLaws.orderly-nothing}
 use Rattle.cache_model.proofs.{RowLaws.name-row_or_new, RoomLaws.request_spared, RoomLaws.row_of-spared}
 
 -- ---- the row of a name after a row is replaced
@@ -205,34 +204,22 @@ unless_fresh caps content copies by cmd None is all = after_fresh caps content c
 unless_fresh caps content copies by cmd (Some refusal) is all = all
 
 -- so it is after one more deed, at whatever capacity
-pub deed-fresh : (vector : ℕ) (caps : Caps) (content : Content) (copies : Copies) (deed : Deed)
+pub deed-fresh : (vector : ℕ) (content : Content) (copies : Copies) (deed : Deed)
     → IsDirectory content.rows → AllFresh content copies
-    → AllFresh (after_deed vector caps content deed) (copies_after vector caps content copies deed)
-deed-fresh vector caps content copies (Calls by cmd) is all = unless_fresh _ _ _ _ _ _ is all
-deed-fresh vector caps content copies (Leaves conn) is all = leave_fresh content copies conn all
-deed-fresh vector caps content copies Forgets is all = tt
+    → AllFresh (after_deed vector content deed) (copies_after vector content copies deed)
+deed-fresh vector content copies (Calls caps by cmd) is all = unless_fresh _ _ _ _ _ _ is all
+deed-fresh vector content copies (Leaves conn) is all = leave_fresh content copies conn all
+deed-fresh vector content copies Forgets is all = tt
 
 -- ---- runs
 
-pub content-deed : (vector : ℕ) (caps : Caps) (content : Content) (deed : Deed) → IsContent caps content
-    → IsContent caps (after_deed vector caps content deed)
-content-deed vector caps content (Calls by cmd) is = content-step vector caps content by cmd is
-content-deed vector caps content (Leaves conn) is = content-without caps content conn is
-content-deed vector caps content Forgets is = content-forgotten caps content is
-
-pub content-run : (vector : ℕ) (caps : Caps) (content : Content) (deeds : List Deed) → IsContent caps content
-    → IsContent caps (after_run vector caps content deeds)
-content-run vector caps content [] is = is
-content-run vector caps content (deed ∷ deeds) is =
-    content-run vector caps (after_deed vector caps content deed) deeds (content-deed vector caps content deed is)
-
-run_fresh : (vector : ℕ) (caps : Caps) (content : Content) (copies : Copies) (deeds : List Deed)
-    → IsContent caps content → AllFresh content copies
-    → AllFresh (after_run vector caps content deeds) (copies_run vector caps content copies deeds)
-run_fresh vector caps content copies [] is all = all
-run_fresh vector caps content copies (deed ∷ deeds) is all =
-    run_fresh vector caps (after_deed vector caps content deed) (copies_after vector caps content copies deed) deeds
-    (content-deed vector caps content deed is) (deed-fresh vector caps content copies deed is.directory all)
+run_fresh : (vector : ℕ) (content : Content) (copies : Copies) (deeds : List Deed)
+    → IsOrderly content → AllFresh content copies
+    → AllFresh (after_run vector content deeds) (copies_run vector content copies deeds)
+run_fresh vector content copies [] is all = all
+run_fresh vector content copies (deed ∷ deeds) is all =
+    run_fresh vector (after_deed vector content deed) (copies_after vector content copies deed) deeds
+    (orderly-deed vector content deed is) (deed-fresh vector content copies deed is.directory all)
 
 -- where a connector is registered for a name, it has a copy of what the name's row has
 pub fresh-at : (rows : List CacheItem) (copies : Copies) (conn : ConnId) (index : ℕ) (name : Name16)
@@ -244,8 +231,8 @@ fresh-at rows copies conn index name (reg ∷ regs) all h =
 
 -- A valid bit: after every run from the empty content, what a connector has a copy of at an index where it is
 -- registered for a name is what the name's row has
-pub fresh-copy : (vector : ℕ) (caps : Caps) (copies : Copies) (deeds : List Deed) (conn : ConnId) (index : ℕ)
-    (name : Name16) → registered_at (after_run vector caps no_content deeds).regs conn index ≡ Some name → copies_run
-    vector caps no_content copies deeds conn index ≡ copy_in (after_run vector caps no_content deeds).rows name
-fresh-copy vector caps copies deeds conn index name h =
-    fresh-at _ _ _ _ _ _ (run_fresh vector caps no_content copies deeds (content-nothing caps) tt) h
+pub fresh-copy : (vector : ℕ) (copies : Copies) (deeds : List Deed) (conn : ConnId) (index : ℕ)
+    (name : Name16) → registered_at (after_run vector no_content deeds).regs conn index ≡ Some name → copies_run
+    vector no_content copies deeds conn index ≡ copy_in (after_run vector no_content deeds).rows name
+fresh-copy vector copies deeds conn index name h =
+    fresh-at _ _ _ _ _ _ (run_fresh vector no_content copies deeds orderly-nothing tt) h

@@ -1,9 +1,10 @@
 -- Whatever is done to a content at whatever capacity, its rows and registrations stay in order.
-use Rattle.cache_model.proofs.Imports.{◌≡◌, ℕ, false, not, ◌&&◌, ◌||◌, List, Option, Some, None, is_none, refl, arith, Caps, Name16, ConnId, Refusal, CacheCmd, Read, Write, same_name, unless_refused, list_all-filter, all_found, regs_with, ends_with_name, registry-with, registry-filter, row_of, has_row, row_or_new, Content, IsContent, IsOrderly, need_of, is_changed_row, cause, done, Deed, after_deed, Calls, Leaves, Forgets, none_hold}
+use Rattle.cache_model.proofs.Imports.{◌≡◌, ℕ, false, not, ◌&&◌, ◌||◌, List, [], ◌∷◌, Option, Some, None, is_none, refl, arith, Caps, Name16, ConnId, Refusal, CacheCmd, Read, Write, same_name, unless_refused, list_all-filter, all_found, regs_with, ends_with_name, registry-with, registry-filter, row_of, has_row, row_or_new, Content, no_content, IsContent, IsOrderly, need_of, is_changed_row, cause, done, Deed, after_deed, after_run, Calls, Leaves, Forgets, none_hold}
 use Rattle.cache_model.specs.Commands.Read as read
 use Rattle.cache_model.specs.Commands.Write as write
 use Rattle.cache_model.proofs.RowLaws.{name-row_or_new, sound-row_or_new}
 use Rattle.cache_model.proofs.ContentLaws.{orderly_used, orderly-content, each_registered, write_sound, unless_true, content-done, content-without, content-forgotten}
+use Rattle.cache_model.proofs.EngineLaws.{content-nothing}
 
 -- a content in order is one at the capacity that it needs itself
 alone : (content : Content) → IsOrderly content → IsContent (need_of content.rows) content
@@ -44,9 +45,21 @@ orderly_unless : (vector : ℕ) (caps : Caps) (content : Content) (by : ConnId) 
 orderly_unless vector caps content by cmd None h is = orderly_done vector caps content by cmd is h
 orderly_unless vector caps content by cmd (Some refusal) h is = is
 
-pub orderly-deed : (vector : ℕ) (caps : Caps) (content : Content) (deed : Deed) → IsOrderly content
-    → IsOrderly (after_deed vector caps content deed)
-orderly-deed vector caps content (Calls by cmd) is =
+pub orderly-deed : (vector : ℕ) (content : Content) (deed : Deed) → IsOrderly content
+    → IsOrderly (after_deed vector content deed)
+orderly-deed vector content (Calls caps by cmd) is =
     orderly_unless vector caps content by cmd (cause vector caps content by cmd) refl is
-orderly-deed vector caps content (Leaves conn) is = orderly-content _ _ (content-without _ _ _ (alone _ is))
-orderly-deed vector caps content Forgets is = grind (arith, orderly-content, content-forgotten, alone)
+orderly-deed vector content (Leaves conn) is = orderly-content _ _ (content-without _ _ _ (alone _ is))
+orderly-deed vector content Forgets is = grind (arith, orderly-content, content-forgotten, alone)
+
+pub orderly-run : (vector : ℕ) (content : Content) (deeds : List Deed) → IsOrderly content
+    → IsOrderly (after_run vector content deeds)
+orderly-run vector content [] is = is
+orderly-run vector content (deed ∷ deeds) is =
+    orderly-run vector (after_deed vector content deed) deeds (orderly-deed vector content deed is)
+
+pub orderly-nothing : IsOrderly no_content
+orderly-nothing = orderly-content nothing no_content (content-nothing nothing)
+  where
+    nothing : Caps
+    nothing = record { entries = 0; elements = 0 }

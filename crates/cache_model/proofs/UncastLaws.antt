@@ -1,14 +1,14 @@
 -- A row that was written as changed stays, changed and with the data that were written, until it is cast out or
 -- deleted.
-use Rattle.cache_model.proofs.Imports.{arith, ◌≡◌, ℕ, Bool, true, false, not, ◌&&◌, ◌||◌, cond, List, [], ◌∷◌, Option, Some, None, is_some, is_none, unwrap_or, option_map, map, refl, sym, ap, ◌∙◌, subst, list_any, list_all, and_parts, not-true, false≢true, Caps, Name16, ConnId, Refusal, CacheCmd, Read, Write, Castout, Unlock, Delete, same_name, unless_refused, first_refusal, list_any-map, same_name-eq, CacheItem, Holder, Request, is_row_of, is_changed, row_of, rows_without, rows_replaced, new_row, row_or_new, IsDirectory, Content, IsContent, no_content, without_hold, is_among, rows_spared, victims, entry_refusal, not_held_refusal, is_changed_row, cause, done, after, Deed, after_deed, after_run, Calls, Leaves, Forgets, Uncast, Uncasts, uncast_with, uncast_written, uncast_cast, uncast_unlocked, uncast_done, uncast_unless, uncast_after, uncast_run, is_settled, HasWritten, Kept, none_hold, unless_false}
+use Rattle.cache_model.proofs.Imports.{arith, ◌≡◌, ℕ, Bool, true, false, not, ◌&&◌, ◌||◌, cond, List, [], ◌∷◌, Option, Some, None, is_some, is_none, unwrap_or, option_map, map, refl, sym, ap, ◌∙◌, subst, list_any, list_all, and_parts, not-true, false≢true, Caps, Name16, ConnId, Refusal, CacheCmd, Read, Write, Castout, Unlock, Delete, same_name, unless_refused, first_refusal, list_any-map, same_name-eq, CacheItem, Holder, Request, is_row_of, is_changed, row_of, rows_without, rows_replaced, new_row, row_or_new, IsDirectory, IsOrderly, Content, no_content, without_hold, is_among, rows_spared, victims, entry_refusal, not_held_refusal, is_changed_row, cause, done, after, Deed, after_deed, after_run, Calls, Leaves, Forgets, Uncast, Uncasts, uncast_with, uncast_written, uncast_cast, uncast_unlocked, uncast_done, uncast_unless, uncast_after, uncast_run, is_settled, HasWritten, Kept, none_hold, unless_false}
 use Rattle.cache_model.specs.Commands.Read as read
 use Rattle.cache_model.specs.Commands.Write as write
 use Rattle.cache_model.specs.Commands.Castout as castout
 use Rattle.cache_model.specs.Commands.Unlock as unlock
 use Rattle.cache_model.proofs.ContentLaws.{unless_true}
-use Rattle.cache_model.proofs.CopyLaws.{other_found, row_of-replaced, content-deed}
+use Rattle.cache_model.proofs.{CopyLaws.other_found, CopyLaws.row_of-replaced, OrderLaws.orderly-deed, OrderLaws.orderly-nothing}
 use Rattle.cache_model.proofs.RoomLaws.{gone, goes, OnesFound, row_of-spared}
-use Rattle.cache_model.proofs.{RowLaws.name_of, RowLaws.name-row_or_new, EngineLaws.content-nothing}
+use Rattle.cache_model.proofs.RowLaws.{name_of, name-row_or_new}
 use Rattle.cache_model.specs.Step.{victims as victims_of}
 
 -- ---- rows that are reclaimed
@@ -161,24 +161,24 @@ unless_kept caps content uncast by cmd None h all = h refl
 unless_kept caps content uncast by cmd (Some refusal) h all = all
 
 -- so it is after one more deed, at whatever capacity
-pub deed-kept : (vector : ℕ) (caps : Caps) (content : Content) (uncast : Uncasts) (deed : Deed)
+pub deed-kept : (vector : ℕ) (content : Content) (uncast : Uncasts) (deed : Deed)
     → IsDirectory content.rows → AllKept content uncast
-    → AllKept (after_deed vector caps content deed) (uncast_after vector caps content uncast deed)
-deed-kept vector caps content uncast (Calls by cmd) is all = unless_kept caps content uncast
+    → AllKept (after_deed vector content deed) (uncast_after vector content uncast deed)
+deed-kept vector content uncast (Calls caps by cmd) is all = unless_kept caps content uncast
     by cmd (cause vector caps content by cmd) (λ h. after_kept vector caps content uncast by cmd is h all) all
-deed-kept vector caps content uncast (Leaves conn) is all = grind (arith, row_of-released, released_kept)
-deed-kept vector caps content uncast Forgets is all = all
+deed-kept vector content uncast (Leaves conn) is all = grind (arith, row_of-released, released_kept)
+deed-kept vector content uncast Forgets is all = all
 
-run_kept : (vector : ℕ) (caps : Caps) (content : Content) (uncast : Uncasts) (deeds : List Deed)
-    → IsContent caps content → AllKept content uncast
-    → AllKept (after_run vector caps content deeds) (uncast_run vector caps content uncast deeds)
-run_kept vector caps content uncast [] is all = all
-run_kept vector caps content uncast (deed ∷ deeds) is all =
-    run_kept vector caps (after_deed vector caps content deed) (uncast_after vector caps content uncast deed) deeds
-    (content-deed vector caps content deed is) (deed-kept vector caps content uncast deed is.directory all)
+run_kept : (vector : ℕ) (content : Content) (uncast : Uncasts) (deeds : List Deed)
+    → IsOrderly content → AllKept content uncast
+    → AllKept (after_run vector content deeds) (uncast_run vector content uncast deeds)
+run_kept vector content uncast [] is all = all
+run_kept vector content uncast (deed ∷ deeds) is all =
+    run_kept vector (after_deed vector content deed) (uncast_after vector content uncast deed) deeds
+    (orderly-deed vector content deed is) (deed-kept vector content uncast deed is.directory all)
 
 -- A changed WRITE: after every run from the empty content, a name whose last changed WRITE isn't cast out nor deleted
 -- has a changed row with what was written
-pub uncast-kept : (vector : ℕ) (caps : Caps) (deeds : List Deed) (name : Name16) → Kept (row_of
-    name (after_run vector caps no_content deeds).rows) (uncast_run vector caps no_content (λ n. None) deeds name)
-uncast-kept vector caps deeds name = grind (arith, run_kept, content-nothing)
+pub uncast-kept : (vector : ℕ) (deeds : List Deed) (name : Name16) → Kept (row_of
+    name (after_run vector no_content deeds).rows) (uncast_run vector no_content (λ n. None) deeds name)
+uncast-kept vector deeds name = run_kept vector no_content (λ n. None) deeds orderly-nothing (λ n. tt) name

@@ -14,21 +14,21 @@ use Rattle.cache_model.specs.Rows.{row_of}
 use Rattle.cache_model.specs.Contents.{Content, content_without, content_forgotten}
 use Rattle.cache_model.specs.Step.{cause, done, reply}
 
--- what may happen to a content
+-- what may happen to a content: a command at a capacity, a departure, the end of all registrations
 pub data Deed : Type 0 where
-  Calls : ConnId → CacheCmd → Deed
+  Calls : Caps → ConnId → CacheCmd → Deed
   Leaves : ConnId → Deed
   Forgets : Deed
 
-abbrev pub after_deed : ℕ → Caps → Content → Deed → Content
-after_deed vector caps content (Calls by cmd) =
+abbrev pub after_deed : ℕ → Content → Deed → Content
+after_deed vector content (Calls caps by cmd) =
     (unless_refused (cause vector caps content by cmd) content (done caps content by cmd)).state
-after_deed vector caps content (Leaves conn) = content_without conn content
-after_deed vector caps content Forgets = content_forgotten content
+after_deed vector content (Leaves conn) = content_without conn content
+after_deed vector content Forgets = content_forgotten content
 
-abbrev pub after_run : ℕ → Caps → Content → List Deed → Content
-after_run vector caps content [] = content
-after_run vector caps content (deed ∷ deeds) = after_run vector caps (after_deed vector caps content deed) deeds
+abbrev pub after_run : ℕ → Content → List Deed → Content
+after_run vector content [] = content
+after_run vector content (deed ∷ deeds) = after_run vector (after_deed vector content deed) deeds
 
 -- data with their adjunct, or no data
 abbrev pub Copy : Type 0
@@ -82,13 +82,13 @@ abbrev pub copies_unless : Option Refusal → Content → ConnId → CacheCmd �
 copies_unless None content by cmd copies = copies_done content by cmd copies
 copies_unless (Some refusal) content by cmd copies = copies
 
-abbrev pub copies_after : ℕ → Caps → Content → Copies → Deed → Copies
-copies_after vector caps content copies (Calls by cmd) = copies_unless (cause vector caps content by cmd) content by
+abbrev pub copies_after : ℕ → Content → Copies → Deed → Copies
+copies_after vector content copies (Calls caps by cmd) = copies_unless (cause vector caps content by cmd) content by
     cmd copies
-copies_after vector caps content copies (Leaves conn) = copies
-copies_after vector caps content copies Forgets = copies
+copies_after vector content copies (Leaves conn) = copies
+copies_after vector content copies Forgets = copies
 
-abbrev pub copies_run : ℕ → Caps → Content → Copies → List Deed → Copies
-copies_run vector caps content copies [] = copies
-copies_run vector caps content copies (deed ∷ deeds) =
-    copies_run vector caps (after_deed vector caps content deed) (copies_after vector caps content copies deed) deeds
+abbrev pub copies_run : ℕ → Content → Copies → List Deed → Copies
+copies_run vector content copies [] = copies
+copies_run vector content copies (deed ∷ deeds) =
+    copies_run vector (after_deed vector content deed) (copies_after vector content copies deed) deeds

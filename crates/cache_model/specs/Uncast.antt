@@ -1,6 +1,5 @@
 -- Changed WRITEs that aren't cast out: the data, adjunct and class that each name's row must have after a run.
 use Rattle.std.specs.Prelude.{ℕ, Bool, IsTrue, true, false, ◌||◌, ◌≡◌, if◌then◌else◌, List, [], ◌∷◌, Option, None, Some}
-use Rattle.cf_types.specs.declared.forms.Caps.{Caps}
 use Rattle.cf_types.specs.declared.names.Name16.{Name16}
 use Rattle.cf_types.specs.declared.refusals.Refusal.{Refusal}
 use Rattle.cf_types.specs.declared.cache_commands.CacheCmd.{CacheCmd}
@@ -57,15 +56,15 @@ abbrev pub uncast_unless : Option Refusal → CacheCmd → Uncasts → Uncasts
 uncast_unless None cmd uncast = uncast_done cmd uncast
 uncast_unless (Some refusal) cmd uncast = uncast
 
-abbrev pub uncast_after : ℕ → Caps → Content → Uncasts → Deed → Uncasts
-uncast_after vector caps content uncast (Calls by cmd) = uncast_unless (cause vector caps content by cmd) cmd uncast
-uncast_after vector caps content uncast (Leaves conn) = uncast
-uncast_after vector caps content uncast Forgets = uncast
+abbrev pub uncast_after : ℕ → Content → Uncasts → Deed → Uncasts
+uncast_after vector content uncast (Calls caps by cmd) = uncast_unless (cause vector caps content by cmd) cmd uncast
+uncast_after vector content uncast (Leaves conn) = uncast
+uncast_after vector content uncast Forgets = uncast
 
-abbrev pub uncast_run : ℕ → Caps → Content → Uncasts → List Deed → Uncasts
-uncast_run vector caps content uncast [] = uncast
-uncast_run vector caps content uncast (deed ∷ deeds) =
-    uncast_run vector caps (after_deed vector caps content deed) (uncast_after vector caps content uncast deed) deeds
+abbrev pub uncast_run : ℕ → Content → Uncasts → List Deed → Uncasts
+uncast_run vector content uncast [] = uncast
+uncast_run vector content uncast (deed ∷ deeds) =
+    uncast_run vector (after_deed vector content deed) (uncast_after vector content uncast deed) deeds
 
 -- nobody holds the row, or it was written since it was cast out
 abbrev pub is_settled : Option Holder → Bool

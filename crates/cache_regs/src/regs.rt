@@ -249,7 +249,7 @@ impl Regs {
     {
         let count = self.maps.len();
         if count >= u32::MAX as usize {
-            return Err(NoMemory);
+            return Err(NoMemory::beyond_counts());
         }
         self.maps.reserve()?;
         out.bits.reserve(count + 3)

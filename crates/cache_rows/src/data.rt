@@ -39,10 +39,8 @@ fn read_chain(alloc: Global, pool: &Pool, chain: &Chain) -> Result<Body, NoMemor
     requires { HasData pool.now.chains (Some chain.now) }
     ensures { IfOk result (λ body. Some body ≡ body_in pool.now.chains (Some chain.now)) }
 {
-    match pool.read(alloc, chain) {
-        Ok(bytes) => Ok(Body::from_vec(bytes)),
-        Err(_) => Err(NoMemory),
-    }
+    let bytes = pool.read(alloc, chain)?;
+    Ok(Body::from_vec(bytes))
 }
 
 /// A copy of data, where there are some.

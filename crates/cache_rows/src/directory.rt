@@ -156,13 +156,6 @@ impl Directory {
         })
     }
 
-    /// How many elements are free.
-    pub(crate) fn free(&self) -> u32
-        ensures { result ≡ self.now.free }
-    {
-        self.store.free()
-    }
-
     /// The row of a name, if there is one.
     pub(crate) fn row(&self, name: &Name16) -> Option<Row<'_>>
         ensures row { result ≡ row_of name.now self.now.rows }
@@ -267,6 +260,7 @@ impl Directory {
 
     /// Takes room for one row more; a refusal leaves the rows the same.
     pub(crate) fn reserve(&mut self) -> Result<(), NoMemory>
+        requires few { length self.old.rows < 4294967295 }
         ensures room { OnOk result (1 ≤ self.new.room) }
         ensures rows { self.new.rows ≡ self.old.rows }
         ensures entries { self.new.entries ≡ self.old.entries }

@@ -1,4 +1,4 @@
-ghost use Rattle.std.specs.Prelude.{◌≡◌, ◌+◌, ◌-◌, ◌^◌, ◌<◌, ◌≤◌, ◌&&◌, ◌++◌, ◌∷◌, [], IsTrue, IfOk, IfErr, OnOk, OnErr, Some, false, true, if◌then◌else◌, map, filter, length, option_map, slice_get, take};
+ghost use Rattle.std.specs.Prelude.{◌≡◌, ◌+◌, ◌-◌, ◌^◌, ◌<◌, ◌≤◌, ◌&&◌, ◌++◌, ◌∷◌, [], IsTrue, IfOk, IfErr, OnOk, OnErr, Some, false, true, map, filter, length, option_map, slice_get, take};
 ghost use Rattle.std.specs.List.{list_all};
 ghost use Rattle.cache_model.specs.Rows.{is_changed, elements_of, elements_in, row_of, has_row, rows_without, rows_with, rows_replaced, may_precede, names_apart, has_class, has_storage};
 ghost use Rattle.cf_lists.specs.Pairwise.{pairwise};
@@ -16,7 +16,7 @@ use crate::label::Label;
 use crate::row::Row;
 use crate::tally::{Tally, unless_changed};
 use cache_model::CacheItem;
-use cf_types::{Body, ConnId, Name16, NoMemory, elements_of};
+use cf_types::{Body, ConnId, Name16, NoMemory};
 use std::alloc::Global;
 use std::marker::Model;
 
@@ -314,18 +314,15 @@ impl Rows {
         self.directory.reclaimed(stg, k)
     }
 
-    /// Takes room for one row more, in the map and in both indexes. It is refused where there are
-    /// as many rows as there may be, and for want of memory; a refusal leaves the rows the same.
+    /// Takes room for one row more, in the map and in both indexes, where there are fewer than
+    /// there may be. Only want of memory is refused, and leaves the rows the same.
     pub fn reserve(&mut self) -> Result<(), NoMemory>
+        requires { length self.old.rows < self.old.entries }
         ensures room { OnOk result (1 ≤ self.new.room) }
-        ensures few { OnOk result (length self.old.rows < self.old.entries) }
         ensures rows { self.new.rows ≡ self.old.rows }
         ensures entries { self.new.entries ≡ self.old.entries }
         ensures elements { self.new.elements ≡ self.old.elements }
     {
-        if self.tally.rows >= self.entries {
-            return Err(NoMemory);
-        }
         self.directory.reserve()
     }
 
@@ -374,38 +371,38 @@ impl Rows {
         self.directory.release(conn);
     }
 
-    // Puts in a row whose name has none, if there are elements for its data.
-    fn put(&mut self, row: &CacheItem) -> bool
+    // Puts in a row whose name has none; there are elements for its data.
+    fn put(&mut self, row: &CacheItem)
         requires room { 1 ≤ self.old.room }
         requires alone { has_row row.now.name self.old.rows ≡ false }
-        ensures rows { self.new.rows
-            ≡ (if result then rows_with row.now self.old.rows else self.old.rows) }
+        requires fits { elements_of row.now.body + elements_in self.old.rows ≤ self.old.elements }
+        ensures rows { self.new.rows ≡ rows_with row.now self.old.rows }
         ensures entries { self.new.entries ≡ self.old.entries }
         ensures elements { self.new.elements ≡ self.old.elements }
     {
-        if elements_of(&row.body) > self.directory.free() {
-            return false;
-        }
         put_in(&mut self.directory, &mut self.tally, row);
-        true
     }
 
-    /// Puts a row behind the others, where it has its place; no row has its name. Where there are
-    /// as many rows as there may be, or too few elements for its data, and for want of memory, the
-    /// row is handed back, and the others stay the same.
-    pub fn push(&mut self, row: CacheItem) -> Result<(), CacheItem>
+    /// Puts a row behind the others, where it has its place; no row has its name, there are fewer
+    /// than there may be, and there are elements for its data. For want of memory, which is told
+    /// beside it, the row is handed back, and the others stay the same.
+    pub fn push(&mut self, row: CacheItem) -> Result<(), (CacheItem, NoMemory)>
+        requires few { length self.old.rows < self.old.entries }
+        requires fits { elements_of row.body + elements_in self.old.rows ≤ self.old.elements }
         requires alone { has_row row.name self.old.rows ≡ false }
         requires last { IsTrue (list_all (λ other. may_precede other row) self.old.rows) }
         ensures ok { OnOk result (self.new.rows ≡ self.old.rows ++ row ∷ []) }
         ensures err { OnErr result (self.new.rows ≡ self.old.rows) }
-        ensures few { OnOk result (length self.old.rows < self.old.entries) }
         ensures entries { self.new.entries ≡ self.old.entries }
         ensures elements { self.new.elements ≡ self.old.elements }
-        ensures handed_back { IfErr result (λ back. back ≡ row) }
+        ensures handed_back { IfErr result (λ back. back.0 ≡ row) }
     {
         match self.reserve() {
-            Ok(()) => { if self.put(&row) { Ok(()) } else { Err(row) } }
-            Err(_) => Err(row),
+            Ok(()) => {
+                self.put(&row);
+                Ok(())
+            }
+            Err(refused) => Err((row, refused)),
         }
     }
 

@@ -81,10 +81,8 @@ impl Store {
         ensures free { IfOk result (λ store. store.free ≡ elements) }
     {
         let dir = Dir::new(alloc, entries)?;
-        match Pool::new(alloc, elements) {
-            Ok(pool) => Ok(Store { dir, pool }),
-            Err(_) => Err(NoMemory),
-        }
+        let pool = Pool::new(alloc, elements)?;
+        Ok(Store { dir, pool })
     }
 
     /// The same rows once more, with their data. Only want of memory is refused.
@@ -93,17 +91,8 @@ impl Store {
         ensures free { IfOk result (λ copy. copy.free ≡ self.now.free) }
     {
         let dir = self.dir.copy(alloc)?;
-        match self.pool.copy(alloc) {
-            Ok(pool) => Ok(Store { dir, pool }),
-            Err(_) => Err(NoMemory),
-        }
-    }
-
-    /// How many elements are free.
-    pub(crate) fn free(&self) -> u32
-        ensures { result ≡ self.now.free }
-    {
-        self.pool.free()
+        let pool = self.pool.copy(alloc)?;
+        Ok(Store { dir, pool })
     }
 
     /// The row of a name, if there is one.

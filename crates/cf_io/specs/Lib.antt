@@ -1,3 +1,4 @@
+pub use Rattle.no_memory.specs as NoMemory
 pub mod Count
 pub mod MemSource
 pub mod ReadEnd

@@ -8,4 +8,4 @@ use Rattle.cf_io.specs.Count.{Rises}
 abbrev pub HasCause : ℕ → Option (List ℕ) → ℕ → ℕ → ReadEnd → Type 0
 HasCause limit left before after ReadFault = Rises before after
 HasCause limit left before after (TooLong l) = (l ≡ limit) × IfSome left (λ bytes. limit < length bytes)
-HasCause limit left before after NoMemory = ⊤
+HasCause limit left before after (NoMemory cause) = ⊤

@@ -11,7 +11,6 @@ mod counting;
 mod failed;
 mod mem_sink;
 mod mem_source;
-mod no_memory;
 mod read_end;
 mod reading;
 mod sink;

@@ -1,12 +1,13 @@
 ghost use Rattle.std.specs.Prelude.{◌≡◌};
-ghost use Rattle.cf_io.specs.declared.read_end.ReadEnd.TheVariants.{ReadFault, NoMemory};
+ghost use Rattle.cf_io.specs.declared.read_end.ReadEnd.TheVariants as ends;
+ghost use Rattle.no_memory.specs.Wants.{want};
 
-use crate::Failed;
+use crate::{Failed, NoMemory};
 use std::alloc::AllocError;
 use thiserror::Error;
 
 /// Why the reading of a whole source ended before its end.
-#[derive(Clone, Copy, Debug, PartialEq, Eq, Error)]
+#[derive(Debug, Drop, Error)]
 pub enum ReadEnd {
     /// A read failed.
     #[error("a read failed")]
@@ -18,11 +19,11 @@ pub enum ReadEnd {
 
     /// There was no memory for the bytes that came.
     #[error("out of memory")]
-    NoMemory,
+    NoMemory(NoMemory),
 }
 
 impl From<Failed> for ReadEnd {
-    ghost from_gives = { λ _ end. end ≡ ReadFault };
+    ghost from_gives = { λ _ end. end ≡ ends.ReadFault };
 
     fn from(_: Failed) -> Self {
         ReadEnd::ReadFault
@@ -30,9 +31,9 @@ impl From<Failed> for ReadEnd {
 }
 
 impl From<AllocError> for ReadEnd {
-    ghost from_gives = { λ _ end. end ≡ NoMemory };
+    ghost from_gives = { λ _ end. end ≡ ends.NoMemory want };
 
-    fn from(_: AllocError) -> Self {
-        ReadEnd::NoMemory
+    fn from(refused: AllocError) -> Self {
+        ReadEnd::NoMemory(NoMemory::from(refused))
     }
 }

@@ -3,6 +3,7 @@ ghost use Rattle.std.specs.Io.KnownBytes.{IsAtEnd};
 ghost use Rattle.cf_io.specs.Count.{Rises};
 ghost use Rattle.cf_io.specs.ReadEnd.{HasCause};
 ghost use Rattle.cf_io.specs.Taken.{TakesAtMost};
+ghost use Rattle.no_memory.specs.Wants.{want};
 
 use crate::{ReadEnd, Source};
 use std::alloc::Global;
@@ -29,7 +30,8 @@ pub fn read_all<S: Source>(alloc: Global, source: &mut S, limit: usize) -> Resul
     ensures cause { IfErr result (HasCause limit (S.left source.old) (S.faults source.old)
         (S.faults source.new)) }
     ensures too_long { IfSome (S.left source.old) (λ bytes.
-        ¬ Rises (S.faults source.old) (S.faults source.new) → ¬ IsErrOf result ReadEnd.NoMemory
+        ¬ Rises (S.faults source.old) (S.faults source.new)
+        → ¬ IsErrOf result (ReadEnd.NoMemory want)
         → IsErrOf result (ReadEnd.TooLong limit) ↔ (limit < length bytes)) }
 
     // Whatever the answer, what is left is what was left without the bytes that were taken.

@@ -9,7 +9,6 @@ mod chain;
 mod chains;
 mod elements;
 mod no_elements;
-mod no_memory;
 mod pool;
 
 pub use chain::Chain;

@@ -6,7 +6,7 @@ use crate::chain::Chain;
 use crate::chains::{fill, len_at, unlink};
 use crate::elements::{SIZE, are_whole, blank, gather, linked, need_of, unused};
 use crate::no_elements::NoElements;
-use crate::no_memory::NoMemory;
+use no_memory::NoMemory;
 use std::alloc::Global;
 use std::marker::Model;
 

@@ -4,7 +4,8 @@ ghost use Rattle.cf_turn.specs.Turns.{stand_waiting, HasTurn, HasValue};
 
 use crate::keeps::{Boxed, Keeps};
 use crate::turns::{Back, Stand, Start, Try, Turns, Two};
-use atomic_table::{Refused, Seat, Table};
+use atomic_table::{Seat, Table};
+use no_memory::NoMemory;
 use std::alloc::Global;
 use std::hint::spin_loop;
 use std::marker::Model;
@@ -66,14 +67,15 @@ const LOOKS: u32 = 100;
 
 impl<F: Keeps> KeyLock<F> {
     /// A free lock round the value, whose key is the value's. Where there is no memory the value
-    /// comes back.
-    pub fn new(alloc: Global, value: F::Value) -> Result<KeyLock<F>, F::Value>
+    /// comes back, with the cause.
+    pub fn new(alloc: Global, value: F::Value) -> Result<KeyLock<F>, (F::Value, NoMemory)>
         requires { F.stands (F.key_of value) value }
         ensures made { IfOk result (λ lock. lock.key ≡ F.key_of value) }
-        ensures refused { IfErr result (λ back. back ≡ value) }
+        ensures refused { IfErr result (λ back. back.0 ≡ value) }
     {
-        let Ok(mut slots) = Vec::with_capacity(alloc, 1) else {
-            return Err(value);
+        let mut slots = match Vec::with_capacity(alloc, 1) {
+            Ok(slots) => slots,
+            Err(failed) => return Err((value, failed.into())),
         };
         let start = Snapshot::of(&value);
         slots.push_reserved(Some(value));
@@ -82,7 +84,10 @@ impl<F: Keeps> KeyLock<F> {
                 table,
                 sleepers: AtomicU64::new(0),
             }),
-            Err(Refused { mut slots }) => Err(slots.pop().unwrap().unwrap()),
+            Err(mut refused) => {
+                let value = refused.slots.pop().unwrap().unwrap();
+                Err((value, refused.into()))
+            }
         }
     }
 
@@ -224,15 +229,18 @@ fn leave<V: Drop, K>(seat: Seat<V, Stand<K>>)
 
 impl<F: Keeps> KeyLock<Boxed<F>> {
     /// A free lock round the value in a box, so that a turn moves a pointer however large the value
-    /// is. Where there is no memory the value comes back.
-    pub fn boxed(alloc: Global, value: F::Value) -> Result<KeyLock<Boxed<F>>, F::Value>
+    /// is. Where there is no memory the value comes back, with the cause.
+    pub fn boxed(alloc: Global, value: F::Value) -> Result<KeyLock<Boxed<F>>, (F::Value, NoMemory)>
         requires { F.stands (F.key_of value) value }
         ensures made { IfOk result (λ lock. lock.key ≡ F.key_of value) }
-        ensures refused { IfErr result (λ back. back ≡ value) }
+        ensures refused { IfErr result (λ back. back.0 ≡ value) }
     {
         match Box::new(alloc, value) {
-            Ok(inside) => KeyLock::new(alloc, inside).map_err(Box::into_inner),
-            Err(failed) => Err(failed.value),
+            Ok(inside) => match KeyLock::new(alloc, inside) {
+                Ok(lock) => Ok(lock),
+                Err((inside, cause)) => Err((Box::into_inner(inside), cause)),
+            },
+            Err(failed) => Err(NoMemory::handing_back(failed)),
         }
     }
 }

@@ -1,3 +1,4 @@
+pub use Rattle.no_memory.specs as NoMemory
 pub mod Term
 pub mod Batch
 pub mod ConnSets

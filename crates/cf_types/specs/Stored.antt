@@ -9,7 +9,7 @@ use Rattle.cf_types.specs.declared.bodies.BodyFault.TheVariants.{BadName, TooLon
 abbrev pub IsBodyFaultOf : List ℕ → BodyFault → Type 0
 IsBodyFaultOf text (TooLong len) = (BODY_BYTES < length text) × (len ≡ length text)
 IsBodyFaultOf text (BadName at) = (length text ≤ BODY_BYTES) × (fault_at text ≡ Some at)
-IsBodyFaultOf text NoMemory = Unit {0}
+IsBodyFaultOf text (NoMemory cause) = Unit {0}
 
 -- how many elements data take, where there are any; one that is filled in part counts whole
 abbrev pub elements_of : Option (List ℕ) → ℕ

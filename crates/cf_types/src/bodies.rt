@@ -4,8 +4,8 @@ ghost use Rattle.cf_types.specs.Term.{IsTerm};
 ghost use Rattle.cf_types.specs.Stored.{elements_of, IsBodyFaultOf};
 
 use crate::limits::{BODY_BYTES, ELEMENT_BYTES};
-use crate::memory::NoMemory;
 use crate::names::{NameFault, checked};
+use no_memory::NoMemory;
 use std::alloc::Global;
 use std::marker::Model;
 
@@ -27,14 +27,14 @@ impl Model for Body {
 }
 
 /// What is wrong with a text that should be data.
-#[derive(Clone, Copy, Debug, PartialEq, Eq)]
+#[derive(Debug, Drop)]
 pub enum BodyFault {
     /// The text is empty (`at` is 0), or the byte at `at` is its first that is no term character.
     BadName { at: usize },
     /// The text has `len` bytes, which is more than 4,096.
     TooLong { len: usize },
     /// There was no memory for a copy of the text.
-    NoMemory,
+    NoMemory(NoMemory),
 }
 
 impl Body {
@@ -88,7 +88,7 @@ pub fn parse_body(alloc: Global, text: &[u8]) -> Result<Body, BodyFault>
         Err(NameFault::TooLong { len }) => Err(BodyFault::TooLong { len }),
         Ok(()) => match Vec::from_slice(alloc, text) {
             Ok(bytes) => Ok(Body { bytes }),
-            Err(_) => Err(BodyFault::NoMemory),
+            Err(refused) => Err(BodyFault::NoMemory(NoMemory::from(refused))),
         },
     }
 }

@@ -150,15 +150,15 @@ pub trait Engine: Sized + Send + Drop {
         ensures { IfOk result
             (λ item. slice_get (items_of meaning (held self.now)) k ≡ Some item) };
 
-    /// Puts an item behind the others; want of memory hands it back.
-    fn place(&mut self, item: Self::Item) -> Result<(), Self::Item>
+    /// Puts an item behind the others; want of memory hands it back, and is told beside it.
+    fn place(&mut self, item: Self::Item) -> Result<(), (Self::Item, NoMemory)>
         requires next { IsNextItem meaning is_content (held self.old).shape (held self.old).state
             item }
         requires fits { Fits (held self.old).shape.kind
             (meaning.need (items_of meaning (held self.old) ++ item ∷ [])) (held self.old).caps }
         ensures ok { OnOk result (held self.new ≡ with_item meaning (held self.old) item) }
         ensures err { OnErr result (held self.new ≡ held self.old) }
-        ensures handed_back { IfErr result (λ back. back ≡ item) };
+        ensures handed_back { IfErr result (λ back. back.0 ≡ item) };
 
     /// Takes the last item away, where there are items and nothing else.
     fn unplace(&mut self)

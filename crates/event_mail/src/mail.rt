@@ -100,12 +100,11 @@ impl Mail {
 
     /// Takes room for so many letters. An event that is taken needs none. Want of memory changes
     /// nothing.
-    pub fn room(&mut self, letters: u32) -> Result<(), NoMemory>
+    pub fn room(&mut self, letters: usize) -> Result<(), NoMemory>
         ensures boxes { self.new.boxes ≡ self.old.boxes }
         ensures room { OnOk result (letters ≤ self.new.room) }
         ensures more { self.old.room ≤ self.new.room }
     {
-        let letters = letters as usize;
         if self.room < letters {
             reserve_each(&mut self.boxes, letters)?;
             self.room = letters;

@@ -36,7 +36,7 @@ impl From<ReadFault> for Fault {
     fn from(fault: ReadFault) -> Self {
         match fault {
             ReadFault::Script { .. } => Fault::Policy,
-            ReadFault::NoMemory => Fault::NoMemory,
+            ReadFault::NoMemory(_) => Fault::NoMemory,
         }
     }
 }

@@ -5,12 +5,13 @@ ghost use Rattle.plex_board.specs.PlexScript.declared.scripts.AnyAsk.TheVariants
 ghost use Rattle.failover.specs.Members.{AreSeated, HasTested};
 
 use crate::fault::Fault;
+use plex_board::Desk;
 use plex_board::api::Ask;
 use plex_board::links::ListLink;
 use plex_board::scripts::AnyAsk;
 use plex_board::types::{CacheCmd, ConnId, Name16, ShellCmd, StrNo, parse_body};
 use plex_board::vectors::Tested;
-use plex_board::{Board, Desk};
+use plex_engines::Board;
 use std::alloc::Global;
 use std::sync::Wait;
 

@@ -1,9 +1,17 @@
+ghost use Rattle.std.specs.Prelude.{◌≡◌};
+ghost use Rattle.cf_types.specs.Forms.{IsCapacity};
+ghost use Rattle.list_model.specs.Contents.{IsContent};
+ghost use Rattle.list_model.specs.Sublists.{sublist, turning};
+
 use crate::items::{copy_item, count_items, place_item};
 use crate::plans::{Plan, act, make_plan};
-use cf_types::{Caps, ConnId, Effects, EntryId, ListCmd, ListReply, NoMemory, Refusal, StrForm};
+use crate::turning::turning;
+use cf_types::{
+    Caps, ConnId, Effects, EntryId, Key16, ListCmd, ListReply, NoMemory, Refusal, StrForm,
+};
 use engine_api::{Engine, Shape};
-use list_kept::{Kept, count, elements_of_others};
-use list_model::ListItem;
+use list_kept::{Kept, count, elements_of_others, sublist};
+use list_model::{ListItem, Turning};
 use std::alloc::Global;
 use std::marker::Model;
 
@@ -49,6 +57,29 @@ impl Drop for ListEngine {
             plan: _,
         } = self;
     }
+}
+
+impl ListEngine {
+    /// How many records of a header (from 0) have a key. It takes no memory.
+    pub fn sublist(&self, header: u32, key: &Key16) -> u32
+        ensures { result ≡ sublist self.now.held.state.lists header key.now }
+    {
+        sublist(&self.kept, header, key)
+    }
+
+    /// The sublists that a command may turn, where it isn't refused: no others have records behind
+    /// it that had none, nor the other way round.
+    pub fn turning(&self, cmd: &ListCmd) -> Turning
+        ensures { result ≡ turning self.now.held.state cmd.now }
+    {
+        turning(&self.kept, cmd)
+    }
+
+    /// What it holds is a content.
+    pub fn content_is(&self)
+        ensures content { IsContent self.now.held.shape self.now.held.caps self.now.held.state }
+        ensures caps { IsCapacity self.now.held.caps }
+    {}
 }
 
 impl Engine for ListEngine {
@@ -167,7 +198,7 @@ impl Engine for ListEngine {
         self.item(alloc, k)
     }
 
-    fn place(&mut self, item: ListItem) -> Result<(), ListItem> {
+    fn place(&mut self, item: ListItem) -> Result<(), (ListItem, NoMemory)> {
         place_item(self.alloc, &mut self.kept, item)
     }
 

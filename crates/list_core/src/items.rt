@@ -186,7 +186,7 @@ fn rows_of(
     ensures few { OnOk result (length watches.now < 4294967296) }
 {
     if watches.len() > u32::MAX as usize {
-        return Err(NoMemory);
+        return Err(NoMemory::beyond_counts());
     }
     let mut rows = Vec::new(alloc);
     for watch in watches {
@@ -195,8 +195,13 @@ fn rows_of(
     Ok(rows)
 }
 
-// Puts a record behind the others of a header; want of memory hands it back.
-fn place_row(kept: &mut Kept, header: u32, bare: Bare, body: Option<Body>) -> Result<(), ListItem>
+// Puts a record behind the others of a header; want of memory hands it back, and is told beside it.
+fn place_row(
+    kept: &mut Kept,
+    header: u32,
+    bare: Bare,
+    body: Option<Body>,
+) -> Result<(), (ListItem, NoMemory)>
     requires header { header < length kept.old.content.lists }
     requires alone { list_any (is_id bare.id) (all_records kept.old.content.lists) ≡ false }
     requires orderly { IsOrderly kept.old.elements
@@ -204,7 +209,7 @@ fn place_row(kept: &mut Kept, header: u32, bare: Bare, body: Option<Body>) -> Re
     ensures ok { OnOk result (kept.new.content
         ≡ content_with kept.old.content (row_of header (with_data bare body))) }
     ensures err { OnErr result (kept.new.content ≡ kept.old.content) }
-    ensures handed_back { IfErr result (λ back. back ≡ row_of header (with_data bare body)) }
+    ensures handed_back { IfErr result (λ back. back.0 ≡ row_of header (with_data bare body)) }
     ensures elements { kept.new.elements ≡ kept.old.elements }
     ensures vector { kept.new.vector ≡ kept.old.vector }
 {
@@ -217,15 +222,18 @@ fn place_row(kept: &mut Kept, header: u32, bare: Bare, body: Option<Body>) -> Re
     } = bare;
     match kept.push(header, bare, &body) {
         Ok(()) => Ok(()),
-        Err(_) => Err(ListItem::Row {
-            header,
-            id,
-            version,
-            name,
-            key,
-            body,
-            adj,
-        }),
+        Err(refused) => {
+            let row = ListItem::Row {
+                header,
+                id,
+                version,
+                name,
+                key,
+                body,
+                adj,
+            };
+            Err((row, refused))
+        }
     }
 }
 
@@ -235,13 +243,17 @@ ghost use Rattle.list_model.specs.ListStore.Records.{record_in, HasChain};
 ghost use Rattle.list_kept.specs.Data.{with_data};
 ghost use Rattle.list_kept.specs.Orderly.{IsOrderly};
 
-/// Puts an item behind the others; want of memory hands it back.
+/// Puts an item behind the others; want of memory hands it back, and is told beside it.
 #[tactic(auto, using(crate::proofs::RowLaws::placed_told))]
-pub(crate) fn place_item(alloc: Global, kept: &mut Kept, item: ListItem) -> Result<(), ListItem>
+pub(crate) fn place_item(
+    alloc: Global,
+    kept: &mut Kept,
+    item: ListItem,
+) -> Result<(), (ListItem, NoMemory)>
     requires { IsPlaceable kept.old.elements kept.old.content item }
     ensures ok { OnOk result (kept.new.content ≡ content_with kept.old.content item) }
     ensures err { OnErr result (kept.new.content ≡ kept.old.content) }
-    ensures handed_back { IfErr result (λ back. back ≡ item) }
+    ensures handed_back { IfErr result (λ back. back.0 ≡ item) }
     ensures elements { kept.new.elements ≡ kept.old.elements }
     ensures vector { kept.new.vector ≡ kept.old.vector }
 {
@@ -256,12 +268,15 @@ pub(crate) fn place_item(alloc: Global, kept: &mut Kept, item: ListItem) -> Resu
                 kept.take_over(next, limits.into_vec(), locks.into_vec(), rows);
                 Ok(())
             }
-            Err(_) => Err(ListItem::Controls {
-                next,
-                limits,
-                locks,
-                watches,
-            }),
+            Err(refused) => {
+                let controls = ListItem::Controls {
+                    next,
+                    limits,
+                    locks,
+                    watches,
+                };
+                Err((controls, refused))
+            }
         },
         ListItem::Row {
             header,

@@ -203,7 +203,7 @@ impl Kept {
         ensures mail { out.new.mail ≡ out.old.mail }
     {
         if self.next == u64::MAX {
-            return Err(NoMemory);
+            return Err(NoMemory::beyond_counts());
         }
         self.store.room()?;
         self.names.room()?;
@@ -619,7 +619,7 @@ impl Kept {
                 self.watch.settle(header, full);
                 Ok(())
             }
-            Err(_) => Err(NoMemory),
+            Err(refused) => Err(refused),
         }
     }
 

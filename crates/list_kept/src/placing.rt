@@ -183,7 +183,7 @@ pub(crate) fn push(
             store.add(header, place, record(bare, chain));
             Ok(())
         }
-        Err(_) => Err(NoMemory),
+        Err(_) => Err(NoMemory::beyond_counts()),
     }
 }
 

@@ -58,7 +58,7 @@ fn reserve_one(keys: &mut Vec<u32>) -> Result<(), NoMemory>
     ensures room { OnOk result (has_place keys.new ≡ true) }
 {
     if keys.len() >= u32::MAX as usize {
-        return Err(NoMemory);
+        return Err(NoMemory::beyond_counts());
     }
     keys.reserve(1)?;
     Ok(())

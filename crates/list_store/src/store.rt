@@ -43,10 +43,8 @@ impl Store {
         ensures free { IfOk result (λ store. store.free ≡ elements) }
     {
         let table = Table::new(alloc, headers)?;
-        match Pool::new(alloc, elements) {
-            Ok(pool) => Ok(Store { table, pool }),
-            Err(_) => Err(NoMemory),
-        }
+        let pool = Pool::new(alloc, elements)?;
+        Ok(Store { table, pool })
     }
 
     /// Takes room for one record more, in whichever header. Want of memory changes nothing.
@@ -248,10 +246,7 @@ impl Store {
         ensures some { IfOk result (λ bytes. 1 ≤ length bytes.items) }
         ensures few { IfOk result (λ bytes. length bytes.items ≤ 4096) }
     {
-        match self.pool.read(alloc, chain) {
-            Ok(bytes) => Ok(bytes),
-            Err(_) => Err(NoMemory),
-        }
+        self.pool.read(alloc, chain)
     }
 
     /// Gives the elements of a chain back, which no record has. It takes no memory.

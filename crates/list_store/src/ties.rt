@@ -323,7 +323,7 @@ pub(crate) fn reserve_slab(slab: &mut Slab<Rec>) -> Result<(), NoMemory>
 {
     slab.reserve(1)?;
     if slab.capacity() > u32::MAX as usize {
-        return Err(NoMemory);
+        return Err(NoMemory::beyond_counts());
     }
     Ok(())
 }

@@ -180,7 +180,7 @@ impl Watch {
         ensures mail { out.new.mail ≡ out.old.mail }
     {
         if self.rows.len() >= u32::MAX as usize {
-            return Err(NoMemory);
+            return Err(NoMemory::beyond_counts());
         }
         self.rows.reserve(1)?;
         let count = self.rows.len() * 2 + 2;

@@ -191,7 +191,7 @@ impl Engine for LockEngine {
         }
     }
 
-    fn place(&mut self, item: LockItem) -> Result<(), LockItem> {
+    fn place(&mut self, item: LockItem) -> Result<(), (LockItem, NoMemory)> {
         self.locks.place(item)
     }
 

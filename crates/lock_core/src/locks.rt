@@ -342,7 +342,7 @@ impl Locks {
         let owners = self.interests.len();
         let waiters = self.queue.len();
         if waiters >= u32::MAX - owners {
-            return Err(NoMemory);
+            return Err(NoMemory::beyond_counts());
         }
         self.interests.reserve(waiters + 1)?;
         self.queue.room()?;
@@ -383,18 +383,18 @@ impl Locks {
         }
     }
 
-    /// An item more, in its place. Want of memory hands it back.
-    pub(crate) fn place(&mut self, item: LockItem) -> Result<(), LockItem>
+    /// An item more, in its place. Want of memory hands it back, and is told beside it.
+    pub(crate) fn place(&mut self, item: LockItem) -> Result<(), (LockItem, NoMemory)>
         ensures ok { OnOk result (self.new.content ≡ content_placed self.old.content item) }
         ensures err { OnErr result (self.new.content ≡ self.old.content) }
-        ensures handed_back { IfErr result (λ back. back ≡ item) }
+        ensures handed_back { IfErr result (λ back. back.0 ≡ item) }
         ensures few { OnOk result (length self.old.content.interests + length
             self.old.content.waiters < 4294967295) }
         ensures limit { self.new.limit ≡ self.old.limit }
     {
         match self.try_place(&item) {
             Ok(()) => Ok(()),
-            Err(_) => Err(item),
+            Err(refused) => Err((item, refused)),
         }
     }
 
@@ -432,7 +432,7 @@ impl Locks {
         ensures limit { self.new.limit ≡ self.old.limit }
     {
         if self.queue.len() >= u32::MAX - self.interests.len() {
-            return Err(NoMemory);
+            return Err(NoMemory::beyond_counts());
         }
         self.interests.reserve(1)?;
         self.interests.put(*held, *rec);
@@ -449,7 +449,7 @@ impl Locks {
         ensures limit { self.new.limit ≡ self.old.limit }
     {
         if self.queue.len() >= u32::MAX - self.interests.len() {
-            return Err(NoMemory);
+            return Err(NoMemory::beyond_counts());
         }
         self.queue.room()?;
         let _ = self.queue.push(*w);

@@ -756,7 +756,7 @@ impl Queue {
         ensures more { self.old.room ≤ self.new.room }
     {
         if self.count == u32::MAX {
-            return Err(NoMemory);
+            return Err(NoMemory::beyond_counts());
         }
         fill(&mut self.spare, 1, &blank())
     }

@@ -246,7 +246,7 @@ impl Records {
         ensures more { self.old.room ≤ self.new.room }
     {
         if self.limit >= u32::MAX - self.count() {
-            return Err(NoMemory);
+            return Err(NoMemory::beyond_counts());
         }
         self.map.reserve(self.limit as usize + 1)?;
         Ok(())

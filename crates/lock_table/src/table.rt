@@ -498,7 +498,7 @@ impl Table {
         ensures more { self.old.room ≤ self.new.room }
     {
         if adds > u32::MAX - self.len() {
-            return Err(NoMemory);
+            return Err(NoMemory::beyond_counts());
         }
         fill(&mut self.spare, adds as usize, &blank())
     }

@@ -13,7 +13,6 @@
 mod got;
 mod hand;
 mod locks;
-mod no_memory;
 mod plays;
 mod value;
 mod view;

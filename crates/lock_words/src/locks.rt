@@ -7,11 +7,11 @@ ghost use Rattle.lock_words.specs.View.{first_view, fresh_view};
 
 use crate::got::Got;
 use crate::hand::Hand;
-use crate::no_memory::NoMemory;
 use crate::plays::{Free, Gather, Law, Look, Never, NextHand, Try};
 use crate::value::{added, admits, share_of};
 use crate::view::{Size, View};
 use atomic_table::{Seat, Table};
+use no_memory::NoMemory;
 use std::alloc::Global;
 use std::marker::Model;
 use std::mem::replace;

@@ -12,7 +12,7 @@ use shown::{Fault, print_bits, print_reply};
 use std::alloc::Global;
 use struct_machine::Changed;
 use struct_machine::api::Ask;
-use struct_machine::types::{CacheCmd, ConnId, Name16, NoMemory, ShellCmd, parse_body};
+use struct_machine::types::{Body, CacheCmd, ConnId, Name16, NoMemory, ShellCmd};
 
 /// The members, by their numbers as connectors.
 const A: ConnId = ConnId(1);
@@ -43,13 +43,7 @@ fn main(rt: HostRuntime) -> Result<(), Fault> {
 fn share(rt: &impl Print, alloc: Global, pool: &mut Pool) -> Result<(), Fault> {
     call(rt, alloc, pool, A, &Ask::Content(read(P1)))?;
     call(rt, alloc, pool, B, &Ask::Content(read(P1)))?;
-    call(
-        rt,
-        alloc,
-        pool,
-        A,
-        &Ask::Content(write(alloc, b"balance-17")?),
-    )?;
+    call(rt, alloc, pool, A, &Ask::Content(write(alloc)?))?;
     call(rt, alloc, pool, B, &Ask::Content(read(P1)))?;
     call(rt, alloc, pool, B, &Ask::Content(read(P2)))
 }
@@ -65,10 +59,8 @@ fn read(name: Name16) -> CacheCmd {
 }
 
 // IXLCACHE WRITE_DATA: each copy of the page but the writer's own is no longer valid.
-fn write(alloc: Global, data: &[u8]) -> Result<CacheCmd, NoMemory> {
-    let Ok(body) = parse_body(alloc, data) else {
-        return Err(NoMemory);
-    };
+fn write(alloc: Global) -> Result<CacheCmd, NoMemory> {
+    let body = Body::from_vec(Vec::from_slice(alloc, b"balance-17")?);
     Ok(CacheCmd::Write {
         name: P1,
         index: COPY,

@@ -53,7 +53,7 @@ pub fn start_pool(alloc: Global) -> Result<Pool, NoMemory> {
     };
     match Machine::start(alloc, form(alloc)?, 2, links) {
         Ok(pool) => Ok(pool),
-        Err(_) => Err(NoMemory),
+        Err((_, cause)) => Err(cause),
     }
 }
 

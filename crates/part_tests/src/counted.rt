@@ -66,10 +66,20 @@ impl Counted {
         ensures few { OnOk result (length self.new.held.state < 4294967295) }
     {
         if self.numbers.len() >= u32::MAX as usize {
-            return Err(NoMemory);
+            return Err(NoMemory::beyond_counts());
         }
         self.numbers.reserve(1)?;
         Ok(())
+    }
+
+    // Takes a share, unless it has one, and room for one number more.
+    fn ready_for(&mut self, share: &Option<Share>) -> Result<(), NoMemory>
+        ensures held { self.new.held ≡ self.old.held }
+        ensures room { OnOk result (1 ≤ self.new.room) }
+        ensures few { OnOk result (length self.new.held.state < 4294967295) }
+    {
+        self.take(share)?;
+        self.room()
     }
 
     // One number more, behind the others.
@@ -137,8 +147,7 @@ impl Engine for Counted {
     }
 
     fn ready(&mut self, _by: ConnId, cmd: &Token, _out: &mut Effects) -> Result<(), NoMemory> {
-        self.take(&cmd.share)?;
-        self.room()
+        self.ready_for(&cmd.share)
     }
 
     fn apply(&mut self, _by: ConnId, cmd: &Token, _out: &mut Effects) -> Result<u32, Refusal> {
@@ -176,9 +185,10 @@ impl Engine for Counted {
         Token::new(self.numbers[k as usize], &self.share)
     }
 
-    fn place(&mut self, item: Token) -> Result<(), Token> {
-        if self.take(&item.share).is_err() || self.room().is_err() {
-            return Err(item);
+    fn place(&mut self, item: Token) -> Result<(), (Token, NoMemory)> {
+        match self.ready_for(&item.share) {
+            Ok(()) => {}
+            Err(cause) => return Err((item, cause)),
         }
         self.push(item.number);
         Ok(())

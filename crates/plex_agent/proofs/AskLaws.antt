@@ -1,5 +1,5 @@
 -- The calls of a line, put together from its steps.
-use Rattle.plex_agent.proofs.Imports.{◌≡◌, ◌≢◌, ℕ, ◌<◌, ◌≤◌, List, [], ◌∷◌, ◌++◌, length, map, Option, refl, ap, subst, ◌∙◌, append-nil, append_assoc, arith, IfSome, set-set, Kind, StrNo, CallRefused, Step, AnyAsk, AgentEnd, Shown, most_asks, IsReady, PassShown, DeskShown, pass_at, with_pass, IsLaterOn, BoardShown, IsDeskOf, cell_on, pass_at-with_pass_same, with_pass-pass_at, desk-length, AtWork, Asks, EndsAt, Halts, call_item, IsAsked, at_work, asks_some, fewer_asks, ready_after}
+use Rattle.plex_agent.proofs.Imports.{◌≡◌, ◌≢◌, ℕ, ◌<◌, ◌≤◌, List, [], ◌∷◌, ◌++◌, length, map, Option, refl, ap, subst, ◌∙◌, append-nil, append_assoc, arith, IfSome, set-set, Kind, StrNo, CallRefused, Step, AnyAsk, AgentEnd, Shown, most_asks, IsReady, PassShown, DeskShown, pass_at, with_pass, IsLaterOn, BoardShown, IsDeskOf, cell_on, pass_at-with_pass_same, with_pass-pass_at, desk-length, AtWork, Asks, EndsAt, Halts, call_item, IsAsked, at_work, asks_some, fewer_asks, ready_after, want}
 use Rattle.plex_agent.specs.Calls.{end_of}
 use Rattle.plex_agent.proofs.CellLaws.{some_is, cell_there}
 
@@ -34,9 +34,9 @@ module _ (limit : ℕ) (kind : Kind) (line : Option AnyAsk) (on : StrNo) where
   -- the call wasn't made
   pub asks_refused : (now : Step) (refusal : CallRefused) (end : AgentEnd) (before : AtWork)
       (after : DeskShown) (items : List Shown) → IsReady line now → now ≢ Step.Rest → IsLaterOn on before.desk after
-      → (pass_at after on).sure ≤ (pass_at after on).known → (refusal ≢ CallRefused.NoMemory → limit
-      ≤ (pass_at after on).known) → (refusal ≡ CallRefused.NoMemory → after ≡ before.desk) → items ≡ before.shown.items
-      → end ≡ end_of on refusal → Asks limit kind line on now before (at_work after items end)
+      → (pass_at after on).sure ≤ (pass_at after on).known → (refusal ≢ CallRefused.NoMemory want → limit
+      ≤ (pass_at after on).known) → (refusal ≡ CallRefused.NoMemory want → after ≡ before.desk)
+      → items ≡ before.shown.items → end ≡ end_of on refusal → Asks limit kind line on now before (at_work after items end)
   asks_refused now refusal end before after items ready goes later ordered full still same ends =
       grind (arith, by_refusal)
     where
@@ -45,11 +45,11 @@ module _ (limit : ℕ) (kind : Kind) (line : Option AnyAsk) (on : StrNo) where
           let some = asks_some _ _ _ ready goes in
           record { asked = some.0; next = some.1; later = later; ordered = ordered }
 
-      by_refusal : (refusal : CallRefused) → (refusal ≢ CallRefused.NoMemory → limit ≤ (pass_at after on).known)
-          → (refusal ≡ CallRefused.NoMemory → after ≡ before.desk)
+      by_refusal : (refusal : CallRefused) → (refusal ≢ CallRefused.NoMemory want → limit ≤ (pass_at after on).known)
+          → (refusal ≡ CallRefused.NoMemory want → after ≡ before.desk)
           → Asks limit kind line on now before (at_work after items (end_of on refusal))
       by_refusal (CallRefused.JournalFull most) full still = asks_end _ _ _ (refl, halts, full (λ is. cc)) same
-      by_refusal CallRefused.NoMemory full still = asks_end _ _ _ (halts, still refl) same
+      by_refusal (CallRefused.NoMemory cause) full still = asks_end _ _ _ (halts, still refl) same
 
 -- ---- a step of a line at a board's structure
 

@@ -64,7 +64,7 @@ module _ {L : Type 0} (limit : ℕ) (board : BoardShown L) (me : Caller)
   ClosingEnd k cells part AgentEnd.Done = ShowsClosings me.histories me.conn k (map (λ cell. cell.form) cells) during
       part
   ClosingEnd k cells part (AgentEnd.JournalFull on) = EndedAt k cells part on × (limit ≤ length_on me.histories on)
-  ClosingEnd k cells part AgentEnd.NoMemory = (on : StrNo) × EndedAt k cells part on
+  ClosingEnd k cells part (AgentEnd.NoMemory cause) = (on : StrNo) × EndedAt k cells part on
 
   abbrev pub Departed : ℕ → List (CellShown L) → AtWork → AtWork → Type 0
   Departed k cells before after =
@@ -85,7 +85,7 @@ module _ {L : Type 0} (limit : ℕ) (board : BoardShown L) (me : Caller)
   ends_departing kind on desk part AgentEnd.Done active whole = rw active whole
   ends_departing kind on desk part (AgentEnd.JournalFull place) active (here, runs, full) =
       (here, (active, one_call_stops kind (departing kind) (calls_on me.histories on) me.conn on part runs), full)
-  ends_departing kind on desk part AgentEnd.NoMemory active runs = (active, one_call_stops _ _ _ _ _ _ runs)
+  ends_departing kind on desk part (AgentEnd.NoMemory cause) active runs = (active, one_call_stops _ _ _ _ _ _ runs)
 
   abbrev DepartedOne : Kind → StrNo → AtWork → AtWork → Type 0
   DepartedOne kind on before after = Turned me limit me.conn on (DepartsWhole kind me.histories me.conn on (is_active
@@ -160,7 +160,7 @@ module _ {L : Type 0} (limit : ℕ) (board : BoardShown L) (me : Caller)
       by_end : (end : AgentEnd) → ClosingEnd (k + 1) cells more end → ClosingEnd k (cell ∷ cells) (part ++ more) end
       by_end AgentEnd.Done rest = (part, (more, refl, shows, rest))
       by_end (AgentEnd.JournalFull on) rest = (behind on rest.0, rest.1)
-      by_end AgentEnd.NoMemory rest = (rest.0, behind rest.0 rest.1)
+      by_end (AgentEnd.NoMemory cause) rest = (rest.0, behind rest.0 rest.1)
 
   ended_at_once : (k : ℕ) (cell : CellShown L) (cells : List (CellShown L)) (desk : DeskShown) (part : List Shown)
       → AreLinked k desk → DepartsUpTo (is_active desk (place k)) part → EndedAt k (cell ∷ cells) part (place k)
@@ -238,5 +238,5 @@ module _ {L : Type 0} (limit : ℕ) (board : BoardShown L) (me : Caller)
       by_end (AgentEnd.JournalFull on) is later = still (AgentEnd.JournalFull on) is
           refl (λ links ends. subst (λ o. EndedAt k (cell ∷ cells) turned.part o × (limit ≤ length_on me.histories o))
           (sym ends.0) (ended_at_once k cell cells ready.desk turned.part links ends.1, ends.2))
-      by_end AgentEnd.NoMemory is later = still AgentEnd.NoMemory
+      by_end (AgentEnd.NoMemory cause) is later = still (AgentEnd.NoMemory cause)
           is refl (λ links ends. (place k, ended_at_once k cell cells ready.desk turned.part links ends))

@@ -1,5 +1,5 @@
 -- The calls of one line: what they keep, and the steps of the run by the machine alone that go with them.
-use Rattle.plex_agent.proofs.Imports.{◌≡◌, ◌≢◌, ℕ, zero, suc, ◌≤◌, ◌<◌, List, [], ◌∷◌, ◌++◌, map, slice_get, Option, Some, refl, ap, ◌∙◌, arith, append-nil, append_assoc, nat_tests, StrForm, Kind, CfId, ConnId, Telling, StrNo, Told, Step, AnyAsk, AnyHistory, AgentEnd, Shown, Transcript, step_after, most_asks, asked_by, rests, fewer_asks, some_goes, any_length, any_told, Run, stopped_at, steps_made, AnyReply, PassShown, IsLater, with_call, Steps, call_item}
+use Rattle.plex_agent.proofs.Imports.{◌≡◌, ◌≢◌, ℕ, zero, suc, ◌≤◌, ◌<◌, List, [], ◌∷◌, ◌++◌, map, slice_get, Option, Some, refl, ap, ◌∙◌, arith, append-nil, append_assoc, nat_tests, StrForm, Kind, CfId, ConnId, Telling, StrNo, Told, Step, AnyAsk, AnyHistory, AgentEnd, Shown, Transcript, step_after, most_asks, asked_by, rests, fewer_asks, some_goes, any_length, any_told, Run, stopped_at, steps_made, AnyReply, PassShown, IsLater, with_call, Steps, call_item, NoMemory}
 use Rattle.plex_agent.proofs.Spots.{conn, str, put, put_same, put_other, Spot, moved, called}
 use Rattle.plex_agent.proofs.Stages.{Stage, IsStage, State, Shows, Goes, goes_then, goes_not, goes_where}
 use Rattle.plex_agent.proofs.ExactMoves.{SaysLess, called_state, run_called, next_here, stopped_state, stop_point, full_here, goes_call, goes_full, says_same, goes_none}
@@ -40,7 +40,7 @@ abbrev pub IsEnded : ℕ → Kind → Option AnyAsk → ℕ → Step → PassSho
 IsEnded limit kind line on last before after AgentEnd.Done = (last ≡ Step.Rest) × (after ≡ before)
 IsEnded limit kind line on last before after (AgentEnd.JournalFull place) =
     (place ≡ str on) × IsHalted kind line last before after × (limit ≤ after.known)
-IsEnded limit kind line on last before after AgentEnd.NoMemory = IsHalted kind line last before after
+IsEnded limit kind line on last before after (AgentEnd.NoMemory cause) = IsHalted kind line last before after
 
 module _ (stage : Stage) (is : IsStage stage) (line : Option AnyAsk) (on by : ℕ) (within : on < stage.cells)
     (caller : by ≤ stage.callers) where
@@ -85,8 +85,9 @@ module _ (stage : Stage) (is : IsStage stage) (line : Option AnyAsk) (on by : �
         (grind (arith, full_here, stop_point)))) (goes_full stage shows shows' on by before
         within caller works less last pass halted.later halted.ordered is))
 
-    none_go : IsHalted kind_here line now ((before.spots on).passes by) pass → EndsHere AgentEnd.NoMemory
-    none_go halted = grind (arith, stop_go, goes_none)
+    none_go : (cause : NoMemory) → IsHalted kind_here line now ((before.spots on).passes by) pass
+        → EndsHere (AgentEnd.NoMemory cause)
+    none_go cause halted = grind (arith, stop_go, goes_none)
 
     -- nothing is asked
     rest_go : now ≡ Step.Rest → pass ≡ (before.spots on).passes by
@@ -125,7 +126,8 @@ module _ (stage : Stage) (is : IsStage stage) (line : Option AnyAsk) (on by : �
   steps_go shows shows' [] most
       now last pass pass' (AgentEnd.JournalFull place) before says still works lasts enough steps
       ends = grind (arith, full_go)
-  steps_go shows shows' [] most now last pass pass' AgentEnd.NoMemory before says still works lasts enough steps ends =
+  steps_go shows shows' [] most now last pass pass' (AgentEnd.NoMemory cause) before says still works lasts enough steps
+      ends =
       grind (arith, none_go)
   steps_go shows shows' (told ∷ tolds) most now last pass pass' end before says still works lasts enough
       (asked, asks, above, reply, steps) ends =

@@ -111,7 +111,7 @@ module _ (stage : Stage) (is : IsStage stage) (on by : ℕ) (worker worker' : At
       departs_case _ refl (ap (λ t. t.end) (sym at.shown) ∙ ends) last (if_done worker worker' _ ends departs)
   departs_go (AgentEnd.JournalFull place) ends last departs =
       let same = rw ends at departs in grind (arith, departs_not, conn, done_run)
-  departs_go AgentEnd.NoMemory ends last departs =
+  departs_go (AgentEnd.NoMemory cause) ends last departs =
       let same = rw ends at departs in grind (arith, departs_not, conn, done_run)
 
 module _ {L : Type 0} (board : BoardShown L) (script : Script) (stage : Stage) (is : IsStage stage)
@@ -187,7 +187,7 @@ module _ {L : Type 0} (board : BoardShown L) (script : Script) (stage : Stage) (
       )) (rw (set-set floor.workers by (heard_all board floor (conn by)) closes.0) closes.2))
   closes_case by floor floor' before caller at known (AgentEnd.JournalFull place) ends same =
       grind (arith, IsFloor, goes_where, of_none, conn, idle_places, transcript_is, goes_not)
-  closes_case by floor floor' before caller at known AgentEnd.NoMemory ends same =
+  closes_case by floor floor' before caller at known (AgentEnd.NoMemory cause) ends same =
       grind (arith, IsFloor, goes_where, of_none, conn, idle_places, transcript_is, goes_not)
 
   pub closes_all : (conns : List ConnId) → All (λ conn. conn.0 ≤ stage.callers) conns → (floor floor' : Floor)

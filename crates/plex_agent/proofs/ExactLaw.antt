@@ -1,6 +1,6 @@
 -- The law of a script's work at one board on one thread: the callers were shown what the run by the machine alone
 -- shows, and the histories that the closed structures left are the run's.
-use Rattle.plex_agent.proofs.Imports.{same_lists, IsBoardOf, ◌≡◌, ◌≢◌, ℕ, ◌≤◌, ◌<◌, List, [], length, map, fold, slice_get, Some, sym, ap, subst, ◌∙◌, arith, append-nil, All, length-map, get_or-map, slice_get-map, slice_get-get_or, CfId, ConnId, Telling, AnyHistory, Script, any_calls, any_length, own_calls, AreAnyAsTold, end_of, calls_rise, same_calls, take_all, end_length, Run, start, connectors, after_line, after_closing, serial_run, IsRunnable, CellShown, IsAnyTold, pass_at, BoardShown, IsStarted, IsAccount, AreClosed, Floor, Plays, worker_of, no_worker, zero, suc, ◌+◌, false, replicate, Option, None, refl, get_or-replicate, length-replicate, length-map-range_with_len, get_or-map-range_with_len, All-nil, All-weaker, get_or_from_slice_get, get_within, StrForm, Kind, AreMadeBelow, AnyCall, no_calls, numbers_from, any_numbers, take_none, unused_pass, no_pass, new_desk, IsClosed, no_items, new_floor, AgentEnd}
+use Rattle.plex_agent.proofs.Imports.{same_lists, IsBoardOf, ◌≡◌, ◌≢◌, ℕ, ◌≤◌, ◌<◌, List, [], length, map, fold, slice_get, Some, sym, ap, subst, ◌∙◌, arith, append-nil, All, length-map, get_or-map, slice_get-map, slice_get-get_or, CfId, ConnId, Telling, AnyHistory, Script, any_calls, any_length, own_calls, AreAnyAsTold, end_of, calls_rise, same_calls, take_all, end_length, Run, start, connectors, after_line, after_closing, serial_run, IsRunnable, CellShown, IsAnyTold, pass_at, BoardShown, IsStarted, IsAccount, AreClosed, Floor, Plays, worker_of, no_worker, zero, suc, ◌+◌, false, replicate, Option, None, refl, get_or-replicate, length-replicate, length-map-range_with_len, get_or-map-range_with_len, All-nil, All-weaker, get_or_from_slice_get, get_within, StrForm, Kind, AreMadeBelow, AnyCall, no_calls, numbers_from, any_numbers, take_none, unused_pass, no_pass, new_desk, IsClosed, no_items, new_floor, AgentEnd, want}
 use Rattle.plex_agent.proofs.LineTurns.{lines_go, IsStageOf, of_all, of_none, TurnGoes, turn_then}
 use Rattle.plex_agent.proofs.Lookups.{some_same, all_get, kind_of_type}
 use Rattle.plex_agent.proofs.Spots.{conn, str, Spot, IsKnownPass}
@@ -201,7 +201,7 @@ module _ {L : Type 0} (limit : ℕ) (told : ℕ → CfId → Telling) (script : 
   -- ---- the histories fit what has been done in the end
 
   module _ (state : State) (at : IsFloor stage floor state) (known : Known stage state)
-      (memory : All (λ worker. worker.shown.end ≢ AgentEnd.NoMemory) floor.workers) where
+      (memory : All (λ worker. worker.shown.end ≢ AgentEnd.NoMemory want) floor.workers) where
     worker_within : (c : ℕ) → c ≤ board.callers → c < length floor.workers
     worker_within c inside = omega (arith, at.workers)
 
@@ -260,7 +260,7 @@ module _ {L : Type 0} (limit : ℕ) (told : ℕ → CfId → Telling) (script : 
   -- Where the links answered what they tell, the histories of the closed structures are those of the script's run by
   -- the machine alone, and so is what the callers were shown.
   pub exact : Plays board script.lines (connectors script) floor → All (λ worker. worker.shown.end
-      ≢ AgentEnd.NoMemory) floor.workers → (histories ≡ (serial_run limit told script).histories)
+      ≢ AgentEnd.NoMemory want) floor.workers → (histories ≡ (serial_run limit told script).histories)
       × (map (λ worker. worker.shown) floor.workers ≡ (serial_run limit told script).transcripts)
   exact plays memory =
       let all = whole plays in

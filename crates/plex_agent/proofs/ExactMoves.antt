@@ -1,6 +1,6 @@
 -- What one step of a caller at a structure keeps, and the run that goes with it: a hearing, a call, and a
 -- next call that wasn't made.
-use Rattle.plex_agent.proofs.Imports.{length-set, get-set_same, get-set_other, length, ◌≡◌, ◌≢◌, ℕ, ◌≤◌, ◌<◌, [], ◌∷◌, ◌++◌, set, slice_get, Some, refl, sym, ap, subst, ◌∙◌, arith, All, fold_push, StrForm, CfId, Telling, Told, AnyAsk, AnyHistory, AgentEnd, Transcript, any_length, IsAnyPoint, any_take, any_next, end_of, last_number, calls_rise, IsFrontOf, point_end, seen_on, Run, shown_to, stopped_at, transcript_of, transcript_at, AnyReply, PassShown, with_call, IsLater, IsAnyTold, set_same, Shown, ConnId}
+use Rattle.plex_agent.proofs.Imports.{length-set, get-set_same, get-set_other, length, ◌≡◌, ◌≢◌, ℕ, ◌≤◌, ◌<◌, [], ◌∷◌, ◌++◌, set, slice_get, Some, refl, sym, ap, subst, ◌∙◌, arith, All, fold_push, StrForm, CfId, Telling, Told, AnyAsk, AnyHistory, AgentEnd, Transcript, any_length, IsAnyPoint, any_take, any_next, end_of, last_number, calls_rise, IsFrontOf, point_end, seen_on, Run, shown_to, stopped_at, transcript_of, transcript_at, AnyReply, PassShown, with_call, IsLater, IsAnyTold, set_same, Shown, ConnId, NoMemory}
 use Rattle.plex_agent.proofs.Spots.{conn, str, put, put_all, put_same, put_other, Spot, IsKnown, LastKnows, event, changed, at_front, moved, with_event, called, known_moved, known_called}
 use Rattle.plex_agent.proofs.Fits.{FitsAt, events_front, fits_put, fits_called, IsNextCall, is_next_call, heard_pass, heard_is, heard_complete}
 use Rattle.plex_agent.proofs.Agreements.{AgreesAt, IsSeen, agrees_put, agrees_elsewhere, sure_in, seen_push, seen_none, number_shown, lasts_put, known_in}
@@ -168,9 +168,9 @@ module _ (stage : Stage) (shows shows' : Shows)
         )) makes
 
     -- where memory was lacking nothing more is claimed
-    pub goes_none : (goes : Run → Run)
-        → Goes stage shows shows' state (stopped_state on by pass AgentEnd.NoMemory state) goes
-    goes_none goes = grind (arith, goes_stop, put_same)
+    pub goes_none : (cause : NoMemory) (goes : Run → Run)
+        → Goes stage shows shows' state (stopped_state on by pass (AgentEnd.NoMemory cause) state) goes
+    goes_none cause goes = grind (arith, goes_stop, put_same)
 
     -- the run stops at the full journal
     pub goes_full : IsStage stage → Goes stage shows shows' state

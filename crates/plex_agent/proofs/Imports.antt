@@ -18,7 +18,8 @@ pub use Rattle.plex_board.specs.Callers.{lines_by, IsLineFor, no_items}
 pub use Rattle.plex_board.specs.CfLink.Links.{Telling, AreAsked, IsAskedAll, link_at}
 pub use Rattle.plex_board.specs.CfLink.declared.links.Links.{Links}
 pub use Rattle.plex_board.specs.CfTypes.declared.shell_commands.ShellCmd.{ShellCmd}
-pub use Rattle.plex_board.specs.CfTypes.declared.{forms.Kind.Kind, forms.StrForm.StrForm, memory.NoMemory.NoMemory}
+pub use Rattle.plex_board.specs.CfTypes.declared.{forms.Kind.Kind, forms.StrForm.StrForm}
+pub use Rattle.plex_board.specs.CfTypes.NoMemory.{Wants.want, declared.wants.NoMemory.NoMemory}
 pub use Rattle.plex_board.specs.CfTypes.declared.{limits.TheConstants.CONNECTORS, numbers.CfId.CfId}
 pub use Rattle.plex_board.specs.CfTypes.declared.{numbers.ConnId.ConnId, numbers.StrNo.StrNo}
 pub use Rattle.plex_board.specs.EngineApi.History.{Tells, stands_after}

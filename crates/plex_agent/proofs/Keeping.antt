@@ -57,7 +57,7 @@ asks_keep limit kind line on first before after asks = keeps_then _ _ _ (keeps_p
         → Keeps (with_pass on asks.pass before.desk) after.desk
     ends AgentEnd.Done (rests, same) = keeps_same _ _ same
     ends (AgentEnd.JournalFull place) (here, halts, full) = halts_keep _ _ _ _ _ _ halts
-    ends AgentEnd.NoMemory (halts, same) = keeps_same _ _ same
+    ends (AgentEnd.NoMemory cause) (halts, same) = keeps_same _ _ same
 
 -- a test tells what is known, and nothing of what is seen complete
 tests_keep : (on : StrNo) (at : ℕ) (tests : List Sight) (before after : DeskShown) → (pass_at before on).known ≤ at

@@ -1,5 +1,5 @@
 -- A line of a script at a board, and all lines, against the run by the machine alone.
-use Rattle.plex_agent.proofs.Imports.{refl, ◌≡◌, ◌≢◌, ℕ, ◌≤◌, ◌<◌, List, length, set, Option, None, Some, sym, ap, ◌∙◌, arith, length-set, slice_index_or, if◌then◌else◌, get_or-set_same, get_or-set_other, set-get_or, Transcript, Run, PassShown, pass_at, with_pass, note_in, AtWork, Floor, worker_of, heard_from_last, AgentEnd, Sight, IsAnyTold, All-head, ltb-true, each_sight, set-set, ◌*◌, nat_lt, true, [], ◌∷◌, map, slice_get, subst, Step, AnyAsk, Shown, AnyHistory, sight, indices_of, shown_on, act_made, all_steps_made, post_made, take_made, note_of, with_any_note, Asks, Tests, TestsWord, ShowsOnly, RunsOut, Posts, worker_after_take, Bool, false, MatchBool, ◌⊎◌, inl, inr, Act, Line, first_step, test_shown, word_shown, CellShown, IfDone, is_done_as, with_worker, PlaysAct, fold, All, All-tail, slice_get_within, Script, after_line, is_done, BoardShown, cell_on, is_working, PlaysLine, PlaysLines}
+use Rattle.plex_agent.proofs.Imports.{refl, ◌≡◌, ◌≢◌, ℕ, ◌≤◌, ◌<◌, List, length, set, Option, None, Some, sym, ap, ◌∙◌, arith, length-set, slice_index_or, if◌then◌else◌, get_or-set_same, get_or-set_other, set-get_or, Transcript, Run, PassShown, pass_at, with_pass, note_in, AtWork, Floor, worker_of, heard_from_last, AgentEnd, Sight, IsAnyTold, All-head, ltb-true, each_sight, set-set, ◌*◌, nat_lt, true, [], ◌∷◌, map, slice_get, subst, Step, AnyAsk, Shown, AnyHistory, sight, indices_of, shown_on, act_made, all_steps_made, post_made, take_made, note_of, with_any_note, Asks, Tests, TestsWord, ShowsOnly, RunsOut, Posts, worker_after_take, Bool, false, MatchBool, ◌⊎◌, inl, inr, Act, Line, first_step, test_shown, word_shown, CellShown, IfDone, is_done_as, with_worker, PlaysAct, fold, All, All-tail, slice_get_within, Script, after_line, is_done, BoardShown, cell_on, is_working, PlaysLine, PlaysLines, NoMemory, want}
 use Rattle.plex_agent.proofs.Spots.{conn, str, put_same, put_other, Spot, LastKnows, changed, noticed, known_noticed, at_front, moved}
 use Rattle.plex_agent.proofs.Fits.{fits_put, heard_as, heard_pass}
 use Rattle.plex_agent.proofs.Stages.{Stage, State, Known, Shows, Goes, acted, known_acted, fits_acted, IsStage, goes_then, Agrees, goes_not, goes_where}
@@ -73,10 +73,11 @@ heard_desk stage on by worker floor state within is known size pass_is =
 
 -- ---- out of memory
 
-pub goes_out : (stage : Stage) (shows shows' : Shows) (on by : ℕ) (goes : Run → Run) (state : State) → on <
-    stage.cells → by ≤ stage.callers → (state.shown by).end ≡ AgentEnd.Done → Goes stage shows shows' state (turned on
-    by ((state.spots on).passes by) (state.spots on) (record (state.shown by) { end = AgentEnd.NoMemory }) state) goes
-goes_out stage shows shows' on by goes state within caller works =
+pub goes_out : (stage : Stage) (shows shows' : Shows) (on by : ℕ) (cause : NoMemory) (goes : Run → Run)
+    (state : State) → on < stage.cells → by ≤ stage.callers → (state.shown by).end ≡ AgentEnd.Done
+    → Goes stage shows shows' state (turned on by ((state.spots on).passes by) (state.spots on)
+    (record (state.shown by) { end = AgentEnd.NoMemory cause }) state) goes
+goes_out stage shows shows' on by cause goes state within caller works =
     grind (arith, Spot, known_acted, noticed, known_noticed, fits_acted, fits_put, put_other, put_same)
 
 -- ---- what is said of callers
@@ -178,7 +179,7 @@ module _ {stage : Stage} {on by : ℕ} {self : AtWork} {floor : Floor} {before :
         → TurnGoes stage shows shows' before floor' goes
     out_turn {shows} {shows'} goes out =
         plain_turn ((before.spots on).passes by) (before.spots on) _ refl refl (grind (arith, str, set-get_or))
-        (grind arith) (goes_out stage shows shows' on by goes before begins.within begins.caller begins.works)
+        (grind arith) (goes_out stage shows shows' on by want goes before begins.within begins.caller begins.works)
 
     -- ---- behind a hearing
 
@@ -398,7 +399,7 @@ module _ {L : Type 0} (board : BoardShown L) (script : Script) (stage : Stage) (
           ) refl) turn.goes_on;
         }
     line_case cell there (AgentEnd.JournalFull place) ends same = idle _ there _ ends refl same
-    line_case cell there AgentEnd.NoMemory ends same = idle cell there AgentEnd.NoMemory ends refl same
+    line_case cell there (AgentEnd.NoMemory cause) ends same = idle cell there (AgentEnd.NoMemory cause) ends refl same
 
     pub line_goes : PlaysLine board line floor floor'
         → TurnGoes stage of_all of_all before floor' (λ run. after_line stage.limit stage.told script run line)

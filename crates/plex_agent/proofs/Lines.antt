@@ -173,7 +173,7 @@ module _ {L : Type 0} (limit : ℕ) (board : BoardShown L) (me : Caller)
   abbrev pub LinesEnd : List Line → List Shown → AgentEnd → Type 0
   LinesEnd lines part AgentEnd.Done = ShowsLines me.forms me.histories lines part
   LinesEnd lines part (AgentEnd.JournalFull on) = EndedIn (Stopped on) lines part
-  LinesEnd lines part AgentEnd.NoMemory = EndedIn Broken lines part
+  LinesEnd lines part (AgentEnd.NoMemory cause) = EndedIn Broken lines part
 
   abbrev pub Played : List Line → AtWork → AtWork → Type 0
   Played lines before after = Comes me (LinesEnd lines) (Owns me.conn before.desk) before after
@@ -223,7 +223,7 @@ module _ {L : Type 0} (limit : ℕ) (board : BoardShown L) (me : Caller)
         line.on line.retry line.act part → LinesEnd lines more end → LinesEnd (line ∷ lines) (part ++ more) end
     line_then more AgentEnd.Done whole rest = (form, (part, (more, known, refl, whole, rest)))
     line_then more (AgentEnd.JournalFull on) whole rest = ended_behind (Stopped on) more whole rest
-    line_then more AgentEnd.NoMemory whole rest = ended_behind Broken more whole rest
+    line_then more (AgentEnd.NoMemory cause) whole rest = ended_behind Broken more whole rest
 
     -- the line in which it ended
     ended_here : (Cuts : Line → StrForm → List Shown → Type 0) → Cuts line form part → EndedIn Cuts (line ∷ lines) part
@@ -292,4 +292,5 @@ module _ {L : Type 0} (limit : ℕ) (board : BoardShown L) (me : Caller)
           }
       by_end (AgentEnd.JournalFull on) is later = still (AgentEnd.JournalFull on) is refl (
           grind (arith, ends, ended_here, known, ShownUpTo))
-      by_end AgentEnd.NoMemory is later = still AgentEnd.NoMemory is refl (grind (arith, ends, ended_here, known))
+      by_end (AgentEnd.NoMemory cause) is later =
+          still (AgentEnd.NoMemory cause) is refl (grind (arith, ends, ended_here, known))

@@ -1,5 +1,5 @@
 -- A script that may be run, and the board that was started for it.
-use Rattle.plex_agent.proofs.Imports.{Vec, Global, ◌≡◌, ◌≢◌, ℕ, ◌≤◌, List, length, map, Option, Result, Ok, Err, IfOk, IsOkAnd, All, slice_get, refl, sym, ◌∙◌, ap, subst, arith, length-map, get_or-map, Kind, StrForm, NoMemory, CfId, ConnId, Telling, TellsEnough, AnyAsk, Act, Line, Script, AnyHistory, Transcript, IsRunnable, IsRunnableLine, IsRunnableAct, AreTelling, AreRunLinks, serial_run, type_of_kind, type_of_ask, CellShown, DeskShown, BoardShown, IsStarted, AreClosed, AreLinksAsked, links_of, AtWork, MayAct, Finished, IsPlayable, IsBoardOf, IsPlayed, ShowsHistories, AgentEnd}
+use Rattle.plex_agent.proofs.Imports.{Vec, Global, ◌≡◌, ◌≢◌, ℕ, ◌≤◌, List, length, map, Option, Result, Ok, Err, IfOk, IsOkAnd, All, slice_get, refl, sym, ◌∙◌, ap, subst, arith, length-map, get_or-map, Kind, StrForm, NoMemory, CfId, ConnId, Telling, TellsEnough, AnyAsk, Act, Line, Script, AnyHistory, Transcript, IsRunnable, IsRunnableLine, IsRunnableAct, AreTelling, AreRunLinks, serial_run, type_of_kind, type_of_ask, CellShown, DeskShown, BoardShown, IsStarted, AreClosed, AreLinksAsked, links_of, AtWork, MayAct, Finished, IsPlayable, IsBoardOf, IsPlayed, ShowsHistories, AgentEnd, want}
 use Rattle.plex_board.specs.Kinds.{IsAskOf}
 use Rattle.plex_agent.proofs.Lookups.{get_mapped, all_get}
 use Rattle.plex_agent.proofs.{ExactLaw.exact, LinkRuns.run_links, LinkRuns.run_told, Schedules.serial_shows}
@@ -46,7 +46,7 @@ lines_playable limit script board is may = λ k d below. line_playable limit scr
 
 -- nobody's work ended for want of memory
 abbrev pub HadMemory : List Transcript → Type 0
-HadMemory transcripts = All (λ (transcript : Transcript). transcript.end ≢ AgentEnd.NoMemory) transcripts
+HadMemory transcripts = All (λ (transcript : Transcript). transcript.end ≢ AgentEnd.NoMemory want) transcripts
 
 -- what holds of the histories, and of what was shown where nobody lacked memory, holds of a run that is left
 pub finished_is : (finished : Result Finished NoMemory) (shown : Result (Vec Transcript Global) NoMemory)
@@ -60,8 +60,8 @@ finished_is (Ok it) (Err e) histories Shows Holds same items had shows law = abs
 finished_is (Err e) shown histories Shows Holds same items had shows law = tt
 
 pub had_memory : (workers : List AtWork) → HadMemory (map (λ worker. worker.shown) workers)
-    → All (λ (worker : AtWork). worker.shown.end ≢ AgentEnd.NoMemory) workers
-had_memory workers had k d below = subst (λ (transcript : Transcript). transcript.end ≢ AgentEnd.NoMemory)
+    → All (λ (worker : AtWork). worker.shown.end ≢ AgentEnd.NoMemory want) workers
+had_memory workers had k d below = subst (λ (transcript : Transcript). transcript.end ≢ AgentEnd.NoMemory want)
     (get_or-map (λ (worker : AtWork). worker.shown) workers k d d.shown below)
     (had k d.shown (omega (arith, below, length-map workers (λ (worker : AtWork). worker.shown))))
 

@@ -1,6 +1,6 @@
 -- A script's work on one thread is one schedule: each caller's lines and departures are a chain of turns, before each of
 -- which it hears of others.
-use Rattle.plex_agent.proofs.Imports.{◌≡◌, ◌≢◌, ℕ, zero, suc, ◌+◌, ◌≤◌, ◌<◌, ◌==◌, inl, Bool, true, false, MatchBool, List, [], ◌∷◌, length, map, fold, replicate, Option, None, Some, get_or, set, refl, sym, ap, subst, ◌∙◌, arith, All, range_with_len, nat_tests, length-map, get_or-set_same, get_or-set_other, All-head, All-tail, length-map-range_with_len, get_or-map-range_with_len, slice_get_within, get_or_from_slice_get, StrForm, ConnId, StrNo, Act, Line, Script, AnyHistory, numbers_from, connectors, ShowsHistories, PassShown, NoteShown, IsLater, note_of, unused_pass, CellShown, with_note, with_any_note, no_pass, pass_at, BoardShown, IsStarted, AreClosed, new_desk, note_in, AtWork, Takes, Acts, Turns, is_done_as, lines_by, no_items, Floor, Plays, PlaysLines, PlaysAct, ClosesOne, ClosesAll, new_floor, no_worker, worker_of, told_by, heard_from, heard_from_last, heard_all, is_working, with_worker, last_after, worker_ready, worker_after_take, Hears, HearsThen, DoesLines, DepartsEach, Serves, cases_lt, AgentEnd}
+use Rattle.plex_agent.proofs.Imports.{◌≡◌, ◌≢◌, ℕ, zero, suc, ◌+◌, ◌≤◌, ◌<◌, ◌==◌, inl, Bool, true, false, MatchBool, List, [], ◌∷◌, length, map, fold, replicate, Option, None, Some, get_or, set, refl, sym, ap, subst, ◌∙◌, arith, All, range_with_len, nat_tests, length-map, get_or-set_same, get_or-set_other, All-head, All-tail, length-map-range_with_len, get_or-map-range_with_len, slice_get_within, get_or_from_slice_get, StrForm, ConnId, StrNo, Act, Line, Script, AnyHistory, numbers_from, connectors, ShowsHistories, PassShown, NoteShown, IsLater, note_of, unused_pass, CellShown, with_note, with_any_note, no_pass, pass_at, BoardShown, IsStarted, AreClosed, new_desk, note_in, AtWork, Takes, Acts, Turns, is_done_as, lines_by, no_items, Floor, Plays, PlaysLines, PlaysAct, ClosesOne, ClosesAll, new_floor, no_worker, worker_of, told_by, heard_from, heard_from_last, heard_all, is_working, with_worker, last_after, worker_ready, worker_after_take, Hears, HearsThen, DoesLines, DepartsEach, Serves, cases_lt, AgentEnd, want}
 use Rattle.std.proofs.lemmas.List.{length-set}
 use Rattle.plex_board.specs.Callers as alone
 use Rattle.plex_agent.proofs.Keeping.{IsInOrder, IsOrdered, IsNoteOrdered, Keeps, turns_keep, departs_each_keep}
@@ -344,8 +344,9 @@ pub serial_shows : {L : Type 0} (limit : ℕ) (script : Script) (board : BoardSh
     (histories : List AnyHistory) → map (λ cell. cell.form) board.cells ≡ script.structures
     → All (IsStarted (length script.connectors) limit) board.cells → board.callers ≡ length script.connectors
     → All (λ line. line.by.0 ≤ board.callers) script.lines → Plays board script.lines (connectors script) floor
-    → All (λ worker. worker.shown.end ≢ AgentEnd.NoMemory) floor.workers → AreClosed board (map (λ worker. worker.desk)
-    floor.workers) histories → ShowsHistories limit script histories (map (λ worker. worker.shown) floor.workers)
+    → All (λ worker. worker.shown.end ≢ AgentEnd.NoMemory want) floor.workers
+    → AreClosed board (map (λ worker. worker.desk) floor.workers) histories
+    → ShowsHistories limit script histories (map (λ worker. worker.shown) floor.workers)
 serial_shows limit script board floor histories forms started callers lines plays memory closed =
     let right : IsOrderly board floor = ends_orderly in
     serves_right limit script

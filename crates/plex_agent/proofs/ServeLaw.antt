@@ -1,6 +1,6 @@
 -- Callers at work at one board, whatever the schedule was: each works at its own desk, and what is known of the
 -- others is what the histories say.
-use Rattle.plex_agent.proofs.Imports.{◌≡◌, ◌≢◌, ℕ, ◌+◌, ◌≤◌, ◌<◌, inl, inr, List, length, map, Some, None, Option, sym, ap, subst, ◌∙◌, arith, append-nil, slice_get, All, cases_lt, length-map, get_or_past, All-nil, slice_get_within, get_within, StrForm, ConnId, StrNo, AnyHistory, Script, Transcript, AnyCall, any_calls, any_length, own_calls, calls_of, calls_on, length_of, length_on, AgreesWith, numbers_on, TestsTell, EndsRight, IsHistoryOf, ShowsHistories, CellShown, IsAnyTold, Rising, calls_rise, DeskShown, no_pass, pass_at, BoardShown, IsStarted, IsClosed, IsAccount, AreClosed, new_desk, AtWork, no_items, Serves, WorkEnds, ShowsWork, AgentEnd}
+use Rattle.plex_agent.proofs.Imports.{◌≡◌, ◌≢◌, ℕ, ◌+◌, ◌≤◌, ◌<◌, inl, inr, List, length, map, Some, None, Option, sym, ap, subst, ◌∙◌, arith, append-nil, slice_get, All, cases_lt, length-map, get_or_past, All-nil, slice_get_within, get_within, StrForm, ConnId, StrNo, AnyHistory, Script, Transcript, AnyCall, any_calls, any_length, own_calls, calls_of, calls_on, length_of, length_on, AgreesWith, numbers_on, TestsTell, EndsRight, IsHistoryOf, ShowsHistories, CellShown, IsAnyTold, Rising, calls_rise, DeskShown, no_pass, pass_at, BoardShown, IsStarted, IsClosed, IsAccount, AreClosed, new_desk, AtWork, no_items, Serves, WorkEnds, ShowsWork, AgentEnd, want}
 use Rattle.plex_agent.proofs.Lookups.{get_map, get_mapped, all_get, kind_of_type}
 use Rattle.plex_agent.proofs.Work.{caller_of, begins_long, begins_owning, begins_shown, Finished, finishes}
 use Rattle.plex_agent.proofs.{Passes.Caller, Passes.IsWithin, Moves.AreWithin, Moves.IsTranscript, Lines.IsSetting}
@@ -131,7 +131,7 @@ module _ {L : Type 0} (limit : ℕ) (script : Script) (board : BoardShown L) (hi
     }
 
   -- where memory was found, the items follow the script, or stop at a full journal
-  ends_right : (conn : ConnId) (shown : Transcript) → shown.end ≢ AgentEnd.NoMemory
+  ends_right : (conn : ConnId) (shown : Transcript) → shown.end ≢ AgentEnd.NoMemory want
       → ShowsWork limit script histories conn shown → EndsRight limit script histories conn shown.items shown.end
   ends_right conn shown found work = grind arith
 
@@ -160,7 +160,7 @@ module _ {L : Type 0} (limit : ℕ) (script : Script) (board : BoardShown L) (hi
   -- tells what stood.
   pub serves_right : length workers ≡ length script.connectors + 1 → ((c : ℕ) (worker : AtWork) → slice_get workers
       c ≡ Some worker → Serves board script.lines (record { desk = new_desk board c; shown = no_items }) worker)
-      → All (λ worker. worker.shown.end ≢ AgentEnd.NoMemory) workers
+      → All (λ worker. worker.shown.end ≢ AgentEnd.NoMemory want) workers
       → ShowsHistories limit script histories (map (λ worker. worker.shown) workers)
   serves_right as_workers serve found = record {
     structures = closed.structures ∙ as_many;
@@ -169,7 +169,7 @@ module _ {L : Type 0} (limit : ℕ) (script : Script) (board : BoardShown L) (hi
     ends = λ c transcript shown'. (let it = get_mapped shown_of workers c transcript shown' in
         subst (λ t. EndsRight limit script histories (record { 0 = c }) t.items t.end)
         it.2 (ends_right (record { 0 = c }) it.0.shown (all_get (λ (worker : AtWork). worker.shown.end ≢
-        AgentEnd.NoMemory) workers c it.0 found it.1) (serve_right c it.0 it.1 (serve c it.0 it.1))));
+        AgentEnd.NoMemory want) workers c it.0 found it.1) (serve_right c it.0 it.1 (serve c it.0 it.1))));
     tests = λ c transcript shown'. (let it = get_mapped shown_of workers c transcript shown' in
         subst (λ t. TestsTell script.structures histories (record { 0 = c }) t.items) it.2
         (serve_right c it.0 it.1 (serve c it.0 it.1)).tests);

@@ -1,6 +1,6 @@
 -- What has been done at all structures, and the steps of it: what each keeps, what it says of what was done before,
 -- and that the run by the machine alone goes with it.
-use Rattle.plex_agent.proofs.Imports.{arith, ◌≡◌, ◌≢◌, ℕ, ◌+◌, ◌≤◌, ◌<◌, length, set, slice_get, Some, StrForm, CfId, Telling, cases_eq, AnyHistory, Transcript, IsAnyLegal, AreAnyAsTold, IsAnyPoint, any_numbers, AreMadeBelow, Run, AgentEnd}
+use Rattle.plex_agent.proofs.Imports.{arith, ◌≡◌, ◌≢◌, ℕ, ◌+◌, ◌≤◌, ◌<◌, length, set, slice_get, Some, StrForm, CfId, Telling, cases_eq, AnyHistory, Transcript, IsAnyLegal, AreAnyAsTold, IsAnyPoint, any_numbers, AreMadeBelow, Run, AgentEnd, want}
 use Rattle.plex_agent.proofs.Spots.{put, put_all, put_same, put_other, Spot, IsKnown}
 use Rattle.plex_agent.proofs.Fits.{put_back, FitsAt}
 use Rattle.plex_agent.proofs.Agreements.{AgreesAt}
@@ -34,7 +34,7 @@ Known stage state = (x : ℕ) → x < stage.cells → IsKnown stage.callers (sta
 -- what a caller that stopped knows stays as it is, and is a point of the history
 pub record Fits (stage : Stage) (state : State) : Type 0 where
   pub at : (x : ℕ) → x < stage.cells → FitsAt (stage.form x) (stage.entries x) stage.callers (state.spots x)
-  pub memory : (c : ℕ) → c ≤ stage.callers → (state.shown c).end ≢ AgentEnd.NoMemory
+  pub memory : (c : ℕ) → c ≤ stage.callers → (state.shown c).end ≢ AgentEnd.NoMemory want
   pub stopped : (x c : ℕ) → x < stage.cells → c ≤ stage.callers → (state.shown c).end ≢ AgentEnd.Done
       → IsAnyPoint (stage.entries x) ((state.spots x).passes c).known
 

@@ -58,7 +58,7 @@ module _ (me : Caller) where
   EndsAs limit on Whole UpTo Cut part AgentEnd.Done = Whole part
   EndsAs limit on Whole UpTo Cut part (AgentEnd.JournalFull place) =
       (place ≡ on) × UpTo part × (limit ≤ length_on me.histories on)
-  EndsAs limit on Whole UpTo Cut part AgentEnd.NoMemory = Cut part
+  EndsAs limit on Whole UpTo Cut part (AgentEnd.NoMemory cause) = Cut part
 
   pub record Turned (limit : ℕ) (by : ConnId) (on : StrNo) (Whole UpTo Cut : List Shown → Type 0)
       (before after : AtWork) : Type 0 where
@@ -121,8 +121,8 @@ module _ (me : Caller) where
             moves = both.0;
             shows = λ owner within. (here, both.1 owner within, omega (arith, full, within.known));
           }
-      ends AgentEnd.NoMemory (stop, same) =
-          let both = halts AgentEnd.NoMemory stop in
+      ends (AgentEnd.NoMemory cause) (stop, same) =
+          let both = halts (AgentEnd.NoMemory cause) stop in
           record { part = map (call_item on) tolds; moves = both.0; shows = λ owner within. both.1 owner within }
 
     pub asks_turned : (after : AtWork) → Asks limit kind line on first before after

@@ -74,7 +74,7 @@ module _ {L : Type 0} (limit : ℕ) (board : BoardShown L) (script : Script)
             → WorkEnds limit script histories conn played.part end
         by_end AgentEnd.Done stopped agrees ends = absurd cc
         by_end (AgentEnd.JournalFull on) stopped agrees ends = grind arith
-        by_end AgentEnd.NoMemory stopped agrees ends = grind arith
+        by_end (AgentEnd.NoMemory cause) stopped agrees ends = grind arith
 
     -- a connector's departures
     module _ (going : between.shown.end ≡ AgentEnd.Done) (connector : conn.0 == 0 ≡ false)
@@ -99,7 +99,7 @@ module _ {L : Type 0} (limit : ℕ) (board : BoardShown L) (script : Script)
           (played.part ++ departed.part) → WorkEnds limit script histories conn (played.part ++ departed.part) end
       by_end AgentEnd.Done lines closing agrees = grind arith
       by_end (AgentEnd.JournalFull on) lines (closing, full) agrees = grind (arith, length-map, not_operator)
-      by_end AgentEnd.NoMemory lines (on, closing) agrees =
+      by_end (AgentEnd.NoMemory cause) lines (on, closing) agrees =
           let past : closing.past ≡ on.0 = omega (arith, closing.at) in
           let size = length-map board.cells (λ (cell : CellShown L). cell.form) in
           record {
@@ -134,7 +134,7 @@ module _ {L : Type 0} (limit : ℕ) (board : BoardShown L) (script : Script)
         by_end AgentEnd.Done going = by_owner (conn.0 == 0) refl going closing
         by_end (AgentEnd.JournalFull on) is =
             stopped_ends (AgentEnd.JournalFull on) is refl (still (conn.0 == 0) closing (ap is_done_as is))
-        by_end AgentEnd.NoMemory is = stopped_ends AgentEnd.NoMemory is refl
+        by_end (AgentEnd.NoMemory cause) is = stopped_ends (AgentEnd.NoMemory cause) is refl
             (still (conn.0 == 0) closing (ap is_done_as is))
 
   pub finishes : (worker : AtWork) → Serves board script.lines (beginner board conn) worker → Finished worker

@@ -84,7 +84,7 @@ ends_so limit kind line on last pass desk after AgentEnd.Done within ends = grin
 ends_so limit kind line on last pass desk after (AgentEnd.JournalFull place) within ends =
     let halts = halts_so kind line on last pass desk after within ends.1 in
     record { ends = (ends.0, halts.0, ends.2); desk_is = halts.1 }
-ends_so limit kind line on last pass desk after AgentEnd.NoMemory within ends =
+ends_so limit kind line on last pass desk after (AgentEnd.NoMemory cause) within ends =
     let halts = halts_so kind line on last pass desk after within ends.0 in
     record { ends = halts.0; desk_is = halts.1 }
 

@@ -43,4 +43,4 @@ pub record IsAsked (kind : Kind) (line : Option AnyAsk) (on : StrNo) (now next :
 -- how a caller's work ends where its call wasn't made
 abbrev pub end_of : StrNo → CallRefused → AgentEnd
 end_of on (refused.JournalFull limit) = ended.JournalFull on
-end_of on refused.NoMemory = ended.NoMemory
+end_of on (refused.NoMemory cause) = ended.NoMemory cause

@@ -82,7 +82,7 @@ pub record BreaksOff (script : Script) (histories : List AnyHistory) (conn : Con
 abbrev pub WorkEnds : ℕ → Script → List AnyHistory → ConnId → List Shown → AgentEnd → Type 0
 WorkEnds limit script histories conn items ended.Done = Follows script histories conn items
 WorkEnds limit script histories conn items (ended.JournalFull on) = Stops limit script histories conn items on
-WorkEnds limit script histories conn items ended.NoMemory = BreaksOff script histories conn items
+WorkEnds limit script histories conn items (ended.NoMemory cause) = BreaksOff script histories conn items
 
 -- what one caller's transcript shows: the caller's calls, each once and in their order, as far as its work came, and
 -- tests that tell what stood

@@ -1,6 +1,6 @@
 -- That a run is the script's, over links that tell which calls they answer Down.
 use Rattle.std.specs.Prelude.{◌≡◌, ℕ, List, length, Option, Result, IfOk}
-use Rattle.plex_board.specs.CfTypes.declared.memory.NoMemory.{NoMemory}
+use Rattle.plex_board.specs.CfTypes.NoMemory.declared.wants.NoMemory.{NoMemory}
 use Rattle.plex_board.specs.CfTypes.declared.numbers.CfId.{CfId}
 use Rattle.plex_board.specs.CfLink.Links.{Telling}
 use Rattle.plex_board.specs.PlexScript.declared.scripts.Script.{Script}

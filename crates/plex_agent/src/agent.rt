@@ -1,5 +1,6 @@
 //! A caller's turns.
 ghost use Rattle.std.specs.Prelude.{◌≡◌, ◌<◌, IfSome, OnOk, OnErr, All, length};
+ghost use Rattle.plex_board.specs.CfTypes.NoMemory.Wants.{want};
 ghost use Rattle.plex_board.specs.CfTypes.Forms.{IsCaller, IsConnector};
 ghost use Rattle.plex_board.specs.PlexScript.declared.transcripts.AgentEnd.TheVariants as ended;
 ghost use Rattle.plex_board.specs.Boards.{IsDeskOf, cell_on};
@@ -13,28 +14,28 @@ use crate::vectors::{post, take, test, test_word};
 use plex_board::links::Link;
 use plex_board::scripts::{Act, AgentEnd, Gate, Line, Shown, Step, Transcript, closing_ask};
 use plex_board::types::{Listing, NoMemory, StrNo};
-use plex_board::{Board, Desk};
+use plex_board::{Board, Desk, Kinds};
 use std::alloc::Global;
 use std::sync::Wait;
 
 // How a caller's work stands behind what shows one item.
 fn end_after(shown: Result<(), NoMemory>) -> AgentEnd
     ensures done { OnOk shown (result ≡ ended.Done) }
-    ensures no_memory { OnErr shown (result ≡ ended.NoMemory) }
+    ensures no_memory { OnErr shown (result ≡ ended.NoMemory want) }
 {
     match shown {
         Ok(()) => AgentEnd::Done,
-        Err(NoMemory) => AgentEnd::NoMemory,
+        Err(cause) => AgentEnd::NoMemory(cause),
     }
 }
 
 // Does what a line says.
-fn act<L: Link>(
+fn act<K: Kinds, L: Link>(
     rt: &impl Wait,
     alloc: Global,
     line: &Line,
     desk: &mut Desk,
-    board: &Board<L>,
+    board: &Board<K, L>,
     items: &mut Vec<Shown>,
 ) -> AgentEnd
     requires desk { IsDeskOf board.now desk.old }
@@ -71,12 +72,12 @@ fn act<L: Link>(
 /// line says while a rebuild holds it up; an event round; a test of the caller's own vector
 /// (IXLVECTR); a POST or a TAKE. What comes of it is shown. Where the caller's work has ended, by a
 /// full journal or for want of memory, nothing is done.
-pub fn turn<L: Link>(
+pub fn turn<K: Kinds, L: Link>(
     rt: &impl Wait,
     alloc: Global,
     line: &Line,
     desk: &mut Desk,
-    board: &Board<L>,
+    board: &Board<K, L>,
     shown: &mut Transcript,
 )
     requires desk { IsDeskOf board.now desk.old }
@@ -90,7 +91,7 @@ pub fn turn<L: Link>(
     ensures of_board { IsDeskOf board.now desk.new }
     ensures owner { desk.new.owner ≡ desk.old.owner }
 {
-    if !is_done(shown.end) {
+    if !is_done(&shown.end) {
         return;
     }
     let mut items = take_items(alloc, shown);
@@ -102,12 +103,12 @@ pub fn turn<L: Link>(
 }
 
 // A connector departs from a structure at which it is active.
-fn depart<L: Link>(
+fn depart<K: Kinds, L: Link>(
     rt: &impl Wait,
     alloc: Global,
     on: StrNo,
     desk: &mut Desk,
-    board: &Board<L>,
+    board: &Board<K, L>,
     shown: &mut Transcript,
 )
     requires desk { IsDeskOf board.now desk.old }
@@ -120,7 +121,7 @@ fn depart<L: Link>(
     ensures of_board { IsDeskOf board.now desk.new }
     ensures owner { desk.new.owner ≡ desk.old.owner }
 {
-    if !is_done(shown.end) || !desk.linked(on) {
+    if !is_done(&shown.end) || !desk.linked(on) {
         return;
     }
     let ask = closing_ask(board.kind(on));
@@ -140,11 +141,11 @@ fn depart<L: Link>(
 /// A connector that has done its lines departs (DISCONNECT, IXLDISC) from each structure at which
 /// it is active by the replies to its own calls, in the order of the script. The operator has no
 /// closing.
-pub fn closing<L: Link>(
+pub fn closing<K: Kinds, L: Link>(
     rt: &impl Wait,
     alloc: Global,
     desk: &mut Desk,
-    board: &Board<L>,
+    board: &Board<K, L>,
     shown: &mut Transcript,
 )
     requires desk { IsDeskOf board.now desk.old }
@@ -163,12 +164,12 @@ pub fn closing<L: Link>(
 }
 
 // A turn, of which the gate is told, unless the caller's work ended before.
-fn gated_turn<L: Link, G: Gate>(
+fn gated_turn<K: Kinds, L: Link, G: Gate>(
     rt: &impl Wait,
     alloc: Global,
     line: &Line,
     desk: &mut Desk,
-    board: &Board<L>,
+    board: &Board<K, L>,
     gate: &G,
     shown: &mut Transcript,
 )
@@ -183,7 +184,7 @@ fn gated_turn<L: Link, G: Gate>(
     ensures of_board { IsDeskOf board.now desk.new }
     ensures owner { desk.new.owner ≡ desk.old.owner }
 {
-    if !is_done(shown.end) {
+    if !is_done(&shown.end) {
         return;
     }
     gate.before(line.by, line.at);
@@ -193,12 +194,12 @@ fn gated_turn<L: Link, G: Gate>(
 
 /// Does the lines of the desk's owner among those of the script, in order, and then its closing.
 /// The gate is told of each of the lines.
-pub fn serve<L: Link, G: Gate>(
+pub fn serve<K: Kinds, L: Link, G: Gate>(
     rt: &impl Wait,
     alloc: Global,
     lines: &[Line],
     desk: &mut Desk,
-    board: &Board<L>,
+    board: &Board<K, L>,
     gate: &G,
 ) -> Transcript
     requires desk { IsDeskOf board.now desk.old }

@@ -17,18 +17,18 @@ use crate::worker::Worker;
 use plex_board::links::Link;
 use plex_board::scripts::{Gate, Line, Script, Transcript};
 use plex_board::types::NoMemory;
-use plex_board::{Board, Desk};
+use plex_board::{Board, Desk, Kinds};
 use std::alloc::Global;
 use std::sync::Wait;
 use std::thread;
 use std::thread::Threads;
 
 // Each of the workers does its lines and its departures, on at most this many threads.
-fn work_all<R: Threads + Wait + Sync, L: Link, G: Gate>(
+fn work_all<K: Kinds, R: Threads + Wait + Sync, L: Link, G: Gate>(
     rt: &R,
     alloc: Global,
     lines: &[Line],
-    board: &Board<L>,
+    board: &Board<K, L>,
     gate: &G,
     threads: usize,
     workers: &mut [Worker],
@@ -52,11 +52,11 @@ fn work_all<R: Threads + Wait + Sync, L: Link, G: Gate>(
 // Each caller does its lines, in their order, and then its departures, on a thread of its own where
 // threads can be made. Where none can be made the callers work one after another. The desks come
 // back also where there was no memory.
-fn work<R: Threads + Wait + Sync, L: Link, G: Gate>(
+fn work<K: Kinds, R: Threads + Wait + Sync, L: Link, G: Gate>(
     rt: &R,
     alloc: Global,
     script: &Script,
-    board: &Board<L>,
+    board: &Board<K, L>,
     desks: Vec<Desk>,
     gate: &G,
 ) -> (Result<Vec<Transcript>, NoMemory>, Vec<Desk>)
@@ -70,7 +70,7 @@ fn work<R: Threads + Wait + Sync, L: Link, G: Gate>(
 {
     let (mut workers, room) = match seat(alloc, desks) {
         Ok(seated) => seated,
-        Err(desks) => return (Err(NoMemory), desks),
+        Err((desks, cause)) => return (Err(cause), desks),
     };
     let callers = workers.len();
     work_all(
@@ -92,7 +92,7 @@ fn work<R: Threads + Wait + Sync, L: Link, G: Gate>(
 /// one stops. The gate is told of each line before and after it. There are 64 links: structure `s`,
 /// from 0, has the links `4 * s` to `4 * s + 3`, one to each facility. They come back in their
 /// order, also where there was no memory.
-pub fn threads<R: Threads + Wait + Sync, L: Link, G: Gate>(
+pub fn threads<K: Kinds, R: Threads + Wait + Sync, L: Link, G: Gate>(
     rt: &R,
     alloc: Global,
     limit: u32,
@@ -112,9 +112,9 @@ pub fn threads<R: Threads + Wait + Sync, L: Link, G: Gate>(
         script.now.structures it.histories links.items result.1.items) }
     ensures count { length result.1.items ≡ length links.items }
 {
-    let (board, desks) = match Board::start(rt, alloc, script, limit, links) {
+    let (board, desks) = match Board::<K, L>::start(rt, alloc, script, limit, links) {
         Ok(begun) => begun,
-        Err(links) => return (Err(NoMemory), links),
+        Err((links, cause)) => return (Err(cause), links),
     };
     let (shown, desks) = work(rt, alloc, script, &board, desks, gate);
     let (histories, links) = board.close(rt, desks);

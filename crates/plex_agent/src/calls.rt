@@ -1,6 +1,7 @@
 //! The calls of a line.
 ghost use Rattle.std.specs.Prelude.{◌≡◌, ◌≢◌, ◌<◌, ◌≤◌, ◌↔◌, IsTrue, IfSome, IfOk, IfErr, length};
 ghost use Rattle.std.specs.Option.{option_copied};
+ghost use Rattle.plex_board.specs.CfTypes.NoMemory.Wants.{want};
 ghost use Rattle.plex_board.specs.StructCell.declared.refused.CallRefused.TheVariants as refused;
 ghost use Rattle.plex_board.specs.PlexScript.declared.agents.Step.TheVariants as step;
 ghost use Rattle.plex_board.specs.PlexScript.declared.transcripts.AgentEnd.TheVariants as ended;
@@ -15,7 +16,7 @@ use plex_board::cells::CallRefused;
 use plex_board::links::Link;
 use plex_board::scripts::{AgentEnd, AnyAsk, Shown, Step};
 use plex_board::types::StrNo;
-use plex_board::{Board, Desk};
+use plex_board::{Board, Desk, Kinds};
 use std::alloc::Global;
 use std::sync::Wait;
 
@@ -39,16 +40,16 @@ fn end_of(on: StrNo, refusal: CallRefused) -> AgentEnd
 {
     match refusal {
         CallRefused::JournalFull { .. } => AgentEnd::JournalFull { on },
-        CallRefused::NoMemory => AgentEnd::NoMemory,
+        CallRefused::NoMemory(cause) => AgentEnd::NoMemory(cause),
     }
 }
 
 // The call of a step, shown by its number; the step behind it. Where there is no memory for the
 // item or for the copy of the line's call, the call isn't made.
-fn ask_step<L: Link>(
+fn ask_step<K: Kinds, L: Link>(
     rt: &impl Wait,
     alloc: Global,
-    board: &Board<L>,
+    board: &Board<K, L>,
     call: &LineCall<'_>,
     now: Step,
     desk: &mut Desk,
@@ -65,9 +66,9 @@ fn ask_step<L: Link>(
         (at_work desk.old items.old.items ended.Done)
         (at_work desk.new items.new.items ended.Done))) }
     ensures refused { IfErr result (λ _. IsLaterOn call.now.on desk.old desk.new) }
-    ensures no_memory { IfErr result (λ refusal. refusal ≡ refused.NoMemory
+    ensures no_memory { IfErr result (λ refusal. refusal ≡ refused.NoMemory want
         → desk.new ≡ desk.old) }
-    ensures full { IfErr result (λ refusal. refusal ≢ refused.NoMemory
+    ensures full { IfErr result (λ refusal. refusal ≢ refused.NoMemory want
         → IfSome (cell_on board.now call.now.on)
         (λ cell. cell.limit ≤ (pass_at desk.new call.now.on).known)) }
     ensures items { IfErr result (λ _. items.new.items ≡ items.old.items) }
@@ -87,10 +88,10 @@ fn ask_step<L: Link>(
 /// Makes the calls of a line at a structure, from its first step on, till nothing is left to ask.
 /// Each answered call is shown by its number. A full journal, or want of memory, ends the caller's
 /// work.
-pub(crate) fn ask_all<L: Link>(
+pub(crate) fn ask_all<K: Kinds, L: Link>(
     rt: &impl Wait,
     alloc: Global,
-    board: &Board<L>,
+    board: &Board<K, L>,
     call: &LineCall<'_>,
     first: Step,
     desk: &mut Desk,

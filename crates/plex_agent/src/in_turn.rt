@@ -1,9 +1,11 @@
 //! The run of a script on one thread.
-ghost use Rattle.std.specs.Prelude.{◌≡◌, ◌≢◌, ◌+◌, ◌≤◌, IfOk, IsOkAnd, All, length, map};
+ghost use Rattle.std.specs.Prelude.{◌≡◌, ◌≢◌, ◌+◌, ◌<◌, ◌≤◌, IfOk, IfNone, IfSome, IsOkAnd, All, length, map, slice_index_or};
 ghost use Rattle.std.specs.Vec.{vec_len};
 ghost use Rattle.std.specs.List.{range_with_len};
+ghost use Rattle.plex_board.specs.CfTypes.NoMemory.Wants.{want};
 ghost use Rattle.plex_board.specs.CfTypes.declared.limits.TheConstants.{CONNECTORS, LINKS};
 ghost use Rattle.plex_board.specs.PlexScript.declared.transcripts.AgentEnd.TheVariants as ended;
+ghost use Rattle.plex_board.specs.PlexScript.declared.transcripts.Transcript.{Transcript};
 ghost use Rattle.plex_board.specs.Headline.{ShowsHistories};
 ghost use Rattle.plex_board.specs.Runnable.{IsRunnable};
 ghost use Rattle.plex_board.specs.RunLinks.{AreRunLinks};
@@ -17,7 +19,7 @@ use crate::floor::{Floor, nobody};
 use plex_board::links::Link;
 use plex_board::scripts::{AgentEnd, AnyHistory, Script, Transcript};
 use plex_board::types::{Listing, NoMemory};
-use plex_board::{Board, Desk};
+use plex_board::{Board, Desk, Kinds};
 use std::alloc::Global;
 use std::mem::drop;
 use std::sync::Wait;
@@ -30,6 +32,32 @@ pub struct Finished {
     pub transcripts: Listing<Transcript>,
 }
 
+// The first caller whose work ended for want of memory.
+fn first_broken(transcripts: &[Transcript]) -> Option<usize>
+    ensures none { IfNone result
+        (All (λ transcript. transcript.end ≢ ended.NoMemory want) transcripts.now) }
+    ensures some { IfSome result (λ place. (place < length transcripts.now)
+        × ((d : Transcript) → (slice_index_or transcripts.now place d).end
+        ≡ ended.NoMemory want)) }
+{
+    for place in 0..transcripts.len() {
+        if matches!(transcripts[place].end, AgentEnd::NoMemory(_)) {
+            return Some(place);
+        }
+    }
+    None
+}
+
+// The want of memory for which a caller's work ended.
+fn cause_of(broken: Transcript) -> NoMemory
+    requires { broken.end ≡ ended.NoMemory want }
+{
+    match broken.end {
+        AgentEnd::NoMemory(cause) => cause,
+        AgentEnd::Done | AgentEnd::JournalFull { .. } => unreachable!(),
+    }
+}
+
 /// A run, of what the callers were shown and of the histories, unless some caller's work ended for
 /// want of memory.
 pub(crate) fn finish(
@@ -40,13 +68,11 @@ pub(crate) fn finish(
     ensures transcripts { IfOk result
         (λ it. IsOkAnd shown (λ transcripts. it.transcripts ≡ transcripts.items)) }
     ensures had_memory { IfOk result
-        (λ it. All (λ transcript. transcript.end ≢ ended.NoMemory) it.transcripts) }
+        (λ it. All (λ transcript. transcript.end ≢ ended.NoMemory want) it.transcripts) }
 {
-    let transcripts = shown?;
-    for transcript in &transcripts {
-        if transcript.end == AgentEnd::NoMemory {
-            return Err(NoMemory);
-        }
+    let mut transcripts = shown?;
+    if let Some(place) = first_broken(&transcripts) {
+        return Err(cause_of(transcripts.swap_remove(place)));
     }
     Ok(Finished {
         histories: Listing::from_vec(histories),
@@ -55,11 +81,11 @@ pub(crate) fn finish(
 }
 
 // Plays a script to its end at a board. The desks come back also where there was no memory.
-fn play<L: Link>(
+fn play<K: Kinds, L: Link>(
     rt: &impl Wait,
     alloc: Global,
     script: &Script,
-    board: &Board<L>,
+    board: &Board<K, L>,
     desks: Vec<Desk>,
 ) -> (Result<Vec<Transcript>, NoMemory>, Vec<Desk>)
     requires desks { desks.items
@@ -71,15 +97,17 @@ fn play<L: Link>(
         (λ shown. IsPlayed board.now script.now result.1.items shown.items) }
     ensures of_board { AreDesksOf board.now result.1.items }
 {
-    let Ok(tray) = board.new_tray(alloc) else {
-        return (Err(NoMemory), desks);
+    let tray = match board.new_tray(alloc) {
+        Ok(tray) => tray,
+        Err(cause) => return (Err(cause), desks),
     };
-    let Ok(last) = nobody(alloc, board.structures()) else {
-        return (Err(NoMemory), desks);
+    let last = match nobody(alloc, board.structures()) {
+        Ok(last) => last,
+        Err(cause) => return (Err(cause), desks),
     };
     let (workers, room) = match seat(alloc, desks) {
         Ok(seated) => seated,
-        Err(desks) => return (Err(NoMemory), desks),
+        Err((desks, cause)) => return (Err(cause), desks),
     };
     let mut floor = Floor {
         workers,
@@ -97,7 +125,7 @@ fn play<L: Link>(
     let (desks, shown) = room.part(workers);
     match played {
         Ok(()) => (Ok(shown), desks),
-        Err(NoMemory) => (Err(NoMemory), desks),
+        Err(cause) => (Err(cause), desks),
     }
 }
 
@@ -105,7 +133,7 @@ fn play<L: Link>(
 /// number order. A journal of `limit` entries or more takes no call; the caller whose call comes to
 /// one stops. There are 64 links: structure `s`, from 0, has the links `4 * s` to `4 * s + 3`, one
 /// to each facility. They come back in their order, also where there was no memory.
-pub fn serial<L: Link>(
+pub fn serial<K: Kinds, L: Link>(
     rt: &impl Wait,
     alloc: Global,
     limit: u32,
@@ -127,9 +155,9 @@ pub fn serial<L: Link>(
         script.now.structures it.histories links.items result.1.items) }
     ensures count { length result.1.items ≡ length links.items }
 {
-    let (board, desks) = match Board::start(rt, alloc, script, limit, links) {
+    let (board, desks) = match Board::<K, L>::start(rt, alloc, script, limit, links) {
         Ok(begun) => begun,
-        Err(links) => return (Err(NoMemory), links),
+        Err((links, cause)) => return (Err(cause), links),
     };
     let (shown, desks) = play(rt, alloc, script, &board, desks);
     let (histories, links) = board.close(rt, desks);

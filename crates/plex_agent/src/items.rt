@@ -10,8 +10,8 @@ use std::alloc::Global;
 use std::mem::replace;
 
 /// Whether a caller's work goes on.
-pub(crate) fn is_done(end: AgentEnd) -> bool
-    ensures { result ≡ is_done_as end }
+pub(crate) fn is_done(end: &AgentEnd) -> bool
+    ensures { result ≡ is_done_as end.now }
 {
     matches!(end, AgentEnd::Done)
 }

@@ -9,13 +9,13 @@ use crate::items::reserve_item;
 use plex_board::links::Link;
 use plex_board::scripts::Shown;
 use plex_board::types::{NoMemory, StrNo};
-use plex_board::{Board, Desk};
+use plex_board::{Board, Desk, Kinds};
 use std::sync::Wait;
 
 /// Tests a bit of the caller's own vector, and shows the answer, or that the bit isn't in the
 /// vector. Want of memory changes nothing.
-pub(crate) fn test<L: Link>(
-    board: &Board<L>,
+pub(crate) fn test<K: Kinds, L: Link>(
+    board: &Board<K, L>,
     on: StrNo,
     index: u32,
     desk: &mut Desk,
@@ -55,8 +55,8 @@ pub(crate) fn test<L: Link>(
 
 /// Tests the 32 bits of a word of the caller's own vector, and shows them, or that the word isn't
 /// in the vector. Want of memory changes nothing.
-pub(crate) fn test_word<L: Link>(
-    board: &Board<L>,
+pub(crate) fn test_word<K: Kinds, L: Link>(
+    board: &Board<K, L>,
     on: StrNo,
     word: u32,
     desk: &mut Desk,
@@ -96,9 +96,9 @@ pub(crate) fn test_word<L: Link>(
 
 /// Puts a note into the structure's box, and shows the number that it tells. Want of memory changes
 /// nothing.
-pub(crate) fn post<L: Link>(
+pub(crate) fn post<K: Kinds, L: Link>(
     rt: &impl Wait,
-    board: &Board<L>,
+    board: &Board<K, L>,
     on: StrNo,
     desk: &mut Desk,
     items: &mut Vec<Shown>,
@@ -119,9 +119,9 @@ pub(crate) fn post<L: Link>(
 
 /// Takes what the note in the structure's box tells, and shows the number that the caller has now
 /// seen complete. Want of memory changes nothing.
-pub(crate) fn take<L: Link>(
+pub(crate) fn take<K: Kinds, L: Link>(
     rt: &impl Wait,
-    board: &Board<L>,
+    board: &Board<K, L>,
     on: StrNo,
     desk: &mut Desk,
     items: &mut Vec<Shown>,

@@ -8,7 +8,7 @@ use crate::agent::serve;
 use plex_board::links::Link;
 use plex_board::scripts::{AgentEnd, Gate, Line, Transcript};
 use plex_board::types::Listing;
-use plex_board::{Board, Desk};
+use plex_board::{Board, Desk, Kinds};
 use std::alloc::Global;
 use std::marker::Model;
 use std::sync::Wait;
@@ -50,12 +50,12 @@ impl Worker {
     }
 
     /// The caller does its lines among these, in their order, and then its departures.
-    pub(crate) fn work<L: Link, G: Gate>(
+    pub(crate) fn work<K: Kinds, L: Link, G: Gate>(
         &mut self,
         rt: &impl Wait,
         alloc: Global,
         lines: &[Line],
-        board: &Board<L>,
+        board: &Board<K, L>,
         gate: &G,
     )
         requires idle { IsIdle board.now self.old }

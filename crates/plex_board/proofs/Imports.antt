@@ -1,11 +1,17 @@
 -- What proofs here name of other crates, and of this one's definitions. Declares nothing.
 pub use Rattle.struct_cell.proofs.Imports.{map-set_same, get_or-append_seam, map-append, length-map, length-append, set-get_or, get_or-map, append-nil, map-set, append_cancel_left, take_more, take-append-drop, length-set, take_all, All-pop, All-push, All-nil, All-cons, All-head, All-tail, All-map, All-weaker, All-get_or, Decides-contains, length-range_with_len, map-range_with_len_more, length-map-range_with_len, get_or-map-range_with_len, mod-pow-add, bit_at-lt, map-map, Decides, bit_at, range_with_len, flat_map, list_any, sum_by, vec_len, vec_capacity, into_iter_items, into_iter_len, map-filtered, IsAtGroup, group-turn, answers-turn, answers-append, Agree, marks_agree, by_turns, calls-turn, call_added, IsMade, call_made, legal_none, legal_turn, RisesTo, numbers_rise, three_each, length-turn, IsForm, IsFacility, answers, answers_from, read_all, Call, calls, IsLegal, Turn, after_turn, own, replay, IsPoint, links_asked, Asks, reached_in, marks_of, answers_to, Machine, Meaning, told_of, reply_to, About, own_call_of, AreMadeBelow, IsTold, bit_in, sight, PassSeen, WordTable, new_pass, drop-cons, set-append_seam, take-append_seam, filter_map-append, All-same, All-take, filter-append, get_or-range_with_len, filter_map, enumerate_from, option_copied, set_same, get_within, get-set_same, get-set_other, marks_counted, pushed_cases, trues, MayCommand, IsConnector, decimal_injective, flat_map-append, recursion_from_All, All-filter, filter_passes, length-filter_both, sum_by-filter_both, list_any_at, list_all-append, list_any-append, list_all-map, MatchBool, is_ascii_digit, decimal, list_all, AllByRecursion, MatchOption, any_is_found, all_found, filter_swap, filter_absorbed, list_all_weaker, none_from_all, filter_none, list_all-filter, found_passes, list_all-insertion, continues_legal, calls-append, replay-push, numbered_legal, ContentLaws, held-replay, third_none, not_so, manned-replay, active_of, active_member, first_none, somebody_member, pairwise, is_active, is_cache, same_name, block_of, text_in_block, is_mark_as, marks_at, unless, content_done, with_entered, Held, unless_refused, new_held, first_refusal, shape_of, Shell, if_failed, content_cause, accepted_as, Appends-trans, length-replicate, get_or-enumerate_from, length-enumerate_from, passes_at_first, Appends, position_or_len, concat, word_number, count_of}
-pub use Rattle.cache_core.proofs.Imports.{cache_meaning, orderly-content, content-done, content-nothing, leave-content, content-moved, need-front, need-leave, same_name-eq, Content, no_content, IsContent, IsOrderly, row_of, row_or_new, new_row, is_row_of, has_row, Deed, Copies, after_deed, after_run, copy_in, reply_copy, Copy, copies_done, copies_unless, copies_after, row_copy, Calls, Leaves, Forgets, Uncast, Uncasts, uncast_cast, uncast_unlocked, uncast_unless, uncast_after}
-pub use Rattle.list_core.proofs.Imports.{list_meaning, the_record-in, with-all, each-records, one-records, all-without, all-map, headers_of, the_record, with_record, causes, Record}
-pub use Rattle.lock_core.proofs.Imports.{lock_meaning, none_hold, led_departed, content-returned, OwnersAreCompatible, records_in, departure_of, with_returned, records_refusal}
+pub use Rattle.cache_model.proofs.Imports.{cache_meaning, same_name-eq, Content, no_content, IsContent, IsOrderly, row_of, row_or_new, new_row, is_row_of, has_row, Deed, Copies, after_deed, after_run, copy_in, reply_copy, Copy, copies_done, copies_unless, copies_after, row_copy, Calls, Leaves, Forgets, Uncast, Uncasts, uncast_cast, uncast_unlocked, uncast_unless, uncast_after}
+pub use Rattle.cache_model.proofs.ContentLaws.{orderly-content, content-done}
+pub use Rattle.cache_model.proofs.EngineLaws.{content-nothing, leave-content, content-moved, need-front, need-leave}
+pub use Rattle.list_model.proofs.Imports.{list_meaning, headers_of, the_record, with_record, Record}
+pub use Rattle.list_model.proofs.ContentLaws.{the_record-in}
+pub use Rattle.list_model.proofs.ListLaws.{with-all, each-records, one-records, all-without, all-map}
+pub use Rattle.list_model.specs.Step.{causes}
+pub use Rattle.lock_model.proofs.Imports.{lock_meaning, none_hold, OwnersAreCompatible, records_in, departure_of, with_returned, records_refusal}
+pub use Rattle.lock_model.proofs.DepartureLaws.{led_departed, content-returned}
 pub use Rattle.plex_script.proofs.Imports.{AnyCall, any_call, any_calls, any_length, own_calls, call_numbered, calls_on, is_linked, length_on, calls_of, length_of, first_step, step_after, most_asks, asked_by, call_of, shell_ask, declared_in, is_twice, kind_of, Declares, AddsDeclaration, AddsOfCaller, AddsWords, AddsAll, IsScript, empty_script, line_number, with_declaration, same_word-of, numeral-decimal, Words, characters-term, term-name, facility_word, connector_line, is_name, name_word, is_numeral, same_word, words_of, line_text, tail_of, line_of, decimal-numeral, SaysOne, IsExclusive, is_ask_of, script_text, TellsFault}
 unfoldable pub use Rattle.struct_cell.proofs.Imports.{indices_of, conns_from, actives, no_connections, empty_mail}
-pub use Rattle.std.proofs.Common.{◌≡◌, ℕ, List, [], ◌∷◌, ◌++◌, sym, ap, ◌∙◌, IfOk, Ok, Err, Result, ◌+◌, length, map, subst, arith, All, Option, ◌-◌, ◌<◌, ◌≤◌, get_or, set, get_or-set_other, Some, get_or-set_same, refl, append_assoc, option_to_list, suc, ◌*◌, ◌==◌, Bool, true, false, suc-le-suc, zero-lt-suc, zero, slice_get, ◌≢◌, None, IfErr, IfSome, ◌⊎◌, inl, inr, take, fold, Contains, is_some, option_map, ◌%◌, Vec, drop, if◌then◌else◌, ◌^◌, add-zero, mod-eq_of_lt, replicate}
+pub use Rattle.std.proofs.Common.{◌≡◌, ℕ, List, [], ◌∷◌, ◌++◌, sym, ap, ◌∙◌, IfOk, Ok, Err, Result, ◌+◌, length, map, subst, arith, All, Option, ◌-◌, ◌<◌, ◌≤◌, get_or, set, get_or-set_other, Some, get_or-set_same, refl, append_assoc, option_to_list, suc, ◌*◌, ◌==◌, Bool, true, false, suc-le-suc, zero-lt-suc, zero, slice_get, ◌≢◌, None, IfErr, IfSome, ◌⊎◌, inl, inr, take, fold, Contains, is_some, option_map, ◌%◌, Vec, drop, if◌then◌else◌, ◌^◌, add-zero, mod-eq_of_lt, replicate, IsSome, IfNone}
 pub use Rattle.std.proofs.Math.Nat.{pow-suc}
 pub use Rattle.std.proofs.Math.Seq.{drop-append_seam}
 pub use Rattle.std.proofs.lemmas.List.{take-map, drop-map}
@@ -13,6 +19,7 @@ pub use Rattle.std.proofs.lemmas.Bool.{eq-eqb, ne_eqb, false≢true, cases_lt}
 pub use Rattle.std.proofs.lemmas.Bool.Decides.{nat_tests, same_from_decides, Decides-by_or, Decides-eqb}
 pub use Rattle.std.proofs.lemmas.List.Sums.{fold_push, sum_by_push}
 pub use Rattle.std.proofs.lemmas.Option.{slice_get_within, get_or_from_slice_get, slice_get_read, slice_get-map}
+pub use Rattle.plex_script.specs.CfTypes.NoMemory.Wants.{want}
 pub use Rattle.plex_script.specs.CfTypes.declared.limits.TheConstants.{LINKS, STRUCTURES}
 pub use Rattle.plex_script.specs.CfTypes.declared.{forms.Kind.Kind, forms.StrForm.StrForm, numbers.CfId.CfId}
 pub use Rattle.plex_script.specs.CfTypes.declared.{numbers.ConnId.ConnId, numbers.StrNo.StrNo}
@@ -43,3 +50,4 @@ pub use Rattle.plex_board.specs.Headline.{TellsBit, TellsWord, place_of, ShowsHi
 pub use Rattle.plex_board.specs.RunLinks.{link_place, AreTelling, IsLinkOf, AreRunLinks}
 pub use Rattle.plex_board.specs.Runnable.{IsRunnable, IsRunnableLine, IsRunnableAct}
 pub use Rattle.plex_board.specs.Serial.{with_shown, test_shown, word_shown, post_made, take_made, start, connectors, Run, stopped_at, steps_made, is_done, after_departure, after_closing, all_steps_made, after_line, serial_run, shown_to, transcript_of, transcript_at, act_made}
+pub use Rattle.plex_board.specs.Means.{Means}

@@ -1,15 +1,15 @@
-pub use Rattle.cache_core.proofs.CacheModel as CacheModel
-pub use Rattle.cache_core.proofs.CacheRegs as CacheRegs
+pub use Rattle.cache_model.proofs as CacheModel
 pub use Rattle.struct_cell.proofs.CfLink as CfLink
-pub use Rattle.cache_core.proofs.CfLists as CfLists
+pub use Rattle.cf_lists.proofs as CfLists
 pub use Rattle.plex_script.proofs.EngineApi as EngineApi
-pub use Rattle.list_core.proofs.ListModel as ListModel
-pub use Rattle.lock_core.proofs.LockModel as LockModel
+pub use Rattle.list_model.proofs as ListModel
+pub use Rattle.lock_model.proofs as LockModel
 pub use Rattle.plex_script.proofs as PlexScript
 pub use Rattle.struct_cell.proofs.ShellLaws as ShellLaws
 pub use Rattle.struct_cell.proofs.VecWords as VecWords
 pub mod Imports
 mod CallLaws
+mod MeansLaws
 mod ShownLaws
 pub mod UnusedPassLaws
 pub mod DeskLaws

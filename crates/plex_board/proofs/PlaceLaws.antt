@@ -1,5 +1,5 @@
 -- What is known where a call of a board is a call of one of its stations, with one of a desk's places.
-use Rattle.plex_board.proofs.Imports.{◌≡◌, ◌≢◌, ℕ, ◌<◌, ◌≤◌, length, get_or, set, refl, sym, ap, subst, arith, get_or-set_same, Some, None, Ok, Err, Option, Result, slice_get, IfOk, IfErr, IfSome, map-set_same, set-get_or, slice_get_read, get_or_from_slice_get, StrNo, Told, AnyAsk, CallRefused, PassShown, NoteShown, IsAnswered, IsLater, with_any_note, CellShown, IsPassOf, DeskShown, IsAnsweredOn, fixed_of, no_pass, pass_at, BoardShown, cell_on, IsDeskOf}
+use Rattle.plex_board.proofs.Imports.{◌≡◌, ◌≢◌, ℕ, ◌<◌, ◌≤◌, length, get_or, set, refl, sym, ap, subst, arith, get_or-set_same, Some, None, Ok, Err, Option, Result, slice_get, IfOk, IfErr, IfSome, map-set_same, set-get_or, slice_get_read, get_or_from_slice_get, StrNo, Told, AnyAsk, CallRefused, PassShown, NoteShown, IsAnswered, IsLater, with_any_note, CellShown, IsPassOf, DeskShown, IsAnsweredOn, fixed_of, no_pass, pass_at, BoardShown, cell_on, IsDeskOf, want}
 use Rattle.plex_board.proofs.DeskLaws.{desk-length, desk-pass_is, desk-pass_owner}
 
 -- the station's cell and the place's pass are those on a structure
@@ -59,8 +59,8 @@ module _ {L : Type 0} where
   -- why a call isn't made, as the board tells it
   pub full-on : (board : BoardShown L) (on : StrNo) (station : CellShown L) (after : DeskShown) (place : PassShown)
       (answer : Result Told CallRefused) → cell_on board on ≡ Some station → pass_at after on ≡ place → IfErr answer
-      (λ refusal. refusal ≢ CallRefused.NoMemory → (refusal ≡ CallRefused.JournalFull station.limit) × (station.limit
-      ≤ place.known)) → IfErr answer (λ refusal. refusal ≢ CallRefused.NoMemory → IfSome (cell_on board on)
+      (λ refusal. refusal ≢ CallRefused.NoMemory want → (refusal ≡ CallRefused.JournalFull station.limit)
+      × (station.limit ≤ place.known)) → IfErr answer (λ refusal. refusal ≢ CallRefused.NoMemory want → IfSome (cell_on board on)
       (λ cell. (refusal ≡ CallRefused.JournalFull cell.limit) × (cell.limit ≤ (pass_at after on).known)))
   full-on board on station after place (Ok told) is at full = full
   full-on board on station after place (Err refusal) is at full = grind (arith, some-cell)
@@ -76,8 +76,8 @@ module _ (desk has : DeskShown) (j : ℕ) (place after : PassShown) (same : desk
   put_again still = grind (arith, set-get_or)
 
   -- where memory was lacking the desk is as it was
-  pub still-on : (answer : Result Told CallRefused) → IfErr answer (λ refusal. refusal ≡ CallRefused.NoMemory
-      → after ≡ place) → IfErr answer (λ refusal. refusal ≡ CallRefused.NoMemory → changed has j after ≡ desk)
+  pub still-on : (answer : Result Told CallRefused) → IfErr answer (λ refusal. refusal ≡ CallRefused.NoMemory want
+      → after ≡ place) → IfErr answer (λ refusal. refusal ≡ CallRefused.NoMemory want → changed has j after ≡ desk)
   still-on (Ok told) still = still
   still-on (Err refusal) still = λ none. put_again (still none)
 

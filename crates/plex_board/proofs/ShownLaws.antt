@@ -1,11 +1,18 @@
 -- What holds of passes and calls by the type of their structure holds of them as they are shown.
-use Rattle.plex_board.proofs.Imports.{◌≡◌, ℕ, ◌≤◌, ◌==◌, true, List, [], ◌∷◌, length, map, All, refl, arith, Option, is_some, option_map, nat_tests, map-map, length-map, length-range_with_len, All-map, All-weaker, ConnId, Ask, Reply, Entry, Meaning, Call, calls, own, map-filtered, AnyAsk, AnyCall, any_call, call_numbered, own_calls, Sight, PassSeen, CellKey, reply_to, About, own_call_of, IsPoint, IsTold, StrType, AnyReply, PassShown, call_by, heard_by, replies_by, reply_by, reply_numbered, shown_as, keyed_as, replied, IsPassOf}
+use Rattle.plex_board.proofs.Imports.{◌≡◌, ℕ, ◌≤◌, ◌==◌, true, List, [], ◌∷◌, length, map, All, refl, sym, ap, ◌∙◌, arith, Option, is_some, option_map, nat_tests, map-map, length-map, length-range_with_len, All-map, All-weaker, ConnId, Ask, Reply, Entry, Meaning, Call, calls, own, map-filtered, AnyAsk, AnyCall, any_call, call_numbered, own_calls, Sight, PassSeen, WordTable, new_pass, unused_pass, CellKey, reply_to, About, own_call_of, IsPoint, IsTold, StrType, AnyReply, PassShown, call_by, heard_by, replies_by, reply_by, reply_numbered, shown_as, keyed_as, replied, IsPassOf}
 use Rattle.plex_board.proofs.RowLaws.{each-of-map}
 
 -- what new passes are, and how many
 pub ruleset new_passes = (map-map, length-map, length-range_with_len)
 
 module _ {C R : Type 0} (str_type : StrType) (of : Ask C → AnyAsk) (told : Reply R → AnyReply) where
+  -- new passes, as they are shown
+  pub new_shown : (words : WordTable) (owners : List ℕ) (passes : List (PassSeen (About C R))) (type_is : StrType)
+      → passes ≡ map (new_pass words) owners → type_is ≡ str_type
+      → map (shown_as str_type of told) passes ≡ map (unused_pass type_is words) owners
+  new_shown words owners passes type_is are is = ap (map (shown_as str_type of told)) are ∙ map-map (shown_as
+      str_type of told) (new_pass words) owners ∙ ap (λ (t : StrType). map (unused_pass t words) owners) (sym is)
+
   heard_same : (owner : ConnId) (call : Call C R) → call.by.0 == owner.0 ≡ true
       → any_call of (call_by owner (own_call_of call)) ≡ any_call of call
   heard_same owner call is = grind (arith, nat_tests)

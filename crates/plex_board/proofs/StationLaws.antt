@@ -1,5 +1,5 @@
 -- What is known of the passes of a new cell, and of a caller that has called.
-use Rattle.plex_board.proofs.Imports.{◌≡◌, ℕ, ◌+◌, ◌<◌, ◌≤◌, List, [], ◌∷◌, ◌++◌, length, map, sym, ap, ◌∙◌, arith, refl, All, Some, range_with_len, length-append, length-map, length-range_with_len, All-pop, All-map, StrForm, Links, WordTable, StrType, type_of_kind, PassShown, unused_pass, CellShown, IsPassOf}
+use Rattle.plex_board.proofs.Imports.{◌≡◌, ℕ, ◌+◌, ◌<◌, ◌≤◌, List, [], ◌∷◌, ◌++◌, length, map, sym, ap, ◌∙◌, arith, refl, All, Option, Some, None, IsSome, IfNone, range_with_len, length-append, length-map, length-range_with_len, All-pop, All-map, StrForm, Links, WordTable, StrType, type_of_kind, PassShown, unused_pass, CellShown, IsPassOf}
 
 module _ {L : Type 0} {cell : CellShown L} {form : StrForm}
     {callers limit : ℕ} {links : Links L} {passes : List PassShown} (owners : List ℕ) (is : cell ≡ record {
@@ -23,6 +23,13 @@ module _ {L : Type 0} {cell : CellShown L} {form : StrForm}
   -- and so is the last of them
   pub last-of_cell : (front : List PassShown) (pass : PassShown) → passes ≡ front ++ pass ∷ [] → IsPassOf cell pass
   last-of_cell front pass last = (All-pop (IsPassOf cell) passes front (Some pass) last new-of_cell).1
+
+-- one comes out of them
+pub has-last : {A : Type 0} (last : Option A) (str_type : StrType) (words : WordTable) (passes left : List PassShown)
+    (n : ℕ) → passes ≡ map (unused_pass str_type words) (range_with_len 0 (n + 1))
+    → IfNone last ((passes ≡ []) × (left ≡ [])) → IsSome last
+has-last (Some it) str_type words passes left n are none = refl
+has-last None str_type words passes left n are none = grind (arith, length-map, length-range_with_len)
 
 -- there is room for it again
 pub room-again : (str_type : StrType) (words : WordTable) (passes front : List PassShown) (pass : PassShown)

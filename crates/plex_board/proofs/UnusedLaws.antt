@@ -70,9 +70,10 @@ module _ {L : Type 0} (cells : List (CellShown L)) (homes : List HomeShown) (des
       unused_links cell entries said.0.legal said.0.callers (no-calls histories x cell entries at said.1) told)
 
 -- a board that is opened has no calls yet
-pub opening-unused : {L : Type 0} (callers limit : ℕ) (opening : Opening L) → IsOpening callers limit opening
-    → IsUnused opening.stations.items (homes_shown opening.rest.homes.items) opening.desks.items
-opening-unused {L} callers limit opening is = grind (arith, length-map, length-range_with_len, All-weaker)
+pub opening-unused : {K L Cache List' Lock Item1 Order1 State1 Item2 Order2 State2 Item3 Order3 State3 : Type 0}
+    (callers limit : ℕ) (opening : Opening K L Cache List' Lock Item1 Order1 State1 Item2 Order2 State2 Item3 Order3 State3)
+    → IsOpening callers limit opening → IsUnused opening.stations.items (homes_shown opening.rest.homes.items) opening.desks.items
+opening-unused callers limit opening is = grind (arith, length-map, length-range_with_len, All-weaker)
 
 -- each new desk has room for one place more
 pub desks-few : {L : Type 0} (cells : List (CellShown L)) (owners : List ℕ) (desks : List DeskShown) (most : ℕ)

@@ -5,9 +5,9 @@ use Rattle.plex_script.specs.CfTypes.declared.numbers.ConnId.{ConnId}
 use Rattle.struct_cell.specs.CfLink.declared.links.Links.{Links}
 use Rattle.plex_script.specs.EngineApi.declared.asks.Reply.{Reply}
 use Rattle.plex_script.specs.EngineApi.History.{Call, own}
-use Rattle.cache_core.specs.CacheModel.Meaning.{cache_meaning}
-use Rattle.list_core.specs.ListModel.Meaning.{list_meaning}
-use Rattle.lock_core.specs.LockModel.Meaning.{lock_meaning}
+use Rattle.cache_model.specs.Meaning.{cache_meaning}
+use Rattle.list_model.specs.Meaning.{list_meaning}
+use Rattle.lock_model.specs.Meaning.{lock_meaning}
 use Rattle.plex_script.specs.declared.scripts.AnyAsk.{AnyAsk}
 use Rattle.plex_script.specs.declared.asks.AnyHistory.{AnyHistory}
 use Rattle.plex_script.specs.declared.asks.AnyHistory.TheVariants as history
@@ -41,10 +41,13 @@ keyed_as str_type key = record {
   links = key.links;
 }
 
-abbrev pub cell_shown : {L : Type 0} → AnyCell L → CellShown L
-cell_shown (cell.Cache key) = keyed_as OfCache key
-cell_shown (cell.List key) = keyed_as OfList key
-cell_shown (cell.Lock key) = keyed_as OfLock key
+-- (a cell of whatever type is one over three engines, of which each has its items, its order and its states)
+module _ {K L Cache List' Lock Item1 Order1 State1 Item2 Order2 State2 Item3 Order3 State3 : Type 0} where
+  abbrev pub cell_shown : AnyCell K L Cache List' Lock Item1 Order1 State1 Item2 Order2 State2 Item3 Order3 State3
+      → CellShown L
+  cell_shown (cell.Cache key) = keyed_as OfCache key
+  cell_shown (cell.List key) = keyed_as OfList key
+  cell_shown (cell.Lock key) = keyed_as OfLock key
 
 -- ---- what goes with a cell
 

@@ -71,7 +71,7 @@ TestsTell forms histories conn items =
 abbrev pub EndsRight : ℕ → Script → List AnyHistory → ConnId → List Shown → AgentEnd → Type 0
 EndsRight limit script histories conn items ended.Done = Follows script histories conn items
 EndsRight limit script histories conn items (ended.JournalFull on) = Stops limit script histories conn items on
-EndsRight limit script histories conn items ended.NoMemory = ⊥
+EndsRight limit script histories conn items (ended.NoMemory cause) = ⊥
 
 -- the history of a structure: of its kind, legal, and with calls of the script's callers alone
 pub record IsHistoryOf (script : Script) (form : StrForm) (entries : AnyHistory) : Type 0 where

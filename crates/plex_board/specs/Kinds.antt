@@ -11,9 +11,9 @@ use Rattle.plex_script.specs.EngineApi.Asking.{MayAsk}
 use Rattle.plex_script.specs.EngineApi.History.{numbers, stands_after, IsLegal, IsPoint, Tells}
 use Rattle.plex_script.specs.EngineApi.Answers.{answers, marks_at}
 use Rattle.plex_script.specs.EngineApi.Told.{told_plainly}
-use Rattle.cache_core.specs.CacheModel.Meaning.{cache_meaning}
-use Rattle.list_core.specs.ListModel.Meaning.{list_meaning}
-use Rattle.lock_core.specs.LockModel.Meaning.{lock_meaning}
+use Rattle.cache_model.specs.Meaning.{cache_meaning}
+use Rattle.list_model.specs.Meaning.{list_meaning}
+use Rattle.lock_model.specs.Meaning.{lock_meaning}
 use Rattle.plex_script.specs.declared.scripts.AnyAsk.{AnyAsk}
 use Rattle.plex_script.specs.declared.scripts.AnyAsk.TheVariants as ask
 use Rattle.plex_script.specs.declared.asks.AnyHistory.{AnyHistory}

@@ -1,14 +1,13 @@
-pub use Rattle.cache_core.specs.CacheModel as CacheModel
-pub use Rattle.cache_core.specs.CacheRegs as CacheRegs
+pub use Rattle.cache_model.specs as CacheModel
+pub use Rattle.cache_model.specs.CacheRegs as CacheRegs
 pub use Rattle.struct_cell.specs.CfIo as CfIo
 pub use Rattle.struct_cell.specs.CfLink as CfLink
-pub use Rattle.cache_core.specs.CfLists as CfLists
 pub use Rattle.plex_script.specs.CfTypes as CfTypes
 pub use Rattle.plex_script.specs.EngineApi as EngineApi
-pub use Rattle.list_core.specs.ListModel as ListModel
-pub use Rattle.list_core.specs.ListStore as ListStore
-pub use Rattle.lock_core.specs.LockModel as LockModel
-pub use Rattle.lock_core.specs.LockQueue as LockQueue
+pub use Rattle.list_model.specs as ListModel
+pub use Rattle.list_model.specs.ListStore as ListStore
+pub use Rattle.lock_model.specs as LockModel
+pub use Rattle.lock_model.specs.LockQueue as LockQueue
 pub use Rattle.plex_script.specs as PlexScript
 pub use Rattle.struct_cell.specs.ShellLaws as ShellLaws
 pub use Rattle.struct_cell.specs as StructCell
@@ -27,6 +26,7 @@ pub mod Rests
 pub mod Openings
 pub mod Types
 pub mod Kinds
+pub mod Means
 pub mod Told
 pub mod Numbers
 pub mod Serial

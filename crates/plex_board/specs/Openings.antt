@@ -34,7 +34,9 @@ pub record IsBegun {L : Type 0} (callers : ℕ) (cells : List (CellShown L)) (re
   pub no_spare : rest.spare.items ≡ []
   pub spare_room : LINKS ≤ vec_capacity rest.spare
 
-pub record IsOpening {L : Type 0} (callers limit : ℕ) (opening : Opening L) : Type 0 where
+pub record IsOpening {K L Cache List' Lock Item1 Order1 State1 Item2 Order2 State2 Item3 Order3 State3 : Type 0}
+    (callers limit : ℕ) (opening : Opening K L Cache List' Lock Item1 Order1 State1 Item2 Order2 State2 Item3 Order3 State3)
+    : Type 0 where
   pub started : All (IsStarted callers limit) opening.stations.items
   pub stations_room : STRUCTURES ≤ vec_capacity opening.stations
   pub desks : opening.desks.items ≡ map (desk_at opening.stations.items) (range_with_len 0 (callers + 1))

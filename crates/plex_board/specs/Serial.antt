@@ -57,7 +57,7 @@ transcript_of run conn = transcript_at (slice_get run.transcripts conn.0)
 abbrev pub is_done_as : AgentEnd → Bool
 is_done_as ended.Done = true
 is_done_as (ended.JournalFull on) = false
-is_done_as ended.NoMemory = false
+is_done_as (ended.NoMemory cause) = false
 
 -- the caller's work goes on
 abbrev pub is_done : Run → ConnId → Bool

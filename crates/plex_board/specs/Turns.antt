@@ -1,6 +1,7 @@
 -- What a caller's turn at a structure does to its desk and its transcript: the work of one line of a script, or of
 -- its closing.
 use Rattle.std.specs.Prelude.{◌≡◌, ◌⊎◌, ℕ, ◌*◌, ◌^◌, ◌≤◌, ◌<◌, nat_lt, Bool, true, false, MatchBool, List, [], ◌∷◌, ◌++◌, map, Option, None, Some}
+use Rattle.plex_script.specs.CfTypes.NoMemory.Wants.{want}
 use Rattle.plex_script.specs.CfTypes.declared.forms.Kind.{Kind}
 use Rattle.plex_script.specs.CfTypes.declared.forms.StrForm.{StrForm}
 use Rattle.plex_script.specs.CfTypes.declared.numbers.ConnId.{ConnId}
@@ -48,7 +49,7 @@ MayAct cell by act.Take = Unit {0}
 abbrev pub is_done_as : AgentEnd → Bool
 is_done_as ended.Done = true
 is_done_as (ended.JournalFull on) = false
-is_done_as ended.NoMemory = false
+is_done_as (ended.NoMemory cause) = false
 
 abbrev pub with_item : Shown → Transcript → Transcript
 with_item item transcript = record transcript { items = transcript.items ++ item ∷ [] }
@@ -81,7 +82,7 @@ abbrev pub EndsAt : ℕ → Kind → Option AnyAsk → StrNo → Step → DeskSh
 EndsAt limit kind line on last before after ended.Done = (last ≡ step.Rest) × (after ≡ before)
 EndsAt limit kind line on last before after (ended.JournalFull place) =
     (place ≡ on) × Halts kind line on last before after × (limit ≤ (pass_at after on).known)
-EndsAt limit kind line on last before after ended.NoMemory =
+EndsAt limit kind line on last before after (ended.NoMemory cause) =
     Halts kind line on last before after × (after ≡ before)
 
 -- the calls of a line, from its first step on
@@ -148,7 +149,7 @@ pub record Takes (on : StrNo) (before after : AtWork) : Type 0 where
 
 -- for want of memory nothing happened
 abbrev pub RunsOut : AtWork → AtWork → Type 0
-RunsOut before after = (after.desk ≡ before.desk) × (after.shown ≡ record before.shown { end = ended.NoMemory })
+RunsOut before after = (after.desk ≡ before.desk) × (after.shown ≡ record before.shown { end = ended.NoMemory want })
 
 -- ---- one line
 

@@ -4,6 +4,7 @@ ghost use Rattle.std.specs.List.{range_with_len};
 ghost use Rattle.plex_script.specs.CfTypes.declared.limits.TheConstants.{CONNECTORS};
 ghost use Rattle.struct_cell.specs.CfLink.Links.{AreAsked};
 ghost use Rattle.plex_script.specs.CfTypes.Forms.{IsForm};
+ghost use Rattle.plex_script.specs.CfTypes.NoMemory.Wants.{want};
 ghost use Rattle.plex_script.specs.Heard.{any_calls, any_length, call_numbered, own_calls};
 ghost use Rattle.struct_cell.specs.declared.refused.CallRefused.TheVariants as refused;
 ghost use Rattle.struct_cell.specs.VecWords.Logged.{words_of, indices_of, sight};
@@ -16,9 +17,7 @@ ghost use Rattle.plex_board.specs.Cells.{IsPassOf, IsNoteOf, IsAskOf, IsAnyTold,
 use crate::any_note::AnyNote;
 use crate::any_pass::{AnyPass, AnyPasses};
 use crate::any_reply::{AnyReply, of_cache, of_list, of_lock};
-use cache_core::CacheEngine;
-use list_core::ListEngine;
-use lock_core::LockEngine;
+use crate::kinds::Kinds;
 use plex_script::api::Told;
 use plex_script::types::{Kind, NoMemory, StrForm};
 use plex_script::{AnyAsk, AnyHistory};
@@ -30,20 +29,20 @@ use struct_cell::{CallRefused, Cell, Closed};
 
 /// A structure that threads share by `&`, of whatever type. Contracts see what never changes.
 #[derive(Drop)]
-pub enum AnyCell<L: Link> {
-    Cache(Cell<CacheEngine, L>),
-    List(Cell<ListEngine, L>),
-    Lock(Cell<LockEngine, L>),
+pub enum AnyCell<K: Kinds, L: Link> {
+    Cache(Cell<K::Cache, L>),
+    List(Cell<K::List, L>),
+    Lock(Cell<K::Lock, L>),
 }
 
-impl<L: Link> AnyCell<L> {
+impl<K: Kinds, L: Link> AnyCell<K, L> {
     /// A cell of a structure of this form without calls yet (what the first IXLCONN allocates),
     /// with a pass for each caller from the operator, 0, on. A call is made where its journal has
     /// fewer than `limit` entries.
     ///
     /// # Errors
     ///
-    /// Where there is no memory the links come back.
+    /// Where there is no memory the links come back, with the cause.
     #[tactic(auto, using(crate::proofs::ShownLaws::new_passes))]
     pub fn start(
         alloc: Global,
@@ -51,7 +50,7 @@ impl<L: Link> AnyCell<L> {
         callers: u8,
         limit: u32,
         links: Links<L>,
-    ) -> Result<(AnyCell<L>, AnyPasses), Links<L>>
+    ) -> Result<(AnyCell<K, L>, AnyPasses), (Links<L>, NoMemory)>
         requires formed { IsForm form }
         requires callers { callers ≤ CONNECTORS }
         requires limit { (1 ≤ limit) × (limit ≤ 4294967000) }
@@ -70,7 +69,7 @@ impl<L: Link> AnyCell<L> {
             (range_with_len 0 (callers + 1))) }
         ensures passes_type { IfOk result (λ r. type_of_passes r.1 ≡ type_of_kind form.kind) }
         ensures room { IfOk result (λ r. callers + 1 ≤ room_of r.1) }
-        ensures handed_back { IfErr result (λ back. back ≡ links) }
+        ensures handed_back { IfErr result (λ back. back.0 ≡ links) }
     {
         match form.kind {
             Kind::Cache => {
@@ -110,9 +109,9 @@ impl<L: Link> AnyCell<L> {
         ensures answered { IfOk result (λ told. IsAnswered ask told (pass_shown pass.old)
             (pass_shown pass.new)) }
         ensures refused { IfErr result (λ _. IsLater (pass_shown pass.old) (pass_shown pass.new)) }
-        ensures no_memory { IfErr result (λ refusal. refusal ≡ refused.NoMemory
+        ensures no_memory { IfErr result (λ refusal. refusal ≡ refused.NoMemory want
             → pass_shown pass.new ≡ pass_shown pass.old) }
-        ensures full { IfErr result (λ refusal. refusal ≢ refused.NoMemory
+        ensures full { IfErr result (λ refusal. refusal ≢ refused.NoMemory want
             → (refusal ≡ refused.JournalFull (cell_shown self.now).limit)
             × ((cell_shown self.now).limit ≤ (pass_shown pass.new).known)) }
     {

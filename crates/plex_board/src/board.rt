@@ -3,6 +3,7 @@ ghost use Rattle.std.specs.Prelude.{◌≡◌, ◌≢◌, ◌+◌, ◌<◌, ◌�
 ghost use Rattle.std.specs.Vec.{vec_len};
 ghost use Rattle.std.specs.List.{range_with_len};
 ghost use Rattle.plex_script.specs.CfTypes.declared.limits.TheConstants.{LINKS};
+ghost use Rattle.plex_script.specs.CfTypes.NoMemory.Wants.{want};
 ghost use Rattle.struct_cell.specs.declared.refused.CallRefused.TheVariants as refused;
 ghost use Rattle.struct_cell.specs.VecWords.Logged.{words_of, indices_of, sight};
 ghost use Rattle.plex_script.specs.Heard.{call_numbered};
@@ -18,6 +19,7 @@ ghost use Rattle.plex_board.specs.Boards.{IsPolicy, IsStarted, IsDeskOf, IsTrayO
 use crate::any_reply::AnyReply;
 use crate::desk::Desk;
 use crate::ending::{end, gather};
+use crate::kinds::Kinds;
 use crate::opening::{Opening, next_four};
 use crate::rest::Rest;
 use crate::station::Station;
@@ -35,13 +37,13 @@ use struct_cell::vectors::{Tested, TestedWord};
 
 /// The structures of a script, which threads share by `&`. Contracts see what of them never
 /// changes.
-pub struct Board<L: Link> {
-    stations: Vec<Station<L>>,
+pub struct Board<K: Kinds, L: Link> {
+    stations: Vec<Station<K, L>>,
     callers: u8,
     rest: KeyLock<Rest<L>>,
 }
 
-impl<L: Link> Model for Board<L> {
+impl<K: Kinds, L: Link> Model for Board<K, L> {
     ghost use Rattle.plex_board.specs.Boards.{BoardShown};
     ghost use Rattle.plex_board.specs.Rests.{IsReady};
 
@@ -56,7 +58,7 @@ impl<L: Link> Model for Board<L> {
     ghost invariant = { λ b. IsReady b.stations.items b.callers b.rest.key };
 }
 
-impl<L: Link> Drop for Board<L> {
+impl<K: Kinds, L: Link> Drop for Board<K, L> {
     fn drop(self) {
         let Board {
             stations: _,
@@ -66,7 +68,7 @@ impl<L: Link> Drop for Board<L> {
     }
 }
 
-impl<L: Link> Board<L> {
+impl<K: Kinds, L: Link> Board<K, L> {
     /// The structures of a script without calls yet, and a desk for each caller from the operator,
     /// 0, on. A call is made where its structure's journal has fewer than `limit` entries.
     /// Structure `s`, from 0 in the order of the script, has the links `4 * s` to `4 * s + 3`, one
@@ -74,14 +76,14 @@ impl<L: Link> Board<L> {
     ///
     /// # Errors
     ///
-    /// Where there is no memory the links come back, in their order.
+    /// Where there is no memory the links come back, in their order, with the cause.
     pub fn start(
         rt: &impl Wait,
         alloc: Global,
         script: &Script,
         limit: u32,
         links: Vec<L>,
-    ) -> Result<(Board<L>, Vec<Desk>), Vec<L>>
+    ) -> Result<(Board<K, L>, Vec<Desk>), (Vec<L>, NoMemory)>
         requires policy { IsPolicy script.now }
         requires limit { (1 ≤ limit) × (limit ≤ 4294967000) }
         requires links { vec_len links ≡ LINKS }
@@ -93,25 +95,32 @@ impl<L: Link> Board<L> {
         ensures links { IfOk result (λ r. links_of r.0 ≡ links.items) }
         ensures desks { IfOk result (λ r. r.1.items
             ≡ map (new_desk r.0) (range_with_len 0 (length script.now.connectors + 1))) }
-        ensures handed_back { IfErr result (λ back. back.items ≡ links.items) }
+        ensures handed_back { IfErr result (λ back. back.0.items ≡ links.items) }
     {
         let callers = script.connectors.items().len() as u8;
-        let Ok(mut opening) = Opening::new(alloc, callers) else {
-            return Err(links);
+        let mut opening = match Opening::new(alloc, callers) {
+            Ok(opening) => opening,
+            Err(cause) => return Err((links, cause)),
         };
         let mut left = links.into_iter();
         for form in script.structures.items() {
             let four = next_four(&mut left);
             match opening.add(rt, alloc, form, callers, limit, four) {
                 Ok(()) => {}
-                Err(four) => return Err(opening.give_up(rt, callers, limit, four, left)),
+                Err((four, cause)) => {
+                    return Err((opening.give_up(rt, callers, limit, four, left), cause));
+                }
             }
         }
         opening.open(rt, alloc, callers, limit, left)
     }
 
     // A board of these structures.
-    pub(crate) fn of(stations: Vec<Station<L>>, callers: u8, rest: KeyLock<Rest<L>>) -> Board<L>
+    pub(crate) fn of(
+        stations: Vec<Station<K, L>>,
+        callers: u8,
+        rest: KeyLock<Rest<L>>,
+    ) -> Board<K, L>
         requires { IsReady stations.items callers rest.key }
         ensures { result ≡ record {
           cells = stations.items;
@@ -175,9 +184,9 @@ impl<L: Link> Board<L> {
         ensures later { IfOk result (λ told. (pass_at desk.old on).known < told.no) }
         ensures answered { IfOk result (λ told. IsAnsweredOn on ask told desk.old desk.new) }
         ensures refused { IfErr result (λ _. IsLaterOn on desk.old desk.new) }
-        ensures no_memory { IfErr result (λ refusal. refusal ≡ refused.NoMemory
+        ensures no_memory { IfErr result (λ refusal. refusal ≡ refused.NoMemory want
             → desk.new ≡ desk.old) }
-        ensures full { IfErr result (λ refusal. refusal ≢ refused.NoMemory
+        ensures full { IfErr result (λ refusal. refusal ≢ refused.NoMemory want
             → IfSome (cell_on self.now on) (λ cell. (refusal ≡ refused.JournalFull cell.limit)
             × (cell.limit ≤ (pass_at desk.new on).known))) }
         ensures of_board { IsDeskOf self.now desk.new }

@@ -9,6 +9,7 @@ ghost use Rattle.plex_board.specs.Rests.{each_with, home_with, homes_shown, Fits
 
 use crate::any_pass::AnyPasses;
 use crate::desk::Desk;
+use crate::kinds::Kinds;
 use crate::place::Place;
 use crate::rest::Rest;
 use crate::station::Station;
@@ -72,9 +73,9 @@ pub(crate) fn push_left<L: Drop>(links: &mut Vec<L>, left: IntoIter<L>)
 /// Ends the structures, whose passes are at home: their histories, and all links, asked as these
 /// tell, those of the first structure first and the spare ones last. It may wait for turns, and
 /// takes no memory.
-pub(crate) fn end<L: Link>(
+pub(crate) fn end<K: Kinds, L: Link>(
     rt: &impl Wait,
-    stations: Vec<Station<L>>,
+    stations: Vec<Station<K, L>>,
     rest: Rest<L>,
 ) -> (Vec<AnyHistory>, Vec<L>)
     requires homes { AreHomes 0 stations.items (homes_shown rest.homes.items) }
@@ -101,9 +102,9 @@ pub(crate) fn end<L: Link>(
 }
 
 /// Ends structures that nobody has called yet: all links come back, in their order.
-pub(crate) fn end_unused<L: Link>(
+pub(crate) fn end_unused<K: Kinds, L: Link>(
     rt: &impl Wait,
-    stations: Vec<Station<L>>,
+    stations: Vec<Station<K, L>>,
     rest: Rest<L>,
     desks: Vec<Desk>,
 ) -> Vec<L>

@@ -10,6 +10,7 @@ mod any_reply;
 mod board;
 mod desk;
 mod ending;
+mod kinds;
 mod note_box;
 mod opening;
 mod place;
@@ -19,8 +20,8 @@ mod tray;
 
 pub use any_reply::AnyReply;
 pub use board::Board;
-pub use cache_core as caches;
 pub use desk::Desk;
+pub use kinds::Kinds;
 pub use plex_script as scripts;
 pub use plex_script::{api as api, types as types};
 pub use struct_cell as cells;

@@ -14,6 +14,7 @@ use crate::any_pass::{AnyPass, AnyPasses};
 use crate::board::Board;
 use crate::desk::Desk;
 use crate::ending::{end_unused, push_four, push_left};
+use crate::kinds::Kinds;
 use crate::place::Place;
 use crate::rest::Rest;
 use crate::station::Station;
@@ -28,15 +29,15 @@ use struct_cell::turns::KeyLock;
 
 /// A board as its structures are made, one after the other.
 #[derive(Drop)]
-pub(crate) struct Opening<L: Link> {
-    pub(crate) stations: Vec<Station<L>>,
+pub(crate) struct Opening<K: Kinds, L: Link> {
+    pub(crate) stations: Vec<Station<K, L>>,
     pub(crate) rest: Rest<L>,
     pub(crate) desks: Vec<Desk>,
 }
 
-impl<L: Link> Opening<L> {
+impl<K: Kinds, L: Link> Opening<K, L> {
     /// All memory that doesn't need links, and desks without places.
-    pub(crate) fn new(alloc: Global, callers: u8) -> Result<Opening<L>, NoMemory>
+    pub(crate) fn new(alloc: Global, callers: u8) -> Result<Opening<K, L>, NoMemory>
         requires { callers ≤ CONNECTORS }
         ensures opening { IfOk result (λ opening. (limit : ℕ) → IsOpening callers limit opening) }
         ensures none { IfOk result (λ opening. opening.stations.items ≡ []) }
@@ -57,7 +58,7 @@ impl<L: Link> Opening<L> {
     ///
     /// # Errors
     ///
-    /// Where there is no memory the links come back, and nothing was done.
+    /// Where there is no memory the links come back, with the cause, and nothing was done.
     pub(crate) fn add(
         &mut self,
         rt: &impl Wait,
@@ -66,7 +67,7 @@ impl<L: Link> Opening<L> {
         callers: u8,
         limit: u32,
         links: Links<L>,
-    ) -> Result<(), Links<L>>
+    ) -> Result<(), (Links<L>, NoMemory)>
         requires formed { IsForm form.now }
         requires callers { callers ≤ CONNECTORS }
         requires limit { (1 ≤ limit) × (limit ≤ 4294967000) }
@@ -77,11 +78,12 @@ impl<L: Link> Opening<L> {
             ≡ map (λ cell. cell.form) self.old.stations.items ++ form.now ∷ []) }
         ensures links { OnOk result (flat_map (λ cell. four_of cell.links) self.new.stations.items
             ≡ flat_map (λ cell. four_of cell.links) self.old.stations.items ++ four_of links) }
-        ensures handed_back { IfErr result (λ back. back ≡ links) }
+        ensures handed_back { IfErr result (λ back. back.0 ≡ links) }
         ensures same { OnErr result (self.new ≡ self.old) }
     {
-        let Ok(form) = copy_form(alloc, form) else {
-            return Err(links);
+        let form = match copy_form(alloc, form) {
+            Ok(form) => form,
+            Err(cause) => return Err((links, cause)),
         };
         let (station, mut home) = Station::start(rt, alloc, form, callers, limit, links)?;
         deal(&mut self.desks, &mut home);
@@ -118,7 +120,7 @@ impl<L: Link> Opening<L> {
     ///
     /// # Errors
     ///
-    /// Where there is no memory all links come back.
+    /// Where there is no memory all links come back, with the cause.
     pub(crate) fn open(
         self,
         rt: &impl Wait,
@@ -126,7 +128,7 @@ impl<L: Link> Opening<L> {
         callers: u8,
         limit: u32,
         left: IntoIter<L>,
-    ) -> Result<(Board<L>, Vec<Desk>), Vec<L>>
+    ) -> Result<(Board<K, L>, Vec<Desk>), (Vec<L>, NoMemory)>
         requires callers { callers ≤ CONNECTORS }
         requires opening { IsOpening callers limit self }
         requires few { length self.stations.items ≤ STRUCTURES }
@@ -138,7 +140,7 @@ impl<L: Link> Opening<L> {
         }) }
         ensures desks { IfOk result (λ r. r.1.items
             ≡ map (desk_at self.stations.items) (range_with_len 0 (callers + 1))) }
-        ensures handed_back { IfErr result (λ back. back.items
+        ensures handed_back { IfErr result (λ back. back.0.items
             ≡ flat_map (λ cell. four_of cell.links) self.stations.items
             ++ into_iter_items left) }
     {
@@ -150,7 +152,7 @@ impl<L: Link> Opening<L> {
         push_left(&mut rest.spare, left);
         match KeyLock::new(alloc, rest) {
             Ok(rest) => Ok((Board::of(stations, callers, rest), desks)),
-            Err(rest) => Err(end_unused(rt, stations, rest, desks)),
+            Err((rest, cause)) => Err((end_unused(rt, stations, rest, desks), cause)),
         }
     }
 }

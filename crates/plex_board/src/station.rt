@@ -5,6 +5,7 @@ ghost use Rattle.plex_script.specs.CfTypes.declared.limits.TheConstants.{CONNECT
 ghost use Rattle.struct_cell.specs.CfLink.Links.{AreAsked};
 ghost use Rattle.plex_script.specs.CfTypes.Forms.{IsForm};
 ghost use Rattle.plex_script.specs.Heard.{any_calls, any_length, call_numbered, own_calls};
+ghost use Rattle.plex_script.specs.CfTypes.NoMemory.Wants.{want};
 ghost use Rattle.struct_cell.specs.declared.refused.CallRefused.TheVariants as refused;
 ghost use Rattle.struct_cell.specs.VecWords.Logged.{words_of, indices_of, sight};
 ghost use Rattle.plex_board.specs.Types.{type_of_kind, type_of_history};
@@ -18,6 +19,7 @@ use crate::any_cell::AnyCell;
 use crate::any_note::AnyNote;
 use crate::any_pass::AnyPasses;
 use crate::any_reply::AnyReply;
+use crate::kinds::Kinds;
 use crate::note_box::NoteBox;
 use crate::place::Place;
 use plex_script::api::Told;
@@ -35,14 +37,14 @@ use struct_cell::vectors::{Tested, TestedWord};
 /// A structure that threads share by `&`, with the note that was posted last. Contracts see its
 /// cell.
 #[derive(Drop)]
-pub(crate) struct Station<L: Link> {
-    cell: AnyCell<L>,
+pub(crate) struct Station<K: Kinds, L: Link> {
+    cell: AnyCell<K, L>,
     posted: KeyLock<NoteBox>,
     kind: Kind,
     vector: u32,
 }
 
-impl<L: Link> Model for Station<L> {
+impl<K: Kinds, L: Link> Model for Station<K, L> {
     ghost use Rattle.plex_board.specs.Passes.{note_shown};
     ghost use Rattle.plex_board.specs.Cells.{CellShown, cell_shown};
     ghost use Rattle.plex_board.specs.Stations.{IsKept};
@@ -54,13 +56,13 @@ impl<L: Link> Model for Station<L> {
     ghost invariant = { λ s. IsKept (cell_shown s.cell) (note_shown s.posted.key) s.kind s.vector };
 }
 
-impl<L: Link> Station<L> {
+impl<K: Kinds, L: Link> Station<K, L> {
     /// A structure of this form without calls yet, with a pass for each caller from the operator,
     /// 0, on, and nothing posted. A call is made where its journal has fewer than `limit` entries.
     ///
     /// # Errors
     ///
-    /// Where there is no memory the links come back.
+    /// Where there is no memory the links come back, with the cause.
     pub(crate) fn start(
         rt: &impl Wait,
         alloc: Global,
@@ -68,7 +70,7 @@ impl<L: Link> Station<L> {
         callers: u8,
         limit: u32,
         links: Links<L>,
-    ) -> Result<(Station<L>, AnyPasses), Links<L>>
+    ) -> Result<(Station<K, L>, AnyPasses), (Links<L>, NoMemory)>
         requires formed { IsForm form }
         requires callers { callers ≤ CONNECTORS }
         requires limit { (1 ≤ limit) × (limit ≤ 4294967000) }
@@ -87,7 +89,7 @@ impl<L: Link> Station<L> {
             (range_with_len 0 (callers + 1))) }
         ensures passes_type { IfOk result (λ r. type_of_passes r.1 ≡ type_of_kind form.kind) }
         ensures room { IfOk result (λ r. callers + 1 ≤ room_of r.1) }
-        ensures handed_back { IfErr result (λ back. back ≡ links) }
+        ensures handed_back { IfErr result (λ back. back.0 ≡ links) }
     {
         let (kind, vector) = (form.kind, form.vector);
         let (cell, mut passes) = AnyCell::start(alloc, form, callers, limit, links)?;
@@ -105,11 +107,11 @@ impl<L: Link> Station<L> {
                 },
                 passes,
             )),
-            Err(first) => {
+            Err((first, cause)) => {
                 drop(first);
                 let (history, links) = cell.close(rt, passes);
                 drop(history);
-                Err(links)
+                Err((links, cause))
             }
         }
     }
@@ -149,9 +151,9 @@ impl<L: Link> Station<L> {
         ensures later { IfOk result (λ told. place.old.known < told.no) }
         ensures answered { IfOk result (λ told. IsAnswered ask told place.old place.new) }
         ensures refused { IfErr result (λ _. IsLater place.old place.new) }
-        ensures no_memory { IfErr result (λ refusal. refusal ≡ refused.NoMemory
+        ensures no_memory { IfErr result (λ refusal. refusal ≡ refused.NoMemory want
             → place.new ≡ place.old) }
-        ensures full { IfErr result (λ refusal. refusal ≢ refused.NoMemory
+        ensures full { IfErr result (λ refusal. refusal ≢ refused.NoMemory want
             → (refusal ≡ refused.JournalFull self.now.limit)
             × (self.now.limit ≤ place.new.known)) }
     {

@@ -14,7 +14,7 @@ fn added(count: usize, more: usize) -> Result<usize, NoMemory>
     ensures { IfOk result (λ sum. sum ≡ count + more) }
 {
     // No memory holds what is counted past this.
-    count.checked_add(more).ok_or(NoMemory)
+    count.checked_add(more).ok_or(NoMemory::beyond_counts())
 }
 
 // The calls of a connector among entries.

@@ -28,7 +28,7 @@ pub(crate) fn data(alloc: Global, text: &[u8]) -> Result<Body, NoMemory>
 {
     match parse_body(alloc, text) {
         Ok(body) => Ok(body),
-        Err(BodyFault::NoMemory) => Err(NoMemory),
+        Err(BodyFault::NoMemory(cause)) => Err(cause),
         Err(BodyFault::BadName { .. }) => unreachable!(),
         Err(BodyFault::TooLong { .. }) => unreachable!(),
     }

@@ -158,9 +158,7 @@ fn all_done<R: Threads + Sync, G: Gate>(
     requires entries { (0 < entries) × (entries ≡ entries_of script.now.structures) }
     ensures { IfOk result (IsLocked script.now) }
 {
-    let Ok((locks, hands)) = LockWords::start(alloc, entries, callers) else {
-        return Err(NoMemory);
-    };
+    let (locks, hands) = LockWords::start(alloc, entries, callers)?;
     let connectors = script.connectors.items();
     let mut workers = workers_of(alloc, connectors, script.lines.items(), hands)?;
     work_each(rt, entries, &locks, gate, &mut workers);

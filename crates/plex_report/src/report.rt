@@ -365,5 +365,5 @@ pub fn render(
         text.extend_from_slice(line.as_slice())?;
     }
     // No memory holds a report of so many lines.
-    Err(NoMemory)
+    Err(NoMemory::beyond_counts())
 }

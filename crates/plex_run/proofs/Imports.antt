@@ -13,7 +13,8 @@ pub use Rattle.plex_agent.specs.CfIo.declared.read_end.ReadEnd.{ReadEnd}
 pub use Rattle.plex_agent.specs.PlexBoard.Kinds.{IsAskOf}
 pub use Rattle.plex_agent.specs.declared.in_turn.Finished.{Finished}
 pub use Rattle.plex_load.specs.CfTypes.declared.numbers.StrNo.{StrNo}
-pub use Rattle.plex_load.specs.CfTypes.declared.{forms.Kind.Kind, forms.StrForm.StrForm, memory.NoMemory.NoMemory}
+pub use Rattle.plex_load.specs.CfTypes.declared.{forms.Kind.Kind, forms.StrForm.StrForm}
+pub use Rattle.plex_load.specs.CfTypes.NoMemory.declared.wants.NoMemory.{NoMemory}
 pub use Rattle.plex_load.specs.CfTypes.declared.{names.Name16.Name16, numbers.CfId.CfId, numbers.ConnId.ConnId}
 pub use Rattle.plex_load.specs.PlexScript.WellFormed.{IsWellFormed, IsLineOf, IsActOf, MayAskAny}
 pub use Rattle.plex_load.specs.PlexScript.declared.{asks.AnyHistory.AnyHistory, faults.ReadFault.ReadFault}

@@ -42,7 +42,7 @@ all_done limit script histories transcripts some shows none c transcript there =
     by_end : (end : AgentEnd) → transcript.end ≡ end
         → EndsRight limit script histories (record { 0 = c }) transcript.items end → transcript.end ≡ AgentEnd.Done
     by_end AgentEnd.Done is right = is
-    by_end AgentEnd.NoMemory is right = absurd right
+    by_end (AgentEnd.NoMemory cause) is right = absurd right
     by_end (AgentEnd.JournalFull on) is right =
         let calls : 0 < length_on histories on = omega (arith, some, right.full) in
         let within : on.0 < length script.structures = omega (arith, there_on histories on.0 calls, shows.structures)

@@ -6,7 +6,7 @@ pub unread_long : (limit : ℕ) (left : Option (List ℕ)) (before after : ℕ) 
     limit left before after end → status ≡ read_status end → status ≡ 7 → IfSome left (λ bytes. limit < length bytes)
 unread_long limit left before after ReadEnd.ReadFault status cause is seven = absurd (omega (arith, is, seven))
 unread_long limit left before after (ReadEnd.TooLong l) status cause is seven = cause.1
-unread_long limit left before after ReadEnd.NoMemory status cause is seven = absurd (omega (arith, is, seven))
+unread_long limit left before after (ReadEnd.NoMemory lack) status cause is seven = absurd (omega (arith, is, seven))
 
 -- some text is longer than whatever limit
 pub longer : (limit : ℕ) → (text : List ℕ) × (limit < length text)

@@ -11,7 +11,7 @@ use Rattle.plex_load.specs.PlexScript.declared.transcripts.Transcript.{Transcrip
 abbrev pub ends_full_at : ℕ → AgentEnd → Bool
 ends_full_at place Done = false
 ends_full_at place (JournalFull on) = on.0 == place
-ends_full_at place NoMemory = false
+ends_full_at place (NoMemory cause) = false
 
 abbrev pub is_full_at : List Transcript → ℕ → Bool
 is_full_at transcripts place = list_any (λ (transcript : Transcript). ends_full_at place transcript.end) transcripts

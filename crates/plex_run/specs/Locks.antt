@@ -34,7 +34,7 @@ abbrev pub TellsUntaken : List ℕ → Untaken → Type 0
 TellsUntaken text (untaken.Fault line why) = IsFault text line why
 TellsUntaken text (untaken.NotWords line) =
     (script : Script) × IsScript text script × (first_other text script ≡ Some line)
-TellsUntaken text untaken.NoMemory = Unit {0}
+TellsUntaken text (untaken.NoMemory cause) = Unit {0}
 
 -- ---- what each status says of the text that came
 

@@ -51,7 +51,7 @@ status_line status =
 abbrev pub read_status : ReadEnd → ℕ
 read_status ends.ReadFault = 4
 read_status (ends.TooLong limit) = 7
-read_status ends.NoMemory = 6
+read_status (ends.NoMemory cause) = 6
 
 -- ---- texts
 

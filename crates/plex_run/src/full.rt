@@ -5,12 +5,12 @@ use plex_load::scripts::{AgentEnd, Transcript};
 use plex_load::types::{Name16, StrForm};
 
 // Whether a caller's work ended at the full journal of the structure with this number.
-fn ends_full_at(end: AgentEnd, place: usize) -> bool
-    ensures { result ≡ ends_full_at place end }
+fn ends_full_at(end: &AgentEnd, place: usize) -> bool
+    ensures { result ≡ ends_full_at place end.now }
 {
     match end {
         AgentEnd::JournalFull { on } => on.0 as usize == place,
-        AgentEnd::Done | AgentEnd::NoMemory => false,
+        AgentEnd::Done | AgentEnd::NoMemory(_) => false,
     }
 }
 
@@ -19,7 +19,7 @@ fn is_full_at(transcripts: &[Transcript], place: usize) -> bool
 {
     transcripts
         .iter()
-        .any(|transcript| ends_full_at(transcript.end, place))
+        .any(|transcript| ends_full_at(&transcript.end, place))
 }
 
 /// The name of the first structure at whose full journal a caller's work ended.

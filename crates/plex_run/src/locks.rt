@@ -15,19 +15,20 @@ use crate::writing::{say_no_memory, say_unread};
 use plex_agent::Gate;
 use plex_agent::sources::{Sink, Source, read_all, write_all};
 use plex_load::scripts::{ReadFault, Script, Why, never_both, one_script, read, well_formed};
+use plex_load::types::NoMemory;
 use plex_locks::{Locked, first_other, locked, locks_text};
 use std::alloc::Global;
 use std::thread::Threads;
 
 /// Why a text isn't taken.
-#[derive(Clone, Copy)]
+#[derive(Drop)]
 pub(crate) enum Untaken {
     /// The first faulty line, from 1, and what is wrong with it.
     Fault { line: u32, why: Why },
     /// The first line of a script that lock words can't do.
     NotWords { line: u32 },
     /// There was no memory for the script.
-    NoMemory,
+    NoMemory(NoMemory),
 }
 
 // The script that a text says, where lock words can do all of it.
@@ -38,7 +39,7 @@ fn taken(alloc: Global, text: &[u8]) -> Result<Script, Untaken>
     let script = match read(alloc, text) {
         Ok(script) => script,
         Err(ReadFault::Script { line, why }) => return Err(Untaken::Fault { line, why }),
-        Err(ReadFault::NoMemory) => return Err(Untaken::NoMemory),
+        Err(ReadFault::NoMemory(cause)) => return Err(Untaken::NoMemory(cause)),
     };
     match first_other(text, &script) {
         Some(line) => Err(Untaken::NotWords { line }),
@@ -58,9 +59,12 @@ fn written<K: Sink>(alloc: Global, script: &Script, told: &Locked, sink: &mut K)
     ensures statuses { (result ≡ 0) ⊎ ((result ≡ 5) ⊎ (result ≡ 6)) }
     ensures faults { K.faults sink.old ≤ K.faults sink.new }
 {
-    let Ok(text) = locks_text(alloc, script, told) else {
-        say_no_memory(sink);
-        return 6;
+    let text = match locks_text(alloc, script, told) {
+        Ok(text) => text,
+        Err(cause) => {
+            say_no_memory(cause, sink);
+            return 6;
+        }
     };
     match write_all(sink, &text) {
         Ok(()) => 0,
@@ -90,15 +94,18 @@ fn locked_text<R: Threads + Sync, K: Sink, G: Gate>(
         Ok(script) => script,
         Err(Untaken::Fault { line, why }) => return refused(alloc, line, why_text(why), sink),
         Err(Untaken::NotWords { line }) => return refused(alloc, line, b"NOTWORDS", sink),
-        Err(Untaken::NoMemory) => {
-            say_no_memory(sink);
+        Err(Untaken::NoMemory(cause)) => {
+            say_no_memory(cause, sink);
             return 6;
         }
     };
     well_formed(text, &script);
-    let Ok(told) = locked(rt, alloc, &script, gate) else {
-        say_no_memory(sink);
-        return 6;
+    let told = match locked(rt, alloc, &script, gate) {
+        Ok(told) => told,
+        Err(cause) => {
+            say_no_memory(cause, sink);
+            return 6;
+        }
     };
     written(alloc, &script, &told, sink)
 }

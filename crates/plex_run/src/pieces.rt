@@ -50,7 +50,7 @@ impl Piece {
 
     /// Writes what stands in the piece, where there is no memory for what belongs behind it. Tells
     /// why the rest isn't written.
-    pub(crate) fn break_off<K: Sink>(&mut self, sink: &mut K) -> Unwritten
+    pub(crate) fn break_off<K: Sink>(&mut self, cause: NoMemory, sink: &mut K) -> Unwritten
         ensures front { WritesFront (output K.held K.faults sink.old sink.new)
             self.old.bytes.items }
         ensures cause { result ≡ reason.Failed
@@ -58,7 +58,7 @@ impl Piece {
         ensures faults { K.faults sink.old ≤ K.faults sink.new }
     {
         match self.flush(sink) {
-            Ok(()) => Unwritten::NoMemory,
+            Ok(()) => Unwritten::NoMemory(cause),
             Err(unwritten) => unwritten,
         }
     }

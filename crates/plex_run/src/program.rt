@@ -22,11 +22,10 @@ use crate::running::reported;
 use crate::status_lines::{script_line, why_text};
 use crate::way::{Way, Work, work_of};
 use crate::writing::{say, say_no_memory, say_unread};
-use plex_agent::Gate;
 use plex_agent::links::Link;
 use plex_agent::sources::{Sink, Source, read_all};
+use plex_agent::{Gate, Kinds};
 use plex_load::scripts::{ReadFault, never_both, one_script, read, well_formed};
-use plex_load::types::NoMemory;
 use run_laws::{only_reading, valid_is_fresh, within_script};
 use std::alloc::Global;
 use std::sync::Wait;
@@ -52,15 +51,15 @@ pub(crate) fn refused<K: Sink>(alloc: Global, line: u32, why: &[u8], sink: &mut 
             say(sink, &text);
             3
         }
-        Err(NoMemory) => {
-            say_no_memory(sink);
+        Err(cause) => {
+            say_no_memory(cause, sink);
             6
         }
     }
 }
 
 // Reads a script out of a text, runs it, and writes the report.
-fn judged<R: Threads + Wait + Sync, K: Sink, L: Link, G: Gate>(
+fn judged<E: Kinds, R: Threads + Wait + Sync, K: Sink, L: Link, G: Gate>(
     rt: &R,
     alloc: Global,
     way: Way,
@@ -87,8 +86,8 @@ fn judged<R: Threads + Wait + Sync, K: Sink, L: Link, G: Gate>(
     let script = match read(alloc, text) {
         Ok(script) => script,
         Err(ReadFault::Script { line, why }) => return refused(alloc, line, why_text(why), sink),
-        Err(ReadFault::NoMemory) => {
-            say_no_memory(sink);
+        Err(ReadFault::NoMemory(cause)) => {
+            say_no_memory(cause, sink);
             return 6;
         }
     };
@@ -96,7 +95,7 @@ fn judged<R: Threads + Wait + Sync, K: Sink, L: Link, G: Gate>(
     valid_is_fresh();
     within_script();
     only_reading();
-    reported(rt, alloc, way, &script, sink, links, gate)
+    reported::<E, _, _, _, _>(rt, alloc, way, &script, sink, links, gate)
 }
 
 /// Runs the program: `words` are its words, the script comes from `source`, and what it says goes
@@ -137,7 +136,7 @@ fn judged<R: Threads + Wait + Sync, K: Sink, L: Link, G: Gate>(
 /// report goes out in pieces of 32,768 bytes at most, and a longer line alone; memory is taken for
 /// one piece, before anything is written, and for one line at a time. A load has 0, 5 or 6, and
 /// locks don't have 8; with 6 nothing stands before their line.
-pub fn run<R: Threads + Wait + Sync, S: Source, K: Sink, L: Link, G: Gate>(
+pub fn run<E: Kinds, R: Threads + Wait + Sync, S: Source, K: Sink, L: Link, G: Gate>(
     rt: &R,
     alloc: Global,
     words: &[String],
@@ -223,7 +222,7 @@ pub fn run<R: Threads + Wait + Sync, S: Source, K: Sink, L: Link, G: Gate>(
 {
     let way = match work_of(words) {
         Some(Work::Script(way)) => way,
-        Some(Work::Load(n)) => return loaded(rt, alloc, n, sink, links, gate),
+        Some(Work::Load(n)) => return loaded::<E, _, _, _, _>(rt, alloc, n, sink, links, gate),
         Some(Work::Locks) => return locked_in(rt, alloc, source, sink, gate),
         None => {
             say(
@@ -237,5 +236,5 @@ pub fn run<R: Threads + Wait + Sync, S: Source, K: Sink, L: Link, G: Gate>(
         Ok(text) => text,
         Err(end) => return say_unread(end, sink),
     };
-    judged(rt, alloc, way, &text, sink, links, gate)
+    judged::<E, _, _, _, _>(rt, alloc, way, &text, sink, links, gate)
 }

@@ -17,19 +17,19 @@ use run_laws::reports::Report;
 use std::alloc::Global;
 
 /// Why a text was not written whole.
-#[derive(Clone, Copy)]
+#[derive(Drop)]
 pub(crate) enum Unwritten {
     /// A write failed.
     Failed,
     /// There was no memory for the next line.
-    NoMemory,
+    NoMemory(NoMemory),
 }
 
 impl From<NoMemory> for Unwritten {
-    ghost from_gives = { λ _ unwritten. unwritten ≡ reason.NoMemory };
+    ghost from_gives = { λ cause unwritten. unwritten ≡ reason.NoMemory cause };
 
-    fn from(_: NoMemory) -> Self {
-        Unwritten::NoMemory
+    fn from(cause: NoMemory) -> Self {
+        Unwritten::NoMemory(cause)
     }
 }
 
@@ -42,7 +42,7 @@ pub(crate) fn say<K: Sink>(sink: &mut K, line: &[u8])
 }
 
 /// Tells that there was no memory.
-pub(crate) fn say_no_memory<K: Sink>(sink: &mut K)
+pub(crate) fn say_no_memory<K: Sink>(_cause: NoMemory, sink: &mut K)
     ensures gains { Gains (output K.held K.faults sink.old sink.new) memory_line }
     ensures faults { K.faults sink.old ≤ K.faults sink.new }
 {
@@ -76,8 +76,8 @@ pub(crate) fn say_unread<K: Sink>(end: ReadEnd, sink: &mut K) -> u8
             say_too_long(sink);
             7
         }
-        ReadEnd::NoMemory => {
-            say_no_memory(sink);
+        ReadEnd::NoMemory(cause) => {
+            say_no_memory(cause, sink);
             6
         }
     }
@@ -116,20 +116,21 @@ fn write_lines<K: Sink>(
 {
     let mut bytes = 0u64;
     for k in 0..usize::MAX {
-        let Ok(line) = report.line(alloc, k) else {
-            return Err(piece.break_off(sink));
+        let line = match report.line(alloc, k) {
+            Ok(line) => line,
+            Err(cause) => return Err(piece.break_off(cause, sink)),
         };
         let Some(text) = line else {
             return piece.flush(sink);
         };
         let Some(sum) = bytes.checked_add(text.len() as u64) else {
-            return Err(piece.break_off(sink));
+            return Err(piece.break_off(NoMemory::beyond_counts(), sink));
         };
         bytes = sum;
         piece.put(sink, &text)?;
     }
     // No memory holds what a report of so many lines tells.
-    Err(piece.break_off(sink))
+    Err(piece.break_off(NoMemory::beyond_counts(), sink))
 }
 
 // Writes a heading and the report behind it. The memory for a piece of the report is taken first.

@@ -165,7 +165,7 @@ pub policy-fault : (script : Script) (long : Bool) (first : List ℕ) (ws : Word
 policy-fault script long first ws excess (Wrong why) early is h =
     let names = λ (e : (long || is_full script first) ≡ false). h.1 (is ∙ e) in
     rw (h.0, is) (policy-unread script long first ws early names)
-policy-fault script long first ws excess NoMemory early is h = tt
+policy-fault script long first ws excess (NoMemory cause) early is h = tt
 
 pub caller-fault : (script : Script) (long : Bool) (by : ConnId) (second : List ℕ) (ws words : Words)
     (on : StrNo) (fault : LineFault) → words ≡ second ∷ ws → structure_of script.structures second ≡ Some on
@@ -175,7 +175,7 @@ pub caller-fault : (script : Script) (long : Bool) (by : ConnId) (second : List 
 caller-fault script long by second ws words on (Wrong why) is e h =
     let done = done-unread (declared_in script) long by (kind_of script.structures on) ws h.1 in
     rw is (grind arith)
-caller-fault script long by second ws words on NoMemory is e h = tt
+caller-fault script long by second ws words on (NoMemory cause) is e h = tt
 
 room-of : (script : Script) (first : List ℕ) (rest : Words) (d : Declaration) → Declares Names (declared_in script)
     (first ∷ rest) d → is_full script first ≡ false → HasRoom script d

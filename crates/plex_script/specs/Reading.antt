@@ -36,19 +36,19 @@ unread_why true false true = Unknown
 -- this fault, unless there was no memory
 abbrev pub IsFaultOf : LineFault → Why → Type 0
 IsFaultOf (Wrong why) told = why ≡ told
-IsFaultOf NoMemory told = Unit {0}
+IsFaultOf (NoMemory cause) told = Unit {0}
 
 -- what was read of words, by form, by limits and by names
 abbrev pub Judged : {V : Type 0} → Result V LineFault → Bool → Option V → Option V → Option V → Type 0
 Judged (Ok value) excess forms limits names = (excess ≡ false) × (names ≡ Some value)
 Judged (Err (Wrong why)) excess forms limits names = (why ≡ unread_why (is_some forms) excess (is_some limits))
     × (excess ≡ false → names ≡ None)
-Judged (Err NoMemory) excess forms limits names = Unit {0}
+Judged (Err (NoMemory cause)) excess forms limits names = Unit {0}
 
 -- the first cause that holds, unless there was no memory
 abbrev pub IsFaultBy : (Why → Type 0) → LineFault → Type 0
 IsFaultBy holds (Wrong why) = IsFirst holds why
-IsFaultBy holds NoMemory = Unit {0}
+IsFaultBy holds (NoMemory cause) = Unit {0}
 
 -- there is a place for what is declared
 abbrev pub HasRoom : Script → Declaration → Type 0
@@ -64,9 +64,9 @@ remainder left taken = if nat_le taken left then Some (left - taken) else None
 -- what a fault of a line is to the reader of a text
 abbrev pub fault_at : ℕ → LineFault → ReadFault
 fault_at line (Wrong why) = read.Script line why
-fault_at line NoMemory = read.NoMemory
+fault_at line (NoMemory cause) = read.NoMemory cause
 
 -- the first fault of the text is told; want of memory says nothing of it
 abbrev pub TellsFault : List ℕ → ReadFault → Type 0
 TellsFault text (read.Script line why) = IsFault text line why
-TellsFault text read.NoMemory = Unit {0}
+TellsFault text (read.NoMemory cause) = Unit {0}

@@ -72,7 +72,7 @@ fn cache_ask(
                 Err(Miss::NoForm)
             }
         }
-        Err(Miss::NoMemory) => Err(Miss::NoMemory),
+        Err(Miss::NoMemory(cause)) => Err(Miss::NoMemory(cause)),
         Err(Miss::NoForm) => {
             if is_operator(by) {
                 return Err(Miss::NoForm);
@@ -101,7 +101,7 @@ fn list_ask(
                 Err(Miss::NoForm)
             }
         }
-        Err(Miss::NoMemory) => Err(Miss::NoMemory),
+        Err(Miss::NoMemory(cause)) => Err(Miss::NoMemory(cause)),
         Err(Miss::NoForm) => {
             if is_operator(by) {
                 return Err(Miss::NoForm);
@@ -125,7 +125,7 @@ fn lock_ask(judge: &Judge, by: ConnId, words: &mut Words) -> Result<Ask<LockCmd>
                 Err(Miss::NoForm)
             }
         }
-        Err(Miss::NoMemory) => Err(Miss::NoMemory),
+        Err(Miss::NoMemory(cause)) => Err(Miss::NoMemory(cause)),
         Err(Miss::NoForm) => {
             if is_operator(by) {
                 return Err(Miss::NoForm);

@@ -1,3 +1,4 @@
+use cf_types::NoMemory;
 use std::alloc::{AllocError, AllocFailed};
 
 /// What is wrong with a line, in the order in which the causes are tried.
@@ -19,32 +20,34 @@ pub enum Why {
 }
 
 /// Why a text is no script.
-#[derive(Clone, Copy, Debug, PartialEq, Eq)]
+#[derive(Debug, Drop, PartialEq, Eq)]
 pub enum ReadFault {
     /// The first faulty line, from 1, and what is wrong with it.
     Script { line: u32, why: Why },
     /// There was no memory for the script.
-    NoMemory,
+    NoMemory(NoMemory),
 }
 
 impl<T: Drop> From<AllocFailed<T>> for ReadFault {
     ghost use Rattle.std.specs.Prelude.{◌≡◌};
-    ghost use Rattle.plex_script.specs.declared.faults.ReadFault.TheVariants.{NoMemory};
+    ghost use Rattle.cf_types.specs.NoMemory.Wants.{want};
+    ghost use Rattle.plex_script.specs.declared.faults.ReadFault.TheVariants as faults;
 
-    ghost from_gives = { λ _ fault. fault ≡ NoMemory };
+    ghost from_gives = { λ _ fault. fault ≡ faults.NoMemory want };
 
-    fn from(_: AllocFailed<T>) -> Self {
-        ReadFault::NoMemory
+    fn from(failed: AllocFailed<T>) -> Self {
+        ReadFault::NoMemory(failed.into())
     }
 }
 
 impl From<AllocError> for ReadFault {
     ghost use Rattle.std.specs.Prelude.{◌≡◌};
-    ghost use Rattle.plex_script.specs.declared.faults.ReadFault.TheVariants.{NoMemory};
+    ghost use Rattle.cf_types.specs.NoMemory.Wants.{want};
+    ghost use Rattle.plex_script.specs.declared.faults.ReadFault.TheVariants as faults;
 
-    ghost from_gives = { λ _ fault. fault ≡ NoMemory };
+    ghost from_gives = { λ _ fault. fault ≡ faults.NoMemory want };
 
-    fn from(_: AllocError) -> Self {
-        ReadFault::NoMemory
+    fn from(failed: AllocError) -> Self {
+        ReadFault::NoMemory(failed.into())
     }
 }

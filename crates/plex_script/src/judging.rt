@@ -51,7 +51,7 @@ fn undeclared(alloc: Global, draft: &Draft, excess: bool, line: &[u8]) -> LineFa
         excess (is_some (declaration_at Limits declared (words_of line.now)))) }
 {
     match declaration_by(alloc, draft, Rigour::Form, line) {
-        Err(Miss::NoMemory) => return LineFault::NoMemory,
+        Err(Miss::NoMemory(cause)) => return LineFault::NoMemory(cause),
         Err(Miss::NoForm) => return LineFault::Wrong(Why::Syntax),
         Ok(_) => {}
     }
@@ -59,7 +59,7 @@ fn undeclared(alloc: Global, draft: &Draft, excess: bool, line: &[u8]) -> LineFa
         return LineFault::Wrong(Why::Limit);
     }
     match declaration_by(alloc, draft, Rigour::Limits, line) {
-        Err(Miss::NoMemory) => LineFault::NoMemory,
+        Err(Miss::NoMemory(cause)) => LineFault::NoMemory(cause),
         Err(Miss::NoForm) => LineFault::Wrong(Why::Limit),
         Ok(_) => LineFault::Wrong(Why::Unknown),
     }
@@ -83,7 +83,7 @@ pub(crate) fn judged_declaration(
     }
     match declaration_by(alloc, draft, Rigour::Names, line) {
         Ok(declaration) => Ok(declaration),
-        Err(Miss::NoMemory) => Err(LineFault::NoMemory),
+        Err(Miss::NoMemory(cause)) => Err(LineFault::NoMemory(cause)),
         Err(Miss::NoForm) => Err(undeclared(alloc, draft, excess, line)),
     }
 }
@@ -115,7 +115,7 @@ fn undone(
         (is_some (act_at Limits declared by kind words.now))) }
 {
     match act_by(alloc, draft, Rigour::Form, by, kind, words) {
-        Err(Miss::NoMemory) => return LineFault::NoMemory,
+        Err(Miss::NoMemory(cause)) => return LineFault::NoMemory(cause),
         Err(Miss::NoForm) => return LineFault::Wrong(Why::Syntax),
         Ok(_) => {}
     }
@@ -123,7 +123,7 @@ fn undone(
         return LineFault::Wrong(Why::Limit);
     }
     match act_by(alloc, draft, Rigour::Limits, by, kind, words) {
-        Err(Miss::NoMemory) => LineFault::NoMemory,
+        Err(Miss::NoMemory(cause)) => LineFault::NoMemory(cause),
         Err(Miss::NoForm) => LineFault::Wrong(Why::Limit),
         Ok(_) => LineFault::Wrong(Why::Unknown),
     }
@@ -147,7 +147,7 @@ pub(crate) fn judged_act(
     }
     match act_by(alloc, draft, Rigour::Names, by, kind, words) {
         Ok(told) => Ok(told),
-        Err(Miss::NoMemory) => Err(LineFault::NoMemory),
+        Err(Miss::NoMemory(cause)) => Err(LineFault::NoMemory(cause)),
         Err(Miss::NoForm) => Err(undone(alloc, draft, long, by, kind, words)),
     }
 }

@@ -1,4 +1,5 @@
 ghost use Rattle.std.specs.Prelude.{◌≡◌, ◌||◌, ◌<◌, ◌∷◌, List, ℕ, IsTrue, not, OnOk, IfErr, length, true, false, nat_lt};
+ghost use Rattle.cf_types.specs.NoMemory.Wants.{want};
 ghost use Rattle.plex_plain.specs.PlexSpell.Words.{words_of};
 ghost use Rattle.plex_script.specs.Causes.{has_lines, is_full, PolicyCause, StrangeCause, CallerCause, EmptyCause, LineCause, strange_why};
 ghost use Rattle.plex_script.specs.Scripts.{with_pref, with_declaration, AddsDeclaration, AddsLine, AddsOfCaller, AddsWords, Adds};
@@ -28,7 +29,7 @@ fn add_pref(
 ) -> Result<(), LineFault>
     ensures ok { OnOk result (structures.new.items ≡ with_pref structures.old.items on pref) }
     ensures len { length structures.new.items ≡ length structures.old.items }
-    ensures err { IfErr result (λ fault. fault ≡ LineFault.NoMemory) }
+    ensures err { IfErr result (λ fault. fault ≡ LineFault.NoMemory want) }
 {
     let place = on.0 as usize;
     if place < structures.len() {
@@ -50,7 +51,7 @@ fn add_declaration(
     requires { HasRoom (script_of draft.old) declaration }
     ensures ok { OnOk result (script_of draft.new ≡ with_declaration
         (script_of draft.old) declaration) }
-    ensures err { IfErr result (λ fault. fault ≡ LineFault.NoMemory) }
+    ensures err { IfErr result (λ fault. fault ≡ LineFault.NoMemory want) }
 {
     match declaration {
         Declaration::Facility(pref) => draft.facilities.push(pref)?,

@@ -81,7 +81,7 @@ fn fault_at(line: u32, fault: LineFault) -> ReadFault
 {
     match fault {
         LineFault::Wrong(why) => ReadFault::Script { line, why },
-        LineFault::NoMemory => ReadFault::NoMemory,
+        LineFault::NoMemory(cause) => ReadFault::NoMemory(cause),
     }
 }
 

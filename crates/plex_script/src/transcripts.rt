@@ -1,4 +1,4 @@
-use cf_types::{Listing, StrNo};
+use cf_types::{Listing, NoMemory, StrNo};
 
 /// What a caller was shown.
 #[derive(Clone, Copy, PartialEq, Eq)]
@@ -43,14 +43,14 @@ pub enum Shown {
 }
 
 /// How a caller's work ended.
-#[derive(Clone, Copy, Debug, PartialEq, Eq)]
+#[derive(Debug, Drop, PartialEq, Eq)]
 pub enum AgentEnd {
     /// It did all its lines, and its closing.
     Done,
     /// A call came to this structure, whose journal was full.
     JournalFull { on: StrNo },
     /// There was no memory.
-    NoMemory,
+    NoMemory(NoMemory),
 }
 
 /// What a caller was shown, in order, and how its work ended.

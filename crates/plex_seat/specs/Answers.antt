@@ -10,6 +10,7 @@ use Rattle.plex_board.specs.PlexScript.declared.scripts.Script.{Script}
 use Rattle.plex_board.specs.PlexScript.Heard.{AnyCall}
 use Rattle.plex_report.specs.Lines.{reply_words}
 use Rattle.plex_report.specs.ReplyWords.{cache_reply_words, list_reply_words, lock_reply_words}
+use Rattle.plex_board.specs.CfTypes.NoMemory.Wants.{want}
 use Rattle.plex_board.specs.StructCell.declared.refused.CallRefused.{CallRefused}
 use Rattle.plex_board.specs.StructCell.declared.refused.CallRefused.TheVariants.{JournalFull, NoMemory}
 use Rattle.plex_board.specs.Types.{StrType, OfCache, OfList, OfLock, type_of_ask}
@@ -71,8 +72,8 @@ module _ {L : Type 0} where
   -- the call wasn't made: the journal was full, and the member may have seen more complete; or memory lacked
   pub record IsNotMade (refusal : CallRefused) (before after : SeatShown L) : Type 0 where
     pub later : IsLaterOn before.on before.desk after.desk
-    pub no_memory : refusal ≡ NoMemory → after.desk ≡ before.desk
-    pub full : refusal ≢ NoMemory → IfSome (cell_on before.board before.on)
+    pub no_memory : refusal ≡ NoMemory want → after.desk ≡ before.desk
+    pub full : refusal ≢ NoMemory want → IfSome (cell_on before.board before.on)
         (λ cell. (refusal ≡ JournalFull cell.limit) × (cell.limit ≤ (pass_at after.desk before.on).known))
 
   -- Why there is no answer: the structure is of another type, and nothing was asked; or the call wasn't made; or it was

@@ -9,9 +9,9 @@ use Rattle.plex_seat.specs.declared.faults.Fault.TheVariants.{Policy, Command, N
 -- a script that isn't read
 abbrev pub fault_of : ReadFault → Fault
 fault_of (unread.Script line why) = Policy
-fault_of unread.NoMemory = NoMemory
+fault_of (unread.NoMemory cause) = NoMemory cause
 
 -- a command that isn't read
 abbrev pub fault_by : Miss → Fault
 fault_by miss.NoForm = Command
-fault_by miss.NoMemory = NoMemory
+fault_by (miss.NoMemory cause) = NoMemory cause

@@ -46,7 +46,7 @@ fn event_in<R>(reply: &Reply<R>) -> Option<Event>
 }
 
 /// Why a member has no answer.
-#[derive(Clone, Copy, Debug, Error)]
+#[derive(Debug, Drop, Error)]
 pub enum Unanswered {
     /// The structure is of another kind; nothing was asked.
     #[error("the structure is of another kind")]

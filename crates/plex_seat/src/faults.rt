@@ -31,7 +31,7 @@ pub enum Fault {
 
     /// There was no memory.
     #[error("out of memory")]
-    NoMemory,
+    NoMemory(NoMemory),
 
     /// Standard output took no more.
     #[error(transparent)]
@@ -42,10 +42,10 @@ impl From<NoMemory> for Fault {
     ghost use Rattle.std.specs.Prelude.{◌≡◌};
     ghost use Rattle.plex_seat.specs.declared.faults.Fault.TheVariants as ended;
 
-    ghost from_gives = { λ _ fault. fault ≡ ended.NoMemory };
+    ghost from_gives = { λ cause fault. fault ≡ ended.NoMemory cause };
 
-    fn from(_: NoMemory) -> Self {
-        Fault::NoMemory
+    fn from(cause: NoMemory) -> Self {
+        Fault::NoMemory(cause)
     }
 }
 
@@ -58,7 +58,7 @@ impl From<ReadFault> for Fault {
     fn from(fault: ReadFault) -> Self {
         match fault {
             ReadFault::Script { .. } => Fault::Policy,
-            ReadFault::NoMemory => Fault::NoMemory,
+            ReadFault::NoMemory(cause) => Fault::NoMemory(cause),
         }
     }
 }
@@ -72,7 +72,7 @@ impl From<Miss> for Fault {
     fn from(miss: Miss) -> Self {
         match miss {
             Miss::NoForm => Fault::Command,
-            Miss::NoMemory => Fault::NoMemory,
+            Miss::NoMemory(cause) => Fault::NoMemory(cause),
         }
     }
 }

@@ -24,7 +24,7 @@ use std::alloc::Global;
 use std::marker::Model;
 
 /// The most letters that `act` posts to one mailbox, and `lost`.
-pub const ACT_LETTERS: u32 = 2;
+pub const ACT_LETTERS: usize = 2;
 
 /// The shell of one structure. Contracts see the form, what the shell keeps (instances, connections
 /// and mail), and for how many letters room is taken.
@@ -100,15 +100,16 @@ impl Shell {
         }
     }
 
-    /// Takes room for so many letters of `post` and `act` together. Want of memory changes nothing.
-    pub fn ready(&mut self, letters: u32) -> Result<(), NoMemory>
+    /// Takes room for so many letters of `post` and `act` together. Want of memory changes nothing;
+    /// letters for which no numbers of rebuilds are left are told as such.
+    pub fn ready(&mut self, letters: usize) -> Result<(), NoMemory>
         ensures room { OnOk result (letters ≤ self.new.room) }
         ensures more { self.old.room ≤ self.new.room }
         ensures form { self.new.form ≡ self.old.form }
         ensures shell { self.new.shell ≡ self.old.shell }
     {
-        if letters > u32::MAX - self.started {
-            return Err(NoMemory);
+        if letters > (u32::MAX - self.started) as usize {
+            return Err(NoMemory::beyond_counts());
         }
         self.mail.room(letters)
     }

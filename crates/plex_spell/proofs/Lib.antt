@@ -9,6 +9,7 @@ pub mod PlaceLaws
 pub mod RowLaws
 pub mod PatternLaws
 pub mod VerbLaws
+pub mod FormLaws
 pub mod CacheLaws
 pub mod LockLaws
 pub mod ListLaws

@@ -1,9 +1,9 @@
 -- Rows of places: what a reader makes of them is what the words stand for.
-use Rattle.plex_spell.proofs.Imports.{arith, ◌≡◌, ℕ, ◌<◌, ◌^◌, ◌&&◌, Bool, true, false, not, List, [], ◌∷◌, ◌++◌, Option, Some, None, refl, list_any, and_parts, ADJUNCT_BYTES, NotHeld, HeldBy, is_names, Rigour, same_word, Declared, Token, Spells, facility_of, connector_of, structure_of, Literal, Number, Short, Data, OnResource, OfConnector, OfStructure, NewFacility, NewName, references, option_tokens, flag_tokens, one_of_two, decision, number_of, text_of, data_of, resource_of, new_name_of, connector_in, structure_in, facility_in, either_of, OfFacility, Place, Value, Values, tokens_at, tokens_of, value_at, values_at, option_at, flag_at, decision_of, refs_of, Amount, AName, AKey, AShort, AData, AResource, AFacility, ANewFacility, AConnector, AStructure, ANewName, Either, ADecision, SomeRefs, AClass, ARecord, ACond, ALabel, AFlag, AnOption, Label}
+use Rattle.plex_spell.proofs.Imports.{arith, ◌≡◌, ℕ, ◌<◌, ◌^◌, ◌&&◌, Bool, true, false, not, List, [], ◌∷◌, ◌++◌, Option, Some, None, refl, list_any, and_parts, ADJUNCT_BYTES, NotHeld, HeldBy, is_names, Rigour, same_word, Declared, Token, Spells, facility_of, connector_of, structure_of, Literal, Number, Short, Data, OnResource, OfConnector, OfStructure, NewFacility, NewName, references, option_tokens, flag_tokens, one_of_two, decision, lock_use, number_of, text_of, data_of, resource_of, new_name_of, connector_in, structure_in, facility_in, either_of, OfFacility, Place, Value, Values, tokens_at, tokens_of, value_at, values_at, option_at, flag_at, decision_of, lock_use_of, refs_of, Amount, AName, AKey, AShort, AData, AResource, AFacility, ANewFacility, AConnector, AStructure, ANewName, Either, ADecision, ALockUse, SomeRefs, AClass, ARecord, ACond, ALabel, AFlag, AnOption, Label}
 use Rattle.plex_spell.proofs.Choices.{chosen, bound}
 use Rattle.plex_spell.proofs.WordLaws.{number-sound, number-complete, text-sound, text-complete, new_name-sound, new_name-complete, declared-sound, declared-complete, facility-sound, facility-complete}
 use Rattle.plex_spell.proofs.CutLaws.{resource-sound, resource-complete, data-sound, data-complete}
-use Rattle.plex_spell.proofs.PlaceLaws.{Words, FindsAll, Spells-append, Spells-split, Reads, one_word, either-sound, either-complete, decision-sound, decision-complete, refs-sound, refs-complete, led, led-by, behind-sound, behind-complete}
+use Rattle.plex_spell.proofs.PlaceLaws.{Words, FindsAll, Spells-append, Spells-split, Reads, one_word, either-sound, either-complete, decision-sound, decision-complete, lock_use-sound, lock_use-complete, refs-sound, refs-complete, led, led-by, behind-sound, behind-complete}
 use Rattle.plex_spell.proofs.RowLaws.{free_of, free-parts, cond_keys, label_keys, names_read, keys_read, nothing-sound, class-sound, class-complete, cond-sound, cond-complete, label-sound, label-complete, record-at-sound, record-at-complete}
 
 -- ---- one place
@@ -97,6 +97,8 @@ module _ (rigour : Rigour) (declared : Declared) where
       (either-sound rigour declared first second) (either-complete rigour declared first second is))
   values_read ADecision is = always ADecision (one_word rigour declared decision_of decision
       (decision-sound rigour declared) (decision-complete rigour declared))
+  values_read ALockUse is = always ALockUse (one_word rigour declared lock_use_of lock_use
+      (lock_use-sound rigour declared) (lock_use-complete rigour declared))
   values_read SomeRefs is = always SomeRefs
       (one_word rigour declared refs_of references (refs-sound rigour declared) (refs-complete rigour declared))
   values_read AClass is =

@@ -1,5 +1,5 @@
 -- A reader of a row of places reads what the words stand for, and misses nothing.
-use Rattle.plex_spell.proofs.Imports.{arith, ◌≡◌, ℕ, Bool, true, false, List, [], ◌∷◌, ◌++◌, Option, Some, option_map, refl, lit<, Refs, Decision, Rigour, same_word, begins_with, words_behind, Declared, Token, IsWord, Spells, Literal, Number, one_of_two, references, decision, is_names, on_first, number_of, either_of, decision_of, refs_of, number_at}
+use Rattle.plex_spell.proofs.Imports.{arith, ◌≡◌, ℕ, Bool, true, false, List, [], ◌∷◌, ◌++◌, Option, Some, option_map, refl, lit<, Refs, Decision, LockUse, Rigour, same_word, begins_with, words_behind, Declared, Token, IsWord, Spells, Literal, Number, one_of_two, references, decision, lock_use, is_names, on_first, number_of, either_of, decision_of, lock_use_of, refs_of, number_at}
 use Rattle.plex_spell.proofs.Choices.{chosen, not_some, mapped, word-same, same_word-of}
 use Rattle.plex_spell.proofs.WordLaws.{Finds, number-sound, number-complete}
 
@@ -66,6 +66,13 @@ module _ (rigour : Rigour) (declared : Declared) where
   pub decision-complete : (w : List ℕ) (how : Decision) → IsWord rigour declared (decision how) w
       → Finds rigour (decision_of w) how
   decision-complete w how h = grind arith
+
+  pub lock_use-sound : (w : List ℕ) (how : LockUse) → lock_use_of w ≡ Some how → IsWord rigour declared (lock_use how) w
+  lock_use-sound w how h = grind (arith, chosen, word-same, not_some)
+
+  pub lock_use-complete : (w : List ℕ) (how : LockUse) → IsWord rigour declared (lock_use how) w
+      → Finds rigour (lock_use_of w) how
+  lock_use-complete w how h = grind arith
 
   pub refs-sound : (w : List ℕ) (how : Refs) → refs_of w ≡ Some how → IsWord rigour declared (references how) w
   refs-sound w how h = grind (arith, chosen, word-same, not_some)

@@ -1,89 +1,42 @@
 -- What is read as a command that structures share is spelled so, and what is spelled so is read.
-use Rattle.plex_spell.proofs.Imports.{arith, lit<, ◌≡◌, ℕ, true, List, [], ◌∷◌, Option, Some, codes, refl, ShellCmd, Connect, Disconnect, Fail, Next, Respond, RebuildStart, RebuildStop, RebuildConnect, Copy, RebuildComplete, ForceConn, ForceStr, LoseConn, RestoreConn, Vary, DuplexStart, DuplexStop, shell_tokens, shell_at, an_amount, caps_places, start_of, rebuild_at, duplex_at, operator_at, AFacility, AConnector, Either, Rigour, same_word, Declared, Spells, Literal, tokens_of}
-use Rattle.plex_spell.proofs.PatternLaws.{ArePlaces}
-use Rattle.plex_spell.proofs.VerbLaws.{is_tail, verb-first, none-left, other_first, plain-first, row-complete, plain-complete, led-complete}
-use Rattle.plex_spell.proofs.{Choices.word-same, PlaceLaws.Words, PlaceLaws.FindsAll}
+use Rattle.plex_spell.proofs.Imports.{arith, lit<, codes, ◌≡◌, true, Some, ShellCmd, Connect, Disconnect, Fail, Next, Respond, RebuildStart, RebuildStop, RebuildConnect, Copy, RebuildComplete, ForceConn, ForceStr, LoseConn, RestoreConn, Vary, DuplexStart, DuplexStop, shell_tokens, shell_at, shell_forms, rebuild_forms, duplex_forms, Rigour, Declared, Spells, IsSaid}
+use Rattle.plex_spell.proofs.FormLaws.{AreForms, AllSay, each-says, says, forms-sound, forms-complete}
+use Rattle.plex_spell.proofs.{VerbLaws.is_tail, PlaceLaws.Words, PlaceLaws.FindsAll}
 
-are_caps : ArePlaces caps_places
-are_caps = (lit< tt, tt, (lit< tt, tt, tt))
+are_shell : AreForms shell_forms
+are_shell = grind (arith, lit<)
 
-module _ (rigour : Rigour) (declared : Declared) where
-  rebuild-sound : (verb : List ℕ) (ws rest : Words) (cmd : ShellCmd) → same_word verb (codes "REBUILD") ≡ true
-      → rebuild_at rigour declared ws ≡ Some (cmd, rest) → Spells rigour declared (shell_tokens cmd) (verb ∷ ws) rest
-  rebuild-sound verb [] rest cmd e h = absurd (cc)
-  rebuild-sound verb (w ∷ ws) rest cmd e h =
-      let P : ShellCmd → Type 0 = λ c. Spells rigour declared (shell_tokens c) (verb ∷ w ∷ ws) rest in
-      let here = word-same verb (codes "REBUILD") e in
-      let word = plain-first rigour declared w ws rest cmd P in
-      verb-first rigour declared w ws rest cmd P (codes "START") caps_places start_of are_caps (λ vs s. (here, s))
-      _ (grind (arith, none-left)) h
+say_shell : AllSay shell_forms (λ cmd tokens. tokens ≡ shell_tokens cmd)
+say_shell = grind arith
 
-  duplex-sound : (verb : List ℕ) (ws rest : Words) (cmd : ShellCmd) → same_word verb (codes "DUPLEX") ≡ true
-      → duplex_at ws ≡ Some (cmd, rest) → Spells rigour declared (shell_tokens cmd) (verb ∷ ws) rest
-  duplex-sound verb [] rest cmd e h = absurd (cc)
-  duplex-sound verb (w ∷ ws) rest cmd e h = grind (arith, word-same, plain-first, none-left)
-
-  operator-sound : (verb : List ℕ) (ws rest : Words) (cmd : ShellCmd) → operator_at rigour
-      declared verb ws ≡ Some (cmd, rest) → Spells rigour declared (shell_tokens cmd) (verb ∷ ws) rest
-  operator-sound verb ws rest cmd h =
-      let P : ShellCmd → Type 0 = λ c. Spells rigour declared (shell_tokens c) (verb ∷ ws) rest in
-      let row = verb-first rigour declared verb ws rest cmd P in
-      row (codes "FORCECONN") (AConnector ∷ []) (λ v. ForceConn v.0) (tt, tt, tt) (λ vs s. s) _
-      (plain-first rigour declared verb ws rest cmd P (codes "FORCESTR") ForceStr (λ s. s) _
-      (row (codes "LOSECONN") (AConnector ∷ AFacility ∷ []) (λ v. LoseConn v.0 v.1.0) (tt, tt, (tt, tt, tt))
-      (λ vs s. s) _ (row (codes "RESTORECONN") (AConnector ∷ AFacility ∷ []) (λ v. RestoreConn v.0 v.1.0)
-      (tt, tt, (tt, tt, tt)) (λ vs s. s) _ (row (codes "VARY") (AFacility ∷ Either (codes "OFF") (codes "ON") ∷ [])
-      (λ v. Vary v.0 v.1.0) (tt, tt, (refl, tt, tt)) (λ vs s. s) _ (other_first (same_word verb (codes "DUPLEX"))
-      (duplex-sound verb ws rest cmd) _ (none-left rigour declared verb ws rest cmd P)))))) h
-
-  pub shell-sound : (ws rest : Words) (cmd : ShellCmd) → shell_at rigour declared ws ≡ Some (cmd, rest)
-      → Spells rigour declared (shell_tokens cmd) ws rest
-  shell-sound [] rest cmd h = absurd (cc)
-  shell-sound (verb ∷ ws) rest cmd h =
-      let P : ShellCmd → Type 0 = λ c. Spells rigour declared (shell_tokens c) (verb ∷ ws) rest in
-      let row = verb-first rigour declared verb ws rest cmd P in
-      let word = plain-first rigour declared verb ws rest cmd P in
-      row (codes "CONNECT") (Either (codes "KEEP") (codes "DELETE") ∷ []) (λ v. Connect v.0)
-      (refl, tt, tt) (λ vs s. s) _ (word (codes "DISCONNECT") Disconnect (λ s. s) _ (word
-      (codes "FAIL") Fail (λ s. s) _ (word (codes "NEXT") Next (λ s. s) _ (word (codes "RESPOND") Respond (λ s. s) _
-      (other_first (same_word verb (codes "REBUILD")) (rebuild-sound verb ws rest cmd) _ (row (codes "COPY")
-      (an_amount ∷ []) (λ v. Copy v.0) (lit< tt, tt, tt) (λ vs s. s) _ (operator-sound verb ws rest cmd))))))) h
+shell-said : (cmd : ShellCmd) → IsSaid shell_forms cmd (shell_tokens cmd)
+shell-said (Connect keep) = says shell_forms (codes "CONNECT") (keep, tt)
+shell-said Disconnect = says shell_forms (codes "DISCONNECT") tt
+shell-said Fail = says shell_forms (codes "FAIL") tt
+shell-said Next = says shell_forms (codes "NEXT") tt
+shell-said Respond = says shell_forms (codes "RESPOND") tt
+shell-said (RebuildStart caps) = says shell_forms (codes "REBUILD") _ _
+    (says rebuild_forms (codes "START") (caps.entries, (caps.elements, tt)))
+shell-said RebuildStop = says shell_forms (codes "REBUILD") _ _ (says rebuild_forms (codes "STOP") tt)
+shell-said RebuildConnect = says shell_forms (codes "REBUILD") _ _ (says rebuild_forms (codes "CONNECT") tt)
+shell-said (Copy n) = says shell_forms (codes "COPY") (n, tt)
+shell-said RebuildComplete = says shell_forms (codes "REBUILD") _ _ (says rebuild_forms (codes "COMPLETE") tt)
+shell-said (ForceConn conn) = says shell_forms (codes "FORCECONN") (conn, tt)
+shell-said ForceStr = says shell_forms (codes "FORCESTR") tt
+shell-said (LoseConn conn cf) = says shell_forms (codes "LOSECONN") (conn, (cf, tt))
+shell-said (RestoreConn conn cf) = says shell_forms (codes "RESTORECONN") (conn, (cf, tt))
+shell-said (Vary cf off) = says shell_forms (codes "VARY") (cf, (off, tt))
+shell-said DuplexStart = says shell_forms (codes "DUPLEX") _ _ (says duplex_forms (codes "START") tt)
+shell-said DuplexStop = says shell_forms (codes "DUPLEX") _ _ (says duplex_forms (codes "STOP") tt)
 
 module _ (rigour : Rigour) (declared : Declared) (ws rest : Words) where
-  inner-complete : (first word : List ℕ) (c : ShellCmd) (inner : Words → Option (ShellCmd × Words))
-      → Spells rigour declared (Literal first ∷ Literal word ∷ []) ws rest → ((us : Words) → shell_at rigour declared
-      (first ∷ us) ≡ inner us) → ((us : Words) → inner (word ∷ us) ≡ (let p : ShellCmd × Words = (c, us) in Some p))
-      → FindsAll rigour (shell_at rigour declared ws) c rest
-  inner-complete first word c inner h is does = grind (arith, led-complete, plain-complete)
+  pub shell-sound : (cmd : ShellCmd) → shell_at rigour declared ws ≡ Some (cmd, rest)
+      → Spells rigour declared (shell_tokens cmd) ws rest
+  shell-sound cmd h =
+      let t = forms-sound rigour declared shell_forms ws rest cmd are_shell h in
+      rw (← each-says shell_forms (λ c ts. ts ≡ shell_tokens c) cmd t.tokens say_shell t.said) t.spelled
 
   pub shell-complete : (cmd : ShellCmd) → is_tail rest ≡ true → Spells rigour declared (shell_tokens cmd) ws rest
       → FindsAll rigour (shell_at rigour declared ws) cmd rest
-  shell-complete (Connect keep) tail h = grind (arith, row-complete)
-  shell-complete Disconnect tail h = grind (arith, plain-complete)
-  shell-complete Fail tail h = grind (arith, plain-complete)
-  shell-complete Next tail h = grind (arith, plain-complete)
-  shell-complete Respond tail h = grind (arith, plain-complete)
-  shell-complete (RebuildStart caps) tail h = led-complete rigour declared (codes "REBUILD")
-      (Literal (codes "START") ∷ tokens_of caps_places (caps.entries, (caps.elements, tt)))
-      (RebuildStart caps) ws rest (shell_at rigour declared) (rebuild_at rigour declared)
-      (λ us. refl) (λ us k. row-complete rigour declared (rebuild_at rigour declared) (codes "START")
-      us rest caps_places start_of (caps.entries, (caps.elements, tt)) k tail are_caps refl refl (λ vs. refl)) h
-  shell-complete RebuildStop tail h = grind (arith, inner-complete)
-  shell-complete RebuildConnect tail h = grind (arith, inner-complete)
-  shell-complete (Copy n) tail h = row-complete rigour declared (shell_at rigour declared) (codes "COPY") ws rest
-      (an_amount ∷ []) (λ v. Copy v.0) (n, tt) h tail (lit< tt, tt, tt) refl refl (λ us. refl)
-  shell-complete RebuildComplete tail h = grind (arith, inner-complete)
-  shell-complete (ForceConn conn) tail h = row-complete rigour declared (shell_at rigour declared) (codes "FORCECONN")
-      ws rest (AConnector ∷ []) (λ v. ForceConn v.0) (conn, tt) h tail (tt, tt, tt) refl refl (λ us. refl)
-  shell-complete ForceStr tail h = grind (arith, plain-complete)
-  shell-complete (LoseConn conn cf) tail h =
-      row-complete rigour declared (shell_at rigour declared) (codes "LOSECONN") ws rest (AConnector ∷ AFacility ∷ [])
-      (λ v. LoseConn v.0 v.1.0) (conn, (cf, tt)) h tail (tt, tt, (tt, tt, tt)) refl refl (λ us. refl)
-  shell-complete (RestoreConn conn cf) tail h = row-complete
-      rigour declared (shell_at rigour declared) (codes "RESTORECONN") ws rest (AConnector ∷ AFacility ∷ [])
-      (λ v. RestoreConn v.0 v.1.0) (conn, (cf, tt)) h tail (tt, tt, (tt, tt, tt)) refl refl (λ us. refl)
-  shell-complete (Vary cf off) tail h =
-      row-complete rigour declared (shell_at rigour declared) (codes "VARY") ws rest (AFacility ∷ Either (codes "OFF")
-      (codes "ON") ∷ []) (λ v. Vary v.0 v.1.0) (cf, (off, tt)) h tail (tt, tt, (refl, tt, tt)) refl refl (λ us. refl)
-  shell-complete DuplexStart tail h = grind (arith, inner-complete)
-  shell-complete DuplexStop tail h = grind (arith, inner-complete)
+  shell-complete cmd tail h = forms-complete rigour declared shell_forms cmd (shell_tokens cmd) ws rest
+      are_shell tail (shell-said cmd) h

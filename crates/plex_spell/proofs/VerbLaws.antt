@@ -1,7 +1,7 @@
 -- Commands by their first words.
-use Rattle.plex_spell.proofs.Imports.{arith, ◌≡◌, ℕ, Bool, true, false, not, ◌&&◌, cond, List, [], ◌∷◌, Option, Some, None, codes, refl, ap, list_any, and_parts, Rigour, same_word, Declared, Token, Spells, Literal, Place, Values, tokens_of, values_at}
+use Rattle.plex_spell.proofs.Imports.{arith, ◌≡◌, ℕ, Bool, true, not, ◌&&◌, List, [], ◌∷◌, Option, Some, codes, refl, ap, list_any, and_parts, Rigour, same_word, Declared, Token, Spells, Literal, Place, Values, tokens_of, values_at}
 use Rattle.plex_spell.proofs.PatternLaws.{ArePlaces, keys, AreFree, are_rows, values-sound, values-complete}
-use Rattle.plex_spell.proofs.{Choices.pick, Choices.word-same, PlaceLaws.Words, PlaceLaws.FindsAll, RowLaws.free_of}
+use Rattle.plex_spell.proofs.{Choices.word-same, PlaceLaws.Words, PlaceLaws.FindsAll, RowLaws.free_of}
 
 -- a command that was read behind its first word
 pub verb-sound : {C : Type 0} (rigour : Rigour) (declared : Declared) (verb word : List ℕ)
@@ -11,33 +11,6 @@ pub verb-sound : {C : Type 0} (rigour : Rigour) (declared : Declared) (verb word
 verb-sound rigour declared verb word places made ws rest c P are told e h =
     let t = values-sound rigour declared places made ws rest c are h in
     rw t.same (told t.values (word-same verb word e, t.spelled))
-
--- one command of a chain that is told by its first word: it was read, or one of those behind it
-module _ {C : Type 0} (rigour : Rigour) (declared : Declared) (verb : List ℕ) (ws rest : Words) (c : C)
-    (P : C → Type 0) where
-  -- a command that is read behind its first word
-  pub verb-first : (word : List ℕ) (places : List Place) (made : Values places → C) → ArePlaces places
-      → ((values : Values places) → Spells rigour declared (Literal word ∷ tokens_of places values) (verb ∷ ws) rest
-      → P (made values)) → (next : Option (C × Words)) → (next ≡ Some (c, rest) → P c)
-      → cond (same_word verb word) (values_at rigour declared places made ws) next ≡ Some (c, rest) → P c
-  verb-first word places made are told next others h =
-      pick h (verb-sound rigour declared verb word places made ws rest c P are told) (λ _. others)
-
-  -- a command that is its first word alone
-  pub plain-first : (word : List ℕ) (made : C) → (Spells rigour declared (Literal word ∷ []) (verb ∷ ws) rest
-      → P made) → (next : Option (C × Words)) → (next ≡ Some (c, rest) → P c)
-      → cond (same_word verb word) (let p : C × Words = (made, ws) in Some p) next ≡ Some (c, rest) → P c
-  plain-first word made told next others h = grind (arith, pick, Words, word-same)
-
-  -- none of them
-  pub none-left : (let none : Option (C × Words) = None in none) ≡ Some (c, rest) → P c
-  none-left h = absurd (cc)
-
--- a command with a reading of its own behind its first word
-pub other_first : {X G : Type 0} {v : X} (b : Bool) {x : Option X} → (b ≡ true → x ≡ Some v → G) → (next : Option X)
-    → (next ≡ Some v → G) → cond b x next ≡ Some v → G
-other_first true told next others h = told refl h
-other_first false told next others h = others h
 
 -- ---- what may stand behind a command: nothing, or RETRY
 
@@ -83,16 +56,3 @@ command-complete rigour declared word places made values ws rest are rows free r
     declared word (tokens_of places values) (made values) ws rest reading (values_at rigour declared places made)
     is (λ us s. let f = values-complete rigour declared places made values us rest are rows free s in
     record { found = made f.found; read = f.read; same = λ e. ap made (f.same e) }) h
-
-module _ {C : Type 0} (rigour : Rigour) (declared : Declared) (reading : Words → Option (C × Words)) (word : List ℕ)
-    (ws rest : Words) where
-  -- the same, in front of what may stand behind a command
-  pub row-complete : (places : List Place) (made : Values places → C) (values : Values places)
-      → Spells rigour declared (Literal word ∷ tokens_of places values) ws rest → is_tail rest ≡ true
-      → ArePlaces places → are_rows places ≡ true → all_lack_retry places ≡ true → ((us : Words) → reading
-      (word ∷ us) ≡ values_at rigour declared places made us) → FindsAll rigour (reading ws) (made values) rest
-  row-complete places made values h tail are rows lack is = grind (arith, command-complete, AreFree-tail)
-
-  pub plain-complete : (c : C) → Spells rigour declared (Literal word ∷ []) ws rest → ((us : Words)
-      → reading (word ∷ us) ≡ (let p : C × Words = (c, us) in Some p)) → FindsAll rigour (reading ws) c rest
-  plain-complete c h is = grind (arith, led-complete, Words)

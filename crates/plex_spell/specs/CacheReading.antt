@@ -1,12 +1,13 @@
--- What a reader makes of the words of a command of a cache structure.
-use Rattle.std.specs.Prelude.{ℕ, List, [], ◌∷◌, Option, None, Some, codes, unwrap_or, if◌then◌else◌}
+-- The forms of the commands of a cache structure, and what a reader makes of their words.
+use Rattle.std.specs.Prelude.{ℕ, List, [], ◌∷◌, Option, codes, unwrap_or}
 use Rattle.cf_types.specs.declared.cache_commands.CacheCmd.{CacheCmd}
 use Rattle.cf_types.specs.declared.cache_commands.CacheCmd.TheVariants.{Read, Write, CrossInval, RegList, Castout, Unlock, CoClass, CoStats, DirInfo, Delete, StgStats}
 use Rattle.plex_spell.specs.declared.rigour.Rigour.{Rigour}
-use Rattle.plex_spell.specs.Words.{same_word}
 use Rattle.plex_spell.specs.Tokens.{Declared}
-use Rattle.plex_spell.specs.Patterns.{Place, Values, values_at}
+use Rattle.plex_spell.specs.Patterns.{Place, Values}
 use Rattle.plex_spell.specs.Patterns.Place.{Amount, AName, AShort, AData, AClass, AFlag, AnOption}
+use Rattle.plex_spell.specs.Forms.{Forms, ◌or◌, command_at}
+use Rattle.plex_spell.specs.Forms.Forms.{NoForms, Row}
 
 abbrev pub a_number : Place
 a_number = Amount 0 4294967295
@@ -33,18 +34,20 @@ name_places = AName ∷ []
 abbrev pub number_places : List Place
 number_places = a_number ∷ []
 
+abbrev pub cache_forms : Forms CacheCmd
+cache_forms =
+    Row (codes "READ") read_places read_of
+    or Row (codes "WRITE") write_places write_of
+    or Row (codes "CROSSINVAL") name_places (λ v. CrossInval v.0)
+    or Row (codes "REGLIST") [] (λ v. RegList)
+    or Row (codes "CASTOUT") name_places (λ v. Castout v.0)
+    or Row (codes "UNLOCK") name_places (λ v. Unlock v.0)
+    or Row (codes "COCLASS") number_places (λ v. CoClass v.0)
+    or Row (codes "COSTATS") [] (λ v. CoStats)
+    or Row (codes "DIRINFO") name_places (λ v. DirInfo v.0)
+    or Row (codes "DELETE") name_places (λ v. Delete v.0)
+    or Row (codes "STGSTATS") number_places (λ v. StgStats v.0)
+    or NoForms
+
 abbrev pub cache_at : Rigour → Declared → List (List ℕ) → Option (CacheCmd × List (List ℕ))
-cache_at rigour declared [] = None
-cache_at rigour declared (verb ∷ words) =
-    if same_word verb (codes "READ") then values_at rigour declared read_places read_of words
-    else if same_word verb (codes "WRITE") then values_at rigour declared write_places write_of words
-    else if same_word verb (codes "CROSSINVAL") then values_at rigour declared name_places (λ v. CrossInval v.0) words
-    else if same_word verb (codes "REGLIST") then Some (RegList, words)
-    else if same_word verb (codes "CASTOUT") then values_at rigour declared name_places (λ v. Castout v.0) words
-    else if same_word verb (codes "UNLOCK") then values_at rigour declared name_places (λ v. Unlock v.0) words
-    else if same_word verb (codes "COCLASS") then values_at rigour declared number_places (λ v. CoClass v.0) words
-    else if same_word verb (codes "COSTATS") then Some (CoStats, words)
-    else if same_word verb (codes "DIRINFO") then values_at rigour declared name_places (λ v. DirInfo v.0) words
-    else if same_word verb (codes "DELETE") then values_at rigour declared name_places (λ v. Delete v.0) words
-    else if same_word verb (codes "STGSTATS") then values_at rigour declared number_places (λ v. StgStats v.0) words
-    else None
+cache_at rigour declared words = command_at rigour declared cache_forms words

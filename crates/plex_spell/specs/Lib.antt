@@ -8,6 +8,7 @@ pub mod ListWords
 pub mod LockWords
 pub mod Places
 pub mod Patterns
+pub mod Forms
 pub mod CacheReading
 pub mod ListReading
 pub mod LockReading

@@ -1,17 +1,19 @@
--- What a reader makes of the words of a command of a list structure.
-use Rattle.std.specs.Prelude.{ℕ, List, [], ◌∷◌, Option, None, Some, codes, if◌then◌else◌}
+-- The forms of the commands of a list structure, and what a reader makes of their words.
+use Rattle.std.specs.Prelude.{ℕ, List, [], ◌∷◌, Option, None, Some, codes}
 use Rattle.cf_types.specs.declared.names.Name16.{Name16}
 use Rattle.cf_types.specs.declared.names.Key16.{Key16}
 use Rattle.cf_types.specs.declared.list_commands.ListCmd.{ListCmd}
 use Rattle.cf_types.specs.declared.list_commands.ListCmd.TheVariants.{Write, Update, Read, Move, Delete, ReadList, LockSet, LockReset, LockTest, LControls, SetLimit, Monitor, Unmonitor}
 use Rattle.plex_spell.specs.declared.labels.Label.{Label}
 use Rattle.plex_spell.specs.declared.labels.Label.TheVariants as label
+use Rattle.plex_spell.specs.declared.labels.LockUse.{LockUse}
+use Rattle.plex_spell.specs.declared.labels.LockUse.TheVariants.{Set, Reset, Test}
 use Rattle.plex_spell.specs.declared.rigour.Rigour.{Rigour}
-use Rattle.plex_spell.specs.Words.{same_word, begins_with, words_behind}
 use Rattle.plex_spell.specs.Tokens.{Declared}
-use Rattle.plex_spell.specs.Places.{◌>>=◌}
-use Rattle.plex_spell.specs.Patterns.{Place, Values, values_at, number_at}
-use Rattle.plex_spell.specs.Patterns.Place.{Amount, AKey, AShort, AData, Either, ARecord, ACond, ALabel, AnOption}
+use Rattle.plex_spell.specs.Patterns.{Place, Values}
+use Rattle.plex_spell.specs.Patterns.Place.{Amount, AKey, AShort, AData, Either, ALockUse, ARecord, ACond, ALabel, AnOption}
+use Rattle.plex_spell.specs.Forms.{Forms, ◌or◌, command_at}
+use Rattle.plex_spell.specs.Forms.Forms.{NoForms, Row}
 use Rattle.plex_spell.specs.CacheReading.{a_number, number_places}
 
 abbrev pub an_end : Place
@@ -61,30 +63,29 @@ delete_of v = Delete v.0 v.1.0 v.1.1.0
 abbrev pub two_places : List Place
 two_places = a_number ∷ a_number ∷ []
 
--- behind the number of a list lock stands what is done with it
-abbrev pub use_at : ℕ → List (List ℕ) → Option (ListCmd × List (List ℕ))
-use_at lock words =
-    if begins_with (codes "SET") words then Some (LockSet lock, words_behind words)
-    else if begins_with (codes "RESET") words then Some (LockReset lock, words_behind words)
-    else if begins_with (codes "TEST") words then Some (LockTest lock, words_behind words)
-    else None
+-- the command that does this with a list lock
+abbrev pub lock_command : ℕ → LockUse → ListCmd
+lock_command lock Set = LockSet lock
+lock_command lock Reset = LockReset lock
+lock_command lock Test = LockTest lock
 
-abbrev pub lock_use_at : Rigour → List (List ℕ) → Option (ListCmd × List (List ℕ))
-lock_use_at rigour words = number_at rigour words >>= (λ lock. use_at lock.0 lock.1)
+abbrev pub lock_places : List Place
+lock_places = a_number ∷ ALockUse ∷ []
+
+abbrev pub list_forms : Forms ListCmd
+list_forms =
+    Row (codes "WRITE") make_places make_of
+    or Row (codes "UPDATE") update_places update_of
+    or Row (codes "READ") record_places (λ v. Read v.0 v.1.0)
+    or Row (codes "MOVE") move_places move_of
+    or Row (codes "DELETE") delete_places delete_of
+    or Row (codes "READLIST") number_places (λ v. ReadList v.0)
+    or Row (codes "LOCK") lock_places (λ v. lock_command v.0 v.1.0)
+    or Row (codes "LCONTROLS") number_places (λ v. LControls v.0)
+    or Row (codes "SETLIMIT") two_places (λ v. SetLimit v.0 v.1.0)
+    or Row (codes "MONITOR") two_places (λ v. Monitor v.0 v.1.0)
+    or Row (codes "UNMONITOR") number_places (λ v. Unmonitor v.0)
+    or NoForms
 
 abbrev pub list_at : Rigour → Declared → List (List ℕ) → Option (ListCmd × List (List ℕ))
-list_at rigour declared [] = None
-list_at rigour declared (verb ∷ words) =
-    if same_word verb (codes "WRITE") then values_at rigour declared make_places make_of words
-    else if same_word verb (codes "UPDATE") then values_at rigour declared update_places update_of words
-    else if same_word verb (codes "READ") then values_at rigour declared record_places (λ v. Read v.0 v.1.0) words
-    else if same_word verb (codes "MOVE") then values_at rigour declared move_places move_of words
-    else if same_word verb (codes "DELETE") then values_at rigour declared delete_places delete_of words
-    else if same_word verb (codes "READLIST") then values_at rigour declared number_places (λ v. ReadList v.0) words
-    else if same_word verb (codes "LOCK") then lock_use_at rigour words
-    else if same_word verb (codes "LCONTROLS") then values_at rigour declared number_places (λ v. LControls v.0) words
-    else if same_word verb (codes "SETLIMIT") then values_at rigour declared two_places (λ v. SetLimit v.0 v.1.0)
-    words
-    else if same_word verb (codes "MONITOR") then values_at rigour declared two_places (λ v. Monitor v.0 v.1.0) words
-    else if same_word verb (codes "UNMONITOR") then values_at rigour declared number_places (λ v. Unmonitor v.0) words
-    else None
+list_at rigour declared words = command_at rigour declared list_forms words

@@ -8,6 +8,8 @@ use Rattle.cf_types.specs.declared.list_commands.Cond.{Cond}
 use Rattle.cf_types.specs.declared.list_commands.Cond.TheVariants.{NotHeld, HeldBy}
 use Rattle.cf_types.specs.declared.list_commands.ListCmd.{ListCmd}
 use Rattle.cf_types.specs.declared.list_commands.ListCmd.TheVariants.{Write, Update, Read, Move, Delete, ReadList, LockSet, LockReset, LockTest, LControls, SetLimit, Monitor, Unmonitor}
+use Rattle.plex_spell.specs.declared.labels.LockUse.{LockUse}
+use Rattle.plex_spell.specs.declared.labels.LockUse.TheVariants.{Set, Reset, Test}
 use Rattle.plex_spell.specs.Tokens.{Token}
 use Rattle.plex_spell.specs.Tokens.Token.{Literal, Term, Record}
 use Rattle.plex_spell.specs.Fields.{all_tokens, number, name_tokens, key_tokens, version_tokens, short_tokens, data_tokens, option_tokens, end}
@@ -25,6 +27,12 @@ abbrev pub cond_tokens : Option Cond → List Token
 cond_tokens None = []
 cond_tokens (Some (NotHeld lock)) = Literal (codes "NOTHELD") ∷ number lock ∷ []
 cond_tokens (Some (HeldBy lock)) = Literal (codes "HELDBY") ∷ number lock ∷ []
+
+-- what is done with a list lock
+abbrev pub lock_use : LockUse → Token
+lock_use Set = Literal (codes "SET")
+lock_use Reset = Literal (codes "RESET")
+lock_use Test = Literal (codes "TEST")
 
 abbrev pub list_tokens : ListCmd → List Token
 list_tokens (Write header head name key body adj cond) =

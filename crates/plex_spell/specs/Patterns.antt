@@ -17,13 +17,15 @@ use Rattle.cf_types.specs.declared.list_commands.Cond.{Cond}
 use Rattle.cf_types.specs.declared.list_commands.Cond.TheVariants.{NotHeld, HeldBy}
 use Rattle.plex_spell.specs.declared.labels.Label.{Label}
 use Rattle.plex_spell.specs.declared.labels.Label.TheVariants as label
+use Rattle.plex_spell.specs.declared.labels.LockUse.{LockUse}
+use Rattle.plex_spell.specs.declared.labels.LockUse.TheVariants.{Set, Reset, Test}
 use Rattle.plex_spell.specs.declared.rigour.Rigour.{Rigour}
 use Rattle.plex_spell.specs.Words.{same_word, begins_with, words_behind}
 use Rattle.plex_spell.specs.Tokens.{Declared, Token, facility_of}
 use Rattle.plex_spell.specs.Tokens.Token.{Data, Literal, NewFacility, NewName, Number, OnResource, Short, Term, OfFacility, OfConnector, OfStructure}
 use Rattle.plex_spell.specs.Fields.{one_of_two, option_tokens, flag_tokens, references}
 use Rattle.plex_spell.specs.CacheWords.{class_tokens}
-use Rattle.plex_spell.specs.ListWords.{at_tokens, cond_tokens}
+use Rattle.plex_spell.specs.ListWords.{at_tokens, cond_tokens, lock_use}
 use Rattle.plex_spell.specs.LockWords.{decision}
 use Rattle.plex_spell.specs.Places.{◌>>=◌, on_first, number_of, text_of, name_of, key_of, data_of, resource_of, record_of, new_name_of, facility_in, connector_in, structure_in}
 
@@ -42,6 +44,7 @@ pub data Place : Type 0 where
   ANewName : Place
   Either : (first second : List ℕ) → Place
   ADecision : Place
+  ALockUse : Place
   SomeRefs : Place
   AClass : Place
   ARecord : Place
@@ -64,6 +67,7 @@ Value AStructure = StrNo
 Value ANewName = Name16
 Value (Either first second) = Bool
 Value ADecision = Decision
+Value ALockUse = LockUse
 Value SomeRefs = Refs
 Value AClass = Option ℕ
 Value ARecord = At
@@ -93,6 +97,7 @@ tokens_at AStructure on = OfStructure on ∷ []
 tokens_at ANewName name = NewName name ∷ []
 tokens_at (Either first second) choice = one_of_two first second choice ∷ []
 tokens_at ADecision how = decision how ∷ []
+tokens_at ALockUse how = lock_use how ∷ []
 tokens_at SomeRefs how = references how ∷ []
 tokens_at AClass class = class_tokens class
 tokens_at ARecord ref = at_tokens ref
@@ -122,6 +127,13 @@ decision_of word =
     if same_word word (codes "KEEP") then Some Keep
     else if same_word word (codes "DENY") then Some Deny
     else if same_word word (codes "NOTIFY") then Some Notify
+    else None
+
+abbrev pub lock_use_of : List ℕ → Option LockUse
+lock_use_of word =
+    if same_word word (codes "SET") then Some Set
+    else if same_word word (codes "RESET") then Some Reset
+    else if same_word word (codes "TEST") then Some Test
     else None
 
 abbrev pub refs_of : List ℕ → Option Refs
@@ -187,6 +199,7 @@ value_at rigour declared AStructure words = on_first (structure_in rigour declar
 value_at rigour declared ANewName words = on_first (new_name_of rigour) words
 value_at rigour declared (Either first second) words = on_first (either_of first second) words
 value_at rigour declared ADecision words = on_first decision_of words
+value_at rigour declared ALockUse words = on_first lock_use_of words
 value_at rigour declared SomeRefs words = on_first refs_of words
 value_at rigour declared AClass words = class_at rigour words
 value_at rigour declared ARecord words = record_at rigour words

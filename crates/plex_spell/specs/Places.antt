@@ -131,10 +131,10 @@ on_first reading (word ∷ words) = option_map (λ value. (value, words)) (readi
 abbrev pub Gives : {V : Type 0} → Result V Miss → List (List ℕ) → Option (V × List (List ℕ)) → Type 0
 Gives (Ok value) rest reading = reading ≡ Some (value, rest)
 Gives (Err NoForm) rest reading = reading ≡ None
-Gives (Err NoMemory) rest reading = Unit {0}
+Gives (Err (NoMemory cause)) rest reading = Unit {0}
 
 -- the same of one word
 abbrev pub Reads : {V : Type 0} → Result V Miss → Option V → Type 0
 Reads (Ok value) reading = reading ≡ Some value
 Reads (Err NoForm) reading = reading ≡ None
-Reads (Err NoMemory) reading = Unit {0}
+Reads (Err (NoMemory cause)) reading = Unit {0}

@@ -51,62 +51,6 @@ fn write(alloc: Global, judge: &Judge, words: &mut Words) -> Result<CacheCmd, Mi
     })
 }
 
-fn cross_invalidate(judge: &Judge, words: &mut Words) -> Result<CacheCmd, Miss>
-    ensures { Gives result words.new (values_at judge.now.rigour
-        (names_of judge.now) name_places (λ v. cache.CrossInval v.0) words.old) }
-{
-    let name = name(judge.rigour, words)?;
-    Ok(CacheCmd::CrossInval { name })
-}
-
-fn castout(judge: &Judge, words: &mut Words) -> Result<CacheCmd, Miss>
-    ensures { Gives result words.new (values_at judge.now.rigour
-        (names_of judge.now) name_places (λ v. cache.Castout v.0) words.old) }
-{
-    let name = name(judge.rigour, words)?;
-    Ok(CacheCmd::Castout { name })
-}
-
-fn unlock(judge: &Judge, words: &mut Words) -> Result<CacheCmd, Miss>
-    ensures { Gives result words.new (values_at judge.now.rigour
-        (names_of judge.now) name_places (λ v. cache.Unlock v.0) words.old) }
-{
-    let name = name(judge.rigour, words)?;
-    Ok(CacheCmd::Unlock { name })
-}
-
-fn of_class(judge: &Judge, words: &mut Words) -> Result<CacheCmd, Miss>
-    ensures { Gives result words.new (values_at judge.now.rigour
-        (names_of judge.now) number_places (λ v. cache.CoClass v.0) words.old) }
-{
-    let class = number(judge.rigour, words)?;
-    Ok(CacheCmd::CoClass { class })
-}
-
-fn dir_info(judge: &Judge, words: &mut Words) -> Result<CacheCmd, Miss>
-    ensures { Gives result words.new (values_at judge.now.rigour
-        (names_of judge.now) name_places (λ v. cache.DirInfo v.0) words.old) }
-{
-    let name = name(judge.rigour, words)?;
-    Ok(CacheCmd::DirInfo { name })
-}
-
-fn delete(judge: &Judge, words: &mut Words) -> Result<CacheCmd, Miss>
-    ensures { Gives result words.new (values_at judge.now.rigour
-        (names_of judge.now) name_places (λ v. cache.Delete v.0) words.old) }
-{
-    let name = name(judge.rigour, words)?;
-    Ok(CacheCmd::Delete { name })
-}
-
-fn of_storage(judge: &Judge, words: &mut Words) -> Result<CacheCmd, Miss>
-    ensures { Gives result words.new (values_at judge.now.rigour
-        (names_of judge.now) number_places (λ v. cache.StgStats v.0) words.old) }
-{
-    let stg = number(judge.rigour, words)?;
-    Ok(CacheCmd::StgStats { stg })
-}
-
 /// Takes a command of a cache structure.
 pub fn cache(alloc: Global, judge: &Judge, words: &mut Words) -> Result<CacheCmd, Miss>
     ensures { Gives result words.new (cache_at judge.now.rigour (names_of judge.now) words.old) }
@@ -121,31 +65,38 @@ pub fn cache(alloc: Global, judge: &Judge, words: &mut Words) -> Result<CacheCmd
         return write(alloc, judge, words);
     }
     if is(verb, b"CROSSINVAL") {
-        return cross_invalidate(judge, words);
+        let name = name(judge.rigour, words)?;
+        return Ok(CacheCmd::CrossInval { name });
     }
     if is(verb, b"REGLIST") {
         return Ok(CacheCmd::RegList);
     }
     if is(verb, b"CASTOUT") {
-        return castout(judge, words);
+        let name = name(judge.rigour, words)?;
+        return Ok(CacheCmd::Castout { name });
     }
     if is(verb, b"UNLOCK") {
-        return unlock(judge, words);
+        let name = name(judge.rigour, words)?;
+        return Ok(CacheCmd::Unlock { name });
     }
     if is(verb, b"COCLASS") {
-        return of_class(judge, words);
+        let class = number(judge.rigour, words)?;
+        return Ok(CacheCmd::CoClass { class });
     }
     if is(verb, b"COSTATS") {
         return Ok(CacheCmd::CoStats);
     }
     if is(verb, b"DIRINFO") {
-        return dir_info(judge, words);
+        let name = name(judge.rigour, words)?;
+        return Ok(CacheCmd::DirInfo { name });
     }
     if is(verb, b"DELETE") {
-        return delete(judge, words);
+        let name = name(judge.rigour, words)?;
+        return Ok(CacheCmd::Delete { name });
     }
     if is(verb, b"STGSTATS") {
-        return of_storage(judge, words);
+        let stg = number(judge.rigour, words)?;
+        return Ok(CacheCmd::StgStats { stg });
     }
     Err(Miss::NoForm)
 }

@@ -3,10 +3,10 @@ ghost use Rattle.cf_types.specs.declared.limits.TheConstants.{ADJUNCT_BYTES, RET
 ghost use Rattle.cf_types.specs.declared.list_commands.At.TheVariants as at;
 ghost use Rattle.plex_spell.specs.Tokens.{facility_of};
 ghost use Rattle.plex_spell.specs.Places.{Gives, names_of, on_first, number_of, name_of, key_of, text_of, data_of, resource_of, record_of, new_name_of, facility_in, connector_in, structure_in};
-ghost use Rattle.plex_spell.specs.Patterns.{either_of, decision_of, refs_of, class_at, cond_at, label_at, key_at, record_at, flag_at, option_at, number_at};
+ghost use Rattle.plex_spell.specs.Patterns.{either_of, decision_of, lock_use_of, refs_of, class_at, cond_at, label_at, key_at, record_at, flag_at, option_at, number_at};
 
 use crate::judge::Judge;
-use crate::labels::Label;
+use crate::labels::{Label, LockUse};
 use crate::misses::Miss;
 use crate::rigour::Rigour;
 use crate::words::{Words, is};
@@ -184,6 +184,31 @@ pub(crate) fn decision(words: &mut Words) -> Result<Decision, Miss>
         return Err(Miss::NoForm);
     };
     decision_word(word).ok_or(Miss::NoForm)
+}
+
+fn lock_use_word(word: &[u8]) -> Option<LockUse>
+    ensures { result ≡ lock_use_of word.now }
+{
+    if is(word, b"SET") {
+        return Some(LockUse::Set);
+    }
+    if is(word, b"RESET") {
+        return Some(LockUse::Reset);
+    }
+    if is(word, b"TEST") {
+        return Some(LockUse::Test);
+    }
+    None
+}
+
+/// Takes what is done with a list lock.
+pub(crate) fn lock_use(words: &mut Words) -> Result<LockUse, Miss>
+    ensures { Gives result words.new (on_first lock_use_of words.old) }
+{
+    let Some(word) = words.next() else {
+        return Err(Miss::NoForm);
+    };
+    lock_use_word(word).ok_or(Miss::NoForm)
 }
 
 fn refs_word(word: &[u8]) -> Option<Refs>

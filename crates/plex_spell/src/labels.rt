@@ -6,3 +6,11 @@ pub(crate) enum Label {
     Name(Name16),
     Key(Key16),
 }
+
+/// What is done with a list lock.
+#[derive(Clone, Copy)]
+pub(crate) enum LockUse {
+    Set,
+    Reset,
+    Test,
+}

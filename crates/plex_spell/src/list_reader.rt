@@ -1,13 +1,13 @@
 ghost use Rattle.std.specs.Prelude.{◌≡◌, Option};
-ghost use Rattle.plex_spell.specs.ListReading.{list_at, use_at, lock_use_at, make_places, make_of, update_places, update_of, move_places, move_of, delete_places, delete_of, label_name, label_key};
+ghost use Rattle.plex_spell.specs.ListReading.{list_at, lock_command, make_places, make_of, update_places, update_of, move_places, move_of, delete_places, delete_of, label_name, label_key};
 ghost use Rattle.plex_spell.specs.Patterns.{values_at};
 ghost use Rattle.plex_spell.specs.Places.{Gives, names_of};
 
 use crate::fields::{
-    cond, data_option, either, key_option, label, number, record, short_option, version,
+    cond, data_option, either, key_option, label, lock_use, number, record, short_option, version,
 };
 use crate::judge::Judge;
-use crate::labels::Label;
+use crate::labels::{Label, LockUse};
 use crate::misses::Miss;
 use crate::words::{Words, is};
 use cf_types::{Key16, ListCmd, Name16};
@@ -110,28 +110,15 @@ fn delete(judge: &Judge, words: &mut Words) -> Result<ListCmd, Miss>
     Ok(ListCmd::Delete { at, version, cond })
 }
 
-// What is done with a list lock.
-fn use_of(lock: u32, words: &mut Words) -> Result<ListCmd, Miss>
-    ensures { Gives result words.new (use_at lock words.old) }
+// The command that does this with a list lock.
+fn on_lock(lock: u32, how: LockUse) -> ListCmd
+    ensures { result ≡ lock_command lock how }
 {
-    if words.skip(b"SET") {
-        return Ok(ListCmd::LockSet { lock });
+    match how {
+        LockUse::Set => ListCmd::LockSet { lock },
+        LockUse::Reset => ListCmd::LockReset { lock },
+        LockUse::Test => ListCmd::LockTest { lock },
     }
-    if words.skip(b"RESET") {
-        return Ok(ListCmd::LockReset { lock });
-    }
-    if words.skip(b"TEST") {
-        return Ok(ListCmd::LockTest { lock });
-    }
-    Err(Miss::NoForm)
-}
-
-// What stands behind LOCK.
-fn lock_use(judge: &Judge, words: &mut Words) -> Result<ListCmd, Miss>
-    ensures { Gives result words.new (lock_use_at judge.now.rigour words.old) }
-{
-    let lock = number(judge.rigour, words)?;
-    use_of(lock, words)
 }
 
 /// Takes a command of a list structure.
@@ -162,7 +149,9 @@ pub fn list(alloc: Global, judge: &Judge, words: &mut Words) -> Result<ListCmd, 
         return Ok(ListCmd::ReadList { header });
     }
     if is(verb, b"LOCK") {
-        return lock_use(judge, words);
+        let lock = number(rigour, words)?;
+        let how = lock_use(words)?;
+        return Ok(on_lock(lock, how));
     }
     if is(verb, b"LCONTROLS") {
         let header = number(rigour, words)?;

@@ -51,7 +51,7 @@ fn body(alloc: Global, text: &[u8]) -> Result<Body, Miss>
 {
     match parse_body(alloc, text) {
         Ok(body) => Ok(body),
-        Err(BodyFault::NoMemory) => Err(Miss::NoMemory),
+        Err(BodyFault::NoMemory(cause)) => Err(Miss::NoMemory(cause)),
         Err(BodyFault::BadName { .. }) => Err(Miss::NoForm),
         Err(BodyFault::TooLong { .. }) => Err(Miss::NoForm),
     }

@@ -147,7 +147,7 @@ impl<E: Engine> Copying<E> {
         let item = old.item_in(alloc, order, copied)?;
         match self.fresh.place(item) {
             Ok(()) => Ok(()),
-            Err(_item) => Err(NoMemory),
+            Err((_item, refused)) => Err(refused),
         }
     }
 

@@ -57,7 +57,7 @@ ends_few limit script histories conn on items AgentEnd.Done right =
     (right.agrees, follows_few script histories conn on items right)
 ends_few limit script histories conn on items (AgentEnd.JournalFull full) right =
     (right.agrees, stops_few script histories conn on items full right.at)
-ends_few limit script histories conn on items AgentEnd.NoMemory right = absurd right
+ends_few limit script histories conn on items (AgentEnd.NoMemory cause) right = absurd right
 
 -- each connector departs once, the operator never
 closings_sum : (n : ℕ) → sum_below most_at_end (suc n) ≡ n

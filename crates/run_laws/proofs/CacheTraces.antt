@@ -41,7 +41,7 @@ done_fresh : (vector : ℕ) (caps : Caps) (content : Content) (by : ConnId) (cmd
     → AllFresh (done caps content by cmd).state (copies_done content by cmd copies)
 done_fresh vector caps content by cmd copies none is all = subst (λ (refused : Option Refusal). AllFresh
     (unless_refused refused content (done caps content by cmd)).state (copies_unless refused content by cmd copies))
-    none (deed-fresh vector caps content copies (Calls by cmd) is.directory all)
+    none (deed-fresh vector content copies (Calls caps by cmd) is.directory all)
 
 quiet_fresh : (form : StrForm) (history : CacheHistory) (entry : CacheEntry) (content : Content)
     → IsQuiet cache_meaning form entry → AllFresh content (copy_held history)
@@ -63,10 +63,10 @@ same_trace form history entry content quiet is =
 
 quiet_deed : (form : StrForm) (history : CacheHistory) (entry : CacheEntry) (content : Content) (deed : Deed)
     → IsQuiet cache_meaning form entry → IsTrace history content
-    → copies_after form.vector form.caps content (copy_held history) deed ≡ copy_held history
-    → AllFresh (after_deed form.vector form.caps content deed) (copy_held (history ++ entry ∷ []))
+    → copies_after form.vector content (copy_held history) deed ≡ copy_held history
+    → AllFresh (after_deed form.vector content deed) (copy_held (history ++ entry ∷ []))
 quiet_deed form history entry content deed quiet is same = quiet_fresh form history entry _ quiet (subst (AllFresh
-    (after_deed form.vector form.caps content deed)) same (deed-fresh form.vector form.caps content (copy_held history)
+    (after_deed form.vector content deed)) same (deed-fresh form.vector content (copy_held history)
     deed is.orderly.directory is.fresh))
 
 traced : (form : StrForm) → IsTraced cache_meaning form IsTrace

@@ -6,15 +6,15 @@ cause_agrees : (a b : Caps) → a.elements ≡ b.elements → (content : Content
     → cause a content by cmd ≡ cause b content by cmd
 cause_agrees a b e content by _ = grind arith
 
-pub step_agrees : (a b : Caps) → a.elements ≡ b.elements → (shape : Shape) (content : Content) (by : ConnId)
-    (cmd : LockCmd) → step_at a shape content by cmd ≡ step_at b shape content by cmd
-step_agrees a b e shape content by cmd = grind (arith, cause_agrees)
+pub step_agrees : (a b : Caps) → a.elements ≡ b.elements → (one other : Shape) (content : Content) (by : ConnId)
+    (cmd : LockCmd) → step_at a one content by cmd ≡ step_at b other content by cmd
+step_agrees a b e one other content by cmd = grind (arith, cause_agrees)
 
-pub replies_agree : (a b : Caps) → a.elements ≡ b.elements → (shape : Shape) (content : Content)
-    (commands : List (ConnId × LockCmd)) → replies_of a shape content commands ≡ replies_of b shape content commands
-replies_agree a b e shape content [] = refl
-replies_agree a b e shape content (command ∷ commands) =
-    let same = step_agrees a b e shape content command.0 command.1 in
-    ap (λ step. step.reply ∷ replies_of a shape step.state commands) same
-    ∙ ap (λ l. (step_at b shape content command.0 command.1).reply ∷ l)
-    (replies_agree a b e shape (step_at b shape content command.0 command.1).state commands)
+pub replies_agree : (a b : Caps) → a.elements ≡ b.elements → (one other : Shape) (content : Content)
+    (commands : List (ConnId × LockCmd)) → replies_of a one content commands ≡ replies_of b other content commands
+replies_agree a b e one other content [] = refl
+replies_agree a b e one other content (command ∷ commands) =
+    let same = step_agrees a b e one other content command.0 command.1 in
+    ap (λ step. step.reply ∷ replies_of a one step.state commands) same
+    ∙ ap (λ l. (step_at b other content command.0 command.1).reply ∷ l)
+    (replies_agree a b e one other (step_at b other content command.0 command.1).state commands)

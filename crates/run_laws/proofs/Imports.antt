@@ -6,16 +6,17 @@ pub use Rattle.std.proofs.Common.{◌≡◌, true, None, is_some, List, ℕ, zer
 pub use Rattle.std.proofs.lemmas.Bool.{and_parts, and_from, false≢true, cases_lt, or_parts, eqb-true, eq-eqb, not-true}
 pub use Rattle.std.proofs.lemmas.List.Sums.{fold_push, take_while-cons, sum_by-append, sum_by-cons}
 pub use Rattle.std.proofs.lemmas.Option.{slice_get_within, slice_get-get_or, get_or_from_slice_get}
-pub use Rattle.plex_board.proofs.CacheModel.CopyLaws.{fresh-copy, content-run, copy-row_or_new, Fresh, AllFresh, each_weaker, deed-fresh, fresh-at}
-pub use Rattle.plex_board.proofs.CacheModel.OrderLaws.{orderly-deed}
+pub use Rattle.plex_board.proofs.CacheModel.CopyLaws.{fresh-copy, copy-row_or_new, Fresh, AllFresh, each_weaker, deed-fresh, fresh-at}
+pub use Rattle.plex_board.proofs.CacheModel.OrderLaws.{orderly-deed, orderly-run, orderly-nothing}
 pub use Rattle.plex_board.proofs.CacheModel.UncastLaws.{uncast-kept, AllKept, deed-kept}
 pub use Rattle.plex_board.proofs.CfLists.SplitLaws.{Every, every_front, every_back}
 pub use Rattle.plex_board.proofs.HistoryLaws.{length_calls, calls_rise}
 pub use Rattle.plex_board.proofs.LockModel.OwnerLaws.{compatible-interests}
 pub use Rattle.plex_board.proofs.PlexScript.TestLaws.{test_numbers, word_numbers}
 pub use Rattle.plex_board.proofs.SeamLaws.{numbers_of, numbers_any}
-pub use Rattle.plex_board.proofs.ShellLaws.Keeping.{IsQuiet, IsTraced, IsKept}
-pub use Rattle.plex_board.proofs.ShellLaws.Moves.{Move, Change, stands_in}
+pub use Rattle.plex_board.proofs.ShellLaws.Keeping.{IsTraced, IsKept}
+pub use Rattle.plex_board.specs.ShellLaws.Departures.{IsQuiet, stands_in}
+pub use Rattle.plex_board.proofs.ShellLaws.Moves.{Move, Change}
 pub use Rattle.plex_board.proofs.ShellLaws.Moves.Change.{Done, Quiet}
 pub use Rattle.plex_board.proofs.ShellLaws.Moves.Move.{Same, Left, Returned, Forgotten, Cleared}
 pub use Rattle.plex_board.proofs.ShellLaws.ReplayLaws.{traced-replay, legal-answered, kept-replay}
@@ -53,7 +54,7 @@ pub use Rattle.run_laws.specs.CacheApplied.{IsHeldAfter, content_applied, copies
 pub use Rattle.run_laws.specs.CacheHistories.{CacheHistory, IsWithin, CacheEntry, capacity_after, content_after, Accepted, acceptance_of, IsLegalCache, is_accepted, is_allocated, StaysAllocated}
 pub use Rattle.run_laws.specs.Copies.{copy_held, copy_at, copy_of, IsAsRead, IsFresh, TellsFresh}
 pub use Rattle.run_laws.specs.Entries.{step_at, replies_of}
-pub use Rattle.run_laws.specs.ListApplied.{opened, told_from, told_then}
+pub use Rattle.run_laws.specs.ListApplied.{told_from, told_then}
 pub use Rattle.run_laws.specs.ListHistories.{ListEntry, ListHistory, told_by, told_in, IsLegalList}
 pub use Rattle.run_laws.specs.LockApplied.Deed.{Returns}
 pub use Rattle.run_laws.specs.LockHistories.{LockHistory}

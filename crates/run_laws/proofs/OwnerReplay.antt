@@ -1,5 +1,5 @@
 -- After every history, and after every command, any two owners of one resource are compatible.
-use Rattle.run_laws.proofs.Imports.{◌≡◌, ℕ, ◌+◌, ◌≤◌, Bool, List, [], ◌∷◌, Option, None, refl, sym, subst, arith, fold, nat_tests, Caps, StrForm, LockCmd, ConnId, Refusal, Held, new_held, first_refusal, OwnersAreCompatible, records_in, lock_meaning, departure_of, with_returned, records_refusal, none_hold, led_departed, content-returned, compatible-interests, IsKept, kept-replay, Returns, LockHistory, unless_false}
+use Rattle.run_laws.proofs.Imports.{◌≡◌, ℕ, ◌+◌, ◌≤◌, Bool, List, [], ◌∷◌, Option, None, refl, sym, subst, arith, fold, nat_tests, Caps, StrForm, LockCmd, ConnId, Refusal, Held, Shape, first_refusal, OwnersAreCompatible, records_in, lock_meaning, departure_of, with_returned, records_refusal, none_hold, led_departed, content-returned, compatible-interests, IsKept, kept-replay, Returns, LockHistory, unless_false}
 use Rattle.plex_board.specs.LockModel.Contents.{Content, IsContent, no_content}
 use Rattle.plex_board.specs.LockModel.Step.{cause, done}
 use Rattle.plex_board.proofs.{LockModel.CommandLaws.content-done, LockModel.EngineLaws.content-nothing}
@@ -75,18 +75,20 @@ owners_replay form history =
 
 -- ---- after every command
 
-locks_after : (held : Held Content) (deed : Deed) → AreLocks held.state → AreLocks (after_deed held deed).state
-locks_after held (Calls by cmd) are = grind (arith, locks_done)
-locks_after held (Leaves conn keep) are = locks_left held.state conn keep are
-locks_after held (Returns conn) are = locks_back held.state conn are
+locks_after : (shape : Shape) (content : Content) (deed : Deed) → AreLocks content
+    → AreLocks (after_deed shape content deed)
+locks_after shape content (Calls caps by cmd) are = grind (arith, locks_done)
+locks_after shape content (Leaves conn keep) are = locks_left content conn keep are
+locks_after shape content (Returns conn) are = locks_back content conn are
 
-locks_run : (held : Held Content) (deeds : List Deed) → AreLocks held.state
-    → AreLocks (fold after_deed held deeds).state
-locks_run held [] are = are
-locks_run held (deed ∷ deeds) are = locks_run (after_deed held deed) deeds (locks_after held deed are)
+locks_run : (shape : Shape) (content : Content) (deeds : List Deed) → AreLocks content
+    → AreLocks (fold (after_deed shape) content deeds)
+locks_run shape content [] are = are
+locks_run shape content (deed ∷ deeds) are =
+    locks_run shape (after_deed shape content deed) deeds (locks_after shape content deed are)
 
 pub owners_applied : (held : Held Content) (deeds : List Deed) (by : ConnId) (cmd : LockCmd) → IsHeldAfter deeds held
     → OwnersAreCompatible (content_applied held by cmd)
 owners_applied held deeds by cmd led = compatible (content_applied held by cmd)
-    (locks_after held (Calls by cmd) (subst (λ (h : Held Content). AreLocks h.state) (sym led)
-    (locks_run (new_held lock_meaning held.shape held.caps) deeds none_are)))
+    (locks_after held.shape held.state (Calls held.caps by cmd)
+    (subst AreLocks (sym led) (locks_run held.shape no_content deeds none_are)))

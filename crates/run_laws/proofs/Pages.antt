@@ -17,10 +17,10 @@ module _ (form : StrForm) (name : Name16) (page : Page) where
     own : uncast name ≡ Some (uncast_page page cast)
 
   -- one more deed, at whatever capacity, after which the page is still uncast
-  keeps_deed : (caps : Caps) (before after : Content) (cast : Bool) (uncast : Uncasts) (deed : Deed)
-      → IsOrderly before → AllKept before uncast → after ≡ after_deed form.vector caps before deed
-      → uncast_after form.vector caps before uncast deed name ≡ Some (uncast_page page cast) → Keeps after cast
-  keeps_deed caps before after cast uncast deed is all then own = grind (arith, AllKept, deed-kept)
+  keeps_deed : (before after : Content) (cast : Bool) (uncast : Uncasts) (deed : Deed)
+      → IsOrderly before → AllKept before uncast → after ≡ after_deed form.vector before deed
+      → uncast_after form.vector before uncast deed name ≡ Some (uncast_page page cast) → Keeps after cast
+  keeps_deed before after cast uncast deed is all then own = grind (arith, AllKept, deed-kept)
 
   keeps_done : (caps : Caps) (before after : Content) (by : ConnId) (cmd : CacheCmd) (cast : Bool) (uncast : Uncasts)
       → cause form.vector caps before by cmd ≡ None → after ≡ (done caps before by cmd).state → IsOrderly before
@@ -29,7 +29,7 @@ module _ (form : StrForm) (name : Name16) (page : Page) where
     uncast = uncast_done cmd uncast;
     all = subst (λ (c : Content). AllKept c (uncast_done cmd uncast)) (sym then) (subst (λ (refused : Option Refusal).
         AllKept (unless_refused refused before (done caps before by cmd)).state (uncast_unless refused cmd uncast))
-        none (deed-kept form.vector caps before uncast (Calls by cmd) is.directory all));
+        none (deed-kept form.vector before uncast (Calls caps by cmd) is.directory all));
     own = own;
   }
 
@@ -95,7 +95,7 @@ module _ (form : StrForm) (name : Name16) (page : Page) where
       kept_move : Move cache_meaning form before after by told → Keeps after.content cast
       kept_move (Same e) = subst (λ (c : Content). Keeps c cast) (sym e) keeps
       kept_move (Left who command asked leaves e) =
-          keeps_deed form.caps before.content after.content cast keeps.uncast (Leaves who.conn) is keeps.all e keeps.own
+          keeps_deed before.content after.content cast keeps.uncast (Leaves who.conn) is keeps.all e keeps.own
       kept_move (Returned keep asked e) = subst (λ (c : Content). Keeps c cast) (sym e) keeps
       kept_move (Forgotten e) = grind (arith, keeps_deed)
       kept_move (Cleared e gone) = absurd (false≢true (sym gone ∙ stand))

@@ -44,10 +44,10 @@ orderly-kept form = record {
   empty = orderly-content form.caps no_content (content-nothing form.caps);
   done = λ caps content by command none is.
       subst (λ (refused : Option Refusal). IsOrderly (unless_refused refused content
-      (done caps content by command)).state) none (orderly-deed form.vector caps content (Calls by command) is);
-  leave = λ content conn keep is. orderly-deed form.vector form.caps content (Leaves conn) is;
+      (done caps content by command)).state) none (orderly-deed form.vector content (Calls caps by command) is);
+  leave = λ content conn keep is. orderly-deed form.vector content (Leaves conn) is;
   back = λ content conn is. is;
-  forget = λ content is. orderly-deed form.vector form.caps content Forgets is;
+  forget = λ content is. orderly-deed form.vector content Forgets is;
 }
 
 pub orderly_replay : (form : StrForm) (history : CacheHistory) → IsOrderly (content_after form history)

@@ -1,5 +1,5 @@
 -- After every legal history the version of each record is 1 plus the number of its updates.
-use Rattle.run_laws.proofs.Imports.{◌≡◌, ℕ, zero, suc, ◌+◌, ◌<◌, ◌≤◌, ◌==◌, ◌&&◌, Bool, true, false, cond, List, [], ◌∷◌, ◌++◌, Option, Some, None, option_map, length, length-append, append_assoc, append-nil, filter-append, nat_lt, replicate, refl, sym, ap, ◌∙◌, subst, arith, fold, list_all, and_parts, and_from, eqb-true, nat_tests, list_all-append, list_any-append, list_all-map, length-map, map-append, Caps, StrForm, ListCmd, Update, ConnId, EntryId, Shape, Held, shape_of, continues_legal, list_all-filter, list_all_weaker, all_found, found_passes, list_all-insertion, Record, Lists, all_records, lists_without, replaced_by, headers_of, the_record, with_record, list_meaning, causes, the_record-in, with-all, each-records, one-records, all-without, all-map, IsTraced, traced-replay, legal-answered, ListEntry, ListHistory, told_by, told_in, IsLegalList, opened, told_from, told_then, makes, updates, AreVersioned, IsVersioned, none_hold}
+use Rattle.run_laws.proofs.Imports.{◌≡◌, ℕ, zero, suc, ◌+◌, ◌<◌, ◌≤◌, ◌==◌, ◌&&◌, Bool, true, false, cond, List, [], ◌∷◌, ◌++◌, Option, Some, None, option_map, length, length-append, append_assoc, append-nil, filter-append, nat_lt, replicate, refl, sym, ap, ◌∙◌, subst, arith, fold, list_all, and_parts, and_from, eqb-true, nat_tests, list_all-append, list_any-append, list_all-map, length-map, map-append, Caps, StrForm, ListCmd, Update, ConnId, EntryId, Shape, Held, shape_of, continues_legal, list_all-filter, list_all_weaker, all_found, found_passes, list_all-insertion, Record, Lists, all_records, lists_without, replaced_by, headers_of, the_record, with_record, list_meaning, causes, the_record-in, with-all, each-records, one-records, all-without, all-map, IsTraced, traced-replay, legal-answered, ListEntry, ListHistory, told_by, told_in, IsLegalList, told_from, told_then, makes, updates, AreVersioned, IsVersioned, none_hold}
 use Rattle.std.proofs.lemmas.List.Sums.{length-filter, count_by-le-length}
 use Rattle.plex_board.specs.CfTypes.declared.list_commands.ListCmd.TheVariants.{Write, Move, Delete}
 use Rattle.plex_board.specs.ListModel.Contents.{Content, no_content}
@@ -197,25 +197,26 @@ versions_replay form history legal few = versioned (told_in history) (content_af
 
 -- ---- after every command
 
-abbrev AreGoodIn : List Told → Held Content → Type 0
-AreGoodIn told held = AreGood told held.state.next held.state.lists
+abbrev AreGoodIn : List Told → Content → Type 0
+AreGoodIn told content = AreGood told content.next content.lists
 
-deed_good : (held : Held Content) (deed : Deed) (told : List Told) → AreGoodIn told held
-    → AreGoodIn (told ++ told_of held deed ∷ []) (after_deed held deed)
-deed_good held _ told are = grind (arith, done_told, quiet_told)
+deed_good : (shape : Shape) (content : Content) (deed : Deed) (told : List Told) → AreGoodIn told content
+    → AreGoodIn (told ++ told_of shape content deed ∷ []) (after_deed shape content deed)
+deed_good shape content _ told are = grind (arith, done_told, quiet_told)
 
-deeds_good : (held : Held Content) (deeds : List Deed) (told : List Told) → AreGoodIn told held
-    → AreGoodIn (told ++ told_from held deeds) (fold after_deed held deeds)
-deeds_good held [] told are = subst (λ (l : List Told). AreGoodIn l held) (sym (append-nil told)) are
-deeds_good held (deed ∷ deeds) told are =
-    let next = after_deed held deed in
-    subst (λ (l : List Told). AreGoodIn l (fold after_deed next deeds)) (grind (arith, append_assoc))
-    (deeds_good next deeds (told ++ told_of held deed ∷ []) (deed_good held deed told are))
+deeds_good : (shape : Shape) (content : Content) (deeds : List Deed) (told : List Told) → AreGoodIn told content
+    → AreGoodIn (told ++ told_from shape content deeds) (fold (after_deed shape) content deeds)
+deeds_good shape content [] told are = subst (λ (l : List Told). AreGoodIn l content) (sym (append-nil told)) are
+deeds_good shape content (deed ∷ deeds) told are =
+    let next = after_deed shape content deed in
+    subst (λ (l : List Told). AreGoodIn l (fold (after_deed shape) next deeds)) (grind (arith, append_assoc))
+    (deeds_good shape next deeds (told ++ told_of shape content deed ∷ []) (deed_good shape content deed told are))
 
 pub versions_applied : (held : Held Content) (deeds : List Deed) (by : ConnId) (cmd : ListCmd)
     → IsHeldAfter deeds held → length (told_then held deeds by cmd) < 4294967295
     → AreVersioned (told_then held deeds by cmd) (content_applied held by cmd).lists
 versions_applied held deeds by cmd led =
-    let told = told_from (opened held) deeds in
-    versioned (told_then held deeds by cmd) (content_applied held by cmd) (deed_good held (Calls by cmd)
-    told (subst (AreGoodIn told) (sym led) (deeds_good (opened held) deeds [] (none_good [] held.shape))))
+    let told = told_from held.shape (no_content held.shape) deeds in
+    versioned (told_then held deeds by cmd) (content_applied held by cmd)
+    (deed_good held.shape held.state (Calls held.caps by cmd) told (subst (AreGoodIn told) (sym led)
+    (deeds_good held.shape (no_content held.shape) deeds [] (none_good [] held.shape))))

@@ -1,4 +1,5 @@
--- What a command leaves of a cache to which things were done before: commands, departures, and ends of registrations.
+-- What a command leaves of a cache to which things were done before: commands, each at a capacity of its own,
+-- departures, and ends of registrations.
 use Rattle.std.specs.Prelude.{◌≡◌, ℕ, List, [], ◌∷◌, ◌++◌, Some, None}
 use Rattle.plex_board.specs.CfTypes.declared.cache_commands.CacheCmd.{CacheCmd}
 use Rattle.plex_board.specs.CfTypes.declared.names.Name16.{Name16}
@@ -14,7 +15,7 @@ use Rattle.plex_board.specs.CacheModel.Uncast.{Uncasts, Kept, uncast_run}
 
 -- an engine that was empty at first holds this after these deeds
 abbrev pub IsHeldAfter : List Deed → Held Content → Type 0
-IsHeldAfter deeds held = held.state ≡ after_run held.shape.vector held.caps no_content deeds
+IsHeldAfter deeds held = held.state ≡ after_run held.shape.vector no_content deeds
 
 -- the directory and the registrations that the engine has once it was asked this
 abbrev pub content_applied : Held Content → ConnId → CacheCmd → Content
@@ -23,12 +24,12 @@ content_applied held by cmd = (answer cache_meaning held by cmd).held.state
 -- what each connector then has a copy of at each index, having had these copies when nothing was done yet
 abbrev pub copies_then : Held Content → Copies → List Deed → ConnId → CacheCmd → Copies
 copies_then held copies deeds by cmd =
-    copies_run held.shape.vector held.caps no_content copies (deeds ++ Calls by cmd ∷ [])
+    copies_run held.shape.vector no_content copies (deeds ++ Calls held.caps by cmd ∷ [])
 
 -- what is then written as changed and not cast out yet
 abbrev pub uncast_then : Held Content → List Deed → ConnId → CacheCmd → Uncasts
 uncast_then held deeds by cmd =
-    uncast_run held.shape.vector held.caps no_content (λ name. None) (deeds ++ Calls by cmd ∷ [])
+    uncast_run held.shape.vector no_content (λ name. None) (deeds ++ Calls held.caps by cmd ∷ [])
 
 -- at each index where a connector is registered for a name, it has a copy of what the name's row has
 abbrev pub AreFresh : Content → Copies → Type 0

@@ -20,7 +20,7 @@ pub fn versions(form: &StrForm, history: &History<ListCmd, ListReply>)
 {}
 
 /// The same of what an engine's `apply` leaves of a list structure that was empty at first,
-/// whatever commands, departures and returns came before.
+/// whatever commands, each at a capacity of its own, departures and returns came before.
 pub fn after_apply()
     ensures { (held : Held Content) (deeds : List Deed) (by : ConnId) (cmd : ListCmd)
         → IsHeldAfter deeds held → length (told_then held deeds by cmd) < 4294967295

@@ -1,10 +1,11 @@
-ghost use Rattle.std.specs.Prelude.{◌≡◌, List};
+ghost use Rattle.std.specs.Prelude.{◌≡◌, Bool, List};
 ghost use Rattle.plex_board.specs.CfTypes.declared.forms.Caps.{Caps};
 ghost use Rattle.plex_board.specs.CfTypes.declared.lock_commands.LockCmd.{LockCmd};
 ghost use Rattle.plex_board.specs.CfTypes.declared.numbers.ConnId.{ConnId};
 ghost use Rattle.plex_board.specs.EngineApi.Meaning.{Held};
 ghost use Rattle.plex_board.specs.EngineApi.declared.shapes.Shape.{Shape};
 ghost use Rattle.plex_board.specs.LockModel.Contents.{Content, OwnersAreCompatible};
+ghost use Rattle.plex_board.specs.LockModel.Meaning.{lock_meaning};
 ghost use Rattle.run_laws.specs.LockApplied.{Deed, IsHeldAfter, content_applied};
 ghost use Rattle.run_laws.specs.Entries.{step_at, replies_of};
 ghost use Rattle.run_laws.specs.LockHistories.{content_after};
@@ -19,7 +20,7 @@ pub fn owners_compatible(form: &StrForm, history: &History<LockCmd, LockReply>)
 {}
 
 /// The same of what an engine's `apply` leaves of a lock structure that was empty at first,
-/// whatever commands, departures and returns came before.
+/// whatever commands, each at a capacity of its own, departures and returns came before.
 pub fn after_apply()
     ensures { (held : Held Content) (deeds : List Deed) (by : ConnId) (cmd : LockCmd)
         → IsHeldAfter deeds held
@@ -27,12 +28,16 @@ pub fn after_apply()
 {}
 
 /// What a command answers, leaves and sends depends on how many records there may be, and not on
-/// the number of table entries; and so do all answers to a list of commands.
+/// the number of table entries, neither on that of the capacity nor on the one that the policy
+/// states, so that two structures that differ in it do the same; and so do all answers to a list of
+/// commands, and what a departure leaves and sends.
 pub fn table_entries_play_no_part()
     ensures step { (a b : Caps) → a.elements ≡ b.elements
-        → (shape : Shape) (content : Content) (by : ConnId) (cmd : LockCmd)
-        → step_at a shape content by cmd ≡ step_at b shape content by cmd }
+        → (one other : Shape) (content : Content) (by : ConnId) (cmd : LockCmd)
+        → step_at a one content by cmd ≡ step_at b other content by cmd }
     ensures replies { (a b : Caps) → a.elements ≡ b.elements
-        → (shape : Shape) (content : Content) (commands : List (ConnId × LockCmd))
-        → replies_of a shape content commands ≡ replies_of b shape content commands }
+        → (one other : Shape) (content : Content) (commands : List (ConnId × LockCmd))
+        → replies_of a one content commands ≡ replies_of b other content commands }
+    ensures leave { (one other : Shape) (content : Content) (conn : ConnId) (keep : Bool)
+        → lock_meaning.leave one content conn keep ≡ lock_meaning.leave other content conn keep }
 {}

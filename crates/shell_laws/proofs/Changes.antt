@@ -1,11 +1,11 @@
 -- What one entry does to a content, whatever its commands mean: a command is done; or, in an entry that does none, the
 -- content is left as it was, but for one connector that departs or comes back, ends its registrations, or is cleared,
 -- where no instance stands before it or after it.
-use Rattle.shell_laws.proofs.Imports.{arith, ◌≡◌, Bool, true, false, cond, [], Option, None, Some, is_some, refl, ap, false≢true, StrForm, CfId, ConnId, Refusal, ShellCmd, state_of, What, after_what, Machine, command_done, content_after, content_reply, departure_from, entered_machine, loss_step, room_of, step, unless, with_back_of, with_made, Meaning, unless_refused, shape_of, Leaver, Shell, content_cause, leaver, made_at, shell_cause, with_posted, Ask}
+use Rattle.shell_laws.proofs.Imports.{arith, ◌≡◌, Bool, true, false, cond, [], Option, None, Some, is_some, refl, ap, false≢true, StrForm, CfId, ConnId, Refusal, ShellCmd, state_of, What, after_what, Machine, command_done, content_after, content_reply, departure_from, entered_machine, loss_step, room_of, step, unless, with_back_of, with_made, Meaning, unless_refused, shape_of, Leaver, Shell, content_cause, leaver, made_at, shell_cause, with_posted, Ask, stands_in}
 use Rattle.shell_laws.proofs.Moves.Move.{Same, Left, Returned, Forgotten, Cleared}
 use Rattle.shell_laws.proofs.ShellMoves.Move.{Connects, Departs, Forces, Deallocates, Gives, Places, Fails}
 use Rattle.shell_laws.proofs.ShellMoves.{IsKnown, Move as ShellMove, Work, deeds_of, leaver_of, moved, standing_of}
-use Rattle.shell_laws.proofs.{Answered.reply_for, LossLaws.loss-cases, MoveLaws.made_under, Moves.stands_in, Moves.Move, Moves.Change}
+use Rattle.shell_laws.proofs.{Answered.reply_for, LossLaws.loss-cases, MoveLaws.made_under, Moves.Move, Moves.Change}
 use Rattle.shell_laws.proofs.{Moves.Change.Done, Moves.Change.Quiet, StepLaws.is_connection, StepLaws.move_by}
 
 module _ {C R I S : Type 0} (meaning : Meaning C R I S) (form : StrForm)

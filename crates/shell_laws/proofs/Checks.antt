@@ -2,26 +2,26 @@
 -- fails while the new instance is filled, and two in which a facility is varied off.
 use Rattle.shell_laws.proofs.Imports.{◌≡◌, ℕ, List, [], ◌∷◌, ◌++◌, Option, None, Some, take, true, false, refl, Event, Stage, Quiesce, Connect, Copy, Cleanup, Stopping, Caps, CfId, ConnId, ShellCmd, ShellReply, Entry, Rebuild, rebuild_told, Refusal, Ask, Reply, What}
 
-abbrev op : ConnId
+abbrev pub op : ConnId
 op = record { 0 = 0 }
 
-abbrev a : ConnId
+abbrev pub a : ConnId
 a = record { 0 = 1 }
 
-abbrev b : ConnId
+abbrev pub b : ConnId
 b = record { 0 = 2 }
 
-abbrev cf2 : CfId
+abbrev pub cf2 : CfId
 cf2 = record { 0 = 2 }
 
-abbrev both : List ConnId
+abbrev pub both : List ConnId
 both = a ∷ b ∷ []
 
 -- contents and their replies are numbers here
-abbrev Row : Type 0
+abbrev pub Row : Type 0
 Row = Entry ℕ ℕ
 
-abbrev said : ℕ → ConnId → ShellCmd → ShellReply → Row
+abbrev pub said : ℕ → ConnId → ShellCmd → ShellReply → Row
 said at by command answer =
     record { no = at; by = by; what = What.Call (Ask.Shell command); reply = Reply.Shell answer }
 
@@ -31,18 +31,18 @@ done at by = record { no = at; by = by; what = What.Call (Ask.Content 0); reply 
 abbrev event_taken : ℕ → ConnId → Event → Row
 event_taken at by taken = said at by ShellCmd.Next (ShellReply.Event taken)
 
-abbrev answered : ℕ → ConnId → Event → Row
+abbrev pub answered : ℕ → ConnId → Event → Row
 answered at by event = said at by ShellCmd.Respond (ShellReply.Responded event)
 
 abbrev no_event : ℕ → ConnId → Row
 no_event at by =
     record { no = at; by = by; what = What.Call (Ask.Shell ShellCmd.Next); reply = Reply.Refused Refusal.NoEvent }
 
-abbrev caps : Caps
+abbrev pub caps : Caps
 caps = record { entries = 10; elements = 10 }
 
 -- up to the first item that is copied
-abbrev begin : List Row
+abbrev pub begin : List Row
 begin = said 1 a (ShellCmd.Connect false) (ShellReply.OkNew (record { 0 = 1 })) ∷ said 2 b
     (ShellCmd.Connect false) (ShellReply.OkNew (record { 0 = 1 })) ∷ done 3 a ∷ done 4 b ∷ said
     5 op (ShellCmd.RebuildStart caps) (ShellReply.OkNumber 1) ∷ event_taken 6 a (Event.NewConn b) ∷ event_taken

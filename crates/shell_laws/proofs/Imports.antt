@@ -5,7 +5,13 @@ pub use Rattle.engine_api.proofs.Imports.{machine_after, replay, Continues, afte
 pub use Rattle.cf_lists.proofs.Imports.{pairwise}
 pub use Rattle.std.proofs.Common.{◌≡◌, List, [], ◌∷◌, ◌++◌, ap, subst, ℕ, Bool, true, false, IsTrue, Option, None, Some, refl, sym, arith, if◌then◌else◌, is_some, ◌≤◌, nat_lt, ◌&&◌, cond, is_none, ◌∙◌, take, inr, ◌||◌, ◌+◌, ◌⊎◌, inl, length, min, option_map, fold, ◌≢◌, not, filter, ◌==◌, append_assoc, append-nil}
 pub use Rattle.std.proofs.lemmas.Bool.{ltb-false, false≢true, both_ways, eq-eqb, false_from_ne_true, and_parts, eqb-true}
-pub use Rattle.std.specs.Prelude.{unwrap_or}
+pub use Rattle.std.specs.Prelude.{unwrap_or, set, slice_get, ◌<◌}
+pub use Rattle.cf_types.proofs.Imports.{list_all, list_any, sum_by, sum_by-cons, AllByRecursion, recursion_from_All, length-set}
+pub use Rattle.engine_api.proofs.Imports.{fold_push}
+pub use Rattle.cf_types.specs.ConnSets.{with_member}
+pub use Rattle.cf_types.specs.Forms.{IsFacility, IsForm, IsPref}
+pub use Rattle.cf_types.specs.declared.limits.TheConstants.{FACILITIES}
+pub use Rattle.engine_api.specs.Shell.{if_quiesced, is_off, is_severed, stands_at}
 pub use Rattle.cf_lists.proofs.FilterLaws.{filter-filter, filter_swap, any_is_found, all_found, filter_absorbed, list_all_weaker, none_from_all, filter_none, list_all-filter, found_passes}
 pub use Rattle.cf_types.proofs.ConnSetLaws.{filter_none_from}
 pub use Rattle.cf_types.proofs.ConnectionLaws.{defined_count-unconnected, gone-from_none_defined, actives-with_answer, actives-with_departure, actives-with_forced, is_active-within, is_member-actives}
@@ -24,14 +30,16 @@ pub use Rattle.engine_api.specs.declared.{asks.Ask.Ask, asks.Reply.Reply, asks.W
 pub use Rattle.engine_api.specs.declared.{deeds.Room.Room, histories.Entry.Entry, shapes.Shape.Shape}
 pub use Rattle.shell_laws.specs.Accepted.{accepted_as}
 pub use Rattle.shell_laws.specs.Capacities.{HasRoom, IsHeld, AreFitting, caps_behind, fresh_behind, fresh_caps}
+pub use Rattle.shell_laws.specs.Departures.{IsQuiet, IsDeparture, IsReturn, IsGone, stands_in}
+pub use Rattle.shell_laws.specs.Facts.{candidates_told, capacity_told, caps_by, caps_next, caps_past, copied_in, copied_told, failed_by, failed_next, failed_told, goes_behind, is_cleanup, is_end, is_failure, is_start, is_stopping, items_told, last_told, lost_told, behind_start, next_behind, quiesced_in, quiesced_told, reading_told, severs, told_by, told_from, told_next, varied_told, varies, with_behind}
 pub use Rattle.shell_laws.specs.Filling.{IsFilled, IsFilling}
-pub use Rattle.shell_laws.specs.History.{actives_after}
+pub use Rattle.shell_laws.specs.History.{actives_after, conns_after}
 pub use Rattle.shell_laws.specs.Members.{HasPlace, IsManned, IsPlaced, HasMembers, Somebody, IsPaired}
-pub use Rattle.shell_laws.specs.Readings.{rebuild_told, Reading, read_from, read_next, rebuild_of, awaited, begun, has_given, passed, read_behind, with_entry, with_stage, with_told}
+pub use Rattle.shell_laws.specs.Readings.{rebuild_told, Reading, read_from, read_next, read_past, rebuild_of, awaited, begun, has_given, passed, read_behind, with_entry, with_stage, with_told}
 pub use Rattle.shell_laws.specs.Steps.{rebuild_next, rebuild_given}
-pub use Rattle.shell_laws.specs.Stops.{KeepsTheOld}
-pub use Rattle.shell_laws.specs.Tellings.{Telling, telling_of, telling_entry, TellingEntry, is_awaited, mark_telling, telling}
-pub use Rattle.shell_laws.specs.Tellings.Telling.{Departs, Forces, Starts, Places, Stops, Fails, Nothing, Completes, Responds}
+pub use Rattle.shell_laws.specs.Stops.{KeepsTheOld, StopsKeepTheOld}
+pub use Rattle.shell_laws.specs.Tellings.{Telling, telling_of, telling_entry, TellingEntry, is_awaited, is_emptying, mark_telling, telling}
+pub use Rattle.shell_laws.specs.Tellings.Telling.{Departs, Forces, Starts, Places, Stops, Fails, Nothing, Completes, Responds, Copies, Deallocates}
 pub use Rattle.cf_lists.proofs.ImageLaws.{map-filtered}
 pub use Rattle.cf_lists.proofs.TableLaws.{set_same, get_within, get-set_same, get-set_other}
 pub use Rattle.cf_lists.proofs.InsertionLaws.{list_all-insertion}

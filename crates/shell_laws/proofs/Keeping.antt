@@ -1,7 +1,5 @@
 -- What is to be shown of what holds after every history.
-use Rattle.shell_laws.proofs.Imports.{◌≡◌, Bool, false, ◌&&◌, List, [], ◌∷◌, ◌++◌, None, Some, Caps, StrForm, ConnId, ShellCmd, Entry, Meaning, replay, shape_of, Leaver, leaver, accepted_as, Ask}
-use Rattle.engine_api.specs.declared.asks.What.TheVariants as what
-use Rattle.shell_laws.proofs.Moves.{stands_in}
+use Rattle.shell_laws.proofs.Imports.{◌≡◌, Bool, List, [], ◌∷◌, ◌++◌, None, Some, Caps, StrForm, ConnId, Entry, Meaning, replay, shape_of, Leaver, accepted_as, IsQuiet, IsDeparture, IsReturn, IsGone}
 
 module _ {C R I S : Type 0} (meaning : Meaning C R I S) (form : StrForm) where
   -- of a content alone: the empty one has it, and each step, departure, return and end of registrations keeps it
@@ -14,25 +12,6 @@ module _ {C R I S : Type 0} (meaning : Meaning C R I S) (form : StrForm) where
     pub back : (state : S) (conn : ConnId) → P state → P (meaning.back state conn)
     pub forget : (state : S) → P state → P (meaning.forget state)
 
-  -- the entry does no command on the content
-  abbrev pub IsQuiet : Entry C R → Type 0
-  IsQuiet entry = accepted_as entry.what entry.reply ≡ None
-
-  -- the entry is one by which a connector departs
-  pub record IsDeparture (history : List (Entry C R)) (entry : Entry C R) (who : Leaver) : Type 0 where
-    pub command : ShellCmd
-    pub asked : entry.what ≡ what.Call (Ask.Shell command)
-    pub leaves : leaver (replay meaning form history).shell entry.by command ≡ Some who
-
-  -- the caller of the entry comes back
-  pub record IsReturn (entry : Entry C R) : Type 0 where
-    pub keep : Bool
-    pub asked : entry.what ≡ what.Call (Ask.Shell (ShellCmd.Connect keep))
-
-  abbrev pub IsGone : (history : List (Entry C R)) → Entry C R → Type 0
-  IsGone history entry =
-      stands_in (replay meaning form history) && stands_in (replay meaning form (history ++ entry ∷ [])) ≡ false
-
   -- of a history and the content that it leaves: it holds before the first entry, and each entry keeps it, in whichever
   -- way it changes the content
   pub record IsTraced (P : List (Entry C R) → S → Type 0) : Type 0 where
@@ -43,14 +22,14 @@ module _ {C R I S : Type 0} (meaning : Meaning C R I S) (form : StrForm) where
         accepted_as entry.what entry.reply ≡ Some (record { command = command; answer = outcome.reply })
         → meaning.cause (shape_of form) before.shell.caps before.content entry.by command ≡ None
         → P history before.content → P (history ++ entry ∷ []) outcome.state
-    pub same : (history : List (Entry C R)) (entry : Entry C R) (state : S) → IsQuiet entry
+    pub same : (history : List (Entry C R)) (entry : Entry C R) (state : S) → IsQuiet meaning form entry
         → P history state → P (history ++ entry ∷ []) state
-    pub leave : (history : List (Entry C R)) (entry : Entry C R) (who : Leaver) (state : S) → IsQuiet entry
-        → IsDeparture history entry who → P history state
+    pub leave : (history : List (Entry C R)) (entry : Entry C R) (who : Leaver) (state : S) → IsQuiet meaning form entry
+        → IsDeparture meaning form history entry who → P history state
         → P (history ++ entry ∷ []) (meaning.leave (shape_of form) state who.conn who.keep).state
-    pub back : (history : List (Entry C R)) (entry : Entry C R) (state : S) → IsQuiet entry → IsReturn entry
+    pub back : (history : List (Entry C R)) (entry : Entry C R) (state : S) → IsQuiet meaning form entry → IsReturn meaning form entry
         → P history state → P (history ++ entry ∷ []) (meaning.back state entry.by)
-    pub forget : (history : List (Entry C R)) (entry : Entry C R) (state : S) → IsQuiet entry
+    pub forget : (history : List (Entry C R)) (entry : Entry C R) (state : S) → IsQuiet meaning form entry
         → P history state → P (history ++ entry ∷ []) (meaning.forget state)
-    pub clear : (history : List (Entry C R)) (entry : Entry C R) (state : S) → IsQuiet entry → IsGone history entry
+    pub clear : (history : List (Entry C R)) (entry : Entry C R) (state : S) → IsQuiet meaning form entry → IsGone meaning form history entry
         → P history state → P (history ++ entry ∷ []) (meaning.empty (shape_of form))

@@ -1,13 +1,19 @@
 pub mod Imports
 pub mod Checks
+pub mod FactChecks
 pub mod ReadingLaws
 pub mod CauseLaws
 pub mod LossLaws
+pub mod StopLaws
 pub mod ShellMoves
 pub mod StepLaws
 pub mod PlaceLaws
 pub mod MoveLaws
+pub mod FactLaws
 pub mod HistoryLaws
+pub mod KeptLaws
+pub mod ReachLaws
+pub mod QuiescedLaws
 pub mod MemberLaws
 pub mod FillingLaws
 pub mod CapacityLaws
@@ -17,3 +23,4 @@ pub mod Answered
 pub mod Keeping
 pub mod Changes
 pub mod ReplayLaws
+pub mod SeenLaws

@@ -1,9 +1,5 @@
 -- What an entry does to a content.
-use Rattle.shell_laws.proofs.Imports.{◌≡◌, Bool, false, ◌&&◌, is_some, None, Some, StrForm, ConnId, ShellCmd, Reply, What, Machine, Meaning, shape_of, Leaver, leaver, accepted_as, Ask}
-
--- an instance stands
-abbrev pub stands_in : {S : Type 0} → Machine S → Bool
-stands_in machine = is_some machine.shell.instances.primary
+use Rattle.shell_laws.proofs.Imports.{◌≡◌, Bool, false, ◌&&◌, None, Some, StrForm, ConnId, ShellCmd, Reply, What, Machine, Meaning, shape_of, Leaver, leaver, accepted_as, Ask, stands_in}
 
 module _ {C R I S : Type 0} (meaning : Meaning C R I S) (form : StrForm) where
   -- what an entry that does no command on the content leaves of it: the same, the same without one connector, or with

@@ -1,5 +1,5 @@
 -- What is read of a history, and what counters keep, with one entry more.
-use Rattle.shell_laws.proofs.Imports.{arith, ◌≡◌, Bool, true, false, cond, not, ◌&&◌, ◌||◌, ◌==◌, List, [], ◌∷◌, Option, None, Some, option_map, filter, refl, ap, ◌∙◌, unwrap_or, filter_agree, Stage, Quiesce, Connect, Copy, Cleanup, Stopping, ConnId, without_member, is_copy, filter-filter, filter_swap, Passed, No, next_stage, outcome, owing_after, rebuild_emptied, rebuild_in, rebuild_left, rebuild_onward, HasMembers, Reading, awaited, begun, has_given, passed, read_behind, read_next, rebuild_of, with_entry, with_stage, with_told, rebuild_given, rebuild_next, Telling, TellingEntry, is_awaited, Starts, Places, Stops, Departs, Forces, Fails, Nothing}
+use Rattle.shell_laws.proofs.Imports.{arith, ◌≡◌, Bool, true, false, cond, not, ◌&&◌, ◌||◌, ◌==◌, List, [], ◌∷◌, Option, None, Some, option_map, filter, refl, ap, ◌∙◌, unwrap_or, filter_agree, Stage, Quiesce, Connect, Copy, Cleanup, Stopping, ConnId, without_member, is_copy, filter-filter, filter_swap, Passed, No, next_stage, outcome, owing_after, rebuild_emptied, rebuild_in, rebuild_left, rebuild_onward, HasMembers, Reading, awaited, begun, has_given, passed, read_behind, read_next, rebuild_of, with_entry, with_stage, with_told, rebuild_given, rebuild_next, Telling, TellingEntry, is_awaited, Starts, Places, Copies, Stops, Departs, Forces, Deallocates, Fails, Nothing}
 
 filter_true : {X : Type 0} (xs : List X) → filter (λ x. true) xs ≡ xs
 filter_true [] = refl
@@ -98,7 +98,9 @@ told-next actives by Departs (Some read) going = past_as (with_told by Departs r
 told-next actives by Forces (Some read) going = forced read.stage by read going
 told-next actives by (Places cf) (Some read) going =
     given by (Places cf) (record read { place = Some (unwrap_or read.place cf) }) going
-told-next actives by Nothing (Some read) going = grind (arith, given_or_not)
+told-next actives by (Copies moved) (Some read) going = given_or_not by (Copies moved) read going false refl
+told-next actives by Deallocates (Some read) going = given_or_not by Deallocates read going false refl
+told-next actives by Nothing (Some read) going = given_or_not by Nothing read going false refl
 told-next actives by telling (Some read) going = given by telling read going
 told-next actives by _ None going = refl
 

@@ -1,9 +1,9 @@
 -- What each entry keeps holds after every history.
-use Rattle.shell_laws.proofs.Imports.{arith, ◌≡◌, List, [], ◌∷◌, ◌++◌, sym, subst, append_assoc, append-nil, StrForm, ConnId, Reply, What, Entry, after_what, replay, Continues, Machine, opening, Meaning, shape_of, replay-push}
+use Rattle.shell_laws.proofs.Imports.{arith, ◌≡◌, List, [], ◌∷◌, ◌++◌, sym, subst, append_assoc, append-nil, StrForm, ConnId, Reply, What, Entry, after_what, replay, Continues, Machine, opening, Meaning, shape_of, replay-push, stands_in}
 use Rattle.shell_laws.proofs.Keeping.{IsKept, IsTraced}
 use Rattle.shell_laws.proofs.Moves.Move.{Same, Left, Returned, Forgotten, Cleared}
 use Rattle.shell_laws.proofs.{MemberLaws.kept-manned, Answered.reply_for, Answered.AreAnswered, Answered.continues-answered, Changes.changed}
-use Rattle.shell_laws.proofs.{Moves.stands_in, Moves.Change, Moves.Change.Done, Moves.Change.Quiet}
+use Rattle.shell_laws.proofs.{Moves.Change, Moves.Change.Done, Moves.Change.Quiet}
 
 module _ {C R I S : Type 0} (meaning : Meaning C R I S) (form : StrForm)
     (unregistered : meaning.forget (meaning.empty (shape_of form)) ≡ meaning.empty (shape_of form)) where

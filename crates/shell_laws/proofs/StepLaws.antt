@@ -27,6 +27,11 @@ forces_told : (active : List ConnId) (by : ConnId) (rebuild : Option Rebuild)
     → emptied rebuild ≡ rebuild_next active by Telling.Forces rebuild
 forces_told active by rebuild = grind arith
 
+end_told : (active : List ConnId) (by : ConnId) (rebuild : Option Rebuild)
+    → rebuild ≡ rebuild_next active by Telling.Deallocates rebuild
+end_told active by None = refl
+end_told active by (Some rebuild) = refl
+
 fails_told : (active : List ConnId) (by : ConnId) (rebuild : Option Rebuild)
     → None ≡ rebuild_next active by Telling.Fails rebuild
 fails_told active by None = refl
@@ -278,8 +283,13 @@ module _ (form : StrForm) (room : Room) (judged : Shell) (letters : List Letter)
   moves_copy : (n : ℕ) (rebuild : Option Rebuild) → judged.rebuild ≡ rebuild → IsTaken (ShellCmd.Copy n)
       → Moves (ShellCmd.Copy n) (shell_done form room shell by (ShellCmd.Copy n))
   moves_copy n None is fine = absurd (let wrong = rw is at ((none (ShellCmd.Copy n) fine).1.1.1.0) in cc)
-  moves_copy n (Some rebuild) is fine = unheard form room s HasPlaces by false (Move.Copies n)
-      None _ _ refl refl tt (λ places sound. rw is (copy, rw copy at (subst HasPlace is sound.placed)))
+  moves_copy n (Some rebuild) is fine = record {
+    move = Move.Copies n;
+    does = refl;
+    known = tt;
+    tells = rw is refl;
+    allows = λ places sound. rw is (copy, rw copy at (subst HasPlace is sound.placed));
+  }
     where
       copy : rebuild.stage ≡ Stage.Copy
       copy = grind (arith, copy_is, none)
@@ -349,8 +359,13 @@ module _ (form : StrForm) (room : Room) (judged : Shell) (letters : List Letter)
 
       active : actives conns ≡ actives judged.conns
       active = grind (arith, actives-with_forced, none)
-  moves-command ShellCmd.ForceStr fine = unheard form room s HasPlaces by false
-      Move.Deallocates None 0 _ refl refl tt (grind (arith, none_active, nothing_left, none))
+  moves-command ShellCmd.ForceStr fine = record {
+    move = Move.Deallocates;
+    does = refl;
+    known = tt;
+    tells = end_told s.active by s.rebuild;
+    allows = grind (arith, none_active, nothing_left, none);
+  }
   moves-command (ShellCmd.Vary cf true) fine = moves-loss form room (with_off cf true shell) HasPlaces by cf
   moves-command (ShellCmd.Vary cf false) fine = dull form room s HasPlaces by false _ refl refl
   moves-command ShellCmd.DuplexStart fine = moves_duplex fine

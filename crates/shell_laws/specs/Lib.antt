@@ -1,5 +1,6 @@
 pub mod Tellings
 pub mod Readings
+pub mod Facts
 pub mod Steps
 pub mod History
 pub mod Members
@@ -7,3 +8,5 @@ pub mod Filling
 pub mod Capacities
 pub mod Stops
 pub mod Accepted
+pub mod Departures
+pub mod Sees

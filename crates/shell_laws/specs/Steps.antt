@@ -5,7 +5,7 @@ use Rattle.cf_types.specs.declared.numbers.ConnId.{ConnId}
 use Rattle.engine_api.specs.RebuildCore.declared.rebuild.Rebuild.{Rebuild}
 use Rattle.engine_api.specs.RebuildCore.Stages.{new_rebuild, rebuild_in, without_owing, rebuild_without, rebuild_onward, rebuild_emptied, with_place}
 use Rattle.shell_laws.specs.Tellings.{Telling, is_awaited}
-use Rattle.shell_laws.specs.Tellings.Telling.{Starts, Places, Completes, Responds, Stops, Departs, Forces, Fails, Nothing}
+use Rattle.shell_laws.specs.Tellings.Telling.{Starts, Places, Copies, Completes, Responds, Stops, Departs, Forces, Deallocates, Fails, Nothing}
 
 -- a connector gave what the stage waits for, if it does
 abbrev pub rebuild_given : Bool → ConnId → Rebuild → Option Rebuild
@@ -17,12 +17,14 @@ abbrev pub rebuild_by : ConnId → Telling → Rebuild → Option Rebuild
 rebuild_by by (Starts number caps) rebuild = Some rebuild
 rebuild_by by (Places cf) rebuild =
     rebuild_given (is_awaited rebuild.stage rebuild.number (Places cf)) by (with_place cf rebuild)
+rebuild_by by (Copies moved) rebuild = Some rebuild
 rebuild_by by Completes rebuild = rebuild_given (is_awaited rebuild.stage rebuild.number Completes) by rebuild
 rebuild_by by (Responds event) rebuild =
     rebuild_given (is_awaited rebuild.stage rebuild.number (Responds event)) by rebuild
 rebuild_by by Stops rebuild = Some (rebuild_in Stopping rebuild)
 rebuild_by by Departs rebuild = rebuild_onward (rebuild_without by rebuild)
 rebuild_by by Forces rebuild = Some (rebuild_emptied rebuild.stage rebuild)
+rebuild_by by Deallocates rebuild = Some rebuild
 rebuild_by by Fails rebuild = None
 rebuild_by by Nothing rebuild = Some rebuild
 

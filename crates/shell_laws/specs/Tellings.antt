@@ -1,4 +1,4 @@
--- What entries of a history tell of a rebuild.
+-- What entries of a history tell of a rebuild, and of the end of a structure.
 use Rattle.std.specs.Prelude.{ℕ, Bool, true, false}
 use Rattle.cf_types.specs.declared.events.Event.{Event}
 use Rattle.cf_types.specs.declared.events.Stage.{Stage}
@@ -19,16 +19,18 @@ use Rattle.engine_api.specs.declared.histories.Entry.{Entry}
 use Rattle.engine_api.specs.RebuildCore.Stages.{is_response}
 
 -- what an accepted command tells: that a rebuild starts, with its number and capacity; where the new instance is; that
--- a caller completed its part, or responded to an event; that the rebuild is stopped, the caller departs, a failed
--- connection is forced away, or the structure fails
+-- so many items are copied; that a caller completed its part, or responded to an event; that the rebuild is stopped, the
+-- caller departs, a failed connection is forced away, the structure is forced away, or it fails
 pub data Telling : Type 0 where
   Starts : ℕ → Caps → Telling
   Places : CfId → Telling
+  Copies : ℕ → Telling
   Completes : Telling
   Responds : Event → Telling
   Stops : Telling
   Departs : Telling
   Forces : Telling
+  Deallocates : Telling
   Fails : Telling
   Nothing : Telling
 
@@ -41,12 +43,14 @@ mark_telling _ = Nothing
 abbrev pub telling : ShellCmd → ShellReply → Telling
 telling (cmd.RebuildStart caps) (shown.OkNumber number) = Starts number caps
 telling cmd.RebuildConnect (shown.OkAt cf) = Places cf
+telling (cmd.Copy n) (shown.Copied moved left) = Copies moved
 telling cmd.RebuildComplete shown.Ok = Completes
 telling cmd.Respond (shown.Responded event) = Responds event
 telling cmd.RebuildStop shown.Ok = Stops
 telling cmd.Disconnect shown.Ok = Departs
 telling cmd.Fail shown.Ok = Departs
 telling (cmd.ForceConn conn) shown.Ok = Forces
+telling cmd.ForceStr shown.Ok = Deallocates
 telling (cmd.Vary cf off) answer = mark_telling answer
 telling _ _ = Nothing
 

@@ -18,6 +18,13 @@ pub use Rattle.engine_api.proofs.NumberLaws.{number_added, numbered_legal, lengt
 pub use Rattle.engine_api.specs.declared.{asks.Ask.Ask, asks.Reply.Reply, histories.Entry.Entry}
 pub use Rattle.struct_machine.proofs.ChangeLaws.{untouched_same}
 pub use Rattle.struct_machine.specs.CfLink.declared.links.Links.{Links}
+pub use Rattle.struct_machine.specs.CfLink.Links.{link_at}
+pub use Rattle.struct_machine.specs.CfLink.Tells.{TellsEnough}
+pub use Rattle.struct_machine.proofs.CfLink.LinkLaws.{asked_calls, asked_faults, asked_told}
+pub use Rattle.struct_machine.proofs.ShellLaws.{HistoryLaws.rebuild-legal, StopLaws.stops-legal}
+pub use Rattle.struct_machine.specs.ShellLaws.History.{actives_after}
+pub use Rattle.struct_machine.specs.ShellLaws.Readings.{rebuild_told}
+pub use Rattle.struct_machine.specs.ShellLaws.Stops.{StopsKeepTheOld}
 pub use Rattle.struct_machine.specs.StructureView.{StructureView, stands_at}
 pub use Rattle.struct_machine.specs.declared.marks.Mark.{Mark}
 pub use Rattle.vec_words.proofs.Commits.{commits-commit, committed-all}
@@ -30,6 +37,7 @@ pub use Rattle.struct_cell.specs.Calls.{reply_to}
 pub use Rattle.struct_cell.specs.Cells.{About, commit_of, IsCell, Shows, own_call_of, shown_after, shown_below}
 pub use Rattle.struct_cell.specs.Journals.{reply_for, reply_at}
 pub use Rattle.struct_cell.specs.Limits.{AreMadeBelow}
+pub use Rattle.struct_cell.specs.LinkCounts.{IsCountedAs}
 pub use Rattle.struct_cell.specs.Marks.{entered, with_entry}
 pub use Rattle.struct_cell.specs.Telling.{IsTold}
 pub use Rattle.struct_cell.specs.Touches.{VectorWords, AreOfTable, AreWordsOf, word_at, AreMirrorsOf, MirrorWords, with_told, AreSpotted, ComeBefore, IsOfTable}

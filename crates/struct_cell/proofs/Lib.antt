@@ -9,4 +9,5 @@ pub mod MirrorLaws
 pub mod ShownLaws
 pub mod TurnLaws
 pub mod KeptLaws
+pub mod LinkLaws
 pub mod ToldLaws

@@ -1,5 +1,6 @@
 -- What a cell's history tells of passes: their tests, their calls, and the replies of these.
-use Rattle.struct_cell.proofs.Imports.{◌≡◌, ℕ, ◌+◌, ◌-◌, ◌/◌, ◌<◌, ◌≤◌, ◌==◌, inl, inr, Bool, true, false, nat_lt, List, [], ◌∷◌, length, get_or, take, map, filter, All, refl, sym, ap, subst, ◌∙◌, arith, Contains, Option, nat_tests, length-map, get_or-map, All-map, All-weaker, ConnId, Entry, Meaning, Call, calls, numbers, own, IsPoint, stands_after, last_call_below, StructureView, bits_at, Sight, steps_of, calls_in, word_number, words_of, bit_in, IsIssued, IsHonest, WordTable, SeatSeen, PassSeen, IsShown, committed-all, numbered_legal, CellKey, About, own_call_of, commit_of, IsCell, shown_after, shown_below, VectorWords, IsTold, zero, suc, None, Some, option_and_then, slice_get, number_legal, calls_of, reply_for, reply_at, reply_to}
+use Rattle.struct_cell.proofs.Imports.{◌≡◌, ℕ, ◌+◌, ◌-◌, ◌/◌, ◌<◌, ◌≤◌, ◌==◌, inl, inr, Bool, true, false, nat_lt, List, [], ◌∷◌, length, get_or, take, map, filter, All, refl, sym, ap, subst, ◌∙◌, arith, Contains, Option, nat_tests, length-map, get_or-map, All-map, All-weaker, ConnId, Entry, Meaning, Call, calls, numbers, own, IsPoint, stands_after, last_call_below, StructureView, bits_at, Sight, steps_of, calls_in, word_number, words_of, bit_in, IsIssued, IsHonest, WordTable, SeatSeen, PassSeen, IsShown, committed-all, numbered_legal, CellKey, About, own_call_of, commit_of, IsCell, shown_after, shown_below, VectorWords, IsTold, zero, suc, None, Some, option_and_then, slice_get, number_legal, calls_of, reply_for, reply_at, reply_to, actives_after, rebuild_told, replay, rebuild-legal, stops-legal, StopsKeepTheOld, TellsEnough, Links, CfId, IsFacility, IsCountedAs, answers, marks_at, link_at, StrForm}
+use Rattle.struct_cell.proofs.LinkLaws.{counted_links}
 
 module _ {C R : Type 0} where
   -- a call's number is among the numbers
@@ -153,6 +154,31 @@ module _ {C R I S L : Type 0} (asks : L → Option ℕ) (downs : L → Option (L
       subst (λ (it : CellKey C R L). All (IsTold meaning it.form history pass.owner) pass.tests) key_is
       (subst (λ (h : List (Entry C R)). All (IsTold meaning key.form h pass.owner) pass.tests) (sym history_is)
       (tests_told asks downs faults meaning key limit standing touched journal seat cell pass table (shown k d below)))
+
+  abbrev pub RebuildIsTold : StrForm → List (Entry C R) → Type 0
+  RebuildIsTold form h = (replay meaning form h).shell.rebuild ≡ rebuild_told (actives_after meaning form) h
+
+  -- the journal's laws, of the history
+  of_history : (Holds : StrForm → List (Entry C R) → Type 0) → Holds key.form journal → Holds seen.form history
+  of_history Holds is = subst (λ (it : CellKey C R L). Holds it.form history) key_is
+      (subst (Holds key.form) (sym history_is) is)
+
+  pub closed_rebuild : RebuildIsTold seen.form history
+  closed_rebuild = of_history RebuildIsTold (rebuild-legal meaning key.form journal cell.legal)
+
+  pub closed_stops : StopsKeepTheOld meaning seen.form history
+  closed_stops = of_history (StopsKeepTheOld meaning) (stops-legal meaning key.form journal cell.legal)
+
+  pub closed_links : ((link : L) → TellsEnough (asks link) (downs link)) → (new : Links L) → new ≡ standing.links
+      → (cf : CfId) → IsFacility cf → IsCountedAs asks downs faults (answers meaning seen.form history cf)
+      (marks_at history cf) (link_at seen.links cf) (link_at new cf)
+  closed_links enough new same = subst (λ (links : Links L). (cf : CfId) → IsFacility cf → IsCountedAs asks downs faults
+      (answers meaning seen.form history cf) (marks_at history cf) (link_at seen.links cf) (link_at links cf)) (sym same)
+      (subst (λ (it : CellKey C R L). (cf : CfId) → IsFacility cf → IsCountedAs asks downs faults
+      (answers meaning it.form history cf) (marks_at history cf) (link_at it.links cf) (link_at standing.links cf)) key_is
+      (subst (λ (h : List (Entry C R)). (cf : CfId) → IsFacility cf → IsCountedAs asks downs faults
+      (answers meaning key.form h cf) (marks_at h cf) (link_at key.links cf) (link_at standing.links cf)) (sym history_is)
+      (counted_links asks downs faults enough meaning key.form journal cell.legal key.links standing.links cell.links)))
 
 -- the passes' table, by another name
 pub same_tables : {D : Type 0} (words other : WordTable) (passes same : List (PassSeen D)) → words ≡ other

@@ -8,6 +8,7 @@ pub mod Touches
 pub mod Limits
 pub mod Cells
 pub mod Telling
+pub mod LinkCounts
 pub mod Calls
 pub mod Marks
 pub mod Journals

@@ -2,20 +2,26 @@
 ghost use Rattle.std.specs.Prelude.{◌≡◌, ◌+◌, ◌<◌, ◌≤◌, ◌++◌, ◌≢◌, ℕ, [], ◌∷◌, IsTrue, IfOk, IfErr, IfSome, Err, Some, All, length, map, max, option_map, is_some, true, false};
 ghost use Rattle.std.specs.List.{range_with_len};
 ghost use Rattle.cf_types.specs.declared.limits.TheConstants.{CONNECTORS};
-ghost use Rattle.struct_machine.specs.CfLink.Links.{AreAsked};
-ghost use Rattle.cf_types.specs.Forms.{IsForm};
+ghost use Rattle.cf_types.specs.declared.numbers.CfId.{CfId};
+ghost use Rattle.struct_machine.specs.CfLink.Links.{AreAsked, link_at};
+ghost use Rattle.cf_types.specs.Forms.{IsFacility, IsForm};
+ghost use Rattle.cf_types.specs.NoMemory.Wants.{want};
 ghost use Rattle.engine_api.specs.Asking.{MayAsk};
-ghost use Rattle.engine_api.specs.Answers.{answers};
+ghost use Rattle.engine_api.specs.Answers.{answers, marks_at};
 ghost use Rattle.engine_api.specs.History.{calls, numbers, own, replay, IsLegal, IsPoint};
 ghost use Rattle.engine_api.specs.Meaning.{items_of};
 ghost use Rattle.engine_api.specs.Rebuilds.{fresh_of};
 ghost use Rattle.engine_api.specs.Shapes.{shape_of};
 ghost use Rattle.struct_machine.specs.ShellLaws.Capacities.{fresh_caps};
+ghost use Rattle.struct_machine.specs.ShellLaws.History.{actives_after};
+ghost use Rattle.struct_machine.specs.ShellLaws.Readings.{rebuild_told};
+ghost use Rattle.struct_machine.specs.ShellLaws.Stops.{StopsKeepTheOld};
 ghost use Rattle.vec_words.specs.Logged.{count_of};
 ghost use Rattle.vec_words.specs.Tokens.{new_pass, learned_pass};
 ghost use Rattle.struct_cell.specs.Cells.{own_call_of, IsCell};
 ghost use Rattle.struct_cell.specs.Calls.{IsAnswered, IsLater, reply_to};
 ghost use Rattle.struct_cell.specs.Limits.{AreMadeBelow};
+ghost use Rattle.struct_cell.specs.LinkCounts.{IsCountedAs};
 ghost use Rattle.struct_cell.specs.Telling.{IsTold};
 ghost use Rattle.struct_machine.specs.StructureView.{copied_items};
 ghost use Rattle.struct_cell.specs.declared.refused.CallRefused.TheVariants as refused;
@@ -84,14 +90,14 @@ impl<E: Engine, L: Link> Drop for Cell<E, L> {
 impl<E: Engine, L: Link> Cell<E, L> {
     /// A cell of a structure without calls yet, with a pass for each caller from the operator, 0,
     /// on. A call is made where its journal has fewer than `limit` entries. Where there is no memory
-    /// the links come back.
+    /// the links come back, with the cause.
     pub fn start(
         alloc: Global,
         form: StrForm,
         callers: u8,
         limit: u32,
         links: Links<L>,
-    ) -> Result<(Cell<E, L>, Vec<Pass<(Ask<E::Cmd>, Reply<E::Reply>)>>), Links<L>>
+    ) -> Result<(Cell<E, L>, Vec<Pass<(Ask<E::Cmd>, Reply<E::Reply>)>>), (Links<L>, NoMemory)>
         requires formed { IsForm form }
         requires kind { IsTrue (E.is_kind form.kind) }
         requires callers { callers ≤ CONNECTORS }
@@ -107,14 +113,16 @@ impl<E: Engine, L: Link> Cell<E, L> {
             × (r.0.words.len ≡ form.vector)) }
         ensures passes { IfOk result (λ r. r.1.items ≡ map (new_pass r.0.words)
             (range_with_len 0 (callers + 1))) }
-        ensures handed_back { IfErr result (λ back. back ≡ links) }
+        ensures handed_back { IfErr result (λ back. back.0 ≡ links) }
     {
         let len = form.vector;
-        let Ok(touched) = Touched::none(alloc, callers, len) else {
-            return Err(links);
+        let touched = match Touched::none(alloc, callers, len) {
+            Ok(touched) => touched,
+            Err(cause) => return Err((links, cause)),
         };
-        let Ok((vectors, seat, passes)) = Vectors::start(alloc, callers, len) else {
-            return Err(links);
+        let (vectors, seat, passes) = match Vectors::start(alloc, callers, len) {
+            Ok(started) => started,
+            Err(cause) => return Err((links, cause)),
         };
         let machine = Machine::start(alloc, form, callers, links)?;
         let inside = Inside {
@@ -127,7 +135,7 @@ impl<E: Engine, L: Link> Cell<E, L> {
         };
         match KeyLock::boxed(alloc, inside) {
             Ok(lock) => Ok((Cell { lock, vectors }, passes)),
-            Err(Inside { machine, .. }) => Err(machine.into_parts().links),
+            Err((Inside { machine, .. }, cause)) => Err((machine.into_parts().links, cause)),
         }
     }
 
@@ -152,9 +160,9 @@ impl<E: Engine, L: Link> Cell<E, L> {
         ensures later { IfOk result (λ told. pass.old.known < told.no) }
         ensures answered { IfOk result (λ told. IsAnswered ask told pass.old pass.new) }
         ensures refused { IfErr result (λ _. IsLater pass.old pass.new) }
-        ensures no_memory { IfErr result (λ refusal. refusal ≡ refused.NoMemory
+        ensures no_memory { IfErr result (λ refusal. refusal ≡ refused.NoMemory want
             → pass.new ≡ pass.old) }
-        ensures full { IfErr result (λ refusal. refusal ≢ refused.NoMemory
+        ensures full { IfErr result (λ refusal. refusal ≢ refused.NoMemory want
             → (refusal ≡ refused.JournalFull self.now.limit) × (self.now.limit ≤ pass.new.known)) }
     {
         let (mut inside, ticket) = self.lock.take(rt);
@@ -180,9 +188,9 @@ impl<E: Engine, L: Link> Cell<E, L> {
         ensures later { IfOk result (λ told. pass.old.known < told.no) }
         ensures answered { IfOk result (λ told. IsAnswered ask told pass.old pass.new) }
         ensures refused { IfErr result (λ _. IsLater pass.old pass.new) }
-        ensures no_memory { IfErr result (λ refusal. refusal ≡ refused.NoMemory
+        ensures no_memory { IfErr result (λ refusal. refusal ≡ refused.NoMemory want
             → pass.new ≡ pass.old) }
-        ensures full { IfErr result (λ refusal. refusal ≢ refused.NoMemory
+        ensures full { IfErr result (λ refusal. refusal ≢ refused.NoMemory want
             → (refusal ≡ refused.JournalFull self.now.limit) × (self.now.limit ≤ pass.new.known)) }
     {
         let count = inside.journal.len();
@@ -286,7 +294,8 @@ impl<E: Engine, L: Link> Cell<E, L> {
     }
 
     /// Ends the cell. Of its history each pass has its owner's calls, and it says what the pass's
-    /// tests answered. It may wait for a turn, and takes no memory.
+    /// tests answered, what became of the rebuild, and how often each link was asked and was down.
+    /// It may wait for a turn, and takes no memory.
     pub fn close(
         self,
         rt: &impl Wait,
@@ -305,6 +314,12 @@ impl<E: Engine, L: Link> Cell<E, L> {
             × (pass.known ≤ length result.history)) passes.items }
         ensures links { AreAsked L.calls L.downs L.faults
             (answers E.meaning self.form result.history) self.links result.links }
+        ensures linked { (cf : CfId) → IsFacility cf → IsCountedAs L.calls L.downs L.faults
+            (answers E.meaning self.form result.history cf) (marks_at result.history cf)
+            (link_at self.links cf) (link_at result.links cf) }
+        ensures told { (replay E.meaning self.form result.history).shell.rebuild
+            ≡ rebuild_told (actives_after E.meaning self.form) result.history }
+        ensures stops { StopsKeepTheOld E.meaning self.form result.history }
         ensures first { is_some result.first ≡ is_some
             (replay E.meaning self.form result.history).shell.instances.primary }
         ensures content { IfSome result.first (λ engine. (E.held engine).state

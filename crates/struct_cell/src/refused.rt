@@ -5,7 +5,7 @@ use cf_types::NoMemory;
 use thiserror::Error;
 
 /// Why a call wasn't made. It stands in no journal then.
-#[derive(Clone, Copy, Debug, PartialEq, Eq, Error)]
+#[derive(Debug, Drop, PartialEq, Eq, Error)]
 pub enum CallRefused {
     /// The journal has as many entries as it may have, or more.
     #[error("the journal is full at {limit} entries")]
@@ -13,13 +13,13 @@ pub enum CallRefused {
 
     /// There was no memory for the call.
     #[error("out of memory")]
-    NoMemory,
+    NoMemory(NoMemory),
 }
 
 impl From<NoMemory> for CallRefused {
-    ghost from_gives = { λ _ refusal. refusal ≡ refused.NoMemory };
+    ghost from_gives = { λ cause refusal. refusal ≡ refused.NoMemory cause };
 
-    fn from(_: NoMemory) -> Self {
-        CallRefused::NoMemory
+    fn from(cause: NoMemory) -> Self {
+        CallRefused::NoMemory(cause)
     }
 }

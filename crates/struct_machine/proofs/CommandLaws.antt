@@ -220,13 +220,13 @@ module _ {C R I S : Type 0} (meaning : Meaning C R I S) (shelled : ShellView) (k
     -- so the call's outcome is the machine's
     pub command_same : (after : ShellOutcome) (f : StrForm) (now : Kept S) → after ≡ acted → f ≡ shelled.form
         → now ≡ past → record {
-      reply = Reply.Shell after.reply;
-      machine = record {
-        shell = after.shell;
-        content = state_in meaning f now.held;
-        copied = copied_in now.fresh;
-      };
-    } ≡ command_done meaning form machine by command
+          reply = Reply.Shell after.reply;
+          machine = record {
+            shell = after.shell;
+            content = state_in meaning f now.held;
+            copied = copied_in now.fresh;
+          };
+        } ≡ command_done meaning form machine by command
     command_same after f now acts same does = grind (arith, told, counted)
       where
         told : state_in meaning form now.held ≡ content_after meaning form rebuilding acted.deeds gone.state

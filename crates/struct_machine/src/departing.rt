@@ -1,5 +1,5 @@
 //! What comes before a command: a departure from the content.
-ghost use Rattle.std.specs.Prelude.{◌≡◌, ◌≤◌, ◌+◌, [], is_some, true, IfOk, OnOk, OnErr, length, option_map};
+ghost use Rattle.std.specs.Prelude.{◌≡◌, ◌≤◌, ◌+◌, [], is_some, true, OnOk, OnErr, length, option_map};
 ghost use Rattle.cf_types.specs.Forms.{IsCaller};
 ghost use Rattle.cf_types.specs.Gains.{Gains};
 ghost use Rattle.duplex_pair.specs.Pairs.{instances_of, content_of, bits_of, letters_on_leave};
@@ -21,7 +21,7 @@ use std::alloc::Global;
 
 /// Room for the letters of a command, and for those of another one: a call that may post leaves
 /// room for `ACT_LETTERS` behind.
-pub(crate) const READY_LETTERS: u32 = 2 * ACT_LETTERS;
+pub(crate) const READY_LETTERS: usize = 2 * ACT_LETTERS;
 
 // Who departs leaves the content first, where an instance stands; room for the command's own
 // letters is taken in any case. The effects name the bits that the departure changed.
@@ -68,7 +68,7 @@ pub(crate) fn depart_first<E: Engine, L: Link>(
 
 // Room for the letters of a command. One that may post leaves as much room behind, so that NEXT,
 // which posts nothing, finds it and takes none.
-fn letters_for(cmd: &ShellCmd) -> u32
+fn letters_for(cmd: &ShellCmd) -> usize
     ensures { ACT_LETTERS ≤ result }
 {
     match cmd {
@@ -111,11 +111,10 @@ fn leave_content<E: Engine, L: Link>(
     fresh_mail(alloc, out);
     content.renew(alloc);
     content.leave_ready(conn, out)?;
-    let letters = letter_count(out)?;
-    let Some(all) = letters.checked_add(READY_LETTERS) else {
-        return Err(NoMemory);
+    let Some(letters) = out.mail.room().checked_add(READY_LETTERS) else {
+        return Err(NoMemory::beyond_counts());
     };
-    shell.ready(all)?;
+    shell.ready(letters)?;
     content.leave(conn, keep, out);
     post_all(shell, out.mail.items());
     Ok(())
@@ -130,15 +129,5 @@ pub(crate) fn post_all(shell: &mut Shell, letters: &[Letter])
 {
     for letter in letters {
         shell.post(*letter);
-    }
-}
-
-// For how many letters the effects have room.
-pub(crate) fn letter_count(out: &Effects) -> Result<u32, NoMemory>
-    ensures { IfOk result (λ count. count ≡ out.now.mail.room) }
-{
-    match u32::try_from(out.mail.room()) {
-        Ok(count) => Ok(count),
-        Err(_) => Err(NoMemory),
     }
 }

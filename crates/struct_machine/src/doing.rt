@@ -22,7 +22,7 @@ use crate::asking::{Asked, ask_links};
 use crate::changed::Changed;
 use crate::content::Content;
 use crate::deeds::{do_deeds, make_engines};
-use crate::departing::{READY_LETTERS, depart_first, letter_count, post_all};
+use crate::departing::{READY_LETTERS, depart_first, post_all};
 use crate::losing::mark;
 use crate::marks::Marks;
 use cf_types::{Caps, ConnId, Effects, NoMemory, Refusal, ShellCmd};
@@ -34,11 +34,11 @@ use std::alloc::Global;
 
 // The most letters that two marks post. Room for them is taken with that for a command's own, or
 // for those that an engine sends, and with the room that stays behind.
-const MARK_LETTERS: u32 = 2 * ACT_LETTERS;
+const MARK_LETTERS: usize = 2 * ACT_LETTERS;
 
-const COPY_LETTERS: u32 = MARK_LETTERS + READY_LETTERS;
+const COPY_LETTERS: usize = MARK_LETTERS + READY_LETTERS;
 
-const CONTENT_LETTERS: u32 = MARK_LETTERS + ACT_LETTERS;
+const CONTENT_LETTERS: usize = MARK_LETTERS + ACT_LETTERS;
 
 // What commands on the content are judged by.
 const NO_ROOM: Room = Room {
@@ -188,11 +188,7 @@ fn command_looks(cmd: &ShellCmd) -> bool
 
 // What the instances know. The need, for which the whole content is gone through, is found only
 // where it is looked at.
-fn room_of<E: Engine, L: Link>(
-    shell: &Shell,
-    content: &Content<E, L>,
-    looks: bool,
-) -> Room
+fn room_of<E: Engine, L: Link>(shell: &Shell, content: &Content<E, L>, looks: bool) -> Room
     requires { AreOf E.meaning shell.now (kept_of E.held content.now) }
     ensures { result ≡ room_seen looks
         (room_in E.meaning shell.now (kept_of E.held content.now)) }
@@ -289,11 +285,10 @@ fn ready_letters(shell: &mut Shell, out: &Effects) -> Result<(), NoMemory>
     ensures shell { shell.new.shell ≡ shell.old.shell }
     ensures room { OnOk result (out.now.mail.room + MARK_LETTERS ≤ shell.new.room) }
 {
-    let letters = letter_count(out)?;
-    let Some(all) = letters.checked_add(CONTENT_LETTERS) else {
-        return Err(NoMemory);
+    let Some(letters) = out.mail.room().checked_add(CONTENT_LETTERS) else {
+        return Err(NoMemory::beyond_counts());
     };
-    shell.ready(all)
+    shell.ready(letters)
 }
 
 // The links of a command on the content are asked, and it is judged again behind what they tell,

@@ -74,21 +74,22 @@ impl<E: Engine, L: Link> Machine<E, L> {
     ///
     /// # Errors
     ///
-    /// The links, where memory lacks.
+    /// The links with the cause, where memory lacks.
     pub fn start(
         alloc: Global,
         form: StrForm,
         callers: u8,
         links: Links<L>,
-    ) -> Result<Machine<E, L>, Links<L>>
+    ) -> Result<Machine<E, L>, (Links<L>, NoMemory)>
         requires formed { IsForm form }
         requires kind { IsTrue (E.is_kind form.kind) }
         requires callers { callers ≤ CONNECTORS }
         ensures ok { IfOk result (λ machine. machine ≡ new_structure E.meaning form links) }
-        ensures err { IfErr result (λ back. back ≡ links) }
+        ensures err { IfErr result (λ back. back.0 ≡ links) }
     {
-        let Ok(shell) = Shell::start(alloc, form, callers) else {
-            return Err(links);
+        let shell = match Shell::start(alloc, form, callers) {
+            Ok(shell) => shell,
+            Err(cause) => return Err((links, cause)),
         };
         let content = Content::bare(alloc, links);
         Ok(Machine { shell, content })
@@ -154,14 +155,7 @@ impl<E: Engine, L: Link> Machine<E, L> {
         ensures err { OnErr result (self.new ≡ self.old) }
     {
         changed.clear();
-        answer(
-            alloc,
-            &mut self.shell,
-            &mut self.content,
-            changed,
-            by,
-            ask,
-        )
+        answer(alloc, &mut self.shell, &mut self.content, changed, by, ask)
     }
 
     /// The links that a call would ask: none where it is refused. Nothing is asked yet; `answer` asks

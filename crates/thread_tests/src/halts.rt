@@ -3,7 +3,7 @@ use plex_board::types::NoMemory;
 use std::alloc::{AllocError, AllocFailed};
 
 /// Why a caller went no further.
-#[derive(Clone, Copy, Debug, PartialEq, Eq)]
+#[derive(Debug, Drop, PartialEq, Eq)]
 pub enum Halt {
     /// A call wasn't made.
     Refused(CallRefused),

@@ -3,12 +3,13 @@ ghost use Rattle.plex_board.specs.EngineApi.Asking.{MayAsk};
 ghost use Rattle.thread_tests.specs.Seats.{IsSeat};
 
 use crate::halts::Halt;
+use plex_board::Desk;
 use plex_board::api::Ask;
 use plex_board::links::Steady;
 use plex_board::scripts::AnyAsk;
 use plex_board::types::{CacheCmd, Name16, ShellCmd, StrNo, parse_body};
 use plex_board::vectors::Tested;
-use plex_board::{Board, Desk};
+use plex_engines::Board;
 use std::alloc::Global;
 use std::sync::Wait;
 

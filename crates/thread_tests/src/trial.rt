@@ -1,5 +1,6 @@
+use plex_board::Desk;
 use plex_board::links::Steady;
-use plex_board::{Board, Desk};
+use plex_engines::Board;
 
 /// A board with one cache, and the desks of its callers.
 #[derive(Drop)]

@@ -11,10 +11,11 @@ ghost use Rattle.plex_board.specs.Boards.{IsPolicy};
 ghost use Rattle.two_members.specs.Members.{HasPool, IsMember, Stays, HasRead, HasTested, IsOutcome};
 
 use fault::Fault;
+use plex_board::Desk;
 use plex_board::links::Steady;
 use plex_board::scripts::{AnyHistory, Script, read};
 use plex_board::types::Kind;
-use plex_board::{Board, Desk};
+use plex_engines::Board;
 use plex_report::render;
 use roles::{COPY, GBP, reader, writer};
 use seen::Seen;

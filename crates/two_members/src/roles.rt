@@ -6,12 +6,13 @@ ghost use Rattle.two_members.specs.Members.{IsMember, Stays, HasRead, HasTested,
 
 use crate::fault::Fault;
 use crate::seen::Seen;
+use plex_board::Desk;
 use plex_board::api::Ask;
 use plex_board::links::Steady;
 use plex_board::scripts::AnyAsk;
 use plex_board::types::{CacheCmd, Name16, ShellCmd, StrNo, parse_body};
 use plex_board::vectors::Tested;
-use plex_board::{Board, Desk};
+use plex_engines::Board;
 use std::alloc::Global;
 use std::sync::Wait;
 use std::thread::yield_now;

@@ -63,12 +63,8 @@ impl<D> Vectors<D> {
         ensures passes { IfOk result (λ r. r.2.items ≡ map (new_pass r.0)
             (range_with_len 0 (conns + 1))) }
     {
-        let Ok((vectors, mut seat)) = Vectors::lay(alloc, conns, len) else {
-            return Err(NoMemory);
-        };
-        let Ok(passes) = vectors.passes(alloc, &mut seat) else {
-            return Err(NoMemory);
-        };
+        let (vectors, mut seat) = Vectors::lay(alloc, conns, len)?;
+        let passes = vectors.passes(alloc, &mut seat)?;
         Ok((vectors, EngineSeat { number: 0, seat }, passes))
     }
 

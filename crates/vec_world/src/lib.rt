@@ -10,7 +10,6 @@
 
 mod items;
 mod machine;
-mod no_memory;
 mod step;
 mod word;
 mod world;

@@ -47,6 +47,7 @@ pub(crate) fn act(rows: &mut Rows, by: ConnId, name: &Name16)
     requires { 1 ≤ rows.old.room }
     ensures rows { rows.new.rows ≡ rows_replaced (castout.row_with_hold by
         (row_or_new name.now 1 rows.old.rows)) rows.old.rows }
+    ensures entries { rows.new.entries ≡ rows.old.entries }
     ensures elements { rows.new.elements ≡ rows.old.elements }
 {
     rows.hold(by, name);

@@ -29,6 +29,7 @@ pub(crate) fn act(rows: &mut Rows, regs: &mut Regs, name: &Name16, out: &mut Eff
         out.new.bits.items }
     ensures mail { out.new.mail ≡ out.old.mail }
     ensures len { regs.new.len ≡ regs.old.len }
+    ensures entries { rows.new.entries ≡ rows.old.entries }
     ensures elements { rows.new.elements ≡ rows.old.elements }
 {
     rows.remove(name);

@@ -121,7 +121,7 @@ fn machine_of(
     let links = links_of(alloc, one, two)?;
     match Machine::start(alloc, form, 2, links) {
         Ok(machine) => Ok(machine),
-        Err(_) => Err(NoMemory),
+        Err((_, cause)) => Err(cause),
     }
 }
 

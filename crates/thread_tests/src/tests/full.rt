@@ -8,9 +8,10 @@ use crate::seats::{connect, read, write};
 use crate::trial::Trial;
 use crate::trials::{close, start, start_connected};
 use crate::waits::{raise, wait_for};
+use plex_board::Desk;
 use plex_board::cells::CallRefused;
 use plex_board::links::Steady;
-use plex_board::{Board, Desk};
+use plex_engines::Board;
 use std::alloc::Global;
 use std::sync::Wait;
 use std::sync::atomic::AtomicU64;
@@ -21,7 +22,7 @@ use std::thread::{Threads, join_mut};
 const FULL: u32 = 300;
 
 // How many writes were answered, and why the next one wasn't.
-#[derive(Clone, Copy, Debug)]
+#[derive(Debug, Drop)]
 struct Filled {
     answered: u32,
     refusal: CallRefused,

@@ -4,7 +4,7 @@ use cache_core::CacheEngine;
 use engine_api::Engine;
 use engine_api::types::{
     Body, CacheCmd, CacheReply, Caps, ConnId, Effects, Kind, Listing, Name16, NoMemory, Refusal,
-    StrForm, parse_body,
+    StrForm,
 };
 use std::alloc::Global;
 use std::test::Fail;
@@ -75,9 +75,7 @@ fn calls(
 
 // The command that writes the name's data as changed.
 fn write_of(alloc: Global) -> Result<CacheCmd, NoMemory> {
-    let Ok(body) = parse_body(alloc, b"data") else {
-        return Err(NoMemory);
-    };
+    let body = Body::from_vec(Vec::from_slice(alloc, b"data")?);
     Ok(CacheCmd::Write {
         name: NAME,
         index: 0,

@@ -2,8 +2,8 @@ ghost use Rattle.engine_api.specs.CfTypes.Forms.{IsCaller};
 
 use engine_api::Engine;
 use engine_api::types::{
-    At, Caps, ConnId, Effects, EntryId, Kind, ListCmd, ListReply, Listing, Name16, NoMemory, Refs,
-    Refusal, StrForm, parse_body,
+    At, Body, Caps, ConnId, Effects, EntryId, Kind, ListCmd, ListReply, Listing, Name16, NoMemory,
+    Refs, Refusal, StrForm,
 };
 use list_core::ListEngine;
 use std::alloc::Global;
@@ -66,9 +66,7 @@ fn calls(
 
 // The command that writes a record to the first header.
 fn write_of(alloc: Global) -> Result<ListCmd, NoMemory> {
-    let Ok(body) = parse_body(alloc, b"data") else {
-        return Err(NoMemory);
-    };
+    let body = Body::from_vec(Vec::from_slice(alloc, b"data")?);
     Ok(ListCmd::Write {
         header: 0,
         head: true,

@@ -3,14 +3,14 @@ use Rattle.plex_agent.proofs.SeatedLaws.{new_callers, new_crew, new_desks-are, c
 use Rattle.plex_agent.proofs.FloorLaws.{new_floor_is, new_floor_fits}
 use Rattle.plex_agent.proofs.in_turn.play.Goals as goal
 
-pub returns-in_default-clause-of_board : goal.returns-in_default-clause-of_board
-returns-in_default-clause-of_board g c = new_desks-are _ _ c.requires.desks _ refl
-
-pub returns-in_default-nobody-clause-of_board : goal.returns-in_default-nobody-clause-of_board
-returns-in_default-nobody-clause-of_board g c = new_desks-are _ _ c.requires.desks _ refl
-
 pub returns-in-Err-clause-of_board : goal.returns-in-Err-clause-of_board
-returns-in-Err-clause-of_board g c = new_desks-are _ _ c.requires.desks _ c.in-Err.ensures.handed_back
+returns-in-Err-clause-of_board g c = new_desks-are _ _ c.requires.desks _ refl
+
+pub returns-in-Err-nobody-clause-of_board : goal.returns-in-Err-nobody-clause-of_board
+returns-in-Err-nobody-clause-of_board g c = new_desks-are _ _ c.requires.desks _ refl
+
+pub returns-in-Err-seat-clause-of_board : goal.returns-in-Err-seat-clause-of_board
+returns-in-Err-seat-clause-of_board g c = new_desks-are _ _ c.requires.desks _ c.in-Err-seat.ensures.handed_back
 
 pub play-played-requires-clause-start : goal.play-played-requires-clause-start
 play-played-requires-clause-start g c κs within = grind (arith, new_floor_is, new_crew)

@@ -6,3 +6,6 @@ returns-clause-step c = step_agrees
 
 pub returns-clause-replies : goal.returns-clause-replies
 returns-clause-replies c = replies_agree
+
+pub returns-clause-leave : goal.returns-clause-leave
+returns-clause-leave c = λ one other content conn keep. refl

@@ -1,7 +1,10 @@
 use Rattle.plex_board.proofs.Imports.{◌≡◌, ap, ◌∙◌, arith, passes_shown, cell_shown}
 use Rattle.plex_board.proofs.UnusedPassLaws.{unused_links, unused_none}
-use Rattle.plex_board.proofs.StationLaws.{started-passes, new-of_cell, last-of_cell, room-again}
+use Rattle.plex_board.proofs.StationLaws.{started-passes, new-of_cell, last-of_cell, has-last, room-again}
 use Rattle.plex_board.proofs.station.Station.start.Goals as goal
+
+pub unwrap-pass-requires : goal.unwrap-pass-requires
+unwrap-pass-requires g c = has-last _ _ _ _ _ _ c.in_ok-cell.ensures.passes c.pop.ensures.none
 
 pub tell-first-requires-after_bounds : goal.tell-first-requires-after_bounds
 tell-first-requires-after_bounds g c κs within =

@@ -6,12 +6,12 @@ use Rattle.plex_seat.proofs.plex.Plex.open.Goals as goal
 pub invariant_of-result : goal.invariant_of-result
 invariant_of-result g c = omega (
   arith,
-  c.in-Ok-start.ensures.callers,
+  c.in-Ok.ensures.callers,
   c.len-count.ensures,
-  new-length c.in-Ok-start.board c.in-Ok-start.desks.items (length c.args.script.now.connectors + 1)
-      c.in-Ok-start.ensures.desks,
+  new-length c.in-Ok.board c.in-Ok.desks.items (length c.args.script.now.connectors + 1)
+      c.in-Ok.ensures.desks,
 )
 
-pub returns-in-Ok-start-clause-desks : goal.returns-in-Ok-start-clause-desks
-returns-in-Ok-start-clause-desks g c = new-of_board c.in-Ok-start.board
-    c.in-Ok-start.desks.items (length c.args.script.now.connectors + 1) c.in-Ok-start.ensures.desks
+pub returns-in-Ok-clause-desks : goal.returns-in-Ok-clause-desks
+returns-in-Ok-clause-desks g c = new-of_board c.in-Ok.board
+    c.in-Ok.desks.items (length c.args.script.now.connectors + 1) c.in-Ok.ensures.desks

@@ -1,0 +1,7 @@
+use Rattle.shell_laws.proofs.KeptLaws.{told-legal}
+use Rattle.shell_laws.proofs.facts.has_the_capacity_told.Goals as goal
+
+pub returns : goal.returns
+returns g c = record {
+  caps = (told-legal g.E.Engine.meaning c.args.form.now c.args.history.now c.requires.legal).caps;
+}

@@ -1,0 +1,2 @@
+" Made by editors/make from docs/FORMS.md.
+autocmd BufNewFile,BufRead *.plex setfiletype plex
