@@ -3,6 +3,7 @@
 #![tactic(auto)]
 
 mod adjuncts;
+mod alter_commands;
 mod batches;
 mod bodies;
 mod cache_commands;
@@ -23,6 +24,7 @@ mod resources;
 mod shell_commands;
 
 pub use adjuncts::{Adjunct, parse_adjunct};
+pub use alter_commands::{AlterCmd, AlterReply};
 pub use batches::Batch;
 pub use bodies::{Body, BodyFault, copy_body, copy_data, elements_of, parse_body};
 pub use cache_commands::{CacheCmd, CacheReply};
@@ -31,7 +33,7 @@ pub use connections::ConnState;
 pub use effects::{BitChange, Effects};
 pub use events::{Event, Letter, Stage};
 pub use forms::{Caps, Kind, Pref, Refs, StrForm};
-pub use list_commands::{At, Cond, ListCmd, ListReply};
+pub use list_commands::{At, Cond, ListCmd, ListReply, QueueCmd, QueueReply};
 pub use listings::Listing;
 pub use lock_commands::{Decision, LockCmd, LockReply};
 pub use memory::NoMemory;

@@ -26,6 +26,8 @@ pub const CASTOUT_CLASSES: u32 = 16;
 pub const STORAGE_CLASSES: u32 = 8;
 /// Items that one COPY command asks for.
 pub const COPY_ITEMS: u32 = 4096;
+/// Entries, and elements, that one step of an alteration moves at most.
+pub const ALTER_STEP: u32 = 4096;
 /// Bytes of a name or a key.
 pub const NAME_BYTES: usize = 16;
 /// Bytes of an adjunct, or of a lock's record data.

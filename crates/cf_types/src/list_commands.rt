@@ -141,3 +141,32 @@ pub enum ListReply {
         n: u32,
     },
 }
+
+/// A command of a list structure with event queues. Whoever monitors a sublist, the records of a
+/// header that have a key, gets an event in its queue when the sublist has records and had none.
+#[derive(Drop)]
+pub enum QueueCmd {
+    /// A command on records.
+    List(ListCmd),
+    /// IXLLIST MONITOR_SUBLIST, start: the caller monitors the sublist.
+    MonSub { header: u32, key: Key16 },
+    /// IXLLIST MONITOR_SUBLIST, stop: the monitor goes, and its event.
+    UnmonSub { header: u32, key: Key16 },
+    /// IXLLIST DEQ_EVENTQ: the first event of the caller's queue is taken.
+    Deq,
+}
+
+/// The answer to a command of a list structure with event queues that was not refused.
+#[derive(Drop)]
+pub enum QueueReply {
+    /// That of a command on records.
+    List(ListReply),
+    /// MONITOR_SUBLIST of a sublist without records.
+    Empty,
+    /// MONITOR_SUBLIST of a sublist with records.
+    NotEmpty,
+    /// MONITOR_SUBLIST, stop: how many monitors ended, 0 or 1.
+    Ok { n: u32 },
+    /// DEQ_EVENTQ: the sublist of the event.
+    Sublist { header: u32, key: Key16 },
+}

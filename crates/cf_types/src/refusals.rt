@@ -28,6 +28,10 @@ pub enum Refusal {
     NoElements { need: u32, free: u32 },
     /// 11: a castout class is not 1 to 16, or a storage class not 1 to 8.
     BadClass { class: u32 },
+    /// 12: the target has so many entries and elements together, above the units of the structure.
+    BeyondUnits { asked: u32, units: u32 },
+    /// 13: no target is set.
+    NoAlter,
     /// 20: no list record is there; prints NOENTRY.
     NoRecordThere,
     /// 21: the list record with this id has the name.
@@ -52,6 +56,8 @@ pub enum Refusal {
     BadLock { lock: u32, locks: u32 },
     /// 31: the list record's version is this one, and another was given.
     VersionDiffers { found: u32 },
+    /// 32: the caller's event queue is empty.
+    NoQueued,
     /// 40: the caller owns the resource already, in the exclusive or the shared state.
     AlreadyInterested { excl: bool },
     /// 41: the caller doesn't own the resource.
@@ -88,7 +94,7 @@ pub enum Refusal {
     WrongStage { stage: Stage },
     /// 70: so many items are not copied yet.
     ItemsLeft { left: u32 },
-    /// 71: the content needs more than the new instance has.
+    /// 71: the content needs more than the new instance has, or than a capacity to be altered to.
     TooSmall { need: u32, have: u32 },
     /// 72: the caller is quiesced for this rebuild.
     Quiesced { number: u32 },

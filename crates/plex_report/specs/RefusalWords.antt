@@ -7,7 +7,7 @@ use Rattle.plex_script.specs.CfTypes.declared.events.Stage.TheVariants as stage
 use Rattle.plex_script.specs.CfTypes.declared.refusals.StateWord.{StateWord}
 use Rattle.plex_script.specs.CfTypes.declared.refusals.StateWord.TheVariants.{Active, Leaving, Gone}
 use Rattle.plex_script.specs.CfTypes.declared.refusals.Refusal.{Refusal}
-use Rattle.plex_script.specs.CfTypes.declared.refusals.Refusal.TheVariants.{NotRegistered, IndexInUse, BadIndex, IsChanged, NotChanged, CastoutHeld, NotHeld, NoEntry, DirectoryFull, NoElements, BadClass, NoRecordThere, NameTaken, BadHeader, ListFull, EntriesFull, NoListElements, LockHeld, LockNotHeldBy, WrongReference, HeaderInUse, BadLock, VersionDiffers, AlreadyInterested, NotInterested, RecordsFull, NotManager, NoWaiter, NoRecord, StillPending, NotConnected, NameActive, TooManyConns, NotFailed, HasConnections, NoSpace, NothingOwed, RebuildInProgress, NoRebuild, WrongStage, ItemsLeft, TooSmall, Quiesced, LostConn, LostFacility, StructureFailed, NoFacility, AlreadyDuplexed, NoEvent, NotAllocated}
+use Rattle.plex_script.specs.CfTypes.declared.refusals.Refusal.TheVariants.{NotRegistered, IndexInUse, BadIndex, IsChanged, NotChanged, CastoutHeld, NotHeld, NoEntry, DirectoryFull, NoElements, BadClass, BeyondUnits, NoAlter, NoRecordThere, NameTaken, BadHeader, ListFull, EntriesFull, NoListElements, LockHeld, LockNotHeldBy, WrongReference, HeaderInUse, BadLock, VersionDiffers, NoQueued, AlreadyInterested, NotInterested, RecordsFull, NotManager, NoWaiter, NoRecord, StillPending, NotConnected, NameActive, TooManyConns, NotFailed, HasConnections, NoSpace, NothingOwed, RebuildInProgress, NoRebuild, WrongStage, ItemsLeft, TooSmall, Quiesced, LostConn, LostFacility, StructureFailed, NoFacility, AlreadyDuplexed, NoEvent, NotAllocated}
 use Rattle.plex_script.specs.PlexSpell.Tokens.{name_word}
 use Rattle.plex_script.specs.declared.scripts.Script.{Script}
 use Rattle.plex_script.specs.PlexPlain.Naming.{facility_word, record_word}
@@ -44,6 +44,8 @@ refusal_number NoEntry = 8
 refusal_number (DirectoryFull entries) = 9
 refusal_number (NoElements need free) = 10
 refusal_number (BadClass class) = 11
+refusal_number (BeyondUnits asked units) = 12
+refusal_number NoAlter = 13
 refusal_number NoRecordThere = 20
 refusal_number (NameTaken id) = 21
 refusal_number (BadHeader header headers) = 22
@@ -56,6 +58,7 @@ refusal_number (WrongReference refs) = 28
 refusal_number (HeaderInUse header) = 29
 refusal_number (BadLock lock locks) = 30
 refusal_number (VersionDiffers found) = 31
+refusal_number NoQueued = 32
 refusal_number (AlreadyInterested excl) = 40
 refusal_number NotInterested = 41
 refusal_number (RecordsFull limit) = 42
@@ -96,6 +99,8 @@ refusal_word NoEntry = codes "NOENTRY"
 refusal_word (DirectoryFull entries) = codes "DIRECTORYFULL"
 refusal_word (NoElements need free) = codes "NOELEMENTS"
 refusal_word (BadClass class) = codes "BADCLASS"
+refusal_word (BeyondUnits asked units) = codes "BEYONDUNITS"
+refusal_word NoAlter = codes "NOALTER"
 refusal_word NoRecordThere = codes "NOENTRY"
 refusal_word (NameTaken id) = codes "NAMETAKEN"
 refusal_word (BadHeader header headers) = codes "BADHEADER"
@@ -108,6 +113,7 @@ refusal_word (WrongReference refs) = codes "WRONGREFERENCE"
 refusal_word (HeaderInUse header) = codes "INDEXINUSE"
 refusal_word (BadLock lock locks) = codes "BADLOCK"
 refusal_word (VersionDiffers found) = codes "VERSIONDIFFERS"
+refusal_word NoQueued = codes "NOQUEUED"
 refusal_word (AlreadyInterested excl) = codes "ALREADYINTERESTED"
 refusal_word NotInterested = codes "NOTINTERESTED"
 refusal_word (RecordsFull limit) = codes "RECORDSFULL"
@@ -148,6 +154,8 @@ refusal_fields script NoEntry = []
 refusal_fields script (DirectoryFull entries) = decimal entries ∷ []
 refusal_fields script (NoElements need free) = decimal need ∷ decimal free ∷ []
 refusal_fields script (BadClass class) = decimal class ∷ []
+refusal_fields script (BeyondUnits asked units) = decimal asked ∷ decimal units ∷ []
+refusal_fields script NoAlter = []
 refusal_fields script NoRecordThere = []
 refusal_fields script (NameTaken id) = record_word id ∷ []
 refusal_fields script (BadHeader header headers) = decimal header ∷ decimal headers ∷ []
@@ -160,6 +168,7 @@ refusal_fields script (WrongReference refs) = refs_word refs ∷ []
 refusal_fields script (HeaderInUse header) = decimal header ∷ []
 refusal_fields script (BadLock lock locks) = decimal lock ∷ decimal locks ∷ []
 refusal_fields script (VersionDiffers found) = decimal found ∷ []
+refusal_fields script NoQueued = []
 refusal_fields script (AlreadyInterested excl) = state_word excl ∷ []
 refusal_fields script NotInterested = []
 refusal_fields script (RecordsFull limit) = decimal limit ∷ []
