@@ -7,6 +7,7 @@ mod deeds;
 mod engine;
 mod histories;
 mod laws;
+mod set_caps;
 mod shapes;
 mod told;
 
@@ -17,5 +18,6 @@ pub use engine::Engine;
 pub use histories::{Entry, History};
 pub use laws::{legal_by_points, refused_changes_nothing};
 pub use rebuild_core as rebuilds;
+pub use set_caps::SetCaps;
 pub use shapes::Shape;
 pub use told::Told;

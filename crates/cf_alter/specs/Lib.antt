@@ -1,0 +1,2 @@
+pub mod AlteredView
+pub mod Limits
