@@ -31,6 +31,16 @@ pub content-moved : (shape : Shape) (caps other : Caps) (content : Content) → 
     caps content → Fits shape.kind (need_of content.rows) other → IsContent other (content_forgotten content)
 content-moved shape caps other content kind is fits = grind arith
 
+-- ---- a content is within its capacity, and is one at each other that it is within
+
+pub content-fits : (shape : Shape) (caps : Caps) (content : Content) → IsTrue (is_cache shape.kind)
+    → IsContent caps content → Fits shape.kind (need_of content.rows) caps
+content-fits shape caps content kind is = grind arith
+
+pub content-at : (shape : Shape) (caps other : Caps) (content : Content) → IsTrue (is_cache shape.kind)
+    → IsContent caps content → Fits shape.kind (need_of content.rows) other → IsContent other content
+content-at shape caps other content kind is fits = grind arith
+
 -- ---- a front of the rows
 
 -- the first rows of a content, with no registrations, are a content
