@@ -6,3 +6,4 @@ pub mod ContentLaws
 pub mod ItemLaws
 pub mod EngineLaws
 pub mod StoreLaws
+pub mod SublistLaws

@@ -4,6 +4,7 @@ pub mod Keys
 pub mod Records
 pub mod Lists
 pub mod Contents
+pub mod Sublists
 pub mod Items
 pub mod Refusals
 pub mod Commands
