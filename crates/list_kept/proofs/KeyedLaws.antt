@@ -6,14 +6,14 @@ abbrev is_key : Key16 → Option Key16 → Bool
 is_key key None = false
 is_key key (Some other) = same_key other key
 
-keys_same : (a b : Key16) → same_key a b ≡ true → a ≡ b
+pub keys_same : (a b : Key16) → same_key a b ≡ true → a ≡ b
 keys_same a b h = grind (arith, bytes_decides)
 
-up_to_itself : (key : Option Key16) → key_up_to key key ≡ true
+pub up_to_itself : (key : Option Key16) → key_up_to key key ≡ true
 up_to_itself key = grind (arith, key_up_to-either)
 
 -- of two keys neither of which is behind the other
-same_up : (a b : Key16) → key_up_to (Some a) (Some b) ≡ true → key_up_to (Some b) (Some a) ≡ true
+pub same_up : (a b : Key16) → key_up_to (Some a) (Some b) ≡ true → key_up_to (Some b) (Some a) ≡ true
     → same_key a b ≡ true
 same_up a b h k = texts_ties a.0 b.0 ∙ go (slice_cmp nat_cmp a.0 b.0) (grind (arith, key_back)) (grind arith)
   where

@@ -5,5 +5,6 @@ pub mod ReadLaws
 pub mod LastLaws
 pub mod PlaceLaws
 pub mod KeyedLaws
+pub mod SublistLaws
 pub mod NamedLaws
 pub mod DataLaws

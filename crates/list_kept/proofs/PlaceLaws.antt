@@ -2,7 +2,7 @@
 use Rattle.list_kept.proofs.Imports.{◌≡◌, ℕ, ◌≤◌, Bool, true, false, not, Option, List, [], length, replicate, refl, sym, ap, ◌∙◌, arith, false≢true, get_or_past, Key16, EntryId, pairwise, pairwise_weaker, pairwise-filter, goes_first, list_of-get_or, Record, Lists, records_of, all_records, lists_without, all-replicate, key_up_to, may_precede, elements_in, key_up_to-trans, all-without, ordered_without, comes_behind, Named, AreNamed, IsOrderly, all_ordered}
 use Rattle.list_kept.proofs.ReadLaws.{elements_fewer}
 
-behind_too : (head : Bool) (key : Option Key16) (x y : Record) → may_precede x y ≡ true
+pub behind_too : (head : Bool) (key : Option Key16) (x y : Record) → may_precede x y ≡ true
     → comes_behind head key y ≡ true → comes_behind head key x ≡ true
 behind_too true key x y h e = go (key_up_to key x.key) refl
   where

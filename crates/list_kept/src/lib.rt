@@ -12,4 +12,4 @@ mod reading;
 pub use bare::Bare;
 pub use keeping::{Kept, headers_of, locks_of};
 pub use list_keys as keyed;
-pub use reading::{count, elements_of_others, id_at, record_at};
+pub use reading::{count, elements_of_others, id_at, record_at, sublist, sublist_of};

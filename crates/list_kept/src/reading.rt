@@ -4,9 +4,11 @@ ghost use Rattle.list_store.specs.Lists.{all_records, records_of, records_withou
 ghost use Rattle.list_store.specs.Records.{record_in, HasChain};
 ghost use Rattle.list_model.specs.Records.{has_key, elements_in};
 ghost use Rattle.list_model.specs.Lists.{last_record, record_at, the_record};
+ghost use Rattle.list_model.specs.Sublists.{sublist, sublist_of};
 
 use crate::keeping::Kept;
 use cf_types::{At, EntryId, Key16};
+use list_model::Sublist;
 use list_store::Rec;
 
 /// How many elements of 256 bytes the data of all records take, but for the record with an id.
@@ -99,5 +101,30 @@ pub fn id_at(kept: &Kept, at: At) -> EntryId
     match record_at(kept, at) {
         Some(rec) => rec.id,
         None => EntryId(0),
+    }
+}
+
+/// How many records of a header have a key: by two binary searches. 0 where there is no such
+/// header.
+pub fn sublist(kept: &Kept, header: u32, key: &Key16) -> u32
+    ensures { result ≡ sublist kept.now.content.lists header key.now }
+{
+    kept.place_of(header, false, *key) - kept.place_of(header, true, *key)
+}
+
+/// The sublist of the record that a command names; none where there is no such record, or where it
+/// has no key.
+pub fn sublist_of(kept: &Kept, at: At) -> Option<Sublist>
+    ensures { result ≡ sublist_of kept.now.content.lists at }
+{
+    match record_at(kept, at) {
+        Some(rec) => match rec.key {
+            Some(key) => Some(Sublist {
+                header: kept.header_of(rec.id),
+                key,
+            }),
+            None => None,
+        },
+        None => None,
     }
 }
