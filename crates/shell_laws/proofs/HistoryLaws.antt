@@ -78,10 +78,10 @@ module _ {C R I S : Type 0} (meaning : Meaning C R I S) (form : StrForm) where
       let read : Option Reading = reading_told active history in
       let next : option_map rebuild_of (read_next (active history) entry.by telling read)
       ≡ (replay meaning form longer).shell.rebuild =
-          told-next (active history) entry.by telling read is.goes
-          ∙ ap (rebuild_next (active history) entry.by telling) is.same
-          ∙ kept_next machine entry.by entry.what entry.reply replied
-          ∙ ap (λ (m : Machine S). m.shell.rebuild) (sym (replay-push meaning form history entry)) in
+      told-next (active history) entry.by telling read is.goes
+      ∙ ap (rebuild_next (active history) entry.by telling) is.same
+      ∙ kept_next machine entry.by entry.what entry.reply replied
+      ∙ ap (λ (m : Machine S). m.shell.rebuild) (sym (replay-push meaning form history entry)) in
       let pushed = reading-push history entry in
       record {
         goes = subst IsGoing (sym pushed) (going-next (active history) (active longer) entry.by telling read is.goes

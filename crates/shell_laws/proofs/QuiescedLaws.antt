@@ -82,7 +82,7 @@ module _ (by : ConnId) (told : Telling) (read : Reading) (behind : List TellingE
       all : read.stage ≡ Quiesce → awaited after ≡ [] → list_all (gave after.number (entry ∷ behind)) after.members ≡ true
       all quiesce none =
           let same : after.entries ≡ entry ∷ behind =
-              subst (λ (at : Stage). IsQuieting at after.members after.number after.entries (entry ∷ behind)) quiesce here
+          subst (λ (at : Stage). IsQuieting at after.members after.number after.entries (entry ∷ behind)) quiesce here
           in all_given (gave after.number (entry ∷ behind)) after.members (grind arith)
 
   unmoved : (after : Reading) → after.stage ≡ read.stage → after.number ≡ read.number → after.members ≡ read.members

@@ -62,8 +62,8 @@ module _ {C R I S : Type 0} (meaning : Meaning C R I S) (form : StrForm) where
   pub stops-legal : (history : List (Entry C R)) → IsLegal meaning form history → StopsKeepTheOld meaning form history
   stops-legal history legal before behind entry split stops =
       let answered : AreAnswered meaning form (opening meaning form) (before ++ entry ∷ behind) =
-          subst (AreAnswered meaning form (opening meaning form)) split (continues-answered meaning form [] history
-          (continues_legal meaning form history legal)) in
+      subst (AreAnswered meaning form (opening meaning form)) split (continues-answered meaning form [] history
+      (continues_legal meaning form history legal)) in
       subst (λ (m : Machine S). KeepsTheOld (replay meaning form before) m)
       (sym (replay-push meaning form before entry)) (stop_entry (replay meaning form before) entry.by entry.what
       entry.reply (replied_at (opening meaning form) before behind entry answered) stops)

@@ -56,7 +56,7 @@ abbrev pub quiesced_in : ConnId → (behind : List TellingEntry) → Option Read
 quiesced_in conn behind None = None
 quiesced_in conn behind (Some read) =
     if not (is_stopping read.stage)
-        && (is_member conn read.members && has_given Quiesce read.number behind conn)
+    && (is_member conn read.members && has_given Quiesce read.number behind conn)
     then Some read.number else None
 
 -- ---- failure, the structure's end, and its capacity
@@ -131,7 +131,7 @@ module _ {C R : Type 0} where
   abbrev pub candidates_told : StrForm → (stands_at : CfId → Bool) → List (Entry C R) → ConnId → List Pref
   candidates_told form stands_at history conn =
       filter (λ pref. not (varied_told history pref.cf)
-          && (not (stands_at pref.cf) && not (lost_told history conn pref.cf))) form.prefs
+      && (not (stands_at pref.cf) && not (lost_told history conn pref.cf))) form.prefs
 
 -- ---- a whole history
 

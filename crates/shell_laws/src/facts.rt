@@ -64,10 +64,7 @@ pub fn has_the_capacity_told<E: Engine>(form: &StrForm, history: &History<E::Cmd
 
 /// After every legal history an instance can be made for a connector in just those facilities that
 /// the policy prefers, in their order, that aren't varied off, hold no instance, and are reached.
-pub fn finds_candidates_as_told<E: Engine>(
-    form: &StrForm,
-    history: &History<E::Cmd, E::Reply>,
-)
+pub fn finds_candidates_as_told<E: Engine>(form: &StrForm, history: &History<E::Cmd, E::Reply>)
     requires formed { IsForm form.now }
     requires legal { IsLegal E.meaning form.now history.now }
     ensures candidates { (by : ConnId)
