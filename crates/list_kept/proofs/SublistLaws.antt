@@ -1,6 +1,7 @@
 -- How many records of a header have a key: as many as stand between the places of one that comes to the head and of
 -- one that comes to the tail.
-use Rattle.list_kept.proofs.Imports.{◌≡◌, ℕ, ◌+◌, Bool, true, false, not, ◌&&◌, cond, List, [], ◌∷◌, length, filter, Option, Some, None, refl, sym, ap, ◌∙◌, arith, list_all, prefix_len, and_parts, false≢true, Key16, pairwise, Record, key_up_to, same_key, has_key, may_precede, key_up_to-either, not_false, comes_behind}
+use Rattle.list_kept.proofs.Imports.{◌≡◌, ℕ, ◌+◌, ◌-◌, ◌≤◌, Bool, true, false, not, cond, List, [], ◌∷◌, length, filter, Option, Some, None, refl, sym, ap, ◌∙◌, arith, list_all, prefix_len, and_parts, false≢true, Key16, pairwise, Record, key_up_to, same_key, has_key, may_precede, key_up_to-either, not_false, comes_behind}
+use Rattle.std.proofs.Common.{◌&&◌}
 use Rattle.list_kept.proofs.KeyedLaws.{keys_same, up_to_itself, same_up}
 use Rattle.list_kept.proofs.PlaceLaws.{behind_too}
 
@@ -65,12 +66,15 @@ before_both key own e = go (key_up_to (Some key) own) refl e
 one_more : (b c : Bool) (p n q : ℕ) (here rest : List Record) → (b ≡ true → c ≡ true) → p + n ≡ q
     → (b ≡ false → p ≡ 0) → (c ≡ false → q ≡ 0) → length rest ≡ n → length here ≡ 1 + n
     → cond b (1 + p) 0 + length (cond (not b && c) here rest) ≡ cond c (1 + q) 0
-one_more true true p n q here rest both is none last len more = omega (arith, is, len)
+one_more true true p n q here rest both is none last len more =
+    let e : (1 + p) + length rest ≡ 1 + q = omega (arith, is, len) in e
 one_more true false p n q here rest both is none last len more = absurd (false≢true (both refl))
-one_more false true p n q here rest both is none last len more = omega (arith, is, none refl, more)
-one_more false false p n q here rest both is none last len more = omega (arith, is, last refl, len)
+one_more false true p n q here rest both is none last len more =
+    let e : 0 + length here ≡ 1 + q = omega (arith, is, none refl, more) in e
+one_more false false p n q here rest both is none last len more =
+    let e : 0 + length rest ≡ 0 = omega (arith, is, last refl, len) in e
 
-pub between : (key : Key16) (recs : List Record) → pairwise may_precede recs ≡ true
+between : (key : Key16) (recs : List Record) → pairwise may_precede recs ≡ true
     → prefix_len (comes_behind true (Some key)) recs + length (filter (has_key key) recs)
     ≡ prefix_len (comes_behind false (Some key)) recs
 between key [] h = refl
@@ -78,6 +82,15 @@ between key (x ∷ xs) h =
     let parts = and_parts (list_all (may_precede x) xs) (pairwise may_precede xs) h in
     let more = one_more (comes_behind true (Some key) x) (comes_behind false (Some key) x) _ _ _
     (x ∷ filter (has_key key) xs) (filter (has_key key) xs) (before_both key x.key) (between key xs parts.1)
-    (none_before true (Some key) x xs parts.0) (none_before false (Some key) x xs parts.0) refl refl in
+    (none_before true (Some key) x xs parts.0) (none_before false (Some key) x xs parts.0) refl (omega arith) in
     ap (λ (b : Bool). cond (comes_behind true (Some key) x) (1 + prefix_len (comes_behind true (Some key)) xs) 0
     + length (cond b (x ∷ filter (has_key key) xs) (filter (has_key key) xs))) (record_between key x) ∙ more
+
+pub fewer_before : (key : Key16) (recs : List Record) → pairwise may_precede recs ≡ true
+    → prefix_len (comes_behind true (Some key)) recs ≤ prefix_len (comes_behind false (Some key)) recs
+fewer_before key recs h = omega (arith, between key recs h)
+
+pub counted_between : (key : Key16) (recs : List Record) → pairwise may_precede recs ≡ true
+    → prefix_len (comes_behind false (Some key)) recs - prefix_len (comes_behind true (Some key)) recs
+    ≡ length (filter (has_key key) recs)
+counted_between key recs h = omega (arith, between key recs h)

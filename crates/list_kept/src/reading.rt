@@ -106,7 +106,6 @@ pub fn id_at(kept: &Kept, at: At) -> EntryId
 
 /// How many records of a header have a key: by two binary searches. 0 where there is no such
 /// header.
-#[tactic(auto, using(crate::proofs::SublistLaws::between))]
 pub fn sublist(kept: &Kept, header: u32, key: &Key16) -> u32
     ensures { result ≡ sublist kept.now.content.lists header key.now }
 {

@@ -106,25 +106,28 @@ of_header p lists h e = one-records (list_all p) lists h refl (sym (all_flat p l
 
 -- ---- the header of a record
 
+not_zero : (n : ℕ) → (suc n == zero) ≡ false
+not_zero n = grind (arith, nat_tests)
+
 first_with : (id : EntryId) (lists : Lists) (h : ℕ) → pairwise ids_apart (all_records lists) ≡ true
     → has_id id (records_of lists h) ≡ true → position_or_len (has_id id) lists ≡ h
 first_with id [] h apart e = absurd (false≢true e)
 first_with id (first ∷ lists) zero apart e = grind arith
 first_with id (first ∷ lists) (suc h) apart e = grind (
   arith,
-  one-header id (first ∷ lists) (suc h) zero apart refl e,
+  one-header id (first ∷ lists) (suc h) zero apart (not_zero h) e,
   first_with id lists h (pairwise_back ids_apart first (all_records lists) apart) e,
 )
 
 header_within : (id : EntryId) (lists : Lists) (h : ℕ) → has_id id (records_of lists h) ≡ true
     → nat_lt h (length lists) ≡ true
 header_within id [] h e = absurd (false≢true e)
-header_within id (first ∷ lists) zero e = refl
-header_within id (first ∷ lists) (suc h) e = header_within id lists h e
+header_within id (first ∷ lists) zero e = grind (arith, nat_tests)
+header_within id (first ∷ lists) (suc h) e = grind (arith, nat_tests, header_within id lists h e)
 
 header_is : (id : EntryId) (lists : Lists) (h : ℕ) → pairwise ids_apart (all_records lists) ≡ true
     → has_id id (records_of lists h) ≡ true → header_of id lists ≡ h
-header_is id lists h apart e = rw (first_with id lists h apart e, header_within id lists h e) refl
+header_is id lists h apart e = grind (arith, first_with id lists h apart e, header_within id lists h e)
 
 -- what is true of all but the one with an id, and of that one
 module _ (lists : Lists) (ref : At) (there : record_refusal (record_at lists ref) ≡ None)

@@ -1,5 +1,5 @@
 -- Causes of refusals that commands share. Each is none where it doesn't hold.
-use Rattle.std.specs.Prelude.{ℕ, ◌-◌, Bool, true, false, ◌||◌, ◌==◌, nat_le, if◌then◌else◌, List, length, Option, Some, None, is_none, find, get_or}
+use Rattle.std.specs.Prelude.{ℕ, ◌-◌, Bool, true, false, ◌||◌, ◌==◌, nat_le, if◌then◌else◌, List, [], ◌∷◌, length, Option, Some, None, is_none, find, get_or}
 use Rattle.cf_types.specs.declared.forms.Caps.{Caps}
 use Rattle.cf_types.specs.declared.forms.Refs.{Refs}
 use Rattle.cf_types.specs.declared.forms.Refs.TheVariants as refs
@@ -12,12 +12,14 @@ use Rattle.cf_types.specs.declared.names.Name16.{Name16}
 use Rattle.cf_types.specs.declared.numbers.ConnId.{ConnId}
 use Rattle.cf_types.specs.declared.refusals.Refusal.{Refusal}
 use Rattle.cf_types.specs.declared.refusals.Refusal.TheVariants.{BadIndex, NoRecordThere, NameTaken, BadHeader, ListFull, EntriesFull, NoListElements, LockHeld, LockNotHeldBy, WrongReference, HeaderInUse, BadLock, VersionDiffers}
+use Rattle.engine_api.specs.declared.shapes.Shape.{Shape}
+use Rattle.engine_api.specs.Meaning.{first_refusal}
 use Rattle.list_store.specs.Record.{Record}
 use Rattle.list_store.specs.Lists.{records_of}
 use Rattle.list_watch.specs.declared.monitors.Monitor.{Monitor}
 use Rattle.list_watch.specs.Monitors.{monitored_at}
 use Rattle.list_model.specs.Records.{has_name, elements_in, is_reference}
-use Rattle.list_model.specs.Contents.{Content, holder_of, is_held_by}
+use Rattle.list_model.specs.Contents.{Content, headers_of, refs_of, holder_of, is_held_by}
 
 -- ---- list locks, and conditions on them
 
@@ -85,6 +87,12 @@ ref_form_refusal refs (ref.Head header) = None
 ref_form_refusal refs (ref.Tail header) = None
 ref_form_refusal refs (ref.Key header key) =
     if has_keys refs then None else Some (WrongReference refs)
+
+-- the refusals of a sublist: its header, and 28 where records have no keys
+abbrev pub sublist_refusal : Shape → ℕ → Key16 → Option Refusal
+sublist_refusal shape header key =
+    first_refusal (ref_header_refusal (headers_of shape.kind) (ref.Key header key)
+    ∷ ref_form_refusal (refs_of shape.kind) (ref.Key header key) ∷ [])
 
 abbrev pub record_refusal : Option Record → Option Refusal
 record_refusal None = Some NoRecordThere

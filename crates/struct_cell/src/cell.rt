@@ -135,7 +135,10 @@ impl<E: Engine, L: Link> Cell<E, L> {
         };
         match KeyLock::boxed(alloc, inside) {
             Ok(lock) => Ok((Cell { lock, vectors }, passes)),
-            Err((Inside { machine, .. }, cause)) => Err((machine.into_parts().links, cause)),
+            Err((inside, cause)) => {
+                let Inside { machine, .. } = inside;
+                Err((machine.into_parts().links, cause))
+            }
         }
     }
 
