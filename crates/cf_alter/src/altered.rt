@@ -229,6 +229,8 @@ impl<E: SetCaps> Engine for Altered<E> {
         E.is_content shape caps content _ is (E.content_back shape (caps_or content.limits caps)
         content.inner conn is.inner) };
 
+    ghost bits_back = { λ content conn. E.bits_back content.inner conn };
+
     ghost made_again = { λ shape caps content is. made-again E.meaning E.is_kind E.is_content shape
         content (E.made_again shape (caps_or content.limits caps) content.inner is.inner) };
 

@@ -100,8 +100,8 @@ impl Shell {
         }
     }
 
-    /// Takes room for so many letters of `post` and `act` together. Want of memory changes nothing;
-    /// letters for which no numbers of rebuilds are left are told as such.
+    /// Takes room for so many letters to each connector, by `post` and `act` together. Want of memory
+    /// changes nothing; letters for which no numbers of rebuilds are left are told as such.
     pub fn ready(&mut self, letters: usize) -> Result<(), NoMemory>
         ensures room { OnOk result (letters ≤ self.new.room) }
         ensures more { self.old.room ≤ self.new.room }

@@ -20,7 +20,7 @@ use plex_shell::{ACT_LETTERS, Shell};
 use std::alloc::Global;
 
 /// Room for the letters of a command, and for those of another one: a call that may post leaves
-/// room for `ACT_LETTERS` behind.
+/// room for `ACT_LETTERS` to each connector behind.
 pub(crate) const READY_LETTERS: usize = 2 * ACT_LETTERS;
 
 // Who departs leaves the content first, where an instance stands; room for the command's own

@@ -32,8 +32,8 @@ use engine_api::{Ask, Engine, Reply, Room};
 use plex_shell::{ACT_LETTERS, Shell, Verdict};
 use std::alloc::Global;
 
-// The most letters that two marks post. Room for them is taken with that for a command's own, or
-// for those that an engine sends, and with the room that stays behind.
+// The most letters that two marks post to one mailbox. Room for them is taken with that for a
+// command's own, or for those that an engine sends, and with the room that stays behind.
 const MARK_LETTERS: usize = 2 * ACT_LETTERS;
 
 const COPY_LETTERS: usize = MARK_LETTERS + READY_LETTERS;
