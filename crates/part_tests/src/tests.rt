@@ -7,6 +7,7 @@ mod locks;
 mod machines;
 mod pools;
 mod reading;
+mod sames;
 mod scripts;
 mod shells;
 mod writing;
