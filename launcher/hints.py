@@ -47,6 +47,11 @@ def shown(forms, who='', on=''):
     return lines + [f'for example: {forms[0].example} (docs/{", docs/".join(pages)})']
 
 
+def is_taken(node, word):
+    """Whether a word may stand for a node."""
+    return node.is_form(word) if isinstance(node, Word) else node == word
+
+
 def expects(nodes):
     """What the line may go on with."""
     texts = list(dict.fromkeys(node.says() if isinstance(node, Word) else node or 'the end of the line' for node in nodes))
@@ -159,38 +164,46 @@ class Hints:
         forms = [form for form in PAGE.commands(kind, by) if form.verb == rest[0]]
         if not forms:
             return self.no_command(rest[0], kind, by)
-        return self.missed(self.same_second(forms, rest), rest, 2, who, on)
+        return self.missed(self.same_second(forms, rest), rest, who, on)
 
     def same_second(self, forms, rest):
         """Of forms that begin alike, as REBUILD START and REBUILD STOP, the one that is meant."""
         return [form for form in forms if len(rest) > 1 and form.text.split()[1:2] == [rest[1]]] or forms
 
     def no_command(self, verb, kind, by):
-        who, on = self.words[0], self.words[1]
+        """What is wrong with a command that this caller can't give at this structure."""
         at_kind = [form for form in PAGE.commands(kind) if form.verb == verb]
         if at_kind:
             giver = 'OP' if by == 'c' else next(iter(self.judge.connectors), 'A')
-            return [f'{verb} is given by {by_says(at_kind[0].by)}, and not by {by_says([by])}', *shown(at_kind, giver, on)]
+            return [f'{verb} is given by {by_says(at_kind[0].by)}, and not by {by_says([by])}', *shown(at_kind, giver, self.words[1])]
+        verbs = dict.fromkeys(form.verb for form in PAGE.commands(kind, by))
+        return self.command_elsewhere(verb, kind, verbs) or self.strange_command(verb, kind, by, verbs)
+
+    def command_elsewhere(self, verb, kind, verbs):
+        """What is said of a command of another kind of structure."""
         elsewhere = [form for form in PAGE.commands() if form.verb == verb]
-        verbs = list(dict.fromkeys(form.verb for form in PAGE.commands(kind, by)))
-        if verb.startswith('TEST') and kind == 'LOCK':
-            return [f'{verb} is no command of a LOCK structure, which {on} is: it has no vectors, so there is nothing to test']
-        if elsewhere:
-            return [f'{verb} is no command of a {kind} structure, which {on} is, but of {kind_says(elsewhere[0].kinds)}',
-                    f'commands here: {listed(verbs)} (docs/FORMS.md)']
+        if not elsewhere:
+            return None
+        told = f'{verb} is no command of a {kind} structure, which {self.words[1]} is'
+        if not elsewhere[0].is_call:
+            return [f'{told}: it has no vectors, so there is nothing to test']
+        return [f'{told}, but of {kind_says(elsewhere[0].kinds)}', f'commands here: {listed(verbs)} (docs/FORMS.md)']
+
+    def strange_command(self, verb, kind, by, verbs):
+        """What is said of a word that is no command."""
+        who, on = self.words[:2]
         if verb.upper() in {form.verb for form in PAGE.commands()}:
             return [f'{CAPITALS}: {verb.upper()}']
         if verb in self.judge.kinds or verb in self.judge.connectors:
             return [f'after {who} {on} comes a command, and {verb} is a {"structure" if verb in self.judge.kinds else "connector"}: {A_CALL}']
         like = near(verb, {form.verb for form in PAGE.commands(kind)})
-        forms = [form for form in PAGE.commands(kind) if form.verb == like]
         if like:
-            return [f'{quoted(verb)} is no command: {like} is', *shown(forms, who, on)]
+            return [f'{quoted(verb)} is no command: {like} is', *shown([form for form in PAGE.commands(kind) if form.verb == like], who, on)]
         return [f'{quoted(verb)} is no command', f'commands of {by_says([by])} at a {kind} structure: {listed(verbs)} (docs/FORMS.md)']
 
     # ---- where a line leaves its form
 
-    def missed(self, forms, words, before=0, who='', on=''):
+    def missed(self, forms, words, who='', on=''):
         """At which word a line leaves the forms, and what should stand there."""
         misses = [(form, *form.miss(words)) for form in forms]
         at = max(it[1] for it in misses)
@@ -199,17 +212,16 @@ class Hints:
         return [self.miss_says(at, words, nodes), *shown(meant, who, on)]
 
     def miss_says(self, at, words, nodes):
+        """What is said of the word at which a line leaves the forms, where the nodes may stand."""
         after = f'after {quoted(" ".join(words[max(at - 2, 0):at]))}'
         if at >= len(words):
             return f'{after} the line ends, where there has to come {expects(node for node in nodes if node)}'
         word = words[at]
-        literals = {node for node in nodes if isinstance(node, str)}
-        if word != word.upper() and (word.upper() in literals or any(isinstance(node, Word) and node.sort in ('NAME', 'facility')
-                                                                      and node.is_form(word.upper()) for node in nodes)):
+        if word != word.upper() and any(is_taken(node, word.upper()) for node in nodes):
             return f'{CAPITALS}: {word.upper()}'
         if word.startswith('*'):
             return f'a comment has a line of its own: {quoted(word)} stands after a command'
-        if any(isinstance(node, Word) and node.sort == 'number' for node in nodes) and re.fullmatch('0[0-9]+', word):
+        if re.fullmatch('0[0-9]+', word) and any(is_taken(node, word.lstrip('0') or '0') for node in nodes):
             return f'a number has no leading zero: {word.lstrip("0") or "0"} in place of {word}'
         return self.too_much(word, nodes) or f'{after} stands {quoted(word)}, where there has to come {expects(nodes)}'
 

@@ -20,6 +20,8 @@ class Report:
 
     def __init__(self, lines):
         self.entries, self.items, at = {}, {}, 0
+        if lines[0].startswith('JOURNALFULL '):
+            raise NotOfScript('it is of a run that ended with a full journal')
         while at < len(lines) and lines[at].split()[:1] and lines[at].split()[0] in POLICY:
             at += 1
         while at < len(lines) and lines[at] not in ('END', ''):

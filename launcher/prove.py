@@ -22,7 +22,7 @@ from schedule import PROGRAM, Schedule, read_crates
 
 SHOWN = 40
 # What the rt of the dearest crate takes of memory, and what one beside it takes at most, in kilobytes.
-DEAREST, BESIDE = 6_000_000, 3_000_000
+DEAREST, BESIDE = 10_000_000, 3_000_000
 SO_FAR = re.compile(r"(?:so far: |checked \S+, )(\d+) of (\d+)\b")
 WAITS = re.compile(r"rt: waiting for another rt .*|.*another copy of the repository is building.*")
 
