@@ -25,6 +25,7 @@ try() {
     await "$child"
     kill "$watching" 2>/dev/null
     [ -z "$stopped" ] || exit "$stopped"
+    ended=$status
     status=$(sed -n 's/^run=ended status=\([0-9]*\) .*proved=no$/\1/p' <&7)
 }
 
@@ -71,7 +72,7 @@ find_out() {
     try "$@"
     if [ -z "$status" ]; then
         tail -n 40 /proc/self/fd/7 >&2
-        say 'this run has no answer'
+        say "this run has no answer (rt ended with status $ended)"
         exit 75
     fi
     keep_answer "$key"
