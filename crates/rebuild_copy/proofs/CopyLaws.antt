@@ -109,7 +109,7 @@ module _ {C R I S : Type 0} (meaning : Meaning C R I S) (is_kind : Kind → Bool
       placed-copy = grind (arith, placed-items, take_next)
 
       -- whether or not the item could be placed
-      pub after-place : {X : Type 0} (result : Result X I) (after : Held S) → OnOk result
+      pub after-place : {X Y : Type 0} (result : Result X Y) (after : Held S) → OnOk result
           (after ≡ with_item meaning new item) → OnErr result (after ≡ new) → IsFilled meaning IsContent after
       after-place (Ok x) after ok err = subst (IsFilled meaning IsContent) (sym ok) placed-filled
       after-place (Err x) after ok err = subst (IsFilled meaning IsContent) (sym err) full
