@@ -29,7 +29,11 @@ pub has-last : {A : Type 0} (last : Option A) (str_type : StrType) (words : Word
     (n : ℕ) → passes ≡ map (unused_pass str_type words) (range_with_len 0 (n + 1))
     → IfNone last ((passes ≡ []) × (left ≡ [])) → IsSome last
 has-last (Some it) str_type words passes left n are none = refl
-has-last None str_type words passes left n are none = grind (arith, length-map, length-range_with_len)
+has-last None str_type words passes left n are none =
+    let count : length passes ≡ n + 1 = ap length are
+    ∙ length-map (range_with_len 0 (n + 1)) (unused_pass str_type words) ∙ length-range_with_len 0 (n + 1) in
+    let empty : length passes ≡ 0 = ap length none.0 in
+    absurd (omega (arith, count, empty))
 
 -- there is room for it again
 pub room-again : (str_type : StrType) (words : WordTable) (passes front : List PassShown) (pass : PassShown)
