@@ -40,13 +40,13 @@ placed_items : (content : Content) (item : LockItem) → items_in (content_with 
 placed_items content item = grind (arith, length-append)
 
 -- what is kept where the item is placed, and where it is handed back
-pub kept_either : (caps : Caps) (result : Result (Unit {0}) LockItem) (content now : Content) (item : LockItem)
+pub kept_either : {E : Type 0} (caps : Caps) (result : Result (Unit {0}) E) (content now : Content) (item : LockItem)
     → OnOk result (now ≡ content_with content item) → OnErr result (now ≡ content)
     → OnOk result (items_in content < 4294967295) → IsContent caps (content_with content item)
     → IsContent caps content → IsCounted content → IsContent caps now × IsCounted now
 kept_either caps result content now item placed same few next is counted = grind (arith, placed_items)
 
-pub ok_weaker : (result : Result (Unit {0}) LockItem) {P Q : Type 0} → (P → Q) → OnOk result P → OnOk result Q
+pub ok_weaker : {E : Type 0} (result : Result (Unit {0}) E) {P Q : Type 0} → (P → Q) → OnOk result P → OnOk result Q
 ok_weaker (Ok u) h p = h p
 ok_weaker (Err back) h p = p
 
