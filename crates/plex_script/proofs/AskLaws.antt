@@ -1,5 +1,6 @@
 -- What is read of what a caller does is spelled so, and what is spelled so is read.
-use Rattle.plex_script.proofs.Imports.{not_from_false, not-true, arith, ◌≡◌, ℕ, true, false, not, Option, Some, None, option_map, refl, ap, ConnId, Kind, ShellCmd, CacheCmd, ListCmd, LockCmd, Ask, Shell, Content, Rigour, Declared, Spells, shell_tokens, may_give, is_operator, shell_at, cache_at, list_at, pick, not_some, mapped, Words, FindsAll, is_tail, shell-sound, shell-complete, cache-sound, cache-complete, list-sound, list-complete, lock-sound, lock-complete, is_own, ask_at, any_ask_at, AnyAsk, ask_tokens, MayAsk, is_ask_of}
+use Rattle.plex_script.proofs.Imports.{not_from_false, not-true, arith, ◌≡◌, ℕ, true, false, not, Option, Some, None, option_map, refl, sym, ap, ◌∙◌, ConnId, Kind, ShellCmd, CacheCmd, ListCmd, LockCmd, Ask, Shell, Content, Rigour, Declared, Spells, shell_tokens, may_give, is_operator, shell_at, cache_at, list_at, pick, not_some, mapped, Words, FindsAll, is_tail, shell-sound, shell-complete, cache-sound, cache-complete, list-sound, list-complete, lock-sound, lock-complete, is_own, ask_at, any_ask_at, AnyAsk, ask_tokens, MayAsk, is_ask_of}
+use Rattle.plex_plain.specs.PlexSpell.LockReading.{lock_at}
 use Rattle.plex_script.proofs.FirstWords.{gives, shell-not_own, cache-content, list-content, lock-content}
 
 pub record AskTold (rigour : Rigour) (declared : Declared) (by : ConnId) (ws rest : Words) (ask : AnyAsk) : Type 0
@@ -23,7 +24,8 @@ common-complete : {C : Type 0} (rigour : Rigour) (declared : Declared) (by : Con
     → FindsAll rigour (ask_at by (shell_at rigour declared ws) content) (Shell cmd) rest
 common-complete {C} rigour declared by ws rest content cmd tail may h =
     let f = shell-complete rigour declared ws rest cmd tail h in
-    let given : may_give by f.found ≡ true = grind (arith, gives, shell-sound) in
+    let given : may_give by f.found ≡ true = gives rigour declared by ws rest f.found
+    (shell-sound rigour declared ws rest f.found f.read) ∙ sym (gives rigour declared by ws rest cmd h) ∙ may in
     let wrap : ShellCmd → Ask C = λ c. Shell c in
     rw f.read (record { found = wrap f.found; read = rw given refl; same = λ e. ap wrap (f.same e) })
 
@@ -65,23 +67,31 @@ module _ (rigour : Rigour) (declared : Declared) where
   any_ask-sound by Kind.Lock ws rest ask h =
       let P : AnyAsk → Type 0 = AnyTold rigour declared by Kind.Lock ws rest in
       let wrap : Ask LockCmd → AnyAsk = λ a. AnyAsk.Lock a in
-      wrapped-sound _ _ _ _ P (grind (arith, ask-sound, shell-sound, not_from_false, lock-sound)) h
+      wrapped-sound _ _ _ _ P (λ a k. ask-sound by rest (shell_at rigour declared ws) (lock_at rigour declared ws) a
+      (λ x. P (wrap x)) (grind (arith, shell-sound)) (λ cmd m other. let t = lock-sound rigour declared ws rest cmd m
+      in (grind (arith, not_from_false))) k) h
 
   pub any_ask-complete : (by : ConnId) (kind : Kind) (ws rest : Words) (given : Option ℕ) (ask : AnyAsk)
       → is_tail rest ≡ true → is_ask_of kind ask ≡ true → MayAsk by given ask → Spells rigour
       declared (ask_tokens given ask) ws rest → FindsAll rigour (any_ask_at rigour declared by kind ws) ask rest
   any_ask-complete by Kind.Cache ws rest given (AnyAsk.Cache (Shell cmd)) tail of may h =
-      wrapped-complete _ _ _ _ _ (grind (arith, common-complete))
+      wrapped-complete _ _ _ _ _ (common-complete rigour declared by ws rest _ cmd tail may.0 h)
   any_ask-complete by Kind.Cache ws rest given (AnyAsk.Cache (Content cmd)) tail of may h =
-      wrapped-complete _ _ _ _ _ (grind (arith, content-complete, cache-content, cache-complete))
+      wrapped-complete _ _ _ _ _ (content-complete rigour by (shell_at rigour declared ws)
+      (cache_at rigour declared ws) cmd rest (cache-content rigour declared ws rest given cmd h).0 may.0
+      (cache-complete rigour declared ws rest given cmd tail may.1 h))
   any_ask-complete by (Kind.List headers locks refs) ws rest given (AnyAsk.List (Shell cmd)) tail of may h =
-      wrapped-complete _ _ _ _ _ (grind (arith, common-complete))
+      wrapped-complete _ _ _ _ _ (common-complete rigour declared by ws rest _ cmd tail may.0 h)
   any_ask-complete by (Kind.List headers locks refs) ws rest given (AnyAsk.List (Content cmd)) tail of may h =
-      wrapped-complete _ _ _ _ _ (grind (arith, content-complete, list-content, list-complete))
+      wrapped-complete _ _ _ _ _ (content-complete rigour by (shell_at rigour declared ws)
+      (list_at rigour declared ws) cmd rest (list-content rigour declared ws rest cmd h).0 may.0
+      (list-complete rigour declared ws rest cmd tail may.1 h))
   any_ask-complete by Kind.Lock ws rest given (AnyAsk.Lock (Shell cmd)) tail of may h =
-      wrapped-complete _ _ _ _ _ (grind (arith, common-complete))
+      wrapped-complete _ _ _ _ _ (common-complete rigour declared by ws rest _ cmd tail may.0 h)
   any_ask-complete by Kind.Lock ws rest given (AnyAsk.Lock (Content cmd)) tail of may h =
-      wrapped-complete _ _ _ _ _ (grind (arith, content-complete, lock-content, lock-complete))
+      wrapped-complete _ _ _ _ _ (content-complete rigour by (shell_at rigour declared ws)
+      (lock_at rigour declared ws) cmd rest (lock-content rigour declared ws rest cmd h).0 may.0
+      (lock-complete rigour declared ws rest cmd tail h))
   any_ask-complete by kind ws rest given ask tail of may h = absurd (cc)
 
   pub ask-not_own : (ws rest : Words) (given : Option ℕ) (ask : AnyAsk)
