@@ -1,5 +1,5 @@
 -- Every command, departure and end of registrations leads from content to content.
-use Rattle.cache_model.proofs.Imports.{◌≡◌, ℕ, ◌+◌, ◌-◌, ◌≤◌, Bool, true, false, not, ◌&&◌, ◌||◌, cond, List, [], ◌∷◌, Option, Some, None, is_some, is_none, unwrap_or, option_map, length, filter, map, nat_lt, nat_le, ◌⊎◌, inl, inr, refl, sym, ap, ◌∙◌, subst, arith, list_all, and_parts, and_from, or_cases, or_right, not-true, false≢true, ltb-true, leb-true, length-map, any-filter_same, Caps, Name16, ConnId, IsNoMore, IsChanged, CacheCmd, Read, Write, CrossInval, Castout, Unlock, Delete, same_name, first_refusal, unless_refused, list_all-filter, list_all_weaker, list_all_both, list_all-filter_same, length-filter-le, sum_by-filter-le, any_is_found, none-filter, all_found, list_all-insertion, Registration, is_of, regs_with, regs_without, regs_without_name, ends_with_name, IsRegistry, same_name-eq, same_name-refl, registry-with, registry-filter, CacheItem, Holder, Request, is_row_of, elements_of, elements_in, row_of, has_row, rows_without, rows_replaced, new_row, row_or_new, is_sound, IsDirectory, Content, IsContent, IsOrderly, content_without, content_forgotten, without_hold, is_among, rows_spared, regs_spared, victims, has_place, free_elements, room_refusal, entry_refusal, held_refusal, unchanged_refusal, not_held_refusal, is_changed_row, cause, done, none_hold, unless_false}
+use Rattle.cache_model.proofs.Imports.{◌≡◌, ℕ, ◌+◌, ◌-◌, ◌≤◌, Bool, true, false, not, ◌&&◌, ◌||◌, cond, List, [], ◌∷◌, Option, Some, None, is_some, is_none, unwrap_or, option_map, length, filter, map, nat_lt, nat_le, ◌⊎◌, inl, inr, refl, sym, ap, ◌∙◌, subst, arith, list_all, and_parts, and_from, or_cases, or_right, not-true, false≢true, ltb-true, leb-true, length-map, any-filter_same, Caps, Name16, ConnId, IsNoMore, IsChanged, CacheCmd, Read, Write, CrossInval, Castout, Unlock, Delete, same_name, first_refusal, list_all-filter, list_all_weaker, list_all_both, list_all-filter_same, length-filter-le, sum_by-filter-le, any_is_found, none-filter, all_found, list_all-insertion, Registration, is_of, regs_with, regs_without, regs_without_name, ends_with_name, IsRegistry, same_name-eq, same_name-refl, registry-with, registry-filter, CacheItem, Holder, Request, is_row_of, elements_of, elements_in, row_of, has_row, rows_without, rows_replaced, new_row, row_or_new, is_sound, IsDirectory, Content, IsContent, IsOrderly, content_without, content_forgotten, without_hold, is_among, rows_spared, regs_spared, victims, has_place, free_elements, room_refusal, entry_refusal, held_refusal, unchanged_refusal, not_held_refusal, is_changed_row, cause, done, none_hold, unless_false}
 use Rattle.cache_model.specs.Commands.Read as read
 use Rattle.cache_model.specs.Commands.Write as write
 use Rattle.cache_model.specs.Commands.Castout as castout

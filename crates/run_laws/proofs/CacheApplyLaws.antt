@@ -1,5 +1,5 @@
 -- A command after others: copies are fresh, and changed pages that aren't cast out are kept.
-use Rattle.run_laws.proofs.Imports.{arith, ◌≡◌, ℕ, List, [], ◌∷◌, ◌++◌, refl, sym, subst, CacheCmd, Caps, ConnId, Held, Content, no_content, Deed, Copies, after_deed, after_run, Calls, orderly-run, orderly-nothing, fresh-copy, uncast-kept, IsHeldAfter, content_applied, copies_then, uncast_then, AreFresh, AreKept, IsUnique}
+use Rattle.run_laws.proofs.Imports.{arith, ◌≡◌, ℕ, List, [], ◌∷◌, ◌++◌, refl, sym, subst, CacheCmd, ConnId, Held, Content, no_content, Deed, Copies, after_deed, after_run, Calls, orderly-run, orderly-nothing, fresh-copy, uncast-kept, IsHeldAfter, content_applied, copies_then, uncast_then, AreFresh, AreKept, IsUnique}
 use Rattle.run_laws.proofs.UniqueLaws.{unique-content}
 
 after_run-push : (vector : ℕ) (content : Content) (deeds : List Deed) (deed : Deed)

@@ -1,5 +1,6 @@
 -- What connectors hold after a history of a cache: where they are registered, what the rows have.
-use Rattle.run_laws.proofs.Imports.{arith, ◌≡◌, ℕ, Bool, ◌&&◌, ◌==◌, cond, [], ◌∷◌, ◌++◌, Option, None, Some, unwrap_or, refl, ◌∙◌, subst, fold_push, CacheCmd, Caps, StrForm, ConnId, Refusal, Continues, replay, unless_refused, Content, IsOrderly, cache_meaning, Copy, Copies, Deed, Deed, after_deed, copies_done, copies_unless, copies_after, Calls, Leaves, cause, done, reply as answer_to, Fresh, AllFresh, each_weaker, deed-fresh, IsQuiet, IsTraced, traced-replay, legal-answered, copy_at, copy_of, copy_held, CacheEntry, CacheHistory, Accepted, acceptance_of, content_after}
+use Rattle.run_laws.proofs.Imports.{arith, ◌≡◌, ℕ, Bool, ◌&&◌, ◌==◌, cond, [], ◌∷◌, ◌++◌, Option, None, Some, unwrap_or, refl, ◌∙◌, subst, fold_push, CacheCmd, Caps, StrForm, ConnId, Refusal, Continues, unless_refused, Content, IsOrderly, cache_meaning, Copy, Copies, Deed, Deed, after_deed, copies_done, copies_unless, copies_after, Calls, Leaves, cause, done, reply as answer_to, Fresh, AllFresh, each_weaker, deed-fresh, IsSeen, traced-replay, traced-seen, legal-answered, copy_at, copy_of, copy_held, cache_in, CacheEntry, CacheHistory, Accepted, acceptance_of, content_after}
+use Rattle.run_laws.proofs.Seen.{cache_seen}
 use Rattle.run_laws.proofs.UniqueLaws.{orderly-kept}
 
 -- ---- what an entry brings
@@ -23,7 +24,7 @@ held_told : (history : CacheHistory) (entry : CacheEntry) (told : Option Accepte
 held_told history entry told is conn index = grind (arith, fold_push)
 
 -- an entry that tells none brings none
-quiet_held : (form : StrForm) (history : CacheHistory) (entry : CacheEntry) → IsQuiet cache_meaning form entry
+quiet_held : (form : StrForm) (history : CacheHistory) (entry : CacheEntry) → acceptance_of entry ≡ None
     → (conn : ConnId) (index : ℕ) → copy_held (history ++ entry ∷ []) conn index ≡ copy_held history conn index
 quiet_held form history entry quiet conn index = held_told history entry None quiet conn index
     ∙ nothing_brought (entry.by.0 == conn.0) (copy_held history conn index)
@@ -44,7 +45,7 @@ done_fresh vector caps content by cmd copies none is all = subst (λ (refused : 
     none (deed-fresh vector content copies (Calls caps by cmd) is.directory all)
 
 quiet_fresh : (form : StrForm) (history : CacheHistory) (entry : CacheEntry) (content : Content)
-    → IsQuiet cache_meaning form entry → AllFresh content (copy_held history)
+    → acceptance_of entry ≡ None → AllFresh content (copy_held history)
     → AllFresh content (copy_held (history ++ entry ∷ []))
 quiet_fresh form history entry content quiet = same_copies content (copy_held history)
     (copy_held (history ++ entry ∷ [])) (quiet_held form history entry quiet)
@@ -57,38 +58,35 @@ record IsTrace (history : CacheHistory) (content : Content) : Type 0 where
   fresh : AllFresh content (copy_held history)
 
 same_trace : (form : StrForm) (history : CacheHistory) (entry : CacheEntry) (content : Content)
-    → IsQuiet cache_meaning form entry → IsTrace history content → IsTrace (history ++ entry ∷ []) content
+    → acceptance_of entry ≡ None → IsTrace history content → IsTrace (history ++ entry ∷ []) content
 same_trace form history entry content quiet is =
     record { orderly = is.orderly; fresh = quiet_fresh form history entry content quiet is.fresh }
 
 quiet_deed : (form : StrForm) (history : CacheHistory) (entry : CacheEntry) (content : Content) (deed : Deed)
-    → IsQuiet cache_meaning form entry → IsTrace history content
+    → acceptance_of entry ≡ None → IsTrace history content
     → copies_after form.vector content (copy_held history) deed ≡ copy_held history
     → AllFresh (after_deed form.vector content deed) (copy_held (history ++ entry ∷ []))
 quiet_deed form history entry content deed quiet is same = quiet_fresh form history entry _ quiet (subst (AllFresh
     (after_deed form.vector content deed)) same (deed-fresh form.vector content (copy_held history)
     deed is.orderly.directory is.fresh))
 
-traced : (form : StrForm) → IsTraced cache_meaning form IsTrace
+traced : (form : StrForm) → IsSeen cache_meaning cache_meaning form (cache_seen form) IsTrace
 traced form = record {
   none = record { orderly = (orderly-kept form).empty; fresh = tt };
-  done = λ history entry command told none is.
-      let before = replay cache_meaning form history in
-      record {
-        orderly = (orderly-kept form).done before.shell.caps before.content entry.by command none is.orderly;
-        fresh = same_copies _ (copies_done before.content entry.by command (copy_held history)) _ (λ conn index.
-            held_told history entry _ told conn index ∙ done_brought before.content entry.by command (copy_held history)
-            conn index) (done_fresh form.vector before.shell.caps before.content entry.by command (copy_held history)
-            none is.orderly is.fresh);
-      };
-  same = same_trace form;
-  leave = λ history entry who content quiet departs is. record {
-    orderly = (orderly-kept form).leave content who.conn who.keep is.orderly;
-    fresh = quiet_deed form history entry content (Leaves who.conn) quiet is refl;
+  done = λ history entry at content command told none is. record {
+    orderly = (orderly-kept form).done at content entry.by command none is.orderly;
+    fresh = same_copies _ (copies_done content entry.by command (copy_held history)) _ (λ conn index.
+        held_told history entry _ told conn index ∙ done_brought content entry.by command (copy_held history)
+        conn index) (done_fresh form.vector at content entry.by command (copy_held history) none is.orderly is.fresh);
   };
-  back = λ history entry content quiet returns is. same_trace form history entry content quiet is;
+  same = same_trace form;
+  leave = λ history entry conn keep content quiet is. record {
+    orderly = (orderly-kept form).leave content conn keep is.orderly;
+    fresh = quiet_deed form history entry content (Leaves conn) quiet is refl;
+  };
+  back = λ history entry content quiet is. same_trace form history entry content quiet is;
   forget = grind (arith, orderly-kept, quiet_deed);
-  clear = λ history entry content quiet gone is. record { orderly = (orderly-kept form).empty; fresh = tt };
+  clear = λ history entry content quiet is. record { orderly = (orderly-kept form).empty; fresh = tt };
 }
 
 -- where connectors are registered, they hold what the rows have
@@ -97,5 +95,7 @@ HasTrace form history = AllFresh (content_after form history) (copy_held history
 
 pub trace-continues : (form : StrForm) (history : CacheHistory) → Continues cache_meaning form [] history
     → HasTrace form history
-trace-continues form history goes = (traced-replay cache_meaning
-    form refl IsTrace (traced form) history (legal-answered cache_meaning form refl history goes)).fresh
+trace-continues form history goes = (traced-replay cache_meaning form refl
+    (λ before content. IsTrace before (cache_in content))
+    (traced-seen cache_meaning cache_meaning form (cache_seen form) IsTrace (traced form)) history
+    (legal-answered cache_meaning form refl history goes)).fresh

@@ -14,8 +14,11 @@ pub use Rattle.plex_board.proofs.HistoryLaws.{length_calls, calls_rise}
 pub use Rattle.plex_board.proofs.LockModel.OwnerLaws.{compatible-interests}
 pub use Rattle.plex_board.proofs.PlexScript.TestLaws.{test_numbers, word_numbers}
 pub use Rattle.plex_board.proofs.SeamLaws.{numbers_of, numbers_any}
-pub use Rattle.plex_board.proofs.ShellLaws.Keeping.{IsTraced, IsKept}
-pub use Rattle.plex_board.specs.ShellLaws.Departures.{IsQuiet, stands_in}
+pub use Rattle.plex_board.proofs.ShellLaws.Keeping.{IsKept}
+pub use Rattle.plex_board.specs.ShellLaws.Departures.{stands_in}
+pub use Rattle.plex_board.specs.ShellLaws.Sees.{DoneInside, Sees, IsSeen}
+pub use Rattle.plex_board.specs.ShellLaws.Sees.DoneInside.{AsCommand, AsNothing}
+pub use Rattle.plex_board.proofs.ShellLaws.SeenLaws.{kept-seen, traced-seen}
 pub use Rattle.plex_board.proofs.ShellLaws.Moves.{Move, Change}
 pub use Rattle.plex_board.proofs.ShellLaws.Moves.Change.{Done, Quiet}
 pub use Rattle.plex_board.proofs.ShellLaws.Moves.Move.{Same, Left, Returned, Forgotten, Cleared}
@@ -51,11 +54,11 @@ pub use Rattle.plex_report.proofs.Digits.{digits_end, digits_next}
 pub use Rattle.plex_report.specs.PlexSpell.declared.rigour.Rigour.TheVariants.{Names}
 pub use Rattle.run_laws.specs.Bounds.{IsWithinScript, most_of_lines, most_entries, most_of_line, most_calls}
 pub use Rattle.run_laws.specs.CacheApplied.{IsHeldAfter, content_applied, copies_then, uncast_then, AreFresh, AreKept}
-pub use Rattle.run_laws.specs.CacheHistories.{CacheHistory, IsWithin, CacheEntry, capacity_after, content_after, Accepted, acceptance_of, IsLegalCache, is_accepted, is_allocated, StaysAllocated}
+pub use Rattle.run_laws.specs.CacheHistories.{cache_in, cache_told, CacheHistory, IsWithin, CacheEntry, capacity_after, content_after, Accepted, acceptance_of, IsLegalCache, is_accepted, is_allocated, StaysAllocated}
 pub use Rattle.run_laws.specs.Copies.{copy_held, copy_at, copy_of, IsAsRead, IsFresh, TellsFresh}
 pub use Rattle.run_laws.specs.Entries.{step_at, replies_of}
 pub use Rattle.run_laws.specs.ListApplied.{told_from, told_then}
-pub use Rattle.run_laws.specs.ListHistories.{ListEntry, ListHistory, told_by, told_in, IsLegalList}
+pub use Rattle.run_laws.specs.ListHistories.{list_in, list_told, ListEntry, ListHistory, told_by, told_in, IsLegalList}
 pub use Rattle.run_laws.specs.LockApplied.Deed.{Returns}
 pub use Rattle.run_laws.specs.LockHistories.{LockHistory}
 pub use Rattle.run_laws.specs.Readings.{NamesFacility, NamesFacilities, MarksFacilities, Reading, IsReading, IsOnlyReading, report_of, ShowsNumbers, IsTheReading}

@@ -13,6 +13,7 @@ pub mod Tests
 pub mod MarkLaws
 pub mod CountLaws
 pub mod BoundLaws
+pub mod Seen
 pub mod UniqueLaws
 pub mod CacheTraces
 pub mod CacheReplies

@@ -1,5 +1,6 @@
 -- A page that was written as changed and isn't cast out is kept.
-use Rattle.run_laws.proofs.Imports.{arith, ◌≡◌, Bool, true, false, ◌&&◌, ◌||◌, cond, List, [], ◌∷◌, ◌++◌, Option, None, Some, is_some, unwrap_or, option_map, append_assoc, append-nil, refl, sym, ◌∙◌, subst, option_and_then, list_any, false≢true, and_from, or_parts, CacheCmd, Read, Write, Castout, Unlock, CacheReply, Caps, StrForm, Name16, ConnId, Refusal, unless_refused, same_name, Reply, What, replay, Continues, Machine, continues_legal, same_name-eq, CacheItem, Content, IsOrderly, cache_meaning, Deed, after_deed, Calls, Leaves, cause, done, Uncast, Uncasts, uncast_cast, uncast_unlocked, uncast_written, uncast_done, uncast_unless, uncast_after, AllKept, deed-kept, accepted_as, Move, Change, Done, Quiet, stands_in, Same, Left, Returned, Forgotten, Cleared, CacheEntry, CacheHistory, Accepted, acceptance_of, is_accepted, is_allocated, IsLegalCache, StaysAllocated, content_after, Page, page_in, page_written, is_changed_write, deletes, casts_out, unlocks, HasNone, is_cast_out, IsUncast, HasPage, IsAnswered}
+use Rattle.run_laws.proofs.Imports.{arith, ◌≡◌, Bool, true, false, ◌&&◌, ◌||◌, cond, List, [], ◌∷◌, ◌++◌, Option, None, Some, is_some, unwrap_or, option_map, append_assoc, append-nil, refl, sym, ◌∙◌, subst, option_and_then, list_any, false≢true, and_from, or_parts, CacheCmd, Read, Write, Castout, Unlock, CacheReply, Caps, StrForm, Name16, ConnId, Refusal, unless_refused, same_name, Reply, What, replay, Continues, Machine, continues_legal, same_name-eq, CacheItem, Content, IsOrderly, cache_meaning, Deed, after_deed, Calls, Leaves, cause, done, Uncast, Uncasts, uncast_cast, uncast_unlocked, uncast_written, uncast_done, uncast_unless, uncast_after, AllKept, deed-kept, accepted_as, Move, Change, Done, Quiet, stands_in, Same, Left, Returned, Forgotten, Cleared, CacheEntry, CacheHistory, Accepted, acceptance_of, is_accepted, is_allocated, IsLegalCache, StaysAllocated, content_after, Page, page_in, page_written, is_changed_write, deletes, casts_out, unlocks, HasNone, is_cast_out, IsUncast, HasPage, IsAnswered, cache_in, cache_told, Sees, DoneInside, AsCommand, AsNothing, shape_of, Forgets, ap}
+use Rattle.run_laws.proofs.Seen.{cache_seen}
 use Rattle.run_laws.proofs.CacheReplies.{answer-content, read-changed, castout-changed}
 use Rattle.run_laws.proofs.{Allocated.continues_both, Allocated.next-change, Allocated.next-stands, UniqueLaws.orderly_replay}
 
@@ -81,29 +82,87 @@ module _ (form : StrForm) (name : Name16) (page : Page) where
 
   -- ---- one entry
 
+  -- the cache's command that an entry tells
+  abbrev seen_as : What CacheCmd → Reply CacheReply → Option Accepted
+  seen_as told answer = option_and_then cache_told (accepted_as told answer)
+
+  abbrev sees : Sees cache_meaning cache_meaning form
+  sees = cache_seen form
+
   -- what an entry tells and does
   module _ (before after : Machine Content) (by : ConnId) (told : What CacheCmd) (answer : Reply CacheReply)
-      (is : IsOrderly before.content) where
-    wrote_by : Change cache_meaning form before after by told answer → page_of (accepted_as told answer) ≡ Some page
-        → Keeps after.content false
-    wrote_by (Done command accepted fine e) wrote = keeps_done before.shell.caps before.content after.content by command
-        false (λ n. None) fine e is (λ n. tt) (page_told command (rw accepted at wrote))
+      (is : IsOrderly (cache_in before.content)) where
+    -- a command of the structure, by what it does to the cache
+    module _ (caps : Caps) (command : CacheCmd) (accepted : accepted_as told answer ≡ Some (record {
+      command = command;
+      answer = (cache_meaning.done (shape_of form) caps before.content by command).reply;
+    })) (then : after.content ≡ (cache_meaning.done (shape_of form) caps before.content by command).state) where
+      abbrev Inside : Type 0
+      Inside = DoneInside cache_meaning cache_meaning form cache_in cache_told caps before.content by command
+
+      abbrev replied : Caps → CacheCmd → CacheReply
+      replied at seen = (cache_meaning.done (shape_of form) at (cache_in before.content) by seen).reply
+
+      seen_is : (at : Caps) (seen : CacheCmd) → cache_told (record {
+        command = command;
+        answer = (cache_meaning.done (shape_of form) caps before.content by command).reply;
+      }) ≡ told_as seen (replied at seen) → seen_as told answer ≡ told_as seen (replied at seen)
+      seen_is at seen tells = ap (λ (o : Option Accepted). option_and_then cache_told o) accepted ∙ tells
+
+      none_is : cache_told (record {
+        command = command;
+        answer = (cache_meaning.done (shape_of form) caps before.content by command).reply;
+      }) ≡ None → seen_as told answer ≡ None
+      none_is tells = ap (λ (o : Option Accepted). option_and_then cache_told o) accepted ∙ tells
+
+      wrote_inside : Inside → page_of (seen_as told answer) ≡ Some page → Keeps (cache_in after.content) false
+      wrote_inside (AsCommand at seen tells fine e) wrote = keeps_done at (cache_in before.content)
+          (cache_in after.content) by seen false (λ n. None) fine (ap cache_in then ∙ e) is (λ n. tt) (page_told seen
+          (subst (λ (o : Option Accepted). page_of o ≡ Some page) (seen_is at seen tells) wrote))
+      wrote_inside (AsNothing tells e) wrote = absurd (let gone : None ≡ Some page =
+          subst (λ (o : Option Accepted). page_of o ≡ Some page) (none_is tells) wrote in cc)
+
+      kept_inside : (cast : Bool) → Keeps (cache_in before.content) cast → Inside → Spares (seen_as told answer) cast
+          → Keeps (cache_in after.content) (cast_then (seen_as told answer) cast)
+      kept_inside cast keeps (AsCommand at seen tells fine e) spares =
+          let same = seen_is at seen tells in
+          let own = own_done seen keeps.uncast
+          ∙ ap (λ (o : Option Uncast). uncast_done seen (λ n. o) name) keeps.own
+          ∙ spared_done seen (replied at seen) cast (subst (λ (o : Option Accepted). Spares o cast) same spares) in
+          subst (λ (o : Option Accepted). Keeps (cache_in after.content) (cast_then o cast)) (sym same)
+          (keeps_done at (cache_in before.content) (cache_in after.content) by seen
+          (cast_then (told_as seen (replied at seen)) cast) keeps.uncast fine (ap cache_in then ∙ e) is keeps.all own)
+      kept_inside cast keeps (AsNothing tells e) spares =
+          subst (λ (o : Option Accepted). Keeps (cache_in after.content) (cast_then o cast)) (sym (none_is tells))
+          (subst (λ (c : Content). Keeps c cast) (sym (ap cache_in then ∙ e)) keeps)
+
+    wrote_by : Change cache_meaning form before after by told answer → page_of (seen_as told answer) ≡ Some page
+        → Keeps (cache_in after.content) false
+    wrote_by (Done command accepted fine e) wrote = wrote_inside before.shell.caps command accepted e
+        (sees.done before.shell.caps before.content by command fine) wrote
     wrote_by (Quiet none move) wrote = absurd (let gone : None ≡ Some page = rw none at wrote in cc)
 
-    module _ (cast : Bool) (keeps : Keeps before.content cast)
+    module _ (cast : Bool) (keeps : Keeps (cache_in before.content) cast)
         (stand : stands_in before && stands_in after ≡ true) where
-      kept_move : Move cache_meaning form before after by told → Keeps after.content cast
-      kept_move (Same e) = subst (λ (c : Content). Keeps c cast) (sym e) keeps
+      kept_deed : (deed : Deed) → cache_in after.content ≡ after_deed form.vector (cache_in before.content) deed
+          → uncast_after form.vector (cache_in before.content) keeps.uncast deed name ≡ keeps.uncast name
+          → Keeps (cache_in after.content) cast
+      kept_deed deed e own = keeps_deed (cache_in before.content) (cache_in after.content) cast keeps.uncast deed is
+          keeps.all e (own ∙ keeps.own)
+
+      kept_move : Move cache_meaning form before after by told → Keeps (cache_in after.content) cast
+      kept_move (Same e) = subst (λ (c : Content). Keeps c cast) (sym (ap cache_in e)) keeps
       kept_move (Left who command asked leaves e) =
-          keeps_deed before.content after.content cast keeps.uncast (Leaves who.conn) is keeps.all e keeps.own
-      kept_move (Returned keep asked e) = subst (λ (c : Content). Keeps c cast) (sym e) keeps
-      kept_move (Forgotten e) = grind (arith, keeps_deed)
+          kept_deed (Leaves who.conn) (ap cache_in e ∙ sees.leave before.content who.conn who.keep) refl
+      kept_move (Returned keep asked e) =
+          subst (λ (c : Content). Keeps c cast) (sym (ap cache_in e ∙ sees.back before.content by)) keeps
+      kept_move (Forgotten e) = kept_deed Forgets (ap cache_in e ∙ sees.forget before.content) refl
       kept_move (Cleared e gone) = absurd (false≢true (sym gone ∙ stand))
 
-      kept_by : Change cache_meaning form before after by told answer → Spares (accepted_as told answer) cast
-          → Keeps after.content (cast_then (accepted_as told answer) cast)
-      kept_by (Done command accepted fine e) spares = rw accepted (keeps_done before.shell.caps before.content
-          after.content by command _ keeps.uncast fine e is keeps.all (grind (arith, own_done, spared_done)))
+      kept_by : Change cache_meaning form before after by told answer → Spares (seen_as told answer) cast
+          → Keeps (cache_in after.content) (cast_then (seen_as told answer) cast)
+      kept_by (Done command accepted fine e) spares = kept_inside before.shell.caps command accepted e cast keeps
+          (sees.done before.shell.caps before.content by command fine) spares
       kept_by (Quiet none move) spares = rw none (kept_move move)
 
   -- ---- along a history
@@ -139,7 +198,8 @@ module _ (form : StrForm) (name : Name16) (page : Page) where
 
   -- ---- the law
 
-  accepted_page : (told : Option Accepted) → page_of told ≡ Some page → (one : Accepted) × (told ≡ Some one)
+  accepted_page : (told : Option Accepted) → page_of (option_and_then cache_told told) ≡ Some page
+      → (one : Accepted) × (told ≡ Some one)
   accepted_page told wrote = grind arith
 
   kept_since : (before since : CacheHistory) (write : CacheEntry) → IsLegalCache form (before ++ write ∷ since)
@@ -152,7 +212,7 @@ module _ (form : StrForm) (name : Name16) (page : Page) where
       let keeps = wrote_by (replay cache_meaning form before)
       (replay cache_meaning form (before ++ write ∷ [])) write.by write.what
       write.reply (orderly_replay form before) (next-change cache_meaning form before write goes.0 refl) wrote in
-      let told = accepted_page (acceptance_of write) wrote in
+      let told = accepted_page (accepted_as write.what write.reply) wrote in
       subst (λ (h : CacheHistory). HasPage form h name page) (append_assoc before (write ∷ []) since)
       (kept_along (before ++ write ∷ []) since false goes.1 keeps (next-stands cache_meaning form before write goes.0
       told.0 told.1) last not_deleted allocated not_cast_out (λ e. absurd (false≢true e)))

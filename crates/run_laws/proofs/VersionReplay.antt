@@ -1,5 +1,6 @@
 -- After every legal history the version of each record is 1 plus the number of its updates.
-use Rattle.run_laws.proofs.Imports.{◌≡◌, ℕ, zero, suc, ◌+◌, ◌<◌, ◌≤◌, ◌==◌, ◌&&◌, Bool, true, false, cond, List, [], ◌∷◌, ◌++◌, Option, Some, None, option_map, length, length-append, append_assoc, append-nil, filter-append, nat_lt, replicate, refl, sym, ap, ◌∙◌, subst, arith, fold, list_all, and_parts, and_from, eqb-true, nat_tests, list_all-append, list_any-append, list_all-map, length-map, map-append, Caps, StrForm, ListCmd, Update, ConnId, EntryId, Shape, Held, shape_of, continues_legal, list_all-filter, list_all_weaker, all_found, found_passes, list_all-insertion, Record, Lists, all_records, lists_without, replaced_by, headers_of, the_record, with_record, list_meaning, causes, the_record-in, with-all, each-records, one-records, all-without, all-map, IsTraced, traced-replay, legal-answered, ListEntry, ListHistory, told_by, told_in, IsLegalList, told_from, told_then, makes, updates, AreVersioned, IsVersioned, none_hold}
+use Rattle.run_laws.proofs.Imports.{◌≡◌, ℕ, zero, suc, ◌+◌, ◌<◌, ◌≤◌, ◌==◌, ◌&&◌, Bool, true, false, cond, List, [], ◌∷◌, ◌++◌, Option, Some, None, option_map, length, length-append, append_assoc, append-nil, filter-append, nat_lt, replicate, refl, sym, ap, ◌∙◌, subst, arith, fold, list_all, and_parts, and_from, eqb-true, nat_tests, list_all-append, list_any-append, list_all-map, length-map, map-append, Caps, StrForm, ListCmd, Update, ConnId, EntryId, Shape, Held, shape_of, continues_legal, list_all-filter, list_all_weaker, all_found, found_passes, list_all-insertion, Record, Lists, all_records, lists_without, replaced_by, headers_of, the_record, with_record, list_meaning, causes, the_record-in, with-all, each-records, one-records, all-without, all-map, IsSeen, traced-replay, traced-seen, list_in, legal-answered, ListEntry, ListHistory, told_by, told_in, IsLegalList, told_from, told_then, makes, updates, AreVersioned, IsVersioned, none_hold}
+use Rattle.run_laws.proofs.Seen.{list_seen}
 use Rattle.std.proofs.lemmas.List.Sums.{length-filter, count_by-le-length}
 use Rattle.plex_board.specs.CfTypes.declared.list_commands.ListCmd.TheVariants.{Write, Move, Delete}
 use Rattle.plex_board.specs.ListModel.Contents.{Content, no_content}
@@ -178,22 +179,24 @@ quiet_longer : (history : ListHistory) (entry : ListEntry) (content : Content) �
     → IsGoodTrace history content → IsGoodTrace (history ++ entry ∷ []) content
 quiet_longer history entry content none are = longer history entry None content none (quiet_told _ _ _ are)
 
-traced : (form : StrForm) → IsTraced list_meaning form IsGoodTrace
+traced : (form : StrForm) → IsSeen list_meaning list_meaning form (list_seen form) IsGoodTrace
 traced form = record {
   none = none_good [] (shape_of form);
   done = grind (arith, longer, done_told);
   same = quiet_longer;
-  leave = λ history entry who content none departs are. quiet_longer history entry content none are;
-  back = λ history entry content none returns are. quiet_longer history entry content none are;
+  leave = λ history entry conn keep content none are. quiet_longer history entry content none are;
+  back = quiet_longer;
   forget = quiet_longer;
-  clear = λ history entry content none gone are. none_good (told_in (history ++ entry ∷ [])) (shape_of form);
+  clear = λ history entry content none are. none_good (told_in (history ++ entry ∷ [])) (shape_of form);
 }
 
 pub versions_replay : (form : StrForm) (history : ListHistory) → IsLegalList form history
     → length history < 4294967295 → AreVersioned (told_in history) (content_after form history).lists
 versions_replay form history legal few = versioned (told_in history) (content_after form history)
-    (traced-replay list_meaning form refl IsGoodTrace (traced form) history (legal-answered list_meaning form
-    refl history (continues_legal list_meaning form history legal))) (omega (arith, few, length-map history told_by))
+    (traced-replay list_meaning form refl (λ before content. IsGoodTrace before (list_in content))
+    (traced-seen list_meaning list_meaning form (list_seen form) IsGoodTrace (traced form)) history
+    (legal-answered list_meaning form refl history (continues_legal list_meaning form history legal)))
+    (omega (arith, few, length-map history told_by))
 
 -- ---- after every command
 

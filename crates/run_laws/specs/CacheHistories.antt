@@ -1,5 +1,5 @@
 -- The history of a cache structure: what it leads to, and which of its entries are accepted commands on the content.
-use Rattle.std.specs.Prelude.{Bool, IsTrue, false, List, [], ◌∷◌, ◌++◌, Option, is_some, option_map, unwrap_or}
+use Rattle.std.specs.Prelude.{Bool, IsTrue, false, List, [], ◌∷◌, ◌++◌, Option, Some, is_some, option_and_then, option_map, unwrap_or}
 use Rattle.plex_board.specs.CfTypes.declared.cache_commands.CacheCmd.{CacheCmd}
 use Rattle.plex_board.specs.CfTypes.declared.cache_commands.CacheReply.{CacheReply}
 use Rattle.plex_board.specs.CfTypes.declared.forms.Caps.{Caps}
@@ -17,6 +17,17 @@ CacheEntry = Entry CacheCmd CacheReply
 abbrev pub CacheHistory : Type 0
 CacheHistory = List CacheEntry
 
+-- ---- the cache in a structure. What stands round a cache may have commands and a content of its own, in which the
+-- cache has its part; a cache alone is the whole of both
+
+-- the cache in a structure's content
+abbrev pub cache_in : Content → Content
+cache_in content = content
+
+-- the cache's command in an accepted one of the structure
+abbrev pub cache_told : AcceptedOf CacheCmd CacheReply → Option (AcceptedOf CacheCmd CacheReply)
+cache_told told = Some told
+
 -- ---- what a history leads to
 
 abbrev pub IsLegalCache : StrForm → CacheHistory → Type 0
@@ -24,7 +35,7 @@ IsLegalCache form history = IsLegal cache_meaning form history
 
 -- the directory and the registrations after a history
 abbrev pub content_after : StrForm → CacheHistory → Content
-content_after form history = (replay cache_meaning form history).content
+content_after form history = cache_in (replay cache_meaning form history).content
 
 -- the capacity of its instances
 abbrev pub capacity_after : StrForm → CacheHistory → Caps
@@ -52,7 +63,7 @@ Accepted = AcceptedOf CacheCmd CacheReply
 
 -- the accepted command that an entry tells, if it tells one
 abbrev pub acceptance_of : CacheEntry → Option Accepted
-acceptance_of entry = accepted_as entry.what entry.reply
+acceptance_of entry = option_and_then cache_told (accepted_as entry.what entry.reply)
 
 -- the entry tells an accepted command of this sort
 abbrev pub is_accepted : (CacheCmd → Bool) → CacheEntry → Bool

@@ -1,5 +1,5 @@
 -- Links that were asked as a history says have its marks and calls.
-use Rattle.struct_cell.proofs.Imports.{◌≡◌, ℕ, List, Option, sym, subst, StrForm, CfId, IsFacility, Entry, answers, IsLegal, Meaning, marks_at, marks_counted, AreAsked, Links, link_at, asked_calls, asked_faults, asked_told, TellsEnough, IsCountedAs}
+use Rattle.struct_cell.proofs.Imports.{ℕ, List, Option, sym, subst, StrForm, CfId, IsFacility, Entry, answers, IsLegal, Meaning, marks_at, marks_counted, AreAsked, Links, link_at, asked_calls, asked_faults, asked_told, TellsEnough, IsCountedAs}
 use Rattle.struct_machine.specs.CfIo.Count.{RisesBy}
 
 module _ {C R I S L : Type 0} (calls : L → Option ℕ) (downs : L → Option (List ℕ)) (faults : L → ℕ)

@@ -45,4 +45,4 @@ returns-clause-linked g c =
     closed_links g.L.Link.calls g.L.Link.downs g.L.Link.faults g.E.Engine.meaning
     c.self.inside.lock.key c.args.self _ _ _ c.ended-inside.result.journal.items c.from_vec.result
     _ c.args.passes.items c.ended-inside.ensures c.self.view_is c.from_vec.ensures laws.tells_enough
-    c.into_parts.result.links (search rules)
+    c.into_parts-parts.result.links (search rules)
