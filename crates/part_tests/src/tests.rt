@@ -7,7 +7,6 @@ mod locks;
 mod machines;
 mod pools;
 mod reading;
-mod sames;
 mod scripts;
 mod shells;
 mod writing;
