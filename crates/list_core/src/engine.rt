@@ -1,17 +1,14 @@
 ghost use Rattle.std.specs.Prelude.{◌≡◌};
-ghost use Rattle.cf_types.specs.Forms.{IsCapacity};
-ghost use Rattle.list_model.specs.Contents.{IsContent};
-ghost use Rattle.list_model.specs.Sublists.{sublist, turning};
+ghost use Rattle.list_model.specs.Sublists.{sublist};
 
 use crate::items::{copy_item, count_items, place_item};
 use crate::plans::{Plan, act, make_plan};
-use crate::turning::turning;
 use cf_types::{
     Caps, ConnId, Effects, EntryId, Key16, ListCmd, ListReply, NoMemory, Refusal, StrForm,
 };
 use engine_api::{Engine, Shape};
 use list_kept::{Kept, count, elements_of_others, sublist};
-use list_model::{ListItem, Turning};
+use list_model::ListItem;
 use std::alloc::Global;
 use std::marker::Model;
 
@@ -66,20 +63,6 @@ impl ListEngine {
     {
         sublist(&self.kept, header, key)
     }
-
-    /// The sublists that a command may turn, where it isn't refused: no others have records behind
-    /// it that had none, nor the other way round.
-    pub fn turning(&self, cmd: &ListCmd) -> Turning
-        ensures { result ≡ turning self.now.held.state cmd.now }
-    {
-        turning(&self.kept, cmd)
-    }
-
-    /// What it holds is a content.
-    pub fn content_is(&self)
-        ensures content { IsContent self.now.held.shape self.now.held.caps self.now.held.state }
-        ensures caps { IsCapacity self.now.held.caps }
-    {}
 }
 
 impl Engine for ListEngine {

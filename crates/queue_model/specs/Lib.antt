@@ -1,6 +1,0 @@
-pub mod FirstItems
-pub mod Queues
-pub mod Meaning
-pub mod Renewals
-pub mod Orders
-pub mod ListQueues
