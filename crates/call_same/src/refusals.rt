@@ -21,6 +21,10 @@ impl Same for Refusal {
                 *need == *n && *free == *f
             }
             (Refusal::BadClass { class }, Refusal::BadClass { class: c }) => *class == *c,
+            (Refusal::BeyondUnits { asked, units }, Refusal::BeyondUnits { asked: a, units: u }) =>
+                { *asked == *a && *units == *u }
+            (Refusal::NoAlter, Refusal::NoAlter) => true,
+            (Refusal::NoQueued, Refusal::NoQueued) => true,
             (Refusal::NoRecordThere, Refusal::NoRecordThere) => true,
             (Refusal::NameTaken { id }, Refusal::NameTaken { id: i }) => id.is_same(i),
             (

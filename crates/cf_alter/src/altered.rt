@@ -185,7 +185,7 @@ impl<E: SetCaps> Engine for Altered<E> {
         self.inner.item_in(alloc, order, k)
     }
 
-    fn place(&mut self, item: Self::Item) -> Result<(), Self::Item> {
+    fn place(&mut self, item: Self::Item) -> Result<(), (Self::Item, NoMemory)> {
         self.inner.place(item)
     }
 

@@ -11,7 +11,7 @@ pub use Rattle.lock_model.proofs.Imports.{lock_meaning, none_hold, OwnersAreComp
 pub use Rattle.lock_model.proofs.DepartureLaws.{led_departed, content-returned}
 pub use Rattle.plex_script.proofs.Imports.{AnyCall, any_call, any_calls, any_length, own_calls, call_numbered, calls_on, is_linked, length_on, calls_of, length_of, first_step, step_after, most_asks, asked_by, call_of, shell_ask, declared_in, is_twice, kind_of, Declares, AddsDeclaration, AddsOfCaller, AddsWords, AddsAll, IsScript, empty_script, line_number, with_declaration, same_word-of, numeral-decimal, Words, characters-term, term-name, facility_word, connector_line, is_name, name_word, is_numeral, same_word, words_of, line_text, tail_of, line_of, decimal-numeral, SaysOne, IsExclusive, is_ask_of, script_text, TellsFault}
 unfoldable pub use Rattle.struct_cell.proofs.Imports.{indices_of, conns_from, actives, no_connections, empty_mail}
-pub use Rattle.std.proofs.Common.{◌≡◌, ℕ, List, [], ◌∷◌, ◌++◌, sym, ap, ◌∙◌, IfOk, Ok, Err, Result, ◌+◌, length, map, subst, arith, All, Option, ◌-◌, ◌<◌, ◌≤◌, get_or, set, get_or-set_other, Some, get_or-set_same, refl, append_assoc, option_to_list, suc, ◌*◌, ◌==◌, Bool, true, false, suc-le-suc, zero-lt-suc, zero, slice_get, ◌≢◌, None, IfErr, IfSome, ◌⊎◌, inl, inr, take, fold, Contains, is_some, option_map, ◌%◌, Vec, drop, if◌then◌else◌, ◌^◌, add-zero, mod-eq_of_lt, replicate, IsSome, IfNone}
+pub use Rattle.std.proofs.Common.{◌≡◌, ℕ, List, [], ◌∷◌, ◌++◌, sym, ap, ◌∙◌, IfOk, Ok, Err, Result, ◌+◌, length, map, subst, arith, All, Option, ◌-◌, ◌<◌, ◌≤◌, get_or, set, get_or-set_other, Some, get_or-set_same, refl, append_assoc, option_to_list, suc, ◌*◌, ◌==◌, Bool, true, false, suc-le-suc, zero-lt-suc, zero, slice_get, ◌≢◌, None, IfErr, IfSome, ◌⊎◌, inl, inr, take, fold, Contains, is_some, option_map, ◌%◌, Vec, drop, if◌then◌else◌, ◌^◌, add-zero, mod-eq_of_lt, replicate, IsSome, IfNone, rules}
 pub use Rattle.std.proofs.Math.Nat.{pow-suc}
 pub use Rattle.std.proofs.Math.Seq.{drop-append_seam}
 pub use Rattle.std.proofs.lemmas.List.{take-map, drop-map}
@@ -20,7 +20,7 @@ pub use Rattle.std.proofs.lemmas.Bool.Decides.{nat_tests, same_from_decides, Dec
 pub use Rattle.std.proofs.lemmas.List.Sums.{fold_push, sum_by_push}
 pub use Rattle.std.proofs.lemmas.Option.{slice_get_within, get_or_from_slice_get, slice_get_read, slice_get-map}
 pub use Rattle.plex_script.specs.CfTypes.NoMemory.Wants.{want}
-pub use Rattle.plex_script.specs.CfTypes.declared.limits.TheConstants.{LINKS, STRUCTURES}
+pub use Rattle.plex_script.specs.CfTypes.declared.limits.TheConstants.{LINKS, STRUCTURES, CONNECTORS}
 pub use Rattle.plex_script.specs.CfTypes.declared.{forms.Kind.Kind, forms.StrForm.StrForm, numbers.CfId.CfId}
 pub use Rattle.plex_script.specs.CfTypes.declared.{numbers.ConnId.ConnId, numbers.StrNo.StrNo}
 pub use Rattle.plex_script.specs.EngineApi.declared.told.Told.{Told}
@@ -38,9 +38,9 @@ pub use Rattle.plex_board.specs.Cells.{CellShown, IsPassOf, IsAnyTold, own_repli
 pub use Rattle.plex_board.specs.Desks.{DeskShown, no_pass, Fixed, fixed_of, pass_at, with_pass, IsAnsweredOn, IsLaterOn}
 pub use Rattle.plex_board.specs.Kinds.{IsAnyPoint, any_answers, IsOfKind, IsAnyLegal, Rising, any_take, no_calls, AreAnyAsTold, any_next, any_told, any_numbers, end_of, last_number, numbers_from, MayAskAny, AnyTells, any_stands, any_word, any_marks_at}
 pub use Rattle.plex_board.specs.Notes.{with_any_note, with_note}
-pub use Rattle.plex_board.specs.Openings.{bare_desk, desk_with, desk_at, IsOpening, IsUnused}
+pub use Rattle.plex_board.specs.Openings.{bare_desk, desk_with, desk_at, IsOpening, IsUnused, IsBegun}
 pub use Rattle.plex_board.specs.Passes.{PassShown, IsAnswered, call_by, heard_by, reply_by, replies_by, shown_as, with_call, unused_pass, passes_shown, type_of_passes, room_of, NoteShown, IsLater, reply_numbered, note_shown, pass_shown, note_of}
-pub use Rattle.plex_board.specs.Rests.{HomeShown, homes_shown, AllFit, homes_gathered, AreHomes, AreEmpty, AreEnded, IsReady, each_with, home_shown, home_with, Fits, IsHomeOf}
+pub use Rattle.plex_board.specs.Rests.{HomeShown, homes_shown, AllFit, homes_gathered, AreHomes, AreEmpty, AreEnded, IsReady, each_with, home_shown, home_with, Fits, IsHomeOf, IsRoomy}
 pub use Rattle.plex_board.specs.Told.{next_by, told_by, after_call, down_of, is_listed}
 pub use Rattle.plex_board.specs.Types.{StrType, OfCache, type_of_kind, OfList, OfLock, type_of_history, type_of_ask}
 pub use Rattle.plex_board.specs.declared.{any_note.AnyNote.AnyNote, opening.Opening.Opening}

@@ -1,5 +1,5 @@
 -- What is known as structures are made one after the other.
-use Rattle.plex_board.proofs.Imports.{◌≡◌, ℕ, ◌≤◌, List, [], ◌∷◌, ◌++◌, map, refl, sym, ap, subst, ◌∙◌, arith, All, map-append, All-push, All-nil, All-map, StrForm, Links, AnyPasses, StrType, type_of_kind, PassShown, unused_pass, passes_shown, type_of_passes, room_of, CellShown, WordTable, DeskShown, IsStarted, each_with, HomeShown, home_shown, homes_shown, IsHomeOf, AreHomes, AreEmpty, desk_with, desk_at}
+use Rattle.plex_board.proofs.Imports.{◌≡◌, ℕ, ◌+◌, ◌≤◌, List, [], ◌∷◌, ◌++◌, map, refl, sym, ap, subst, ◌∙◌, arith, All, map-append, All-push, All-nil, All-map, StrForm, Links, AnyPasses, StrType, type_of_kind, PassShown, unused_pass, passes_shown, type_of_passes, room_of, CellShown, WordTable, DeskShown, IsStarted, each_with, HomeShown, home_shown, homes_shown, IsHomeOf, AreHomes, AreEmpty, desk_with, desk_at, length, Rest, IsBegun, IsRoomy, IsReady, CONNECTORS, STRUCTURES}
 
 -- a caller that has seen nothing hasn't called
 pub unused-calls : (str_type : StrType) (words : WordTable) (passes : List PassShown) (owners : List ℕ)
@@ -63,3 +63,17 @@ module _ {L : Type 0} where
   pub empty-home : (n : ℕ) (cell : CellShown L) (home : AnyPasses) → type_of_passes home ≡ cell.str_type
       → passes_shown home ≡ [] → n ≤ room_of home → IsHomeOf n cell (home_shown home)
   empty-home n cell home is none room = grind (arith, All-nil)
+
+  -- what an opening leaves, with the spare links in it, is ready for the end
+  pub opened-ready : (callers : ℕ) (cells : List (CellShown L)) (rest after key : Rest L) → key ≡ after
+      → IsBegun callers cells rest → callers ≤ CONNECTORS → length cells ≤ STRUCTURES
+      → homes_shown after.homes.items ≡ homes_shown rest.homes.items → IsRoomy (length cells) after
+      → IsReady cells callers key
+  opened-ready callers cells rest after key is begun few_callers few same room =
+      subst (IsReady cells callers) (sym is) (record {
+        few = few;
+        few_callers = few_callers;
+        homes = subst (AreHomes (callers + 1) cells) (sym same) begun.homes;
+        empty = subst AreEmpty (sym same) begun.empty;
+        room = room;
+      })

@@ -1,5 +1,5 @@
 -- What is known of a tray whose slot on a structure is read or written.
-use Rattle.plex_board.proofs.Imports.{◌≡◌, ℕ, zero, suc, ◌<◌, List, [], ◌∷◌, length, get_or, set, map, refl, sym, ap, ◌∙◌, arith, ◌⊎◌, inl, inr, Some, None, Option, slice_get, IfSome, option_map, length-set, length-map, map-set, map-set_same, slice_get_read, slice_get-map, slice_get_within, StrNo, AnyNote, NoteShown, note_shown, CellShown, IsNoteOf, BoardShown, cell_on, IsTrayOf}
+use Rattle.plex_board.proofs.Imports.{◌≡◌, ℕ, zero, suc, ◌<◌, List, [], ◌∷◌, length, get_or, set, map, refl, sym, ap, ◌∙◌, arith, ◌⊎◌, inl, inr, Some, None, Option, slice_get, IfSome, option_map, length-set, length-map, map-set, map-set_same, slice_get_read, slice_get-map, slice_get_within, StrNo, AnyNote, NoteShown, note_shown, CellShown, IsNoteOf, BoardShown, cell_on, IsTrayOf, replicate, length-replicate}
 
 -- an element after one was written: the written one, or what was there
 element-after : {X : Type 0} (xs : List X) (i x : ℕ) (v w : X) → slice_get (set xs i v) x ≡ Some w
@@ -11,7 +11,21 @@ element-after (y ∷ xs) (suc i) zero v w at = inr at
 element-after {X} (y ∷ xs) (suc i) (suc x) v w at =
     elim (element-after xs i x v w at) [ inl e ↦ inl (e.0, ap suc e.1) | inr e ↦ inr e ]
 
+-- among slots without notes there is none with one
+no-note : {X : Type 0} (n x : ℕ) (w : X) → slice_get (replicate n None) x ≡ Some (Some w) → ⊥
+no-note zero x w at = grind arith
+no-note (suc n) zero w at = grind arith
+no-note (suc n) (suc x) w at = no-note n x w at
+
 module _ {L : Type 0} (board : BoardShown L) where
+  -- a tray without notes is the board's
+  pub none-of_board : (n : ℕ) (tray : List (Option NoteShown)) → tray ≡ replicate n None → n ≡ length board.cells
+      → IsTrayOf board tray
+  none-of_board n tray are count = record {
+    slots = grind (arith, length-replicate);
+    notes = λ x cell note there at. absurd (no-note n x note (sym (ap (λ t. slice_get t x) are) ∙ at));
+  }
+
   module _ (tray : List (Option NoteShown)) (on : StrNo) (cell : CellShown L) (of : IsTrayOf board tray)
       (cell_is : cell_on board on ≡ Some cell) where
     -- the tray stays the board's where a note of the cell comes in

@@ -1,6 +1,10 @@
-use Rattle.plex_board.proofs.Imports.{sym, subst, homes_shown, IsUnused}
-use Rattle.plex_board.proofs.UnusedLaws.{opening-unused}
+use Rattle.plex_board.proofs.Imports.{refl, rules, sym, subst, homes_shown, IsUnused}
+use Rattle.plex_board.proofs.{OpenLaws.opened-ready, UnusedLaws.opening-unused}
 use Rattle.plex_board.proofs.opening.Opening.open.Goals as goal
+
+pub of-requires-after_bounds : goal.of-requires-after_bounds
+of-requires-after_bounds g c κs within = opened-ready _ _ c.args.self.rest _ _ c.in-Ok.ensures.made
+    c.requires.opening.begun c.requires.callers c.requires.few refl (search rules)
 
 pub end_unused-requires-clause-unused : goal.end_unused-requires-clause-unused
 end_unused-requires-clause-unused g c κs within =
