@@ -66,8 +66,8 @@ pub fn uncast_kept(form: &StrForm, history: &History<CacheCmd, CacheReply>)
 
 /// What an engine's `apply` leaves of a cache that was empty at first, whatever commands, each at a
 /// capacity of its own, departures and ends of registrations came before. At each index where a
-/// connector is registered for a name, it has a copy of what the name's entry has: what its last accepted READ_DATA there
-/// answered, or WRITE_DATA wrote. A name whose changed WRITE_DATA isn't cast out has a changed
+/// connector is registered for a name, it has a copy of what the name's entry has: what its last
+/// accepted READ_DATA there answered, or WRITE_DATA wrote. A name whose changed WRITE_DATA isn't cast out has a changed
 /// entry, with the data, adjunct and class of that WRITE_DATA. And names, indexes and registrations
 /// are unique.
 pub fn after_apply()

@@ -1,3 +1,4 @@
+use Rattle.run_laws.proofs.Imports.{refl}
 use Rattle.run_laws.proofs.EntryLaws.{step_agrees, replies_agree}
 use Rattle.run_laws.proofs.locks.table_entries_play_no_part.Goals as goal
 
