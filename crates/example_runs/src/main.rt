@@ -13,7 +13,6 @@ ghost use Rattle.std.specs.Prelude.{◌≡◌, IfOk, length};
 ghost use Rattle.example_runs.specs.declared.listed.TheConstants.{LINKS};
 
 use listed::listed;
-use plex_engines::Engines;
 use plex_run::agents::OpenGate;
 use plex_run::links::ListLink;
 use plex_run::run;
@@ -51,7 +50,7 @@ fn report_of(
     )?;
     let mut words = Vec::new(alloc);
     words.push(String::from_str(alloc, word)?)?;
-    let status = run::<Engines, _, _, _, _, _>(
+    let status = run(
         rt,
         alloc,
         &words,

@@ -11,10 +11,11 @@ ghost use Rattle.plex_board.specs.Callers.{IsLineFor, Serves, Closes, no_items};
 use crate::calls::{LineCall, ask_all};
 use crate::items::{is_done, take_items};
 use crate::vectors::{post, take, test, test_word};
+use plex_board::Desk;
 use plex_board::links::Link;
 use plex_board::scripts::{Act, AgentEnd, Gate, Line, Shown, Step, Transcript, closing_ask};
 use plex_board::types::{Listing, NoMemory, StrNo};
-use plex_board::{Board, Desk, Kinds};
+use plex_engines::Board;
 use std::alloc::Global;
 use std::sync::Wait;
 
@@ -30,12 +31,12 @@ fn end_after(shown: Result<(), NoMemory>) -> AgentEnd
 }
 
 // Does what a line says.
-fn act<K: Kinds, L: Link>(
+fn act<L: Link>(
     rt: &impl Wait,
     alloc: Global,
     line: &Line,
     desk: &mut Desk,
-    board: &Board<K, L>,
+    board: &Board<L>,
     items: &mut Vec<Shown>,
 ) -> AgentEnd
     requires desk { IsDeskOf board.now desk.old }
@@ -72,12 +73,12 @@ fn act<K: Kinds, L: Link>(
 /// line says while a rebuild holds it up; an event round; a test of the caller's own vector
 /// (IXLVECTR); a POST or a TAKE. What comes of it is shown. Where the caller's work has ended, by a
 /// full journal or for want of memory, nothing is done.
-pub fn turn<K: Kinds, L: Link>(
+pub fn turn<L: Link>(
     rt: &impl Wait,
     alloc: Global,
     line: &Line,
     desk: &mut Desk,
-    board: &Board<K, L>,
+    board: &Board<L>,
     shown: &mut Transcript,
 )
     requires desk { IsDeskOf board.now desk.old }
@@ -103,12 +104,12 @@ pub fn turn<K: Kinds, L: Link>(
 }
 
 // A connector departs from a structure at which it is active.
-fn depart<K: Kinds, L: Link>(
+fn depart<L: Link>(
     rt: &impl Wait,
     alloc: Global,
     on: StrNo,
     desk: &mut Desk,
-    board: &Board<K, L>,
+    board: &Board<L>,
     shown: &mut Transcript,
 )
     requires desk { IsDeskOf board.now desk.old }
@@ -141,11 +142,11 @@ fn depart<K: Kinds, L: Link>(
 /// A connector that has done its lines departs (DISCONNECT, IXLDISC) from each structure at which
 /// it is active by the replies to its own calls, in the order of the script. The operator has no
 /// closing.
-pub fn closing<K: Kinds, L: Link>(
+pub fn closing<L: Link>(
     rt: &impl Wait,
     alloc: Global,
     desk: &mut Desk,
-    board: &Board<K, L>,
+    board: &Board<L>,
     shown: &mut Transcript,
 )
     requires desk { IsDeskOf board.now desk.old }
@@ -164,12 +165,12 @@ pub fn closing<K: Kinds, L: Link>(
 }
 
 // A turn, of which the gate is told, unless the caller's work ended before.
-fn gated_turn<K: Kinds, L: Link, G: Gate>(
+fn gated_turn<L: Link, G: Gate>(
     rt: &impl Wait,
     alloc: Global,
     line: &Line,
     desk: &mut Desk,
-    board: &Board<K, L>,
+    board: &Board<L>,
     gate: &G,
     shown: &mut Transcript,
 )
@@ -194,12 +195,12 @@ fn gated_turn<K: Kinds, L: Link, G: Gate>(
 
 /// Does the lines of the desk's owner among those of the script, in order, and then its closing.
 /// The gate is told of each of the lines.
-pub fn serve<K: Kinds, L: Link, G: Gate>(
+pub fn serve<L: Link, G: Gate>(
     rt: &impl Wait,
     alloc: Global,
     lines: &[Line],
     desk: &mut Desk,
-    board: &Board<K, L>,
+    board: &Board<L>,
     gate: &G,
 ) -> Transcript
     requires desk { IsDeskOf board.now desk.old }

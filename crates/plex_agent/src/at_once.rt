@@ -14,21 +14,22 @@ ghost use Rattle.plex_agent.specs.Crews.{IsIdle, Works, WorkEach, IsServed};
 use crate::crew::seat;
 use crate::in_turn::{Finished, finish};
 use crate::worker::Worker;
+use plex_board::Desk;
 use plex_board::links::Link;
 use plex_board::scripts::{Gate, Line, Script, Transcript};
 use plex_board::types::NoMemory;
-use plex_board::{Board, Desk, Kinds};
+use plex_engines::Board;
 use std::alloc::Global;
 use std::sync::Wait;
 use std::thread;
 use std::thread::Threads;
 
 // Each of the workers does its lines and its departures, on at most this many threads.
-fn work_all<K: Kinds, R: Threads + Wait + Sync, L: Link, G: Gate>(
+fn work_all<R: Threads + Wait + Sync, L: Link, G: Gate>(
     rt: &R,
     alloc: Global,
     lines: &[Line],
-    board: &Board<K, L>,
+    board: &Board<L>,
     gate: &G,
     threads: usize,
     workers: &mut [Worker],
@@ -52,11 +53,11 @@ fn work_all<K: Kinds, R: Threads + Wait + Sync, L: Link, G: Gate>(
 // Each caller does its lines, in their order, and then its departures, on a thread of its own where
 // threads can be made. Where none can be made the callers work one after another. The desks come
 // back also where there was no memory.
-fn work<K: Kinds, R: Threads + Wait + Sync, L: Link, G: Gate>(
+fn work<R: Threads + Wait + Sync, L: Link, G: Gate>(
     rt: &R,
     alloc: Global,
     script: &Script,
-    board: &Board<K, L>,
+    board: &Board<L>,
     desks: Vec<Desk>,
     gate: &G,
 ) -> (Result<Vec<Transcript>, NoMemory>, Vec<Desk>)
@@ -92,7 +93,7 @@ fn work<K: Kinds, R: Threads + Wait + Sync, L: Link, G: Gate>(
 /// one stops. The gate is told of each line before and after it. There are 64 links: structure `s`,
 /// from 0, has the links `4 * s` to `4 * s + 3`, one to each facility. They come back in their
 /// order, also where there was no memory.
-pub fn threads<K: Kinds, R: Threads + Wait + Sync, L: Link, G: Gate>(
+pub fn threads<R: Threads + Wait + Sync, L: Link, G: Gate>(
     rt: &R,
     alloc: Global,
     limit: u32,
@@ -112,7 +113,7 @@ pub fn threads<K: Kinds, R: Threads + Wait + Sync, L: Link, G: Gate>(
         script.now.structures it.histories links.items result.1.items) }
     ensures count { length result.1.items ≡ length links.items }
 {
-    let (board, desks) = match Board::<K, L>::start(rt, alloc, script, limit, links) {
+    let (board, desks) = match Board::start(rt, alloc, script, limit, links) {
         Ok(begun) => begun,
         Err((links, cause)) => return (Err(cause), links),
     };

@@ -12,11 +12,12 @@ ghost use Rattle.plex_board.specs.PlexScript.Agent.{IsReady};
 ghost use Rattle.plex_agent.specs.Calls.{IsAskable, IsAsked, at_work, end_of};
 
 use crate::items::reserve_item;
+use plex_board::Desk;
 use plex_board::cells::CallRefused;
 use plex_board::links::Link;
 use plex_board::scripts::{AgentEnd, AnyAsk, Shown, Step};
 use plex_board::types::StrNo;
-use plex_board::{Board, Desk, Kinds};
+use plex_engines::Board;
 use std::alloc::Global;
 use std::sync::Wait;
 
@@ -46,10 +47,10 @@ fn end_of(on: StrNo, refusal: CallRefused) -> AgentEnd
 
 // The call of a step, shown by its number; the step behind it. Where there is no memory for the
 // item or for the copy of the line's call, the call isn't made.
-fn ask_step<K: Kinds, L: Link>(
+fn ask_step<L: Link>(
     rt: &impl Wait,
     alloc: Global,
-    board: &Board<K, L>,
+    board: &Board<L>,
     call: &LineCall<'_>,
     now: Step,
     desk: &mut Desk,
@@ -88,10 +89,10 @@ fn ask_step<K: Kinds, L: Link>(
 /// Makes the calls of a line at a structure, from its first step on, till nothing is left to ask.
 /// Each answered call is shown by its number. A full journal, or want of memory, ends the caller's
 /// work.
-pub(crate) fn ask_all<K: Kinds, L: Link>(
+pub(crate) fn ask_all<L: Link>(
     rt: &impl Wait,
     alloc: Global,
-    board: &Board<K, L>,
+    board: &Board<L>,
     call: &LineCall<'_>,
     first: Step,
     desk: &mut Desk,

@@ -9,10 +9,11 @@ ghost use Rattle.plex_agent.specs.Standing.{IsFloorOf, IsTurn, IsPlayable, Takes
 
 use crate::agent::{closing, turn};
 use crate::worker::Worker;
+use plex_board::Tray;
 use plex_board::links::Link;
 use plex_board::scripts::{Act, Line, Script, Shown};
 use plex_board::types::{ConnId, NoMemory, StrNo};
-use plex_board::{Board, Kinds, Tray};
+use plex_engines::Board;
 use std::alloc::Global;
 use std::marker::Model;
 use std::sync::Wait;
@@ -74,7 +75,7 @@ impl Floor {
 
     // Before a caller acts on a structure it is told what the one who acted there last knows of it:
     // nothing where that is itself, or was nobody.
-    fn hear<K: Kinds, L: Link>(&mut self, board: &Board<K, L>, by: ConnId, on: StrNo)
+    fn hear<L: Link>(&mut self, board: &Board<L>, by: ConnId, on: StrNo)
         requires floor { IsFloorOf board.now self.old }
         requires by { by.0 ≤ board.now.callers }
         requires place { on.0 < length board.now.cells }
@@ -100,13 +101,7 @@ impl Floor {
     }
 
     // A caller's turn.
-    fn work<K: Kinds, L: Link>(
-        &mut self,
-        rt: &impl Wait,
-        alloc: Global,
-        board: &Board<K, L>,
-        line: &Line,
-    )
+    fn work<L: Link>(&mut self, rt: &impl Wait, alloc: Global, board: &Board<L>, line: &Line)
         requires floor { IsFloorOf board.now self.old }
         requires line { IsPlayable board.now line.now }
         ensures turned { TakesTurn board.now line.now self.old self.new }
@@ -118,13 +113,7 @@ impl Floor {
 
     // A line but for a POST and a TAKE. Where it is counted, its caller hears before it, and has
     // then acted on the structure.
-    fn turn<K: Kinds, L: Link>(
-        &mut self,
-        rt: &impl Wait,
-        alloc: Global,
-        board: &Board<K, L>,
-        line: &Line,
-    )
+    fn turn<L: Link>(&mut self, rt: &impl Wait, alloc: Global, board: &Board<L>, line: &Line)
         requires floor { IsFloorOf board.now self.old }
         requires line { IsPlayable board.now line.now }
         requires turn { IsTurn line.now.act }
@@ -141,7 +130,7 @@ impl Floor {
     }
 
     // A POST by the tray.
-    fn post<K: Kinds, L: Link>(&mut self, board: &Board<K, L>, line: &Line) -> Result<(), NoMemory>
+    fn post<L: Link>(&mut self, board: &Board<L>, line: &Line) -> Result<(), NoMemory>
         requires floor { IsFloorOf board.now self.old }
         requires line { IsPlayable board.now line.now }
         ensures posted { OnOk result (PlaysActOn board.now line.now act.Post self.old self.new) }
@@ -154,7 +143,7 @@ impl Floor {
     }
 
     // A TAKE by the tray.
-    fn take<K: Kinds, L: Link>(&mut self, board: &Board<K, L>, line: &Line) -> Result<(), NoMemory>
+    fn take<L: Link>(&mut self, board: &Board<L>, line: &Line) -> Result<(), NoMemory>
         requires floor { IsFloorOf board.now self.old }
         requires line { IsPlayable board.now line.now }
         ensures took { OnOk result (PlaysActOn board.now line.now act.Take self.old self.new) }
@@ -167,11 +156,11 @@ impl Floor {
     }
 
     // A line of the script, unless its caller's work has ended.
-    fn line<K: Kinds, L: Link>(
+    fn line<L: Link>(
         &mut self,
         rt: &impl Wait,
         alloc: Global,
-        board: &Board<K, L>,
+        board: &Board<L>,
         line: &Line,
     ) -> Result<(), NoMemory>
         requires floor { IsFloorOf board.now self.old }
@@ -194,13 +183,7 @@ impl Floor {
 
     // The departures of a connector, unless its work has ended. Before them it hears at every
     // structure, and has then acted on each.
-    fn close<K: Kinds, L: Link>(
-        &mut self,
-        rt: &impl Wait,
-        alloc: Global,
-        board: &Board<K, L>,
-        conn: ConnId,
-    )
+    fn close<L: Link>(&mut self, rt: &impl Wait, alloc: Global, board: &Board<L>, conn: ConnId)
         requires floor { IsFloorOf board.now self.old }
         requires connector { IsConnector conn }
         requires conn { conn.0 ≤ board.now.callers }
@@ -222,11 +205,11 @@ impl Floor {
 
     /// The whole of a script: its lines in their order, then the departures of its connectors in
     /// number order.
-    pub(crate) fn play<K: Kinds, L: Link>(
+    pub(crate) fn play<L: Link>(
         &mut self,
         rt: &impl Wait,
         alloc: Global,
-        board: &Board<K, L>,
+        board: &Board<L>,
         script: &Script,
     ) -> Result<(), NoMemory>
         requires start { self.old ≡ new_floor board.now }

@@ -16,10 +16,11 @@ ghost use Rattle.plex_agent.specs.Exact.{IsSerialRun};
 
 use crate::crew::seat;
 use crate::floor::{Floor, nobody};
+use plex_board::Desk;
 use plex_board::links::Link;
 use plex_board::scripts::{AgentEnd, AnyHistory, Script, Transcript};
 use plex_board::types::{Listing, NoMemory};
-use plex_board::{Board, Desk, Kinds};
+use plex_engines::Board;
 use std::alloc::Global;
 use std::mem::drop;
 use std::sync::Wait;
@@ -81,11 +82,11 @@ pub(crate) fn finish(
 }
 
 // Plays a script to its end at a board. The desks come back also where there was no memory.
-fn play<K: Kinds, L: Link>(
+fn play<L: Link>(
     rt: &impl Wait,
     alloc: Global,
     script: &Script,
-    board: &Board<K, L>,
+    board: &Board<L>,
     desks: Vec<Desk>,
 ) -> (Result<Vec<Transcript>, NoMemory>, Vec<Desk>)
     requires desks { desks.items
@@ -133,7 +134,7 @@ fn play<K: Kinds, L: Link>(
 /// number order. A journal of `limit` entries or more takes no call; the caller whose call comes to
 /// one stops. There are 64 links: structure `s`, from 0, has the links `4 * s` to `4 * s + 3`, one
 /// to each facility. They come back in their order, also where there was no memory.
-pub fn serial<K: Kinds, L: Link>(
+pub fn serial<L: Link>(
     rt: &impl Wait,
     alloc: Global,
     limit: u32,
@@ -155,7 +156,7 @@ pub fn serial<K: Kinds, L: Link>(
         script.now.structures it.histories links.items result.1.items) }
     ensures count { length result.1.items ≡ length links.items }
 {
-    let (board, desks) = match Board::<K, L>::start(rt, alloc, script, limit, links) {
+    let (board, desks) = match Board::start(rt, alloc, script, limit, links) {
         Ok(begun) => begun,
         Err((links, cause)) => return (Err(cause), links),
     };

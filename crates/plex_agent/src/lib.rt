@@ -23,4 +23,4 @@ pub use at_once::threads;
 pub use in_turn::{Finished, serial};
 pub use laws::serve_right;
 pub use plex_board::scripts::{AgentEnd, AnyAsk, AnyHistory, Gate, OpenGate, Shown, Transcript};
-pub use plex_board::{Kinds, links as links, sources as sources};
+pub use plex_board::{links as links, sources as sources};

@@ -6,16 +6,17 @@ ghost use Rattle.plex_board.specs.Turns.{Looks, LooksAtWord, Posts, Takes};
 ghost use Rattle.plex_agent.specs.Calls.{at_work};
 
 use crate::items::reserve_item;
+use plex_board::Desk;
 use plex_board::links::Link;
 use plex_board::scripts::Shown;
 use plex_board::types::{NoMemory, StrNo};
-use plex_board::{Board, Desk, Kinds};
+use plex_engines::Board;
 use std::sync::Wait;
 
 /// Tests a bit of the caller's own vector, and shows the answer, or that the bit isn't in the
 /// vector. Want of memory changes nothing.
-pub(crate) fn test<K: Kinds, L: Link>(
-    board: &Board<K, L>,
+pub(crate) fn test<L: Link>(
+    board: &Board<L>,
     on: StrNo,
     index: u32,
     desk: &mut Desk,
@@ -55,8 +56,8 @@ pub(crate) fn test<K: Kinds, L: Link>(
 
 /// Tests the 32 bits of a word of the caller's own vector, and shows them, or that the word isn't
 /// in the vector. Want of memory changes nothing.
-pub(crate) fn test_word<K: Kinds, L: Link>(
-    board: &Board<K, L>,
+pub(crate) fn test_word<L: Link>(
+    board: &Board<L>,
     on: StrNo,
     word: u32,
     desk: &mut Desk,
@@ -96,9 +97,9 @@ pub(crate) fn test_word<K: Kinds, L: Link>(
 
 /// Puts a note into the structure's box, and shows the number that it tells. Want of memory changes
 /// nothing.
-pub(crate) fn post<K: Kinds, L: Link>(
+pub(crate) fn post<L: Link>(
     rt: &impl Wait,
-    board: &Board<K, L>,
+    board: &Board<L>,
     on: StrNo,
     desk: &mut Desk,
     items: &mut Vec<Shown>,
@@ -119,9 +120,9 @@ pub(crate) fn post<K: Kinds, L: Link>(
 
 /// Takes what the note in the structure's box tells, and shows the number that the caller has now
 /// seen complete. Want of memory changes nothing.
-pub(crate) fn take<K: Kinds, L: Link>(
+pub(crate) fn take<L: Link>(
     rt: &impl Wait,
-    board: &Board<K, L>,
+    board: &Board<L>,
     on: StrNo,
     desk: &mut Desk,
     items: &mut Vec<Shown>,

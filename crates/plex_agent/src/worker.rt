@@ -5,10 +5,11 @@ ghost use Rattle.plex_board.specs.Callers.{IsLineFor};
 ghost use Rattle.plex_agent.specs.Crews.{IsIdle, Works, idle_worker};
 
 use crate::agent::serve;
+use plex_board::Desk;
 use plex_board::links::Link;
 use plex_board::scripts::{AgentEnd, Gate, Line, Transcript};
 use plex_board::types::Listing;
-use plex_board::{Board, Desk, Kinds};
+use plex_engines::Board;
 use std::alloc::Global;
 use std::marker::Model;
 use std::sync::Wait;
@@ -50,12 +51,12 @@ impl Worker {
     }
 
     /// The caller does its lines among these, in their order, and then its departures.
-    pub(crate) fn work<K: Kinds, L: Link, G: Gate>(
+    pub(crate) fn work<L: Link, G: Gate>(
         &mut self,
         rt: &impl Wait,
         alloc: Global,
         lines: &[Line],
-        board: &Board<K, L>,
+        board: &Board<L>,
         gate: &G,
     )
         requires idle { IsIdle board.now self.old }

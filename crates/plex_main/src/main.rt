@@ -1,7 +1,6 @@
 //! The program plexrun: it runs the script on standard input, and prints the report.
 #![tactic(auto)]
 
-use plex_engines::Engines;
 use plex_run::agents::OpenGate;
 use plex_run::links::Steady;
 use plex_run::run;
@@ -48,7 +47,7 @@ fn main(rt: HostRuntime) -> ExitCode {
     let Ok(mut links) = vec![in rt.alloc(); Steady; LINKS] else {
         return say_no_memory(&mut sink);
     };
-    ExitCode::from(run::<Engines, _, _, _, _, _>(
+    ExitCode::from(run(
         &rt,
         rt.alloc(),
         &words,

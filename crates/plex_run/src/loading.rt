@@ -13,7 +13,7 @@ use crate::way::Way;
 use crate::writing::say_no_memory;
 use plex_agent::links::Link;
 use plex_agent::sources::{Sink, write_all};
-use plex_agent::{Finished, Gate, Kinds};
+use plex_agent::{Finished, Gate};
 use plex_load::types::NoMemory;
 use plex_load::{make, summary};
 use run_laws::{valid_is_fresh, within_script};
@@ -22,7 +22,7 @@ use std::sync::Wait;
 use std::thread::Threads;
 
 // Runs the script that a number makes on threads over these links, and puts them back.
-fn run_load<E: Kinds, R: Threads + Wait + Sync, L: Link, G: Gate>(
+fn run_load<R: Threads + Wait + Sync, L: Link, G: Gate>(
     rt: &R,
     alloc: Global,
     n: u32,
@@ -37,7 +37,7 @@ fn run_load<E: Kinds, R: Threads + Wait + Sync, L: Link, G: Gate>(
     valid_is_fresh();
     within_script();
     let script = make(alloc, n)?;
-    run_over::<E, _, _, _>(rt, alloc, Way::OnThreads, &script, links, gate)
+    run_over(rt, alloc, Way::OnThreads, &script, links, gate)
 }
 
 // Writes the summary of a load's run, and tells the status.
@@ -71,7 +71,7 @@ fn summed<K: Sink>(alloc: Global, n: u32, finished: &Finished, sink: &mut K) -> 
 /// links, which are put back, and its summary (`plex_load::summary`) is written. Tells the status:
 /// 0, 5 or 6.
 #[tactic(auto, using(crate::proofs::LoadRunLaws::load_without_memory, crate::proofs::LoadRunLaws::load_ends))]
-pub(crate) fn loaded<E: Kinds, R: Threads + Wait + Sync, K: Sink, L: Link, G: Gate>(
+pub(crate) fn loaded<R: Threads + Wait + Sync, K: Sink, L: Link, G: Gate>(
     rt: &R,
     alloc: Global,
     n: u32,
@@ -89,7 +89,7 @@ pub(crate) fn loaded<E: Kinds, R: Threads + Wait + Sync, K: Sink, L: Link, G: Ga
     ensures faults { K.faults sink.old ≤ K.faults sink.new }
     ensures count { length links.new.items ≡ length links.old.items }
 {
-    let finished = match run_load::<E, _, _, _>(rt, alloc, n, links, gate) {
+    let finished = match run_load(rt, alloc, n, links, gate) {
         Ok(finished) => finished,
         Err(cause) => {
             say_no_memory(cause, sink);

@@ -22,9 +22,9 @@ use crate::running::reported;
 use crate::status_lines::{script_line, why_text};
 use crate::way::{Way, Work, work_of};
 use crate::writing::{say, say_no_memory, say_unread};
+use plex_agent::Gate;
 use plex_agent::links::Link;
 use plex_agent::sources::{Sink, Source, read_all};
-use plex_agent::{Gate, Kinds};
 use plex_load::scripts::{ReadFault, never_both, one_script, read, well_formed};
 use run_laws::{only_reading, valid_is_fresh, within_script};
 use std::alloc::Global;
@@ -59,7 +59,7 @@ pub(crate) fn refused<K: Sink>(alloc: Global, line: u32, why: &[u8], sink: &mut 
 }
 
 // Reads a script out of a text, runs it, and writes the report.
-fn judged<E: Kinds, R: Threads + Wait + Sync, K: Sink, L: Link, G: Gate>(
+fn judged<R: Threads + Wait + Sync, K: Sink, L: Link, G: Gate>(
     rt: &R,
     alloc: Global,
     way: Way,
@@ -95,7 +95,7 @@ fn judged<E: Kinds, R: Threads + Wait + Sync, K: Sink, L: Link, G: Gate>(
     valid_is_fresh();
     within_script();
     only_reading();
-    reported::<E, _, _, _, _>(rt, alloc, way, &script, sink, links, gate)
+    reported(rt, alloc, way, &script, sink, links, gate)
 }
 
 /// Runs the program: `words` are its words, the script comes from `source`, and what it says goes
@@ -136,7 +136,7 @@ fn judged<E: Kinds, R: Threads + Wait + Sync, K: Sink, L: Link, G: Gate>(
 /// report goes out in pieces of 32,768 bytes at most, and a longer line alone; memory is taken for
 /// one piece, before anything is written, and for one line at a time. A load has 0, 5 or 6, and
 /// locks don't have 8; with 6 nothing stands before their line.
-pub fn run<E: Kinds, R: Threads + Wait + Sync, S: Source, K: Sink, L: Link, G: Gate>(
+pub fn run<R: Threads + Wait + Sync, S: Source, K: Sink, L: Link, G: Gate>(
     rt: &R,
     alloc: Global,
     words: &[String],
@@ -222,7 +222,7 @@ pub fn run<E: Kinds, R: Threads + Wait + Sync, S: Source, K: Sink, L: Link, G: G
 {
     let way = match work_of(words) {
         Some(Work::Script(way)) => way,
-        Some(Work::Load(n)) => return loaded::<E, _, _, _, _>(rt, alloc, n, sink, links, gate),
+        Some(Work::Load(n)) => return loaded(rt, alloc, n, sink, links, gate),
         Some(Work::Locks) => return locked_in(rt, alloc, source, sink, gate),
         None => {
             say(
@@ -236,5 +236,5 @@ pub fn run<E: Kinds, R: Threads + Wait + Sync, S: Source, K: Sink, L: Link, G: G
         Ok(text) => text,
         Err(end) => return say_unread(end, sink),
     };
-    judged::<E, _, _, _, _>(rt, alloc, way, &text, sink, links, gate)
+    judged(rt, alloc, way, &text, sink, links, gate)
 }

@@ -15,7 +15,7 @@ use crate::way::Way;
 use crate::writing::{Unwritten, say_no_memory, write_run};
 use plex_agent::links::Link;
 use plex_agent::sources::Sink;
-use plex_agent::{Finished, Gate, Kinds, serial, threads};
+use plex_agent::{Finished, Gate, serial, threads};
 use plex_load::scripts::Script;
 use plex_load::types::NoMemory;
 use std::alloc::Global;
@@ -25,7 +25,7 @@ use std::thread::Threads;
 
 // Runs a script in this way over these links, which come back.
 #[tactic(auto, using(crate::proofs::RunLaws::serial_run_is, crate::proofs::RunLaws::threads_run_is))]
-fn run_by<E: Kinds, R: Threads + Wait + Sync, L: Link, G: Gate>(
+fn run_by<R: Threads + Wait + Sync, L: Link, G: Gate>(
     rt: &R,
     alloc: Global,
     way: Way,
@@ -40,13 +40,13 @@ fn run_by<E: Kinds, R: Threads + Wait + Sync, L: Link, G: Gate>(
     ensures count { length result.1.items ≡ length links.items }
 {
     match way {
-        Way::InTurn => serial::<E, _>(rt, alloc, JOURNAL_LIMIT, script, links),
-        Way::OnThreads => threads::<E, _, _, _>(rt, alloc, JOURNAL_LIMIT, script, links, gate),
+        Way::InTurn => serial(rt, alloc, JOURNAL_LIMIT, script, links),
+        Way::OnThreads => threads(rt, alloc, JOURNAL_LIMIT, script, links, gate),
     }
 }
 
 /// Runs a script in this way over these links, and puts them back.
-pub(crate) fn run_over<E: Kinds, R: Threads + Wait + Sync, L: Link, G: Gate>(
+pub(crate) fn run_over<R: Threads + Wait + Sync, L: Link, G: Gate>(
     rt: &R,
     alloc: Global,
     way: Way,
@@ -61,7 +61,7 @@ pub(crate) fn run_over<E: Kinds, R: Threads + Wait + Sync, L: Link, G: Gate>(
     ensures count { length links.new.items ≡ length links.old.items }
 {
     let taken = mem::replace(links, Vec::new(alloc));
-    let (finished, back) = run_by::<E, _, _, _>(rt, alloc, way, script, taken, gate);
+    let (finished, back) = run_by(rt, alloc, way, script, taken, gate);
     *links = back;
     finished
 }
@@ -102,7 +102,7 @@ fn written<K: Sink>(alloc: Global, script: &Script, finished: &Finished, sink: &
 }
 
 /// Runs a script in this way, writes what is left of the run, and tells the status.
-pub(crate) fn reported<E: Kinds, R: Threads + Wait + Sync, K: Sink, L: Link, G: Gate>(
+pub(crate) fn reported<R: Threads + Wait + Sync, K: Sink, L: Link, G: Gate>(
     rt: &R,
     alloc: Global,
     way: Way,
@@ -119,7 +119,7 @@ pub(crate) fn reported<E: Kinds, R: Threads + Wait + Sync, K: Sink, L: Link, G: 
     ensures faults { K.faults sink.old ≤ K.faults sink.new }
     ensures count { length links.new.items ≡ length links.old.items }
 {
-    let finished = match run_over::<E, _, _, _>(rt, alloc, way, script, links, gate) {
+    let finished = match run_over(rt, alloc, way, script, links, gate) {
         Ok(finished) => finished,
         Err(cause) => {
             say_no_memory(cause, sink);

@@ -5,10 +5,11 @@ ghost use Rattle.plex_board.specs.PlexScript.Scripts.{IsScript};
 ghost use Rattle.plex_board.specs.PlexScript.Reading.{TellsFault};
 ghost use Rattle.plex_board.specs.Boards.{IsPolicy, IsStarted, IsDeskOf, AreClosed, new_desk};
 
+use plex_board::Desk;
 use plex_board::links::Steady;
 use plex_board::scripts::{AnyHistory, ReadFault, Script, read, well_formed};
 use plex_board::types::NoMemory;
-use plex_board::{Board, Desk, Kinds};
+use plex_engines::Board;
 use std::alloc::Global;
 use std::marker::Model;
 use std::sync::Wait;
@@ -34,12 +35,12 @@ pub fn policy(alloc: Global, text: &[u8]) -> Result<Script, ReadFault>
 
 /// The structures of a policy, which members share by `&`, over links that are never down.
 /// Contracts see the board.
-pub struct Plex<K: Kinds> {
-    pub(crate) board: Board<K, Steady>,
+pub struct Plex {
+    pub(crate) board: Board<Steady>,
     count: usize,
 }
 
-impl<K: Kinds> Model for Plex<K> {
+impl Model for Plex {
     ghost use Rattle.std.specs.Prelude.{◌≡◌, ◌+◌};
     ghost use Rattle.plex_board.specs.CfLink.declared.steady.Steady.{Steady};
     ghost use Rattle.plex_board.specs.Boards.{BoardShown};
@@ -51,13 +52,13 @@ impl<K: Kinds> Model for Plex<K> {
     ghost invariant = { λ plex. plex.board.callers + 1 ≡ plex.count };
 }
 
-impl<K: Kinds> Drop for Plex<K> {
+impl Drop for Plex {
     fn drop(self) {
         let Plex { board: _, count: _ } = self;
     }
 }
 
-impl<K: Kinds> Plex<K> {
+impl Plex {
     /// The structures of a policy, and a desk for each caller: the operator's, and then the
     /// connectors' in their order. A call is made where its structure's journal has fewer than
     /// `calls` entries.
@@ -66,7 +67,7 @@ impl<K: Kinds> Plex<K> {
         alloc: Global,
         script: &Script,
         calls: u32,
-    ) -> Result<(Plex<K>, Vec<Desk>), NoMemory>
+    ) -> Result<(Plex, Vec<Desk>), NoMemory>
         requires policy { IsPolicy script.now }
         requires calls { (1 ≤ calls) × (calls ≤ 4294967000) }
         ensures forms { IfOk result (λ r. map (λ cell. cell.form) r.0.cells
@@ -89,7 +90,7 @@ impl<K: Kinds> Plex<K> {
     }
 
     /// The board, for what no seat asks.
-    pub fn board(&self) -> &Board<K, Steady>
+    pub fn board(&self) -> &Board<Steady>
         ensures { result.now ≡ self.now }
     {
         &self.board

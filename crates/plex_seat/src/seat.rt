@@ -30,7 +30,8 @@ use plex_board::scripts::AnyAsk;
 use plex_board::types::limits::CONNECTORS;
 use plex_board::types::{CacheCmd, ConnId, Event, ListCmd, LockCmd, NoMemory, ShellCmd, StrNo};
 use plex_board::vectors::Tested;
-use plex_board::{AnyReply, Board, Desk, Kinds};
+use plex_board::{AnyReply, Desk};
+use plex_engines::Board;
 use std::alloc::Global;
 use std::marker::Model;
 use std::sync::Wait;
@@ -38,13 +39,13 @@ use std::thread::yield_now;
 
 /// A connector's desk at one structure. It may go to another thread. Contracts see the board, the
 /// desk, and which structure it is.
-pub struct Seat<'p, K: Kinds> {
-    board: &'p Board<K, Steady>,
+pub struct Seat<'p> {
+    board: &'p Board<Steady>,
     desk: Desk,
     on: StrNo,
 }
 
-impl<'p, K: Kinds> Model for Seat<'p, K> {
+impl<'p> Model for Seat<'p> {
     ghost use Rattle.plex_board.specs.CfLink.declared.steady.Steady.{Steady};
     ghost use Rattle.plex_seat.specs.Seats.{SeatShown, IsSeat};
 
@@ -55,7 +56,7 @@ impl<'p, K: Kinds> Model for Seat<'p, K> {
     ghost invariant = { λ seat. IsSeat seat.board.now seat.desk seat.on };
 }
 
-impl<'p, K: Kinds> Drop for Seat<'p, K> {
+impl<'p> Drop for Seat<'p> {
     fn drop(self) {
         let Seat {
             board: _,
@@ -65,10 +66,10 @@ impl<'p, K: Kinds> Drop for Seat<'p, K> {
     }
 }
 
-impl<'p, K: Kinds> Seat<'p, K> {
+impl<'p> Seat<'p> {
     /// The last of these desks, at a structure. There is no seat exactly where that is no
     /// connector's desk, where there is no desk, and where the structure isn't there.
-    pub fn take(plex: &'p Plex<K>, desks: &mut Vec<Desk>, on: StrNo) -> Option<Seat<'p, K>>
+    pub fn take(plex: &'p Plex, desks: &mut Vec<Desk>, on: StrNo) -> Option<Seat<'p>>
         requires { All (IsDeskOf plex.now) desks.old.items }
         ensures desks { All (IsDeskOf plex.now) desks.new.items }
         ensures seat { IfSome result (λ seat. (seat.board ≡ plex.now) × (seat.on ≡ on)) }

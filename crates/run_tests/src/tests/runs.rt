@@ -2,7 +2,6 @@
 ghost use Rattle.std.specs.Prelude.{◌<◌};
 
 use super::gates::{Hold, Turns};
-use plex_engines::Engines;
 use plex_run::links::ListLink;
 use plex_run::run;
 use plex_run::sources::{MemSink, MemSource};
@@ -92,7 +91,7 @@ fn run_over<R: Threads + Wait + Sync>(
     if links.len() != LINKS {
         return Ok(u8::MAX);
     }
-    Ok(run::<Engines, _, _, _, _, _>(rt, alloc, &words, source, sink, links, gate))
+    Ok(run(rt, alloc, &words, source, sink, links, gate))
 }
 
 /// The status of a run by these words, over links that are never down.
