@@ -13,15 +13,18 @@ ghost use Rattle.plex_seat.specs.Seats.{IsSame};
 ghost use Rattle.lock_manager.specs.Members.{IsOutcome};
 
 use orders::{Orders, read_orders};
+use plex_engines::Engines;
 use plex_seat::{
-    Answer, AnyHistory, ConnId, Fault, NoMemory, Plex, Script, Seat, StrNo, policy, put_reply,
-    render,
+    Answer, AnyHistory, ConnId, Fault, NoMemory, Script, StrNo, policy, put_reply, render,
 };
-use roles::{fail, recover};
+use roles::{Seat, fail, recover};
 use std::alloc::Global;
 use std::io::Write;
 use std::sync::Wait;
 use std::thread::{Threads, join_mut};
+
+/// The structures of a policy, over the engines of the program.
+type Plex = plex_seat::Plex<Engines>;
 
 /// The policy: a facility, a lock structure in it, and its two connectors.
 const POLICY: &str = "FACILITY CF1 100\n\

@@ -4,9 +4,13 @@ ghost use Rattle.plex_seat.specs.Seats.{IsSame};
 ghost use Rattle.plex_seat.specs.Answers.{HasHeard};
 
 use crate::orders::Orders;
-use plex_seat::{Answer, AnyReply, ConnId, Event, Fault, LockCmd, LockReply, Reply, Seat};
+use plex_engines::Engines;
+use plex_seat::{Answer, AnyReply, ConnId, Event, Fault, LockCmd, LockReply, Reply};
 use std::alloc::Global;
 use std::sync::Wait;
+
+/// A member's seat, over the engines of the program.
+pub type Seat<'p> = plex_seat::Seat<'p, Engines>;
 
 // The member that fails.
 const A: ConnId = ConnId(1);

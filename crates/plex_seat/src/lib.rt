@@ -24,8 +24,7 @@ pub use plex_board::types::{
     parse_body, parse_name,
 };
 pub use plex_board::vectors::Tested;
-pub use plex_board::{AnyReply, Desk};
-pub use plex_engines::Board;
+pub use plex_board::{AnyReply, Board, Desk, Kinds};
 pub use plex_report::render;
 pub use plex_report::spell::Miss;
 pub use seat::Seat;

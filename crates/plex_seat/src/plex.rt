@@ -5,11 +5,10 @@ ghost use Rattle.plex_board.specs.PlexScript.Scripts.{IsScript};
 ghost use Rattle.plex_board.specs.PlexScript.Reading.{TellsFault};
 ghost use Rattle.plex_board.specs.Boards.{IsPolicy, IsStarted, IsDeskOf, AreClosed, new_desk};
 
-use plex_board::Desk;
 use plex_board::links::Steady;
 use plex_board::scripts::{AnyHistory, ReadFault, Script, read, well_formed};
 use plex_board::types::NoMemory;
-use plex_engines::Board;
+use plex_board::{Board, Desk, Kinds};
 use std::alloc::Global;
 use std::marker::Model;
 use std::sync::Wait;
@@ -35,12 +34,12 @@ pub fn policy(alloc: Global, text: &[u8]) -> Result<Script, ReadFault>
 
 /// The structures of a policy, which members share by `&`, over links that are never down.
 /// Contracts see the board.
-pub struct Plex {
-    pub(crate) board: Board<Steady>,
+pub struct Plex<K: Kinds> {
+    pub(crate) board: Board<K, Steady>,
     count: usize,
 }
 
-impl Model for Plex {
+impl<K: Kinds> Model for Plex<K> {
     ghost use Rattle.std.specs.Prelude.{◌≡◌, ◌+◌};
     ghost use Rattle.plex_board.specs.CfLink.declared.steady.Steady.{Steady};
     ghost use Rattle.plex_board.specs.Boards.{BoardShown};
@@ -52,13 +51,13 @@ impl Model for Plex {
     ghost invariant = { λ plex. plex.board.callers + 1 ≡ plex.count };
 }
 
-impl Drop for Plex {
+impl<K: Kinds> Drop for Plex<K> {
     fn drop(self) {
         let Plex { board: _, count: _ } = self;
     }
 }
 
-impl Plex {
+impl<K: Kinds> Plex<K> {
     /// The structures of a policy, and a desk for each caller: the operator's, and then the
     /// connectors' in their order. A call is made where its structure's journal has fewer than
     /// `calls` entries.
@@ -67,7 +66,7 @@ impl Plex {
         alloc: Global,
         script: &Script,
         calls: u32,
-    ) -> Result<(Plex, Vec<Desk>), NoMemory>
+    ) -> Result<(Plex<K>, Vec<Desk>), NoMemory>
         requires policy { IsPolicy script.now }
         requires calls { (1 ≤ calls) × (calls ≤ 4294967000) }
         ensures forms { IfOk result (λ r. map (λ cell. cell.form) r.0.cells
@@ -90,7 +89,7 @@ impl Plex {
     }
 
     /// The board, for what no seat asks.
-    pub fn board(&self) -> &Board<Steady>
+    pub fn board(&self) -> &Board<K, Steady>
         ensures { result.now ≡ self.now }
     {
         &self.board

@@ -30,8 +30,7 @@ use plex_board::scripts::AnyAsk;
 use plex_board::types::limits::CONNECTORS;
 use plex_board::types::{CacheCmd, ConnId, Event, ListCmd, LockCmd, NoMemory, ShellCmd, StrNo};
 use plex_board::vectors::Tested;
-use plex_board::{AnyReply, Desk};
-use plex_engines::Board;
+use plex_board::{AnyReply, Board, Desk, Kinds};
 use std::alloc::Global;
 use std::marker::Model;
 use std::sync::Wait;
@@ -39,13 +38,13 @@ use std::thread::yield_now;
 
 /// A connector's desk at one structure. It may go to another thread. Contracts see the board, the
 /// desk, and which structure it is.
-pub struct Seat<'p> {
-    board: &'p Board<Steady>,
+pub struct Seat<'p, K: Kinds> {
+    board: &'p Board<K, Steady>,
     desk: Desk,
     on: StrNo,
 }
 
-impl<'p> Model for Seat<'p> {
+impl<'p, K: Kinds> Model for Seat<'p, K> {
     ghost use Rattle.plex_board.specs.CfLink.declared.steady.Steady.{Steady};
     ghost use Rattle.plex_seat.specs.Seats.{SeatShown, IsSeat};
 
@@ -56,7 +55,7 @@ impl<'p> Model for Seat<'p> {
     ghost invariant = { λ seat. IsSeat seat.board.now seat.desk seat.on };
 }
 
-impl<'p> Drop for Seat<'p> {
+impl<'p, K: Kinds> Drop for Seat<'p, K> {
     fn drop(self) {
         let Seat {
             board: _,
@@ -66,10 +65,10 @@ impl<'p> Drop for Seat<'p> {
     }
 }
 
-impl<'p> Seat<'p> {
+impl<'p, K: Kinds> Seat<'p, K> {
     /// The last of these desks, at a structure. There is no seat exactly where that is no
     /// connector's desk, where there is no desk, and where the structure isn't there.
-    pub fn take(plex: &'p Plex, desks: &mut Vec<Desk>, on: StrNo) -> Option<Seat<'p>>
+    pub fn take(plex: &'p Plex<K>, desks: &mut Vec<Desk>, on: StrNo) -> Option<Seat<'p, K>>
         requires { All (IsDeskOf plex.now) desks.old.items }
         ensures desks { All (IsDeskOf plex.now) desks.new.items }
         ensures seat { IfSome result (λ seat. (seat.board ≡ plex.now) × (seat.on ≡ on)) }
