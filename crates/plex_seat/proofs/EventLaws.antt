@@ -1,5 +1,5 @@
 -- A member that asks for events: what it asked for adds up.
-use Rattle.plex_seat.proofs.Imports.{◌≡◌, ℕ, ◌+◌, ◌<◌, ◌≤◌, ◌++◌, List, [], ◌∷◌, length, zero, suc, append_assoc, sym, ap, subst, ◌∙◌, arith, slice_index_or, slice_set, option_map_or, length-append, set-set, All-push, StrNo, AnyAsk, AnyCall, StrType, OfCache, PassShown, with_call, CellShown, DeskShown, IsLaterOn, no_pass, pass_at, with_pass, BoardShown, cell_on, Unanswered, OtherKind, NotMade, Unread, SeatShown, IsSame, pass_of, type_at, common_ask, HasCalled, HasFault, HasAskedForEvents, ShellCmd}
+use Rattle.plex_seat.proofs.Imports.{◌≡◌, ℕ, ◌+◌, ◌<◌, ◌≤◌, ◌++◌, List, [], ◌∷◌, length, zero, suc, append_assoc, append-nil, with_pass-pass_at, rules, refl, sym, ap, subst, ◌∙◌, arith, slice_index_or, slice_set, option_map_or, length-append, set-set, All-push, StrNo, AnyAsk, AnyCall, StrType, OfCache, PassShown, with_call, CellShown, DeskShown, IsLaterOn, no_pass, pass_at, with_pass, BoardShown, cell_on, Unanswered, OtherKind, NotMade, Unread, SeatShown, IsSame, pass_of, type_at, common_ask, HasCalled, HasFault, HasAskedForEvents, ShellCmd}
 use Rattle.plex_seat.proofs.DeskLaws.{later_same}
 
 -- ---- a desk whose pass is replaced more than once
@@ -24,6 +24,17 @@ known_set (first ∷ passes) (suc i) pass more = known_set passes i pass more
 -- ---- what was asked for
 
 module _ {L : Type 0} where
+  -- nothing yet
+  pub asked_none : (seat : SeatShown L) → HasAskedForEvents 0 seat seat
+  asked_none seat = record {
+    more = [];
+    count = omega arith;
+    calls = sym (append-nil (pass_of seat).calls);
+    next = search rules;
+    tests = refl;
+    rest = sym (with_pass-pass_at seat.desk seat.on);
+  }
+
   -- fewer are at most as many
   pub asked_within : (few limit : ℕ) (before after : SeatShown L) → few ≤ limit → HasAskedForEvents few before after
       → HasAskedForEvents limit before after

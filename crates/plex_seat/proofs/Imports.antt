@@ -1,7 +1,7 @@
 -- What proofs here name of other crates, and of this one's definitions. Declares nothing.
 pub use Rattle.plex_board.proofs.Imports.{All-pop, false≢true, eq-eqb, nat_tests, All-push, All-map, All-same, length-range_with_len, length-map-range_with_len, get_or-range_with_len, range_with_len, BoardShown, cell_on, IsDeskOf, IsAccount, AreClosed, new_desk, CellShown, own_replies, DeskShown, pass_at, with_pass, IsLaterOn, no_pass, IsAnsweredOn, PassShown, IsLater, with_call, reply_numbered, AnyCall, call_numbered, StrType, OfCache}
 pub use Rattle.std.proofs.Common.{◌≡◌, ℕ, ◌<◌, ◌++◌, List, [], ◌∷◌, length, get_or, refl, sym, ap, subst, ◌∙◌, arith, ◌+◌, ◌≤◌, zero, suc, append_assoc, All, slice_index_or, slice_set, ◌⊎◌, inl, inr, None, map, Some, slice_get, ◌-◌, ◌==◌, ◌↔◌, true, drop, IsTrue, Bool, false, Option, is_some, find, rules}
-pub use Rattle.std.proofs.lemmas.List.{length-append, set-set, length-map, get_or-map, drop_more, drop_all}
+pub use Rattle.std.proofs.lemmas.List.{append-nil, length-append, set-set, length-map, get_or-map, drop_more, drop_all}
 pub use Rattle.std.proofs.lemmas.Option.{slice_get_cases, slice_get_within, slice_get-get_or, slice_get-map}
 pub use Rattle.std.specs.Bool.{if◌then◌else◌}
 pub use Rattle.std.specs.Option.{option_map_or, option_map}

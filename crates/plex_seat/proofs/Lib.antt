@@ -4,3 +4,4 @@ pub mod EventLaws
 pub mod SeatLaws
 pub mod PlexLaws
 pub mod OutcomeLaws
+pub mod CommandLaws

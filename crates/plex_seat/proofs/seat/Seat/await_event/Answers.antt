@@ -1,6 +1,6 @@
 -- What was asked for adds up.
-use Rattle.plex_seat.proofs.Imports.{rules, ◌≡◌, ◌<◌, ◌≤◌, ◌+◌, length, arith, AnyAsk, pass_of, type_at, common_ask, ShellCmd}
-use Rattle.plex_seat.proofs.EventLaws.{asked_more, asked_within, asked_fault, known_more, calls_more, same_same}
+use Rattle.plex_seat.proofs.Imports.{rules, ◌≡◌, ◌<◌, ◌≤◌, ◌+◌, length, refl, arith, AnyAsk, pass_of, type_at, common_ask, ShellCmd}
+use Rattle.plex_seat.proofs.EventLaws.{asked_none, asked_more, asked_within, asked_fault, known_more, calls_more, same_same}
 use Rattle.plex_seat.proofs.seat.Seat.await_event.Goals as goal
 
 pub returns-in-Err-clause-asked : goal.returns-in-Err-clause-asked
@@ -31,3 +31,11 @@ loop-preserved g c =
       known = omega (arith, c.loop.invariant.known, kept);
       calls = omega (arith, c.loop.invariant.calls, more);
     }
+
+pub loop-init : goal.loop-init
+loop-init g c = record {
+  same = record { board = refl; on = refl; owner = refl };
+  asked = asked_none c.args.self.now;
+  known = omega arith;
+  calls = omega arith;
+}
