@@ -1,6 +1,6 @@
-//! The engines of the program: which of them its boards run for each type of structure. A board and
-//! all above it know what engines mean, by the trait `Kinds`, and not which they are; whoever starts
-//! a board names them.
+//! The engines of the program: which of them its boards run for each type of structure. A board
+//! knows what engines mean, by the trait `Kinds`, and not which they are; whoever starts a board
+//! names them.
 #![tactic(auto)]
 
 mod engines;
