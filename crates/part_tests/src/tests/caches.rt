@@ -1,4 +1,4 @@
-ghost use Rattle.std.specs.Prelude.{◌≡◌, ◌≤◌, ◌<◌, [], None};
+ghost use Rattle.std.specs.Prelude.{◌≡◌, ◌≤◌, ◌<◌, ◌+◌, [], None, length};
 ghost use Rattle.cache_core.specs.CacheDir.RowMap.{row_at};
 
 use cache_core::classes::Classes;
@@ -45,8 +45,12 @@ fn registers(rt: HostRuntime) -> Result<(), Fail> {
     Ok(())
 }
 
-// Gives a name its class.
-fn classify(classes: &mut Classes, name: Name16) -> Result<(), NoMemory> {
+// Gives a name its class, where no more than one has one.
+#[tactic(auto, using(crate::proofs::ClassLaws::one_more))]
+fn classify(classes: &mut Classes, name: Name16) -> Result<(), NoMemory>
+    requires few { length classes.old.names ≤ 1 }
+    ensures more { length classes.new.names ≤ length classes.old.names + 1 }
+{
     classes.room()?;
     classes.set(name, Some(3));
     Ok(())
@@ -66,7 +70,9 @@ fn leaves_one(classes: &mut Classes) -> bool {
 }
 
 // Whether names stand in order, whichever came first, and go alone.
-fn keeps_in_order(alloc: Global, classes: &mut Classes) -> Result<bool, NoMemory> {
+fn keeps_in_order(alloc: Global, classes: &mut Classes) -> Result<bool, NoMemory>
+    requires none { classes.old.names ≡ [] }
+{
     classify(classes, SECOND)?;
     classify(classes, FIRST)?;
     let named = names_both(alloc, classes)?;
