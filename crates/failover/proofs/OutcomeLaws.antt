@@ -12,7 +12,7 @@ use Rattle.plex_board.specs.CfTypes.declared.{forms.StrForm.StrForm, numbers.Con
 use Rattle.plex_board.specs.PlexScript.declared.{asks.AnyHistory.AnyHistory, scripts.Script.Script}
 use Rattle.plex_board.specs.VecWords.declared.logged.Tested.{Tested}
 use Rattle.plex_board.specs.CfLink.Links.{AreAsked, IsAskedAll, IsAsTold, calls_after}
-use Rattle.plex_board.specs.{Kinds.any_answers, Cells.CellShown, Cells.IsAnyTold, Desks.DeskShown, Desks.pass_at}
+use Rattle.plex_board.specs.{AnyCalls.any_answers, Cells.CellShown, Cells.IsAnyTold, Desks.DeskShown, Desks.pass_at}
 use Rattle.failover.specs.Failing.{AreDownOnce, IsDownAt}
 use Rattle.failover.specs.Members.{HasPool, AreSeated, HasTested, gbp, sight_of}
 use Rattle.failover.specs.Outcome.{IsOpened, IsOutcome, WasAsked, reader, cf1, cf2, down_once}

@@ -8,7 +8,8 @@ use Rattle.plex_board.specs.CfTypes.declared.numbers.ConnId.{ConnId}
 use Rattle.plex_board.specs.PlexScript.declared.asks.AnyHistory.{AnyHistory}
 use Rattle.plex_board.specs.PlexScript.declared.scripts.Script.{Script}
 use Rattle.plex_board.specs.VecWords.declared.logged.Tested.{Tested}
-use Rattle.plex_board.specs.Kinds.{IsAnyLegal, any_answers}
+use Rattle.plex_board.specs.RunShown.Kinds.{IsAnyLegal}
+use Rattle.plex_board.specs.AnyCalls.{any_answers}
 use Rattle.plex_board.specs.Cells.{CellShown, IsAnyTold}
 use Rattle.plex_board.specs.Desks.{DeskShown}
 use Rattle.plex_board.specs.Boards.{BoardShown, links_of}

@@ -1,6 +1,6 @@
 //! What the two members do, one call after another.
 ghost use Rattle.std.specs.Prelude.{◌≡◌, ◌≤◌, IfOk};
-ghost use Rattle.plex_board.specs.Kinds.{MayAskAny};
+ghost use Rattle.plex_board.specs.RunShown.Kinds.{MayAskAny};
 ghost use Rattle.plex_board.specs.PlexScript.declared.scripts.AnyAsk.TheVariants as any;
 ghost use Rattle.failover.specs.Members.{AreSeated, HasTested};
 

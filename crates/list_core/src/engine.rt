@@ -1,14 +1,20 @@
 ghost use Rattle.std.specs.Prelude.{◌≡◌};
-ghost use Rattle.list_model.specs.Sublists.{sublist};
+ghost use Rattle.std.specs.Result.{result_err};
+ghost use Rattle.cf_types.specs.Forms.{IsCapacity};
+ghost use Rattle.list_model.specs.Contents.{IsContent};
+ghost use Rattle.list_model.specs.Refusals.{sublist_refusal};
+ghost use Rattle.list_model.specs.Sublists.{sublist, turning};
 
 use crate::items::{copy_item, count_items, place_item};
 use crate::plans::{Plan, act, make_plan};
+use crate::refusals::sublist_refusal;
+use crate::turning::turning;
 use cf_types::{
     Caps, ConnId, Effects, EntryId, Key16, ListCmd, ListReply, NoMemory, Refusal, StrForm,
 };
 use engine_api::{Engine, Shape};
 use list_kept::{Kept, count, elements_of_others, sublist};
-use list_model::ListItem;
+use list_model::{ListItem, Turning};
 use std::alloc::Global;
 use std::marker::Model;
 
@@ -62,6 +68,30 @@ impl ListEngine {
         ensures { result ≡ sublist self.now.held.state.lists header key.now }
     {
         sublist(&self.kept, header, key)
+    }
+
+    /// Why a command on a sublist is refused: the structure has no such header (from 0), or its
+    /// records have no keys.
+    pub fn sublist_refusal(&self, header: u32, key: Key16) -> Result<(), Refusal>
+        ensures { result_err result ≡ sublist_refusal self.now.held.shape header key }
+    {
+        sublist_refusal(self.shape.kind, header, key)
+    }
+
+    /// The sublists that a command may turn, where it isn't refused: no others have records behind
+    /// it that had none, nor the other way round.
+    pub fn turning(&self, cmd: &ListCmd) -> Turning
+        ensures { result ≡ turning self.now.held.state cmd.now }
+    {
+        turning(&self.kept, cmd)
+    }
+
+    /// What it holds is a content.
+    pub fn content_is(&self)
+        ensures content { IsContent self.now.held.shape self.now.held.caps self.now.held.state }
+        ensures caps { IsCapacity self.now.held.caps }
+    {
+        let _shape = self.shape;
     }
 }
 

@@ -7,8 +7,9 @@ mod engine;
 mod items;
 mod plans;
 mod refusals;
+mod turning;
 
 pub use engine::{ListContent, ListEngine};
 pub use list_kept::keyed as keyed;
 pub use list_model::watches::Monitor;
-pub use list_model::{ListItem, watches as watches};
+pub use list_model::{ListItem, Sublist, Turning, watches as watches};

@@ -8,7 +8,7 @@ ghost use Rattle.list_model.specs.Contents.{refs_of, is_held_by};
 ghost use Rattle.list_model.specs.Refusals.{lock_refusal, held_refusal, not_held_refusal, cond_lock_refusal, cond_refusal, header_refusal, reference_refusal, has_names, has_keys, new_key_refusal, ref_header_refusal, ref_form_refusal, record_refusal, version_refusal, taken_refusal, name_refusal, full_refusal, entries_refusal, elements_refusal, index_refusal, other_refusal, in_use_refusal};
 
 use cf_types::{At, Caps, Cond, ConnId, EntryId, Key16, Kind, Name16, Refs, Refusal};
-use list_kept::{Kept, count, elements_of_others, record_at};
+use list_kept::{Kept, count, elements_of_others, headers_of, record_at};
 
 /// What judging a command comes to: why it is refused, if it is.
 pub(crate) type Judged = Result<(), Refusal>;
@@ -193,6 +193,21 @@ pub(crate) fn ref_form_refusal(refs: Refs, at: At) -> Judged
         At::Key(_, _) => form_refusal(has_keys(refs), refs),
     }
 }
+
+/// The header of a sublist isn't there, or records have no keys.
+pub(crate) fn sublist_refusal(kind: Kind, header: u32, key: Key16) -> Judged
+    ensures { result_err result ≡ first_refusal (ref_header_refusal (headers_of kind) (at.Key header
+        key) ∷ ref_form_refusal (refs_of kind) (at.Key header key) ∷ []) }
+{
+    let at = At::Key(header, key);
+    ref_header_refusal(headers_of(kind), at)?;
+    ref_form_refusal(refs_of(kind), at)
+}
+
+ghost use Rattle.std.specs.Prelude.{◌∷◌, []};
+ghost use Rattle.cf_types.specs.declared.list_commands.At.TheVariants as at;
+ghost use Rattle.engine_api.specs.Meaning.{first_refusal};
+ghost use Rattle.list_model.specs.Contents.{headers_of};
 
 /// No record is named so.
 pub(crate) fn record_refusal(kept: &Kept, at: At) -> Judged

@@ -1,8 +1,10 @@
--- A command turns no sublist but those where a record comes and where one was.
-use Rattle.std.proofs.Common.{arith, ◌≡◌, ℕ, zero, suc, ◌==◌, Bool, true, false, not, ◌&&◌, ◌||◌, if◌then◌else◌, cond, List, [], ◌∷◌, ◌++◌, filter, map, Option, None, Some, refl, sym, ap, ◌∙◌, subst, length, nat_lt}
-use Rattle.std.proofs.lemmas.Bool.{and_parts, and_from, eq-eqb, eqb-true, false≢true, or_parts}
+-- A command turns no sublist but those where a record comes and where one was: this one had records, and that one has
+-- some then.
+use Rattle.std.proofs.Common.{arith, ◌≡◌, ◌<◌, ℕ, zero, suc, ◌==◌, Bool, true, false, not, ◌&&◌, ◌||◌, if◌then◌else◌, cond, List, [], ◌∷◌, filter, map, Option, None, Some, refl, sym, ap, ◌∙◌, subst, length, nat_lt}
+use Rattle.std.proofs.lemmas.Bool.{and_parts, eq-eqb, eqb-true, false≢true}
 use Rattle.std.proofs.lemmas.Bool.Decides.{nat_tests}
-use Rattle.std.proofs.lemmas.List.Folds.{list_all-append}
+use Rattle.std.proofs.lemmas.List.{length-map}
+use Rattle.std.proofs.lemmas.List.Folds.{list_all-append, list_any-append}
 use Rattle.std.specs.List.{list_all, list_any, position_or_len}
 use Rattle.std.specs.Option.{option_or}
 use Rattle.cf_types.specs.declared.forms.Caps.{Caps}
@@ -20,19 +22,19 @@ use Rattle.engine_api.specs.declared.shapes.Shape.{Shape}
 use Rattle.engine_api.proofs.CauseLaws.{none_hold}
 use Rattle.list_store.specs.Record.{Record}
 use Rattle.list_store.specs.Lists.{Lists, records_of, with_records, all_records, is_id, has_id, ids_apart, records_without, lists_without, replaced_by, lists_replaced}
-use Rattle.list_model.specs.Contents.{Content, IsContent}
+use Rattle.list_model.specs.Contents.{Content, IsContent, headers_of}
 use Rattle.list_model.specs.Lists.{the_record, header_of, with_record, stands_before, record_at}
 use Rattle.list_model.specs.Records.{has_key}
-use Rattle.list_model.specs.Refusals.{record_refusal}
+use Rattle.list_model.specs.Refusals.{header_refusal, record_refusal}
 use Rattle.list_model.specs.Step.{cause, causes, after}
 use Rattle.list_model.specs.Commands.Update as update
 use Rattle.list_model.specs.Commands.Move as move
-use Rattle.list_model.proofs.ContentLaws.{the_record-in, with-without}
-use Rattle.list_model.proofs.ListLaws.{all-with, one-records}
+use Rattle.list_model.proofs.ContentLaws.{header_there, the_record-in, with-without}
+use Rattle.list_model.proofs.ListLaws.{IsIn, all-with, one-records}
+use Rattle.list_model.proofs.RecordLaws.{is_id-refl}
 use Rattle.list_model.proofs.StoreLaws.{one-header}
 use Rattle.list_model.specs.Keys.{same_key}
-use Rattle.list_model.specs.Sublists.{is_there, sublist_at, sublist_of, turning, is_sublist, may_turn}
-use Rattle.list_model.specs.declared.sublists.Turning.{Turning}
+use Rattle.list_model.specs.Sublists.{sublist, is_there, sublist_at, sublist_of, turning, is_sublist, may_turn}
 
 -- ---- keys
 
@@ -87,6 +89,31 @@ there-with head at rec lists h k apart = there_set (has_key k) lists at h
     ∙ ap (λ (b : Bool). b || list_any (has_key k) (records_of lists at))
     (has_is k rec ∙ second (at == h) (is_key k rec.key) apart here))
 
+set_here : (lists : Lists) (at : ℕ) (recs : List Record) → at < length lists
+    → records_of (with_records lists at recs) at ≡ recs
+set_here [] at recs within = absurd (omega (arith, within))
+set_here (x ∷ lists) zero recs within = refl
+set_here (x ∷ lists) (suc at) recs within = set_here lists at recs (omega (arith, within))
+
+any_left : (a b : Bool) → a ≡ true → a || b ≡ true
+any_left true b e = refl
+any_left false b e = absurd (false≢true e)
+
+any_right : (a b : Bool) → b ≡ true → a || b ≡ true
+any_right true b e = refl
+any_right false b e = e
+
+-- its sublist has records then
+pub there-here : (head : Bool) (at : ℕ) (rec : Record) (lists : Lists) (h : ℕ) (k : Key16) → at < length lists
+    → is_sublist (sublist_at at rec.key) h k ≡ true → is_there (with_record head at rec lists) h k ≡ true
+there-here head at rec lists h k within e =
+    let named = and_parts (at == h) (is_key k rec.key) (sym (named_at at rec.key h k) ∙ e) in
+    let coming = insertion (stands_before head rec) rec (records_of lists at) in
+    subst (λ (n : ℕ). is_there (with_record head at rec lists) n k ≡ true) (eqb-true at h named.0)
+    (ap (λ (l : List Record). list_any (has_key k) l) (set_here lists at coming within)
+    ∙ list_any-insertion (has_key k) (stands_before head rec) rec (records_of lists at)
+    ∙ any_left (has_key k rec) (list_any (has_key k) (records_of lists at)) (has_is k rec ∙ named.1))
+
 -- ---- all headers' records changed
 
 mapped : (f : List Record → List Record) → f [] ≡ [] → (lists : Lists) (h : ℕ)
@@ -129,6 +156,30 @@ header_is : (id : EntryId) (lists : Lists) (h : ℕ) → pairwise ids_apart (all
     → has_id id (records_of lists h) ≡ true → header_of id lists ≡ h
 header_is id lists h apart e = grind (arith, first_with id lists h apart e, header_within id lists h e)
 
+first_there : (id : EntryId) (lists : Lists) → list_any (is_id id) (all_records lists) ≡ true
+    → has_id id (records_of lists (position_or_len (has_id id) lists)) ≡ true
+first_there id [] e = absurd (false≢true e)
+first_there id (first ∷ lists) e = grind (arith, list_any-append, first_there id lists)
+
+header_has : (id : EntryId) (lists : Lists) → list_any (is_id id) (all_records lists) ≡ true
+    → has_id id (records_of lists (header_of id lists)) ≡ true
+header_has id lists e =
+    let first = first_there id lists e in
+    let within = header_within id lists (position_or_len (has_id id) lists) first in
+    grind arith
+
+in_all : (rec : Record) (all : List Record) → IsIn rec all → list_any (is_id rec.id) all ≡ true
+in_all rec all there =
+    ap (λ (l : List Record). list_any (is_id rec.id) l) there.with_it.is
+    ∙ list_any-append (is_id rec.id) there.with_it.front (rec ∷ there.with_it.back)
+    ∙ any_right (list_any (is_id rec.id) there.with_it.front) (list_any (is_id rec.id) (rec ∷ there.with_it.back))
+    (any_left (is_id rec.id rec) (list_any (is_id rec.id) there.with_it.back) (is_id-refl rec))
+
+some_with : (p q : Record → Bool) (xs : List Record) → list_all (λ x. not (p x) || q x) xs ≡ true
+    → list_any p xs ≡ true → list_any q xs ≡ true
+some_with p q [] all e = absurd (false≢true e)
+some_with p q (x ∷ xs) all e = grind (arith, and_parts, some_with p q xs)
+
 -- what is true of all but the one with an id, and of that one
 module _ (lists : Lists) (ref : At) (there : record_refusal (record_at lists ref) ≡ None)
     (apart : pairwise ids_apart (all_records lists) ≡ true) where
@@ -154,6 +205,18 @@ module _ (lists : Lists) (ref : At) (there : record_refusal (record_at lists ref
       (with-without it (all_records lists) (the_record-in lists ref there) apart) own
       (list_all_weaker (λ other. not (is_id it.id other)) p others (records_without it.id (all_records lists))
       (list_all-filter_same (λ other. not (is_id it.id other)) (all_records lists)))
+
+  -- its sublist has records
+  pub there-own : (h : ℕ) (k : Key16) → is_sublist (sublist_of lists ref) h k ≡ true → is_there lists h k ≡ true
+  there-own h k e =
+      let named = and_parts (header_of it.id lists == h) (is_key k it.key)
+      (sym (named_at (header_of it.id lists) it.key h k) ∙ e) in
+      let p : Record → Bool = λ x. not (is_id it.id x) || has_key k x in
+      some_with (is_id it.id) (has_key k) (records_of lists h)
+      (of_header p lists h (each_but p (λ other apart. any_left (not (is_id it.id other)) (has_key k other) apart)
+      (any_right (not (is_id it.id it)) (has_key k it) (has_is k it ∙ named.1))))
+      (subst (λ (n : ℕ). has_id it.id (records_of lists n) ≡ true) (eqb-true (header_of it.id lists) h named.0)
+      (header_has it.id lists (in_all it (all_records lists) (the_record-in lists ref there))))
 
   -- ---- one record less
 
@@ -266,3 +329,65 @@ turns-only shape caps content by (ListCmd.LControls header) is none h k e = refl
 turns-only shape caps content by (ListCmd.SetLimit header n) is none h k e = refl
 turns-only shape caps content by (ListCmd.Monitor header index) is none h k e = refl
 turns-only shape caps content by (ListCmd.Unmonitor header) is none h k e = refl
+
+within : (shape : Shape) (caps : Caps) (content : Content) → IsContent shape caps content → (header : ℕ)
+    → header_refusal (headers_of shape.kind) header ≡ None → header < length content.lists
+within shape caps content is header none =
+    subst (λ (n : ℕ). header < n) (sym is.headers) (header_there (headers_of shape.kind) header none)
+
+-- the sublist where a record comes has records then
+pub fills-there : (shape : Shape) (caps : Caps) (content : Content) (by : ConnId) (cmd : ListCmd)
+    → IsContent shape caps content → cause shape caps content by cmd ≡ None → (h : ℕ) (k : Key16)
+    → is_sublist (turning content cmd).fills h k ≡ true → is_there (after content by cmd).lists h k ≡ true
+fills-there shape caps content by (ListCmd.Write header head name key body adj cond) is none h k e =
+    let holds = none_hold (causes shape caps content by (ListCmd.Write header head name key body adj cond)) none in
+    there-here head header _ content.lists h k (within shape caps content is header holds.1.1.0) e
+fills-there shape caps content by (ListCmd.Move ref header head key version cond) is none h k e =
+    let holds = none_hold (causes shape caps content by (ListCmd.Move ref header head key version cond)) none in
+    let rec = the_record content.lists ref in
+    there-here head header (move.with_new_key key rec) (lists_without rec.id content.lists) h k
+    (subst (λ (n : ℕ). header < n) (sym (length-map content.lists (records_without rec.id)))
+    (within shape caps content is header holds.1.1.1.1.1.1.0)) e
+fills-there shape caps content by (ListCmd.Update ref body adj version cond) is none h k e = absurd (false≢true e)
+fills-there shape caps content by (ListCmd.Delete ref version cond) is none h k e = absurd (false≢true e)
+fills-there shape caps content by (ListCmd.Read at cond) is none h k e = absurd (false≢true e)
+fills-there shape caps content by (ListCmd.ReadList header) is none h k e = absurd (false≢true e)
+fills-there shape caps content by (ListCmd.LockSet lock) is none h k e = absurd (false≢true e)
+fills-there shape caps content by (ListCmd.LockReset lock) is none h k e = absurd (false≢true e)
+fills-there shape caps content by (ListCmd.LockTest lock) is none h k e = absurd (false≢true e)
+fills-there shape caps content by (ListCmd.LControls header) is none h k e = absurd (false≢true e)
+fills-there shape caps content by (ListCmd.SetLimit header n) is none h k e = absurd (false≢true e)
+fills-there shape caps content by (ListCmd.Monitor header index) is none h k e = absurd (false≢true e)
+fills-there shape caps content by (ListCmd.Unmonitor header) is none h k e = absurd (false≢true e)
+
+-- and the one where a record was had records
+pub empties-there : (shape : Shape) (caps : Caps) (content : Content) (by : ConnId) (cmd : ListCmd)
+    → IsContent shape caps content → cause shape caps content by cmd ≡ None → (h : ℕ) (k : Key16)
+    → is_sublist (turning content cmd).empties h k ≡ true → is_there content.lists h k ≡ true
+empties-there shape caps content by (ListCmd.Move ref header head key version cond) is none h k e =
+    let holds = none_hold (causes shape caps content by (ListCmd.Move ref header head key version cond)) none in
+    there-own content.lists ref holds.1.1.1.1.0 is.one_for_id h k e
+empties-there shape caps content by (ListCmd.Delete ref version cond) is none h k e =
+    let holds = none_hold (causes shape caps content by (ListCmd.Delete ref version cond)) none in
+    there-own content.lists ref holds.1.1.1.1.0 is.one_for_id h k e
+empties-there shape caps content by (ListCmd.Write header head name key body adj cond) is none h k e =
+    absurd (false≢true e)
+empties-there shape caps content by (ListCmd.Update ref body adj version cond) is none h k e = absurd (false≢true e)
+empties-there shape caps content by (ListCmd.Read at cond) is none h k e = absurd (false≢true e)
+empties-there shape caps content by (ListCmd.ReadList header) is none h k e = absurd (false≢true e)
+empties-there shape caps content by (ListCmd.LockSet lock) is none h k e = absurd (false≢true e)
+empties-there shape caps content by (ListCmd.LockReset lock) is none h k e = absurd (false≢true e)
+empties-there shape caps content by (ListCmd.LockTest lock) is none h k e = absurd (false≢true e)
+empties-there shape caps content by (ListCmd.LControls header) is none h k e = absurd (false≢true e)
+empties-there shape caps content by (ListCmd.SetLimit header n) is none h k e = absurd (false≢true e)
+empties-there shape caps content by (ListCmd.Monitor header index) is none h k e = absurd (false≢true e)
+empties-there shape caps content by (ListCmd.Unmonitor header) is none h k e = absurd (false≢true e)
+
+-- how many records a sublist has tells whether it has some
+counted : (p : Record → Bool) (xs : List Record) → not (length (filter p xs) == 0) ≡ list_any p xs
+counted p [] = refl
+counted p (x ∷ xs) = grind (arith, nat_tests, counted p xs)
+
+pub there_count : (lists : Lists) (header : ℕ) (key : Key16)
+    → not (sublist lists header key == 0) ≡ is_there lists header key
+there_count lists header key = counted (has_key key) (records_of lists header)

@@ -1,5 +1,5 @@
 -- Sublists: the records of a header that have a key; and which of them a command may empty, and which it may fill.
-use Rattle.std.specs.Prelude.{ℕ, ◌==◌, Bool, false, ◌&&◌, ◌||◌, List, length, filter, Option, None, Some}
+use Rattle.std.specs.Prelude.{ℕ, ◌==◌, Bool, false, ◌&&◌, ◌||◌, length, filter, Option, None, Some}
 use Rattle.std.specs.List.{list_any}
 use Rattle.std.specs.Option.{option_or}
 use Rattle.cf_types.specs.declared.list_commands.At.{At}

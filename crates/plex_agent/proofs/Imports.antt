@@ -9,7 +9,7 @@ pub use Rattle.std.proofs.lemmas.Option.{get_or_from_slice_get, slice_get-get_or
 pub use Rattle.std.specs.Prelude.{unwrap_or}
 pub use Rattle.plex_board.proofs.CfLink.LinkLaws.{asked_faults, asked_calls, asked_told}
 pub use Rattle.plex_board.proofs.DeskLaws.{pass_at-with_pass_same, with_pass-pass_at, desk-length, new_desk-of_board}
-pub use Rattle.plex_board.proofs.HistoryLaws.{take_none, calls_rise, same_calls, take_all, own_same}
+pub use Rattle.plex_board.proofs.RunShown.HistoryLaws.{take_none, calls_rise, same_calls, take_all, own_same}
 pub use Rattle.plex_board.proofs.SeamLaws.{IsFrontOf, end_length, point_end, next_call, front_of, numbers_of, numbers_any, IsBefore}
 pub use Rattle.plex_board.proofs.SightLaws.{told_past, each_sight, bit_in_word}
 pub use Rattle.plex_board.proofs.ToldLaws.{links_told}
@@ -25,7 +25,7 @@ pub use Rattle.plex_board.specs.CfTypes.declared.{numbers.ConnId.ConnId, numbers
 pub use Rattle.plex_board.specs.EngineApi.History.{Tells, stands_after}
 pub use Rattle.plex_board.specs.EngineApi.declared.{histories.Entry.Entry, told.Told.Told}
 pub use Rattle.plex_board.specs.Floors.{worker_of, no_worker, new_floor, Floor, with_worker, heard_from_last, heard_all, ClosesAll, Plays, heard_from, told_by, is_counted, PlaysAct, is_working, PlaysLine, PlaysLines, worker_after_take, worker_ready, last_after, ClosesOne}
-pub use Rattle.plex_board.specs.Numbers.{seen_on, shown_on}
+pub use Rattle.plex_board.specs.RunShown.Numbers.{seen_on, shown_on}
 pub use Rattle.plex_board.specs.PlexScript.Agent.{first_step, call_of, most_asks, step_after, IsReady, asked_by, shell_ask}
 pub use Rattle.plex_board.specs.PlexScript.Follows.{RunsUpTo, ShowsAct, numbers_on, surest_on, Runs, is_linked_by, ShowsClosing, ShowsClosings, ShowsLines, number_on, sure_on, IsNote, AgreesWith, IsHeard, lines_of}
 pub use Rattle.plex_board.specs.PlexScript.declared.transcripts.Transcript.{Transcript}

@@ -1,6 +1,6 @@
 -- A script that may be run, and the board that was started for it.
 use Rattle.plex_agent.proofs.Imports.{Vec, Global, ◌≡◌, ◌≢◌, ℕ, ◌≤◌, List, length, map, Option, Result, Ok, Err, IfOk, IsOkAnd, All, slice_get, refl, sym, ◌∙◌, ap, subst, arith, length-map, get_or-map, Kind, StrForm, NoMemory, CfId, ConnId, Telling, TellsEnough, AnyAsk, Act, Line, Script, AnyHistory, Transcript, IsRunnable, IsRunnableLine, IsRunnableAct, AreTelling, AreRunLinks, serial_run, type_of_kind, type_of_ask, CellShown, DeskShown, BoardShown, IsStarted, AreClosed, AreLinksAsked, links_of, AtWork, MayAct, Finished, IsPlayable, IsBoardOf, IsPlayed, ShowsHistories, AgentEnd, want}
-use Rattle.plex_board.specs.Kinds.{IsAskOf}
+use Rattle.plex_board.specs.RunShown.Kinds.{IsAskOf}
 use Rattle.plex_agent.proofs.Lookups.{get_mapped, all_get}
 use Rattle.plex_agent.proofs.{ExactLaw.exact, LinkRuns.run_links, LinkRuns.run_told, Schedules.serial_shows}
 

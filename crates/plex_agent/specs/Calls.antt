@@ -13,7 +13,7 @@ use Rattle.plex_board.specs.PlexScript.declared.transcripts.AgentEnd.{AgentEnd}
 use Rattle.plex_board.specs.PlexScript.declared.transcripts.AgentEnd.TheVariants as ended
 use Rattle.plex_board.specs.PlexScript.declared.transcripts.Shown.{Shown}
 use Rattle.plex_board.specs.PlexScript.Agent.{step_after, asked_by}
-use Rattle.plex_board.specs.Kinds.{MayAskAny}
+use Rattle.plex_board.specs.RunShown.Kinds.{MayAskAny}
 use Rattle.plex_board.specs.declared.any_reply.AnyReply.{AnyReply}
 use Rattle.plex_board.specs.Passes.{with_call}
 use Rattle.plex_board.specs.Cells.{CellShown, IsAskOf}

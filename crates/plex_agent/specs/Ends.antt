@@ -16,7 +16,7 @@ use Rattle.plex_board.specs.PlexScript.declared.transcripts.Transcript.{Transcri
 use Rattle.plex_board.specs.PlexScript.Agent.{first_step}
 use Rattle.plex_board.specs.PlexScript.Heard.{AnyCall, calls_on}
 use Rattle.plex_board.specs.PlexScript.Follows.{RunsUpTo, ShowsLines, ShowsClosings, AgreesWith, Follows, Stops, is_linked_by, lines_of}
-use Rattle.plex_board.specs.Headline.{TestsTell}
+use Rattle.plex_board.specs.RunShown.Headline.{TestsTell}
 use Rattle.plex_board.specs.Boards.{BoardShown, IsStarted, AreClosed, new_desk}
 use Rattle.plex_board.specs.Turns.{AtWork}
 use Rattle.plex_board.specs.Callers.{no_items}

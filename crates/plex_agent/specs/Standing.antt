@@ -6,7 +6,7 @@ use Rattle.plex_board.specs.CfTypes.declared.numbers.ConnId.{ConnId}
 use Rattle.plex_board.specs.PlexScript.declared.scripts.Act.{Act}
 use Rattle.plex_board.specs.PlexScript.declared.scripts.Act.TheVariants as act
 use Rattle.plex_board.specs.PlexScript.declared.scripts.Line.{Line}
-use Rattle.plex_board.specs.Kinds.{numbers_from}
+use Rattle.plex_board.specs.RunShown.Kinds.{numbers_from}
 use Rattle.plex_board.specs.Cells.{CellShown}
 use Rattle.plex_board.specs.Desks.{DeskShown}
 use Rattle.plex_board.specs.Boards.{BoardShown, IsDeskOf, IsTrayOf, cell_on}

@@ -4,7 +4,7 @@ ghost use Rattle.std.specs.Vec.{vec_len};
 ghost use Rattle.std.specs.List.{range_with_len};
 ghost use Rattle.plex_board.specs.CfTypes.declared.limits.TheConstants.{CONNECTORS, LINKS};
 ghost use Rattle.plex_board.specs.Runnable.{IsRunnable};
-ghost use Rattle.plex_board.specs.Headline.{ShowsHistories};
+ghost use Rattle.plex_board.specs.RunShown.Headline.{ShowsHistories};
 ghost use Rattle.plex_board.specs.RunLinks.{AreRunLinks};
 ghost use Rattle.plex_board.specs.Boards.{new_desk};
 ghost use Rattle.plex_board.specs.Callers.{IsLineFor};

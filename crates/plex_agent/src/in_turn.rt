@@ -6,7 +6,7 @@ ghost use Rattle.plex_board.specs.CfTypes.NoMemory.Wants.{want};
 ghost use Rattle.plex_board.specs.CfTypes.declared.limits.TheConstants.{CONNECTORS, LINKS};
 ghost use Rattle.plex_board.specs.PlexScript.declared.transcripts.AgentEnd.TheVariants as ended;
 ghost use Rattle.plex_board.specs.PlexScript.declared.transcripts.Transcript.{Transcript};
-ghost use Rattle.plex_board.specs.Headline.{ShowsHistories};
+ghost use Rattle.plex_board.specs.RunShown.Headline.{ShowsHistories};
 ghost use Rattle.plex_board.specs.Runnable.{IsRunnable};
 ghost use Rattle.plex_board.specs.RunLinks.{AreRunLinks};
 ghost use Rattle.plex_board.specs.Boards.{new_desk};

@@ -36,7 +36,8 @@ pub use Rattle.struct_cell.specs.declared.{inside.CellKey.CellKey, refused.CallR
 pub use Rattle.plex_board.specs.Boards.{BoardShown, IsDeskOf, AreClosed, AreEachAsked, AreLinksAsked, cell_on, fixed_at, new_desk, IsClosed, IsAccount, four_of, IsStarted, links_of, IsTrayOf, note_in, no_notes, IsPolicy}
 pub use Rattle.plex_board.specs.Cells.{CellShown, IsPassOf, IsAnyTold, own_replies, keyed_as, replied, IsNoteOf, cell_shown, IsAskOf}
 pub use Rattle.plex_board.specs.Desks.{DeskShown, no_pass, Fixed, fixed_of, pass_at, with_pass, IsAnsweredOn, IsLaterOn}
-pub use Rattle.plex_board.specs.Kinds.{IsAnyPoint, any_answers, IsOfKind, IsAnyLegal, Rising, any_take, no_calls, AreAnyAsTold, any_next, any_told, any_numbers, end_of, last_number, numbers_from, MayAskAny, AnyTells, any_stands, any_word, any_marks_at}
+pub use Rattle.run_shown.specs.Kinds.{IsAnyPoint, IsOfKind, IsAnyLegal, Rising, any_take, no_calls, any_numbers, end_of, last_number, numbers_from, MayAskAny, AnyTells, any_stands, any_word}
+pub use Rattle.plex_board.specs.AnyCalls.{any_answers, AreAnyAsTold, any_next, any_told, any_marks_at}
 pub use Rattle.plex_board.specs.Notes.{with_any_note, with_note}
 pub use Rattle.plex_board.specs.Openings.{bare_desk, desk_with, desk_at, IsOpening, IsUnused, IsBegun}
 pub use Rattle.plex_board.specs.Passes.{PassShown, IsAnswered, call_by, heard_by, reply_by, replies_by, shown_as, with_call, unused_pass, passes_shown, type_of_passes, room_of, NoteShown, IsLater, reply_numbered, note_shown, pass_shown, note_of}
@@ -46,7 +47,7 @@ pub use Rattle.plex_board.specs.Types.{StrType, OfCache, type_of_kind, OfList, O
 pub use Rattle.plex_board.specs.declared.{any_note.AnyNote.AnyNote, opening.Opening.Opening}
 pub use Rattle.plex_board.specs.declared.{any_pass.AnyPasses.AnyPasses, any_reply.AnyReply.AnyReply, rest.Rest.Rest}
 pub use Rattle.plex_script.proofs.StepLaws.{asks_some, fewer_asks, ready_after, rests, some_goes}
-pub use Rattle.plex_board.specs.Headline.{TellsBit, TellsWord, place_of, ShowsHistories, TellsOf, TestsTell, EndsRight, IsHistoryOf}
+pub use Rattle.run_shown.specs.Headline.{TellsBit, TellsWord, place_of, ShowsHistories, TellsOf, TestsTell, EndsRight, IsHistoryOf}
 pub use Rattle.plex_board.specs.RunLinks.{link_place, AreTelling, IsLinkOf, AreRunLinks}
 pub use Rattle.plex_board.specs.Runnable.{IsRunnable, IsRunnableLine, IsRunnableAct}
 pub use Rattle.plex_board.specs.Serial.{with_shown, test_shown, word_shown, post_made, take_made, start, connectors, Run, stopped_at, steps_made, is_done, after_departure, after_closing, all_steps_made, after_line, serial_run, shown_to, transcript_of, transcript_at, act_made}

@@ -5,6 +5,7 @@ pub use Rattle.plex_script.proofs.EngineApi as EngineApi
 pub use Rattle.list_model.proofs as ListModel
 pub use Rattle.lock_model.proofs as LockModel
 pub use Rattle.plex_script.proofs as PlexScript
+pub use Rattle.run_shown.proofs as RunShown
 pub use Rattle.struct_cell.proofs.ShellLaws as ShellLaws
 pub use Rattle.struct_cell.proofs.VecWords as VecWords
 pub mod Imports
@@ -27,6 +28,5 @@ pub mod DealLaws
 pub mod StartLaws
 pub mod UnusedLaws
 pub mod WordLaws
-pub mod HistoryLaws
 pub mod ToldLaws
 pub mod SeamLaws

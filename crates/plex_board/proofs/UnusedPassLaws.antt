@@ -1,6 +1,6 @@
 -- A structure that nobody has called: its links were asked nothing.
 use Rattle.plex_board.proofs.Imports.{◌≡◌, ℕ, ◌<◌, ◌≤◌, Bool, List, [], map, All, All-nil, refl, sym, ap, subst, ◌∙◌, arith, Option, length, range_with_len, StrForm, CfId, ConnId, Links, AreAsked, AnyHistory, AnyCall, any_calls, any_length, any_take, own_calls, WordTable, StrType, IsAnyLegal, any_answers, PassShown, unused_pass, CellShown}
-use Rattle.plex_board.proofs.HistoryLaws.{same_calls, calls_rise, length_calls, take_all}
+use Rattle.run_shown.proofs.HistoryLaws.{same_calls, calls_rise, length_calls, take_all}
 use Rattle.plex_board.proofs.SightLaws.{each_of}
 
 -- before the first call no link answered

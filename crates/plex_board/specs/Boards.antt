@@ -14,7 +14,8 @@ use Rattle.plex_script.specs.Heard.{any_calls, any_length, own_calls}
 use Rattle.plex_board.specs.Types.{type_of_kind, type_of_history}
 use Rattle.plex_board.specs.Passes.{PassShown, NoteShown, unused_pass}
 use Rattle.struct_cell.specs.Limits.{AreMadeBelow}
-use Rattle.plex_board.specs.Kinds.{IsAnyLegal, IsAnyPoint, any_numbers, any_answers}
+use Rattle.run_shown.specs.Kinds.{IsAnyLegal, IsAnyPoint, any_numbers}
+use Rattle.plex_board.specs.AnyCalls.{any_answers}
 use Rattle.plex_board.specs.Cells.{CellShown, IsNoteOf, IsAnyTold, own_replies}
 use Rattle.plex_board.specs.Desks.{DeskShown, Fixed, fixed_of, pass_at}
 

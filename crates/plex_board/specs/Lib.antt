@@ -9,6 +9,7 @@ pub use Rattle.list_model.specs.ListStore as ListStore
 pub use Rattle.lock_model.specs as LockModel
 pub use Rattle.lock_model.specs.LockQueue as LockQueue
 pub use Rattle.plex_script.specs as PlexScript
+pub use Rattle.run_shown.specs as RunShown
 pub use Rattle.struct_cell.specs.ShellLaws as ShellLaws
 pub use Rattle.struct_cell.specs as StructCell
 pub use Rattle.struct_cell.specs.VecWords as VecWords
@@ -25,11 +26,9 @@ pub mod Stations
 pub mod Rests
 pub mod Openings
 pub mod Types
-pub mod Kinds
+pub mod AnyCalls
 pub mod Means
 pub mod Told
-pub mod Numbers
 pub mod Serial
-pub mod Headline
 pub mod Runnable
 pub mod RunLinks

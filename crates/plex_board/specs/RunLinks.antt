@@ -6,7 +6,7 @@ use Rattle.plex_script.specs.CfTypes.declared.numbers.CfId.{CfId}
 use Rattle.plex_script.specs.CfTypes.Forms.{IsFacility}
 use Rattle.struct_cell.specs.CfLink.Links.{Telling, Tells, IsAsTold, IsAskedAll, calls_after}
 use Rattle.plex_script.specs.declared.asks.AnyHistory.{AnyHistory}
-use Rattle.plex_board.specs.Kinds.{any_answers, any_marks_at}
+use Rattle.plex_board.specs.AnyCalls.{any_answers, any_marks_at}
 
 -- where the link of a structure to a facility stands
 abbrev pub link_place : ℕ → CfId → ℕ

@@ -8,7 +8,7 @@ use Rattle.plex_script.specs.declared.scripts.Act.{Act}
 use Rattle.plex_script.specs.declared.scripts.Act.TheVariants as act
 use Rattle.plex_script.specs.declared.scripts.Line.{Line}
 use Rattle.plex_script.specs.declared.scripts.Script.{Script}
-use Rattle.plex_board.specs.Kinds.{IsAskOf, MayAskAny}
+use Rattle.run_shown.specs.Kinds.{IsAskOf, MayAskAny}
 
 -- the act is built, and one for a structure of this form; the operator has no vector to test
 abbrev pub IsRunnableAct : StrForm → ConnId → Act → Type 0

@@ -23,8 +23,9 @@ use Rattle.plex_script.specs.declared.transcripts.Shown.TheVariants as shown
 use Rattle.plex_script.specs.declared.transcripts.Transcript.{Transcript}
 use Rattle.plex_script.specs.Agent.{first_step, step_after, most_asks, asked_by, shell_ask}
 use Rattle.plex_script.specs.Heard.{any_calls, any_length, own_calls, is_linked}
-use Rattle.plex_board.specs.Kinds.{no_calls, any_next, any_told, any_stands, any_word, numbers_from}
-use Rattle.plex_board.specs.Numbers.{seen_on}
+use Rattle.run_shown.specs.Kinds.{no_calls, any_stands, any_word, numbers_from}
+use Rattle.plex_board.specs.AnyCalls.{any_next, any_told}
+use Rattle.run_shown.specs.Numbers.{seen_on}
 
 -- the history of each structure, the transcript of each caller, from the operator on, and for each structure the
 -- number that was posted last, 0 where none was

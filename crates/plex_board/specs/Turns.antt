@@ -22,7 +22,7 @@ use Rattle.plex_script.specs.declared.transcripts.Transcript.{Transcript}
 use Rattle.plex_script.specs.Agent.{first_step, step_after, asked_by, shell_ask}
 use Rattle.plex_script.specs.Heard.{is_linked}
 use Rattle.struct_cell.specs.VecWords.Logged.{indices_of, sight}
-use Rattle.plex_board.specs.Kinds.{MayAskAny}
+use Rattle.run_shown.specs.Kinds.{MayAskAny}
 use Rattle.plex_board.specs.declared.any_reply.AnyReply.{AnyReply}
 use Rattle.plex_board.specs.Passes.{PassShown, with_call}
 use Rattle.plex_board.specs.Cells.{CellShown, IsAskOf}

@@ -8,7 +8,7 @@ ghost use Rattle.struct_cell.specs.declared.refused.CallRefused.TheVariants as r
 ghost use Rattle.struct_cell.specs.VecWords.Logged.{words_of, indices_of, sight};
 ghost use Rattle.plex_script.specs.Heard.{call_numbered};
 ghost use Rattle.plex_board.specs.Types.{type_of_kind};
-ghost use Rattle.plex_board.specs.Kinds.{MayAskAny};
+ghost use Rattle.run_shown.specs.Kinds.{MayAskAny};
 ghost use Rattle.plex_board.specs.Passes.{note_of, reply_numbered};
 ghost use Rattle.plex_board.specs.Cells.{IsAskOf};
 ghost use Rattle.plex_board.specs.Notes.{with_note, with_any_note};

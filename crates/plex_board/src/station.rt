@@ -10,7 +10,8 @@ ghost use Rattle.struct_cell.specs.declared.refused.CallRefused.TheVariants as r
 ghost use Rattle.struct_cell.specs.VecWords.Logged.{words_of, indices_of, sight};
 ghost use Rattle.plex_board.specs.Types.{type_of_kind, type_of_history};
 ghost use Rattle.struct_cell.specs.Limits.{AreMadeBelow};
-ghost use Rattle.plex_board.specs.Kinds.{MayAskAny, IsAnyLegal, IsAnyPoint, any_answers, any_numbers};
+ghost use Rattle.run_shown.specs.Kinds.{MayAskAny, IsAnyLegal, IsAnyPoint, any_numbers};
+ghost use Rattle.plex_board.specs.AnyCalls.{any_answers};
 ghost use Rattle.plex_board.specs.Passes.{IsAnswered, IsLater, passes_shown, type_of_passes, room_of, note_shown, note_of, unused_pass, reply_numbered};
 ghost use Rattle.plex_board.specs.Cells.{IsPassOf, IsNoteOf, IsAskOf, IsAnyTold, cell_shown, own_replies};
 ghost use Rattle.plex_board.specs.Notes.{with_note, with_any_note};

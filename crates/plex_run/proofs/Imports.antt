@@ -10,7 +10,7 @@ pub use Rattle.std.proofs.lemmas.Result.{IfOk-weaker, on_ok_weaker, on_err_weake
 pub use Rattle.plex_agent.specs.CfIo.Count.{Rises}
 pub use Rattle.plex_agent.specs.CfIo.ReadEnd.{HasCause}
 pub use Rattle.plex_agent.specs.CfIo.declared.read_end.ReadEnd.{ReadEnd}
-pub use Rattle.plex_agent.specs.PlexBoard.Kinds.{IsAskOf}
+pub use Rattle.plex_agent.specs.PlexBoard.RunShown.Kinds.{IsAskOf}
 pub use Rattle.plex_agent.specs.declared.in_turn.Finished.{Finished}
 pub use Rattle.plex_load.specs.CfTypes.declared.numbers.StrNo.{StrNo}
 pub use Rattle.plex_load.specs.CfTypes.declared.{forms.Kind.Kind, forms.StrForm.StrForm}

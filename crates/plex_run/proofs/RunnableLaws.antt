@@ -1,6 +1,6 @@
 -- A script can be run.
 use Rattle.plex_run.proofs.Imports.{arith, ◌≡◌, Option, Some, None, option_map, refl, IsTrue, Kind, StrForm, ConnId, AnyAsk, Act, Line, Script, is_ask_of, IsWellFormed, IsLineOf, IsActOf, MayAskAny, IsAskOf, IsRunnable, IsRunnableLine, IsRunnableAct}
-use Rattle.plex_agent.specs.PlexBoard.Kinds as kinds
+use Rattle.plex_agent.specs.PlexBoard.RunShown.Kinds as kinds
 
 -- ---- lists
 

@@ -13,7 +13,7 @@ use Rattle.plex_load.specs.PlexScript.declared.asks.AnyHistory.{AnyHistory}
 use Rattle.plex_load.specs.PlexScript.declared.scripts.Script.{Script}
 use Rattle.plex_load.specs.PlexScript.Scripts.{IsScript, IsFault}
 use Rattle.plex_agent.specs.PlexBoard.Serial.{serial_run}
-use Rattle.plex_agent.specs.PlexBoard.Headline.{ShowsHistories}
+use Rattle.plex_agent.specs.PlexBoard.RunShown.Headline.{ShowsHistories}
 use Rattle.run_laws.specs.Valid.{ShowsFresh}
 use Rattle.run_laws.specs.Bounds.{most_entries}
 use Rattle.plex_agent.specs.declared.in_turn.Finished.{Finished}

@@ -28,6 +28,7 @@ pub use Rattle.plex_plain.specs.PlexSpell.declared.rigour.Rigour.{Rigour}
 pub use Rattle.plex_plain.specs.PlexSpell.declared.rigour.Rigour.TheVariants.{Form, Limits, Names}
 pub use Rattle.plex_script.specs.Agent.{step_after, most_asks, asks_behind, asked_by, round_step, after_round, shell_ask, IsReady, first_step, call_of}
 pub use Rattle.plex_script.specs.Causes.{declared_in, kind_of, has_lines, is_full, is_twice, is_too_much, PolicyCause, DoneCause, CallerCause, IsFirst, rank, is_long, is_long_name, is_comment, is_policy_word, caller_of, EmptyCause, StrangeCause, NoStructureCause, LineCause, strange_why, IsCause, has_pref, facility_units, units_of, all_prefs}
+pub use Rattle.plex_script.specs.Commands.{call_in, call_alone, called_line, command_at, space_behind, MakesCommand}
 pub use Rattle.plex_script.specs.Follows.{ShowsTest, ShowsWord, numbers_on}
 pub use Rattle.plex_script.specs.Heard.{AnyCall, any_call, own_calls, any_length, any_calls, call_numbered, calls_on, is_linked, length_on, calls_of, length_of}
 pub use Rattle.plex_script.specs.Laws.{IsReadBack, SaysOne, IsExclusive}

@@ -5,6 +5,7 @@ pub mod Imports
 pub mod FirstWords
 pub mod AskLaws
 pub mod ActLaws
+pub mod CommandLaws
 pub mod PolicyLaws
 pub mod CauseLaws
 pub mod ReadLaws

@@ -11,6 +11,7 @@ pub mod Scripts
 pub mod Reading
 pub mod Laws
 pub mod Agent
+pub mod Commands
 pub mod Heard
 pub mod Follows
 pub mod WellFormed

@@ -11,7 +11,7 @@ use plex_plain::spell::{Judge, Miss, Words, cache, fields, list, lock, shell};
 use std::alloc::Global;
 
 /// Whether the caller is the operator.
-fn is_operator(by: ConnId) -> bool
+pub(crate) fn is_operator(by: ConnId) -> bool
     ensures { result ≡ is_operator by }
 {
     by.0 == 0

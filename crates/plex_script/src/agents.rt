@@ -113,8 +113,8 @@ fn asks_behind(then: Option<u32>) -> u64
     }
 }
 
-// A common command, asked of a structure of this kind.
-fn common(kind: Kind, cmd: ShellCmd) -> AnyAsk
+/// A common command, asked of a structure of this kind.
+pub(crate) fn common(kind: Kind, cmd: ShellCmd) -> AnyAsk
     ensures { result ≡ shell_ask kind cmd }
 {
     match kind {

@@ -5,7 +5,7 @@ use Rattle.plex_board.specs.CfTypes.declared.numbers.ConnId.{ConnId}
 use Rattle.plex_board.specs.CfTypes.declared.numbers.StrNo.{StrNo}
 use Rattle.plex_board.specs.PlexScript.declared.asks.AnyHistory.{AnyHistory}
 use Rattle.plex_board.specs.PlexScript.declared.scripts.Script.{Script}
-use Rattle.plex_board.specs.Kinds.{IsAnyLegal}
+use Rattle.plex_board.specs.RunShown.Kinds.{IsAnyLegal}
 use Rattle.plex_board.specs.Passes.{reply_numbered}
 use Rattle.plex_board.specs.Cells.{own_replies}
 use Rattle.plex_seat.specs.declared.answers.Answer.{Answer}

@@ -1,7 +1,7 @@
 //! A member's seat at a structure.
 ghost use Rattle.std.specs.Prelude.{◌≡◌, ◌≢◌, ◌↔◌, ◌⊎◌, ◌+◌, ◌<◌, ◌≤◌, ◌++◌, ◌∷◌, [], IfOk, IfErr, IfSome, IfNone, IsSome, IsTrue, All, Some, is_some, length};
 ghost use Rattle.std.specs.Vec.{vec_len, vec_capacity};
-ghost use Rattle.plex_board.specs.Kinds.{MayAskAny};
+ghost use Rattle.plex_board.specs.RunShown.Kinds.{MayAskAny};
 ghost use Rattle.plex_board.specs.Types.{OfCache, OfList, OfLock, type_of_ask};
 ghost use Rattle.plex_board.specs.PlexScript.declared.scripts.AnyAsk.TheVariants as any;
 ghost use Rattle.plex_board.specs.EngineApi.declared.asks.Ask.TheVariants as ask;

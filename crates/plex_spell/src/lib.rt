@@ -12,8 +12,8 @@ mod misses;
 mod numerals;
 mod rigour;
 mod shell_reader;
-mod singles;
-mod texts;
+pub mod singles;
+pub mod texts;
 mod words;
 
 pub use cache_reader::cache;

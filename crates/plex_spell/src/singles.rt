@@ -21,7 +21,7 @@ use cf_types::{
 use std::alloc::Global;
 
 /// Reads the name of an entry or a record.
-pub(crate) fn name(rigour: Rigour, word: &[u8]) -> Option<Name16>
+pub fn name(rigour: Rigour, word: &[u8]) -> Option<Name16>
     ensures { result ≡ name_of rigour word.now }
 {
     let text = text(rigour, word, NAME_BYTES)?;
@@ -29,7 +29,7 @@ pub(crate) fn name(rigour: Rigour, word: &[u8]) -> Option<Name16>
 }
 
 /// Reads a list key.
-pub(crate) fn key(rigour: Rigour, word: &[u8]) -> Option<Key16>
+pub fn key(rigour: Rigour, word: &[u8]) -> Option<Key16>
     ensures { result ≡ key_of rigour word.now }
 {
     let text = text(rigour, word, NAME_BYTES)?;
@@ -37,7 +37,7 @@ pub(crate) fn key(rigour: Rigour, word: &[u8]) -> Option<Key16>
 }
 
 /// Reads an adjunct, or record data.
-pub(crate) fn short(rigour: Rigour, word: &[u8]) -> Option<Adjunct>
+pub fn short(rigour: Rigour, word: &[u8]) -> Option<Adjunct>
     ensures { result ≡ text_of rigour ADJUNCT_BYTES word.now }
 {
     let text = text(rigour, word, ADJUNCT_BYTES)?;
@@ -45,7 +45,7 @@ pub(crate) fn short(rigour: Rigour, word: &[u8]) -> Option<Adjunct>
 }
 
 // Data of these bytes.
-fn body(alloc: Global, text: &[u8]) -> Result<Body, Miss>
+pub fn body(alloc: Global, text: &[u8]) -> Result<Body, Miss>
     requires { IsTerm BODY_BYTES text.now }
     ensures { Reads result (Some text.now) }
 {
@@ -161,7 +161,7 @@ pub(crate) fn new_name(rigour: Rigour, word: &[u8]) -> Option<Name16>
 }
 
 /// Reads the number of a facility.
-pub(crate) fn facility_number(word: &[u8]) -> Option<CfId>
+pub fn facility_number(word: &[u8]) -> Option<CfId>
     ensures { result ≡ facility_of word.now }
 {
     if is(word, b"CF1") {

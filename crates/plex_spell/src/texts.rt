@@ -66,7 +66,7 @@ pub fn is_name(word: &[u8]) -> bool
 
 /// Reads a text of term characters, `limit` at most. Where the form alone counts, its front stands
 /// for a longer one.
-pub(crate) fn text(rigour: Rigour, word: &[u8], limit: usize) -> Option<&[u8]>
+pub fn text(rigour: Rigour, word: &[u8], limit: usize) -> Option<&[u8]>
     requires { 0 < limit }
     ensures value { option_copied result ≡ text_of rigour limit word.now }
     ensures term { IfSome result (λ text. IsTerm limit text.now) }
@@ -93,7 +93,7 @@ fn place_of(word: &[u8], at: u8) -> Option<usize>
 
 /// What stands before a byte and after it, where it first stands.
 #[tactic(auto, using(crate::proofs::TextLaws::cuts_told))]
-pub(crate) fn cut(word: &[u8], at: u8) -> Option<(&[u8], &[u8])>
+pub fn cut(word: &[u8], at: u8) -> Option<(&[u8], &[u8])>
     ensures found { IfSome result (λ parts. (stands_in at word.now ≡ true)
         × (parts.0.now ≡ before_first (λ b. b == at) word.now)
         × (parts.1.now ≡ after_first (λ b. b == at) word.now)) }

@@ -10,7 +10,7 @@ pub use Rattle.plex_board.proofs.CacheModel.CopyLaws.{fresh-copy, copy-row_or_ne
 pub use Rattle.plex_board.proofs.CacheModel.OrderLaws.{orderly-deed, orderly-run, orderly-nothing}
 pub use Rattle.plex_board.proofs.CacheModel.UncastLaws.{uncast-kept, AllKept, deed-kept}
 pub use Rattle.plex_board.proofs.CfLists.SplitLaws.{Every, every_front, every_back}
-pub use Rattle.plex_board.proofs.HistoryLaws.{length_calls, calls_rise}
+pub use Rattle.plex_board.proofs.RunShown.HistoryLaws.{length_calls, calls_rise}
 pub use Rattle.plex_board.proofs.LockModel.OwnerLaws.{compatible-interests}
 pub use Rattle.plex_board.proofs.PlexScript.TestLaws.{test_numbers, word_numbers}
 pub use Rattle.plex_board.proofs.SeamLaws.{numbers_of, numbers_any}

@@ -14,7 +14,7 @@ use Rattle.plex_board.specs.PlexScript.declared.transcripts.Shown.TheVariants as
 use Rattle.plex_board.specs.PlexScript.declared.transcripts.Transcript.{Transcript}
 use Rattle.plex_board.specs.PlexScript.Follows.{Follows}
 use Rattle.plex_board.specs.PlexScript.Scripts.{IsScript}
-use Rattle.plex_board.specs.Headline.{IsHistoryOf}
+use Rattle.plex_board.specs.RunShown.Headline.{IsHistoryOf}
 use Rattle.plex_report.specs.Report.{report}
 
 pub record Reading : Type 0 where

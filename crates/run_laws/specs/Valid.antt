@@ -12,7 +12,7 @@ use Rattle.plex_board.specs.PlexScript.declared.transcripts.Shown.{Shown}
 use Rattle.plex_board.specs.PlexScript.declared.transcripts.Shown.TheVariants as shown
 use Rattle.plex_board.specs.PlexScript.declared.transcripts.Transcript.{Transcript}
 use Rattle.plex_board.specs.PlexScript.Follows.{surest_on}
-use Rattle.plex_board.specs.Headline.{place_of, word_of}
+use Rattle.plex_board.specs.RunShown.Headline.{place_of, word_of}
 
 -- a test of one bit that shows that it stands tells a fresh copy, to a connector that has these items before it
 abbrev pub BitTellsFresh : StrForm → CacheHistory → ConnId → StrNo → List Shown → ℕ → ℕ → Bool → Type 0

@@ -9,7 +9,7 @@ use Rattle.plex_board.specs.PlexScript.declared.scripts.Script.{Script}
 use Rattle.plex_board.specs.VecWords.declared.logged.Sight.{Sight}
 use Rattle.plex_board.specs.VecWords.declared.logged.Tested.{Tested}
 use Rattle.plex_board.specs.Types.{OfCache}
-use Rattle.plex_board.specs.Kinds.{IsAnyLegal}
+use Rattle.plex_board.specs.RunShown.Kinds.{IsAnyLegal}
 use Rattle.plex_board.specs.declared.any_reply.AnyReply.{AnyReply}
 use Rattle.plex_board.specs.Passes.{Replied, reply_numbered}
 use Rattle.plex_board.specs.Cells.{CellShown, IsAnyTold, own_replies}

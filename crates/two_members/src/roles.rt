@@ -1,6 +1,6 @@
 //! What each member does at its desk.
 ghost use Rattle.std.specs.Prelude.{◌≡◌, IfOk, false};
-ghost use Rattle.plex_board.specs.Kinds.{MayAskAny};
+ghost use Rattle.plex_board.specs.RunShown.Kinds.{MayAskAny};
 ghost use Rattle.plex_board.specs.PlexScript.declared.scripts.AnyAsk.TheVariants as any;
 ghost use Rattle.two_members.specs.Members.{IsMember, Stays, HasRead, HasTested, replies_at};
 

@@ -1,0 +1,2 @@
+pub mod SteadyLaws
+pub mod Cases

@@ -1,0 +1,4 @@
+pub mod Fits
+pub mod Tests
+pub mod Judged
+pub mod Stands

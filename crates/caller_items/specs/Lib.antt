@@ -1,0 +1,2 @@
+pub use Rattle.caller_slots.specs as CallerSlots
+pub mod Orders

@@ -1,0 +1,4 @@
+pub mod BadBlocks
+pub mod BadItems
+pub mod Answers
+pub mod ItemLaws

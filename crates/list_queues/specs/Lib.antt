@@ -1,0 +1,2 @@
+pub mod QueuesView
+pub mod EngineView

@@ -1,0 +1,167 @@
+-- Entries of each kind of structure.
+use Rattle.std.proofs.Common.{◌≡◌, ℕ, true, List, ◌++◌, Option, Some, None, codes, refl, sym, ap, ◌∙◌, subst, Result, IfOk, IfSome}
+use Rattle.cf_types.specs.Forms.{IsFacility}
+use Rattle.cf_types.specs.declared.names.Name16.{Name16}
+use Rattle.cf_types.specs.declared.numbers.CfId.{CfId}
+use Rattle.cf_types.specs.declared.numbers.ConnId.{ConnId}
+use Rattle.cf_types.specs.declared.numbers.StrNo.{StrNo}
+use Rattle.cf_types.specs.declared.cache_commands.CacheCmd.{CacheCmd}
+use Rattle.cf_types.specs.declared.cache_commands.CacheReply.{CacheReply}
+use Rattle.cf_types.specs.declared.cache_commands.CacheReply.TheVariants as cache
+use Rattle.cf_types.specs.declared.list_commands.ListCmd.{ListCmd}
+use Rattle.cf_types.specs.declared.list_commands.ListReply.{ListReply}
+use Rattle.cf_types.specs.declared.list_commands.ListReply.TheVariants as list
+use Rattle.cf_types.specs.declared.lock_commands.LockCmd.{LockCmd}
+use Rattle.cf_types.specs.declared.lock_commands.LockReply.{LockReply}
+use Rattle.cf_types.specs.declared.lock_commands.LockReply.TheVariants as lock
+use Rattle.engine_api.specs.declared.asks.Ask.{Ask}
+use Rattle.engine_api.specs.declared.asks.Ask.TheVariants.{Shell, Content}
+use Rattle.engine_api.specs.declared.histories.Entry.{Entry}
+use Rattle.plex_spell.specs.Words.{same_word}
+use Rattle.plex_spell.proofs.Choices.{word-same}
+use Rattle.plex_plain.specs.Naming.{facility_word}
+use Rattle.plex_script.specs.declared.scripts.AnyAsk.{AnyAsk}
+use Rattle.plex_script.specs.declared.scripts.Script.{Script}
+use Rattle.plex_script.specs.Causes.{caller_of}
+use Rattle.plex_script.specs.Commands.{MakesCommand}
+use Rattle.plex_script.specs.Limits.{KeepsLimits}
+use Rattle.plex_report.specs.CommandWords as words
+use Rattle.plex_report.specs.ReplyWords.{cache_reply_words, list_reply_words, lock_reply_words}
+use Rattle.line_rows.specs.Rows.{Row}
+use Rattle.reply_rows.specs.Contents.{cache_row, list_row, lock_row}
+use Rattle.reply_rows.specs.Within.{IsCacheReply, IsListReply, IsLockReply}
+use Rattle.reply_rows.proofs.CacheRows.{cache-is}
+use Rattle.reply_rows.proofs.ListRows.{list-is}
+use Rattle.reply_rows.proofs.LockRows.{lock-is}
+use Rattle.reply_rows.proofs.Replies.{reply-is, cache-avoids, list-avoids, lock-avoids}
+use Rattle.reply_rows.proofs.Printed.{cache-same, list-same, lock-same}
+use Rattle.report_lines.specs.Entries.{IsCutLine, any_words, StandsAs, call_entry, mark_entry}
+use Rattle.report_lines.proofs.EntryLaws.{has_words, IsKind, Prints, call-found, mark-found, if_ok_more}
+
+-- ---- caches
+
+abbrev pub of_cache : Ask CacheCmd → AnyAsk
+of_cache asked = AnyAsk.Cache asked
+
+pub is-cache : IsKind of_cache words.cache_words cache_reply_words cache_row IsCacheReply
+is-cache = record {
+  asks = asks;
+  answers = cache-same;
+  some = some;
+  reads = λ connectors names vary side.
+      reply-is connectors (cache_row connectors) (IsCacheReply connectors) names (cache-is connectors names)
+      (cache-avoids connectors) vary side;
+}
+  where
+    asks : (script : Script) (asked : Ask CacheCmd)
+        → any_words script.connectors (of_cache asked) ≡ words.ask_words words.cache_words script asked
+    asks script (Shell cmd) = refl
+    asks script (Content cmd) = refl
+
+    some : (script : Script) (r : CacheReply) → has_words (cache_reply_words script r) ≡ true
+    some script cache.Ok = refl
+    some script r = refl
+
+-- ---- lists
+
+abbrev pub of_list : Ask ListCmd → AnyAsk
+of_list asked = AnyAsk.List asked
+
+pub is-list : IsKind of_list words.list_words list_reply_words list_row IsListReply
+is-list = record {
+  asks = asks;
+  answers = list-same;
+  some = some;
+  reads = λ connectors names vary side.
+      reply-is connectors (list_row connectors) (IsListReply connectors) names (list-is connectors names)
+      (list-avoids connectors) vary side;
+}
+  where
+    asks : (script : Script) (asked : Ask ListCmd)
+        → any_words script.connectors (of_list asked) ≡ words.ask_words words.list_words script asked
+    asks script (Shell cmd) = refl
+    asks script (Content cmd) = refl
+
+    some : (script : Script) (r : ListReply) → has_words (list_reply_words script r) ≡ true
+    some script list.Ok = refl
+    some script r = refl
+
+-- ---- locks
+
+abbrev pub of_lock : Ask LockCmd → AnyAsk
+of_lock asked = AnyAsk.Lock asked
+
+abbrev pub lock_rows : List Name16 → Row LockReply
+lock_rows connectors = lock_row
+
+abbrev pub AreLockReplies : List Name16 → LockReply → Type 0
+AreLockReplies connectors r = IsLockReply r
+
+pub is-lock : IsKind of_lock words.lock_words lock_reply_words lock_rows AreLockReplies
+is-lock = record {
+  asks = asks;
+  answers = lock-same;
+  some = some;
+  reads = λ connectors names vary side.
+      reply-is connectors lock_row IsLockReply names lock-is lock-avoids vary side;
+}
+  where
+    asks : (script : Script) (asked : Ask LockCmd)
+        → any_words script.connectors (of_lock asked) ≡ words.ask_words words.lock_words script asked
+    asks script (Shell cmd) = refl
+    asks script (Content cmd) = refl
+
+    some : (script : Script) (r : LockReply) → has_words (lock_reply_words script r) ≡ true
+    some script lock.Ok = refl
+    some script r = refl
+
+-- ---- what the readers give
+
+pub some_of : {X : Type 0} (P : X → Type 0) (o : Option X) (x : X) → IfSome o P → o ≡ Some x → P x
+some_of {X} P o x h e = subst (λ (p : Option X). IfSome p P) e h
+
+module _ {C R : Type 0} (of : Ask C → AnyAsk) (cmd_words : Script → C → List (List ℕ))
+    (answer_words : Script → R → List (List ℕ)) (row : List Name16 → Row R) (In : List Name16 → R → Type 0)
+    (is : IsKind of cmd_words answer_words row In) (script : Script) (on : StrNo) (line : List ℕ)
+    (n : ℕ) (who done told : List ℕ) (connectors : List Name16) (keeps : KeepsLimits script)
+    (cut : IsCutLine line n who done told) (named : connectors ≡ script.connectors) where
+  abbrev Found : Entry C R → Type 0
+  Found = Prints of cmd_words answer_words row In is script on keeps line
+
+  abbrev Made : ConnId → AnyAsk → Type 0
+  Made by asked = MakesCommand script on by done asked × StandsAs script.connectors asked done
+
+  call-if : (by : ConnId) (asked : Ask C) (o : Option (Entry C R)) → Some by ≡ caller_of connectors who
+      → Made by (of asked) → o ≡ call_entry connectors (row connectors) n by asked told → IfSome o Found
+  call-if by asked None called makes h = tt
+  call-if by asked (Some entry) called makes h =
+      let known : caller_of script.connectors who ≡ Some by =
+      ap (λ (names : List Name16). caller_of names who) (sym named) ∙ sym called in
+      let read = subst (λ (names : List Name16). Some entry ≡ call_entry names (row names) n by asked told) named h in
+      call-found of cmd_words answer_words row In is script on keeps line n who done told by asked entry cut known makes
+      (sym read)
+
+  mark-if : (cf : CfId) (o : Option (Entry C R)) → who ≡ codes "SYS"
+      → (done ≡ codes "LOST " ++ facility_word cf) × IsFacility cf
+      → o ≡ mark_entry connectors (row connectors) n cf told → IfSome o Found
+  mark-if cf None sys lost h = tt
+  mark-if cf (Some entry) sys lost h =
+      let read = subst (λ (names : List Name16). Some entry ≡ mark_entry names (row names) n cf told) named h in
+      mark-found of cmd_words answer_words row In is script on keeps line n who done told cf entry cut sys lost
+      (sym read)
+
+  pub called : {E : Type 0} (by : ConnId) (o : Option AnyAsk) (call : AnyAsk) (asked : Ask C)
+      (r : Result (Option (Entry C R)) E) → Some by ≡ caller_of connectors who → IfSome o (Made by) → o ≡ Some call
+      → call ≡ of asked → IfOk r (λ x. x ≡ call_entry connectors (row connectors) n by asked told)
+      → IfOk r (λ x. IfSome x Found)
+  called {E} by o call asked r known found e is_call h =
+      let made : Made by (of asked) = subst (Made by) is_call (some_of (Made by) o call found e) in
+      if_ok_more r (λ x. x ≡ call_entry connectors (row connectors) n by asked told) (λ x. IfSome x Found)
+      (λ x read. call-if by asked x known made read) h
+
+  pub marked : {E : Type 0} (cf : CfId) (r : Result (Option (Entry C R)) E) → true ≡ same_word who (codes "SYS")
+      → (done ≡ codes "LOST " ++ facility_word cf) × IsFacility cf
+      → IfOk r (λ x. x ≡ mark_entry connectors (row connectors) n cf told) → IfOk r (λ x. IfSome x Found)
+  marked {E} cf r sys lost h =
+      if_ok_more r (λ x. x ≡ mark_entry connectors (row connectors) n cf told) (λ x. IfSome x Found)
+      (λ x read. mark-if cf x (word-same who (codes "SYS") (sym sys)) lost read) h

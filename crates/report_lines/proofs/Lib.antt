@@ -1,0 +1,10 @@
+pub mod SpacedLaws
+pub mod BitLaws
+pub mod ItemLaws
+pub mod HeadingLaws
+pub mod ReplyLines
+pub mod EntryLaws
+pub mod KindLaws
+pub mod CallLaws
+pub mod MadeLaws
+pub mod PartLaws

@@ -1,0 +1,6 @@
+pub mod Spaced
+pub mod Readable
+pub mod Items
+pub mod Parts
+pub mod Headings
+pub mod Entries

@@ -1,0 +1,9 @@
+pub use Rattle.cache_model.specs as CacheModel
+pub use Rattle.plex_script.specs.CfTypes as CfTypes
+pub use Rattle.plex_script.specs.EngineApi as EngineApi
+pub use Rattle.list_model.specs as ListModel
+pub use Rattle.lock_model.specs as LockModel
+pub use Rattle.plex_script.specs as PlexScript
+pub mod Kinds
+pub mod Numbers
+pub mod Headline

@@ -1,0 +1,4 @@
+pub mod Parts
+pub mod Waiting
+pub mod Settled
+pub mod Words
