@@ -23,8 +23,8 @@ pub use board::Board;
 pub use desk::Desk;
 pub use kinds::Kinds;
 pub use plex_script as scripts;
-pub use run_shown as shown;
 pub use plex_script::{api as api, types as types};
+pub use run_shown as shown;
 pub use struct_cell as cells;
 pub use struct_cell::{
     links as links, sources as sources, turns as turns, vectors as vectors, worlds as worlds,
