@@ -1,3 +1,4 @@
 mod cache;
 mod list;
 mod lock;
+mod queue;
