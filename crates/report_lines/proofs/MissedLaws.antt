@@ -1,7 +1,7 @@
 -- No entry in range is missed: its line is cut into its parts, and these make an entry.
-use Rattle.std.proofs.Common.{◌≡◌, ℕ, ◌<◌, ◌≤◌, ◌-◌, ◌^◌, ◌==◌, ◌&&◌, Bool, true, false, not, List, [], ◌∷◌, ◌++◌, Option, Some, None, option_map, zero, suc, length, get_or, codes, decimal, refl, sym, ap, ◌∙◌, arith, subst, IsSome, IfNone, IfSome, IfOk, Result}
+use Rattle.std.proofs.Common.{◌≡◌, ℕ, ◌<◌, ◌≤◌, ◌-◌, ◌^◌, ◌==◌, Bool, true, false, not, List, [], ◌∷◌, ◌++◌, Option, Some, None, option_map, zero, suc, length, get_or, codes, decimal, refl, sym, ap, ◌∙◌, arith, subst, IsSome, IfNone, IfSome, IfOk, Result}
 use Rattle.std.specs.List.{list_all, before_first, after_first}
-use Rattle.std.proofs.lemmas.Bool.{and_parts, and_from, false≢true}
+use Rattle.std.proofs.lemmas.Bool.{and_parts, false≢true}
 use Rattle.std.proofs.lemmas.List.{append-nil}
 use Rattle.std.proofs.lemmas.Bool.Decides.{nat_tests}
 use Rattle.cf_types.specs.Forms.{IsFacility}
@@ -55,7 +55,7 @@ use Rattle.report_lines.specs.Parts.{reply_value}
 use Rattle.report_lines.specs.Readable.{IsEntry, IsWhat, IsLossReply, IsMarkReply}
 use Rattle.report_lines.proofs.PartLaws.{split, same_arrow, word-free}
 use Rattle.report_lines.proofs.ReplyLines.{reply-good, reply-told}
-use Rattle.report_lines.proofs.EntryLaws.{has_words, behind-blank, cut_line, entry-told, if_ok_more, IsKind, replies-same, replies-some}
+use Rattle.report_lines.proofs.EntryLaws.{has_words, behind-blank, entry-told, if_ok_more, IsKind, replies-same, replies-some}
 use Rattle.report_lines.proofs.CallLaws.{mark-in}
 use Rattle.report_lines.proofs.MadeLaws.{made-plainly, one-made}
 use Rattle.report_lines.proofs.KindLaws.{some_of}
@@ -85,8 +85,10 @@ same_cut line n m who done told who2 done2 told2 one two =
 
 not_reserved : (word : List ℕ) → is_name word ≡ true
     → (same_word word (codes "OP") ≡ false) × (same_word word (codes "SYS") ≡ false)
-not_reserved word named = (other (codes "OP") (same_word word (codes "OP")) refl (λ same. grind (arith, and_parts)),
-    other (codes "SYS") (same_word word (codes "SYS")) refl (λ same. grind (arith, and_parts)))
+not_reserved word named = (
+  other (codes "OP") (same_word word (codes "OP")) refl (λ same. grind (arith, and_parts)),
+  other (codes "SYS") (same_word word (codes "SYS")) refl (λ same. grind (arith, and_parts)),
+)
   where
     other : (w : List ℕ) (b : Bool) → same_word word w ≡ b → (word ≡ w → ⊥) → b ≡ false
     other w false e apart = refl
