@@ -1,0 +1,7 @@
+//! Reads the report of a script, line by line, or tells the first line up to which a text is the
+//! front of no report. Contracts cite `specs/`, and proofs cite `proofs/`.
+#![tactic(auto)]
+
+mod cursor;
+
+pub use cursor::TextBad;
