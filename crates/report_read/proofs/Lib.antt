@@ -1,1 +1,6 @@
 mod LineLaws
+pub mod ManyLaws
+pub mod EntryLaws
+mod PolicyLaws
+mod TranscriptLaws
+mod WholeLaws

@@ -1,10 +1,11 @@
 -- What a reader's result says: the slots that it fills and the lines that fill them, or the first line that is no
 -- report's.
-use Rattle.std.specs.Prelude.{◌≡◌, ◌<◌, ◌+◌, ℕ, List, [], ◌∷◌, length, map, replicate, slice_get, Some, All}
+use Rattle.std.specs.Prelude.{◌≡◌, ◌≤◌, ℕ, List, [], length, map, replicate, slice_get, take, Some, All}
 use Rattle.report_texts.specs.CheckModel.RunShown.PlexScript.declared.scripts.Script.{Script}
 use Rattle.report_texts.specs.PlexReport.Report.{lines_each}
 use Rattle.report_texts.specs.Texts.{IsFirstUnread}
 use Rattle.report_fronts.specs.Slots.{Slot, slots_each}
+use Rattle.report_fronts.specs.Slots.Slot.{Exactly}
 use Rattle.report_fronts.specs.Steps.{Reads, Stops}
 use Rattle.report_read.specs.declared.cursor.Cursor.{Cursor}
 use Rattle.report_read.specs.declared.cursor.TextBad.{TextBad}
@@ -15,6 +16,10 @@ use Rattle.report_read.specs.Lines.{at_of, IsPlaced}
 abbrev pub TellsLine : Script → List ℕ → TextBad → Type 0
 TellsLine script text (bad.Line line) = IsFirstUnread script text line
 TellsLine script text (bad.NoMemory cause) = Unit {0}
+
+-- a slot for just each of these lines
+abbrev pub exact_slots : List (List ℕ) → List Slot
+exact_slots lines = map (λ line. Exactly line) lines
 
 module _ (script : Script) (text : List ℕ) (from : Cursor) where
   -- these slots are read here, to the other place; they open these, and these lines fill them
@@ -40,3 +45,8 @@ module _ (script : Script) (text : List ℕ) (from : Cursor) where
     pub long : length xs ≡ n
     pub each : (k : ℕ) (x : X) → slice_get xs k ≡ Some x → P k x
     pub read : IsRead (slots_each slot n 0) (lines_each lines 0 xs) [] to
+
+  -- the first of these lines are read, each just so
+  pub record AreFirstRead (wanted : List (List ℕ)) (k : ℕ) (to : Cursor) : Type 0 where
+    pub few : k ≤ length wanted
+    pub read : IsRead (exact_slots (take k wanted)) (take k wanted) [] to

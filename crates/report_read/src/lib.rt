@@ -3,5 +3,10 @@
 #![tactic(auto)]
 
 mod cursor;
+mod histories;
+mod policy;
+mod report;
+mod transcripts;
 
 pub use cursor::TextBad;
+pub use report::read_report;
