@@ -1,1 +1,4 @@
 mod LineLaws
+mod ManyLaws
+mod EntryLaws
+mod HistoryLaws

@@ -3,5 +3,7 @@
 #![tactic(auto)]
 
 mod cursor;
+mod entries;
+mod histories;
 
 pub use cursor::TextBad;
