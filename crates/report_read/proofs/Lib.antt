@@ -1,6 +1,7 @@
 mod LineLaws
-pub mod ManyLaws
-pub mod EntryLaws
+mod ManyLaws
+mod EntryLaws
+mod HistoryLaws
 mod PolicyLaws
 mod TranscriptLaws
 mod WholeLaws

@@ -3,6 +3,7 @@
 #![tactic(auto)]
 
 mod cursor;
+mod entries;
 mod histories;
 mod policy;
 mod report;
