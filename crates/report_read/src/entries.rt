@@ -1,0 +1,152 @@
+//! The entries of a history, one line each.
+
+ghost use Rattle.std.specs.Prelude.{◌≡◌, ◌<◌, ℕ, List, [], ◌∷◌, length, replicate, IfOk, IfErr, IfSome, IfNone};
+ghost use Rattle.cf_types.specs.declared.numbers.StrNo.{StrNo};
+ghost use Rattle.plex_script.specs.declared.scripts.AnyAsk.TheVariants as any;
+ghost use Rattle.plex_script.specs.declared.scripts.Script.{Script};
+ghost use Rattle.plex_script.specs.Limits.{KeepsLimits};
+ghost use Rattle.plex_report.specs.CommandWords.{cache_words, list_words, lock_words};
+ghost use Rattle.plex_report.specs.Lines.{entry_line};
+ghost use Rattle.plex_report.specs.ReplyWords.{cache_reply_words, list_reply_words, lock_reply_words};
+ghost use Rattle.reply_rows.specs.Within.{IsCacheReply, IsListReply, IsLockReply};
+ghost use Rattle.report_lines.specs.Readable.{IsEntry};
+ghost use Rattle.report_fronts.specs.Slots.Slot.{Entered};
+ghost use Rattle.report_read.specs.Lines.{IsPlaced};
+ghost use Rattle.report_read.specs.Reads.{IsRead, AreRead, IsStop};
+ghost use Rattle.report_read.specs.Histories.{Shows};
+
+use crate::cursor::{Cursor, TextBad, next_line};
+use cf_types::{
+    CacheCmd, CacheReply, ListCmd, ListReply, Listing, LockCmd, LockReply, NoMemory, StrNo,
+};
+use engine_api::Entry;
+use plex_script::Script;
+use report_lines::{read_cache_entry, read_list_entry, read_lock_entry};
+use std::alloc::Global;
+
+/// An entry of a history, as a line shows it.
+pub(crate) trait EntryLine: Sized {
+    ghost prints: { Script → Self → List ℕ };
+
+    ghost may: { Script → StrNo → Self → Type 0 };
+
+    /// Reads it from its line, without the line feed; `None` where no entry of the structure prints
+    /// so.
+    fn read(
+        alloc: Global,
+        script: &Script,
+        on: StrNo,
+        line: &[u8],
+    ) -> Result<Option<Self>, NoMemory>
+        requires keeps { KeepsLimits script.now }
+        requires known { on.0 < length script.now.structures }
+        ensures found { IfOk result (λ read. IfSome read (λ entry.
+            (prints script.now entry ≡ line.now) × may script.now on entry)) }
+        ensures none { IfOk result (λ read. IfNone read ((entry : Self) → may script.now on entry
+            → prints script.now entry ≡ line.now → ⊥)) };
+}
+
+impl EntryLine for Entry<CacheCmd, CacheReply> {
+    ghost prints = { entry_line cache_words cache_reply_words };
+
+    ghost may = { λ script on entry. IsEntry (λ asked. any.Cache asked) IsCacheReply script on entry };
+
+    fn read(
+        alloc: Global,
+        script: &Script,
+        on: StrNo,
+        line: &[u8],
+    ) -> Result<Option<Entry<CacheCmd, CacheReply>>, NoMemory> {
+        read_cache_entry(alloc, script, on, line)
+    }
+}
+
+impl EntryLine for Entry<ListCmd, ListReply> {
+    ghost prints = { entry_line list_words list_reply_words };
+
+    ghost may = { λ script on entry. IsEntry (λ asked. any.List asked) IsListReply script on entry };
+
+    fn read(
+        alloc: Global,
+        script: &Script,
+        on: StrNo,
+        line: &[u8],
+    ) -> Result<Option<Entry<ListCmd, ListReply>>, NoMemory> {
+        read_list_entry(alloc, script, on, line)
+    }
+}
+
+impl EntryLine for Entry<LockCmd, LockReply> {
+    ghost prints = { entry_line lock_words lock_reply_words };
+
+    ghost may = { λ script on entry. IsEntry (λ asked. any.Lock asked) (λ _. IsLockReply) script on entry };
+
+    fn read(
+        alloc: Global,
+        script: &Script,
+        on: StrNo,
+        line: &[u8],
+    ) -> Result<Option<Entry<LockCmd, LockReply>>, NoMemory> {
+        read_lock_entry(alloc, script, on, line)
+    }
+}
+
+// Reads an entry.
+#[tactic(auto, using(crate::proofs::EntryLaws::entry_read))]
+fn one_entry<E: EntryLine + Drop>(
+    alloc: Global,
+    script: &Script,
+    on: StrNo,
+    text: &[u8],
+    from: Cursor,
+) -> Result<(E, Cursor), TextBad>
+    requires keeps { KeepsLimits script.now }
+    requires known { on.0 < length script.now.structures }
+    requires small { length text.now < 4294967295 }
+    requires placed { IsPlaced text.now from }
+    requires shows { Shows E.prints E.may script.now on }
+    ensures read { IfOk result (λ step. E.may script.now on step.0 × IsRead script.now text.now from
+        (Entered on ∷ []) (E.prints script.now step.0 ∷ []) [] step.1) }
+    ensures stop { IfErr result (IsStop script.now text.now from (Entered on ∷ [])) }
+{
+    let Some((line, to)) = next_line(text, from) else {
+        return Err(TextBad::Line {
+            line: from.count + 1,
+        });
+    };
+    match E::read(alloc, script, on, line)? {
+        Some(entry) => Ok((entry, to)),
+        None => Err(TextBad::Line {
+            line: from.count + 1,
+        }),
+    }
+}
+
+// Reads so many entries.
+#[tactic(auto, using(crate::proofs::ManyLaws::none_read, crate::proofs::ManyLaws::one_read, crate::proofs::ManyLaws::one_stops))]
+pub(crate) fn read_entries<E: EntryLine + Drop>(
+    alloc: Global,
+    script: &Script,
+    on: StrNo,
+    n: u64,
+    text: &[u8],
+    from: Cursor,
+) -> Result<(Listing<E>, Cursor), TextBad>
+    requires keeps { KeepsLimits script.now }
+    requires known { on.0 < length script.now.structures }
+    requires small { length text.now < 4294967295 }
+    requires placed { IsPlaced text.now from }
+    requires shows { Shows E.prints E.may script.now on }
+    ensures read { IfOk result (λ step. AreRead script.now text.now from (Entered on)
+        (E.prints script.now) (E.may script.now on) n step.0 step.1) }
+    ensures stop { IfErr result (IsStop script.now text.now from (replicate n (Entered on))) }
+{
+    let mut entries = Listing::new(alloc);
+    let mut to = from;
+    for _ in 0..n {
+        let (entry, next) = one_entry::<E>(alloc, script, on, text, to)?;
+        entries.push(entry)?;
+        to = next;
+    }
+    Ok((entries, to))
+}
