@@ -1,6 +1,6 @@
 -- Entries of a history, one line each.
 use Rattle.std.proofs.Common.{◌≡◌, ℕ, ◌+◌, ◌-◌, ◌<◌, ◌≤◌, true, List, [], ◌∷◌, ◌++◌, length, map, drop, replicate, All, refl, sym, ap, subst, ◌∙◌, arith, length-append}
-use Rattle.std.specs.Prelude.{Option, None, IfNone}
+use Rattle.std.specs.Prelude.{Option, Some, None, IfSome, IfNone}
 use Rattle.report_texts.specs.CheckModel.RunShown.CfTypes.declared.numbers.StrNo.{StrNo}
 use Rattle.report_texts.specs.CheckModel.RunShown.PlexScript.declared.scripts.Script.{Script}
 use Rattle.report_texts.specs.CheckModel.RunShown.PlexScript.Causes.{kind_of}
@@ -69,3 +69,9 @@ module _ {E : Type 0} (prints : Script → E → List ℕ) (may : Script → Str
       → IsStop script text from (Entered on ∷ []) (bad.Line (from.count + 1))
   entry_missed line to o keeps cut none e = entry_other line to keeps cut
       (subst (λ (p : Option E). IfNone p ((entry : E) → may script on entry → prints script entry ≡ line → ⊥)) e none)
+
+  pub entry_found : (entry : E) (line : List ℕ) (to : Cursor) (o : Option E) → IsCut text from line to
+      → IfSome o (λ e. (prints script e ≡ line) × may script on e) → o ≡ Some entry
+      → may script on entry × IsRead script text from (Entered on ∷ []) (prints script entry ∷ []) [] to
+  entry_found entry line to o cut found e = entry_read entry line to cut
+      (subst (λ (p : Option E). IfSome p (λ e. (prints script e ≡ line) × may script on e)) e found)

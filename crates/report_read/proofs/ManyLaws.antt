@@ -42,6 +42,13 @@ module _ (script : Script) (text : List ℕ) (from : Cursor) where
           };
         }
 
+    pub one_pushed : (i : ℕ) (xs : List X) (x : X) (at to : Cursor) (ys : List X)
+        → AreRead script text from slot line P i xs at → P x → IsRead script text at (slot ∷ []) (line x ∷ []) [] to
+        → ys ≡ xs ++ x ∷ [] → AreRead script text from slot line P (i + 1) ys to
+    one_pushed i xs x at to ys before good here is =
+        subst (λ (zs : List X). AreRead script text from slot line P (i + 1) zs to) (sym is)
+        (one_read i xs x at to before good here)
+
     pub one_stops : (i n : ℕ) (xs : List X) (at : Cursor) (why : TextBad)
         → AreRead script text from slot line P i xs at → i < n → IsStop script text at (slot ∷ []) why
         → IsStop script text from (replicate n slot) why
@@ -144,6 +151,14 @@ module _ (script : Script) (text : List ℕ) (from : Cursor) {X : Type 0} (slot 
           placed = here.placed;
         };
       }
+
+  pub each_pushed : (i : ℕ) (xs : List X) (x : X) (at to : Cursor) (ys : List X)
+      → AreEachRead script text from slot lines P i xs at → P i x
+      → IsRead script text at (slot i ∷ []) (lines i x) [] to → ys ≡ xs ++ x ∷ []
+      → AreEachRead script text from slot lines P (i + 1) ys to
+  each_pushed i xs x at to ys before good here is =
+      subst (λ (zs : List X). AreEachRead script text from slot lines P (i + 1) zs to) (sym is)
+      (one_each i xs x at to before good here)
 
   pub each_stops : (i n : ℕ) (xs : List X) (at : Cursor) (why : TextBad)
       → AreEachRead script text from slot lines P i xs at → i < n → IsStop script text at (slot i ∷ []) why

@@ -92,7 +92,6 @@ impl EntryLine for Entry<LockCmd, LockReply> {
 }
 
 // Reads an entry.
-#[tactic(auto, using(crate::proofs::EntryLaws::entry_read))]
 fn one_entry<E: EntryLine + Drop>(
     alloc: Global,
     script: &Script,
@@ -123,7 +122,7 @@ fn one_entry<E: EntryLine + Drop>(
 }
 
 // Reads so many entries.
-#[tactic(auto, using(crate::proofs::ManyLaws::none_read, crate::proofs::ManyLaws::one_read, crate::proofs::ManyLaws::one_stops))]
+#[tactic(auto, using(crate::proofs::ManyLaws::none_read))]
 pub(crate) fn read_entries<E: EntryLine + Drop>(
     alloc: Global,
     script: &Script,

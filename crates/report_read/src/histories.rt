@@ -32,6 +32,7 @@ fn heading(
     requires known { number < length script.now.structures }
     requires small { length text.now < 4294967295 }
     requires placed { IsPlaced text.now from }
+    ensures small { IfOk result (λ step. step.0 < 2 ^ 64) }
     ensures read { IfOk result (λ step. IsRead script.now text.now from (history_slot script.now number ∷ [])
         (heading (codes "HISTORY") (structure_name script.now number) step.0 ∷ [])
         (replicate step.0 (Entered (record { 0 = number }))) step.1) }
@@ -52,7 +53,7 @@ fn heading(
 }
 
 // Reads so many entries of a cache structure.
-#[tactic(auto, using(crate::proofs::HistoryLaws::shows_cache, crate::proofs::HistoryLaws::caches_behind))]
+#[tactic(auto, using(crate::proofs::HistoryLaws::shows_cache))]
 fn cache_history(
     alloc: Global,
     script: &Script,
@@ -77,7 +78,7 @@ fn cache_history(
 }
 
 // Reads so many entries of a list structure.
-#[tactic(auto, using(crate::proofs::HistoryLaws::shows_list, crate::proofs::HistoryLaws::lists_behind))]
+#[tactic(auto, using(crate::proofs::HistoryLaws::shows_list))]
 fn list_history(
     alloc: Global,
     script: &Script,
@@ -102,7 +103,7 @@ fn list_history(
 }
 
 // Reads so many entries of a lock structure.
-#[tactic(auto, using(crate::proofs::HistoryLaws::shows_lock, crate::proofs::HistoryLaws::locks_behind))]
+#[tactic(auto, using(crate::proofs::HistoryLaws::shows_lock))]
 fn lock_history(
     alloc: Global,
     script: &Script,
@@ -150,7 +151,7 @@ fn behind_heading(
 }
 
 // Reads the history of a structure.
-#[tactic(auto, using(crate::proofs::HistoryLaws::history_is, crate::proofs::HistoryLaws::history_read, crate::proofs::HistoryLaws::history_stop))]
+#[tactic(auto, using(crate::proofs::HistoryLaws::history_stop))]
 fn one_history(
     alloc: Global,
     script: &Script,
@@ -173,7 +174,7 @@ fn one_history(
 }
 
 /// Reads the history of each structure in order.
-#[tactic(auto, using(crate::proofs::ManyLaws::none_each, crate::proofs::ManyLaws::one_each, crate::proofs::ManyLaws::each_stops))]
+#[tactic(auto, using(crate::proofs::ManyLaws::none_each))]
 pub(crate) fn read_histories(
     alloc: Global,
     script: &Script,
