@@ -1,0 +1,2 @@
+pub use Rattle.check_model.specs as CheckModel
+pub mod Tables
