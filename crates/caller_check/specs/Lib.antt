@@ -1,2 +1,3 @@
 pub use Rattle.check_model.specs as CheckModel
 pub mod Tables
+pub mod Untold

@@ -1,5 +1,7 @@
 -- The tests of all callers, as the histories answer them: for each structure a queue of each caller.
 use Rattle.std.specs.Prelude.{◌≡◌, ℕ, List, [], length, map, take, slice_get, Some}
+use Rattle.std.specs.declared.vec.Vec.{Vec}
+use Rattle.std.specs.declared.alloc.Global.{Global}
 use Rattle.cf_types.specs.declared.forms.StrForm.{StrForm}
 use Rattle.cf_types.specs.declared.numbers.ConnId.{ConnId}
 use Rattle.cf_types.specs.declared.numbers.StrNo.{StrNo}
@@ -15,6 +17,10 @@ use Rattle.caller_items.specs.Orders.{AreInOrder}
 use Rattle.vector_waits.specs.Waits.{QueueView, AreSettled, untold}
 use Rattle.caller_waits.specs.Tests.{waits_of}
 use Rattle.check_model.specs.declared.printed.Printed.{Printed}
+
+-- the tables, where each is a Vec
+abbrev pub rows_of : List (Vec QueueView Global) → List (List QueueView)
+rows_of tables = map (λ table. table.items) tables
 
 -- each test is told exactly where the history tells what it shows
 abbrev pub AnySettled : StrForm → AnyHistory → QueueView → Type 0

@@ -3,4 +3,6 @@
 //! that tells what never stood.
 #![tactic(auto)]
 
+mod untold;
+
 pub use caller_slots as slots;
