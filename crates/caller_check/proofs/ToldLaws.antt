@@ -122,13 +122,13 @@ module _ (form : StrForm) (entries : AnyHistory) (conn : ConnId) where
     then_answers : (place : ℕ) (xs ys : List Wait) (Right One More : Type 0) (o : Option ℕ) (f : ℕ → Option ℕ)
         → (One → More → Right) → (Right → One) → (Right → More) → Answers place xs One o
         → ((n : ℕ) → n ≡ place + length xs → Answers n ys More (f n)) → Answers place (xs ++ ys) Right (then_past o f)
-    then_answers place xs ys Right One More (Some next) f both one more (at, (told, right)) behind =
+    then_answers place xs ys Right One More (Some next) f both one more (at, told, right) behind =
         by_next (f next) (behind next at)
       where
         by_next : (o : Option ℕ) → Answers next ys More o → Answers place (xs ++ ys) Right o
-        by_next (Some last) (at', (told', right')) =
+        by_next (Some last) (at', told', right') =
             let size : length (xs ++ ys) ≡ length xs + length ys = length-append xs ys in
-            (omega (arith, at, at', size), (told_both xs ys told told', both right right'))
+            (omega (arith, at, at', size), told_both xs ys told told', both right right')
         by_next None wrong = λ all whole. wrong (told_right xs ys all) (more whole)
     then_answers place xs ys Right One More None f both one more wrong behind =
         λ all whole. wrong (told_left xs ys all) (one whole)
@@ -165,14 +165,14 @@ module _ (form : StrForm) (entries : AnyHistory) (conn : ConnId) where
           (past_answers place (wait_of at sure (32 * number + k) (own_bit value k)) fits)
         where
           by_past : (o : Option ℕ) → Answers place (one true k) (Unit {0}) o → Answers place (one true k) (IsZero k) o
-          by_past (Some next) (at', (told, _)) = (at', (told, λ out. absurd (false≢true (sym out ∙ is))))
+          by_past (Some next) (at', told, _) = (at', told, λ out. absurd (false≢true (sym out ∙ is)))
           by_past None wrong = λ told _. wrong told tt
       bit_answers place k false true is is_c fits = λ told zero'. false≢true (sym (zero' is) ∙ is_c)
-      bit_answers place k false false is is_c fits = (omega arith, (tt, λ _. is_c))
+      bit_answers place k false false is is_c fits = (omega arith, tt, λ _. is_c)
 
       pub word_answers : (first many place : ℕ) → Fits place (rest first many)
           → Answers place (rest first many) (Zeros first many) (word_past vector number value judged first many place)
-      word_answers first zero place fits = (omega arith, (tt, λ k low high. absurd (omega (arith, low, high))))
+      word_answers first zero place fits = (omega arith, tt, λ k low high. absurd (omega (arith, low, high)))
       word_answers first (suc many) place fits =
           then_answers place (one (inside first) first) (rest (first + 1) many) (Zeros first (suc many)) (IsZero first)
           (Zeros (first + 1) many) (bit_past vector number value judged first place)
@@ -189,7 +189,7 @@ module _ (form : StrForm) (entries : AnyHistory) (conn : ConnId) where
 
     as_right : (place : ℕ) (waits : List Wait) (Right Other : Type 0) → (Right → Other) → (Other → Right)
         → (o : Option ℕ) → Answers place waits Right o → Answers place waits Other o
-    as_right place waits Right Other onto back (Some next) (at, (told, right)) = (at, (told, onto right))
+    as_right place waits Right Other onto back (Some next) (at, told, right) = (at, told, onto right)
     as_right place waits Right Other onto back None wrong = λ told other. wrong told (back other)
 
     pub item_answers : (sure place : ℕ) (item : Shown) → Fits place (item_waits form.vector sure item)
@@ -203,10 +203,10 @@ module _ (form : StrForm) (entries : AnyHistory) (conn : ConnId) where
         (λ within k low high. within k (omega (arith, high)))
         (word_past form.vector number value judged 0 32 place)
         (word_answers form.vector at sure number value 0 32 place fits)
-    item_answers sure place (Shown.Call on number) fits = (omega arith, (tt, tt))
-    item_answers sure place (Shown.BadIndex on index number len) fits = (omega arith, (tt, tt))
-    item_answers sure place (Shown.Posted on number) fits = (omega arith, (tt, tt))
-    item_answers sure place (Shown.Took on number) fits = (omega arith, (tt, tt))
+    item_answers sure place (Shown.Call on number) fits = (omega arith, tt, tt)
+    item_answers sure place (Shown.BadIndex on index number len) fits = (omega arith, tt, tt)
+    item_answers sure place (Shown.Posted on number) fits = (omega arith, tt, tt)
+    item_answers sure place (Shown.Took on number) fits = (omega arith, tt, tt)
 
   -- the tests of a queue
   pub queue_fits : (waits : List Wait) (queue : QueueView) → queue.conn ≡ conn

@@ -3,6 +3,8 @@
 //! that tells what never stood.
 #![tactic(auto)]
 
+mod first;
 mod untold;
 
 pub use caller_slots as slots;
+pub use first::first_bad_item;
