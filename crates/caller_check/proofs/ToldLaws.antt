@@ -30,6 +30,18 @@ get_right [] ys i x at = at
 get_right (y ∷ xs) ys i x at =
     let is : length (y ∷ xs) + i ≡ suc (length xs + i) = omega arith in rw is (get_right xs ys i x at)
 
+first_same : (one other : Wait) (ones others : List Wait) → one ∷ ones ≡ other ∷ others → one ≡ other
+first_same one other ones others is = cc
+
+rest_same : (one other : Wait) (ones others : List Wait) → one ∷ ones ≡ other ∷ others → ones ≡ others
+rest_same one other ones others is = cc
+
+none_same : (one : Wait) (ones : List Wait) → one ∷ ones ≡ [] → ⊥
+none_same one ones is = cc
+
+none_more : (n : ℕ) → n ≡ n + 0
+none_more n = omega arith
+
 -- the same tests, whatever is told of them, stand at the same places
 same_at : (judged waits : List Wait) → map untold judged ≡ map untold waits → (i : ℕ) (wait : Wait)
     → slice_get waits i ≡ Some wait → (now : Wait) × (slice_get judged i ≡ Some now) × (untold now ≡ untold wait)
@@ -37,13 +49,14 @@ same_at judged [] same i wait at = absurd (nowhere i at)
   where
     nowhere : (k : ℕ) → slice_get [] k ≡ Some wait → ⊥
     nowhere k e = cc
-same_at [] (first ∷ waits) same i wait at = absurd cc
+same_at [] (first ∷ waits) same i wait at = absurd (none_same (untold first) (map untold waits) (sym same))
 same_at (now ∷ judged) (first ∷ waits) same zero wait at =
     let is : first ≡ wait = cc in
-    let fits : untold now ≡ untold first = cc in
+    let fits : untold now ≡ untold first =
+    first_same (untold now) (untold first) (map untold judged) (map untold waits) same in
     (now, refl, fits ∙ ap untold is)
 same_at (now ∷ judged) (first ∷ waits) same (suc i) wait at =
-    let rest : map untold judged ≡ map untold waits = cc in same_at judged waits rest i wait at
+    same_at judged waits (rest_same (untold now) (untold first) (map untold judged) (map untold waits) same) i wait at
 
 any_each : (form : StrForm) (entries : AnyHistory) (queue : QueueView) → AnySettled form entries queue → (i : ℕ)
     (now : Wait) → slice_get queue.waits i ≡ Some now
@@ -91,7 +104,7 @@ module _ (form : StrForm) (entries : AnyHistory) (conn : ConnId) where
     Fits place waits = (i : ℕ) (wait : Wait) → slice_get waits i ≡ Some wait
         → (is_told (slice_get judged (place + i)) ≡ true) ↔ Shows wait
 
-    fits_left : (place : ℕ) (xs ys : List Wait) → Fits place (xs ++ ys) → Fits place xs
+    pub fits_left : (place : ℕ) (xs ys : List Wait) → Fits place (xs ++ ys) → Fits place xs
     fits_left place xs ys fits i wait at = fits i wait (get_left xs ys i wait at)
 
     pub fits_right : (place : ℕ) (xs ys : List Wait) → Fits place (xs ++ ys) → Fits (place + length xs) ys
@@ -168,11 +181,11 @@ module _ (form : StrForm) (entries : AnyHistory) (conn : ConnId) where
           by_past (Some next) (at', told, _) = (at', told, λ out. absurd (false≢true (sym out ∙ is)))
           by_past None wrong = λ told _. wrong told tt
       bit_answers place k false true is is_c fits = λ told zero'. false≢true (sym (zero' is) ∙ is_c)
-      bit_answers place k false false is is_c fits = (omega arith, tt, λ _. is_c)
+      bit_answers place k false false is is_c fits = (none_more place, tt, λ _. is_c)
 
       pub word_answers : (first many place : ℕ) → Fits place (rest first many)
           → Answers place (rest first many) (Zeros first many) (word_past vector number value judged first many place)
-      word_answers first zero place fits = (omega arith, tt, λ k low high. absurd (omega (arith, low, high)))
+      word_answers first zero place fits = (none_more place, tt, λ k low high. absurd (omega (arith, low, high)))
       word_answers first (suc many) place fits =
           then_answers place (one (inside first) first) (rest (first + 1) many) (Zeros first (suc many)) (IsZero first)
           (Zeros (first + 1) many) (bit_past vector number value judged first place)
@@ -203,10 +216,10 @@ module _ (form : StrForm) (entries : AnyHistory) (conn : ConnId) where
         (λ within k low high. within k (omega (arith, high)))
         (word_past form.vector number value judged 0 32 place)
         (word_answers form.vector at sure number value 0 32 place fits)
-    item_answers sure place (Shown.Call on number) fits = (omega arith, tt, tt)
-    item_answers sure place (Shown.BadIndex on index number len) fits = (omega arith, tt, tt)
-    item_answers sure place (Shown.Posted on number) fits = (omega arith, tt, tt)
-    item_answers sure place (Shown.Took on number) fits = (omega arith, tt, tt)
+    item_answers sure place (Shown.Call on number) fits = (none_more place, tt, tt)
+    item_answers sure place (Shown.BadIndex on index number len) fits = (none_more place, tt, tt)
+    item_answers sure place (Shown.Posted on number) fits = (none_more place, tt, tt)
+    item_answers sure place (Shown.Took on number) fits = (none_more place, tt, tt)
 
   -- the tests of a queue
   pub queue_fits : (waits : List Wait) (queue : QueueView) → queue.conn ≡ conn

@@ -25,7 +25,7 @@ use Rattle.caller_check.proofs.ToldLaws.{Fits, Answers, fits_left, fits_right, i
 -- ---- a word's bits
 
 module _ (vector word value : ℕ) (waits : List Wait) (many : ℕ) where
-  abbrev behind : ℕ → ℕ → Option ℕ
+  abbrev pub behind : ℕ → ℕ → Option ℕ
   behind k place = word_past vector word value waits k (many - k) place
 
   pub bits_start : (place : ℕ) → behind 0 place ≡ word_past vector word value waits 0 many place
