@@ -17,6 +17,9 @@ use Rattle.caller_waits.specs.Tests.{wait_of, own_bit, word_waits, item_waits, I
 use Rattle.caller_check.specs.Tables.{AnySettled}
 use Rattle.caller_check.specs.Untold.{is_told, past, bit_past, then_past, word_past, item_past}
 
+zero_plus : (n : ℕ) → 0 + n ≡ n
+zero_plus n = omega arith
+
 get_left : (xs ys : List Wait) (i : ℕ) (x : Wait) → slice_get xs i ≡ Some x → slice_get (xs ++ ys) i ≡ Some x
 get_left [] ys i x at = absurd (nowhere i at)
   where
@@ -26,7 +29,7 @@ get_left (y ∷ xs) ys zero x at = at
 get_left (y ∷ xs) ys (suc i) x at = get_left xs ys i x at
 
 get_right : (xs ys : List Wait) (i : ℕ) (x : Wait) → slice_get ys i ≡ Some x → slice_get (xs ++ ys) (length xs + i) ≡ Some x
-get_right [] ys i x at = at
+get_right [] ys i x at = subst (λ (n : ℕ). slice_get ys n ≡ Some x) (sym (zero_plus i)) at
 get_right (y ∷ xs) ys i x at =
     let is : length (y ∷ xs) + i ≡ suc (length xs + i) = omega arith in rw is (get_right xs ys i x at)
 
@@ -225,8 +228,9 @@ module _ (form : StrForm) (entries : AnyHistory) (conn : ConnId) where
   pub queue_fits : (waits : List Wait) (queue : QueueView) → queue.conn ≡ conn
       → map untold queue.waits ≡ map untold waits → AnySettled form entries queue → Fits queue.waits 0 waits
   queue_fits waits queue by same settled i wait at =
-      let it = same_at queue.waits waits same i wait at in
+      subst (λ (n : ℕ). (is_told (slice_get queue.waits n) ≡ true) ↔ Shows wait) (sym (zero_plus i))
+      (let it = same_at queue.waits waits same i wait at in
       let each = settled_each queue by settled i it.0 it.1 in (
         λ told. subst (λ (w : Wait). Shows w) it.2 (each.0 (sym (ap is_told it.1) ∙ told)),
         λ shown. ap is_told it.1 ∙ each.1 (subst (λ (w : Wait). Shows w) (sym it.2) shown),
-      )
+      ))

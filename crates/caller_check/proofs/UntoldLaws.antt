@@ -1,10 +1,12 @@
 -- A caller's items, one after another, held against the queues of its structures.
 use Rattle.std.proofs.Common.{◌≡◌, ◌≢◌, ℕ, zero, suc, ◌+◌, ◌-◌, ◌<◌, ◌≤◌, ◌==◌, inl, inr, ◌⊎◌, Bool, true, false, if◌then◌else◌, List, [], ◌∷◌, ◌++◌, length, take, drop, get_or, set, replicate, slice_get, Option, Some, None, refl, sym, ap, subst, ◌∙◌, arith}
 use Rattle.std.specs.Prelude.{All}
-use Rattle.std.proofs.lemmas.Bool.{cases_lt}
+use Rattle.std.proofs.lemmas.Bool.{cases_lt, false≢true}
 use Rattle.std.proofs.lemmas.Bool.Decides.{nat_tests}
-use Rattle.std.proofs.lemmas.List.{length-set, length-replicate, get_or-replicate, get_or-set_same, get_or-set_other, get_or_past, take_more, drop_more, take_all}
+use Rattle.std.proofs.lemmas.List.{length-set, length-replicate, get_or-replicate, get_or-set_same, get_or-set_other, get_or_past, get_or_default, take_more, drop_more, take_all}
 use Rattle.std.proofs.lemmas.Option.{slice_get-get_or, slice_get_within, get_or_from_slice_get}
+use Rattle.std.specs.declared.vec.Vec.{Vec}
+use Rattle.std.specs.declared.alloc.Global.{Global}
 use Rattle.cf_lists.proofs.TableLaws.{get_within}
 use Rattle.caller_slots.specs.RunShown.CfTypes.declared.forms.StrForm.{StrForm}
 use Rattle.caller_slots.specs.RunShown.CfTypes.declared.numbers.ConnId.{ConnId}
@@ -19,6 +21,7 @@ use Rattle.vector_waits.specs.Waits.{QueueView}
 use Rattle.caller_waits.specs.Tests.{item_waits, waits_at, waits_of, IsWithin, IsSmall, AllTell}
 use Rattle.caller_waits.proofs.TestLaws.{tells_waits, tells_within}
 use Rattle.caller_waits.proofs.FirstLaws.{IsRight, right_tests}
+use Rattle.caller_check.specs.Tables.{rows_of}
 use Rattle.caller_check.specs.Untold.{past, bit_past, then_past, word_past, item_past, IsQueueAt, HaveRows, IsItemPast, HaveQueues, AreSeen, IsFirstUntold}
 use Rattle.caller_check.proofs.ToldLaws.{Fits, Answers, fits_left, fits_right, item_answers, queue_fits}
 
@@ -56,6 +59,97 @@ module _ (vector word value : ℕ) (waits : List Wait) (many : ℕ) where
       let is : many - k ≡ 0 = omega (arith, past') in
       sym (ap (λ (n : ℕ). word_past vector word value waits k n place) is) ∙ so_far
 
+-- ---- a queue of the tables
+
+row_at : (tables : List (Vec QueueView Global)) (x : ℕ) (table : Vec QueueView Global)
+    → slice_get tables x ≡ Some table → slice_get (rows_of tables) x ≡ Some table.items
+row_at [] x table at = absurd (nowhere x at)
+  where
+    nowhere : (k : ℕ) → slice_get [] k ≡ Some table → ⊥
+    nowhere k e = cc
+row_at (first ∷ tables) zero table at =
+    let is : first ≡ table = cc in ap (λ (t : Vec QueueView Global). Some t.items) is
+row_at (first ∷ tables) (suc x) table at = row_at tables x table at
+
+rows_length : (tables : List (Vec QueueView Global)) → length (rows_of tables) ≡ length tables
+rows_length [] = refl
+rows_length (first ∷ tables) = ap suc (rows_length tables)
+
+module _ (forms : List StrForm) (tables : List (Vec QueueView Global)) (conn : ConnId) (on : StrNo)
+    (rows : HaveRows forms (rows_of tables) conn) (known : on.0 < length forms) (place : ℕ) (place_is : place ≡ on.0) where
+  pub in_tables : place < length tables
+  in_tables =
+      let size : length (rows_of tables) ≡ length forms = rows.size in
+      let same = rows_length tables in omega (arith, known, place_is, size, same)
+
+  row_here : (table : Vec QueueView Global) → table ≡ get_or tables place table → slice_get (rows_of tables) on.0
+      ≡ Some table.items
+  row_here table is = subst (λ (n : ℕ). slice_get (rows_of tables) n ≡ Some table.items) place_is
+      (row_at tables place table (slice_get-get_or tables place table in_tables ∙ ap (λ (t : Vec QueueView Global). Some t)
+      (sym is)))
+
+  pub in_row : (table : Vec QueueView Global) → table ≡ get_or tables place table → (number : ℕ) → number ≡ conn.0
+      → number < length table.items
+  in_row table is number same =
+      let few = rows.rows on.0 table.items (row_here table is) in omega (arith, few, same)
+
+  pub queue_found : (form : StrForm) → form ≡ get_or forms place form → (vector : ℕ) → vector ≡ form.vector
+      → (table : Vec QueueView Global) → table ≡ get_or tables place table → (number : ℕ) → number ≡ conn.0
+      → (queue : QueueView) → queue ≡ get_or table.items number queue → (waits : List Wait) → waits ≡ queue.waits
+      → IsQueueAt forms (rows_of tables) conn on vector waits
+  queue_found form form_is vector vector_is table table_is number number_is queue queue_is waits waits_are = record {
+    form = form;
+    known = subst (λ (n : ℕ). slice_get forms n ≡ Some form) place_is
+        (slice_get-get_or forms place form (omega (arith, known, place_is)) ∙ ap (λ (f : StrForm). Some f) (sym form_is));
+    vector_is = vector_is;
+    table = table.items;
+    row = row_here table table_is;
+    queue = queue;
+    there = subst (λ (n : ℕ). slice_get table.items n ≡ Some queue) number_is
+        (slice_get-get_or table.items number queue (in_row table table_is number number_is)
+        ∙ ap (λ (q : QueueView). Some q) (sym queue_is));
+    waits_are = waits_are;
+  }
+
+-- ---- an item
+
+module _ (forms : List StrForm) (tables : List (List QueueView)) (conn : ConnId) (item : Shown) (old : List ℕ)
+    (small : IsSmall item) (on : StrNo) (on_is : on ≡ place_of item) (vector : ℕ) (waits : List Wait)
+    (found : IsQueueAt forms tables conn on vector waits) (place : ℕ) (place_is : place ≡ on.0) (before d : ℕ)
+    (within : place < length old) (before_is : before ≡ get_or old place d) where
+  before_here : before ≡ get_or old (place_of item).0 0
+  before_here = before_is ∙ get_or_default old place d 0 within ∙ ap (λ (n : ℕ). get_or old n 0)
+      (place_is ∙ ap (λ (o : StrNo). o.0) on_is)
+
+  number_is : place ≡ (place_of item).0
+  number_is = place_is ∙ ap (λ (o : StrNo). o.0) on_is
+
+  pub item_goes : (next : ℕ) → Some next ≡ item_past vector waits item before → (new : List ℕ)
+      → new ≡ set old place next → IsItemPast forms tables conn item old new true
+  item_goes next is new new_is = record {
+    vector = vector;
+    waits = waits;
+    queue = subst (λ (o : StrNo). IsQueueAt forms tables conn o vector waits) on_is found;
+    small = small;
+    goes = λ _. (
+        next,
+        sym (is ∙ ap (λ (n : ℕ). item_past vector waits item n) before_here),
+        new_is ∙ ap (λ (n : ℕ). set old n next) number_is,
+      );
+    stays = λ never. absurd (false≢true (sym never));
+  }
+
+  pub item_stays : None ≡ item_past vector waits item before → (new : List ℕ)
+      → IsItemPast forms tables conn item old new false
+  item_stays is new = record {
+    vector = vector;
+    waits = waits;
+    queue = subst (λ (o : StrNo). IsQueueAt forms tables conn o vector waits) on_is found;
+    small = small;
+    goes = λ never. absurd (false≢true never);
+    stays = λ _. sym (is ∙ ap (λ (n : ℕ). item_past vector waits item n) before_here);
+  }
+
 -- ---- items
 
 self_same : (n : ℕ) → n == n ≡ true
@@ -64,10 +158,10 @@ self_same n = grind (arith, nat_tests)
 same_number : (a b : ℕ) → a ≡ b → a == b ≡ true
 same_number a b is = grind (arith, nat_tests)
 
-none_yet : (n x : ℕ) → get_or (replicate n 0) x 0 ≡ 0
-none_yet n x = elim (cases_lt x n) [
-  | inl few ↦ get_or-replicate n x 0 0 few
-  | inr past' ↦ get_or_past (replicate n 0) x 0 (let size = length-replicate n 0 in omega (arith, past', size))
+none_yet : (n x d : ℕ) → get_or (replicate n d) x d ≡ d
+none_yet n x d = elim (cases_lt x n) [
+  | inl few ↦ get_or-replicate n x d d few
+  | inr past' ↦ get_or_past (replicate n d) x d (let size = length-replicate n d in omega (arith, past', size))
 ]
 
 module _ (forms : List StrForm) (histories : List AnyHistory) (tables : List (List QueueView)) (conn : ConnId)
@@ -92,7 +186,7 @@ module _ (forms : List StrForm) (histories : List AnyHistory) (tables : List (Li
     ahead = λ on form entries table queue known there row at. (
         let it = queues.each on form entries table queue known there row at in
         subst (λ (n : ℕ). Fits form entries conn queue.waits n (waits_of on form.vector [] items))
-        (sym (none_yet (length forms) on.0))
+        (sym (none_yet (length forms) on.0 0))
         (queue_fits form entries conn (waits_of on form.vector [] items) queue it.caller it.tests it.settled));
     right = λ k item few at. absurd (omega (arith, few));
   }

@@ -1,7 +1,7 @@
 -- What is known of a caller where all histories are legal and have answered its tests.
-use Rattle.std.proofs.Common.{◌≡◌, ℕ, ◌+◌, ◌<◌, ◌≤◌, List, [], length, map, take, slice_get, Option, Some, None, refl, sym, ap, subst, ◌∙◌, arith}
+use Rattle.std.proofs.Common.{◌≡◌, ℕ, ◌+◌, ◌<◌, ◌≤◌, List, [], length, map, take, get_or, slice_get, Option, Some, None, refl, sym, ap, subst, ◌∙◌, arith}
 use Rattle.std.specs.Prelude.{All}
-use Rattle.std.proofs.lemmas.Option.{slice_get_within}
+use Rattle.std.proofs.lemmas.Option.{slice_get_within, slice_get-get_or}
 use Rattle.caller_slots.specs.RunShown.CfTypes.declared.forms.StrForm.{StrForm}
 use Rattle.caller_slots.specs.RunShown.CfTypes.declared.numbers.ConnId.{ConnId}
 use Rattle.caller_slots.specs.RunShown.CfTypes.declared.numbers.StrNo.{StrNo}
@@ -28,6 +28,17 @@ use Rattle.caller_check.specs.Tables.{IsAnswered, AreAnswered}
 use Rattle.caller_check.specs.Untold.{HaveRows, HaveQueues}
 use Rattle.caller_check.specs.First.{IsGoodOf, AreItemsOf, HaveQueuesInOrder, IsFirstWrong, first_bad}
 use Rattle.caller_check.proofs.FirstLaws.{one_order, unsound_bad, some_bad, none_bad}
+
+pub its_items : (printed : Printed) (conn : ConnId) → conn.0 < length printed.transcripts → (place : ℕ)
+    → place ≡ conn.0 → (transcript : Transcript) → transcript ≡ get_or printed.transcripts place transcript
+    → (items : List Shown) → items ≡ transcript.items → AreItemsOf printed conn items
+its_items printed conn few place is transcript value items are = record {
+  transcript = transcript;
+  there = subst (λ (n : ℕ). slice_get printed.transcripts n ≡ Some transcript) is
+      (slice_get-get_or printed.transcripts place transcript (omega (arith, few, is))
+      ∙ ap (λ (t : Transcript). Some t) (sym value));
+  are = are;
+}
 
 module _ (script : Script) (printed : Printed) (formed : IsWellFormed script) (is : IsPrintedOf script printed) where
   known : All (λ (line : Line). line.on.0 < length script.structures) script.lines
