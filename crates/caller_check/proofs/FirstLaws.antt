@@ -57,12 +57,12 @@ take_taken : {X : Type 0} (xs : List X) (n k : ℕ) → k ≤ n → take k (take
 take_taken xs n zero few = refl
 take_taken xs zero (suc k) few = absurd (omega (arith, few))
 take_taken [] (suc n) (suc k) few = refl
-take_taken (x ∷ xs) (suc n) (suc k) few = ap (λ (l : List X). x ∷ l) (take_taken xs n k (omega (arith, few)))
+take_taken (x ∷ xs) (suc n) (suc k) few = ap (λ (l : _). x ∷ l) (take_taken xs n k (omega (arith, few)))
 
 take_whole : {X : Type 0} (xs : List X) (n : ℕ) → n ≡ length xs → take n xs ≡ xs
 take_whole [] n is = rw is refl
 take_whole (x ∷ xs) zero is = absurd (cc)
-take_whole (x ∷ xs) (suc n) is = ap (λ (l : List X). x ∷ l) (take_whole xs n (let same : suc n ≡ suc (length xs) = is in cc))
+take_whole (x ∷ xs) (suc n) is = ap (λ (l : _). x ∷ l) (take_whole xs n (let same : suc n ≡ suc (length xs) = is in cc))
 
 fills_front : (slots : List Slot) (items : List Shown) (n : ℕ) → Fills slots items → Fills (take n slots) (take n items)
 fills_front slots items zero fills = tt
@@ -173,7 +173,7 @@ seen_of forms histories conn before slot (Shown.Posted on sure) fits begins form
 seen_of forms histories conn before slot (Shown.Took on sure) fits begins form entries known tells = tt
 seen_of forms histories conn before slot (Shown.Test on index bit at) fits begins form entries known tells =
     test_seen form entries conn before on index at bit tells
-seen_of forms histories conn before (Words place number) (Shown.Word on word bits at) (bits', at', is)
+seen_of forms histories conn before (Words place number) (Shown.Word on word bits at) (bits', (at', is))
     (form', known', begins) form entries known tells =
     let same : place ≡ on = cc in
     let same_word : number ≡ word = cc in
@@ -184,7 +184,7 @@ seen_of forms histories conn before (Words place number) (Shown.Word on word bit
     word_seen form entries conn before on word bits at few tells
 seen_of forms histories conn before (Calls place asked call) (Shown.Word on word bits at) fits begins form entries known
     tells = absurd (let is = fits.0 in cc)
-seen_of forms histories conn before (Tests place index) (Shown.Word on word bits at) (bit, at', is) begins form entries
+seen_of forms histories conn before (Tests place index) (Shown.Word on word bits at) (bit, (at', is)) begins form entries
     known tells = absurd cc
 seen_of forms histories conn before (Outside place index b len) (Shown.Word on word bits at) fits begins form entries
     known tells = absurd cc
