@@ -1,0 +1,4 @@
+pub mod ToldLaws
+pub mod UntoldLaws
+pub mod FirstLaws
+pub mod WholeLaws
