@@ -1,0 +1,66 @@
+-- What a check answers, where histories and callers are judged.
+use Rattle.std.proofs.Common.{◌≡◌, ℕ, zero, suc, ◌+◌, ◌<◌, ◌≤◌, ◌⊎◌, inl, inr, List, [], ◌∷◌, length, slice_get, Some, refl, sym, ap, subst, ◌∙◌, arith, sum_by}
+use Rattle.std.specs.Prelude.{All}
+use Rattle.std.proofs.lemmas.List.Elements.{All-weaker}
+use Rattle.std.proofs.lemmas.Bool.{cases_lt}
+use Rattle.std.proofs.lemmas.Option.{slice_get_within}
+use Rattle.cf_types.specs.declared.forms.StrForm.{StrForm}
+use Rattle.cf_types.specs.declared.numbers.ConnId.{ConnId}
+use Rattle.check_model.specs.RunShown.PlexScript.declared.asks.AnyHistory.{AnyHistory}
+use Rattle.check_model.specs.RunShown.PlexScript.declared.scripts.Script.{Script}
+use Rattle.check_model.specs.RunShown.PlexScript.declared.transcripts.AgentEnd.{AgentEnd}
+use Rattle.check_model.specs.RunShown.PlexScript.declared.transcripts.Transcript.{Transcript}
+use Rattle.check_model.specs.RunShown.PlexScript.Follows.{Follows}
+use Rattle.check_model.specs.RunShown.PlexScript.Heard.{any_calls, any_length}
+use Rattle.check_model.specs.RunShown.Headline.{EndsRight, ShowsHistories}
+use Rattle.check_model.specs.declared.checked.Checked.{Checked}
+use Rattle.check_model.specs.declared.printed.Printed.{Printed}
+use Rattle.check_model.specs.Judged.{AreGoodBelow, AreLegalBelow, IsGood, Judges}
+use Rattle.check_model.specs.Printings.{IsCallOf, IsPrintedOf}
+use Rattle.plex_check.proofs.Rows.{some_same}
+
+module _ (script : Script) (printed : Printed) where
+  -- a transcript with the end Done ends right where it follows the script
+  ends_done : (conn : ConnId) (transcript : Transcript) → transcript.end ≡ AgentEnd.Done
+      → Follows script printed.histories conn transcript.items
+      → EndsRight 0 script printed.histories conn transcript.items transcript.end
+  ends_done conn transcript done follows =
+      subst (λ (end : AgentEnd). EndsRight 0 script printed.histories conn transcript.items end) (sym done) follows
+
+  pub shows_all : IsPrintedOf script printed
+      → AreLegalBelow script printed.histories (length script.structures)
+      → AreGoodBelow script printed (length printed.transcripts)
+      → ShowsHistories 0 script printed.histories printed.transcripts
+  shows_all is legal good = record {
+    structures = is.structures;
+    histories_right = λ x form entries known there.
+        let whose = is.histories x form entries known there in record {
+      kind = whose.kind;
+      legal = legal x form entries (slice_get_within script.structures x form known) known there;
+      callers = All-weaker (IsCallOf script) (λ call. call.by.0 ≤ length script.connectors) (λ call of. of.0)
+          (any_calls entries) whose.callers;
+    };
+    callers = is.callers;
+    ends = λ c transcript there. ends_done (record { 0 = c }) transcript (is.done c transcript there)
+        (good c transcript (slice_get_within printed.transcripts c transcript there) there).0;
+    tests = λ c transcript there. (good c transcript (slice_get_within printed.transcripts c transcript there) there).1;
+  }
+
+  -- ---- one caller after another
+
+  pub good_none : AreGoodBelow script printed 0
+  good_none c transcript less there = absurd (omega (arith, less))
+
+  pub good_more : (n : ℕ) → AreGoodBelow script printed n → ((transcript : Transcript)
+      → slice_get printed.transcripts n ≡ Some transcript
+      → IsGood script printed.histories (record { 0 = n }) transcript.items) → AreGoodBelow script printed (n + 1)
+  good_more n so_far here c transcript less there = elim (cases_lt c n) [
+    | inl before ↦ so_far c transcript before there
+    | inr more ↦
+        let last : n ≡ c = omega (arith, less, more) in
+        let its : slice_get printed.transcripts n ≡ Some transcript =
+        subst (λ (m : ℕ). slice_get printed.transcripts m ≡ Some transcript) (sym last) there in
+        let whose : (let it : ConnId = record { 0 = n } in let other : ConnId = record { 0 = c } in it ≡ other) =
+        ap (λ (m : ℕ). (let it : ConnId = record { 0 = m } in it)) last in
+        subst (λ (c : ConnId). IsGood script printed.histories c transcript.items) whose (here transcript its)
+  ]

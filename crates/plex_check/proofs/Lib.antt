@@ -1,0 +1,6 @@
+mod Rows
+mod AskedLaws
+mod KindLaws
+mod QueueLaws
+mod TableLaws
+mod CheckLaws

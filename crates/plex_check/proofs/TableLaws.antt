@@ -1,0 +1,125 @@
+-- What a judge has found of a structure, as the table of its callers' queues.
+use Rattle.std.proofs.Common.{◌≡◌, ℕ, zero, suc, ◌+◌, ◌<◌, ◌≤◌, ◌⊎◌, inl, inr, List, [], ◌∷◌, ◌++◌, length, map, take, get_or, slice_get, Some, refl, sym, ap, subst, ◌∙◌, arith, length-append}
+use Rattle.std.specs.Prelude.{All}
+use Rattle.std.proofs.lemmas.Option.{slice_get-get_or, slice_get_within}
+use Rattle.cf_types.specs.declared.forms.StrForm.{StrForm}
+use Rattle.cf_types.specs.declared.numbers.ConnId.{ConnId}
+use Rattle.cf_types.specs.declared.numbers.StrNo.{StrNo}
+use Rattle.vector_waits.specs.declared.wait.Wait.{Wait}
+use Rattle.vector_waits.specs.Waits.{QueueView, IsSettled, AreSettled, untold}
+use Rattle.history_check.specs.declared.judged.Judged.{Judged}
+use Rattle.history_check.specs.Queues.{HasTestsOf, Pairs}
+use Rattle.check_model.specs.RunShown.CacheModel.Meaning.{cache_meaning}
+use Rattle.check_model.specs.RunShown.ListModel.Meaning.{list_meaning}
+use Rattle.check_model.specs.RunShown.LockModel.Meaning.{lock_meaning}
+use Rattle.check_model.specs.RunShown.PlexScript.declared.asks.AnyHistory.{AnyHistory}
+use Rattle.check_model.specs.RunShown.PlexScript.declared.scripts.Script.{Script}
+use Rattle.check_model.specs.RunShown.PlexScript.declared.transcripts.Shown.{Shown}
+use Rattle.check_model.specs.RunShown.PlexScript.declared.transcripts.Transcript.{Transcript}
+use Rattle.check_model.specs.RunShown.Kinds.{IsAnyLegal}
+use Rattle.check_model.specs.declared.printed.Printed.{Printed}
+use Rattle.check_model.specs.Judged.{IsAnyBadBlock, AreLegalBelow}
+use Rattle.caller_waits.specs.Tests.{queue_of, waits_of}
+use Rattle.caller_check.specs.Tables.{AnySettled, IsAnswered, AreAnswered}
+use Rattle.plex_check.specs.Checks.{IsAnyJudged, IsQueueOf, AreQueuesOf, IsTable, IsTableWhere, AreTables}
+use Rattle.plex_check.proofs.Rows.{nowhere, some_same, found, get_push, each_of, pairs_length, pair_at}
+
+any_legal : (form : StrForm) (entries : AnyHistory) → IsAnyJudged form entries Judged.Legal → IsAnyLegal form entries
+any_legal form (AnyHistory.Cache entries) is = is
+any_legal form (AnyHistory.List entries) is = is
+any_legal form (AnyHistory.Lock entries) is = is
+
+any_bad : (form : StrForm) (entries : AnyHistory) (place : ℕ) → IsAnyJudged form entries (Judged.Bad place)
+    → IsAnyBadBlock form entries place
+any_bad form (AnyHistory.Cache entries) place is = is
+any_bad form (AnyHistory.List entries) place is = is
+any_bad form (AnyHistory.Lock entries) place is = is
+
+module _ (printed : Printed) (on : StrNo) (form : StrForm) (entries : AnyHistory) where
+  abbrev AreAsking : List QueueView → Type 0
+  AreAsking queues = AreQueuesOf printed.histories on form.vector printed.transcripts (length printed.transcripts) queues
+
+  answered : (conn : ConnId) (items : List Shown) (old new : QueueView)
+      → IsQueueOf printed.histories on form.vector conn items old → HasTestsOf old new → AnySettled form entries new
+      → IsAnswered printed.histories on form entries conn items new
+  answered conn items old new asks same settled = record {
+    many = asks.many;
+    order = asks.order;
+    caller = same.conn ∙ ap (λ (q : QueueView). q.conn) asks.tests;
+    tests = same.waits ∙ ap (λ (q : QueueView). map untold q.waits) asks.tests;
+    settled = settled;
+  }
+
+  -- what a judge leaves of the queues
+  pub table_where : (olds news : List QueueView) (found : Judged) → AreAsking olds → Pairs HasTestsOf olds news
+      → IsAnyJudged form entries found → (found ≡ Judged.Legal → All (AnySettled form entries) news)
+      → IsTableWhere printed on form entries news found
+  table_where olds news Judged.Legal asking pairs judged told = record {
+    legal = any_legal form entries judged;
+    row = pairs_length HasTestsOf olds news pairs ∙ asking.size;
+    each = λ conn transcript queue there at.
+        let old = pair_at HasTestsOf olds news conn.0 queue pairs at in
+        answered conn transcript.items old.0 queue (asking.each conn transcript old.0 there old.1) old.2
+        (each_of (AnySettled form entries) news conn.0 queue (told refl) at);
+  }
+  table_where olds news (Judged.Bad place) asking pairs judged told = any_bad form entries place judged
+
+-- ---- one structure after another
+
+module _ (script : Script) (printed : Printed) where
+  pub tables_none : AreTables script printed 0 []
+  tables_none = record {
+    size = refl;
+    each = λ on form entries table known there at. absurd (nowhere on.0 table at);
+  }
+
+  pub tables_more : (n : ℕ) (tables : List (List QueueView)) → AreTables script printed n tables → (form : StrForm)
+      (entries : AnyHistory) → slice_get script.structures n ≡ Some form → slice_get printed.histories n ≡ Some entries
+      → (table : List QueueView) → IsTable printed (record { 0 = n }) form entries table
+      → AreTables script printed (n + 1) (tables ++ table ∷ [])
+  tables_more n tables so_far form entries known there table made = record {
+    size = (let size : length tables ≡ n = so_far.size in
+        length-append tables (table ∷ []) ∙ ap (λ (m : ℕ). m + 1) size);
+    each = λ on other others is its at. elim (get_push tables table on.0 at) [
+      | inl old ↦ so_far.each on other others is its old
+      | inr last ↦
+          let number : on.0 ≡ n = last.0 ∙ so_far.size in
+          let whose : (let it : StrNo = record { 0 = n } in it ≡ on) =
+          ap (λ (m : ℕ). (let it : StrNo = record { 0 = m } in it)) (sym number) in
+          let here : slice_get script.structures on.0 ≡ Some form =
+          subst (λ (m : ℕ). slice_get script.structures m ≡ Some form) (sym number) known in
+          let its_here : slice_get printed.histories on.0 ≡ Some entries =
+          subst (λ (m : ℕ). slice_get printed.histories m ≡ Some entries) (sym number) there in
+          subst (λ (t : List QueueView). IsTable printed on other others t) (sym last.1)
+          (subst (λ (h : AnyHistory). IsTable printed on other h table) (some_same entries others (sym its_here ∙ its))
+          (subst (λ (f : StrForm). IsTable printed on f entries table) (some_same form other (sym here ∙ is))
+          (subst (λ (o : StrNo). IsTable printed o form entries table) whose made)))
+    ];
+  }
+
+  -- those before this structure are legal
+  pub tables_legal : (n : ℕ) (tables : List (List QueueView)) → AreTables script printed n tables
+      → AreLegalBelow script printed.histories n
+  tables_legal n tables so_far x form entries less known there =
+      let within : x < length tables = subst (λ (m : ℕ). x < m) (sym so_far.size) less in
+      let table = get_or tables x [] in
+      (so_far.each (record { 0 = x }) form entries table known there (slice_get-get_or tables x [] within)).legal
+
+  pub tables_answer : (tables : List (List QueueView)) → AreTables script printed (length script.structures) tables
+      → length printed.histories ≡ length script.structures → AreAnswered script printed tables
+  tables_answer tables all size = record {
+    size = all.size;
+    rows = λ x table at.
+        let within : x < length script.structures =
+        subst (λ (m : ℕ). x < m) all.size (slice_get_within tables x table at) in
+        row_of x table at within;
+    each = λ on form entries table conn transcript queue known its at there found.
+        (all.each on form entries table known its at).each conn transcript queue there found;
+  }
+    where
+      row_of : (x : ℕ) (table : List QueueView) → slice_get tables x ≡ Some table → x < length script.structures
+          → length table ≡ length printed.transcripts
+      row_of x table at within =
+          let form = found script.structures x within in
+          let entries = found printed.histories x (subst (λ (m : ℕ). x < m) (sym size) within) in
+          (all.each (record { 0 = x }) form.0 entries.0 table form.1 entries.1 at).row
