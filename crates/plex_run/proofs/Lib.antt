@@ -2,6 +2,7 @@ pub mod Imports
 pub mod Written
 pub mod Passing
 pub mod StatusLaws
+pub mod UnreadLaws
 pub mod TextLaws
 pub mod Found
 pub mod RunnableLaws
@@ -13,5 +14,7 @@ pub mod ReadingLaws
 pub mod LoadRunLaws
 pub mod WordLaws
 pub mod WorkLaws
-pub mod UnreadLaws
 pub mod LocksLaws
+pub mod CuttingLaws
+pub mod PrintedLaws
+pub mod CheckingLaws

@@ -17,8 +17,8 @@ pub fault_told : (text : List ℕ) {line : ℕ} {why : Why} {told : List ℕ} {b
 fault_told text {why = why} e tells spelled = (why, rw e at tells, spelled)
 
 -- a text within the limit isn't too long
-pub fits : (text : List ℕ) → length text ≤ script_limit → IsTooLong text → ⊥
-fits text short long = omega (arith, short, long)
+pub fits : (text : List ℕ) → length text ≤ script_limit → (limit : ℕ) × IsTooLong text limit → ⊥
+fits text short long = omega (arith, short, long.1.1)
 
 -- no text is a script and refused
 pub runs_fair : (links : Wires) (by : Way) → IsExclusive → IsFair (script_word links by)

@@ -8,3 +8,5 @@ pub mod Statuses
 pub mod Outcome
 pub mod Loading
 pub mod Locks
+pub mod Cutting
+pub mod Checking

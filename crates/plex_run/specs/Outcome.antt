@@ -25,7 +25,7 @@ use Rattle.plex_run.specs.Written.{Output, HasFailed, Writes, WritesFront, Gains
 use Rattle.plex_run.specs.Wires.{Wires}
 use Rattle.plex_run.specs.Full.{full_structure}
 use Rattle.plex_run.specs.Statuses.{Task, Word, EndsText}
-use Rattle.plex_run.specs.StatusLines.{why_word, full_line, memory_line, too_long_line}
+use Rattle.plex_run.specs.StatusLines.{why_word, full_line, memory_line}
 
 -- the greatest length of a script, in bytes
 abbrev pub script_limit : ℕ
@@ -37,14 +37,13 @@ journal_limit = JOURNAL_LIMIT
 
 -- the statuses of the program
 abbrev pub IsStatus : ℕ → Type 0
-IsStatus status = IsTrue (list_any (nat_eq status) (0 ∷ 2 ∷ 3 ∷ 4 ∷ 5 ∷ 6 ∷ 7 ∷ 8 ∷ []))
+IsStatus status = IsTrue (list_any (nat_eq status) (0 ∷ 2 ∷ 3 ∷ 4 ∷ 5 ∷ 6 ∷ 7 ∷ 8 ∷ 9 ∷ []))
 
 -- what is written with the statuses whose line is always the same, and stands alone
 abbrev pub status_line : ℕ → Option (List ℕ)
 status_line status =
-    if status == 2 then Some (codes "USAGE plexrun serial or threads or load N or locks\n")
+    if status == 2 then Some (codes "USAGE plexrun serial or threads or load N or locks or check\n")
     else if status == 4 then Some (codes "FAULT READ\n")
-    else if status == 7 then Some too_long_line
     else None
 
 -- the status where no text came
@@ -183,8 +182,8 @@ IsRunWhole links by text status =
     ((status ≡ 0) ⊎ ((status ≡ 5) ⊎ (status ≡ 8))) × (by ≡ ways.InTurn → IsComplete links text status)
 
 -- a text is longer than a script may be
-abbrev pub IsTooLong : List ℕ → Type 0
-IsTooLong text = script_limit < length text
+abbrev pub IsTooLong : List ℕ → ℕ → Type 0
+IsTooLong text limit = (limit ≡ script_limit) × (script_limit < length text)
 
 -- a word for which the script that comes is run in this way
 abbrev pub script_word : Wires → Way → Word

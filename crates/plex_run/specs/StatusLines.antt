@@ -1,7 +1,7 @@
 -- The lines that tell how a run ended.
 use Rattle.std.specs.Prelude.{ℕ, List, [], ◌∷◌, ◌++◌, Option, None, Some, codes}
 use Rattle.std.specs.Fmt.{decimal}
-use Rattle.plex_run.specs.declared.program.TheConstants.{SCRIPT_LIMIT, JOURNAL_LIMIT}
+use Rattle.plex_run.specs.declared.program.TheConstants.{JOURNAL_LIMIT}
 use Rattle.plex_load.specs.CfTypes.declared.names.Name16.{Name16}
 use Rattle.plex_load.specs.PlexSpell.Tokens.{name_word}
 use Rattle.plex_load.specs.PlexScript.declared.faults.Why.{Why}
@@ -24,9 +24,9 @@ abbrev pub full_line : Option Name16 → List ℕ
 full_line None = []
 full_line (Some name) = codes "JOURNALFULL " ++ name_word name ++ 32 ∷ decimal JOURNAL_LIMIT ++ 10 ∷ []
 
--- a text that is too long
-abbrev pub too_long_line : List ℕ
-too_long_line = codes "TOOLONG " ++ decimal SCRIPT_LIMIT ++ 10 ∷ []
+-- a text that is too long: more than so many bytes
+abbrev pub too_long_line : ℕ → List ℕ
+too_long_line limit = codes "TOOLONG " ++ decimal limit ++ 10 ∷ []
 
 abbrev pub memory_line : List ℕ
 memory_line = codes "NOMEMORY\n"

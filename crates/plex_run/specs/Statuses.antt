@@ -2,7 +2,7 @@
 -- a word that reads a text.
 use Rattle.std.specs.Prelude.{◌≡◌, ◌≢◌, ◌⊎◌, ◌↔◌, ℕ, ◌<◌, Bool, List, Option, IfSome, IsTrue}
 use Rattle.plex_run.specs.Written.{Output, HasFailed, Writes, WritesFront, Gains, BreaksOff}
-use Rattle.plex_run.specs.StatusLines.{script_line, memory_line}
+use Rattle.plex_run.specs.StatusLines.{script_line, memory_line, too_long_line}
 
 -- ---- tasks
 
@@ -48,11 +48,11 @@ pub record EndsTask (task : Task) (out : Output) (status : ℕ) : Type 0 where
 
 -- ---- words that read a text
 
--- a word of the program that reads a text: which texts are too long for it; the line for which a text is refused, and
--- what is told of it; which texts are taken, and what is done with one; and which status such a text has where no read
+-- a word of the program that reads a text: which texts are too long for it, with the limit that is told; the line for
+-- which a text is refused, and what is told of it; which texts are taken, and what is done with one; and which status such a text has where no read
 -- failed and there was memory
 pub record Word : Type 1 where
-  pub IsTooLong : List ℕ → Type 0
+  pub IsTooLong : List ℕ → ℕ → Type 0
   pub Refuses : List ℕ → ℕ → List ℕ → Type 0
   pub Takes : List ℕ → Type 0
   pub task : List ℕ → Task
@@ -62,6 +62,14 @@ pub record Word : Type 1 where
 abbrev pub IsRefusedBy : Word → List ℕ → Type 0
 IsRefusedBy word text = (line : ℕ) × (told : List ℕ) × word.Refuses text line told
 
+-- the text is too long, for some limit
+abbrev pub IsLong : Word → List ℕ → Type 0
+IsLong word text = (limit : ℕ) × word.IsTooLong text limit
+
+-- the limit that the text is too long for was told
+abbrev pub WritesLong : Word → List ℕ → Output → Type 0
+WritesLong word text out = (limit : ℕ) × word.IsTooLong text limit × Gains out (too_long_line limit)
+
 -- the line for which the text is refused was told, and why
 abbrev pub WritesRefusal : Word → List ℕ → Output → Type 0
 WritesRefusal word text out =
@@ -70,18 +78,19 @@ WritesRefusal word text out =
 -- 7 is the status of exactly the texts that are too long, and 3 of exactly the others that are refused
 abbrev pub IsExact : Word → List ℕ → ℕ → Type 0
 IsExact word text status =
-    ((status ≡ 7) ↔ word.IsTooLong text)
-    × ((status ≡ 3) ↔ ((word.IsTooLong text → ⊥) × IsRefusedBy word text))
+    ((status ≡ 7) ↔ IsLong word text)
+    × ((status ≡ 3) ↔ ((IsLong word text → ⊥) × IsRefusedBy word text))
 
 -- a text that is taken, and isn't too long, has the status that the word says
 abbrev pub IsSettled : Word → List ℕ → ℕ → Type 0
-IsSettled word text status = word.Takes text → (word.IsTooLong text → ⊥) → word.Settles text status
+IsSettled word text status = word.Takes text → (IsLong word text → ⊥) → word.Settles text status
 
 -- a word ends so over this text: what each status says of the text and of what was written, and which status it is
 -- where no read failed and there was memory
 pub record EndsText (word : Word) (text : List ℕ) (out : Output) (status : ℕ) : Type 0 where
   pub task : EndsTask (word.task text) out status
   pub refused : status ≡ 3 → WritesRefusal word text out
+  pub long : status ≡ 7 → WritesLong word text out
   pub exact : status ≢ 4 → status ≢ 6 → IsExact word text status
   pub settled : status ≢ 4 → status ≢ 6 → IsSettled word text status
 

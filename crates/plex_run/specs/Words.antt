@@ -17,3 +17,4 @@ Say words (works.Script ways.OnThreads) = map string_bytes words ≡ codes "thre
 Say words (works.Load n) =
     (word : List ℕ) × (map string_bytes words ≡ codes "load" ∷ word ∷ []) × (number_said word ≡ Some n)
 Say words works.Locks = map string_bytes words ≡ codes "locks" ∷ []
+Say words works.Check = map string_bytes words ≡ codes "check" ∷ []

@@ -11,7 +11,7 @@ ghost use Rattle.plex_run.specs.Locks.{IsTaken, TellsUntaken, EndsLocks};
 
 use crate::program::{SCRIPT_LIMIT, refused};
 use crate::status_lines::why_text;
-use crate::writing::{say_no_memory, say_unread};
+use crate::writing::{say_no_memory, say_unread, script_too_long};
 use plex_agent::Gate;
 use plex_agent::sources::{Sink, Source, read_all, write_all};
 use plex_load::scripts::{ReadFault, Script, Why, never_both, one_script, read, well_formed};
@@ -138,7 +138,7 @@ pub(crate) fn locked_in<R: Threads + Sync, S: Source, K: Sink, G: Gate>(
 {
     let text = match read_all(alloc, source, SCRIPT_LIMIT) {
         Ok(text) => text,
-        Err(end) => return say_unread(end, sink),
+        Err(end) => return say_unread(end, script_too_long(), sink),
     };
     locked_text(rt, alloc, &text, sink, gate)
 }

@@ -15,13 +15,15 @@ ghost use Rattle.plex_run.specs.Outcome.{IsStatus, status_line, script_limit, En
 ghost use Rattle.plex_run.specs.Statuses.{OfText};
 ghost use Rattle.plex_run.specs.Loading.{EndsLoad};
 ghost use Rattle.plex_run.specs.Locks.{EndsLocks};
+ghost use Rattle.plex_run.specs.Checking.{EndsCheck};
 
+use crate::checking::checked_in;
 use crate::loading::loaded;
 use crate::locks::locked_in;
 use crate::running::reported;
 use crate::status_lines::{script_line, why_text};
 use crate::way::{Way, Work, work_of};
-use crate::writing::{say, say_no_memory, say_unread};
+use crate::writing::{say, say_no_memory, say_unread, script_too_long};
 use plex_agent::Gate;
 use plex_agent::links::Link;
 use plex_agent::sources::{Sink, Source, read_all};
@@ -118,24 +120,31 @@ fn judged<R: Threads + Wait + Sync, K: Sink, L: Link, G: Gate>(
 /// callers' lines obtain or release locks, without record data and without RETRY. The gate is told
 /// of each line.
 ///
+/// With the one word `check` a printed report is checked: the text is a script, a line that is exactly
+/// `REPORT`, the first such, and the report. What it says is judged by the script alone
+/// (`plex_check::check`), and nothing is run.
+///
 /// | Status | Comes | Written to the sink |
 /// |---|---|---|
-/// | 0 | the script was read and run whole, and the report written whole; or the load was run, and its summary written whole; or the locks were done, and what became of them written whole | the report; the summary; what became of the locks |
-/// | 2 | the words are none of these forms | `USAGE plexrun serial or threads or load N or locks` |
-/// | 3 | the text is no script, or lock words can't do all of it | `SCRIPT line why` |
+/// | 0 | the script was read and run whole, and the report written whole; or the load was run, and its summary written whole; or the locks were done, and what became of them written whole; or the report that came keeps what reports promise, and that was written whole | the report; the summary; what became of the locks; `YES n`, with the number of all entries |
+/// | 2 | the words are none of these forms | `USAGE plexrun serial or threads or load N or locks or check` |
+/// | 3 | the text is no script, or lock words can't do all of it, or it has no line `REPORT` | `SCRIPT line why` |
 /// | 4 | a read failed | `FAULT READ` |
 /// | 5 | a write failed while what belongs to 0 was written | a front of it |
 /// | 6 | there was no memory | `NOMEMORY`, alone or behind a front of what belongs to 0 or 8 |
-/// | 7 | more than 1,048,576 bytes came | `TOOLONG 1048576` |
+/// | 7 | more than 1,048,576 bytes came as a script, or, with `check`, more than 16,777,216 in all | `TOOLONG 1048576`, `TOOLONG 16777216` |
 /// | 8 | a call came to a journal of 65,536 entries or more | `JOURNALFULL structure 65536`, and the report: whole unless a write failed |
+/// | 9 | the report that came isn't what a report promises | `NO TEXT line`, `NO structure entry`, or `NO TRANSCRIPT caller item` |
 ///
 /// With 3 the line is the first faulty one, and why is LATE, SYNTAX, LIMIT, UNKNOWN, TWICE or
 /// SPACE; or else, with `locks`, the first that lock words can't do, and NOTWORDS. With 8 the
 /// structure is the first in the policy whose journal got full. Lines are counted from 1. The causes
-/// are tried in the order 2, 4, 7, 3, 8, 5; want of memory may stand in place of any but 2. The
+/// are tried in the order 2, 4, 7, 3, 8, 9, 5; with `check`, 7 for a script that is too long comes
+/// behind 3 for a text with no line `REPORT`, which is told as `SCRIPT 0 NOREPORT`. Want of memory
+/// may stand in place of any but 2. The
 /// report goes out in pieces of 32,768 bytes at most, and a longer line alone; memory is taken for
 /// one piece, before anything is written, and for one line at a time. A load has 0, 5 or 6, and
-/// locks don't have 8; with 6 nothing stands before their line.
+/// neither locks nor a check has 8; with 6 nothing stands before their line.
 pub fn run<R: Threads + Wait + Sync, S: Source, K: Sink, L: Link, G: Gate>(
     rt: &R,
     alloc: Global,
@@ -190,6 +199,19 @@ pub fn run<R: Threads + Wait + Sync, S: Source, K: Sink, L: Link, G: Gate>(
     ensures locks { Say words.now works.Locks → OfText (S.left source.old)
         (λ text. EndsLocks text (output K.held K.faults sink.old sink.new) result) }
 
+    // With `check` the text is a script, a line that is exactly REPORT, the first such, and what
+    // stands behind it. With 0 that is a report of the script, and what it prints shows a legal
+    // history of each structure, each caller's calls in them once and in their order, and tests that
+    // tell what stood at a numbered point; the line written tells how many entries all histories
+    // have. With 9 it isn't: the line written tells the first line, from 1, up to which it begins no
+    // report; or the first structure whose history isn't legal, and the first entry of the block
+    // with which it breaks off; or, where all histories are legal, the first caller whose transcript
+    // is wrong, and the first item after which no right one begins so. Where no read failed and there
+    // was memory, the text decides: 7 where it or its script is too long, 3 where there is no such
+    // line or no script before it, 9 where the report is wrong, and else 0 or 5.
+    ensures check { Say words.now works.Check → OfText (S.left source.old)
+        (λ text. EndsCheck text (output K.held K.faults sink.old sink.new) result) }
+
     // The other causes, and what is written with each.
     ensures usage { (result ≡ 2) ↔ ((work : Work) × Say words.now work → ⊥) }
     ensures read_fault { result ≡ 4 → Rises (S.faults source.old) (S.faults source.new) }
@@ -208,6 +230,9 @@ pub fn run<R: Threads + Wait + Sync, S: Source, K: Sink, L: Link, G: Gate>(
         → IsAtEnd (S.left source.new) }
     ensures locks_at_end { Say words.now works.Locks
         → (result ≡ 0) ⊎ ((result ≡ 3) ⊎ (result ≡ 5)) → IsAtEnd (S.left source.new) }
+    ensures check_at_end { Say words.now works.Check
+        → (result ≡ 0) ⊎ ((result ≡ 3) ⊎ ((result ≡ 5) ⊎ (result ≡ 9)))
+        → IsAtEnd (S.left source.new) }
     ensures unread { result ≡ 2 → source.new ≡ source.old }
 
     // The counts never fall.
@@ -219,22 +244,24 @@ pub fn run<R: Threads + Wait + Sync, S: Source, K: Sink, L: Link, G: Gate>(
     ensures unasked { (result ≡ 2) ⊎ ((result ≡ 3) ⊎ ((result ≡ 4) ⊎ (result ≡ 7)))
         → links.new.items ≡ links.old.items }
     ensures locks_unasked { Say words.now works.Locks → links.new.items ≡ links.old.items }
+    ensures check_unasked { Say words.now works.Check → links.new.items ≡ links.old.items }
 {
     let way = match work_of(words) {
         Some(Work::Script(way)) => way,
         Some(Work::Load(n)) => return loaded(rt, alloc, n, sink, links, gate),
         Some(Work::Locks) => return locked_in(rt, alloc, source, sink, gate),
+        Some(Work::Check) => return checked_in(alloc, source, sink),
         None => {
             say(
                 sink,
-                b"USAGE plexrun serial or threads or load N or locks\n",
+                b"USAGE plexrun serial or threads or load N or locks or check\n",
             );
             return 2;
         }
     };
     let text = match read_all(alloc, source, SCRIPT_LIMIT) {
         Ok(text) => text,
-        Err(end) => return say_unread(end, sink),
+        Err(end) => return say_unread(end, script_too_long(), sink),
     };
     judged(rt, alloc, way, &text, sink, links, gate)
 }

@@ -25,6 +25,8 @@ pub enum Work {
     Load(u32),
     /// The locks of the script that comes in are done in words.
     Locks,
+    /// The report that comes in behind its script is checked.
+    Check,
 }
 
 // What one word asks for.
@@ -34,6 +36,7 @@ fn work_of_word(word: &String) -> Option<Work>
     ensures on_threads { (result ≡ Some (works.Script ways.OnThreads))
         ↔ (string_bytes word.now ≡ codes "threads") }
     ensures locks { (result ≡ Some works.Locks) ↔ (string_bytes word.now ≡ codes "locks") }
+    ensures check { (result ≡ Some works.Check) ↔ (string_bytes word.now ≡ codes "check") }
     ensures no_load { (n : ℕ) → result ≢ Some (works.Load n) }
 {
     if word.as_str() == "serial" {
@@ -45,6 +48,9 @@ fn work_of_word(word: &String) -> Option<Work>
     if word.as_str() == "locks" {
         return Some(Work::Locks);
     }
+    if word.as_str() == "check" {
+        return Some(Work::Check);
+    }
     None
 }
 
@@ -55,6 +61,7 @@ fn work_of_two(word: &String, numeral: &String) -> Option<Work>
         × (number_said (string_bytes numeral.now) ≡ Some n)) }
     ensures no_script { (way : Way) → result ≢ Some (works.Script way) }
     ensures no_locks { result ≢ Some works.Locks }
+    ensures no_check { result ≢ Some works.Check }
 {
     if word.as_str() != "load" {
         return None;
@@ -73,6 +80,7 @@ pub(crate) fn work_of(words: &[String]) -> Option<Work>
         ↔ Say words.now (works.Script ways.OnThreads) }
     ensures load { (n : ℕ) → (result ≡ Some (works.Load n)) ↔ Say words.now (works.Load n) }
     ensures locks { (result ≡ Some works.Locks) ↔ Say words.now works.Locks }
+    ensures check { (result ≡ Some works.Check) ↔ Say words.now works.Check }
 {
     match words {
         [word] => work_of_word(word),

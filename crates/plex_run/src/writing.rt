@@ -5,7 +5,7 @@ ghost use Rattle.run_laws.specs.Readings.{report_of};
 ghost use Rattle.plex_run.specs.declared.writing.Unwritten.TheVariants as reason;
 ghost use Rattle.plex_run.specs.StatusLines.{full_line, memory_line, too_long_line};
 ghost use Rattle.plex_run.specs.Written.{output, HasFailed, Writes, WritesFront, Gains};
-ghost use Rattle.plex_run.specs.Outcome.{reading_of, read_status, status_line};
+ghost use Rattle.plex_run.specs.Outcome.{script_limit, reading_of, read_status, status_line};
 
 use crate::pieces::Piece;
 use crate::status_lines::full_line;
@@ -49,17 +49,18 @@ pub(crate) fn say_no_memory<K: Sink>(_cause: NoMemory, sink: &mut K)
     say(sink, b"NOMEMORY\n");
 }
 
-// Tells of a text that is too long.
-fn say_too_long<K: Sink>(sink: &mut K)
-    ensures gains { Gains (output K.held K.faults sink.old sink.new) too_long_line }
-    ensures faults { K.faults sink.old ≤ K.faults sink.new }
+/// The line of a text that is too long for a script.
+#[tactic(auto, using(crate::proofs::StatusLaws::script_long))]
+pub(crate) fn script_too_long() -> &'static [u8]
+    ensures { result.now ≡ too_long_line script_limit }
 {
-    say(sink, b"TOOLONG 1048576\n");
+    b"TOOLONG 1048576\n"
 }
 
-/// Tells why no text came, and the status.
-pub(crate) fn say_unread<K: Sink>(end: ReadEnd, sink: &mut K) -> u8
+/// Tells why no text came, and the status; where too many bytes came, by this line.
+pub(crate) fn say_unread<K: Sink>(end: ReadEnd, long: &[u8], sink: &mut K) -> u8
     ensures status { result ≡ read_status end }
+    ensures long { result ≡ 7 → Gains (output K.held K.faults sink.old sink.new) long.now }
     ensures line { IfSome (status_line result)
         (Gains (output K.held K.faults sink.old sink.new)) }
     ensures no_memory { result ≡ 6 → Gains (output K.held K.faults sink.old sink.new)
@@ -73,7 +74,7 @@ pub(crate) fn say_unread<K: Sink>(end: ReadEnd, sink: &mut K) -> u8
             4
         }
         ReadEnd::TooLong { .. } => {
-            say_too_long(sink);
+            say(sink, long);
             7
         }
         ReadEnd::NoMemory(cause) => {
