@@ -412,12 +412,55 @@ fn long_texts(rt: HostRuntime) -> Result<(), Fail> {
     Ok(())
 }
 
-// A text of the greatest length and a byte more that has no line REPORT is too long, and not without a report.
+// A text that is too long is told so, whether it has a line REPORT or not.
 #[test]
 fn long_and_no_report(rt: HostRuntime) -> Result<(), Fail> {
     let mut source = source_of(rt.alloc(), "", "", &[])?;
     source.bytes.resize(TEXT_BYTES + 1, b'*')?;
     assert!(rt; ends_with(&rt, rt.alloc(), &mut source, 7, "TOOLONG 16777216\n")?);
+    Ok(())
+}
+
+// The script with its report, of which a part may be altered, from a source that fails at these reads.
+fn source_with(
+    alloc: Global,
+    part: &str,
+    other: &str,
+    fails: &[u64],
+) -> Result<MemSource, AllocError> {
+    let (front, back) = SHOWN.split_once(part).unwrap_or((SHOWN, ""));
+    let shown = format!(in alloc; "{front}{other}{back}")?;
+    source_of(alloc, POLICY, &with_report(alloc, &shown)?, fails)
+}
+
+#[test]
+fn a_read_fails(rt: HostRuntime) -> Result<(), Fail> {
+    for (read, status, told) in [
+        (1, 4, "FAULT READ\n"),
+        (2, 4, "FAULT READ\n"),
+        (3, 0, "YES 7\n"),
+    ] {
+        let mut source = source_with(rt.alloc(), "END\n", "END\n", &[read])?;
+        assert!(rt;
+            ends_with(&rt, rt.alloc(), &mut source, status, told)?,
+            "{read}"
+        );
+    }
+    Ok(())
+}
+
+// A yes that isn't written whole is told by the status. A no is told by its own status, whatever the sink does.
+#[test]
+fn a_write_fails(rt: HostRuntime) -> Result<(), Fail> {
+    for (other, status, front) in [("3 -> OK", 5, "YES"), ("3 -> NODATA", 9, "NO ")] {
+        let mut source = source_with(rt.alloc(), "3 -> OK", other, &[])?;
+        let mut sink = sink_of(rt.alloc(), 3, &[2])?;
+        let got = run_into(&rt, rt.alloc(), "check", &mut source, &mut sink)?;
+        assert!(rt;
+            got == status && sink.bytes.as_slice() == front.as_bytes(),
+            "{front}"
+        );
+    }
     Ok(())
 }
 
@@ -446,7 +489,8 @@ fn is_judged<R: Threads + Wait + Sync>(
         lines: &rest,
     }
     .ran(rt, alloc, &[])?;
-    Ok(judged.status == 0 && judged.text.starts_with("YES ") && judged.gated == 0)
+    let is_yes = judged.status == 0 && judged.text.starts_with("YES ");
+    Ok(is_yes && judged.gated == 0 && judged.asked((0, 0), (0, 0)))
 }
 
 /// How often each of two connectors writes and tests while the operator has the structure rebuilt.
