@@ -67,7 +67,13 @@ def entry_says(parts, name, number):
     while end + 1 < last and b' SYS LOST ' in parts.lines[end - 1]:
         end += 1
     told = [parts.line(it) for it in range(at, end + 1)]
-    return [*told, f'behind the entries before it no facility answers so: what {name} answers stands in docs/MODEL.md and docs/commands']
+    strange = [it for it in range(at, end + 1) if words_of(parts.lines[it - 1])[:1] != [str(number + it - at)]]
+    if strange:
+        return [*told, f'the entry in line {strange[0]} has to have the number {number + strange[0] - at}, as the entries of {name} are counted']
+    if b' SYS LOST ' in parts.lines[end - 1]:
+        return [*told, 'no call stands behind this loss, which was to find it']
+    marked = 'either the call can not have found these losses, or ' if end > at else ''
+    return [*told, f'{marked}behind the entries before it no facility answers so: docs/MODEL.md and docs/commands say what one answers']
 
 
 def item_says(parts, name, number):
