@@ -372,15 +372,20 @@ fn ends_with<R: Threads + Wait + Sync>(
     Ok(got == status && sink.bytes.as_slice() == told.as_bytes())
 }
 
-/// The greatest length of a script, and that of a script, a line REPORT and a report together, in bytes.
-const SCRIPT_BYTES: usize = 1_048_576;
-
+/// The greatest length of a script, a line REPORT and a report together, in bytes.
 const TEXT_BYTES: usize = 16_777_216;
 
-// Blank lines, so that the script has so many bytes, and then a report.
-fn long_script(alloc: Global, bytes: usize) -> Result<MemSource, AllocError> {
+/// A line of 64 bytes that says nothing, and how many of them make a script of the greatest length.
+const NOTHING: &str = "* A line of sixty-four bytes, with its end, which says nothing.\n";
+
+const MOST_LINES: usize = 16_384;
+
+// A script of the greatest length with these bytes more, and then a report.
+fn long_script(alloc: Global, more: &str) -> Result<MemSource, AllocError> {
     let mut source = source_of(alloc, "", "", &[])?;
-    source.bytes.resize(bytes, b'\n')?;
+    let lines = NOTHING.as_bytes().repeat(alloc, MOST_LINES)?;
+    source.bytes.extend_from_slice(lines.as_slice())?;
+    source.bytes.extend_from_slice(more.as_bytes())?;
     source
         .bytes
         .extend_from_slice(b"REPORT\nTRANSCRIPT OP 0\nEND\n")?;
@@ -389,9 +394,9 @@ fn long_script(alloc: Global, bytes: usize) -> Result<MemSource, AllocError> {
 
 #[test]
 fn long_scripts(rt: HostRuntime) -> Result<(), Fail> {
-    let mut longest = long_script(rt.alloc(), SCRIPT_BYTES)?;
+    let mut longest = long_script(rt.alloc(), "")?;
     assert!(rt; ends_with(&rt, rt.alloc(), &mut longest, 0, "YES 0\n")?);
-    let mut longer = long_script(rt.alloc(), SCRIPT_BYTES + 1)?;
+    let mut longer = long_script(rt.alloc(), "\n")?;
     assert!(rt; ends_with(&rt, rt.alloc(), &mut longer, 7, "TOOLONG 1048576\n")?);
     Ok(())
 }
