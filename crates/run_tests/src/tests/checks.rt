@@ -1,13 +1,13 @@
 //! Reports that are judged, by the whole program.
 use super::runs::{Given, run_into, sink_of, source_of};
-use super::{MEMBERS, POLICY, policy_of};
+use super::{FOUR, FOUR_DONE, FOUR_LINES, MEMBERS, POLICY, policy_of};
 use plex_run::sources::MemSource;
 use std::alloc::{AllocError, Global};
 use std::sync::Wait;
 use std::test::Fail;
 use std::thread::Threads;
 
-/// Lines of two connectors behind the policy, and a report of them in three parts: the policy is the first.
+/// Lines of two connectors behind the policy. A report of them begins with the policy, too.
 const LINES: &str = "A GBP CONNECT DELETE\n\
     B GBP CONNECT DELETE\n\
     A GBP READ P1 0\n\
@@ -16,7 +16,7 @@ const LINES: &str = "A GBP CONNECT DELETE\n\
     A GBP TEST 0\n\
     B GBP TEST 5\n";
 
-/// The report's history and transcripts: its line 8 is the first of them, and it has 28.
+/// What the report has behind the policy, from its line 8 on. It has 28.
 const SHOWN: &str = "HISTORY GBP 7\n\
     1 A CONNECT DELETE -> OK NEW CF1\n\
     2 B CONNECT DELETE -> OK NEW CF1\n\
@@ -42,7 +42,7 @@ const SHOWN: &str = "HISTORY GBP 7\n\
 /// The line between a script and its report.
 const BETWEEN: &str = "REPORT\n";
 
-// The status of an answer, and its line.
+// The status of an answer.
 fn status_of(answer: &str) -> u8 {
     if answer.starts_with("YES ") { 0 } else { 9 }
 }
@@ -202,6 +202,63 @@ const OTHER_CALLS: [Altered; 2] = [
 fn other_calls(rt: HostRuntime) -> Result<(), Fail> {
     for (part, other, answer) in OTHER_CALLS {
         assert!(rt; answers(&rt, rt.alloc(), part, other, answer)?, "{other}");
+    }
+    Ok(())
+}
+
+/// Of four structures the first that is wrong is told, whatever those behind it have; and of callers
+/// the first. The policy has 13 lines, so the second entry of QUEUE stands in line 20.
+const OF_FOUR: [Altered; 8] = [
+    ("a CHANGED 1 -> OK", "a CHANGED 1 -> NODATA", "NO PAGES 2"),
+    ("DATA b -> ID #1", "DATA b -> ID #2", "NO QUEUE 2"),
+    ("EXCL -> GRANTED", "EXCL -> PENDING 1", "NO LOCKS 2"),
+    (
+        "READ P1 0 -> NODATA",
+        "READ P1 0 -> DATA a CHANGED",
+        "NO COPIES 2",
+    ),
+    (
+        "GRANTED\n3 C DISCONNECT -> OK\nHISTORY COPIES 3\n1 D CONNECT DELETE -> OK NEW CF1",
+        "PENDING 1\n3 C DISCONNECT -> OK\nHISTORY COPIES 3\n1 D CONNECT DELETE -> OK NEW CF2",
+        "NO LOCKS 2",
+    ),
+    (
+        "2 B WRITE 0 TAIL DATA b",
+        "2 B WRITE P1 0 a CHANGED 1",
+        "NO TEXT 20",
+    ),
+    ("PAGES 2\nPAGES 3", "QUEUE 2\nPAGES 3", "NO TRANSCRIPT A 2"),
+    ("QUEUE 1\nQUEUE 2", "QUEUE 2\nQUEUE 1", "NO TRANSCRIPT B 1"),
+];
+
+// Whether the report of the four is answered so with the other text in place of a part of it.
+fn answers_of_four<R: Threads + Wait + Sync>(
+    rt: &R,
+    alloc: Global,
+    part: &str,
+    other: &str,
+    answer: &str,
+) -> Result<bool, AllocError> {
+    let Some((front, back)) = FOUR_DONE.split_once(part) else {
+        return Ok(false);
+    };
+    let rest = format!(in alloc; "{FOUR_LINES}{BETWEEN}{FOUR}{front}{other}{back}")?;
+    let given = Given {
+        words: "check",
+        policy: FOUR,
+        lines: &rest,
+    };
+    let text = format!(in alloc; "{answer}\n")?;
+    given.ends(rt, alloc, status_of(answer), &text)
+}
+
+#[test]
+fn the_first_of_four(rt: HostRuntime) -> Result<(), Fail> {
+    for (part, other, answer) in OF_FOUR {
+        assert!(rt;
+            answers_of_four(&rt, rt.alloc(), part, other, answer)?,
+            "{answer}"
+        );
     }
     Ok(())
 }
