@@ -8,3 +8,4 @@ pub mod KindLaws
 pub mod CallLaws
 pub mod MadeLaws
 pub mod PartLaws
+pub mod MissedLaws
