@@ -85,8 +85,10 @@ same_cut line n m who done told who2 done2 told2 one two =
 
 not_reserved : (word : List ℕ) → is_name word ≡ true
     → (same_word word (codes "OP") ≡ false) × (same_word word (codes "SYS") ≡ false)
-not_reserved word named = (other (codes "OP") (same_word word (codes "OP")) refl (λ same. grind (arith, and_parts)),
-    other (codes "SYS") (same_word word (codes "SYS")) refl (λ same. grind (arith, and_parts)))
+not_reserved word named = (
+  other (codes "OP") (same_word word (codes "OP")) refl (λ same. grind (arith, and_parts)),
+  other (codes "SYS") (same_word word (codes "SYS")) refl (λ same. grind (arith, and_parts)),
+)
   where
     other : (w : List ℕ) (b : Bool) → same_word word w ≡ b → (word ≡ w → ⊥) → b ≡ false
     other w false e apart = refl
@@ -182,7 +184,7 @@ lock-verb : (connectors : List Name16) (cmd : LockCmd) → has_words (lock_words
 lock-verb connectors (LockCmd.Release resource) = refl
 lock-verb connectors cmd = refl
 
-call-verb : (connectors : List Name16) (asked : AnyAsk) → has_words (any_words connectors asked) ≡ true
+pub call-verb : (connectors : List Name16) (asked : AnyAsk) → has_words (any_words connectors asked) ≡ true
 call-verb connectors (AnyAsk.Cache (Shell cmd)) = shell-verb connectors cmd
 call-verb connectors (AnyAsk.Cache (Content cmd)) = cache-verb cmd
 call-verb connectors (AnyAsk.List (Shell cmd)) = shell-verb connectors cmd
