@@ -1,7 +1,7 @@
 -- No entry in range is missed: its line is cut into its parts, and these make an entry.
-use Rattle.std.proofs.Common.{◌≡◌, ℕ, ◌<◌, ◌≤◌, ◌-◌, ◌^◌, ◌==◌, ◌&&◌, Bool, true, false, not, List, [], ◌∷◌, ◌++◌, Option, Some, None, option_map, zero, suc, length, get_or, codes, decimal, refl, sym, ap, ◌∙◌, arith, subst, IsSome, IfNone, IfSome, IfOk, Result}
+use Rattle.std.proofs.Common.{◌≡◌, ℕ, ◌<◌, ◌≤◌, ◌-◌, ◌^◌, ◌==◌, Bool, true, false, not, List, [], ◌∷◌, ◌++◌, Option, Some, None, option_map, zero, suc, length, get_or, codes, decimal, refl, sym, ap, ◌∙◌, arith, subst, IsSome, IfNone, IfSome, IfOk, Result}
 use Rattle.std.specs.List.{list_all, before_first, after_first}
-use Rattle.std.proofs.lemmas.Bool.{and_parts, and_from, false≢true}
+use Rattle.std.proofs.lemmas.Bool.{and_parts, false≢true}
 use Rattle.std.proofs.lemmas.List.{append-nil}
 use Rattle.std.proofs.lemmas.Bool.Decides.{nat_tests}
 use Rattle.cf_types.specs.Forms.{IsFacility}
@@ -55,7 +55,7 @@ use Rattle.report_lines.specs.Parts.{reply_value}
 use Rattle.report_lines.specs.Readable.{IsEntry, IsWhat, IsLossReply, IsMarkReply}
 use Rattle.report_lines.proofs.PartLaws.{split, same_arrow, word-free}
 use Rattle.report_lines.proofs.ReplyLines.{reply-good, reply-told}
-use Rattle.report_lines.proofs.EntryLaws.{has_words, behind-blank, cut_line, entry-told, if_ok_more, IsKind, replies-same, replies-some}
+use Rattle.report_lines.proofs.EntryLaws.{has_words, behind-blank, entry-told, if_ok_more, IsKind, replies-same, replies-some}
 use Rattle.report_lines.proofs.CallLaws.{mark-in}
 use Rattle.report_lines.proofs.MadeLaws.{made-plainly, one-made}
 use Rattle.report_lines.proofs.KindLaws.{some_of}

@@ -1,7 +1,7 @@
 use Rattle.std.proofs.Common.{sym, ◌∙◌}
 use Rattle.report_lines.proofs.EntryLaws.{lost_told}
 use Rattle.report_lines.proofs.PartLaws.{if_none}
-use Rattle.report_lines.proofs.MissedLaws.{lost_blank, lost_word, lost_number, when_none}
+use Rattle.report_lines.proofs.MissedLaws.{lost_blank, lost_number, when_none}
 use Rattle.report_lines.proofs.entries.lost_facility.Goals as goal
 
 pub returns-in_err-word-clause-none : goal.returns-in_err-word-clause-none
