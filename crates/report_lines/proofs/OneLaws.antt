@@ -1,5 +1,5 @@
 -- A line is that of one entry which is meant so.
-use Rattle.std.proofs.Common.{◌≡◌, ℕ, ◌≤◌, ◌<◌, ◌^◌, Bool, true, false, List, [], ◌∷◌, ◌++◌, Option, Some, None, length, codes, decimal, refl, sym, ap, ◌∙◌, subst}
+use Rattle.std.proofs.Common.{◌≡◌, ℕ, ◌≤◌, ◌<◌, ◌^◌, Bool, true, false, List, [], ◌∷◌, ◌++◌, Some, length, codes, decimal, refl, sym, ap, ◌∙◌, subst}
 use Rattle.std.proofs.lemmas.Bool.{false≢true}
 use Rattle.std.proofs.lemmas.List.{append-nil}
 use Rattle.std.specs.List.{list_all}
@@ -11,7 +11,7 @@ use Rattle.engine_api.specs.declared.asks.Reply.{Reply}
 use Rattle.engine_api.specs.declared.asks.What.{What}
 use Rattle.engine_api.specs.declared.asks.What.TheVariants as what
 use Rattle.engine_api.specs.declared.histories.Entry.{Entry}
-use Rattle.plex_spell.specs.Words.{same_word, line_of, tail_of}
+use Rattle.plex_spell.specs.Words.{line_of, tail_of}
 use Rattle.plex_spell.proofs.Choices.{same_word-of}
 use Rattle.plex_plain.specs.Naming.{caller_name, facility_word}
 use Rattle.plex_script.specs.declared.scripts.AnyAsk.{AnyAsk}
@@ -94,7 +94,8 @@ module _ {C R : Type 0} (of : Ask C → AnyAsk) (cmd_words : Script → C → Li
       let words = lines.reply_words answer_words script false r in
       let lost : List ℕ = codes "LOST " ++ facility_word cf in
       let mark : List (List ℕ) = codes "LOST" ∷ facility_word cf ∷ [] in
-      let said : tail_of mark ≡ 32 ∷ lost = ap (λ (w : List ℕ). 32 ∷ codes "LOST " ++ w) (append-nil (facility_word cf)) in
+      let said : tail_of mark ≡ 32 ∷ lost =
+      ap (λ (w : List ℕ). 32 ∷ codes "LOST " ++ w) (append-nil (facility_word cf)) in
       record {
         whole = entry-told n (codes "SYS") mark words lost (line_of words) said (told-tail false r);
         small = small;
@@ -147,7 +148,8 @@ module _ {C R : Type 0} (of : Ask C → AnyAsk) (cmd_words : Script → C → Li
       (same, by_ask asked' same q.1 told)
     where
       by_ask : (a : Ask C) → asked ≡ a
-          → IsPickedReply of answer_words row script on (is_of_vary (let w : What C = what.Call a in w)) (asked_side a) r'
+          → IsPickedReply of answer_words row script on (is_of_vary (let w : What C = what.Call a in w))
+          (asked_side a) r'
           → told_of (let w : What C = what.Call asked in w) r ≡ told_of (let w : What C = what.Call a in w) r'
           → r ≡ r'
       by_ask a same q' told' =
@@ -164,7 +166,8 @@ module _ {C R : Type 0} (of : Ask C → AnyAsk) (cmd_words : Script → C → Li
       → told_of w r ≡ told_of w' r' → IsSame by by' w w' r r'
   same-act by by' (what.Call asked) (what.Call asked') r r' h k p q who done told =
       let caller : by ≡ by' = same-by by by' h.0 k.0 who in
-      let mine = subst (λ (b : ConnId). IsPickedWhat of answer_words row script on b r' (what.Call asked')) (sym caller) q in
+      let mine = subst (λ (b : ConnId). IsPickedWhat of answer_words row script on b r' (what.Call asked'))
+      (sym caller) q in
       let both = same-call by asked asked' r r' p mine done told in
       record { who = caller; done = ap (λ (a : Ask C). what.Call a) both.0; told = both.1 }
   same-act by by' (what.Call asked) (what.Lost cf) r r' h k p q who done told = absurd (no-system by h.0 who)

@@ -1,5 +1,5 @@
 -- What is read of a line is the entry that is meant.
-use Rattle.std.proofs.Common.{◌≡◌, ℕ, Bool, true, false, List, ◌++◌, Option, Some, None, codes, refl, sym, ap, ◌∙◌, subst, Result, IfOk, IfSome}
+use Rattle.std.proofs.Common.{◌≡◌, ℕ, Bool, false, List, Option, Some, None, sym, ap, ◌∙◌, subst, Result, IfOk, IfSome}
 use Rattle.cf_types.specs.declared.names.Name16.{Name16}
 use Rattle.cf_types.specs.declared.numbers.CfId.{CfId}
 use Rattle.cf_types.specs.declared.numbers.ConnId.{ConnId}
