@@ -9,3 +9,5 @@ pub mod CallLaws
 pub mod MadeLaws
 pub mod PartLaws
 pub mod MissedLaws
+pub mod PickedLaws
+pub mod OneLaws

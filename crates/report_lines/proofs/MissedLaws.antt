@@ -184,7 +184,7 @@ lock-verb : (connectors : List Name16) (cmd : LockCmd) → has_words (lock_words
 lock-verb connectors (LockCmd.Release resource) = refl
 lock-verb connectors cmd = refl
 
-call-verb : (connectors : List Name16) (asked : AnyAsk) → has_words (any_words connectors asked) ≡ true
+pub call-verb : (connectors : List Name16) (asked : AnyAsk) → has_words (any_words connectors asked) ≡ true
 call-verb connectors (AnyAsk.Cache (Shell cmd)) = shell-verb connectors cmd
 call-verb connectors (AnyAsk.Cache (Content cmd)) = cache-verb cmd
 call-verb connectors (AnyAsk.List (Shell cmd)) = shell-verb connectors cmd

@@ -4,6 +4,7 @@ use Rattle.plex_report.specs.ReplyWords.{list_reply_words}
 use Rattle.reply_rows.specs.Contents.{list_row}
 use Rattle.reply_rows.specs.Within.{IsListReply}
 use Rattle.report_lines.proofs.KindLaws.{of_list, is-list, called, marked}
+use Rattle.report_lines.proofs.PickedLaws.{called_picked, marked_picked}
 use Rattle.report_lines.proofs.MissedLaws.{no_parts, no_facility, no_loss, no_caller, no_command, no_kind, no_reply}
 use Rattle.report_lines.proofs.entries.read_list_entry.Goals as goal
 
@@ -72,3 +73,17 @@ returns-clause-none c =
     c.in-Some.ensures.found _ c.items-connectors.ensures (sym c.if-is.ensures) c.in-Some-caller.by
     c.in-Some-caller.ensures.value _ c.in-Some-2.call c.in_ok-call.ensures.found call c.in-Some-list_call.asked
     c.call_entry.result c.in-Some-list_call.ensures.found c.call_entry.ensures
+
+pub returns-then-is-clause-picked : goal.returns-then-is-clause-picked
+returns-then-is-clause-picked c =
+    marked_picked of_list list_words list_reply_words list_row IsListReply is-list
+    c.args.script.now c.args.on c.requires.keeps c.args.line.now _ _ _ _ c.in-Some.ensures.found _
+    c.items-connectors.ensures c.in-Some-lost_facility.cf c.mark_entry.result c.mark_entry.ensures
+
+pub returns-clause-picked : goal.returns-clause-picked
+returns-clause-picked c =
+    let call : c.in_ok-call.field-0 ≡ Some c.in-Some-2.call = grind arith in
+    called_picked of_list list_words list_reply_words list_row IsListReply is-list
+    c.args.script.now c.args.on c.requires.keeps c.args.line.now _ _ _ _ c.in-Some.ensures.found _
+    c.items-connectors.ensures c.in-Some-caller.by _ c.in-Some-2.call c.in-Some-list_call.asked c.call_entry.result
+    c.in_ok-call.ensures.found call c.in-Some-list_call.ensures.found c.call_entry.ensures
