@@ -31,7 +31,7 @@ use Rattle.caller_waits.proofs.TestLaws.{test_seen, word_seen}
 use Rattle.check_model.specs.Judged.{IsGood, IsBadItem}
 use Rattle.check_model.proofs.ItemLaws.{IsSound, bad_whole, good_whole, bad_at, bad_fit, bad_more, bad_end}
 use Rattle.caller_check.specs.Untold.{IsFirstUntold, AreSeen}
-use Rattle.caller_check.specs.First.{IsTrueHere, IsFirstWrong, first_bad}
+use Rattle.caller_check.specs.First.{IsTrueHere, IsFirstWrong, least_bad}
 
 -- ---- the front of a list
 
@@ -376,7 +376,7 @@ module _ (script : Script) (histories : List AnyHistory) (conn : ConnId)
     abbrev answer : ℕ → Bool → Option ℕ
     answer m differs = if (m == length items) && not differs then None else Some (m + 1)
 
-    answer_is : (m : ℕ) (o : Option ℕ) → min count.fitting right ≡ m → first_bad count right (length items) ≡ o
+    answer_is : (m : ℕ) (o : Option ℕ) → min count.fitting right ≡ m → least_bad count right (length items) ≡ o
         → answer m count.differs ≡ o
     answer_is m o same is = sym (ap (λ (n : ℕ). answer n count.differs) same) ∙ is
 
@@ -386,7 +386,7 @@ module _ (script : Script) (histories : List AnyHistory) (conn : ConnId)
     least_far : far ≤ right → min count.fitting right ≡ far
     least_far few = min_left count.fitting right (omega (arith, few, far_is)) ∙ far_is
 
-    pub some_bad : (item : ℕ) → first_bad count right (length items) ≡ Some item → Bad item
+    pub some_bad : (item : ℕ) → least_bad count right (length items) ≡ Some item → Bad item
     some_bad item is = elim (cases_lt right far) [
       | inl less ↦
           let it = some_of right item ((right == length items) && not count.differs)
@@ -407,7 +407,7 @@ module _ (script : Script) (histories : List AnyHistory) (conn : ConnId)
               ∙ both_true (far == length items) (same_true far (length items) (omega (arith, past, far_within)))))
         ]
 
-    pub none_bad : first_bad count right (length items) ≡ None → IsGood script histories conn items
+    pub none_bad : least_bad count right (length items) ≡ None → IsGood script histories conn items
     none_bad is = elim (cases_lt right far) [
       | inl less ↦
           let it = none_of right ((right == length items) && not count.differs)

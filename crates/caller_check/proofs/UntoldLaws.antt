@@ -1,9 +1,9 @@
 -- A caller's items, one after another, held against the queues of its structures.
-use Rattle.std.proofs.Common.{◌≡◌, ◌≢◌, ℕ, zero, suc, ◌+◌, ◌-◌, ◌<◌, ◌≤◌, ◌==◌, inl, inr, ◌⊎◌, Bool, true, false, if◌then◌else◌, List, [], ◌∷◌, ◌++◌, length, take, drop, get_or, set, replicate, slice_get, Option, Some, None, refl, sym, ap, subst, ◌∙◌, arith}
+use Rattle.std.proofs.Common.{◌≡◌, ◌≢◌, ℕ, zero, suc, ◌+◌, ◌-◌, ◌<◌, ◌≤◌, ◌==◌, inl, inr, ◌⊎◌, Bool, true, false, if◌then◌else◌, List, [], ◌∷◌, ◌++◌, length, take, drop, get_or, set, replicate, slice_get, Option, Some, None, refl, sym, ap, subst, ◌∙◌, arith, append-nil, take_all}
 use Rattle.std.specs.Prelude.{All}
 use Rattle.std.proofs.lemmas.Bool.{cases_lt, false≢true}
 use Rattle.std.proofs.lemmas.Bool.Decides.{nat_tests}
-use Rattle.std.proofs.lemmas.List.{length-set, length-replicate, get_or-replicate, get_or-set_same, get_or-set_other, get_or_past, get_or_default, take_more, drop_more, take_all}
+use Rattle.std.proofs.lemmas.List.{length-set, length-replicate, get_or-replicate, get_or-set_same, get_or-set_other, get_or_past, get_or_default, take_more, drop_more, drop_all}
 use Rattle.std.proofs.lemmas.Option.{slice_get-get_or, slice_get_within, get_or_from_slice_get}
 use Rattle.std.specs.declared.vec.Vec.{Vec}
 use Rattle.std.specs.declared.alloc.Global.{Global}
@@ -150,6 +150,17 @@ module _ (forms : List StrForm) (tables : List (List QueueView)) (conn : ConnId)
     stays = λ _. sym (is ∙ ap (λ (n : ℕ). item_past vector waits item n) before_here);
   }
 
+-- a list in place of one that is as long
+written : (len : ℕ) (new old : List ℕ) → len ≡ length old → length new ≡ length old
+    → take len (new ++ drop (length new) old) ≡ new
+written len new old is same =
+    let none : drop (length new) old ≡ [] = drop_all (length new) old (omega (arith, same)) in
+    ap (λ (l : List ℕ). take len (new ++ l)) none ∙ ap (λ (l : List ℕ). take len l) (append-nil new)
+    ∙ take_all len new (omega (arith, is, same))
+
+pub less_of_same : (a m n : ℕ) → a < m → n ≡ m → a < n
+less_of_same a m n less is = omega (arith, less, is)
+
 -- ---- items
 
 self_same : (n : ℕ) → n == n ≡ true
@@ -191,10 +202,12 @@ module _ (forms : List StrForm) (histories : List AnyHistory) (tables : List (Li
     right = λ k item few at. absurd (omega (arith, few));
   }
 
-  pub ends : (places : List ℕ) → AreSoFar places (length items) → IsFirstUntold forms histories conn items (length items)
-  ends places so_far = record {
+  pub ends : (places : List ℕ) (n : ℕ) → AreSoFar places n → length items ≤ n
+      → IsFirstUntold forms histories conn items (length items)
+  ends places n so_far past' = record {
     within = omega arith;
-    tests = right_tests forms histories conn items (length items) so_far.right;
+    tests = right_tests forms histories conn items (length items)
+        (λ k item few at. so_far.right k item (omega (arith, few, past')) at);
     wrong = λ item form entries at known there tells. (
         let low : length items < length items = slice_get_within items (length items) item at in omega (arith, low));
   }
@@ -366,17 +379,23 @@ module _ (forms : List StrForm) (histories : List AnyHistory) (tables : List (Li
 
   -- ---- the same, as a loop over the places of items has it
 
-  module _ (long : length histories ≡ length forms) (seen : AreSeen items) (places next : List ℕ) (n : ℕ)
-      (so_far : AreSoFar places n) (d : Shown) (within : n < length items)
+  module _ (long : length histories ≡ length forms) (seen : AreSeen items) (places old next : List ℕ)
+      (old_is : old ≡ places) (n : ℕ) (so_far : AreSoFar places n) (d : Shown) (within : n < length items)
       (known : All (λ (item : Shown). (place_of item).0 < length forms) items) (done : Bool)
-      (taken : IsItemPast forms tables conn (get_or items n d) places next done) where
+      (taken : IsItemPast forms tables conn (get_or items n d) old next done) where
+    here_taken : IsItemPast forms tables conn (get_or items n d) places next done
+    here_taken = subst (λ (p : List ℕ). IsItemPast forms tables conn (get_or items n d) p next done) old_is taken
+
     pub stopped : done ≡ false → IsFirstUntold forms histories conn items n
     stopped is = stops long seen places n so_far (get_or items n d) within (slice_get-get_or items n d within)
-        (known n d within) taken.small taken.vector taken.waits taken.queue (taken.stays is)
+        (known n d within) here_taken.small here_taken.vector here_taken.waits here_taken.queue (here_taken.stays is)
 
-    pub stepped : done ≡ true → AreSoFar next (n + 1)
-    stepped is =
-        let it = taken.goes is in
-        subst (λ (p : List ℕ). AreSoFar p (n + 1)) (sym it.2)
+    pub stepped : done ≡ true → (len : ℕ) → len ≡ length places
+        → AreSoFar (take len (next ++ drop (length next) places)) (n + 1)
+    stepped is len len_is =
+        let it = here_taken.goes is in
+        let size : length next ≡ length places =
+        ap (λ (p : List ℕ). length p) it.2 ∙ length-set places (place_of (get_or items n d)).0 it.0 in
+        subst (λ (p : List ℕ). AreSoFar p (n + 1)) (sym (written len next places len_is size ∙ it.2))
         (goes long seen places n so_far (get_or items n d) within (slice_get-get_or items n d within) (known n d within)
-        taken.small taken.vector taken.waits taken.queue it.0 it.1)
+        here_taken.small here_taken.vector here_taken.waits here_taken.queue it.0 it.1)

@@ -1,6 +1,6 @@
 -- What is known of a caller where all histories are legal and have answered its tests.
 use Rattle.std.proofs.Common.{◌≡◌, ℕ, ◌+◌, ◌<◌, ◌≤◌, List, [], length, map, take, get_or, slice_get, Option, Some, None, refl, sym, ap, subst, ◌∙◌, arith}
-use Rattle.std.specs.Prelude.{All}
+use Rattle.std.specs.Prelude.{All, IfSome}
 use Rattle.std.proofs.lemmas.Option.{slice_get_within, slice_get-get_or}
 use Rattle.caller_slots.specs.RunShown.CfTypes.declared.forms.StrForm.{StrForm}
 use Rattle.caller_slots.specs.RunShown.CfTypes.declared.numbers.ConnId.{ConnId}
@@ -40,25 +40,25 @@ its_items printed conn few place is transcript value items are = record {
   are = are;
 }
 
-module _ (script : Script) (printed : Printed) (formed : IsWellFormed script) (is : IsPrintedOf script printed) where
+module _ (script : Script) (printed : Printed) (formed : IsWellFormed script) (is' : IsPrintedOf script printed) where
   known : All (λ (line : Line). line.on.0 < length script.structures) script.lines
   known k d low = (let line = formed.lines k d low in slice_get_within script.structures _ line.form line.known)
 
   pub kinds : AreOfKinds script.structures printed.histories
-  kinds x form entries known' there = (let it = is.histories x form entries known' there in it.kind)
+  kinds x form entries known' there = (let it = is'.histories x form entries known' there in it.kind)
 
   module _ (conn : ConnId) (few : conn.0 ≤ length script.connectors) where
     pub caller_within : conn.0 < length printed.transcripts
-    caller_within = (let size : length printed.transcripts ≡ length script.connectors + 1 = is.callers in
+    caller_within = (let size : length printed.transcripts ≡ length script.connectors + 1 = is'.callers in
         omega (arith, few, size))
 
     module _ (items : List Shown) (its : AreItemsOf printed conn items) where
       pub placed : All (λ (item : Shown). (place_of item).0 < length script.structures) items
       placed = subst (λ (l : List Shown). All (λ (item : Shown). (place_of item).0 < length script.structures) l)
-          (sym its.are) (is.items conn.0 its.transcript its.there)
+          (sym its.are) (is'.items conn.0 its.transcript its.there)
 
       pub placed_in : All (λ (item : Shown). (place_of item).0 < length printed.histories) items
-      placed_in = subst (λ (n : ℕ). All (λ (item : Shown). (place_of item).0 < n) items) (sym is.structures) placed
+      placed_in = subst (λ (n : ℕ). All (λ (item : Shown). (place_of item).0 < n) items) (sym is'.structures) placed
 
       module _ (legal : AreLegalBelow script printed.histories (length script.structures)) where
         all_legal : (x : ℕ) (form : StrForm) (entries : AnyHistory) → slice_get script.structures x ≡ Some form
@@ -73,7 +73,7 @@ module _ (script : Script) (printed : Printed) (formed : IsWellFormed script) (i
             by_history None none = tt
             by_history (Some entries) there =
                 let low = slice_get_within printed.histories on.0 entries there in
-                let same : length printed.histories ≡ length script.structures = is.structures in
+                let same : length printed.histories ≡ length script.structures = is'.structures in
                 let form = get_within script.structures on.0 (omega (arith, low, same)) in
                 calls_rise form.0 entries (all_legal on.0 form.0 entries form.1 there)
 
@@ -91,20 +91,42 @@ module _ (script : Script) (printed : Printed) (formed : IsWellFormed script) (i
             subst (λ (l : List Shown). IsGood script printed.histories conn l)
             (its.are ∙ ap (λ (t : Transcript). t.items) same) good
 
-        pub whole_bad : IsWalked script printed.histories conn items None → IsBadItemOf script printed conn 1
-        whole_bad broken =
-            bad_of 1 (unsound_bad script printed.histories conn is.structures known all_legal rise items placed broken)
+        module _ (forms : List StrForm) (forms_are : forms ≡ script.structures) (histories : List AnyHistory)
+            (histories_are : histories ≡ printed.histories) (o : Option Count)
+            (walked : IsWalked script histories conn items o) (right : ℕ)
+            (wrong : IsFirstWrong forms histories conn items right) (answer : Option ℕ)
+            (made : answer ≡ first_bad o right (length items)) where
+          walked_here : IsWalked script printed.histories conn items o
+          walked_here = subst (λ (h : List AnyHistory). IsWalked script h conn items o) histories_are walked
 
-        module _ (count : Count) (right : ℕ) (walked : IsWalked script printed.histories conn items (Some count))
-            (wrong : IsFirstWrong script.structures printed.histories conn items right) (answer : Option ℕ)
-            (made : answer ≡ first_bad count right (length items)) where
-          pub item_bad : (item : ℕ) → answer ≡ Some item → IsBadItemOf script printed conn item
-          item_bad item at = bad_of item (some_bad script printed.histories conn is.structures known all_legal rise items
-              placed count right walked wrong item (sym made ∙ at))
+          wrong_here : IsFirstWrong script.structures printed.histories conn items right
+          wrong_here = subst (λ (f : List StrForm). IsFirstWrong f printed.histories conn items right) forms_are
+              (subst (λ (h : List AnyHistory). IsFirstWrong forms h conn items right) histories_are wrong)
+
+          bad_at : (o : Option Count) → IsWalked script printed.histories conn items o → (item : ℕ)
+              → first_bad o right (length items) ≡ Some item → IsBadItem script printed.histories conn items item
+          bad_at None broken item at =
+              let is : 1 ≡ item = cc in
+              subst (IsBadItem script printed.histories conn items) is
+              (unsound_bad script printed.histories conn is'.structures known all_legal rise items placed broken)
+          bad_at (Some count) whole item at = some_bad script printed.histories conn is'.structures known all_legal rise
+              items placed count right whole wrong_here item at
+
+          good_at : (o : Option Count) → IsWalked script printed.histories conn items o
+              → first_bad o right (length items) ≡ None → IsGood script printed.histories conn items
+          good_at None broken at = absurd cc
+          good_at (Some count) whole at = none_bad script printed.histories conn is'.structures known all_legal rise items
+              placed count right whole wrong_here at
+
+          pub item_bad : IfSome answer (IsBadItemOf script printed conn)
+          item_bad = by_answer answer refl
+            where
+              by_answer : (a : Option ℕ) → answer ≡ a → IfSome a (IsBadItemOf script printed conn)
+              by_answer None is = tt
+              by_answer (Some item) is = bad_of item (bad_at o walked_here item (sym made ∙ is))
 
           pub item_good : answer ≡ None → IsGoodOf script printed conn
-          item_good none = good_of (none_bad script printed.histories conn is.structures known all_legal rise items placed
-              count right walked wrong (sym made ∙ none))
+          item_good none = good_of (good_at o walked_here (sym made ∙ none))
 
       module _ (tables : List (List QueueView)) (answered : AreAnswered script printed tables) where
         pub have_rows : HaveRows script.structures tables conn
@@ -129,3 +151,10 @@ module _ (script : Script) (printed : Printed) (formed : IsWellFormed script) (i
                 settled = it.settled;
               });
         }
+
+        pub have_queues_in : (forms : List StrForm) → forms ≡ script.structures → (histories : List AnyHistory)
+            → histories ≡ printed.histories → HaveQueuesInOrder forms histories tables conn items
+        have_queues_in forms forms_are histories histories_are =
+            subst (λ (f : List StrForm). HaveQueuesInOrder f histories tables conn items) (sym forms_are)
+            (subst (λ (h : List AnyHistory). HaveQueuesInOrder script.structures h tables conn items) (sym histories_are)
+            have_queues)

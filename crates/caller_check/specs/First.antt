@@ -48,6 +48,11 @@ pub record IsFirstWrong (forms : List StrForm) (histories : List AnyHistory) (co
       → IsTrueHere forms histories conn (take many items) item → ⊥
 
 -- from 1: the first item that isn't what is due, that isn't there, that is one too many, or that is wrong
-abbrev pub first_bad : Count → (right many : ℕ) → Option ℕ
-first_bad count right many =
+abbrev pub least_bad : Count → (right many : ℕ) → Option ℕ
+least_bad count right many =
     if (min count.fitting right == many) && not count.differs then None else Some (min count.fitting right + 1)
+
+-- the first where the calls aren't what the lines ask
+abbrev pub first_bad : Option Count → (right many : ℕ) → Option ℕ
+first_bad None right many = Some 1
+first_bad (Some count) right many = least_bad count right many

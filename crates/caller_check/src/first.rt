@@ -4,7 +4,7 @@ ghost use Rattle.caller_slots.specs.RunShown.Headline.{place_of};
 ghost use Rattle.caller_slots.specs.RunShown.PlexScript.WellFormed.{IsWellFormed};
 ghost use Rattle.check_model.specs.Judged.{AreLegalBelow, IsBadItemOf};
 ghost use Rattle.check_model.specs.Printings.{IsPrintedOf};
-ghost use Rattle.caller_check.specs.First.{AreItemsOf, HaveQueuesInOrder, IsFirstWrong, IsGoodOf, first_bad};
+ghost use Rattle.caller_check.specs.First.{AreItemsOf, HaveQueuesInOrder, IsFirstWrong, IsGoodOf, first_bad, least_bad};
 ghost use Rattle.caller_check.specs.Tables.{AreAnswered, rows_of};
 ghost use Rattle.caller_check.specs.Untold.{HaveRows};
 
@@ -46,15 +46,26 @@ fn first_wrong(
 }
 
 // The first bad item, from 1, where so many are what is due, and so many are right.
-fn first_bad(count: Count, right: usize, many: usize) -> Option<usize>
+fn least_bad(count: Count, right: usize, many: usize) -> Option<usize>
     requires { right < 18446744073709551615 }
-    ensures { result ≡ first_bad count right many }
+    ensures { result ≡ least_bad count right many }
 {
     let place = count.fitting.min(right);
     if place == many && !count.differs {
         return None;
     }
     Some(place + 1)
+}
+
+// The same; the first where the caller's calls aren't what its lines ask.
+fn first_bad(walked: Option<Count>, right: usize, many: usize) -> Option<usize>
+    requires { right < 18446744073709551615 }
+    ensures { result ≡ first_bad walked right many }
+{
+    match walked {
+        None => Some(1),
+        Some(count) => least_bad(count, right, many),
+    }
 }
 
 /// The first item of a caller's transcript that is wrong, from 1, where all histories are legal and
@@ -82,10 +93,8 @@ pub fn first_bad_item(
 {
     let items = items_of(printed, conn);
     let histories = printed.histories.items();
-    let Some(count) = walk(alloc, script, histories, conn, items)? else {
-        return Ok(Some(1));
-    };
     let structures = script.structures.items();
+    let walked = walk(alloc, script, histories, conn, items)?;
     let right = first_wrong(alloc, structures, histories, tables, conn, items)?;
-    Ok(first_bad(count, right, items.len()))
+    Ok(first_bad(walked, right, items.len()))
 }
