@@ -162,7 +162,7 @@ good-append : (xs ys : List (List ℕ)) → AreGood xs → AreGood ys → AreGoo
 good-append [] ys h k = k
 good-append (x ∷ xs) ys h k = (h.0, h.1, good-append xs ys h.2 k)
 
-mark-in : {R : Type 0} (connectors : List Name16) (In : R → Type 0) (r : Reply R) → IsMarkReply connectors r
+pub mark-in : {R : Type 0} (connectors : List Name16) (In : R → Type 0) (r : Reply R) → IsMarkReply connectors r
     → IsReply connectors In r
 mark-in {R} connectors In (reply.Shell (shell.Simplex cf)) h = h
 mark-in {R} connectors In (reply.Shell (shell.Stopped number)) h = h

@@ -93,7 +93,7 @@ stands_plainly script asked text h = word-same (tail_of (any_words script.connec
 
 -- ---- the parts of a line
 
-abbrev cut_line : ℕ → List ℕ → List ℕ → List ℕ → List ℕ
+abbrev pub cut_line : ℕ → List ℕ → List ℕ → List ℕ → List ℕ
 cut_line n who done told = decimal n ++ 32 ∷ (who ++ 32 ∷ (done ++ 32 ∷ 45 ∷ 62 ∷ 32 ∷ told))
 
 pub parts_told : (line front told digits rest who done : List ℕ) (n : ℕ)
@@ -159,12 +159,12 @@ abbrev pub has_words : List (List ℕ) → Bool
 has_words [] = false
 has_words (word ∷ words) = true
 
-behind-blank : (words : List (List ℕ)) (told : List ℕ) → has_words words ≡ true → line_of words ≡ told
+pub behind-blank : (words : List (List ℕ)) (told : List ℕ) → has_words words ≡ true → line_of words ≡ told
     → tail_of words ≡ 32 ∷ told
 behind-blank [] told some e = absurd (cc)
 behind-blank (word ∷ words) told some e = ap (λ (l : List ℕ). 32 ∷ l) e
 
-entry-told : (n : ℕ) (who : List ℕ) (xs ys : List (List ℕ)) (done told : List ℕ) → tail_of xs ≡ 32 ∷ done
+pub entry-told : (n : ℕ) (who : List ℕ) (xs ys : List (List ℕ)) (done told : List ℕ) → tail_of xs ≡ 32 ∷ done
     → tail_of ys ≡ 32 ∷ told → line_of (decimal n ∷ who ∷ xs ++ codes "->" ∷ ys) ≡ cut_line n who done told
 entry-told n who xs ys done told h k =
     let behind : tail_of (xs ++ codes "->" ∷ ys) ≡ tail_of xs ++ tail_of (codes "->" ∷ ys) =
@@ -216,6 +216,7 @@ pub record IsKind {C R : Type 0} (of : Ask C → AnyAsk) (cmd_words : Script →
     pub some : (script : Script) (r : R) → has_words (answer_words script r) ≡ true
     pub reads : (connectors : List Name16) → AreNames connectors → (vary : Bool) (side : Side)
         → IsRead connectors (row connectors) (In connectors) vary side
+    pub one : (a b : Ask C) → of a ≡ of b → a ≡ b
 
 module _ {C R : Type 0} (of : Ask C → AnyAsk) (cmd_words : Script → C → List (List ℕ))
     (answer_words : Script → R → List (List ℕ)) (row : List Name16 → Row R) (In : List Name16 → R → Type 0)
@@ -227,7 +228,7 @@ module _ {C R : Type 0} (of : Ask C → AnyAsk) (cmd_words : Script → C → Li
   replies-same vary (reply.Refused refusal) =
       ap (λ (ws : List (List ℕ)). codes "REFUSED" ∷ ws) (refusal-same script refusal)
 
-  replies-some : (vary : Bool) (r : Reply R) → has_words (lines.reply_words answer_words script vary r) ≡ true
+  pub replies-some : (vary : Bool) (r : Reply R) → has_words (lines.reply_words answer_words script vary r) ≡ true
   replies-some vary (reply.Shell answer) = shell-some script vary answer
   replies-some vary (reply.Content answer) = is.some script answer
   replies-some vary (reply.Refused refusal) = refl

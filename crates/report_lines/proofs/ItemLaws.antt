@@ -267,6 +267,17 @@ module _ (script : Script) (keeps : KeepsLimits script) where
       (item-in script shown h) (line-words script shown ∙ e) in
       absurd (cc)
 
+  -- a line is that of one item
+  pub item_one : (one other : Shown) → IsItem script one → IsItem script other
+      → shown_line script one ≡ shown_line script other → one ≡ other
+  item_one one other h k e =
+      let a = line-complete (IsShownAt script.structures) (shown_row script.structures) (shown_line script one) one rows
+      (item-in script one h) (line-words script one) in
+      let b = line-complete (IsShownAt script.structures) (shown_row script.structures) (shown_line script one) other rows
+      (item-in script other k) (line-words script other ∙ sym e) in
+      let both : Some one ≡ Some other = sym a ∙ b in
+      cc
+
   -- an item's line has no line feed
   pub item-clear : (shown : Shown) → IsItem script shown → list_all clear (shown_line script shown) ≡ true
   item-clear shown h =

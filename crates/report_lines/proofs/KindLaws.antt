@@ -51,6 +51,7 @@ is-cache = record {
   reads = λ connectors names vary side.
       reply-is connectors (cache_row connectors) (IsCacheReply connectors) names (cache-is connectors names)
       (cache-avoids connectors) vary side;
+  one = λ a b e. cc;
 }
   where
     asks : (script : Script) (asked : Ask CacheCmd)
@@ -75,6 +76,7 @@ is-list = record {
   reads = λ connectors names vary side.
       reply-is connectors (list_row connectors) (IsListReply connectors) names (list-is connectors names)
       (list-avoids connectors) vary side;
+  one = λ a b e. cc;
 }
   where
     asks : (script : Script) (asked : Ask ListCmd)
@@ -104,6 +106,7 @@ is-lock = record {
   some = some;
   reads = λ connectors names vary side.
       reply-is connectors lock_row IsLockReply names lock-is lock-avoids vary side;
+  one = λ a b e. cc;
 }
   where
     asks : (script : Script) (asked : Ask LockCmd)

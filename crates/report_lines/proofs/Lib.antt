@@ -8,3 +8,6 @@ pub mod KindLaws
 pub mod CallLaws
 pub mod MadeLaws
 pub mod PartLaws
+pub mod MissedLaws
+pub mod PickedLaws
+pub mod OneLaws

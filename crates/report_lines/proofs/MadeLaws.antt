@@ -166,7 +166,7 @@ module _ (script : Script) (on : StrNo) (keeps : KeepsLimits script) (low : on.0
       ap (any_words script.connectors) made.2 ∙ next-words script.connectors kind in
       inr (made.0, ap line_of same, made.2)
 
-stands-line : (words : List (List ℕ)) (text : List ℕ) → tail_of words ≡ 32 ∷ text → line_of words ≡ text
+pub stands-line : (words : List (List ℕ)) (text : List ℕ) → tail_of words ≡ 32 ∷ text → line_of words ≡ text
 stands-line [] text e = absurd (cc)
 stands-line (word ∷ words) text e = cc
 

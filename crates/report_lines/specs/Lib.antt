@@ -4,3 +4,4 @@ pub mod Items
 pub mod Parts
 pub mod Headings
 pub mod Entries
+pub mod Picked

@@ -15,11 +15,18 @@ ghost use Rattle.plex_report.specs.Lines.{is_of_vary, entry_line};
 ghost use Rattle.plex_report.specs.ReplyWords.{cache_reply_words, list_reply_words, lock_reply_words};
 ghost use Rattle.engine_api.specs.declared.asks.Ask.{Ask};
 ghost use Rattle.engine_api.specs.declared.asks.What.TheVariants as what;
+ghost use Rattle.engine_api.specs.declared.histories.Entry.{Entry};
+ghost use Rattle.cf_types.specs.declared.numbers.CfId.{CfId};
 ghost use Rattle.cf_types.specs.declared.cache_commands.CacheCmd.{CacheCmd};
+ghost use Rattle.cf_types.specs.declared.cache_commands.CacheReply.{CacheReply};
 ghost use Rattle.cf_types.specs.declared.list_commands.ListCmd.{ListCmd};
+ghost use Rattle.cf_types.specs.declared.list_commands.ListReply.{ListReply};
 ghost use Rattle.cf_types.specs.declared.lock_commands.LockCmd.{LockCmd};
+ghost use Rattle.cf_types.specs.declared.lock_commands.LockReply.{LockReply};
+ghost use Rattle.reply_rows.specs.Contents.{cache_row, list_row, lock_row};
 ghost use Rattle.reply_rows.specs.Within.{IsCacheReply, IsListReply, IsLockReply};
 ghost use Rattle.report_lines.specs.Entries.{is_free, IsCutLine, any_words, StandsAs, is_loss, loss_alone, call_entry, mark_entry};
+ghost use Rattle.report_lines.specs.Picked.{IsPicked};
 ghost use Rattle.report_lines.specs.Readable.{IsEntry};
 
 use crate::replies::reply_in;
@@ -120,6 +127,8 @@ fn parts(line: &[u8]) -> Option<EntryParts>
 fn lost_facility(done: &[u8]) -> Option<CfId>
     ensures found { IfSome result (λ cf. (done.now ≡ codes "LOST " ++ facility_word cf)
         × IsFacility cf) }
+    ensures none { IfNone result ((cf : CfId) → IsFacility cf
+        → done.now ≡ codes "LOST " ++ facility_word cf → ⊥) }
 {
     let (word, rest) = cut(done, b' ')?;
     if is(word, b"LOST") {
@@ -309,7 +318,8 @@ fn cache_call(call: AnyAsk) -> Option<Ask<CacheCmd>>
 
 /// Reads an entry of the history of a cache structure from its line, without the line feed: what
 /// prints as exactly this line, a call that some text makes or a mark, with a reply in range.
-/// `None` where the line is not seen to be one.
+/// Where several print alike, it is the one that is read of its words. `None` where no entry of the
+/// structure prints so.
 ///
 /// # Errors
 ///
@@ -325,6 +335,11 @@ pub fn read_cache_entry(
     ensures found { IfOk result (λ read. IfSome read (λ entry.
         (entry_line cache_words cache_reply_words script.now entry ≡ line.now)
         × IsEntry (λ asked. any.Cache asked) IsCacheReply script.now on entry)) }
+    ensures picked { IfOk result (λ read. IfSome read (IsPicked (λ asked. any.Cache asked)
+        cache_reply_words cache_row script.now on)) }
+    ensures none { IfOk result (λ read. IfNone read ((entry : Entry CacheCmd CacheReply)
+        → IsEntry (λ asked. any.Cache asked) IsCacheReply script.now on entry
+        → entry_line cache_words cache_reply_words script.now entry ≡ line.now → ⊥)) }
 {
     let Some(parts) = parts(line) else {
         return Ok(None);
@@ -361,7 +376,8 @@ fn list_call(call: AnyAsk) -> Option<Ask<ListCmd>>
 
 /// Reads an entry of the history of a list structure from its line, without the line feed: what
 /// prints as exactly this line, a call that some text makes or a mark, with a reply in range.
-/// `None` where the line is not seen to be one.
+/// Where several print alike, it is the one that is read of its words. `None` where no entry of the
+/// structure prints so.
 ///
 /// # Errors
 ///
@@ -377,6 +393,11 @@ pub fn read_list_entry(
     ensures found { IfOk result (λ read. IfSome read (λ entry.
         (entry_line list_words list_reply_words script.now entry ≡ line.now)
         × IsEntry (λ asked. any.List asked) IsListReply script.now on entry)) }
+    ensures picked { IfOk result (λ read. IfSome read (IsPicked (λ asked. any.List asked)
+        list_reply_words list_row script.now on)) }
+    ensures none { IfOk result (λ read. IfNone read ((entry : Entry ListCmd ListReply)
+        → IsEntry (λ asked. any.List asked) IsListReply script.now on entry
+        → entry_line list_words list_reply_words script.now entry ≡ line.now → ⊥)) }
 {
     let Some(parts) = parts(line) else {
         return Ok(None);
@@ -414,7 +435,8 @@ fn lock_call(call: &AnyAsk) -> Option<Ask<LockCmd>>
 
 /// Reads an entry of the history of a lock structure from its line, without the line feed: what
 /// prints as exactly this line, a call that some text makes or a mark, with a reply in range.
-/// `None` where the line is not seen to be one.
+/// Where several print alike, it is the one that is read of its words. `None` where no entry of the
+/// structure prints so.
 ///
 /// # Errors
 ///
@@ -430,6 +452,11 @@ pub fn read_lock_entry(
     ensures found { IfOk result (λ read. IfSome read (λ entry.
         (entry_line lock_words lock_reply_words script.now entry ≡ line.now)
         × IsEntry (λ asked. any.Lock asked) (λ _. IsLockReply) script.now on entry)) }
+    ensures picked { IfOk result (λ read. IfSome read (IsPicked (λ asked. any.Lock asked)
+        lock_reply_words (λ _. lock_row) script.now on)) }
+    ensures none { IfOk result (λ read. IfNone read ((entry : Entry LockCmd LockReply)
+        → IsEntry (λ asked. any.Lock asked) (λ _. IsLockReply) script.now on entry
+        → entry_line lock_words lock_reply_words script.now entry ≡ line.now → ⊥)) }
 {
     let Some(parts) = parts(line) else {
         return Ok(None);

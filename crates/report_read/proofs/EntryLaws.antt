@@ -53,9 +53,10 @@ module _ {E : Type 0} (prints : Script → E → List ℕ) (may : Script → Str
       → (prints script entry ≡ line) × may script on entry
       → may script on entry × IsRead script text from (Entered on ∷ []) (prints script entry ∷ []) [] to
   entry_read entry line to cut found =
-      let same = subst (λ (l : List ℕ). IsCut text from l to) (sym found.0) cut in
-      (found.1, line_read script text from to (Entered on) (prints script entry) [] same
-      (shows.told entry found.1, refl))
+      let same = subst (λ (l : List ℕ). IsCut text from l to) (sym found.0) cut in (
+        found.1,
+        line_read script text from to (Entered on) (prints script entry) [] same (shows.told entry found.1, refl),
+      )
 
   pub entry_other : (line : List ℕ) (to : Cursor) → KeepsLimits script → IsCut text from line to
       → ((entry : E) → may script on entry → prints script entry ≡ line → ⊥)
@@ -70,8 +71,10 @@ module _ {E : Type 0} (prints : Script → E → List ℕ) (may : Script → Str
   entry_missed line to o keeps cut none e = entry_other line to keeps cut
       (subst (λ (p : Option E). IfNone p ((entry : E) → may script on entry → prints script entry ≡ line → ⊥)) e none)
 
-  pub entry_found : (entry : E) (line : List ℕ) (to : Cursor) (o : Option E) → IsCut text from line to
-      → IfSome o (λ e. (prints script e ≡ line) × may script on e) → o ≡ Some entry
-      → may script on entry × IsRead script text from (Entered on ∷ []) (prints script entry ∷ []) [] to
-  entry_found entry line to o cut found e = entry_read entry line to cut
-      (subst (λ (p : Option E). IfSome p (λ e. (prints script e ≡ line) × may script on e)) e found)
+  pub entry_found : (meant : E → Type 0) (entry : E) (line : List ℕ) (to : Cursor) (o : Option E) → IsCut text from
+      line to → IfSome o (λ e. (prints script e ≡ line) × may script on e) → IfSome o meant → o ≡ Some entry → (may
+      script on entry × meant entry) × IsRead script text from (Entered on ∷ []) (prints script entry ∷ []) [] to
+  entry_found meant entry line to o cut found picked e =
+      let r = entry_read entry line to cut
+      (subst (λ (p : Option E). IfSome p (λ e. (prints script e ≡ line) × may script on e)) e found) in
+      ((r.0, subst (λ (p : Option E). IfSome p meant) e picked), r.1)

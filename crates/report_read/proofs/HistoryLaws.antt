@@ -25,6 +25,8 @@ use Rattle.plex_report.specs.Lines.{heading, entry_line, history_lines}
 use Rattle.plex_report.specs.Naming.{structure_name}
 use Rattle.plex_report.specs.ReplyWords.{cache_reply_words, list_reply_words, lock_reply_words}
 use Rattle.plex_report.specs.Report.{lines_each}
+use Rattle.reply_rows.specs.Contents.{cache_row, list_row, lock_row}
+use Rattle.report_lines.specs.Picked.{IsPicked}
 use Rattle.report_lines.specs.Readable.{IsEntry}
 use Rattle.reply_rows.specs.Within.{IsCacheReply, IsListReply, IsLockReply}
 use Rattle.report_texts.specs.Readable.{AreEntries}
@@ -57,32 +59,29 @@ module _ (script : Script) (number : ℕ) (text : List ℕ) (from : Cursor) wher
   pub heading_other : (line : List ℕ) (to : Cursor) → KeepsLimits script → IsCut text from line to
       → ((n : ℕ) → n < 2 ^ 64 → headed n ≡ line → ⊥)
       → IsStop script text from (history_slot script number ∷ []) (bad.Line (from.count + 1))
-  heading_other line to keeps cut none =
-      line_other script text from to (history_slot script number) line keeps cut
-      (λ left opens. none opens.0 opens.1 (sym opens.3))
+  heading_other line to keeps cut none = line_other script text
+      from to (history_slot script number) line keeps cut (λ left opens. none opens.0 opens.1 (sym opens.3))
 
 -- ---- the entries of each kind
 
 module _ (script : Script) (on : StrNo) where
-  pub shows_cache : kind_of script.structures on ≡ kinds.Cache
-      → Shows (entry_line cache_words cache_reply_words) (λ s o e. IsEntry (λ asked. ask.Cache asked) IsCacheReply s o e) script on
+  pub shows_cache : kind_of script.structures on ≡ kinds.Cache → Shows (entry_line cache_words cache_reply_words)
+      (λ s o e. IsEntry (λ asked. ask.Cache asked) IsCacheReply s o e) script on
   shows_cache is = record {
-    told = λ entry may.
-        subst (λ (k : Kind). IsEntryLine script on k (entry_line cache_words cache_reply_words script entry)) (sym is)
-        (entry, may, refl);
+    told = λ entry may. subst (λ (k : Kind). IsEntryLine script
+        on k (entry_line cache_words cache_reply_words script entry)) (sym is) (entry, may, refl);
     only = λ line h. subst (λ (k : Kind). IsEntryLine script on k line) is h;
   }
 
-  pub shows_list : IsList (kind_of script.structures on)
-      → Shows (entry_line list_words list_reply_words) (λ s o e. IsEntry (λ asked. ask.List asked) IsListReply s o e) script on
+  pub shows_list : IsList (kind_of script.structures on) → Shows (entry_line list_words list_reply_words)
+      (λ s o e. IsEntry (λ asked. ask.List asked) IsListReply s o e) script on
   shows_list is = record {
     told = λ entry may. go_told (kind_of script.structures on) is entry may;
     only = λ line h. go_only (kind_of script.structures on) is line h;
   }
     where
-      go_told : (k : Kind) → IsList k → (entry : Entry ListCmd ListReply)
-          → IsEntry (λ asked. ask.List asked) IsListReply script on entry
-          → IsEntryLine script on k (entry_line list_words list_reply_words script entry)
+      go_told : (k : Kind) → IsList k → (entry : Entry ListCmd ListReply) → IsEntry (λ asked. ask.List asked)
+          IsListReply script on entry → IsEntryLine script on k (entry_line list_words list_reply_words script entry)
       go_told kinds.Cache none entry may = absurd none
       go_told (kinds.List headers locks refs) some entry may = (entry, may, refl)
       go_told kinds.Lock none entry may = absurd none
@@ -94,13 +93,11 @@ module _ (script : Script) (on : StrNo) where
       go_only (kinds.List headers locks refs) some line h = h
       go_only kinds.Lock none line h = absurd none
 
-  pub shows_lock : kind_of script.structures on ≡ kinds.Lock
-      → Shows (entry_line lock_words lock_reply_words)
+  pub shows_lock : kind_of script.structures on ≡ kinds.Lock → Shows (entry_line lock_words lock_reply_words)
       (λ s o e. IsEntry (λ asked. ask.Lock asked) (λ connectors. IsLockReply) s o e) script on
   shows_lock is = record {
-    told = λ entry may.
-        subst (λ (k : Kind). IsEntryLine script on k (entry_line lock_words lock_reply_words script entry)) (sym is)
-        (entry, may, refl);
+    told = λ entry may. subst (λ (k : Kind). IsEntryLine script
+        on k (entry_line lock_words lock_reply_words script entry)) (sym is) (entry, may, refl);
     only = λ line h. subst (λ (k : Kind). IsEntryLine script on k line) is h;
   }
 
@@ -108,24 +105,26 @@ module _ (script : Script) (on : StrNo) where
 
 module _ (script : Script) (text : List ℕ) (from : Cursor) (on : StrNo) (n : ℕ) (to : Cursor) where
   pub caches_behind : (entries : List (Entry CacheCmd CacheReply)) → kind_of script.structures on ≡ kinds.Cache
-      → AreRead script text from (Entered on) (entry_line cache_words cache_reply_words script)
-      (λ e. IsEntry (λ asked. ask.Cache asked) IsCacheReply script on e) n entries to
-      → AreBehind script text from on.0 n (history.Cache entries) to
+      → AreRead script text from (Entered on) (entry_line cache_words cache_reply_words script) (λ e. IsEntry
+      (λ asked. ask.Cache asked) IsCacheReply script on e × IsPicked (λ asked. ask.Cache asked) cache_reply_words
+      cache_row script on e) n entries to → AreBehind script text from on.0 n (history.Cache entries) to
   caches_behind entries is read = record {
     kind = subst (λ (k : Kind). IsOfKind k (history.Cache entries)) (sym is) tt;
     count = read.long;
-    each = read.each;
+    each = λ j d low. (read.each j d low).0;
+    picked = λ j d low. (read.each j d low).1;
     read = read.read;
   }
 
   pub lists_behind : (entries : List (Entry ListCmd ListReply)) → IsList (kind_of script.structures on)
-      → AreRead script text from (Entered on) (entry_line list_words list_reply_words script)
-      (λ e. IsEntry (λ asked. ask.List asked) IsListReply script on e) n entries to
-      → AreBehind script text from on.0 n (history.List entries) to
+      → AreRead script text from (Entered on) (entry_line list_words list_reply_words script) (λ e. IsEntry
+      (λ asked. ask.List asked) IsListReply script on e × IsPicked (λ asked. ask.List asked) list_reply_words
+      list_row script on e) n entries to → AreBehind script text from on.0 n (history.List entries) to
   lists_behind entries is read = record {
     kind = go (kind_of script.structures on) is;
     count = read.long;
-    each = read.each;
+    each = λ j d low. (read.each j d low).0;
+    picked = λ j d low. (read.each j d low).1;
     read = read.read;
   }
     where
@@ -134,14 +133,15 @@ module _ (script : Script) (text : List ℕ) (from : Cursor) (on : StrNo) (n : �
       go (kinds.List headers locks refs) some = tt
       go kinds.Lock none = none
 
-  pub locks_behind : (entries : List (Entry LockCmd LockReply)) → kind_of script.structures on ≡ kinds.Lock
-      → AreRead script text from (Entered on) (entry_line lock_words lock_reply_words script)
-      (λ e. IsEntry (λ asked. ask.Lock asked) (λ connectors. IsLockReply) script on e) n entries to
-      → AreBehind script text from on.0 n (history.Lock entries) to
+  pub locks_behind : (entries : List (Entry LockCmd LockReply)) → kind_of script.structures on ≡ kinds.Lock → AreRead
+      script text from (Entered on) (entry_line lock_words lock_reply_words script) (λ e. IsEntry (λ asked. ask.Lock
+      asked) (λ connectors. IsLockReply) script on e × IsPicked (λ asked. ask.Lock asked) lock_reply_words
+      (λ connectors. lock_row) script on e) n entries to → AreBehind script text from on.0 n (history.Lock entries) to
   locks_behind entries is read = record {
     kind = subst (λ (k : Kind). IsOfKind k (history.Lock entries)) (sym is) tt;
     count = read.long;
-    each = read.each;
+    each = λ j d low. (read.each j d low).0;
+    picked = λ j d low. (read.each j d low).1;
     read = read.read;
   }
 
@@ -151,41 +151,37 @@ module _ (script : Script) (text : List ℕ) (from : Cursor) (x : ℕ) where
   pub history_is : (n : ℕ) (entries : AnyHistory) (mid to : Cursor) → n < 2 ^ 64
       → AreBehind script text mid x n entries to → IsHistory script x entries
   history_is n entries mid to small behind = record {
-    kind = λ form e. subst (λ (o : Option StrForm). IsOfKind (option_map_or (λ (form : StrForm). form.kind) o kinds.Cache) entries)
-        e behind.kind;
+    kind = λ form e. subst (λ (o : Option StrForm). IsOfKind
+        (option_map_or (λ (form : StrForm). form.kind) o kinds.Cache) entries) e behind.kind;
     count = subst (λ (k : ℕ). k < 2 ^ 64) (sym behind.count) small;
     each = behind.each;
+    picked = behind.picked;
   }
 
-  lines_are : (entries : AnyHistory)
-      → heading (codes "HISTORY") (structure_name script x) (any_length entries) ∷ entries_behind script entries ≡ history_lines script x entries
+  lines_are : (entries : AnyHistory) → heading (codes "HISTORY") (structure_name script x)
+      (any_length entries) ∷ entries_behind script entries ≡ history_lines script x entries
   lines_are (history.Cache entries) = refl
   lines_are (history.List entries) = refl
   lines_are (history.Lock entries) = refl
 
-  pub history_read : (n : ℕ) (entries : AnyHistory) (mid to : Cursor)
-      → IsRead script text from (history_slot script x ∷ []) (heading (codes "HISTORY") (structure_name script x) n ∷ [])
-      (replicate n (Entered (record { 0 = x }))) mid
-      → AreBehind script text mid x n entries to
+  pub history_read : (n : ℕ) (entries : AnyHistory) (mid to : Cursor) → IsRead script text
+      from (history_slot script x ∷ []) (heading (codes "HISTORY") (structure_name script x) n ∷ [])
+      (replicate n (Entered (record { 0 = x }))) mid → AreBehind script text mid x n entries to
       → IsRead script text from (history_slot script x ∷ []) (history_lines script x entries) [] to
   history_read n entries mid to first behind = record {
-    reads = subst (λ (ls : List (List ℕ)). Reads script text (at_of from) (history_slot script x ∷ []) (at_of to) ls [])
-        (ap (λ (k : ℕ). heading (codes "HISTORY") (structure_name script x) k ∷ entries_behind script entries)
-        (sym behind.count) ∙ lines_are entries)
-        (reads_on script text (at_of from) (at_of mid) (at_of to) (history_slot script x ∷ [])
-        (replicate n (Entered (record { 0 = x }))) []
-        (heading (codes "HISTORY") (structure_name script x) n ∷ []) (entries_behind script entries)
-        first.reads behind.read.reads);
+    reads = subst (λ (ls : List (List ℕ)). Reads script text (at_of from) (history_slot script x ∷ []) (at_of to)
+        ls []) (ap (λ (k : ℕ). heading (codes "HISTORY") (structure_name script x) k ∷ entries_behind script entries)
+        (sym behind.count) ∙ lines_are entries) (reads_on script text (at_of from) (at_of mid) (at_of to)
+        (history_slot script x ∷ []) (replicate n (Entered (record { 0 = x }))) [] (heading (codes "HISTORY")
+        (structure_name script x) n ∷ []) (entries_behind script entries) first.reads behind.read.reads);
     placed = behind.read.placed;
   }
 
-  pub history_stop : (n : ℕ) (mid : Cursor) (why : TextBad)
-      → IsRead script text from (history_slot script x ∷ []) (heading (codes "HISTORY") (structure_name script x) n ∷ [])
-      (replicate n (Entered (record { 0 = x }))) mid
+  pub history_stop : (n : ℕ) (mid : Cursor) (why : TextBad) → IsRead script text from (history_slot script x ∷ [])
+      (heading (codes "HISTORY") (structure_name script x) n ∷ []) (replicate n (Entered (record { 0 = x }))) mid
       → IsStop script text mid (replicate n (Entered (record { 0 = x }))) why
       → IsStop script text from (history_slot script x ∷ []) why
   history_stop n mid (bad.Line k) first stop =
-      stops_on script text (at_of from) (at_of mid) (history_slot script x ∷ [])
-      (replicate n (Entered (record { 0 = x }))) (heading (codes "HISTORY") (structure_name script x) n ∷ []) k
-      first.reads stop
+      stops_on script text (at_of from) (at_of mid) (history_slot script x ∷ []) (replicate
+      n (Entered (record { 0 = x }))) (heading (codes "HISTORY") (structure_name script x) n ∷ []) k first.reads stop
   history_stop n mid (bad.NoMemory cause) first stop = tt

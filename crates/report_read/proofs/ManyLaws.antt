@@ -34,10 +34,9 @@ module _ (script : Script) (text : List ℕ) (from : Cursor) where
           long = omega (arith, before.long, long);
           each = All-append P xs (x ∷ []) before.each (All-cons P x [] good (All-nil P));
           read = record {
-            reads = subst (λ (ls : List (List ℕ)). Reads script text (at_of from) (replicate (i + 1) slot) (at_of to) ls [])
-                (sym (map-append line xs (x ∷ [])))
-                (reads_more script text (at_of from) (at_of at) (at_of to) i slot (map line xs) (line x)
-                before.read.reads here.reads);
+            reads = subst (λ (ls : List (List ℕ)). Reads script text (at_of from) (replicate (i + 1) slot)
+                (at_of to) ls []) (sym (map-append line xs (x ∷ []))) (reads_more script text
+                (at_of from) (at_of at) (at_of to) i slot (map line xs) (line x) before.read.reads here.reads);
             placed = here.placed;
           };
         }
@@ -45,13 +44,11 @@ module _ (script : Script) (text : List ℕ) (from : Cursor) where
     pub one_pushed : (i : ℕ) (xs : List X) (x : X) (at to : Cursor) (ys : List X)
         → AreRead script text from slot line P i xs at → P x → IsRead script text at (slot ∷ []) (line x ∷ []) [] to
         → ys ≡ xs ++ x ∷ [] → AreRead script text from slot line P (i + 1) ys to
-    one_pushed i xs x at to ys before good here is =
-        subst (λ (zs : List X). AreRead script text from slot line P (i + 1) zs to) (sym is)
-        (one_read i xs x at to before good here)
+    one_pushed i xs x at to ys before good here is = subst (λ (zs : List X). AreRead script
+        text from slot line P (i + 1) zs to) (sym is) (one_read i xs x at to before good here)
 
-    pub one_stops : (i n : ℕ) (xs : List X) (at : Cursor) (why : TextBad)
-        → AreRead script text from slot line P i xs at → i < n → IsStop script text at (slot ∷ []) why
-        → IsStop script text from (replicate n slot) why
+    pub one_stops : (i n : ℕ) (xs : List X) (at : Cursor) (why : TextBad) → AreRead script text from slot line
+        P i xs at → i < n → IsStop script text at (slot ∷ []) why → IsStop script text from (replicate n slot) why
     one_stops i n xs at (bad.Line k) before low stop =
         stops_among script text (at_of from) (at_of at) i n k slot (map line xs) low before.read.reads stop
     one_stops i n xs at (bad.NoMemory cause) before low stop = tt
@@ -71,9 +68,8 @@ slots_more slot (suc n) first = ap (λ (k : ℕ). slots_each slot k first) (next
     over : (first n : ℕ) → first + 1 + n ≡ first + suc n
     over first n = omega arith
 
-slots_split : (slot : ℕ → Slot) (i n first : ℕ) → i < n
-    → slots_each slot n first
-    ≡ slots_each slot i first ++ ((slot (first + i) ∷ []) ++ slots_each slot (n - (i + 1)) (first + i + 1))
+slots_split : (slot : ℕ → Slot) (i n first : ℕ) → i < n → slots_each slot n first ≡ slots_each
+    slot i first ++ ((slot (first + i) ∷ []) ++ slots_each slot (n - (i + 1)) (first + i + 1))
 slots_split slot zero zero first low = absurd (omega (arith, low))
 slots_split slot zero (suc n) first low = here (first + 0) (suc n - (0 + 1)) (omega arith) (omega arith)
   where
@@ -82,25 +78,20 @@ slots_split slot zero (suc n) first low = here (first + 0) (suc n - (0 + 1)) (om
     here k m e f = ap (λ (a : ℕ). slot a ∷ slots_each slot n (a + 1)) e
         ∙ ap (λ (a : ℕ). slot k ∷ slots_each slot a (k + 1)) f
 slots_split slot (suc i) zero first low = absurd (omega (arith, low))
-slots_split slot (suc i) (suc n) first low =
-    ap (λ (ls : List Slot). slot first ∷ ls) (slots_split slot i n (first + 1) (omega (arith, low))
-        ∙ there (first + suc i) (suc n - (suc i + 1)) (omega arith) (omega arith))
+slots_split slot (suc i) (suc n) first low = ap (λ (ls : List Slot). slot first ∷ ls) (slots_split slot
+    i n (first + 1) (omega (arith, low)) ∙ there (first + suc i) (suc n - (suc i + 1)) (omega arith) (omega arith))
   where
     there : (k m : ℕ) → first + 1 + i ≡ k → n - (i + 1) ≡ m
-        → slots_each slot i (first + 1)
-        ++ ((slot (first + 1 + i) ∷ []) ++ slots_each slot (n - (i + 1)) (first + 1 + i + 1))
-        ≡ slots_each slot i (first + 1) ++ ((slot k ∷ []) ++ slots_each slot m (k + 1))
-    there k m e f =
-        ap (λ (a : ℕ). slots_each slot i (first + 1) ++ ((slot a ∷ []) ++ slots_each slot (n - (i + 1)) (a + 1))) e
-        ∙ ap (λ (a : ℕ). slots_each slot i (first + 1) ++ ((slot k ∷ []) ++ slots_each slot a (k + 1))) f
+        → slots_each slot i (first + 1) ++ ((slot (first + 1 + i) ∷ []) ++ slots_each slot (n - (i + 1))
+        (first + 1 + i + 1)) ≡ slots_each slot i (first + 1) ++ ((slot k ∷ []) ++ slots_each slot m (k + 1))
+    there k m e f = ap (λ (a : ℕ). slots_each slot i (first + 1) ++ ((slot a ∷ []) ++ slots_each slot (n - (i + 1))
+        (a + 1))) e ∙ ap (λ (a : ℕ). slots_each slot i (first + 1) ++ ((slot k ∷ []) ++ slots_each slot a (k + 1))) f
 
 lines_more : {X : Type 0} (lines : ℕ → X → List (List ℕ)) (first : ℕ) (xs : List X) (x : X)
     → lines_each lines first (xs ++ x ∷ []) ≡ lines_each lines first xs ++ lines (first + length xs) x
-lines_more lines first [] x =
-    append-nil (lines first x) ∙ ap (λ (k : ℕ). lines k x) (omega arith)
-lines_more {X} lines first (y ∷ xs) x =
-    ap (λ (ls : List (List ℕ)). lines first y ++ ls) (lines_more lines (first + 1) xs x
-        ∙ ap (λ (k : ℕ). lines_each lines (first + 1) xs ++ lines k x) (over first (length xs)))
+lines_more lines first [] x = append-nil (lines first x) ∙ ap (λ (k : ℕ). lines k x) (omega arith)
+lines_more {X} lines first (y ∷ xs) x = ap (λ (ls : List (List ℕ)). lines first y ++ ls) (lines_more
+    lines (first + 1) xs x ∙ ap (λ (k : ℕ). lines_each lines (first + 1) xs ++ lines k x) (over first (length xs)))
     ∙ sym (append_assoc (lines first y) (lines_each lines (first + 1) xs) (lines (first + suc (length xs)) x))
   where
     over : (first n : ℕ) → first + 1 + n ≡ first + suc n
@@ -144,25 +135,21 @@ module _ (script : Script) (text : List ℕ) (from : Cursor) {X : Type 0} (slot 
         each = each_at P (xs ++ x ∷ []) (at_more P 0 xs x (at_each P xs before.each)
             (subst (λ (k : ℕ). P k x) is good));
         read = record {
-          reads = subst (λ (s : List Slot). Reads script text (at_of from) s (at_of to) (lines_each lines 0 (xs ++ x ∷ [])) [])
-              (sym slots)
-              (subst (λ (ls : List (List ℕ)). Reads script text (at_of from) (slots_each slot i 0 ++ slot i ∷ []) (at_of to) ls [])
-              (sym told) both);
+          reads = subst (λ (s : List Slot). Reads script text (at_of from)
+              s (at_of to) (lines_each lines 0 (xs ++ x ∷ [])) []) (sym slots) (subst (λ (ls : List (List ℕ)). Reads
+              script text (at_of from) (slots_each slot i 0 ++ slot i ∷ []) (at_of to) ls []) (sym told) both);
           placed = here.placed;
         };
       }
 
   pub each_pushed : (i : ℕ) (xs : List X) (x : X) (at to : Cursor) (ys : List X)
-      → AreEachRead script text from slot lines P i xs at → P i x
-      → IsRead script text at (slot i ∷ []) (lines i x) [] to → ys ≡ xs ++ x ∷ []
-      → AreEachRead script text from slot lines P (i + 1) ys to
-  each_pushed i xs x at to ys before good here is =
-      subst (λ (zs : List X). AreEachRead script text from slot lines P (i + 1) zs to) (sym is)
-      (one_each i xs x at to before good here)
+      → AreEachRead script text from slot lines P i xs at → P i x → IsRead script text at
+      (slot i ∷ []) (lines i x) [] to → ys ≡ xs ++ x ∷ [] → AreEachRead script text from slot lines P (i + 1) ys to
+  each_pushed i xs x at to ys before good here is = subst (λ (zs : List X). AreEachRead script
+      text from slot lines P (i + 1) zs to) (sym is) (one_each i xs x at to before good here)
 
-  pub each_stops : (i n : ℕ) (xs : List X) (at : Cursor) (why : TextBad)
-      → AreEachRead script text from slot lines P i xs at → i < n → IsStop script text at (slot i ∷ []) why
-      → IsStop script text from (slots_each slot n 0) why
+  pub each_stops : (i n : ℕ) (xs : List X) (at : Cursor) (why : TextBad) → AreEachRead script text from slot lines
+      P i xs at → i < n → IsStop script text at (slot i ∷ []) why → IsStop script text from (slots_each slot n 0) why
   each_stops i n xs at (bad.Line k) before low stop =
       let i_is : i ≡ 0 + i = omega arith in
       let here : Stops script text (at_of at) (slot (0 + i) ∷ []) k =

@@ -17,12 +17,14 @@ use Rattle.report_texts.specs.Readable.{AreEntries}
 use Rattle.report_fronts.specs.Slots.{IsEntryLine}
 use Rattle.report_fronts.specs.Slots.Slot.{Entered}
 use Rattle.report_read.specs.declared.cursor.Cursor.{Cursor}
+use Rattle.report_read.specs.Picked.{ArePickedEntries}
 use Rattle.report_read.specs.Reads.{IsRead}
 
 -- a line is an entry's of the structure just where one of these prints so
 pub record Shows {E : Type 0} (prints : Script → E → List ℕ) (may : Script → StrNo → E → Type 0) (script : Script)
     (on : StrNo) : Type 0 where
-  pub told : (entry : E) → may script on entry → IsEntryLine script on (kind_of script.structures on) (prints script entry)
+  pub told : (entry : E) → may script on entry
+      → IsEntryLine script on (kind_of script.structures on) (prints script entry)
   pub only : (line : List ℕ) → IsEntryLine script on (kind_of script.structures on) line
       → (entry : E) × may script on entry × (line ≡ prints script entry)
 
@@ -32,11 +34,12 @@ entries_behind script (history.Cache entries) = map (entry_line cache_words cach
 entries_behind script (history.List entries) = map (entry_line list_words list_reply_words script) entries
 entries_behind script (history.Lock entries) = map (entry_line lock_words lock_reply_words script) entries
 
--- a history that a report may show of the structure with this number
+-- a history that a report may show of the structure with this number, each entry the one that is meant
 pub record IsHistory (script : Script) (x : ℕ) (entries : AnyHistory) : Type 0 where
   pub kind : (form : StrForm) → slice_get script.structures x ≡ Some form → IsOfKind form.kind entries
   pub count : any_length entries < 2 ^ 64
   pub each : AreEntries script (record { 0 = x }) entries
+  pub picked : ArePickedEntries script (record { 0 = x }) entries
 
 -- so many entries are read, behind the heading of the history of the structure with this number
 pub record AreBehind (script : Script) (text : List ℕ) (from : Cursor) (x n : ℕ) (entries : AnyHistory) (to : Cursor)
@@ -44,6 +47,7 @@ pub record AreBehind (script : Script) (text : List ℕ) (from : Cursor) (x n : 
   pub kind : IsOfKind (kind_of script.structures (record { 0 = x })) entries
   pub count : any_length entries ≡ n
   pub each : AreEntries script (record { 0 = x }) entries
+  pub picked : ArePickedEntries script (record { 0 = x }) entries
   pub read : IsRead script text from (replicate n (Entered (record { 0 = x }))) (entries_behind script entries) [] to
 
 abbrev pub IsList : Kind → Type 0

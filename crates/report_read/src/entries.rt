@@ -9,6 +9,8 @@ ghost use Rattle.plex_report.specs.CommandWords.{cache_words, list_words, lock_w
 ghost use Rattle.plex_report.specs.Lines.{entry_line};
 ghost use Rattle.plex_report.specs.ReplyWords.{cache_reply_words, list_reply_words, lock_reply_words};
 ghost use Rattle.reply_rows.specs.Within.{IsCacheReply, IsListReply, IsLockReply};
+ghost use Rattle.reply_rows.specs.Contents.{cache_row, list_row, lock_row};
+ghost use Rattle.report_lines.specs.Picked.{IsPicked};
 ghost use Rattle.report_lines.specs.Readable.{IsEntry};
 ghost use Rattle.report_fronts.specs.Slots.Slot.{Entered};
 ghost use Rattle.report_read.specs.Lines.{IsPlaced};
@@ -24,11 +26,14 @@ use plex_script::Script;
 use report_lines::{read_cache_entry, read_list_entry, read_lock_entry};
 use std::alloc::Global;
 
-/// An entry of a history, as a line shows it.
+/// An entry of a history of one kind, as a line shows it: what it prints, where it may stand in the
+/// history of a structure, and where it is the one that is meant of those that print alike.
 pub(crate) trait EntryLine: Sized {
     ghost prints: { Script → Self → List ℕ };
 
     ghost may: { Script → StrNo → Self → Type 0 };
+
+    ghost meant: { Script → StrNo → Self → Type 0 };
 
     /// Reads it from its line, without the line feed; `None` where no entry of the structure prints
     /// so.
@@ -42,6 +47,7 @@ pub(crate) trait EntryLine: Sized {
         requires known { on.0 < length script.now.structures }
         ensures found { IfOk result (λ read. IfSome read (λ entry.
             (prints script.now entry ≡ line.now) × may script.now on entry)) }
+        ensures picked { IfOk result (λ read. IfSome read (meant script.now on)) }
         ensures none { IfOk result (λ read. IfNone read ((entry : Self) → may script.now on entry
             → prints script.now entry ≡ line.now → ⊥)) };
 }
@@ -49,7 +55,9 @@ pub(crate) trait EntryLine: Sized {
 impl EntryLine for Entry<CacheCmd, CacheReply> {
     ghost prints = { entry_line cache_words cache_reply_words };
 
-    ghost may = { λ script on entry. IsEntry (λ asked. any.Cache asked) IsCacheReply script on entry };
+    ghost may = { IsEntry (λ asked. any.Cache asked) IsCacheReply };
+
+    ghost meant = { IsPicked (λ asked. any.Cache asked) cache_reply_words cache_row };
 
     fn read(
         alloc: Global,
@@ -64,7 +72,9 @@ impl EntryLine for Entry<CacheCmd, CacheReply> {
 impl EntryLine for Entry<ListCmd, ListReply> {
     ghost prints = { entry_line list_words list_reply_words };
 
-    ghost may = { λ script on entry. IsEntry (λ asked. any.List asked) IsListReply script on entry };
+    ghost may = { IsEntry (λ asked. any.List asked) IsListReply };
+
+    ghost meant = { IsPicked (λ asked. any.List asked) list_reply_words list_row };
 
     fn read(
         alloc: Global,
@@ -79,7 +89,9 @@ impl EntryLine for Entry<ListCmd, ListReply> {
 impl EntryLine for Entry<LockCmd, LockReply> {
     ghost prints = { entry_line lock_words lock_reply_words };
 
-    ghost may = { λ script on entry. IsEntry (λ asked. any.Lock asked) (λ _. IsLockReply) script on entry };
+    ghost may = { IsEntry (λ asked. any.Lock asked) (λ _. IsLockReply) };
+
+    ghost meant = { IsPicked (λ asked. any.Lock asked) lock_reply_words (λ _. lock_row) };
 
     fn read(
         alloc: Global,
@@ -91,7 +103,7 @@ impl EntryLine for Entry<LockCmd, LockReply> {
     }
 }
 
-// Reads an entry.
+// Reads an entry from the next line.
 fn one_entry<E: EntryLine + Drop>(
     alloc: Global,
     script: &Script,
@@ -104,8 +116,9 @@ fn one_entry<E: EntryLine + Drop>(
     requires small { length text.now < 4294967295 }
     requires placed { IsPlaced text.now from }
     requires shows { Shows E.prints E.may script.now on }
-    ensures read { IfOk result (λ step. E.may script.now on step.0 × IsRead script.now text.now from
-        (Entered on ∷ []) (E.prints script.now step.0 ∷ []) [] step.1) }
+    ensures read { IfOk result (λ step. (E.may script.now on step.0 × E.meant script.now on step.0)
+        × IsRead script.now text.now from (Entered on ∷ []) (E.prints script.now step.0 ∷ []) []
+        step.1) }
     ensures stop { IfErr result (IsStop script.now text.now from (Entered on ∷ [])) }
 {
     let Some((line, to)) = next_line(text, from) else {
@@ -121,7 +134,7 @@ fn one_entry<E: EntryLine + Drop>(
     }
 }
 
-// Reads so many entries.
+/// Reads so many entries of a structure, one line each.
 #[tactic(auto, using(crate::proofs::ManyLaws::none_read))]
 pub(crate) fn read_entries<E: EntryLine + Drop>(
     alloc: Global,
@@ -137,7 +150,8 @@ pub(crate) fn read_entries<E: EntryLine + Drop>(
     requires placed { IsPlaced text.now from }
     requires shows { Shows E.prints E.may script.now on }
     ensures read { IfOk result (λ step. AreRead script.now text.now from (Entered on)
-        (E.prints script.now) (E.may script.now on) n step.0 step.1) }
+        (E.prints script.now) (λ entry. E.may script.now on entry × E.meant script.now on entry) n
+        step.0 step.1) }
     ensures stop { IfErr result (IsStop script.now text.now from (replicate n (Entered on))) }
 {
     let mut entries = Listing::new(alloc);

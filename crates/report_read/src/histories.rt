@@ -14,7 +14,9 @@ ghost use Rattle.report_read.specs.Histories.{IsHistory, AreBehind, IsList};
 
 use crate::cursor::{Cursor, TextBad, next_line};
 use crate::entries::read_entries;
-use cf_types::{CacheCmd, CacheReply, Kind, ListCmd, ListReply, Listing, LockCmd, LockReply, StrNo};
+use cf_types::{
+    CacheCmd, CacheReply, Kind, ListCmd, ListReply, Listing, LockCmd, LockReply, StrNo,
+};
 use engine_api::{Entry, History};
 use plex_script::{AnyHistory, Script};
 use report_lines::history_heading;
@@ -33,7 +35,8 @@ fn heading(
     requires small { length text.now < 4294967295 }
     requires placed { IsPlaced text.now from }
     ensures small { IfOk result (λ step. step.0 < 2 ^ 64) }
-    ensures read { IfOk result (λ step. IsRead script.now text.now from (history_slot script.now number ∷ [])
+    ensures read { IfOk result (λ step. IsRead script.now text.now from
+        (history_slot script.now number ∷ [])
         (heading (codes "HISTORY") (structure_name script.now number) step.0 ∷ [])
         (replicate step.0 (Entered (record { 0 = number }))) step.1) }
     ensures stop { IfErr result (IsStop script.now text.now from
@@ -70,11 +73,10 @@ fn cache_history(
     ensures read { IfOk result (λ step. AreBehind script.now text.now from on.0 n step.0 step.1) }
     ensures stop { IfErr result (IsStop script.now text.now from (replicate n (Entered on))) }
 {
-    let (entries, to) = read_entries::<Entry<CacheCmd, CacheReply>>(alloc, script, on, n, text, from)?;
-    Ok((
-        AnyHistory::Cache(History::from_vec(entries.into_vec())),
-        to,
-    ))
+    let (entries, to) = read_entries::<Entry<CacheCmd, CacheReply>>(
+        alloc, script, on, n, text, from,
+    )?;
+    Ok((AnyHistory::Cache(History::from_vec(entries.into_vec())), to))
 }
 
 // Reads so many entries of a list structure.
@@ -95,11 +97,10 @@ fn list_history(
     ensures read { IfOk result (λ step. AreBehind script.now text.now from on.0 n step.0 step.1) }
     ensures stop { IfErr result (IsStop script.now text.now from (replicate n (Entered on))) }
 {
-    let (entries, to) = read_entries::<Entry<ListCmd, ListReply>>(alloc, script, on, n, text, from)?;
-    Ok((
-        AnyHistory::List(History::from_vec(entries.into_vec())),
-        to,
-    ))
+    let (entries, to) = read_entries::<Entry<ListCmd, ListReply>>(
+        alloc, script, on, n, text, from,
+    )?;
+    Ok((AnyHistory::List(History::from_vec(entries.into_vec())), to))
 }
 
 // Reads so many entries of a lock structure.
@@ -120,11 +121,10 @@ fn lock_history(
     ensures read { IfOk result (λ step. AreBehind script.now text.now from on.0 n step.0 step.1) }
     ensures stop { IfErr result (IsStop script.now text.now from (replicate n (Entered on))) }
 {
-    let (entries, to) = read_entries::<Entry<LockCmd, LockReply>>(alloc, script, on, n, text, from)?;
-    Ok((
-        AnyHistory::Lock(History::from_vec(entries.into_vec())),
-        to,
-    ))
+    let (entries, to) = read_entries::<Entry<LockCmd, LockReply>>(
+        alloc, script, on, n, text, from,
+    )?;
+    Ok((AnyHistory::Lock(History::from_vec(entries.into_vec())), to))
 }
 
 // Reads so many entries of a structure, whatever its kind.
@@ -184,9 +184,9 @@ pub(crate) fn read_histories(
     requires keeps { KeepsLimits script.now }
     requires small { length text.now < 4294967295 }
     requires placed { IsPlaced text.now from }
-    ensures read { IfOk result (λ step. AreEachRead script.now text.now from (history_slot script.now)
-        (history_lines script.now) (IsHistory script.now) (length script.now.structures)
-        step.0 step.1) }
+    ensures read { IfOk result (λ step. AreEachRead script.now text.now from
+        (history_slot script.now) (history_lines script.now) (IsHistory script.now)
+        (length script.now.structures) step.0 step.1) }
     ensures stop { IfErr result (IsStop script.now text.now from
         (slots_each (history_slot script.now) (length script.now.structures) 0)) }
 {

@@ -5,9 +5,11 @@
 mod cursor;
 mod entries;
 mod histories;
+mod laws;
 mod policy;
 mod report;
 mod transcripts;
 
 pub use cursor::TextBad;
+pub use laws::one_report;
 pub use report::read_report;

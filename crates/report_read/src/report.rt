@@ -6,6 +6,7 @@ ghost use Rattle.plex_report.specs.Report.{transcripts_lines};
 ghost use Rattle.report_texts.specs.Texts.{IsReport};
 ghost use Rattle.report_fronts.specs.Slots.{end_slots, caller_slots_from};
 ghost use Rattle.report_read.specs.Lines.{IsPlaced};
+ghost use Rattle.report_read.specs.Picked.{ArePicked};
 ghost use Rattle.report_read.specs.Reads.{TellsLine};
 ghost use Rattle.report_read.specs.Wholes.{AreTranscripts, EndsWith, IsEndStop};
 
@@ -70,6 +71,7 @@ pub fn read_report(alloc: Global, script: &Script, text: &[u8]) -> Result<Printe
     requires keeps { KeepsLimits script.now }
     requires small { length text.now < 4294967295 }
     ensures report { IfOk result (IsReport script.now text.now) }
+    ensures picked { IfOk result (ArePicked script.now) }
     ensures line { IfErr result (TellsLine script.now text.now) }
 {
     let start = Cursor { at: 0, count: 0 };

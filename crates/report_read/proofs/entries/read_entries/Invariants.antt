@@ -4,4 +4,4 @@ use Rattle.report_read.proofs.entries.read_entries.Given as goal
 
 abbrev pub invariant-loop : goal.invariant-loop
 invariant-loop g l = AreRead l.script l.text l.fn.from (Entered l.on) (g.E.EntryLine.prints l.script)
-    (g.E.EntryLine.may l.script l.on) l.counter l.entries l.to
+    (λ entry. g.E.EntryLine.may l.script l.on entry × g.E.EntryLine.meant l.script l.on entry) l.counter l.entries l.to

@@ -7,7 +7,6 @@ use Rattle.report_read.proofs.histories.cache_history.Goals as goal
 pub returns-clause-read : goal.returns-clause-read
 returns-clause-read c =
     let same : c.from_vec.result ≡ c.in_ok-entries.entries = c.from_vec.ensures ∙ c.into_vec.ensures in
-    subst (λ (xs : _). AreBehind c.args.script.now c.args.text.now c.args.from c.args.on.0 c.args.n (history.Cache xs)
-    c.in_ok-entries.to) (sym same)
-    (caches_behind c.args.script.now c.args.text.now c.args.from c.args.on c.args.n c.in_ok-entries.to c.in_ok-entries.entries
-    c.requires.kind c.in_ok-entries.ensures.read)
+    subst (λ (xs : _). AreBehind c.args.script.now c.args.text.now c.args.from c.args.on.0 c.args.n
+    (history.Cache xs) c.in_ok-entries.to) (sym same) (caches_behind c.args.script.now c.args.text.now c.args.from
+    c.args.on c.args.n c.in_ok-entries.to c.in_ok-entries.entries c.requires.kind c.in_ok-entries.ensures.read)

@@ -17,8 +17,7 @@ returns-in_err-history-clause-stop c =
     c.loop-number.invariant low c.in_err-history.ensures.stop)
 
 pub loop-number-preserved : goal.loop-number-preserved
-loop-number-preserved c =
-    each_pushed c.args.script.now c.args.text.now c.args.from (history_slot c.args.script.now)
+loop-number-preserved c = each_pushed c.args.script.now c.args.text.now c.args.from (history_slot c.args.script.now)
     (history_lines c.args.script.now) (IsHistory c.args.script.now) c.loop-number.number c.loop-number.histories
     c.in_ok-history.history c.loop-number.to c.in_ok-history.next c.push.new.self c.loop-number.invariant
     c.in_ok-history.ensures.read.0 c.in_ok-history.ensures.read.1 c.in_ok-push.ensures.ok

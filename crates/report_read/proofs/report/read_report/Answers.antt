@@ -14,3 +14,6 @@ pub returns-clause-report : goal.returns-clause-report
 returns-clause-report c = report_read c.args.script.now c.args.text.now c.in_ok-behind.behind c.in_ok-histories.to
     c.in_ok-histories.histories c.in_ok-transcripts.transcripts c.in_ok-behind.ensures.read
     c.in_ok-histories.ensures.read c.in_ok-transcripts.ensures.read
+
+pub returns-clause-picked : goal.returns-clause-picked
+returns-clause-picked c = λ x entries there. (c.in_ok-histories.ensures.read.each x entries there).picked
