@@ -10,4 +10,4 @@ loop-k-preserved c =
     ≡ option_map line_text (slice_get (policy_lines c.args.script.now) c.loop-k.k) = search rules in
     policy_goes_on c.args.script.now c.args.text.now c.args.from c.loop-k.k c.in-Some.wanted.items
     c.without_feed.result.now c.loop-k.to c.in_ok-to.to c.loop-k.invariant here
-    (λ line e. c.without_feed.ensures line (c.as_slice.ensures.value ∙ e)) c.in_ok-to.ensures
+    (λ line e. c.without_feed.ensures line (c.as_slice.ensures.value ∙ e)) c.in_ok-to.ensures.read
