@@ -62,10 +62,10 @@ use Rattle.report_lines.proofs.KindLaws.{some_of}
 
 -- ---- a line is cut in one way
 
-pub same_cut : (line : List ℕ) (n m : ℕ) (who done told who2 done2 told2 : List ℕ)
+pub one_cut : (line : List ℕ) (n m : ℕ) (who done told who2 done2 told2 : List ℕ)
     → IsCutLine line n who done told → IsCutLine line m who2 done2 told2
     → (n ≡ m) × (who ≡ who2) × (done ≡ done2) × (told ≡ told2)
-same_cut line n m who done told who2 done2 told2 one two =
+one_cut line n m who done told who2 done2 told2 one two =
     let s = split line n who done told one in
     let t = split line m who2 done2 told2 two in
     let same = same_arrow line m who2 done2 told2 two s.front told (s.arrow, one.no_arrow) in
@@ -105,7 +105,7 @@ connector-own connectors n names most =
     let is = caller-word connectors (suc n) no_name (omega arith) most in
     let named = (names.0 (suc n - 1) no_name (omega (arith, most))).1 in
     let own = not_reserved (name_word name) named in
-    (ap (λ (w : List ℕ). same_word w (codes "OP")) is ∙ own.0, ap (λ (w : List ℕ). same_word w (codes "SYS")) is ∙ own.1)
+    (rw is own.0, rw is own.1)
 
 pub caller-back : (connectors : List Name16) (n : ℕ) → AreNames connectors → n ≤ length connectors
     → caller_of connectors (caller_name connectors n) ≡ (let by : ConnId = record { 0 = n } in Some by)
@@ -317,7 +317,8 @@ module _ {C R : Type 0} (of : Ask C → AnyAsk) (cmd_words : Script → C → Li
       let told = line_of (words_told false r) in
       let lost : List ℕ = codes "LOST " ++ facility_word cf in
       let words : List (List ℕ) = codes "LOST" ∷ facility_word cf ∷ [] in
-      let said : tail_of words ≡ 32 ∷ lost = ap (λ (w : List ℕ). 32 ∷ codes "LOST " ++ w) (append-nil (facility_word cf)) in
+      let said : tail_of words ≡ 32 ∷ lost =
+      ap (λ (w : List ℕ). 32 ∷ codes "LOST " ++ w) (append-nil (facility_word cf)) in
       let whole = entry-told n (codes "SYS") words (words_told false r) lost told said (told-tail false r) in
       let in_r = mark-in script.connectors (In script.connectors) r h.2 in
       let read : reply_value script.connectors (row script.connectors) false Common told ≡ Some r =
@@ -363,20 +364,28 @@ module _ {C R : Type 0} (of : Ask C → AnyAsk) (cmd_words : Script → C → Li
 
   module _ (line : List ℕ) (n : ℕ) (who done told : List ℕ) (cut : IsCutLine line n who done told)
       (connectors : List Name16) (named : connectors ≡ script.connectors) where
+    call-cut : (l : IsCallLine line)
+        → (n ≡ l.number) × (who ≡ caller_name script.connectors l.by.0) × (done ≡ l.done) × (told ≡ l.told)
+    call-cut l =
+        one_cut line n l.number who done told (caller_name script.connectors l.by.0) l.done l.told cut l.cut
+
+    mark-cut : (l : IsMarkLine line)
+        → (n ≡ l.number) × (who ≡ codes "SYS") × (done ≡ codes "LOST " ++ facility_word l.cf) × (told ≡ l.told)
+    mark-cut l =
+        one_cut line n l.number who done told (codes "SYS") (codes "LOST " ++ facility_word l.cf) l.told cut l.cut
+
     -- ---- behind SYS
 
     module _ (system : true ≡ same_word who (codes "SYS")) where
       no-call : IsCallLine line → ⊥
       no-call l =
-          let same = same_cut line n l.number who done told (caller_name script.connectors l.by.0) l.done l.told cut l.cut
-          in
+          let same = call-cut l in
           false≢true (sym (caller-no_system script.connectors l.by.0 keeps.connectors l.few)
           ∙ sym (ap (λ (w : List ℕ). same_word w (codes "SYS")) same.1) ∙ sym system)
 
       pub no_facility : ((cf : CfId) → IsFacility cf → done ≡ codes "LOST " ++ facility_word cf → ⊥) → Unread line
       no_facility none = unread line no-call (λ l.
-          let same = same_cut line n l.number who done told (codes "SYS") (codes "LOST " ++ facility_word l.cf) l.told
-          cut l.cut in
+          let same = mark-cut l in
           none l.cf l.facility same.2)
 
       pub no_loss : {E : Type 0} (cf : CfId) (r : Result (Option (Entry C R)) E)
@@ -384,8 +393,7 @@ module _ {C R : Type 0} (of : Ask C → AnyAsk) (cmd_words : Script → C → Li
       no_loss {E} cf r h =
           if_ok_more r (λ x. x ≡ mark_entry connectors (row connectors) n cf told) (λ x. IfNone x (Unread line))
           (λ x made. when_none x (Unread line) (λ none. unread line no-call (λ l.
-          let same = same_cut line n l.number who done told (codes "SYS") (codes "LOST " ++ facility_word l.cf) l.told
-          cut l.cut in
+          let same = mark-cut l in
           let make : Reply R → Entry C R =
           λ answer. (record { no = n; by = operator; what = what.Lost cf; reply = answer }) in
           let value = reply_value script.connectors (row script.connectors) false Common told >>= loss_alone in
@@ -400,15 +408,13 @@ module _ {C R : Type 0} (of : Ask C → AnyAsk) (cmd_words : Script → C → Li
     module _ (other : same_word who (codes "SYS") ≡ false) where
       no-mark : IsMarkLine line → ⊥
       no-mark l =
-          let same = same_cut line n l.number who done told (codes "SYS") (codes "LOST " ++ facility_word l.cf) l.told
-          cut l.cut in
+          let same = mark-cut l in
           false≢true (sym other ∙ ap (λ (w : List ℕ). same_word w (codes "SYS")) same.1)
 
       -- what the caller's name of such a line says
       by-read : (l : IsCallLine line) → caller_of connectors who ≡ Some l.by
       by-read l =
-          let same = same_cut line n l.number who done told (caller_name script.connectors l.by.0) l.done l.told cut l.cut
-          in
+          let same = call-cut l in
           ap (λ (names : List Name16). caller_of names who) named
           ∙ ap (caller_of script.connectors) same.1 ∙ caller-back script.connectors l.by.0 keeps.connectors l.few
 
@@ -425,8 +431,7 @@ module _ {C R : Type 0} (of : Ask C → AnyAsk) (cmd_words : Script → C → Li
 
         is-done : (l : IsCallLine line) → IsDone l
         is-done l =
-            let same = same_cut line n l.number who done told (caller_name script.connectors l.by.0) l.done l.told cut
-            l.cut in
+            let same = call-cut l in
             let both : Some l.by ≡ Some by = sym (by-read l) ∙ sym caller in
             let by_is : l.by ≡ by = cc in
             record {

@@ -9,28 +9,33 @@ use Rattle.report_lines.proofs.MissedLaws.{no_parts, no_facility, no_loss, no_ca
 use Rattle.report_lines.proofs.entries.read_cache_entry.Goals as goal
 
 pub returns-in_default-clause-none : goal.returns-in_default-clause-none
-returns-in_default-clause-none c = no_parts of_cache cache_words cache_reply_words cache_row IsCacheReply is-cache
+returns-in_default-clause-none c =
+    no_parts of_cache cache_words cache_reply_words cache_row IsCacheReply is-cache
     c.args.script.now c.args.on c.requires.keeps c.requires.known c.args.line.now c.in_default.ensures.none
 
 pub returns-in_default-lost_facility-clause-none : goal.returns-in_default-lost_facility-clause-none
-returns-in_default-lost_facility-clause-none c = no_facility of_cache cache_words cache_reply_words cache_row IsCacheReply is-cache
+returns-in_default-lost_facility-clause-none c =
+    no_facility of_cache cache_words cache_reply_words cache_row IsCacheReply is-cache
     c.args.script.now c.args.on c.requires.keeps c.requires.known c.args.line.now _ _ _ _
     c.in-Some.ensures.found _ c.items-connectors.ensures c.if-is.ensures c.in_default-lost_facility.ensures.none
 
 pub returns-then-is-clause-found : goal.returns-then-is-clause-found
-returns-then-is-clause-found c = marked of_cache cache_words cache_reply_words cache_row IsCacheReply is-cache
+returns-then-is-clause-found c =
+    marked of_cache cache_words cache_reply_words cache_row IsCacheReply is-cache
     c.args.script.now c.args.on c.args.line.now _ _ _ _ _
     c.requires.keeps c.in-Some.ensures.found c.items-connectors.ensures c.in-Some-lost_facility.cf c.mark_entry.result
     c.if-is.ensures c.in-Some-lost_facility.ensures.found c.mark_entry.ensures
 
 pub returns-then-is-clause-none : goal.returns-then-is-clause-none
-returns-then-is-clause-none c = no_loss of_cache cache_words cache_reply_words cache_row IsCacheReply is-cache
+returns-then-is-clause-none c =
+    no_loss of_cache cache_words cache_reply_words cache_row IsCacheReply is-cache
     c.args.script.now c.args.on c.requires.keeps c.requires.known c.args.line.now _ _ _ _
     c.in-Some.ensures.found _ c.items-connectors.ensures c.if-is.ensures c.in-Some-lost_facility.cf c.mark_entry.result
     c.mark_entry.ensures
 
 pub returns-in_default-caller-clause-none : goal.returns-in_default-caller-clause-none
-returns-in_default-caller-clause-none c = no_caller of_cache cache_words cache_reply_words cache_row IsCacheReply is-cache
+returns-in_default-caller-clause-none c =
+    no_caller of_cache cache_words cache_reply_words cache_row IsCacheReply is-cache
     c.args.script.now c.args.on c.requires.keeps c.requires.known c.args.line.now _ _ _ _
     c.in-Some.ensures.found _ c.items-connectors.ensures (sym c.if-is.ensures) c.in_default-caller.ensures.value
 
