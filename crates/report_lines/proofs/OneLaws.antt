@@ -37,7 +37,7 @@ use Rattle.report_lines.proofs.ReplyLines.{reply-good}
 use Rattle.report_lines.proofs.EntryLaws.{has_words, behind-blank, entry-told, IsKind, replies-same, replies-some}
 use Rattle.report_lines.proofs.CallLaws.{mark-in}
 use Rattle.report_lines.proofs.MadeLaws.{one-made}
-use Rattle.report_lines.proofs.MissedLaws.{same_cut, caller-back, caller-no_system, same_facility, line-free, call-verb}
+use Rattle.report_lines.proofs.MissedLaws.{one_cut, caller-back, caller-no_system, same_facility, line-free, call-verb}
 
 module _ {C R : Type 0} (of : Ask C → AnyAsk) (cmd_words : Script → C → List (List ℕ))
     (answer_words : Script → R → List (List ℕ)) (row : List Name16 → Row R) (In : List Name16 → R → Type 0)
@@ -187,7 +187,7 @@ module _ {C R : Type 0} (of : Ask C → AnyAsk) (cmd_words : Script → C → Li
       let cut' = is-cut other.no other.by other.what other.reply k.0 k.1 in
       let here = subst (λ (l : List ℕ). IsCutLine l other.no (who_of other.by other.what) (done_of other.what)
       (told_of other.what other.reply)) (sym e) cut' in
-      let same = same_cut (line_for one.no one.by one.what one.reply) one.no other.no (who_of one.by one.what)
+      let same = one_cut (line_for one.no one.by one.what one.reply) one.no other.no (who_of one.by one.what)
       (done_of one.what) (told_of one.what one.reply) (who_of other.by other.what) (done_of other.what)
       (told_of other.what other.reply) cut here in
       let act = same-act one.by other.by one.what other.what one.reply other.reply h.1 k.1 p q same.1 same.2 same.3 in
