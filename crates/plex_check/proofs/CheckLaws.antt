@@ -1,11 +1,14 @@
 -- What a check answers, where histories and callers are judged.
-use Rattle.std.proofs.Common.{◌≡◌, ℕ, zero, suc, ◌+◌, ◌<◌, ◌≤◌, ◌⊎◌, inl, inr, List, [], ◌∷◌, length, slice_get, Some, refl, sym, ap, subst, ◌∙◌, arith, sum_by}
-use Rattle.std.specs.Prelude.{All}
+use Rattle.std.proofs.Common.{◌≡◌, ℕ, zero, suc, ◌+◌, ◌<◌, ◌≤◌, ◌⊎◌, inl, inr, List, [], ◌∷◌, length, slice_get, Some, refl, sym, ap, subst, ◌∙◌, arith, sum_by, Result}
+use Rattle.std.specs.Prelude.{All, IfOk}
 use Rattle.std.proofs.lemmas.List.Elements.{All-weaker}
 use Rattle.std.proofs.lemmas.Bool.{cases_lt}
 use Rattle.std.proofs.lemmas.Option.{slice_get_within}
+use Rattle.std.proofs.lemmas.Result.{IfOk-weaker}
 use Rattle.cf_types.specs.declared.forms.StrForm.{StrForm}
+use Rattle.cf_types.specs.NoMemory.declared.wants.NoMemory.{NoMemory}
 use Rattle.cf_types.specs.declared.numbers.ConnId.{ConnId}
+use Rattle.cf_types.specs.declared.numbers.StrNo.{StrNo}
 use Rattle.check_model.specs.RunShown.PlexScript.declared.asks.AnyHistory.{AnyHistory}
 use Rattle.check_model.specs.RunShown.PlexScript.declared.scripts.Script.{Script}
 use Rattle.check_model.specs.RunShown.PlexScript.declared.transcripts.AgentEnd.{AgentEnd}
@@ -15,7 +18,7 @@ use Rattle.check_model.specs.RunShown.PlexScript.Heard.{any_calls, any_length}
 use Rattle.check_model.specs.RunShown.Headline.{EndsRight, ShowsHistories}
 use Rattle.check_model.specs.declared.checked.Checked.{Checked}
 use Rattle.check_model.specs.declared.printed.Printed.{Printed}
-use Rattle.check_model.specs.Judged.{AreGoodBelow, AreLegalBelow, IsGood, Judges}
+use Rattle.check_model.specs.Judged.{AreGoodBelow, AreLegalBelow, IsBadEntryOf, IsBadItemOf, IsGood, Judges}
 use Rattle.check_model.specs.Printings.{IsCallOf, IsPrintedOf}
 use Rattle.plex_check.proofs.Rows.{some_same}
 
@@ -64,3 +67,30 @@ module _ (script : Script) (printed : Printed) where
         ap (λ (m : ℕ). (let it : ConnId = record { 0 = m } in it)) last in
         subst (λ (c : ConnId). IsGood script printed.histories c transcript.items) whose (here transcript its)
   ]
+
+  -- ---- the answer
+
+  abbrev Fits : Result Checked NoMemory → Type 0
+  Fits answer = IfOk answer (Judges script printed)
+
+  pub yes_fits : IsPrintedOf script printed → AreLegalBelow script printed.histories (length script.structures)
+      → (n : ℕ) → AreGoodBelow script printed n → length printed.transcripts ≤ n → (histories : List AnyHistory)
+      → histories ≡ printed.histories → (answer : Result Checked NoMemory)
+      → IfOk answer (λ a. a ≡ Checked.Yes (sum_by any_length histories)) → Fits answer
+  yes_fits is legal n good past histories same answer = IfOk-weaker answer
+      (λ a. a ≡ Checked.Yes (sum_by any_length histories)) (Judges script printed)
+      (λ a made. subst (Judges script printed) (sym made)
+      (shows_all is legal (λ c transcript less there. good c transcript (omega (arith, less, past)) there),
+      ap (sum_by any_length) same))
+
+  pub entry_fits : (on : StrNo) (place : ℕ) → AreLegalBelow script printed.histories on.0
+      → IsBadEntryOf script printed.histories on place → (answer : Result Checked NoMemory)
+      → IfOk answer (λ a. a ≡ Checked.BadEntry on place) → Fits answer
+  entry_fits on place legal bad answer = IfOk-weaker answer (λ a. a ≡ Checked.BadEntry on place)
+      (Judges script printed) (λ a made. subst (Judges script printed) (sym made) (legal, bad))
+
+  pub item_fits : (by : ConnId) (item : ℕ) → AreLegalBelow script printed.histories (length script.structures)
+      → AreGoodBelow script printed by.0 → IsBadItemOf script printed by item → (answer : Result Checked NoMemory)
+      → IfOk answer (λ a. a ≡ Checked.BadItem by item) → Fits answer
+  item_fits by item legal good bad answer = IfOk-weaker answer (λ a. a ≡ Checked.BadItem by item)
+      (Judges script printed) (λ a made. subst (Judges script printed) (sym made) (legal, good, bad))

@@ -1,6 +1,11 @@
 -- The queues of all callers of a structure.
-use Rattle.std.proofs.Common.{◌≡◌, ℕ, zero, suc, ◌+◌, ◌<◌, ◌≤◌, ◌⊎◌, inl, inr, List, [], ◌∷◌, ◌++◌, length, take, get_or, slice_get, Some, refl, sym, ap, subst, ◌∙◌, arith, length-append}
-use Rattle.std.proofs.lemmas.Option.{slice_get-get_or, slice_get_within}
+use Rattle.std.proofs.Common.{◌≡◌, ℕ, zero, suc, ◌+◌, ◌<◌, ◌≤◌, ◌⊎◌, inl, inr, List, [], ◌∷◌, ◌++◌, length, take, get_or, slice_get, Some, refl, sym, ap, subst, ◌∙◌, arith, Result}
+use Rattle.std.specs.Prelude.{All, IfOk}
+use Rattle.std.proofs.lemmas.List.Elements.{All-push}
+use Rattle.std.proofs.lemmas.Option.{slice_get-get_or}
+use Rattle.std.proofs.lemmas.List.{length-append}
+use Rattle.std.proofs.lemmas.Result.{IfOk-weaker}
+use Rattle.cf_types.specs.NoMemory.declared.wants.NoMemory.{NoMemory}
 use Rattle.cf_types.specs.declared.numbers.ConnId.{ConnId}
 use Rattle.cf_types.specs.declared.numbers.StrNo.{StrNo}
 use Rattle.cf_types.specs.Forms.{IsCaller}
@@ -29,6 +34,14 @@ queue_rises histories on vector conn items many queue caller order is =
         let fits : IsInOrder histories (take k items) item = order.each k item few there.1 in
         subst (λ (before : List Shown). IsSeen before item) (sym (take_taken items many k (omega (arith, few)))) fits.seen
 
+pub result_rises : (histories : List AnyHistory) (on : StrNo) (vector : ℕ) (conn : ConnId) (items : List Shown)
+    (many : ℕ) → IsCaller conn → AreInOrder histories items many → (part : List Shown) → part ≡ take many items
+    → (result : Result QueueView NoMemory) → IfOk result (λ queue. queue ≡ queue_of on vector conn part)
+    → IfOk result IsRising
+result_rises histories on vector conn items many caller order part same result =
+    IfOk-weaker result (λ queue. queue ≡ queue_of on vector conn part) IsRising (λ queue is. queue_rises histories on
+    vector conn items many queue caller order (is ∙ ap (queue_of on vector conn) same))
+
 module _ (histories : List AnyHistory) (on : StrNo) (vector : ℕ) (transcripts : List Transcript) where
   pub queues_none : AreQueuesOf histories on vector transcripts 0 []
   queues_none = record { size = refl; each = λ conn transcript queue there at. absurd (nowhere conn.0 queue at) }
@@ -55,3 +68,22 @@ module _ (histories : List AnyHistory) (on : StrNo) (vector : ℕ) (transcripts 
           (subst (λ (c : ConnId). IsQueueOf histories on vector c transcript.items queue) whose made))
     ];
   }
+
+  -- both, behind one caller more
+  pub queues_step : (shown : List Transcript) → shown ≡ transcripts → (others : List AnyHistory) → others ≡ histories
+      → (n : ℕ) (queues : List QueueView) → AreQueuesOf histories on vector transcripts n queues × All IsRising queues
+      → (place : ℕ) → place ≡ n → n < length transcripts → (transcript d : Transcript) → transcript ≡ get_or shown place d
+      → (items : List Shown) → items ≡ transcript.items → (queue : QueueView)
+      → IsQueueOf others on vector (record { 0 = n }) items queue → IsRising queue → (news : List QueueView)
+      → news ≡ queues ++ queue ∷ [] → AreQueuesOf histories on vector transcripts (n + 1) news × All IsRising news
+  queues_step shown shown_are others others_are n queues so_far place is few transcript d known items items_are queue made
+      rising news grown =
+      let whose : IsQueueOf histories on vector (record { 0 = n }) transcript.items queue =
+      subst (λ (h : List AnyHistory). IsQueueOf h on vector (record { 0 = n }) transcript.items queue) others_are
+      (subst (λ (i : List Shown). IsQueueOf others on vector (record { 0 = n }) i queue) items_are made) in
+      let here : transcript ≡ get_or transcripts place d =
+      subst (λ (l : List Transcript). transcript ≡ get_or l place d) shown_are known in
+      subst (λ (l : List QueueView). AreQueuesOf histories on vector transcripts (n + 1) l × All IsRising l) (sym grown) (
+        queues_more n queues so_far.0 place is few transcript d here queue whose,
+        All-push IsRising queues queue so_far.1 rising,
+      )

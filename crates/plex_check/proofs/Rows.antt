@@ -2,7 +2,7 @@
 use Rattle.std.proofs.Common.{◌≡◌, ℕ, zero, suc, ◌+◌, ◌<◌, ◌≤◌, ◌⊎◌, inl, inr, List, [], ◌∷◌, ◌++◌, length, take, get_or, slice_get, Option, Some, None, refl, sym, ap, subst, ◌∙◌, arith}
 use Rattle.std.specs.Prelude.{All}
 use Rattle.std.proofs.lemmas.List.Elements.{All-get_or}
-use Rattle.std.proofs.lemmas.Option.{slice_get-get_or, slice_get_within, get_or_from_slice_get}
+use Rattle.std.proofs.lemmas.Option.{slice_get_read, slice_get_within, get_or_from_slice_get}
 use Rattle.history_check.specs.Queues.{Pairs}
 
 module _ {X : Type 0} where
@@ -46,6 +46,12 @@ module _ {X : Type 0} where
   pub each_of : (P : X → Type 0) (xs : List X) (i : ℕ) (x : X) → All P xs → slice_get xs i ≡ Some x → P x
   each_of P xs i x all at =
       subst P (get_or_from_slice_get xs i x x at) (All-get_or P xs i x (slice_get_within xs i x at) all)
+
+  -- what is read at a place
+  pub at_place : (xs ys : List X) (place n : ℕ) (x : X) → ys ≡ xs → place ≡ n → n < length xs → x ≡ get_or ys place x
+      → slice_get xs n ≡ Some x
+  at_place xs ys place n x same is within at = slice_get_read xs (length xs) n x refl within
+      (subst (λ (m : ℕ). x ≡ get_or xs m x) is (subst (λ (l : List X). x ≡ get_or l place x) same at))
 
   -- two lists, one by one
   pub pairs_length : (over : X → X → Type 0) (olds news : List X) → Pairs over olds news → length news ≡ length olds

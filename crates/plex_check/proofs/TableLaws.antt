@@ -1,7 +1,12 @@
 -- What a judge has found of a structure, as the table of its callers' queues.
-use Rattle.std.proofs.Common.{◌≡◌, ℕ, zero, suc, ◌+◌, ◌<◌, ◌≤◌, ◌⊎◌, inl, inr, List, [], ◌∷◌, ◌++◌, length, map, take, get_or, slice_get, Some, refl, sym, ap, subst, ◌∙◌, arith, length-append}
-use Rattle.std.specs.Prelude.{All}
+use Rattle.std.proofs.Common.{◌≡◌, ℕ, zero, suc, ◌+◌, ◌<◌, ◌≤◌, ◌⊎◌, inl, inr, List, [], ◌∷◌, ◌++◌, length, map, take, get_or, slice_get, Some, refl, sym, ap, subst, ◌∙◌, arith, Result}
+use Rattle.std.specs.Prelude.{All, IfOk}
 use Rattle.std.proofs.lemmas.Option.{slice_get-get_or, slice_get_within}
+use Rattle.std.proofs.lemmas.List.{length-append, map-append}
+use Rattle.std.proofs.lemmas.Result.{IfOk-weaker}
+use Rattle.std.specs.declared.alloc.Global.{Global}
+use Rattle.std.specs.declared.vec.Vec.{Vec}
+use Rattle.cf_types.specs.NoMemory.declared.wants.NoMemory.{NoMemory}
 use Rattle.cf_types.specs.declared.forms.StrForm.{StrForm}
 use Rattle.cf_types.specs.declared.numbers.ConnId.{ConnId}
 use Rattle.cf_types.specs.declared.numbers.StrNo.{StrNo}
@@ -18,11 +23,11 @@ use Rattle.check_model.specs.RunShown.PlexScript.declared.transcripts.Shown.{Sho
 use Rattle.check_model.specs.RunShown.PlexScript.declared.transcripts.Transcript.{Transcript}
 use Rattle.check_model.specs.RunShown.Kinds.{IsAnyLegal}
 use Rattle.check_model.specs.declared.printed.Printed.{Printed}
-use Rattle.check_model.specs.Judged.{IsAnyBadBlock, AreLegalBelow}
+use Rattle.check_model.specs.Judged.{IsAnyBadBlock, AreLegalBelow, IsBadEntryOf}
 use Rattle.caller_waits.specs.Tests.{queue_of, waits_of}
-use Rattle.caller_check.specs.Tables.{AnySettled, IsAnswered, AreAnswered}
-use Rattle.plex_check.specs.Checks.{IsAnyJudged, IsQueueOf, AreQueuesOf, IsTable, IsTableWhere, AreTables}
-use Rattle.plex_check.proofs.Rows.{nowhere, some_same, found, get_push, each_of, pairs_length, pair_at}
+use Rattle.caller_check.specs.Tables.{AnySettled, IsAnswered, AreAnswered, rows_of}
+use Rattle.plex_check.specs.Checks.{IsAnyJudged, IsQueueOf, AreQueuesOf, IsTable, IsTableWhere, IsStructureJudged, AreTables}
+use Rattle.plex_check.proofs.Rows.{nowhere, some_same, found, get_push, each_of, at_place, pairs_length, pair_at}
 
 any_legal : (form : StrForm) (entries : AnyHistory) → IsAnyJudged form entries Judged.Legal → IsAnyLegal form entries
 any_legal form (AnyHistory.Cache entries) is = is
@@ -80,8 +85,8 @@ module _ (script : Script) (printed : Printed) where
   tables_more n tables so_far form entries known there table made = record {
     size = (let size : length tables ≡ n = so_far.size in
         length-append tables (table ∷ []) ∙ ap (λ (m : ℕ). m + 1) size);
-    each = λ on other others is its at. elim (get_push tables table on.0 at) [
-      | inl old ↦ so_far.each on other others is its old
+    each = λ on other others next is its at. elim (get_push tables table on.0 next at) [
+      | inl old ↦ so_far.each on other others next is its old
       | inr last ↦
           let number : on.0 ≡ n = last.0 ∙ so_far.size in
           let whose : (let it : StrNo = record { 0 = n } in it ≡ on) =
@@ -123,3 +128,49 @@ module _ (script : Script) (printed : Printed) where
           let form = found script.structures x within in
           let entries = found printed.histories x (subst (λ (m : ℕ). x < m) (sym size) within) in
           (all.each (record { 0 = x }) form.0 entries.0 table form.1 entries.1 at).row
+
+  -- ---- as they are judged
+
+  pub structure_judged : {F : Type 0} (table : F → List QueueView) (judged : F → Judged) (on : StrNo)
+      (forms : List StrForm) (histories : List AnyHistory) (place : ℕ) → forms ≡ script.structures
+      → histories ≡ printed.histories → place ≡ on.0 → on.0 < length script.structures
+      → length printed.histories ≡ length script.structures → (form : StrForm) → form ≡ get_or forms place form
+      → (entries : AnyHistory) → entries ≡ get_or histories place entries → (result : Result F NoMemory)
+      → IfOk result (λ found. IsTableWhere printed on form entries (table found) (judged found))
+      → IfOk result (λ found. IsStructureJudged script printed on (table found) (judged found))
+  structure_judged table judged on forms histories place forms_are histories_are is within size form known entries there
+      result = IfOk-weaker result (λ found. IsTableWhere printed on form entries (table found) (judged found))
+      (λ found. IsStructureJudged script printed on (table found) (judged found)) (λ found where_it_is. record {
+        form = form;
+        entries = entries;
+        known = at_place script.structures forms place on.0 form forms_are is within known;
+        there = at_place printed.histories histories place on.0 entries histories_are is
+            (subst (λ (m : ℕ). on.0 < m) (sym size) within) there;
+        is = where_it_is;
+      })
+
+  pub bad_found : (n place : ℕ) (tables : List (List QueueView)) → AreTables script printed n tables → (judged : Judged)
+      (table : List QueueView) → judged ≡ Judged.Bad place
+      → IsStructureJudged script printed (record { 0 = n }) table judged
+      → AreLegalBelow script printed.histories n × IsBadEntryOf script printed.histories (record { 0 = n }) place
+  bad_found n place tables so_far judged table is found = (
+    tables_legal n tables so_far,
+    record {
+      form = found.form;
+      entries = found.entries;
+      known = found.known;
+      there = found.there;
+      bad = subst (λ (j : Judged). IsTableWhere printed (record { 0 = n }) found.form found.entries table j) is found.is;
+    },
+  )
+
+  pub legal_found : (n : ℕ) (tables news : List (Vec QueueView Global)) (table : Vec QueueView Global)
+      → AreTables script printed n (rows_of tables) → (judged : Judged) → judged ≡ Judged.Legal
+      → IsStructureJudged script printed (record { 0 = n }) table.items judged → news ≡ tables ++ table ∷ []
+      → AreTables script printed (n + 1) (rows_of news)
+  legal_found n tables news table so_far judged is found made =
+      subst (λ (l : List (Vec QueueView Global)). AreTables script printed (n + 1) (rows_of l)) (sym made)
+      (subst (AreTables script printed (n + 1)) (sym (map-append (λ (t : Vec QueueView Global). t.items) tables
+      (table ∷ []))) (tables_more n (rows_of tables) so_far found.form found.entries found.known found.there table.items
+      (subst (λ (j : Judged). IsTableWhere printed (record { 0 = n }) found.form found.entries table.items j) is
+      found.is)))

@@ -32,8 +32,8 @@ pub(crate) fn judge_any(
     ensures same { Pairs HasTestsOf queues.old queues.new }
 {
     match entries {
-        AnyHistory::Cache(entries) => judge_cache(alloc, form, entries.entries(), queues),
-        AnyHistory::List(entries) => judge_list(alloc, form, entries.entries(), queues),
-        AnyHistory::Lock(entries) => judge_lock(alloc, form, entries.entries(), queues),
+        AnyHistory::Cache(history) => judge_cache(alloc, form, history.entries(), queues),
+        AnyHistory::List(history) => judge_list(alloc, form, history.entries(), queues),
+        AnyHistory::Lock(history) => judge_lock(alloc, form, history.entries(), queues),
     }
 }

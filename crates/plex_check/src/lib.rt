@@ -2,11 +2,11 @@
 //! call, and each caller's transcript is held against the script and what the histories tell.
 #![tactic(auto)]
 
-mod check;
+mod answers;
 mod histories;
 mod judging;
 mod queues;
 mod structures;
 
-pub use check::check;
+pub use answers::check;
 pub use check_model as model;

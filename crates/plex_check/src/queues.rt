@@ -1,9 +1,8 @@
 //! The tests of a structure that callers' items show, a queue for each caller.
-ghost use Rattle.std.specs.Prelude.{◌≡◌, ◌<◌, ◌≤◌, IfOk, All, length};
+ghost use Rattle.std.specs.Prelude.{◌<◌, ◌≤◌, ◌+◌, IfOk, All, length};
 ghost use Rattle.cf_types.specs.declared.limits.TheConstants.{CONNECTORS};
 ghost use Rattle.cf_types.specs.Forms.{IsCaller};
 ghost use Rattle.history_check.specs.Queues.{IsRising};
-ghost use Rattle.check_model.specs.Printings.{IsPrintedOf};
 ghost use Rattle.check_model.specs.RunShown.Headline.{place_of};
 ghost use Rattle.plex_check.specs.Checks.{AreQueuesOf, AreShownOf, IsQueueOf};
 

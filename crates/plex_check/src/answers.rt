@@ -87,8 +87,9 @@ fn check_callers(
     let many = printed.transcripts.items().len() as u8;
     for number in 0..many {
         let by = ConnId(number);
-        if let Some(item) = first_bad_item(alloc, script, printed, tables, by)? {
-            return bad_item(by, item);
+        match first_bad_item(alloc, script, printed, tables, by)? {
+            Some(item) => return bad_item(by, item),
+            None => {}
         }
     }
     yes(printed.histories.items())
