@@ -1,5 +1,5 @@
 //! Checks: a report that comes behind its script is read and judged, and what is found is told.
-ghost use Rattle.std.specs.Prelude.{◌≡◌, ◌⊎◌, ◌≤◌, ◌<◌, length, IfOk, IfErr, IfSome};
+ghost use Rattle.std.specs.Prelude.{◌≡◌, ◌⊎◌, ◌≤◌, ◌<◌, true, false, length, IfOk, IfErr, IfSome};
 ghost use Rattle.std.specs.Io.KnownBytes.{IsAtEnd};
 ghost use Rattle.plex_agent.specs.CfIo.Count.{Rises};
 ghost use Rattle.plex_load.specs.PlexScript.Limits.{KeepsLimits};
@@ -44,6 +44,14 @@ fn whole_too_long() -> &'static [u8]
     ensures { result.now ≡ too_long_line check_limit }
 {
     b"TOOLONG 16777216\n"
+}
+
+// Whether a script is too long.
+fn is_long(part: &[u8]) -> bool
+    ensures long { result ≡ true → script_limit < length part.now }
+    ensures fits { result ≡ false → length part.now ≤ script_limit }
+{
+    part.len() > SCRIPT_LIMIT
 }
 
 // What a check answers of what a report prints.
@@ -173,7 +181,7 @@ fn checked_text<K: Sink>(alloc: Global, text: &[u8], sink: &mut K) -> u8
     let Some((part, rest)) = cut(text) else {
         return refused(alloc, 0, b"NOREPORT", sink);
     };
-    if part.len() > SCRIPT_LIMIT {
+    if is_long(part) {
         say(sink, script_too_long());
         return 7;
     }
