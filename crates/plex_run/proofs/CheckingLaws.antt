@@ -1,5 +1,5 @@
 -- What a check of a text ends with: which texts are split, too long or refused, and what is told of the others.
-use Rattle.plex_run.proofs.Imports.{◌≡◌, ◌≢◌, ℕ, ◌≤◌, ◌<◌, ◌⊎◌, inl, inr, List, [], ◌++◌, length, length-append, Option, None, Some, IfSome, refl, sym, ap, ◌∙◌, subst, arith, codes, Why, Script, IsScript, IsFault, SaysOne, IsExclusive, ReadFault, TellsFault, Checked, Printed, Judges, IsReport, IsFirstUnread, ArePicked, Output, HasFailed, Writes, WritesFront, Gains, why_word, memory_line, IsLong, EndsTask, script_limit, check_limit, IsSplit, HasNoReport, Verdict, NoText, verdict_line, verdict_status, verdict_of_checked, IsSaid, IsVerdict, ReadsOne, IsOneAnswer, IsOnlyStatus, IsJudged, IsUncheckedAt, IsCheckTooLong, checking, check_word, EndsCheck}
+use Rattle.plex_run.proofs.Imports.{◌≡◌, ◌≢◌, ℕ, ◌≤◌, ◌<◌, ◌⊎◌, inl, inr, List, [], ◌++◌, length, length-append, Option, None, Some, IfSome, refl, sym, ap, ◌∙◌, subst, arith, codes, Why, Script, IsScript, SaysOne, IsExclusive, ReadFault, TellsFault, Checked, Printed, Judges, IsReport, IsFirstUnread, ArePicked, Output, HasFailed, Writes, WritesFront, Gains, why_word, memory_line, IsLong, EndsTask, script_limit, check_limit, IsSplit, HasNoReport, Verdict, NoText, verdict_line, verdict_status, verdict_of_checked, IsSaid, IsVerdict, ReadsOne, IsOneAnswer, IsOnlyStatus, IsJudged, IsUncheckedAt, IsCheckTooLong, checking, check_word, EndsCheck}
 use Rattle.plex_run.proofs.{CuttingLaws.one_split, TextLaws.IsFair, TextLaws.done_ends}
 
 -- ---- what is said of a report

@@ -19,7 +19,6 @@ pub use Rattle.plex_load.specs.CfTypes.declared.numbers.StrNo.{StrNo}
 pub use Rattle.plex_load.specs.CfTypes.declared.{forms.Kind.Kind, forms.StrForm.StrForm}
 pub use Rattle.plex_load.specs.CfTypes.NoMemory.declared.wants.NoMemory.{NoMemory}
 pub use Rattle.plex_load.specs.CfTypes.declared.{names.Name16.Name16, numbers.CfId.CfId, numbers.ConnId.ConnId}
-pub use Rattle.plex_load.specs.PlexScript.Scripts.{IsFault}
 pub use Rattle.plex_load.specs.PlexScript.WellFormed.{IsWellFormed, IsLineOf, IsActOf, MayAskAny}
 pub use Rattle.plex_load.specs.PlexScript.declared.{asks.AnyHistory.AnyHistory, faults.ReadFault.ReadFault}
 pub use Rattle.plex_load.specs.PlexScript.declared.{faults.Why.Why, scripts.Act.Act, scripts.AnyAsk.AnyAsk}

@@ -21,7 +21,9 @@ use crate::writing::{say, say_no_memory, say_unread, script_too_long};
 use check_model::{Checked, Printed, one_answer};
 use plex_agent::sources::{Sink, Source, read_all, write_all};
 use plex_check::check;
-use plex_load::scripts::{ReadFault, Script, keeps_limits, never_both, one_script, read, well_formed};
+use plex_load::scripts::{
+    ReadFault, Script, keeps_limits, never_both, one_script, read, well_formed,
+};
 use plex_load::types::NoMemory;
 use report_read::{TextBad, read_report};
 use std::alloc::Global;
