@@ -30,7 +30,7 @@ pub use Rattle.run_laws.proofs.Tests.{is_reading}
 pub use Rattle.check_model.specs.Judged.{Judges}
 pub use Rattle.check_model.specs.declared.{checked.Checked.Checked, printed.Printed.Printed}
 pub use Rattle.report_texts.specs.Texts.{IsReport, IsFirstUnread}
-pub use Rattle.report_read.specs.Reads.{ArePicked}
+pub use Rattle.report_read.specs.Picked.{ArePicked}
 pub use Rattle.plex_run.specs.Cutting.{IsBefore, AreBefore, IsSplit, HasNoReport}
 pub use Rattle.plex_run.specs.Checking.{check_limit, Verdict, NoText, verdict_line, verdict_status, verdict_of_checked, IsSaid, IsVerdict, ReadsOne, IsOneAnswer, IsOnlyStatus, IsJudged, IsUncheckedAt, IsCheckTooLong, checking, check_word, EndsCheck}
 pub use Rattle.plex_run.specs.Full.{ends_full_at, is_full_at, full_structure}

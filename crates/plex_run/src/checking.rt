@@ -11,7 +11,7 @@ ghost use Rattle.plex_run.specs.StatusLines.{memory_line, too_long_line};
 ghost use Rattle.plex_run.specs.Written.{output, HasFailed, Writes, WritesFront, Gains};
 ghost use Rattle.plex_run.specs.Outcome.{script_limit, status_line};
 ghost use Rattle.plex_run.specs.Statuses.{OfText};
-ghost use Rattle.plex_run.specs.Checking.{check_limit, verdict_line, verdict_of, verdict_of_checked, verdict_status, IsOneAnswer, IsSaid, IsOnlyStatus, IsJudged, EndsCheck};
+ghost use Rattle.plex_run.specs.Checking.{check_limit, verdict_line, verdict_of, verdict_of_checked, verdict_status, ReadsOne, IsOneAnswer, IsSaid, IsOnlyStatus, IsJudged, EndsCheck};
 
 use crate::cutting::cut;
 use crate::program::{SCRIPT_LIMIT, refused};
@@ -56,6 +56,14 @@ fn is_long(part: &[u8]) -> bool
     part.len() > SCRIPT_LIMIT
 }
 
+// Each text is read in one way as a report of the script.
+fn one_reading(script: &Script)
+    requires { KeepsLimits script.now }
+    ensures { ReadsOne script.now }
+{
+    let _ = script;
+}
+
 // What a check answers of what a report prints.
 #[tactic(auto, using(crate::proofs::PrintedLaws::printed_of))]
 fn answered(alloc: Global, script: &Script, printed: &Printed) -> Result<Checked, NoMemory>
@@ -79,6 +87,7 @@ fn found_in(alloc: Global, script: &Script, text: &[u8]) -> Result<Found, NoMemo
     ensures only { IfOk result (λ found. IsOnlyStatus script.now text.now
         (verdict_of script.now found)) }
 {
+    one_reading(script);
     let printed = match read_report(alloc, script, text) {
         Ok(printed) => printed,
         Err(TextBad::Line { line }) => return Ok(Found::Unread { line }),
