@@ -1,5 +1,5 @@
 -- What a check of a text ends with: which texts are split, too long or refused, and what is told of the others.
-use Rattle.plex_run.proofs.Imports.{◌≡◌, ◌≢◌, ℕ, ◌≤◌, ◌<◌, ◌⊎◌, inl, inr, List, [], ◌++◌, length, length-append, Option, None, Some, IfSome, refl, sym, ap, ◌∙◌, subst, arith, codes, Why, Script, IsScript, IsFault, SaysOne, IsExclusive, ReadFault, TellsFault, Checked, Printed, Judges, IsReport, IsFirstUnread, ArePicked, Output, HasFailed, Writes, WritesFront, Gains, why_word, memory_line, IsLong, EndsTask, script_limit, check_limit, IsSplit, HasNoReport, Verdict, NoText, verdict_line, verdict_status, verdict_of_checked, IsSaid, IsVerdict, ReadsOne, IsOneAnswer, IsOnlyStatus, IsJudged, IsUncheckedAt, IsCheckTooLong, checking, check_word, EndsCheck}
+use Rattle.plex_run.proofs.Imports.{◌≡◌, ◌≢◌, ℕ, ◌≤◌, ◌<◌, ◌⊎◌, inl, inr, List, [], ◌++◌, length, length-append, Option, None, Some, IfSome, refl, sym, ap, ◌∙◌, subst, arith, codes, Why, Script, IsScript, SaysOne, IsExclusive, ReadFault, TellsFault, Checked, Printed, Judges, IsReport, IsFirstUnread, ArePicked, Output, HasFailed, Writes, WritesFront, Gains, why_word, memory_line, IsLong, EndsTask, script_limit, check_limit, IsSplit, HasNoReport, Verdict, NoText, verdict_line, verdict_status, verdict_of_checked, IsSaid, IsVerdict, ReadsOne, IsOneAnswer, IsOnlyStatus, IsJudged, IsUncheckedAt, IsCheckTooLong, checking, check_word, EndsCheck}
 use Rattle.plex_run.proofs.{CuttingLaws.one_split, TextLaws.IsFair, TextLaws.done_ends}
 
 -- ---- what is said of a report
@@ -7,16 +7,16 @@ use Rattle.plex_run.proofs.{CuttingLaws.one_split, TextLaws.IsFair, TextLaws.don
 -- of a text that is no report
 pub only_unread : (script : Script) (rest : List ℕ) (line : ℕ) → IsFirstUnread script rest line
     → IsOnlyStatus script rest (NoText line)
-only_unread script rest line first reads other (inl it) = ap verdict_status it.2
-only_unread script rest line first reads other (inr it) = absurd (first.unread it.0 it.1)
+only_unread script rest line first other (inl it) = ap verdict_status it.2
+only_unread script rest line first other (inr it) = absurd (first.unread it.0 it.1)
 
 -- and of one that is judged
-pub only_judged : (script : Script) (rest : List ℕ) (printed : Printed) (answer : Checked)
+pub only_judged : (script : Script) (rest : List ℕ) (printed : Printed) (answer : Checked) → ReadsOne script
     → IsReport script rest printed → ArePicked script printed → IsOneAnswer script printed
     → Judges script printed answer → IsOnlyStatus script rest (verdict_of_checked script answer)
-only_judged script rest printed answer report picked one judged reads other (inl it) =
+only_judged script rest printed answer reads report picked one judged other (inl it) =
     absurd (it.1.unread printed report)
-only_judged script rest printed answer report picked one judged reads other (inr it) =
+only_judged script rest printed answer reads report picked one judged other (inr it) =
     let same : it.0 ≡ printed = reads rest it.0 printed it.1 it.2 report picked in
     let judges : Judges script printed it.3.0 = subst (λ (p : Printed). Judges script p it.3.0) same it.3.1 in
     let answers : it.3.0 ≡ answer = one it.3.0 answer judges judged in
@@ -132,22 +132,21 @@ module _ (text part rest : List ℕ) (script : Script) (verdict : Verdict) {out 
   }
 
   -- of whatever else there is to be said, the status is the same
-  same_status : SaysOne → (other : Verdict) → (it : IsVerdict text other) → ReadsOne it.script
-      → verdict_status other ≡ verdict_status verdict
-  same_status one other it reads =
+  same_status : SaysOne → (other : Verdict) → IsVerdict text other → verdict_status other ≡ verdict_status verdict
+  same_status one other it =
       let parts = one_split text it.part it.rest part rest it.split split in
       let says : IsScript part it.script = subst (λ p. IsScript p it.script) parts.0 it.says in
       let same : it.script ≡ script = one part it.script script says judged.says in
       let said : IsSaid script rest other = subst (λ (s : Script). IsSaid s rest other) same
       (subst (λ r. IsSaid it.script r other) parts.1 it.said) in
-      judged.only (subst ReadsOne same reads) other said
+      judged.only other said
 
-  settled : SaysOne → status ≢ 6 → (other : Verdict) → (it : IsVerdict text other) → ReadsOne it.script
+  settled : SaysOne → status ≢ 6 → (other : Verdict) → IsVerdict text other
       → (status ≡ verdict_status other) ⊎ ((status ≡ 5) × (verdict_status other ≡ 0))
-  settled one lack other it reads = by_status statuses
+  settled one lack other it = by_status statuses
     where
       same : verdict_status other ≡ verdict_status verdict
-      same = same_status one other it reads
+      same = same_status one other it
 
       by_status : IsCheckStatus status
           → (status ≡ verdict_status other) ⊎ ((status ≡ 5) × (verdict_status other ≡ 0))
@@ -156,18 +155,9 @@ module _ (text part rest : List ℕ) (script : Script) (verdict : Verdict) {out 
       by_status (inr (inr (inl five))) = inr (five, same ∙ (front five).0)
       by_status (inr (inr (inr six))) = absurd (lack six)
 
-  these : status ≢ 6 → (status ≡ 0) ⊎ ((status ≡ 5) ⊎ (status ≡ 9))
-  these lack = by_status statuses
-    where
-      by_status : IsCheckStatus status → (status ≡ 0) ⊎ ((status ≡ 5) ⊎ (status ≡ 9))
-      by_status (inl zero) = inl zero
-      by_status (inr (inl is)) = inr (inr is)
-      by_status (inr (inr (inl five))) = inr (inl five)
-      by_status (inr (inr (inr six))) = absurd (lack six)
-
   -- what is to be said of the text was told
   pub check_ends : SaysOne → IsExclusive → length text ≤ check_limit → length part ≤ script_limit
       → EndsCheck text out status
   check_ends one never short low = done_ends (check_fair never) (split_fits text part rest short split low)
       (verdict, comes) told (not_other 3 status statuses (inl refl)) (not_other 7 status statuses (inr refl))
-      (λ lack. (these lack, settled one lack))
+      (settled one)

@@ -1,5 +1,5 @@
 -- A text is split in one way, which is found line by line.
-use Rattle.plex_run.proofs.Imports.{◌≡◌, ◌≢◌, ℕ, ◌+◌, ◌-◌, ◌≤◌, ◌<◌, ◌==◌, ◌⊎◌, inl, inr, Bool, true, false, not, List, [], ◌∷◌, ◌++◌, length, take, drop, Option, Some, None, codes, position, list_all, flat_map, line_text, refl, sym, ap, ◌∙◌, subst, append_assoc, append-nil, length-append, length-drop, take_all, length-take-le, take-append_seam, arith, nat_lt, nat_tests, or_parts, list_any, position_or_len, any-some, any-none, any-place, IsCut-stands, same_cut, not_free-middle, IsBefore, AreBefore, IsSplit, HasNoReport}
+use Rattle.plex_run.proofs.Imports.{◌≡◌, ◌≢◌, ℕ, ◌+◌, ◌-◌, ◌≤◌, ◌<◌, ◌==◌, ◌⊎◌, inl, inr, Bool, true, false, not, List, [], ◌∷◌, ◌++◌, length, take, drop, Some, None, codes, position, list_all, flat_map, line_text, refl, sym, ap, ◌∙◌, subst, append_assoc, append-nil, length-append, length-drop, take_all, length-take-le, take-append_seam, arith, nat_lt, nat_tests, or_parts, list_any, position_or_len, any-some, any-none, any-place, IsCut-stands, same_cut, not_free-middle, IsBefore, AreBefore, IsSplit, HasNoReport}
 
 abbrev is_free : List ℕ → Bool
 is_free line = list_all (λ b. not (b == 10)) line
@@ -163,8 +163,7 @@ same-lines (line ∷ lines) text part rest part' rest' before is (inl whole) oth
     whole ∙ (ap (λ p. p ++ tail) is ∙ text-behind line lines tail) in
     let peeled = peel line (text_of lines ++ tail) part' rest' before.0 (subst (λ t. IsSplit t part' rest') e other) in
     let same = same-lines lines (text_of lines ++ tail) (text_of lines) rest peeled.front rest' before.1 refl (inl refl)
-    peeled.split in
-    (
+    peeled.split in (
       is ∙ (append_assoc line (10 ∷ []) (text_of lines) ∙ (ap (λ p. line ++ 10 ∷ p) same.0 ∙ sym peeled.is)),
       same.1,
     )
@@ -174,8 +173,7 @@ same-lines (line ∷ lines) text part rest part' rest' before is (inr end) other
     end.0 ∙ (ap (λ p. p ++ tail) is ∙ text-behind line lines tail) in
     let peeled = peel line (text_of lines ++ tail) part' rest' before.0 (subst (λ t. IsSplit t part' rest') e other) in
     let same = same-lines lines (text_of lines ++ tail) (text_of lines) rest peeled.front rest' before.1 refl
-    (inr (refl, end.1)) peeled.split in
-    (
+    (inr (refl, end.1)) peeled.split in (
       is ∙ (append_assoc line (10 ∷ []) (text_of lines) ∙ (ap (λ p. line ++ 10 ∷ p) same.0 ∙ sym peeled.is)),
       same.1,
     )
@@ -260,8 +258,13 @@ module _ (text : List ℕ) (at : ℕ) (left : List ℕ) (so_far : IsAt text at l
       let long : length (take at text) ≡ at = length-take-le at text so_far.within in
       let short : length first ≡ place = length-take-le place left (omega (arith, line.within)) in
       let ahead : List ℕ = take at text ++ (first ++ 10 ∷ []) in
-      let size : length ahead ≡ at + place + 1 = omega (arith, length-append (take at text) (first ++ 10 ∷ []),
-      length-append first (10 ∷ []), long, short) in
+      let size : length ahead ≡ at + place + 1 = omega (
+        arith,
+        length-append (take at text) (first ++ 10 ∷ []),
+        length-append first (10 ∷ []),
+        long,
+        short,
+      ) in
       let joined : (tail : List ℕ) → take at text ++ (first ++ 10 ∷ tail) ≡ ahead ++ tail =
       λ tail. sym (append_assoc (take at text) (first ++ 10 ∷ []) tail
       ∙ ap (λ t. take at text ++ t) (append_assoc first (10 ∷ []) tail)) in

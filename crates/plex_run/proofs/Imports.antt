@@ -19,7 +19,6 @@ pub use Rattle.plex_load.specs.CfTypes.declared.numbers.StrNo.{StrNo}
 pub use Rattle.plex_load.specs.CfTypes.declared.{forms.Kind.Kind, forms.StrForm.StrForm}
 pub use Rattle.plex_load.specs.CfTypes.NoMemory.declared.wants.NoMemory.{NoMemory}
 pub use Rattle.plex_load.specs.CfTypes.declared.{names.Name16.Name16, numbers.CfId.CfId, numbers.ConnId.ConnId}
-pub use Rattle.plex_load.specs.PlexScript.Scripts.{IsFault}
 pub use Rattle.plex_load.specs.PlexScript.WellFormed.{IsWellFormed, IsLineOf, IsActOf, MayAskAny}
 pub use Rattle.plex_load.specs.PlexScript.declared.{asks.AnyHistory.AnyHistory, faults.ReadFault.ReadFault}
 pub use Rattle.plex_load.specs.PlexScript.declared.{faults.Why.Why, scripts.Act.Act, scripts.AnyAsk.AnyAsk}
@@ -31,7 +30,7 @@ pub use Rattle.run_laws.proofs.Tests.{is_reading}
 pub use Rattle.check_model.specs.Judged.{Judges}
 pub use Rattle.check_model.specs.declared.{checked.Checked.Checked, printed.Printed.Printed}
 pub use Rattle.report_texts.specs.Texts.{IsReport, IsFirstUnread}
-pub use Rattle.report_read.specs.Reads.{ArePicked}
+pub use Rattle.report_read.specs.Picked.{ArePicked}
 pub use Rattle.plex_run.specs.Cutting.{IsBefore, AreBefore, IsSplit, HasNoReport}
 pub use Rattle.plex_run.specs.Checking.{check_limit, Verdict, NoText, verdict_line, verdict_status, verdict_of_checked, IsSaid, IsVerdict, ReadsOne, IsOneAnswer, IsOnlyStatus, IsJudged, IsUncheckedAt, IsCheckTooLong, checking, check_word, EndsCheck}
 pub use Rattle.plex_run.specs.Full.{ends_full_at, is_full_at, full_structure}

@@ -11,7 +11,7 @@ use Rattle.check_model.specs.declared.checked.Checked.TheVariants as checked
 use Rattle.check_model.specs.declared.printed.Printed.{Printed}
 use Rattle.check_model.specs.Judged.{Judges}
 use Rattle.report_texts.specs.Texts.{IsReport, IsFirstUnread}
-use Rattle.report_read.specs.Reads.{ArePicked}
+use Rattle.report_read.specs.Picked.{ArePicked}
 use Rattle.plex_run.specs.declared.checking.TheConstants.{CHECK_LIMIT}
 use Rattle.plex_run.specs.declared.checking.Found.{Found}
 use Rattle.plex_run.specs.declared.checking.Found.TheVariants as found
@@ -85,10 +85,10 @@ abbrev pub IsOneAnswer : Script → Printed → Type 0
 IsOneAnswer script printed =
     (one other : Checked) → Judges script printed one → Judges script printed other → one ≡ other
 
--- where the script's reports are read in one way, all that is to be said has the status of this
+-- all that is to be said has the status of this
 abbrev pub IsOnlyStatus : Script → List ℕ → Verdict → Type 0
 IsOnlyStatus script rest verdict =
-    ReadsOne script → (other : Verdict) → IsSaid script rest other → verdict_status other ≡ verdict_status verdict
+    (other : Verdict) → IsSaid script rest other → verdict_status other ≡ verdict_status verdict
 
 -- a script comes first, and this is to be said of what stands behind it
 pub record IsJudged (part rest : List ℕ) (script : Script) (verdict : Verdict) : Type 0 where
@@ -128,13 +128,11 @@ checking text =
       in_parts = false;
     }
 
--- the status is one of these; and where the script's reports are read in one way, it is that of whatever is to be said
--- of the text, unless a write failed
+-- the status is that of whatever is to be said of the text, unless a write failed
 abbrev pub IsSettledBy : List ℕ → ℕ → Type 0
 IsSettledBy text status =
-    ((status ≡ 0) ⊎ ((status ≡ 5) ⊎ (status ≡ 9)))
-    × ((verdict : Verdict) → (it : IsVerdict text verdict) → ReadsOne it.script
-    → (status ≡ verdict_status verdict) ⊎ ((status ≡ 5) × (verdict_status verdict ≡ 0)))
+    (verdict : Verdict) → IsVerdict text verdict
+    → (status ≡ verdict_status verdict) ⊎ ((status ≡ 5) × (verdict_status verdict ≡ 0))
 
 -- the word for which a report is checked
 abbrev pub check_word : Word

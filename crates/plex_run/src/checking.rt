@@ -1,5 +1,5 @@
 //! Checks: a report that comes behind its script is read and judged, and what is found is told.
-ghost use Rattle.std.specs.Prelude.{◌≡◌, ◌⊎◌, ◌≤◌, ◌<◌, length, IfOk, IfErr, IfSome};
+ghost use Rattle.std.specs.Prelude.{◌≡◌, ◌⊎◌, ◌≤◌, ◌<◌, true, false, length, IfOk, IfErr, IfSome};
 ghost use Rattle.std.specs.Io.KnownBytes.{IsAtEnd};
 ghost use Rattle.plex_agent.specs.CfIo.Count.{Rises};
 ghost use Rattle.plex_load.specs.PlexScript.Limits.{KeepsLimits};
@@ -11,7 +11,7 @@ ghost use Rattle.plex_run.specs.StatusLines.{memory_line, too_long_line};
 ghost use Rattle.plex_run.specs.Written.{output, HasFailed, Writes, WritesFront, Gains};
 ghost use Rattle.plex_run.specs.Outcome.{script_limit, status_line};
 ghost use Rattle.plex_run.specs.Statuses.{OfText};
-ghost use Rattle.plex_run.specs.Checking.{check_limit, verdict_line, verdict_of, verdict_of_checked, verdict_status, IsOneAnswer, IsSaid, IsOnlyStatus, IsJudged, EndsCheck};
+ghost use Rattle.plex_run.specs.Checking.{check_limit, verdict_line, verdict_of, verdict_of_checked, verdict_status, ReadsOne, IsOneAnswer, IsSaid, IsOnlyStatus, IsJudged, EndsCheck};
 
 use crate::cutting::cut;
 use crate::program::{SCRIPT_LIMIT, refused};
@@ -21,7 +21,9 @@ use crate::writing::{say, say_no_memory, say_unread, script_too_long};
 use check_model::{Checked, Printed, one_answer};
 use plex_agent::sources::{Sink, Source, read_all, write_all};
 use plex_check::check;
-use plex_load::scripts::{ReadFault, Script, keeps_limits, never_both, one_script, read, well_formed};
+use plex_load::scripts::{
+    ReadFault, Script, keeps_limits, never_both, one_script, read, well_formed,
+};
 use plex_load::types::NoMemory;
 use report_read::{TextBad, read_report};
 use std::alloc::Global;
@@ -44,6 +46,22 @@ fn whole_too_long() -> &'static [u8]
     ensures { result.now ≡ too_long_line check_limit }
 {
     b"TOOLONG 16777216\n"
+}
+
+// Whether a script is too long.
+fn is_long(part: &[u8]) -> bool
+    ensures long { result ≡ true → script_limit < length part.now }
+    ensures fits { result ≡ false → length part.now ≤ script_limit }
+{
+    part.len() > SCRIPT_LIMIT
+}
+
+// Each text is read in one way as a report of the script.
+fn one_reading(script: &Script)
+    requires { KeepsLimits script.now }
+    ensures { ReadsOne script.now }
+{
+    let _ = script;
 }
 
 // What a check answers of what a report prints.
@@ -69,6 +87,7 @@ fn found_in(alloc: Global, script: &Script, text: &[u8]) -> Result<Found, NoMemo
     ensures only { IfOk result (λ found. IsOnlyStatus script.now text.now
         (verdict_of script.now found)) }
 {
+    one_reading(script);
     let printed = match read_report(alloc, script, text) {
         Ok(printed) => printed,
         Err(TextBad::Line { line }) => return Ok(Found::Unread { line }),
@@ -173,7 +192,7 @@ fn checked_text<K: Sink>(alloc: Global, text: &[u8], sink: &mut K) -> u8
     let Some((part, rest)) = cut(text) else {
         return refused(alloc, 0, b"NOREPORT", sink);
     };
-    if part.len() > SCRIPT_LIMIT {
+    if is_long(part) {
         say(sink, script_too_long());
         return 7;
     }

@@ -68,11 +68,7 @@ fn checked_line(alloc: Global, script: &Script, answer: Checked) -> Result<Vec<u
 /// # Errors
 ///
 /// `NoMemory` where there is no memory for the line.
-pub(crate) fn found_line(
-    alloc: Global,
-    script: &Script,
-    found: Found,
-) -> Result<Vec<u8>, NoMemory>
+pub(crate) fn found_line(alloc: Global, script: &Script, found: Found) -> Result<Vec<u8>, NoMemory>
     ensures { IfOk result (λ line. line.items ≡ verdict_line (verdict_of script.now found)) }
 {
     match found {

@@ -1,4 +1,4 @@
-use Rattle.plex_run.proofs.Imports.{check_limit, refl}
+use Rattle.plex_run.proofs.Imports.{check_limit}
 use Rattle.plex_run.proofs.{UnreadLaws.unread_long, TextLaws.unread_ends, CheckingLaws.whole_too_long, CheckingLaws.longer_than_script}
 use Rattle.plex_run.proofs.checking.checked_in.Goals as goal
 

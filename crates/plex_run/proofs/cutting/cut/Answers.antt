@@ -18,5 +18,8 @@ returns-then-is_report-2-clause-split c = found_last c.args.text.now c.loop-plac
 
 pub returns-clause-none : goal.returns-clause-none
 returns-clause-none c = λ none. found_none c.args.text.now c.loop-place.at c.loop-place.rest.now
-    c.loop-place.invariant (grind (arith, c.feed_place.ensures, c.in_default)) (grind (arith, c.is_report-2.ensures,
-    c.if-is_report-2.false))
+    c.loop-place.invariant (grind (arith, c.feed_place.ensures, c.in_default)) (grind (
+      arith,
+      c.is_report-2.ensures,
+      c.if-is_report-2.false,
+    ))
