@@ -1,6 +1,7 @@
 """What ./plexrun says beside the program. Nothing of it is proved.
 
   tell.py wrong LINE WHY < SCRIPT   which word of that line is wrong, and what should stand there
+  tell.py no WORDS.. < INPUT        which line of a report the answer `NO WORDS..` names, of a script, a line REPORT and that report
   tell.py judged < SCRIPT           what is wrong with a script, found without the program; the status is 1 where something is
   tell.py refused < REPORT          why each call was refused, where each was
   tell.py help WORD..               the forms of commands and of lines of the policy
@@ -12,6 +13,7 @@ import re
 import sys
 
 sys.dont_write_bytecode = True
+from denied import denied, without_report
 from hints import by_says, form_says, hints, kind_says, listed, near
 from joined import NotOfScript, joined
 from judge import PAGE, first_fault, without_return
@@ -35,7 +37,18 @@ def show_fault(text, number, why):
 
 
 def wrong(number, why):
-    show_fault(sys.stdin.buffer.read(), int(number), why)
+    text = sys.stdin.buffer.read()
+    if why == 'NOREPORT':
+        for it in without_report(text):
+            say(it)
+    else:
+        show_fault(text, int(number), why)
+    return 0
+
+
+def no(*words):
+    for it in denied(sys.stdin.buffer.read(), words):
+        say(it)
     return 0
 
 
@@ -122,7 +135,7 @@ def join(script, report=None):
 def main(task, *words):
     if task == 'help':
         return max(map(help_says, words))
-    return {'wrong': wrong, 'judged': judged, 'refused': refused, 'joined': join}[task](*words)
+    return {'wrong': wrong, 'no': no, 'judged': judged, 'refused': refused, 'joined': join}[task](*words)
 
 
 if __name__ == '__main__':

@@ -40,7 +40,7 @@ question() {
 
 # Keeps the answer at descriptor 5, and the newest others: the status in the first line, and then what was written. (Where it can't be kept nothing is lost.)
 keep_answer() {
-    case $status in 0 | 3 | 7 | 8) ;; *) return 0 ;; esac
+    case $status in 0 | 3 | 7 | 8 | 9) ;; *) return 0 ;; esac
     {
         mkdir -p "$answers" && { echo "$status"; cat /proc/self/fd/5; } >"$answers/new.$$" && mv "$answers/new.$$" "$answers/$1" &&
             ls -t "$answers" | tail -n +"$((KEPT + 1))" | while read -r old; do rm -f -- "$answers/$old"; done
@@ -88,7 +88,7 @@ run_unproved() {
     find_answer "$question" || find_out "$question" "$@"
     case $status in
     0) ! are_refused </proc/self/fd/5 || tell refused </proc/self/fd/5 ;;
-    3) [ -n "$judged" ] || explain "$(head -n 1 /proc/self/fd/5)" ;;
+    3 | 9) [ -n "$judged" ] || explain "$(head -n 1 /proc/self/fd/5)" ;;
     esac
     cat <&5 || status=5
     exit "$status"
