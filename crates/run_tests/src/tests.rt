@@ -1,3 +1,4 @@
+mod checks;
 mod faults;
 mod gates;
 mod journals;
@@ -214,6 +215,12 @@ const FOUR: &str = "FACILITY CF1 160\n\
     CONNECTOR C\n\
     CONNECTOR D\n";
 
+/// What each does.
+const FOUR_LINES: &str = "A PAGES CONNECT DELETE\nB QUEUE CONNECT DELETE\n\
+    C LOCKS CONNECT DELETE\nD COPIES CONNECT DELETE\n\
+    A PAGES WRITE P1 0 a CHANGED 1\nB QUEUE WRITE 0 TAIL DATA b\n\
+    C LOCKS OBTAIN R1@5 EXCL\nD COPIES READ P1 0\n";
+
 /// What the run of the four shows, whatever the schedule.
 const FOUR_DONE: &str = "HISTORY PAGES 3\n\
     1 A CONNECT DELETE -> OK NEW CF1\n\
@@ -249,14 +256,7 @@ const SECONDS: [LineOf; 4] = [
 #[test]
 fn four_at_once(rt: HostRuntime) -> Result<(), Fail> {
     let holds = at_once(rt.alloc(), &SECONDS)?;
-    let given = on_threads(
-        FOUR,
-        "A PAGES CONNECT DELETE\nB QUEUE CONNECT DELETE\n\
-         C LOCKS CONNECT DELETE\nD COPIES CONNECT DELETE\n\
-         A PAGES WRITE P1 0 a CHANGED 1\nB QUEUE WRITE 0 TAIL DATA b\n\
-         C LOCKS OBTAIN R1@5 EXCL\nD COPIES READ P1 0\n",
-    );
-    let ran = given.ran(&rt, rt.alloc(), &holds)?;
+    let ran = on_threads(FOUR, FOUR_LINES).ran(&rt, rt.alloc(), &holds)?;
     assert!(rt; ran.tells(FOUR, FOUR_DONE));
     Ok(())
 }

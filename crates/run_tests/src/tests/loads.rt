@@ -30,7 +30,7 @@ fn the_load_of_seven(rt: HostRuntime) -> Result<(), Fail> {
 }
 
 /// What is told of words that the program doesn't have.
-pub(super) const USAGE: &str = "USAGE plexrun serial or threads or load N or locks\n";
+pub(super) const USAGE: &str = "USAGE plexrun serial or threads or load N or locks or check\n";
 
 // Numbers are those of scripts: without zeros in front, and of 32 bits.
 #[test]
