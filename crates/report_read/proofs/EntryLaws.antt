@@ -1,25 +1,20 @@
 -- Entries of a history, one line each.
-use Rattle.std.proofs.Common.{◌≡◌, ℕ, ◌+◌, ◌-◌, ◌<◌, ◌≤◌, true, List, [], ◌∷◌, ◌++◌, length, map, drop, replicate, All, refl, sym, ap, subst, ◌∙◌, arith, length-append}
+use Rattle.std.proofs.Common.{◌≡◌, ℕ, ◌+◌, List, [], ◌∷◌, drop, refl, sym, subst}
 use Rattle.std.specs.Prelude.{Option, Some, None, IfSome, IfNone}
 use Rattle.report_texts.specs.CheckModel.RunShown.CfTypes.declared.numbers.StrNo.{StrNo}
 use Rattle.report_texts.specs.CheckModel.RunShown.PlexScript.declared.scripts.Script.{Script}
-use Rattle.report_texts.specs.CheckModel.RunShown.PlexScript.Causes.{kind_of}
 use Rattle.report_texts.specs.CheckModel.RunShown.PlexScript.Limits.{KeepsLimits}
 use Rattle.report_texts.specs.Texts.{feeds}
-use Rattle.std.proofs.lemmas.List.{map-append}
-use Rattle.std.proofs.lemmas.List.Elements.{All-nil, All-cons, All-append}
-use Rattle.report_fronts.specs.Steps.{Reads}
 use Rattle.report_fronts.specs.Fronts.{AreReportsFree}
-use Rattle.report_fronts.specs.Slots.{Slot, IsEntryLine, Opens}
+use Rattle.report_fronts.specs.Slots.{Slot, Opens}
 use Rattle.report_fronts.specs.Slots.Slot.{Entered}
 use Rattle.report_fronts.proofs.EntryLaws.{entries_free, items_free}
 use Rattle.report_fronts.proofs.FreeLaws.{reports_free}
-use Rattle.report_fronts.proofs.StepLaws.{reads_line, reads_none, reads_more, stops_short, stops_other, stops_among}
+use Rattle.report_fronts.proofs.StepLaws.{reads_line, stops_short, stops_other}
 use Rattle.report_read.specs.declared.cursor.Cursor.{Cursor}
-use Rattle.report_read.specs.declared.cursor.TextBad.{TextBad}
 use Rattle.report_read.specs.declared.cursor.TextBad.TheVariants as bad
-use Rattle.report_read.specs.Lines.{at_of, IsPlaced, IsCut}
-use Rattle.report_read.specs.Reads.{IsRead, AreRead, IsStop}
+use Rattle.report_read.specs.Lines.{at_of, IsCut}
+use Rattle.report_read.specs.Reads.{IsRead, IsStop}
 use Rattle.report_read.specs.Histories.{Shows}
 
 pub frees : (script : Script) → KeepsLimits script → AreReportsFree script

@@ -1,5 +1,5 @@
 -- Histories: a heading, and as many entries as it tells.
-use Rattle.std.proofs.Common.{◌≡◌, ◌⊎◌, inl, inr, ℕ, zero, suc, ◌+◌, ◌-◌, ◌<◌, ◌≤◌, ◌^◌, true, List, [], ◌∷◌, ◌++◌, length, map, drop, replicate, codes, slice_get, Option, Some, All, refl, sym, ap, subst, ◌∙◌, arith, append_assoc, append-nil, length-append}
+use Rattle.std.proofs.Common.{◌≡◌, inr, ℕ, ◌+◌, ◌<◌, ◌^◌, List, [], ◌∷◌, replicate, codes, Option, refl, sym, ap, subst, ◌∙◌}
 use Rattle.std.specs.Option.{option_map_or}
 use Rattle.cf_types.specs.declared.cache_commands.CacheCmd.{CacheCmd}
 use Rattle.cf_types.specs.declared.cache_commands.CacheReply.{CacheReply}
@@ -24,21 +24,19 @@ use Rattle.plex_report.specs.CommandWords.{cache_words, list_words, lock_words}
 use Rattle.plex_report.specs.Lines.{heading, entry_line, history_lines}
 use Rattle.plex_report.specs.Naming.{structure_name}
 use Rattle.plex_report.specs.ReplyWords.{cache_reply_words, list_reply_words, lock_reply_words}
-use Rattle.plex_report.specs.Report.{lines_each}
 use Rattle.reply_rows.specs.Contents.{cache_row, list_row, lock_row}
 use Rattle.report_lines.specs.Picked.{IsPicked}
 use Rattle.report_lines.specs.Readable.{IsEntry}
 use Rattle.reply_rows.specs.Within.{IsCacheReply, IsListReply, IsLockReply}
-use Rattle.report_texts.specs.Readable.{AreEntries}
-use Rattle.report_fronts.specs.Slots.{Slot, IsEntryLine, Opens, history_slot, slots_each}
+use Rattle.report_fronts.specs.Slots.{IsEntryLine, history_slot}
 use Rattle.report_fronts.specs.Slots.Slot.{Entered}
 use Rattle.report_fronts.specs.Steps.{Reads}
-use Rattle.report_fronts.proofs.StepLaws.{reads_on, reads_both, reads_none, stops_on, stops_behind, stops_above}
+use Rattle.report_fronts.proofs.StepLaws.{reads_on, stops_on}
 use Rattle.report_read.specs.declared.cursor.Cursor.{Cursor}
 use Rattle.report_read.specs.declared.cursor.TextBad.{TextBad}
 use Rattle.report_read.specs.declared.cursor.TextBad.TheVariants as bad
-use Rattle.report_read.specs.Lines.{at_of, IsPlaced, IsCut}
-use Rattle.report_read.specs.Reads.{IsRead, AreRead, AreEachRead, IsStop}
+use Rattle.report_read.specs.Lines.{at_of, IsCut}
+use Rattle.report_read.specs.Reads.{IsRead, AreRead, IsStop}
 use Rattle.report_read.specs.Histories.{Shows, IsHistory, AreBehind, IsList, entries_behind}
 use Rattle.report_read.proofs.EntryLaws.{line_read, line_other}
 

@@ -1,5 +1,5 @@
 -- A text is the report of one reading whose entries are meant so.
-use Rattle.std.proofs.Common.{◌≡◌, ℕ, zero, suc, ◌+◌, ◌<◌, ◌^◌, true, List, [], ◌∷◌, ◌++◌, length, map, codes, slice_get, Some, All, decimal, refl, sym, ap, subst, ◌∙◌, arith, append_assoc, append-nil}
+use Rattle.std.proofs.Common.{◌≡◌, ℕ, zero, suc, ◌+◌, ◌<◌, ◌^◌, List, [], ◌∷◌, ◌++◌, length, map, codes, slice_get, Some, All, decimal, refl, sym, ap, subst, ◌∙◌, arith, append_assoc, append-nil}
 use Rattle.std.proofs.lemmas.Fmt.{decimal_injective}
 use Rattle.std.proofs.lemmas.List.{append_cancel_left}
 use Rattle.cf_types.specs.declared.forms.Kind.{Kind}
@@ -11,7 +11,6 @@ use Rattle.engine_api.specs.declared.histories.Entry.{Entry}
 use Rattle.plex_script.specs.declared.asks.AnyHistory.{AnyHistory}
 use Rattle.plex_script.specs.declared.asks.AnyHistory.TheVariants as history
 use Rattle.plex_script.specs.declared.scripts.AnyAsk.{AnyAsk}
-use Rattle.plex_script.specs.declared.scripts.AnyAsk.TheVariants as ask
 use Rattle.plex_script.specs.declared.scripts.Script.{Script}
 use Rattle.plex_script.specs.declared.transcripts.AgentEnd.{AgentEnd}
 use Rattle.plex_script.specs.declared.transcripts.AgentEnd.TheVariants as ended
@@ -25,8 +24,8 @@ use Rattle.plex_report.specs.ReplyWords.{cache_reply_words, list_reply_words, lo
 use Rattle.plex_report.specs.Report.{lines_each, report_lines, by_number, structures_lines, histories_lines, transcripts_lines}
 use Rattle.plex_plain.specs.PolicyLines.{facility_line, connector_line}
 use Rattle.line_rows.specs.Rows.{Row}
-use Rattle.reply_rows.specs.Contents.{cache_row, list_row, lock_row}
-use Rattle.reply_rows.specs.Within.{IsCacheReply, IsListReply, IsLockReply}
+use Rattle.reply_rows.specs.Contents.{cache_row, list_row}
+use Rattle.reply_rows.specs.Within.{IsCacheReply, IsListReply}
 use Rattle.report_lines.specs.Picked.{IsPicked}
 use Rattle.report_lines.specs.Readable.{IsEntry, IsItem}
 use Rattle.report_lines.proofs.EntryLaws.{IsKind}
@@ -81,7 +80,7 @@ heading_same : (word name : List ℕ) (m n : ℕ) → m < 2 ^ 64 → n < 2 ^ 64 
     → m ≡ n
 heading_same word name m n small small' e =
     let first = append_cancel_left
-        word ((32 ∷ name) ++ ((32 ∷ decimal m) ++ [])) ((32 ∷ name) ++ ((32 ∷ decimal n) ++ [])) e in
+    word ((32 ∷ name) ++ ((32 ∷ decimal m) ++ [])) ((32 ∷ name) ++ ((32 ∷ decimal n) ++ [])) e in
     let second = append_cancel_left (32 ∷ name) ((32 ∷ decimal m) ++ []) ((32 ∷ decimal n) ++ []) first in
     let third = append_cancel_left (32 ∷ []) (decimal m ++ []) (decimal n ++ []) second in
     decimal_injective m n small small' (sym (append-nil (decimal m)) ∙ third ∙ append-nil (decimal n))
@@ -127,7 +126,7 @@ module _ {X : Type 0} (lines : ℕ → X → Lines) (P : ℕ → X → Type 0) (
       let first = fixes n x y (lines_each lines (n + 1) xs ++ us) (lines_each lines (n + 1) ys ++ vs)
       (right_first n x xs h) (right_first n y ys k) apart in
       let rest =
-          each_same (n + 1) xs ys us vs (omega (arith, long)) (right_rest n x xs h) (right_rest n y ys k) first.1 in
+      each_same (n + 1) xs ys us vs (omega (arith, long)) (right_rest n x xs h) (right_rest n y ys k) first.1 in
       (ap (λ (z : X). z ∷ xs) first.0 ∙ ap (λ (zs : List X). y ∷ zs) rest.0, rest.1)
 
   pub all_same : (xs ys : List X) (us vs : Lines) → length xs ≡ length ys
@@ -260,7 +259,9 @@ module _ (script : Script) (keeps : KeepsLimits script) where
   same_printed one other e f = fields one.histories other.histories one.transcripts other.transcripts e f
     where
       fields : (a b : List AnyHistory) (c d : List Transcript) → a ≡ b → c ≡ d → (let x : Printed = record {
-          histories = a; transcripts = c } in x) ≡ (let y : Printed = record { histories = b; transcripts = d } in y)
+        histories = a;
+        transcripts = c;
+      } in x) ≡ (let y : Printed = record { histories = b; transcripts = d } in y)
       fields a b c d e f = cc
 
   pub one_report : (text : List ℕ) (one other : Printed) → IsReport script text one → ArePicked script one

@@ -1,14 +1,13 @@
 -- Transcripts: a heading, and as many items as it tells.
-use Rattle.std.proofs.Common.{◌≡◌, ◌⊎◌, inl, inr, ℕ, ◌+◌, ◌<◌, ◌^◌, List, [], ◌∷◌, ◌++◌, length, map, replicate, codes, All, refl, sym, ap, subst, ◌∙◌, arith}
+use Rattle.std.proofs.Common.{◌≡◌, ◌⊎◌, inl, inr, ℕ, ◌+◌, ◌<◌, ◌^◌, List, [], ◌∷◌, length, map, replicate, codes, refl, sym, subst, ◌∙◌, arith}
 use Rattle.plex_script.specs.Limits.{KeepsLimits}
-use Rattle.plex_report.specs.Lines.{heading, shown_line, transcript_lines}
+use Rattle.plex_report.specs.Lines.{shown_line, transcript_lines}
 use Rattle.plex_report.specs.Naming.{caller_name}
 use Rattle.report_texts.specs.CheckModel.RunShown.PlexScript.declared.scripts.Script.{Script}
 use Rattle.report_texts.specs.CheckModel.RunShown.PlexScript.declared.transcripts.AgentEnd.TheVariants as ended
 use Rattle.report_texts.specs.CheckModel.RunShown.PlexScript.declared.transcripts.Shown.{Shown}
-use Rattle.report_texts.specs.CheckModel.RunShown.PlexScript.declared.transcripts.Transcript.{Transcript}
 use Rattle.report_lines.specs.Readable.{IsItem}
-use Rattle.report_fronts.specs.Slots.{Slot, MayFill, Opens, transcript_slot}
+use Rattle.report_fronts.specs.Slots.{Slot, Opens, transcript_slot}
 use Rattle.report_fronts.specs.Slots.Slot.{Listed}
 use Rattle.report_fronts.specs.Steps.{Reads}
 use Rattle.report_fronts.proofs.ReportLaws.{heading_same}
@@ -28,9 +27,11 @@ module _ (script : Script) (text : List ℕ) (from : Cursor) where
       → (shown_line script item ≡ line) × IsItem script item
       → IsItem script item × IsRead script text from (Listed ∷ []) (shown_line script item ∷ []) [] to
   item_read item line to cut found =
-      let same = subst (λ (l : List ℕ). IsCut text from l to) (sym found.0) cut in
-      (found.1, line_read script text from to Listed (shown_line script item) [] same
-      ((item, found.1, refl), refl))
+      let same = subst (λ (l : List ℕ). IsCut text from l to) (sym found.0) cut in (
+        found.1,
+        line_read script text from to Listed (shown_line script item) [] same
+            ((item, found.1, refl), refl),
+      )
 
   pub item_other : (line : List ℕ) (to : Cursor) → KeepsLimits script → IsCut text from line to
       → ((item : Shown) → IsItem script item → shown_line script item ≡ line → ⊥)
@@ -81,18 +82,21 @@ module _ (script : Script) (number : ℕ) (text : List ℕ) (from : Cursor) wher
       → IsTranscript script (record { items = items; end = ended.Done })
       × IsRead script text from (transcript_slot script number ∷ [])
       (transcript_lines script number (record { items = items; end = ended.Done })) [] to
-  transcript_read n items behind to small first then = (record {
-    done = refl;
-    count = subst (λ (k : ℕ). k < 2 ^ 64) (sym then.long) small;
-    each = then.each;
-  }, record {
-    reads = subst (λ (k : ℕ). Reads script text (at_of from) (transcript_slot script number ∷ []) (at_of to)
-        (transcript_heading script number k ∷ map (shown_line script) items) []) (sym then.long)
-        (reads_on script text (at_of from) (at_of behind) (at_of to) (transcript_slot script number ∷ [])
-        (replicate n Listed) [] (transcript_heading script number n ∷ []) (map (shown_line script) items)
-        first.reads then.read.reads);
-    placed = then.read.placed;
-  })
+  transcript_read n items behind to small first then = (
+    record {
+      done = refl;
+      count = subst (λ (k : ℕ). k < 2 ^ 64) (sym then.long) small;
+      each = then.each;
+    },
+    record {
+      reads = subst (λ (k : ℕ). Reads script text (at_of from) (transcript_slot script number ∷ []) (at_of to)
+          (transcript_heading script number k ∷ map (shown_line script) items) []) (sym then.long)
+          (reads_on script text (at_of from) (at_of behind) (at_of to) (transcript_slot script number ∷ [])
+          (replicate n Listed) [] (transcript_heading script number n ∷ []) (map (shown_line script) items)
+          first.reads then.read.reads);
+      placed = then.read.placed;
+    },
+  )
 
   pub transcript_stop : (n : ℕ) (behind : Cursor) (why : TextBad)
       → IsRead script text from (transcript_slot script number ∷ []) (transcript_heading script number n ∷ [])

@@ -1,5 +1,5 @@
 -- A report is its policy, its histories and its transcripts, to the end of the text.
-use Rattle.std.proofs.Common.{◌≡◌, ℕ, ◌+◌, ◌<◌, ◌≤◌, List, [], ◌∷◌, ◌++◌, length, map, drop, codes, refl, sym, ap, subst, ◌∙◌, arith, append_assoc, append-nil, length-drop}
+use Rattle.std.proofs.Common.{◌≡◌, ℕ, ◌+◌, ◌<◌, ◌≤◌, List, [], ◌∷◌, ◌++◌, length, map, drop, codes, refl, ap, ◌∙◌, arith, append_assoc, append-nil, length-drop}
 use Rattle.std.specs.List.{flat_map}
 use Rattle.plex_script.specs.PlexSpell.Words.{line_text}
 use Rattle.plex_script.specs.PlexPlain.PolicyLines.{facility_line, connector_line}
@@ -9,18 +9,15 @@ use Rattle.plex_report.specs.Report.{by_number, lines_each, report_lines, struct
 use Rattle.report_texts.specs.CheckModel.RunShown.PlexScript.declared.asks.AnyHistory.{AnyHistory}
 use Rattle.report_texts.specs.CheckModel.RunShown.PlexScript.declared.scripts.Script.{Script}
 use Rattle.report_texts.specs.CheckModel.RunShown.PlexScript.declared.transcripts.Transcript.{Transcript}
-use Rattle.report_texts.specs.CheckModel.declared.printed.Printed.{Printed}
 use Rattle.report_texts.specs.Readable.{AreReadable}
 use Rattle.report_texts.specs.Texts.{IsReport}
-use Rattle.report_fronts.specs.Fronts.{Stands}
 use Rattle.report_fronts.specs.Slots.{Slot, policy_lines, history_slot, transcript_slot, slots_each, slots_from, caller_slots_from, end_slots, report_slots}
-use Rattle.report_fronts.specs.Slots.Slot.{Exactly}
 use Rattle.report_fronts.proofs.StepLaws.{starts}
 use Rattle.report_fronts.proofs.TextLaws.{first_unread}
 use Rattle.report_read.specs.declared.cursor.Cursor.{Cursor}
 use Rattle.report_read.specs.declared.cursor.TextBad.{TextBad}
 use Rattle.report_read.specs.declared.cursor.TextBad.TheVariants as bad
-use Rattle.report_read.specs.Lines.{at_of, IsPlaced}
+use Rattle.report_read.specs.Lines.{IsPlaced}
 use Rattle.report_read.specs.Reads.{TellsLine, IsRead, AreEachRead, IsStop, exact_slots}
 use Rattle.report_read.specs.Histories.{IsHistory}
 use Rattle.report_read.specs.Transcripts.{IsTranscript}
@@ -106,10 +103,11 @@ module _ (script : Script) (text : List ℕ) (from : Cursor) where
       → EndsWith script text to end_slots (codes "END" ∷ [])
       → AreTranscripts script transcripts × EndsWith script text from (caller_slots_from script callers 0)
       (transcripts_lines script transcripts ++ codes "END" ∷ [])
-  behind_read transcripts to read then =
-      (record { long = read.long; each = λ c transcript e. read.each c transcript e },
-      ends_behind to (slots_each (transcript_slot script) callers 0) end_slots
-      (lines_each (transcript_lines script) 0 transcripts) (codes "END" ∷ []) read.read then)
+  behind_read transcripts to read then = (
+    record { long = read.long; each = λ c transcript e. read.each c transcript e },
+    ends_behind to (slots_each (transcript_slot script) callers 0) end_slots
+        (lines_each (transcript_lines script) 0 transcripts) (codes "END" ∷ []) read.read then,
+  )
 
 -- ---- the whole
 
@@ -194,7 +192,8 @@ module _ (script : Script) (text : List ℕ) where
       let all = ends_behind script text start behind (exact_slots (policy_lines script))
       (slots_from script (length script.structures) 0) (policy_lines script)
       (lines_each (history_lines script) 0 histories ++ (transcripts_lines script transcripts ++ codes "END" ∷ []))
-      policy last in
-      (readable behind to histories transcripts read rest.0,
-      all [] (starts script text)
-      ∙ ap (λ (ls : List (List ℕ)). flat_map line_text ls) (same_lines histories transcripts))
+      policy last in (
+        readable behind to histories transcripts read rest.0,
+        all [] (starts script text)
+            ∙ ap (λ (ls : List (List ℕ)). flat_map line_text ls) (same_lines histories transcripts),
+      )

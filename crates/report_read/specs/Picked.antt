@@ -1,6 +1,5 @@
 -- Entries that are meant so, of histories of whatever kind.
-use Rattle.std.specs.Prelude.{◌≡◌, ℕ, List, slice_get, Some, All}
-use Rattle.cf_types.specs.declared.names.Name16.{Name16}
+use Rattle.std.specs.Prelude.{◌≡◌, ℕ, slice_get, Some, All}
 use Rattle.cf_types.specs.declared.numbers.StrNo.{StrNo}
 use Rattle.plex_script.specs.declared.asks.AnyHistory.{AnyHistory}
 use Rattle.plex_script.specs.declared.asks.AnyHistory.TheVariants as history

@@ -1,4 +1,4 @@
-use Rattle.std.proofs.Common.{rules, ◌≡◌, length, arith}
+use Rattle.std.proofs.Common.{rules}
 use Rattle.report_read.proofs.TranscriptLaws.{told_none, told_many}
 use Rattle.report_read.proofs.transcripts.items_told.Goals as goal
 
