@@ -1,5 +1,4 @@
-ghost use Rattle.std.specs.Prelude.{◌≡◌, ◌+◌, ◌<◌, ◌≤◌, All, IfOk, IfSome, None, Some, length, min};
-ghost use Rattle.cf_types.specs.declared.limits.TheConstants.{STRUCTURES};
+ghost use Rattle.std.specs.Prelude.{◌≡◌, ◌<◌, ◌≤◌, All, IfOk, IfSome, None, length};
 ghost use Rattle.caller_slots.specs.RunShown.Headline.{place_of};
 ghost use Rattle.caller_slots.specs.RunShown.PlexScript.WellFormed.{IsWellFormed};
 ghost use Rattle.check_model.specs.Judged.{AreLegalBelow, IsBadItemOf};

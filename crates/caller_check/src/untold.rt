@@ -1,6 +1,6 @@
-ghost use Rattle.std.specs.Prelude.{◌≡◌, ◌↔◌, ◌<◌, ◌≤◌, All, IfOk, Some, length, replicate, slice_get, slice_index_or, true};
+ghost use Rattle.std.specs.Prelude.{◌≡◌, ◌<◌, ◌≤◌, All, IfOk, length, replicate};
 ghost use Rattle.caller_slots.specs.RunShown.Headline.{place_of};
-ghost use Rattle.caller_waits.specs.Tests.{AreSmall, IsSmall};
+ghost use Rattle.caller_waits.specs.Tests.{IsSmall};
 ghost use Rattle.caller_check.specs.Tables.{rows_of};
 ghost use Rattle.caller_check.specs.Untold.{AreSeen, HaveQueues, HaveRows, IsFirstUntold, IsItemPast, IsQueueAt, bit_past, item_past, past, unless_one, word_past};
 
