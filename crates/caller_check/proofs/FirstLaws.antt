@@ -1,7 +1,7 @@
 -- What is asked of the first item that isn't right.
-use Rattle.std.proofs.Common.{◌≡◌, ℕ, zero, suc, ◌+◌, ◌*◌, ◌<◌, ◌≤◌, ◌==◌, ◌&&◌, not, min, inl, inr, ◌⊎◌, Bool, true, false, if◌then◌else◌, List, [], ◌∷◌, ◌++◌, length, take, drop, slice_get, Option, Some, None, refl, sym, ap, subst, ◌∙◌, arith}
+use Rattle.std.proofs.Common.{◌≡◌, ℕ, zero, suc, ◌+◌, ◌*◌, ◌<◌, ◌≤◌, ◌==◌, ◌&&◌, not, min, inl, inr, Bool, true, false, if◌then◌else◌, List, [], ◌∷◌, ◌++◌, length, take, slice_get, Option, Some, None, refl, sym, ap, subst, ◌∙◌, arith}
 use Rattle.std.specs.Prelude.{All}
-use Rattle.std.proofs.lemmas.Bool.{cases_lt, cases_order, false≢true, eq-eqb, and_parts}
+use Rattle.std.proofs.lemmas.Bool.{cases_lt, cases_order, false≢true, and_parts}
 use Rattle.std.proofs.lemmas.Bool.Decides.{nat_tests}
 use Rattle.std.proofs.lemmas.List.{length-take}
 use Rattle.std.proofs.lemmas.Option.{slice_get-get_or, slice_get_within, get_or_from_slice_get}
@@ -24,7 +24,6 @@ use Rattle.caller_slots.proofs.GapLaws.{fills_each}
 use Rattle.caller_slots.proofs.InSlots.{BeginsWithin, AreIn, AreAtStructures, whole_in}
 use Rattle.caller_items.specs.Orders.{IsSeen, IsInOrder, AreInOrder}
 use Rattle.caller_walk.specs.Running.{IsWhole, IsWalked}
-use Rattle.caller_walk.specs.Counts.{counted, no_count}
 use Rattle.caller_walk.specs.declared.counts.Count.{Count}
 use Rattle.caller_walk.proofs.FillLaws.{Met, met}
 use Rattle.caller_waits.proofs.TestLaws.{test_seen, word_seen}

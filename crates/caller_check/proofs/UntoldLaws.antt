@@ -14,7 +14,7 @@ use Rattle.caller_slots.specs.RunShown.CfTypes.declared.numbers.StrNo.{StrNo}
 use Rattle.caller_slots.specs.RunShown.PlexScript.declared.asks.AnyHistory.{AnyHistory}
 use Rattle.caller_slots.specs.RunShown.PlexScript.declared.transcripts.Shown.{Shown}
 use Rattle.caller_slots.specs.RunShown.PlexScript.Follows.{surest_on}
-use Rattle.caller_slots.specs.RunShown.Headline.{place_of, TellsOf, TestsTell}
+use Rattle.caller_slots.specs.RunShown.Headline.{place_of, TellsOf}
 use Rattle.caller_slots.proofs.Own.{same_place}
 use Rattle.vector_waits.specs.declared.wait.Wait.{Wait}
 use Rattle.vector_waits.specs.Waits.{QueueView}
@@ -22,7 +22,7 @@ use Rattle.caller_waits.specs.Tests.{item_waits, waits_at, waits_of, IsWithin, I
 use Rattle.caller_waits.proofs.TestLaws.{tells_waits, tells_within}
 use Rattle.caller_waits.proofs.FirstLaws.{IsRight, right_tests}
 use Rattle.caller_check.specs.Tables.{rows_of}
-use Rattle.caller_check.specs.Untold.{past, bit_past, then_past, word_past, item_past, IsQueueAt, HaveRows, IsItemPast, HaveQueues, AreSeen, IsFirstUntold}
+use Rattle.caller_check.specs.Untold.{bit_past, then_past, word_past, item_past, IsQueueAt, HaveRows, IsItemPast, HaveQueues, AreSeen, IsFirstUntold}
 use Rattle.caller_check.proofs.ToldLaws.{Fits, Answers, fits_left, fits_right, item_answers, queue_fits}
 
 -- ---- a word's bits
@@ -132,10 +132,10 @@ module _ (forms : List StrForm) (tables : List (List QueueView)) (conn : ConnId)
     queue = subst (λ (o : StrNo). IsQueueAt forms tables conn o vector waits) on_is found;
     small = small;
     goes = λ _. (
-        next,
-        sym (is ∙ ap (λ (n : ℕ). item_past vector waits item n) before_here),
-        new_is ∙ ap (λ (n : ℕ). set old n next) number_is,
-      );
+      next,
+      sym (is ∙ ap (λ (n : ℕ). item_past vector waits item n) before_here),
+      new_is ∙ ap (λ (n : ℕ). set old n next) number_is,
+    );
     stays = λ never. absurd (false≢true (sym never));
   }
 

@@ -24,8 +24,8 @@ use Rattle.caller_waits.specs.Tests.{waits_of}
 use Rattle.check_model.specs.Judged.{AreLegalBelow, IsBadItem, IsBadItemOf, IsGood}
 use Rattle.check_model.specs.Printings.{IsPrintedOf}
 use Rattle.check_model.specs.declared.printed.Printed.{Printed}
-use Rattle.caller_check.specs.Tables.{IsAnswered, AreAnswered}
-use Rattle.caller_check.specs.Untold.{HaveRows, HaveQueues}
+use Rattle.caller_check.specs.Tables.{AreAnswered}
+use Rattle.caller_check.specs.Untold.{HaveRows}
 use Rattle.caller_check.specs.First.{IsGoodOf, AreItemsOf, HaveQueuesInOrder, IsFirstWrong, first_bad}
 use Rattle.caller_check.proofs.FirstLaws.{one_order, unsound_bad, some_bad, none_bad}
 

@@ -1,5 +1,4 @@
-ghost use Rattle.std.specs.Prelude.{◌≡◌, ◌+◌, ◌<◌, ◌≤◌, All, IfOk, IfSome, None, Some, length, min};
-ghost use Rattle.cf_types.specs.declared.limits.TheConstants.{STRUCTURES};
+ghost use Rattle.std.specs.Prelude.{◌≡◌, ◌<◌, ◌≤◌, All, IfOk, IfSome, None, length};
 ghost use Rattle.caller_slots.specs.RunShown.Headline.{place_of};
 ghost use Rattle.caller_slots.specs.RunShown.PlexScript.WellFormed.{IsWellFormed};
 ghost use Rattle.check_model.specs.Judged.{AreLegalBelow, IsBadItemOf};
@@ -22,7 +21,9 @@ fn items_of(printed: &Printed, conn: ConnId) -> &[Shown]
     requires { conn.0 < length printed.now.transcripts }
     ensures { AreItemsOf printed.now conn result.now }
 {
-    printed.transcripts.items()[usize::from(conn.0)].items.items()
+    printed.transcripts.items()[usize::from(conn.0)]
+        .items
+        .items()
 }
 
 // How many of a caller's items, from the first on, are in order and tell what stood.
@@ -41,7 +42,14 @@ fn first_wrong(
     ensures { IfOk result (IsFirstWrong structures.now histories.now conn items.now) }
 {
     let ordered = in_order(alloc, histories, items)?;
-    let told = first_untold(alloc, structures, histories, tables, conn, &items[..ordered])?;
+    let told = first_untold(
+        alloc,
+        structures,
+        histories,
+        tables,
+        conn,
+        &items[..ordered],
+    )?;
     Ok(told)
 }
 

@@ -1,6 +1,6 @@
-ghost use Rattle.std.specs.Prelude.{◌≡◌, ◌↔◌, ◌<◌, ◌≤◌, All, IfOk, Some, length, replicate, slice_get, slice_index_or, true};
+ghost use Rattle.std.specs.Prelude.{◌≡◌, ◌<◌, ◌≤◌, All, IfOk, length, replicate};
 ghost use Rattle.caller_slots.specs.RunShown.Headline.{place_of};
-ghost use Rattle.caller_waits.specs.Tests.{AreSmall, IsSmall};
+ghost use Rattle.caller_waits.specs.Tests.{IsSmall};
 ghost use Rattle.caller_check.specs.Tables.{rows_of};
 ghost use Rattle.caller_check.specs.Untold.{AreSeen, HaveQueues, HaveRows, IsFirstUntold, IsItemPast, IsQueueAt, bit_past, item_past, past, unless_one, word_past};
 
@@ -24,7 +24,11 @@ fn unless_one(value: u32, k: u32, place: usize) -> Option<usize>
     requires { k < 32 }
     ensures { result ≡ unless_one value k place }
 {
-    if (value >> k) & 1 == 1 { None } else { Some(place) }
+    if (value >> k) & 1 == 1 {
+        None
+    } else {
+        Some(place)
+    }
 }
 
 // The place behind a bit of a word: its test is told, or it lies past the vector's end and is 0.
@@ -75,10 +79,8 @@ fn item_past(vector: u32, waits: &[Wait], item: &Shown, place: usize) -> Option<
     match item {
         Shown::Test { .. } => past(waits, place),
         Shown::Word { word, bits, .. } => word_past(vector, *word, *bits, waits, 32, place),
-        Shown::Call { .. }
-        | Shown::BadIndex { .. }
-        | Shown::Posted { .. }
-        | Shown::Took { .. } => Some(place),
+        Shown::Call { .. } | Shown::BadIndex { .. } | Shown::Posted { .. } | Shown::Took { .. } =>
+            Some(place),
     }
 }
 
@@ -190,7 +192,13 @@ pub(crate) fn first_untold(
     let _ = histories;
     let mut places = no_places(alloc, structures.len())?;
     for number in 0..items.len() {
-        if !take_item(structures, tables, conn, &items[number], places.as_mut_slice()) {
+        if !take_item(
+            structures,
+            tables,
+            conn,
+            &items[number],
+            places.as_mut_slice(),
+        ) {
             return Ok(number);
         }
     }
