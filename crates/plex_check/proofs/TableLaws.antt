@@ -1,8 +1,9 @@
 -- What a judge has found of a structure, as the table of its callers' queues.
-use Rattle.std.proofs.Common.{◌≡◌, ℕ, zero, suc, ◌+◌, ◌<◌, ◌≤◌, ◌⊎◌, inl, inr, List, [], ◌∷◌, ◌++◌, length, map, take, get_or, slice_get, Some, refl, sym, ap, subst, ◌∙◌, arith, Result}
+use Rattle.std.proofs.Common.{◌≡◌, ℕ, zero, suc, ◌+◌, ◌<◌, ◌≤◌, ◌⊎◌, inl, inr, List, [], ◌∷◌, ◌++◌, length, map, take, drop, get_or, slice_get, Some, refl, sym, ap, subst, ◌∙◌, arith, Result}
 use Rattle.std.specs.Prelude.{All, IfOk}
 use Rattle.std.proofs.lemmas.Option.{slice_get-get_or, slice_get_within}
 use Rattle.std.proofs.lemmas.List.{length-append, map-append}
+use Rattle.std.proofs.Math.Seq.{take-append_seam}
 use Rattle.std.proofs.lemmas.Result.{IfOk-weaker}
 use Rattle.std.specs.declared.alloc.Global.{Global}
 use Rattle.std.specs.declared.vec.Vec.{Vec}
@@ -68,6 +69,20 @@ module _ (printed : Printed) (on : StrNo) (form : StrForm) (entries : AnyHistory
         (each_of (AnySettled form entries) news conn.0 queue (told refl) at);
   }
   table_where olds news (Judged.Bad place) asking pairs judged told = any_bad form entries place judged
+
+  -- the same, as a slice writes the queues back into their Vec
+  pub table_back : (olds part news : List QueueView) (len : ℕ) → len ≡ length olds → part ≡ olds → (found : Judged)
+      → AreAsking olds → Pairs HasTestsOf part news → IsAnyJudged form entries found
+      → (found ≡ Judged.Legal → All (AnySettled form entries) news)
+      → IsTableWhere printed on form entries (take len (news ++ drop (length news) olds)) found
+  table_back olds part news len size same found asking pairs judged told =
+      let both : Pairs HasTestsOf olds news = subst (λ (p : List QueueView). Pairs HasTestsOf p news) same pairs in
+      let many : len ≡ length news = size ∙ sym (pairs_length HasTestsOf olds news both) in
+      let back : take len (news ++ drop (length news) olds) ≡ news =
+      ap (λ (n : ℕ). take n (news ++ drop (length news) olds)) many
+      ∙ take-append_seam news (drop (length news) olds) in
+      subst (λ (t : List QueueView). IsTableWhere printed on form entries t found) (sym back)
+      (table_where olds news found asking both judged told)
 
 -- ---- one structure after another
 
