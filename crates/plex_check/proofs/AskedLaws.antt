@@ -25,24 +25,24 @@ abbrev pub MayBeCalled : AnyCall → Type 0
 MayBeCalled call = MayAskAny call.by call.ask
 
 module _ {C R : Type 0} (of : Ask C → AnyAsk) (may : (by : ConnId) (ask : Ask C) → MayAskAny by (of ask) → MayAsk by ask)
-    where
-  first_may : (number : ℕ) (by : ConnId) (reply : Reply R) (what : What C) (entries : List (Entry C R))
-      → All MayBeCalled (map (any_call of) (calls (record { no = number; by = by; what = what; reply = reply } ∷ entries)))
-      → MayTell by what × All MayBeCalled (map (any_call of) (calls entries))
-  first_may number by reply (What.Call ask) entries all = (
-    may by ask (All-head MayBeCalled (any_call of (record { no = number; by = by; ask = ask; reply = reply }))
-        (map (any_call of) (calls entries)) all),
-    All-tail MayBeCalled (any_call of (record { no = number; by = by; ask = ask; reply = reply }))
-        (map (any_call of) (calls entries)) all,
-  )
-  first_may number by reply (What.Lost cf) entries all = (tt, all)
+  where
+    first_may : (number : ℕ) (by : ConnId) (reply : Reply R) (what : What C) (entries : List (Entry C R))
+        → All MayBeCalled (map (any_call of) (calls (record { no = number; by = by; what = what; reply = reply } ∷ entries)))
+        → MayTell by what × All MayBeCalled (map (any_call of) (calls entries))
+    first_may number by reply (What.Call ask) entries all = (
+      may by ask (All-head MayBeCalled (any_call of (record { no = number; by = by; ask = ask; reply = reply }))
+          (map (any_call of) (calls entries)) all),
+      All-tail MayBeCalled (any_call of (record { no = number; by = by; ask = ask; reply = reply }))
+          (map (any_call of) (calls entries)) all,
+    )
+    first_may number by reply (What.Lost cf) entries all = (tt, all)
 
-  pub all_askable : (entries : List (Entry C R)) → All MayBeCalled (map (any_call of) (calls entries))
-      → All IsAskable entries
-  all_askable [] all = All-nil IsAskable
-  all_askable (entry ∷ entries) all =
-      let parts = first_may entry.no entry.by entry.reply entry.what entries all in
-      All-cons IsAskable entry entries parts.0 (all_askable entries parts.1)
+    pub all_askable : (entries : List (Entry C R)) → All MayBeCalled (map (any_call of) (calls entries))
+        → All IsAskable entries
+    all_askable [] all = All-nil IsAskable
+    all_askable (entry ∷ entries) all =
+        let parts = first_may entry.no entry.by entry.reply entry.what entries all in
+        All-cons IsAskable entry entries parts.0 (all_askable entries parts.1)
 
 -- those of a structure of the script
 pub asked_of : (script : Script) (printed : Printed) → IsPrintedOf script printed → (forms : List StrForm)

@@ -38,11 +38,11 @@ module _ (script : Script) (printed : Printed) where
     structures = is.structures;
     histories_right = λ x form entries known there.
         let whose = is.histories x form entries known there in record {
-      kind = whose.kind;
-      legal = legal x form entries (slice_get_within script.structures x form known) known there;
-      callers = All-weaker (IsCallOf script) (λ call. call.by.0 ≤ length script.connectors) (λ call of. of.0)
-          (any_calls entries) whose.callers;
-    };
+          kind = whose.kind;
+          legal = legal x form entries (slice_get_within script.structures x form known) known there;
+          callers = All-weaker (IsCallOf script) (λ call. call.by.0 ≤ length script.connectors) (λ call of. of.0)
+              (any_calls entries) whose.callers;
+        };
     callers = is.callers;
     ends = λ c transcript there. ends_done (record { 0 = c }) transcript (is.done c transcript there)
         (good c transcript (slice_get_within printed.transcripts c transcript there) there).0;
@@ -79,9 +79,10 @@ module _ (script : Script) (printed : Printed) where
       → IfOk answer (λ a. a ≡ Checked.Yes (sum_by any_length histories)) → Fits answer
   yes_fits is legal n good past histories same answer = IfOk-weaker answer
       (λ a. a ≡ Checked.Yes (sum_by any_length histories)) (Judges script printed)
-      (λ a made. subst (Judges script printed) (sym made)
-      (shows_all is legal (λ c transcript less there. good c transcript (omega (arith, less, past)) there),
-      ap (sum_by any_length) same))
+      (λ a made. subst (Judges script printed) (sym made) (
+        shows_all is legal (λ c transcript less there. good c transcript (omega (arith, less, past)) there),
+        ap (sum_by any_length) same,
+      ))
 
   pub entry_fits : (on : StrNo) (place : ℕ) → AreLegalBelow script printed.histories on.0
       → IsBadEntryOf script printed.histories on place → (answer : Result Checked NoMemory)
