@@ -1,11 +1,10 @@
 -- What a check answers, where histories and callers are judged.
-use Rattle.std.proofs.Common.{◌≡◌, ℕ, zero, suc, ◌+◌, ◌<◌, ◌≤◌, ◌⊎◌, inl, inr, List, [], ◌∷◌, length, slice_get, Some, refl, sym, ap, subst, ◌∙◌, arith, sum_by, Result}
-use Rattle.std.specs.Prelude.{All, IfOk}
+use Rattle.std.proofs.Common.{◌≡◌, ℕ, ◌+◌, ◌≤◌, inl, inr, List, length, slice_get, Some, sym, ap, subst, arith, sum_by, Result}
+use Rattle.std.specs.Prelude.{IfOk}
 use Rattle.std.proofs.lemmas.List.Elements.{All-weaker}
 use Rattle.std.proofs.lemmas.Bool.{cases_lt}
 use Rattle.std.proofs.lemmas.Option.{slice_get_within}
 use Rattle.std.proofs.lemmas.Result.{IfOk-weaker}
-use Rattle.cf_types.specs.declared.forms.StrForm.{StrForm}
 use Rattle.cf_types.specs.NoMemory.declared.wants.NoMemory.{NoMemory}
 use Rattle.cf_types.specs.declared.numbers.ConnId.{ConnId}
 use Rattle.cf_types.specs.declared.numbers.StrNo.{StrNo}
@@ -20,7 +19,6 @@ use Rattle.check_model.specs.declared.checked.Checked.{Checked}
 use Rattle.check_model.specs.declared.printed.Printed.{Printed}
 use Rattle.check_model.specs.Judged.{AreGoodBelow, AreLegalBelow, IsBadEntryOf, IsBadItemOf, IsGood, Judges}
 use Rattle.check_model.specs.Printings.{IsCallOf, IsPrintedOf}
-use Rattle.plex_check.proofs.Rows.{some_same}
 
 module _ (script : Script) (printed : Printed) where
   -- a transcript with the end Done ends right where it follows the script
@@ -38,11 +36,11 @@ module _ (script : Script) (printed : Printed) where
     structures = is.structures;
     histories_right = λ x form entries known there.
         let whose = is.histories x form entries known there in record {
-      kind = whose.kind;
-      legal = legal x form entries (slice_get_within script.structures x form known) known there;
-      callers = All-weaker (IsCallOf script) (λ call. call.by.0 ≤ length script.connectors) (λ call of. of.0)
-          (any_calls entries) whose.callers;
-    };
+          kind = whose.kind;
+          legal = legal x form entries (slice_get_within script.structures x form known) known there;
+          callers = All-weaker (IsCallOf script) (λ call. call.by.0 ≤ length script.connectors) (λ call of. of.0)
+              (any_calls entries) whose.callers;
+        };
     callers = is.callers;
     ends = λ c transcript there. ends_done (record { 0 = c }) transcript (is.done c transcript there)
         (good c transcript (slice_get_within printed.transcripts c transcript there) there).0;
@@ -79,9 +77,10 @@ module _ (script : Script) (printed : Printed) where
       → IfOk answer (λ a. a ≡ Checked.Yes (sum_by any_length histories)) → Fits answer
   yes_fits is legal n good past histories same answer = IfOk-weaker answer
       (λ a. a ≡ Checked.Yes (sum_by any_length histories)) (Judges script printed)
-      (λ a made. subst (Judges script printed) (sym made)
-      (shows_all is legal (λ c transcript less there. good c transcript (omega (arith, less, past)) there),
-      ap (sum_by any_length) same))
+      (λ a made. subst (Judges script printed) (sym made) (
+        shows_all is legal (λ c transcript less there. good c transcript (omega (arith, less, past)) there),
+        ap (sum_by any_length) same,
+      ))
 
   pub entry_fits : (on : StrNo) (place : ℕ) → AreLegalBelow script printed.histories on.0
       → IsBadEntryOf script printed.histories on place → (answer : Result Checked NoMemory)
