@@ -1,7 +1,6 @@
 -- Each call of a printed history is one that its caller may ask.
 use Rattle.std.proofs.Common.{◌≡◌, ℕ, ◌<◌, List, [], ◌∷◌, map, length, get_or, sym, subst}
 use Rattle.std.specs.Prelude.{All}
-use Rattle.std.specs.List.{filter_map}
 use Rattle.std.proofs.lemmas.List.Elements.{All-nil, All-cons, All-head, All-tail, All-weaker}
 use Rattle.cf_types.specs.declared.forms.StrForm.{StrForm}
 use Rattle.cf_types.specs.declared.numbers.ConnId.{ConnId}
@@ -10,7 +9,7 @@ use Rattle.engine_api.specs.declared.asks.Reply.{Reply}
 use Rattle.engine_api.specs.declared.asks.What.{What}
 use Rattle.engine_api.specs.declared.histories.Entry.{Entry}
 use Rattle.engine_api.specs.Asking.{MayAsk}
-use Rattle.engine_api.specs.History.{calls, call_of}
+use Rattle.engine_api.specs.History.{calls}
 use Rattle.history_check.specs.Judging.{IsAskable, MayTell}
 use Rattle.check_model.specs.RunShown.PlexScript.declared.scripts.AnyAsk.{AnyAsk}
 use Rattle.check_model.specs.RunShown.PlexScript.declared.asks.AnyHistory.{AnyHistory}

@@ -1,11 +1,10 @@
 -- What a check answers, where histories and callers are judged.
-use Rattle.std.proofs.Common.{◌≡◌, ℕ, zero, suc, ◌+◌, ◌<◌, ◌≤◌, ◌⊎◌, inl, inr, List, [], ◌∷◌, length, slice_get, Some, refl, sym, ap, subst, ◌∙◌, arith, sum_by, Result}
-use Rattle.std.specs.Prelude.{All, IfOk}
+use Rattle.std.proofs.Common.{◌≡◌, ℕ, ◌+◌, ◌≤◌, inl, inr, List, length, slice_get, Some, sym, ap, subst, arith, sum_by, Result}
+use Rattle.std.specs.Prelude.{IfOk}
 use Rattle.std.proofs.lemmas.List.Elements.{All-weaker}
 use Rattle.std.proofs.lemmas.Bool.{cases_lt}
 use Rattle.std.proofs.lemmas.Option.{slice_get_within}
 use Rattle.std.proofs.lemmas.Result.{IfOk-weaker}
-use Rattle.cf_types.specs.declared.forms.StrForm.{StrForm}
 use Rattle.cf_types.specs.NoMemory.declared.wants.NoMemory.{NoMemory}
 use Rattle.cf_types.specs.declared.numbers.ConnId.{ConnId}
 use Rattle.cf_types.specs.declared.numbers.StrNo.{StrNo}
@@ -20,7 +19,6 @@ use Rattle.check_model.specs.declared.checked.Checked.{Checked}
 use Rattle.check_model.specs.declared.printed.Printed.{Printed}
 use Rattle.check_model.specs.Judged.{AreGoodBelow, AreLegalBelow, IsBadEntryOf, IsBadItemOf, IsGood, Judges}
 use Rattle.check_model.specs.Printings.{IsCallOf, IsPrintedOf}
-use Rattle.plex_check.proofs.Rows.{some_same}
 
 module _ (script : Script) (printed : Printed) where
   -- a transcript with the end Done ends right where it follows the script

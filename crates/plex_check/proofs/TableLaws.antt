@@ -1,5 +1,5 @@
 -- What a judge has found of a structure, as the table of its callers' queues.
-use Rattle.std.proofs.Common.{◌≡◌, ℕ, zero, suc, ◌+◌, ◌<◌, ◌≤◌, ◌⊎◌, inl, inr, List, [], ◌∷◌, ◌++◌, length, map, take, drop, get_or, slice_get, Some, refl, sym, ap, subst, ◌∙◌, arith, Result}
+use Rattle.std.proofs.Common.{◌≡◌, ℕ, ◌+◌, ◌<◌, inl, inr, List, [], ◌∷◌, ◌++◌, length, map, take, drop, get_or, slice_get, Some, refl, sym, ap, subst, ◌∙◌, Result}
 use Rattle.std.specs.Prelude.{All, IfOk}
 use Rattle.std.proofs.lemmas.Option.{slice_get-get_or, slice_get_within}
 use Rattle.std.proofs.lemmas.List.{length-append, map-append}
@@ -11,21 +11,15 @@ use Rattle.cf_types.specs.NoMemory.declared.wants.NoMemory.{NoMemory}
 use Rattle.cf_types.specs.declared.forms.StrForm.{StrForm}
 use Rattle.cf_types.specs.declared.numbers.ConnId.{ConnId}
 use Rattle.cf_types.specs.declared.numbers.StrNo.{StrNo}
-use Rattle.vector_waits.specs.declared.wait.Wait.{Wait}
-use Rattle.vector_waits.specs.Waits.{QueueView, IsSettled, AreSettled, untold}
+use Rattle.vector_waits.specs.Waits.{QueueView, untold}
 use Rattle.history_check.specs.declared.judged.Judged.{Judged}
 use Rattle.history_check.specs.Queues.{HasTestsOf, Pairs}
-use Rattle.check_model.specs.RunShown.CacheModel.Meaning.{cache_meaning}
-use Rattle.check_model.specs.RunShown.ListModel.Meaning.{list_meaning}
-use Rattle.check_model.specs.RunShown.LockModel.Meaning.{lock_meaning}
 use Rattle.check_model.specs.RunShown.PlexScript.declared.asks.AnyHistory.{AnyHistory}
 use Rattle.check_model.specs.RunShown.PlexScript.declared.scripts.Script.{Script}
 use Rattle.check_model.specs.RunShown.PlexScript.declared.transcripts.Shown.{Shown}
-use Rattle.check_model.specs.RunShown.PlexScript.declared.transcripts.Transcript.{Transcript}
 use Rattle.check_model.specs.RunShown.Kinds.{IsAnyLegal}
 use Rattle.check_model.specs.declared.printed.Printed.{Printed}
 use Rattle.check_model.specs.Judged.{IsAnyBadBlock, AreLegalBelow, IsBadEntryOf}
-use Rattle.caller_waits.specs.Tests.{queue_of, waits_of}
 use Rattle.caller_check.specs.Tables.{AnySettled, IsAnswered, AreAnswered, rows_of}
 use Rattle.plex_check.specs.Checks.{IsAnyJudged, IsQueueOf, AreQueuesOf, IsTable, IsTableWhere, IsStructureJudged, AreTables}
 use Rattle.plex_check.proofs.Rows.{nowhere, some_same, found, get_push, each_of, at_place, pairs_length, pair_at}

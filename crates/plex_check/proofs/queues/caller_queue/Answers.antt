@@ -1,4 +1,4 @@
-use Rattle.std.proofs.Common.{rules, refl}
+use Rattle.std.proofs.Common.{refl}
 use Rattle.plex_check.proofs.QueueLaws.{result_rises}
 use Rattle.plex_check.proofs.queues.caller_queue.Goals as goal
 
