@@ -1,15 +1,15 @@
 -- What a report of a script can show is printed of the script: each call of a history is one that its caller may ask.
-use Rattle.plex_script.proofs.Imports.{◌≡◌, ℕ, ◌+◌, ◌≤◌, ◌<◌, ◌++◌, inl, inr, true, not, List, [], ◌∷◌, Option, Some, None, length, map, refl, sym, arith, subst, slice_get, All, nat_tests, cons_option, All-nil, All-cons, All-head, All-map, All-weaker, CONNECTORS, ConnId, Name16, StrNo, Kind, StrForm, ShellCmd, IsConnector, Ask, Shell, Content, IsOperator, MayCommand, Declared, shell_tokens, may_give, is_operator, ask_tokens, act_tokens, retry_tokens, MayAsk, SaysDone, declared_in, kind_of, shell_ask, MakesCommand, IsWellFormed, IsOneOf, AreWithin, words-within, within-front, AnyCall, any_call, any_calls}
+use Rattle.plex_script.proofs.Imports.{◌≡◌, ℕ, ◌≤◌, ◌<◌, inl, inr, true, not, List, [], ◌∷◌, Option, length, map, arith, All, nat_tests, cons_option, All-nil, All-cons, All-head, All-weaker, CONNECTORS, ConnId, Name16, StrNo, Kind, ShellCmd, IsConnector, Ask, Shell, Content, IsOperator, MayCommand, Declared, shell_tokens, may_give, is_operator, ask_tokens, act_tokens, retry_tokens, MayAsk, declared_in, kind_of, shell_ask, MakesCommand, IsWellFormed, IsOneOf, AreWithin, words-within, within-front, any_call, any_calls}
 use Rattle.std.proofs.lemmas.List.Elements.{All-tail}
-use Rattle.plex_script.specs.EngineApi.History.{Call as Told, calls, call_of, call_told}
+use Rattle.plex_script.specs.EngineApi.History.{Call as Told, calls, call_told}
 use Rattle.plex_script.specs.EngineApi.declared.{asks.Reply.Reply, asks.What.What, histories.Entry.Entry}
 use Rattle.plex_script.specs.declared.{asks.AnyHistory.AnyHistory, scripts.AnyAsk.AnyAsk, scripts.Script.Script}
-use Rattle.plex_script.specs.declared.{transcripts.Shown.Shown, transcripts.Transcript.Transcript}
+use Rattle.plex_script.specs.declared.{transcripts.Shown.Shown}
 use Rattle.plex_script.specs.declared.scripts.Act.TheVariants.{Call}
 use Rattle.check_model.specs.RunShown.Kinds.{MayAskAny}
 use Rattle.check_model.specs.RunShown.Headline.{place_of}
 use Rattle.check_model.specs.declared.printed.Printed.{Printed}
-use Rattle.check_model.specs.Printings.{IsCallOf, IsPrintedHistory, IsPrintedOf}
+use Rattle.check_model.specs.Printings.{IsCallOf, IsPrintedOf}
 use Rattle.report_texts.specs.ReplyRows.Within.{IsCacheReply, IsListReply, IsLockReply}
 use Rattle.report_texts.specs.ReportLines.Readable.{IsEntry, IsItem, IsWhat}
 use Rattle.report_texts.specs.Readable.{AreReadable, AreEntries}
