@@ -2,7 +2,7 @@ mod LineLaws
 mod ManyLaws
 mod EntryLaws
 mod HistoryLaws
-mod OneLaws
+pub mod OneLaws
 mod PolicyLaws
 mod TranscriptLaws
 mod WholeLaws
