@@ -1,5 +1,5 @@
 -- What is read by a table of forms is said by it, and what is said by it is read.
-use Rattle.plex_spell.proofs.Imports.{◌≡◌, ℕ, Bool, true, false, not, ◌&&◌, List, ◌∷◌, Some, refl, ap, inl, inr, sym, subst, ◌∙◌, not-true, and_parts, Rigour, same_word, begins_with, words_behind, Declared, Token, Spells, Literal, Values, tokens_of, Forms, NoForms, Row, Under, command_at, IsSaid}
+use Rattle.plex_spell.proofs.Imports.{◌≡◌, ℕ, Bool, true, false, not, ◌&&◌, List, ◌∷◌, Some, refl, ap, inl, inr, sym, subst, ◌∙◌, not-true, and_parts, Rigour, same_word, begins_with, words_behind, Declared, Token, Spells, Literal, Values, tokens_of, Forms, NoForms, Row, Under, command_at, IsSaid, each_made, option_map}
 use Rattle.plex_spell.proofs.PatternLaws.{ArePlaces, are_rows, values-sound, values-complete}
 use Rattle.plex_spell.proofs.VerbLaws.{is_tail, all_lack_retry, AreFree-tail}
 use Rattle.plex_spell.proofs.{PlaceLaws.Words, PlaceLaws.FindsAll, PlaceLaws.led, PlaceLaws.led-by, Choices.pick}
@@ -124,3 +124,82 @@ says-in (Under verb behind_ more) word P all = chosen-of (same_word verb word) _
 
 pub says : {C : Type 0} (forms : Forms C) (word : List ℕ) → Says forms word (IsSaid forms)
 says forms word = says-in forms word (IsSaid forms) (λ cmd tokens k. k)
+
+-- ---- the same forms, of which something else is made
+
+module _ {C D : Type 0} (f : C → D) where
+  lacks-made : (word : List ℕ) (forms : Forms C) → lacks_verb word (each_made f forms) ≡ lacks_verb word forms
+  unfolding each_made
+  lacks-made word NoForms = refl
+  lacks-made word (Row verb places made more) = ap (λ b. not (same_word verb word) && b) (lacks-made word more)
+  lacks-made word (Under verb behind_ more) = ap (λ b. not (same_word verb word) && b) (lacks-made word more)
+
+  -- no form begins with the verb, where none of the forms did
+  pub still-lacks : (word : List ℕ) (forms : Forms C) → lacks_verb word forms ≡ true
+      → lacks_verb word (each_made f forms) ≡ true
+  still-lacks word forms h = lacks-made word forms ∙ h
+
+  pub are-made : (forms : Forms C) → AreForms forms → AreForms (each_made f forms)
+  unfolding each_made
+  are-made NoForms are = tt
+  are-made (Row verb places made more) are =
+      (are.0, (are.1, (are.2, (still-lacks verb more are.3, are-made more are.4))))
+  are-made (Under verb behind_ more) are =
+      (are-made behind_ are.0, (still-lacks verb more are.1, are-made more are.2))
+
+  pub said-made : (forms : Forms C) (cmd : C) (tokens : List Token) → IsSaid forms cmd tokens
+      → IsSaid (each_made f forms) (f cmd) tokens
+  unfolding each_made
+  said-made NoForms cmd tokens said = absurd said
+  said-made (Row verb places made more) cmd tokens (inl one) =
+      inl (record { values = one.values; same = ap f one.same; said = one.said })
+  said-made (Row verb places made more) cmd tokens (inr k) = inr (said-made more cmd tokens k)
+  said-made (Under verb behind_ more) cmd tokens (inl one) =
+      inl (record { later = one.later; says = said-made behind_ cmd one.later one.says; said = one.said })
+  said-made (Under verb behind_ more) cmd tokens (inr k) = inr (said-made more cmd tokens k)
+
+  pub all-say-made : (forms : Forms C) (P : D → List Token → Type 0) → AllSay forms (λ cmd tokens. P (f cmd) tokens)
+      → AllSay (each_made f forms) P
+  unfolding each_made
+  all-say-made NoForms P all = tt
+  all-say-made (Row verb places made more) P all = (all.0, all-say-made more P all.1)
+  all-say-made (Under verb behind_ more) P all =
+      (all-say-made behind_ (λ cmd tokens. P cmd (Literal verb ∷ tokens)) all.0, all-say-made more P all.1)
+
+-- what is made of the values at a row's places, and then something else of that
+values-made : {C D : Type 0} (f : C → D) (rigour : Rigour) (declared : Declared) (places : List Place)
+    (made : Values places → C) (ws : Words) → values_at rigour declared places (λ values. f (made values)) ws
+    ≡ option_map (λ (read : C × Words). (let p : D × Words = (f read.0, read.1) in p))
+    (values_at rigour declared places made ws)
+values-made f rigour declared [] made ws = refl
+values-made {C} {D} f rigour declared (place ∷ places) made ws = of (value_at rigour declared place ws)
+  where
+    of : (o : Option (Value place × Words))
+        → (o >>= (λ read. values_at rigour declared places (λ values. f (made (read.0, values))) read.1))
+        ≡ option_map (λ (read : C × Words). (let p : D × Words = (f read.0, read.1) in p))
+        (o >>= (λ read. values_at rigour declared places (λ values. made (read.0, values)) read.1))
+    of None = refl
+    of (Some read) = values-made f rigour declared places (λ values. made (read.0, values)) read.1
+
+pub command-made : {C D : Type 0} (f : C → D) (rigour : Rigour) (declared : Declared) (forms : Forms C) (ws : Words)
+    → command_at rigour declared (each_made f forms) ws
+    ≡ option_map (λ (read : C × Words). (let p : D × Words = (f read.0, read.1) in p))
+    (command_at rigour declared forms ws)
+unfolding each_made
+command-made f rigour declared NoForms ws = refl
+command-made {C} {D} f rigour declared (Row verb places made more) ws = of (begins_with verb ws)
+  where
+    of : (b : Bool) → (if b then values_at rigour declared places (λ values. f (made values)) (words_behind ws)
+        else command_at rigour declared (each_made f more) ws)
+        ≡ option_map (λ (read : C × Words). (let p : D × Words = (f read.0, read.1) in p))
+        (if b then values_at rigour declared places made (words_behind ws) else command_at rigour declared more ws)
+    of true = values-made f rigour declared places made (words_behind ws)
+    of false = command-made f rigour declared more ws
+command-made {C} {D} f rigour declared (Under verb behind_ more) ws = of (begins_with verb ws)
+  where
+    of : (b : Bool) → (if b then command_at rigour declared (each_made f behind_) (words_behind ws)
+        else command_at rigour declared (each_made f more) ws)
+        ≡ option_map (λ (read : C × Words). (let p : D × Words = (f read.0, read.1) in p))
+        (if b then command_at rigour declared behind_ (words_behind ws) else command_at rigour declared more ws)
+    of true = command-made f rigour declared behind_ (words_behind ws)
+    of false = command-made f rigour declared more ws
