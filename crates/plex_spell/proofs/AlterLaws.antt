@@ -20,7 +20,7 @@ are_alterations : AreForms alterations
 are_alterations = grind (arith, lit<)
 
 are_alter : AreForms alter_forms
-are_alter = (are_alterations, (still-lacks Inner (codes "ALTER") cache_forms refl, are-made Inner cache_forms are_cache))
+are_alter = (are_alterations, still-lacks Inner (codes "ALTER") cache_forms refl, are-made Inner cache_forms are_cache)
 
 say_inner : AllSay cache_forms (λ cmd tokens. IsWritten (Inner cmd) tokens)
 say_inner = grind arith

@@ -1,5 +1,6 @@
 -- What is read by a table of forms is said by it, and what is said by it is read.
-use Rattle.plex_spell.proofs.Imports.{◌≡◌, ℕ, Bool, true, false, not, ◌&&◌, List, ◌∷◌, Some, refl, ap, inl, inr, sym, subst, ◌∙◌, not-true, and_parts, Rigour, same_word, begins_with, words_behind, Declared, Token, Spells, Literal, Values, tokens_of, Forms, NoForms, Row, Under, command_at, IsSaid, each_made, option_map}
+use Rattle.plex_spell.proofs.Imports.{◌≡◌, ℕ, Bool, true, false, not, ◌&&◌, List, [], ◌∷◌, Some, refl, ap, inl, inr, sym, subst, ◌∙◌, not-true, and_parts, Rigour, same_word, begins_with, words_behind, Declared, Token, Spells, Literal, Values, tokens_of, Forms, NoForms, Row, Under, command_at, IsSaid, option_map, Option, None, Place, Value, value_at, values_at, ◌>>=◌, cond}
+use Rattle.plex_spell.specs.Forms.{each_made}
 use Rattle.plex_spell.proofs.PatternLaws.{ArePlaces, are_rows, values-sound, values-complete}
 use Rattle.plex_spell.proofs.VerbLaws.{is_tail, all_lack_retry, AreFree-tail}
 use Rattle.plex_spell.proofs.{PlaceLaws.Words, PlaceLaws.FindsAll, PlaceLaws.led, PlaceLaws.led-by, Choices.pick}
@@ -143,9 +144,9 @@ module _ {C D : Type 0} (f : C → D) where
   unfolding each_made
   are-made NoForms are = tt
   are-made (Row verb places made more) are =
-      (are.0, (are.1, (are.2, (still-lacks verb more are.3, are-made more are.4))))
+      (are.0, are.1, are.2, still-lacks verb more are.3, are-made more are.4)
   are-made (Under verb behind_ more) are =
-      (are-made behind_ are.0, (still-lacks verb more are.1, are-made more are.2))
+      (are-made behind_ are.0, still-lacks verb more are.1, are-made more are.2)
 
   pub said-made : (forms : Forms C) (cmd : C) (tokens : List Token) → IsSaid forms cmd tokens
       → IsSaid (each_made f forms) (f cmd) tokens
@@ -166,40 +167,38 @@ module _ {C D : Type 0} (f : C → D) where
   all-say-made (Under verb behind_ more) P all =
       (all-say-made behind_ (λ cmd tokens. P cmd (Literal verb ∷ tokens)) all.0, all-say-made more P all.1)
 
--- what is made of the values at a row's places, and then something else of that
+-- something else of what was read
+abbrev pub made_read : {C D : Type 0} → (C → D) → C × Words → D × Words
+made_read f read = (f read.0, read.1)
+
+map-cond : {X Y : Type 0} (g : X → Y) (b : Bool) (x y : Option X) (v w : Option Y) → v ≡ option_map g x
+    → w ≡ option_map g y → cond b v w ≡ option_map g (cond b x y)
+map-cond g true x y v w h k = h
+map-cond g false x y v w h k = k
+
+map-bound : {X Y Z : Type 0} (g : Y → Z) (o : Option X) (first : X → Option Y) (then_ : X → Option Z)
+    → ((x : X) → then_ x ≡ option_map g (first x)) → (o >>= then_) ≡ option_map g (o >>= first)
+map-bound g None first then_ h = refl
+map-bound g (Some x) first then_ h = h x
+
 values-made : {C D : Type 0} (f : C → D) (rigour : Rigour) (declared : Declared) (places : List Place)
     (made : Values places → C) (ws : Words) → values_at rigour declared places (λ values. f (made values)) ws
-    ≡ option_map (λ (read : C × Words). (let p : D × Words = (f read.0, read.1) in p))
-    (values_at rigour declared places made ws)
+    ≡ option_map (made_read f) (values_at rigour declared places made ws)
 values-made f rigour declared [] made ws = refl
-values-made {C} {D} f rigour declared (place ∷ places) made ws = of (value_at rigour declared place ws)
-  where
-    of : (o : Option (Value place × Words))
-        → (o >>= (λ read. values_at rigour declared places (λ values. f (made (read.0, values))) read.1))
-        ≡ option_map (λ (read : C × Words). (let p : D × Words = (f read.0, read.1) in p))
-        (o >>= (λ read. values_at rigour declared places (λ values. made (read.0, values)) read.1))
-    of None = refl
-    of (Some read) = values-made f rigour declared places (λ values. made (read.0, values)) read.1
+values-made {C} {D} f rigour declared (place ∷ places) made ws =
+    map-bound (made_read f) (value_at rigour declared place ws)
+    (λ (read : Value place × Words). values_at rigour declared places (λ values. made (read.0, values)) read.1)
+    (λ (read : Value place × Words). values_at rigour declared places (λ values. f (made (read.0, values))) read.1)
+    (λ read. values-made f rigour declared places (λ values. made (read.0, values)) read.1)
 
-pub command-made : {C D : Type 0} (f : C → D) (rigour : Rigour) (declared : Declared) (forms : Forms C) (ws : Words)
+pub command_made : {C D : Type 0} (f : C → D) (rigour : Rigour) (declared : Declared) (forms : Forms C) (ws : Words)
     → command_at rigour declared (each_made f forms) ws
-    ≡ option_map (λ (read : C × Words). (let p : D × Words = (f read.0, read.1) in p))
-    (command_at rigour declared forms ws)
+    ≡ option_map (made_read f) (command_at rigour declared forms ws)
 unfolding each_made
-command-made f rigour declared NoForms ws = refl
-command-made {C} {D} f rigour declared (Row verb places made more) ws = of (begins_with verb ws)
-  where
-    of : (b : Bool) → (if b then values_at rigour declared places (λ values. f (made values)) (words_behind ws)
-        else command_at rigour declared (each_made f more) ws)
-        ≡ option_map (λ (read : C × Words). (let p : D × Words = (f read.0, read.1) in p))
-        (if b then values_at rigour declared places made (words_behind ws) else command_at rigour declared more ws)
-    of true = values-made f rigour declared places made (words_behind ws)
-    of false = command-made f rigour declared more ws
-command-made {C} {D} f rigour declared (Under verb behind_ more) ws = of (begins_with verb ws)
-  where
-    of : (b : Bool) → (if b then command_at rigour declared (each_made f behind_) (words_behind ws)
-        else command_at rigour declared (each_made f more) ws)
-        ≡ option_map (λ (read : C × Words). (let p : D × Words = (f read.0, read.1) in p))
-        (if b then command_at rigour declared behind_ (words_behind ws) else command_at rigour declared more ws)
-    of true = command-made f rigour declared behind_ (words_behind ws)
-    of false = command-made f rigour declared more ws
+command_made f rigour declared NoForms ws = refl
+command_made {C} {D} f rigour declared (Row verb places made more) ws =
+    map-cond (made_read f) (begins_with verb ws) _ _ _ _
+    (values-made f rigour declared places made (words_behind ws)) (command_made f rigour declared more ws)
+command_made {C} {D} f rigour declared (Under verb behind_ more) ws =
+    map-cond (made_read f) (begins_with verb ws) _ _ _ _
+    (command_made f rigour declared behind_ (words_behind ws)) (command_made f rigour declared more ws)

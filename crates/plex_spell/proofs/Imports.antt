@@ -32,7 +32,7 @@ pub use Rattle.plex_spell.specs.AlterWords.{alter_tokens, IsAlterGiven}
 pub use Rattle.plex_spell.specs.CacheReading.{cache_at, cache_forms}
 pub use Rattle.plex_spell.specs.CacheWords.{cache_tokens, IsGiven, class_tokens}
 pub use Rattle.plex_spell.specs.Fields.{one_of_two, references, option_tokens, flag_tokens, all_tokens, number, end, state, name_tokens, key_tokens, short_tokens, number_tokens}
-pub use Rattle.plex_spell.specs.Forms.{Forms, each_made, command_at, IsSaid}
+pub use Rattle.plex_spell.specs.Forms.{Forms, command_at, IsSaid}
 pub use Rattle.plex_spell.specs.Forms.Forms.{NoForms, Row, Under}
 pub use Rattle.plex_spell.specs.ListReading.{list_at, list_forms}
 pub use Rattle.plex_spell.specs.ListWords.{list_tokens, IsListLine, at_tokens, cond_tokens, lock_use}

@@ -1,6 +1,6 @@
 -- Rows of places: what a reader makes of them is what the words stand for.
 use Rattle.plex_spell.proofs.Imports.{arith, ◌≡◌, ℕ, ◌<◌, ◌^◌, ◌&&◌, Bool, true, false, not, List, [], ◌∷◌, ◌++◌, Option, Some, None, refl, list_any, and_parts, ADJUNCT_BYTES, NotHeld, HeldBy, is_names, Rigour, same_word, Declared, Token, Spells, facility_of, connector_of, structure_of, Literal, Number, Short, Data, OnResource, OfConnector, OfStructure, NewFacility, NewName, references, option_tokens, flag_tokens, one_of_two, decision, lock_use, number_of, text_of, data_of, resource_of, new_name_of, connector_in, structure_in, facility_in, either_of, OfFacility, Place, Value, Values, tokens_at, tokens_of, value_at, values_at, option_at, flag_at, decision_of, lock_use_of, refs_of, Amount, AName, AKey, AShort, AData, AResource, AFacility, ANewFacility, AConnector, AStructure, ANewName, Either, ADecision, ALockUse, SomeRefs, AClass, ARecord, ACond, ALabel, AFlag, AnOption, Behind, behind_at, Label}
-use Rattle.plex_spell.proofs.Choices.{chosen, bound}
+use Rattle.plex_spell.proofs.Choices.{chosen, not_some, bound}
 use Rattle.plex_spell.proofs.WordLaws.{number-sound, number-complete, text-sound, text-complete, new_name-sound, new_name-complete, declared-sound, declared-complete, facility-sound, facility-complete}
 use Rattle.plex_spell.proofs.CutLaws.{resource-sound, resource-complete, data-sound, data-complete}
 use Rattle.plex_spell.proofs.PlaceLaws.{Words, FindsAll, Spells-append, Spells-split, Reads, one_word, either-sound, either-complete, decision-sound, decision-complete, lock_use-sound, lock_use-complete, refs-sound, refs-complete, led, led-by, behind-sound, behind-complete}
