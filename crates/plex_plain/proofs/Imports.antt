@@ -23,3 +23,6 @@ pub use Rattle.plex_plain.specs.Naming.{resource_word, caller_name, facility_wor
 pub use Rattle.plex_plain.specs.PlainWords.{plain_word, plain_words, storage_told, class_told, castout_words, keep_word, end_word, state_word, refs_word, told_words, number_words, text_words, name_words, key_words}
 pub use Rattle.plex_plain.specs.Ranges.{IsNamed, AreNames, IsWithin, AreWithin, IsOneOf}
 pub use Rattle.plex_plain.specs.PolicyLines.{facility_line, form_line, pref_line, connector_line, structure_lines}
+pub use Rattle.cf_types.specs.declared.{alter_commands.AlterCmd.AlterCmd, list_commands.QueueCmd.QueueCmd}
+pub use Rattle.plex_spell.specs.AlterWords.{alter_tokens}
+pub use Rattle.plex_spell.specs.QueueWords.{queue_tokens}

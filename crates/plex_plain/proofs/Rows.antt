@@ -1,5 +1,5 @@
 -- The tokens of each command: which they are made of, and how much room their words take.
-use Rattle.plex_plain.proofs.Imports.{◌≡◌, ℕ, Bool, true, List, [], ◌∷◌, Option, refl, arith, Resource, ShellCmd, Connect, Vary, CacheCmd, At, Cond, ListCmd, LockCmd, Token, Literal, OnResource, number, end, state, shell_tokens, class_tokens, cache_tokens, at_tokens, cond_tokens, list_tokens, lock_tokens}
+use Rattle.plex_plain.proofs.Imports.{◌≡◌, ℕ, Bool, true, List, [], ◌∷◌, Option, refl, arith, Resource, ShellCmd, Connect, Vary, CacheCmd, At, Cond, ListCmd, LockCmd, Token, Literal, OnResource, number, end, state, AlterCmd, QueueCmd, alter_tokens, queue_tokens, shell_tokens, class_tokens, cache_tokens, at_tokens, cond_tokens, list_tokens, lock_tokens}
 use Rattle.plex_plain.proofs.Said.{is_short_word}
 use Rattle.plex_plain.proofs.Rooms.{IsRow, token-first, no_tokens, row-append, row-wider, row-option, row-flag}
 
@@ -45,6 +45,14 @@ list-row (ListCmd.Move ref header head key version cond) =
 list-row (ListCmd.Delete ref version cond) =
     grind (arith, row-wider, row-append, at-row, row-option, cond-row, no_tokens)
 list-row cmd = record { plain = refl; short = omega arith }
+
+pub alter-row : (given : Option ℕ) (cmd : AlterCmd CacheCmd) → IsCommandRow (alter_tokens given cmd)
+alter-row given (AlterCmd.Inner cmd) = cache-row given cmd
+alter-row given cmd = record { plain = refl; short = omega arith }
+
+pub queue-row : (cmd : QueueCmd) → IsCommandRow (queue_tokens cmd)
+queue-row (QueueCmd.List cmd) = list-row cmd
+queue-row cmd = record { plain = refl; short = omega arith }
 
 -- ---- locks
 

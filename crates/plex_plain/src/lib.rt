@@ -8,6 +8,7 @@ mod list_plain;
 mod lock_plain;
 mod policy_plain;
 mod shell_plain;
+mod stand_ins;
 mod values;
 
 pub use cache_plain::put_cache;
@@ -21,4 +22,5 @@ pub use lock_plain::put_lock;
 pub use plex_spell as spell;
 pub use policy_plain::{put_connector_line, put_facility_line, put_form_line, put_pref_line};
 pub use shell_plain::{put_at, put_shell};
+pub use stand_ins::{put_alter, put_queue};
 pub use values::{Worded, put_flag, put_option};

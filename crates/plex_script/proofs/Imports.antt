@@ -18,7 +18,7 @@ pub use Rattle.engine_api.specs.declared.{asks.Ask.Ask, asks.Ask.TheVariants.She
 pub use Rattle.plex_plain.proofs.Places.{HaveNames, name-place, apart_words, position-seam}
 pub use Rattle.plex_plain.proofs.PlexSpell.PatternLaws.{value-sound, value-complete, ArePlaces, are_rows}
 pub use Rattle.plex_plain.proofs.PlexSpell.RigourLaws.{Spells-limits, Spells-form}
-pub use Rattle.plex_plain.proofs.PlexSpell.{AlterLaws.alter-sound, AlterLaws.alter-complete, QueueLaws.queue-sound, QueueLaws.queue-complete, LockLaws.lock-sound, LockLaws.lock-complete, ShellLaws.shell-sound, ShellLaws.shell-complete, WordLaws.Finds}
+pub use Rattle.plex_plain.proofs.PlexSpell.{LockLaws.lock-sound, LockLaws.lock-complete, ShellLaws.shell-sound, ShellLaws.shell-complete, WordLaws.Finds}
 pub use Rattle.plex_plain.proofs.PlexSpell.VerbLaws.{is_tail, verb-sound, command-complete, led-complete, AreFree-tail, all_lack_retry}
 pub use Rattle.plex_plain.proofs.Rooms.{IsRow, row-append, words-good, name-good, caller-good, row-wider, number-good, facility-good, nonempty}
 pub use Rattle.plex_plain.proofs.Rows.{shell-row, alter-row, queue-row, lock-row}

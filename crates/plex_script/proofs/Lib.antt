@@ -3,15 +3,6 @@ pub use Rattle.plex_plain.proofs as PlexPlain
 pub use Rattle.plex_plain.proofs.PlexSpell as PlexSpell
 pub mod Imports
 pub mod FirstWords
-pub mod AskLaws
-pub mod ActLaws
-pub mod CommandLaws
-pub mod PolicyLaws
-pub mod CauseLaws
-pub mod ReadLaws
-pub mod LineLaws
-pub mod FaultLaws
-pub mod DecidedLaws
 pub mod FormLaws
 pub mod KeptAll
 pub mod FormedLines

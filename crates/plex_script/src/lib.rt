@@ -1,21 +1,16 @@
 //! Scripts: what they say, and which texts are scripts.
 #![tactic(auto)]
 
-mod act_reader;
 mod agents;
 mod asks;
-mod checks;
 mod command_reader;
 mod copies;
 mod declarations;
 mod draft;
 mod faults;
 mod gate;
-mod judging;
 mod laws;
 mod line_faults;
-mod line_reader;
-mod policy_reader;
 mod printer;
 mod reader;
 mod scripts;
@@ -30,9 +25,7 @@ pub use declarations::Declaration;
 pub use engine_api as api;
 pub use faults::{ReadFault, Why};
 pub use gate::{Gate, OpenGate};
-pub use laws::{
-    keeps_limits, never_both, one_fault, one_script, read_back, script_or_fault, well_formed,
-};
+pub use laws::{keeps_limits, read_back, well_formed};
 pub use plex_plain as plain;
 pub use plex_plain::spell as spell;
 pub use printer::print;

@@ -10,6 +10,10 @@ pub mod Places
 pub mod Patterns
 pub mod Forms
 pub mod CacheReading
+pub mod AlterWords
+pub mod AlterReading
+pub mod QueueWords
+pub mod QueueReading
 pub mod ListReading
 pub mod LockReading
 pub mod ShellReading
