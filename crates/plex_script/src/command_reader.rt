@@ -40,7 +40,7 @@ pub fn read_command(
     ensures not_one { IfErr result (λ bad. bad ≡ NotOne
         → (asked : AnyAsk) → MakesCommand script.now on by text.now asked → ⊥) }
 {
-    let _known = script.structures.len();
+    let _known = script.structures.items().len();
     let _told = (on, by, text.len());
     Err(CommandBad::NoMemory(NoMemory::beyond_counts()))
 }
