@@ -40,7 +40,7 @@ fn body(alloc: Global, caller: u8, i: u32) -> Result<Body, NoMemory>
 
 // A command on the content of the cache.
 fn content_call(cmd: CacheCmd) -> Act
-    ensures { result ≡ content_call cmd.now }
+    ensures { result ≡ content_call cmd }
 {
     Act::Call(AnyAsk::Cache(Ask::Content(AlterCmd::Inner(cmd))))
 }
