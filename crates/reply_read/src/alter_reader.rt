@@ -18,7 +18,8 @@ pub fn inner_reply(
     words: &Words,
 ) -> Result<Option<AlterReply<CacheReply>>, NoMemory>
     requires { length connectors.now ≤ CONNECTORS }
-    ensures { IfOk result (λ r. r ≡ form (cache_row connectors.now) (λ v. alter.Inner v) words.now) }
+    ensures { IfOk result (λ r. r
+        ≡ form (cache_row connectors.now) (λ v. alter.Inner v) words.now) }
 {
     match cache_reply(alloc, connectors, words)? {
         Some(answer) => Ok(Some(AlterReply::Inner(answer))),

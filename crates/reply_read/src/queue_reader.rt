@@ -17,7 +17,8 @@ pub fn inner_reply(
     words: &Words,
 ) -> Result<Option<QueueReply>, NoMemory>
     requires { length connectors.now ≤ CONNECTORS }
-    ensures { IfOk result (λ r. r ≡ form (list_row connectors.now) (λ v. queue.List v) words.now) }
+    ensures { IfOk result (λ r. r
+        ≡ form (list_row connectors.now) (λ v. queue.List v) words.now) }
 {
     match list_reply(alloc, connectors, words)? {
         Some(answer) => Ok(Some(QueueReply::List(answer))),

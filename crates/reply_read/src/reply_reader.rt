@@ -22,7 +22,8 @@ use std::alloc::Global;
 pub trait Answer: Sized {
     ghost answers: { List Name16 → Answers Self };
 
-    /// Reads one on the content from all words that are left of a line; `None` where none prints so.
+    /// Reads one on the content from all words that are left of a line; `None` where none prints
+    /// so.
     fn content(
         alloc: Global,
         connectors: &[Name16],
@@ -108,7 +109,7 @@ fn common_first<T: Answer + Drop>(
     }
 }
 
-// A reply that is no refusal, to a command on the content, or else to one around it or a common one.
+// A reply that is no refusal, to a command on the content, or else around it or a common one.
 fn content_first<T: Answer + Drop>(
     alloc: Global,
     connectors: &[Name16],
@@ -131,7 +132,7 @@ fn content_first<T: Answer + Drop>(
     }
 }
 
-// A reply that is no refusal, to a command around the content, or else to one on it or a common one.
+// A reply that is no refusal, to a command around the content, or else on it or a common one.
 fn around_first<T: Answer + Drop>(
     alloc: Global,
     connectors: &[Name16],

@@ -62,14 +62,21 @@ made-forth {V} {R} In words P said values make is same ws r h =
     let s = same m.value f.1 in
     rw (← m.made) (s.0 ∙ f.0, s.1, f.2)
 
--- one of two readings
-some-front : {R : Type 0} (o other : Option R) → IsSome o → IsSome (or_else o other)
-some-front None other h = absurd (cc)
-some-front (Some x) other h = refl
+-- one of three readings
+some-first : {R : Type 0} (o p q : Option R) → IsSome o → IsSome (or_else o (or_else p (or_else q None)))
+some-first None p q h = absurd (cc)
+some-first (Some r) p q h = refl
 
-some-behind : {R : Type 0} (o other : Option R) → IsSome other → IsSome (or_else o other)
-some-behind None other h = h
-some-behind (Some x) other h = refl
+some-second : {R : Type 0} (o p q : Option R) → IsSome p → IsSome (or_else o (or_else p (or_else q None)))
+some-second (Some r) p q h = refl
+some-second None None q h = absurd (cc)
+some-second None (Some r) q h = refl
+
+some-third : {R : Type 0} (o p q : Option R) → IsSome q → IsSome (or_else o (or_else p (or_else q None)))
+some-third (Some r) p q h = refl
+some-third None (Some r) q h = refl
+some-third None None None h = absurd (cc)
+some-third None None (Some r) h = refl
 
 front : {R : Type 0} (o other : Option R) (r : R) → o ≡ Some r → or_else o other ≡ Some r
 front o other r h = rw h refl
@@ -107,7 +114,8 @@ module _ {R : Type 0} (connectors : List Name16) (answers : Answers R) (In : R �
   told-forth vary sides.Around = made-forth (IsReply connectors In) (reply_words connectors answers vary) In
       answers.words answers.around (λ v. reply.Content v) are.around (λ v h. (refl, h))
 
-  refused-forth : (vary : Bool) → Forth vary (form (led (codes "REFUSED") (refusal_row connectors)) (λ v. reply.Refused v))
+  refused-forth : (vary : Bool)
+      → Forth vary (form (led (codes "REFUSED") (refusal_row connectors)) (λ v. reply.Refused v))
   refused-forth vary =
       form-forth (IsReply connectors In) (reply_words connectors answers vary) (IsRefusal connectors)
       (led (codes "REFUSED") (refusal_row connectors)) (λ v. reply.Refused v) refused-is (λ v h. (refl, h))
@@ -152,15 +160,15 @@ module _ {R : Type 0} (connectors : List Name16) (answers : Answers R) (In : R �
     own-first sides.Common sides.Around r h n = behind _ _ r n.0 (behind _ _ r n.1.0 (front _ _ r h))
 
     own-some : (own side : Side) → IsSome (At own) → IsSome (first_of (told_forms connectors answers vary side) words)
-    own-some sides.Common sides.Common h = some-front _ _ h
-    own-some sides.Content sides.Common h = some-behind _ _ (some-front _ _ h)
-    own-some sides.Around sides.Common h = some-behind _ _ (some-behind _ _ (some-front _ _ h))
-    own-some sides.Content sides.Content h = some-front _ _ h
-    own-some sides.Around sides.Content h = some-behind _ _ (some-front _ _ h)
-    own-some sides.Common sides.Content h = some-behind _ _ (some-behind _ _ (some-front _ _ h))
-    own-some sides.Around sides.Around h = some-front _ _ h
-    own-some sides.Content sides.Around h = some-behind _ _ (some-front _ _ h)
-    own-some sides.Common sides.Around h = some-behind _ _ (some-behind _ _ (some-front _ _ h))
+    own-some sides.Common sides.Common h = some-first (At sides.Common) (At sides.Content) (At sides.Around) h
+    own-some sides.Content sides.Common h = some-second (At sides.Common) (At sides.Content) (At sides.Around) h
+    own-some sides.Around sides.Common h = some-third (At sides.Common) (At sides.Content) (At sides.Around) h
+    own-some sides.Content sides.Content h = some-first (At sides.Content) (At sides.Around) (At sides.Common) h
+    own-some sides.Around sides.Content h = some-second (At sides.Content) (At sides.Around) (At sides.Common) h
+    own-some sides.Common sides.Content h = some-third (At sides.Content) (At sides.Around) (At sides.Common) h
+    own-some sides.Around sides.Around h = some-first (At sides.Around) (At sides.Content) (At sides.Common) h
+    own-some sides.Content sides.Around h = some-second (At sides.Around) (At sides.Content) (At sides.Common) h
+    own-some sides.Common sides.Around h = some-third (At sides.Around) (At sides.Content) (At sides.Common) h
 
   shell-told : (vary : Bool) (a : ShellReply) → IsShellReply connectors a
       → told_at connectors answers vary sides.Common ((shell_row connectors vary).words a) ≡ Some (reply.Shell a)

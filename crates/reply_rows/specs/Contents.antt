@@ -133,7 +133,7 @@ altered v = (let caps : Caps = record { entries = v.0; elements = v.1.0 } in alt
 abbrev pub alter_words : List Name16 → AlterReply CacheReply → List (List ℕ)
 alter_words connectors (alter.Inner answer) = (cache_row connectors).words answer
 alter_words connectors alter.Ok = (plain (codes "OK")).words tt
-alter_words connectors (alter.Altered caps done) = altered_row.words (caps.entries, (caps.elements, (done, tt)))
+alter_words connectors (alter.Altered caps reached) = altered_row.words (caps.entries, (caps.elements, (reached, tt)))
 
 abbrev pub alter_forms : List (List (List ℕ) → Option (AlterReply CacheReply))
 alter_forms = form (plain (codes "OK")) (λ v. alter.Ok) ∷ form altered_row altered ∷ []
@@ -141,7 +141,7 @@ alter_forms = form (plain (codes "OK")) (λ v. alter.Ok) ∷ form altered_row al
 abbrev pub alter_side : AlterReply CacheReply → Side
 alter_side (alter.Inner answer) = Content
 alter_side alter.Ok = Around
-alter_side (alter.Altered caps done) = Around
+alter_side (alter.Altered caps reached) = Around
 
 abbrev pub alter_answers : List Name16 → Answers (AlterReply CacheReply)
 alter_answers connectors = record {

@@ -88,7 +88,8 @@ module _ {R : Type 0} (connectors : List Name16) (answers : Answers R) (In : R �
   pub record IsRead (vary : Bool) (side : Side) : Type 0 where
     -- what is read is a reply that is printed so
     pub forth : (words : List (List ℕ)) (r : Reply R) → reply_at connectors answers vary side words ≡ Some r
-        → (reply_words connectors answers vary r ≡ words) × IsReply connectors In r × (list_all is_word words ≡ true)
+        → (reply_words connectors answers vary r ≡ words) × IsReply connectors In r
+        × (list_all is_word words ≡ true)
     -- each reply is read from its words, where none of a side that is tried before its own prints alike
     pub back : (r : Reply R) → IsReply connectors In r → IsNamed connectors answers vary side r
         → reply_at connectors answers vary side (reply_words connectors answers vary r) ≡ Some r
