@@ -1,5 +1,5 @@
 -- A bit that stands tells a fresh copy.
-use Rattle.run_laws.proofs.Imports.{arith, ◌≡◌, ℕ, true, [], ◌++◌, Option, None, Some, is_some, take, drop, append-nil, refl, sym, ap, ◌∙◌, subst, IsTrue, option_and_then, find, false≢true, take-append-drop, Read, StrForm, ConnId, Tells, stands_after, continues_legal, any_is_found, all_found, is_at, registered_at, CacheItem, Content, altered_caches, is_row_of, row_of, has_row, reply_copy, row_copy, fresh-at, copy_held, IsAsRead, IsFresh, TellsFresh, CacheHistory, IsLegalCache, content_after, Bool, List, StrNo, AnyHistory, Script, Shown, Transcript, surest_on, ShowsHistories, TellsBit, TellsOf, place_of, BitTellsFresh, TellsFreshBy, ShowsFresh}
+use Rattle.run_laws.proofs.Imports.{arith, ◌≡◌, ℕ, true, [], ◌++◌, Option, None, Some, is_some, take, drop, append-nil, refl, sym, ap, ◌∙◌, subst, IsTrue, option_and_then, find, false≢true, take-append-drop, Read, StrForm, ConnId, Tells, stands_after, continues_legal, any_is_found, all_found, is_at, registered_at, CacheItem, Content, altered_caches, is_row_of, row_of, has_row, reply_copy, row_copy, fresh-at, copy_held, IsAsRead, IsFresh, TellsFresh, CacheHistory, IsLegalCache, content_after, Bool, List, StrNo, AnyHistory, Script, Shown, Transcript, surest_on, ShowsHistories, TellsBit, TellsOf, place_of, BitTellsFresh, TellsFreshBy, ShowsFresh, inl, inr, last_call_below}
 use Rattle.run_laws.proofs.{Allocated.continues_both, CacheTraces.HasTrace, CacheTraces.trace-continues}
 use Rattle.run_laws.proofs.{CacheReplies.answer-content, CacheReplies.copy-read, UniqueLaws.orderly_replay}
 
@@ -51,7 +51,18 @@ fresh_copy form history legal conn index stands = fresh-trace form history
 -- a test that tells that the bit stands tells a fresh copy
 pub fresh_test : (form : StrForm) (history : CacheHistory) → IsLegalCache form history → (n q : ℕ) (conn : ConnId)
     (index : ℕ) → Tells altered_caches form history n q conn index true → TellsFresh form history n q conn index
-fresh_test form history legal n q conn index tells = grind (arith, fresh-trace, trace-take)
+fresh_test form history legal n q conn index tells = record {
+  point = tells.point;
+  seen = tells.seen;
+  fresh = elim tells.stood [
+    | inl stood ↦ inl (stood_fresh n (sym stood))
+    | inr (late, stood) ↦ inr (late, stood_fresh (last_call_below history n) (sym stood))
+  ];
+}
+  where
+    stood_fresh : (m : ℕ) → stands_after altered_caches form (take m history) conn index ≡ true
+        → IsFresh form (take m history) conn index
+    stood_fresh m stood = fresh-trace form (take m history) conn index (trace-take form history m legal) stood
 
 -- and so an accepted READ of its name, by anyone, is answered with what is held
 pub copy_as_read : (form : StrForm) (history : CacheHistory) → IsLegalCache form history → (conn : ConnId) (index : ℕ)

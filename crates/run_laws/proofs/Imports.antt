@@ -50,7 +50,7 @@ pub use Rattle.engine_api.proofs.HistoryLaws.{continues_legal, calls-append, rep
 pub use Rattle.engine_api.proofs.NumberLaws.{numbered_legal}
 pub use Rattle.engine_api.proofs.Pushed.{pushed_cases}
 pub use Rattle.engine_api.specs.Answers.{answers, is_mark_as, marks_at, trues}
-pub use Rattle.engine_api.specs.History.{replay, next_reply, Continues, next_entry, IsNext, IsNextAs, after_what, Tells, stands_after, Call, calls, IsLegal}
+pub use Rattle.engine_api.specs.History.{replay, next_reply, Continues, next_entry, IsNext, IsNextAs, after_what, last_call_below, Tells, stands_after, Call, calls, IsLegal}
 pub use Rattle.engine_api.specs.Instances.{units_of}
 pub use Rattle.engine_api.specs.Machine.{Machine, step, unless, content_done, content_reply, with_entered}
 pub use Rattle.engine_api.specs.Meaning.{Meaning, Held, unless_refused, new_held, first_refusal}

@@ -1,5 +1,5 @@
 -- A page that was written as changed and isn't cast out is kept.
-use Rattle.run_laws.proofs.Imports.{arith, ◌≡◌, Bool, true, false, ◌&&◌, ◌||◌, cond, List, [], ◌∷◌, ◌++◌, Option, None, Some, is_some, unwrap_or, option_map, append_assoc, append-nil, refl, sym, ◌∙◌, subst, option_and_then, list_any, false≢true, and_from, or_parts, CacheCmd, Read, Write, Castout, Unlock, CacheReply, Caps, StrForm, Name16, ConnId, Refusal, unless_refused, same_name, Reply, What, replay, Continues, Machine, continues_legal, same_name-eq, CacheItem, Content, IsOrderly, altered_caches, Deed, after_deed, Calls, Leaves, cause, done, Uncast, Uncasts, uncast_cast, uncast_unlocked, uncast_written, uncast_done, uncast_unless, uncast_after, AllKept, deed-kept, accepted_as, Move, Change, Done, Quiet, stands_in, Same, Left, Returned, Forgotten, Cleared, CacheEntry, CacheHistory, Accepted, acceptance_of, is_accepted, is_allocated, IsLegalCache, StaysAllocated, content_after, Page, page_in, page_written, is_changed_write, deletes, casts_out, unlocks, HasNone, is_cast_out, IsUncast, HasPage, IsAnswered, cache_in, cache_told, Sees, DoneInside, AsCommand, AsNothing, shape_of, Forgets, ap, AlterCmd, AlterReply, AlterContent, AcceptedOf}
+use Rattle.run_laws.proofs.Imports.{arith, ◌≡◌, Bool, true, false, ◌&&◌, ◌||◌, cond, List, [], ◌∷◌, ◌++◌, Option, None, Some, is_some, unwrap_or, option_map, append_assoc, append-nil, refl, sym, ◌∙◌, subst, option_and_then, list_any, false≢true, and_from, or_parts, CacheCmd, Read, Write, Castout, Unlock, CacheReply, Caps, StrForm, Name16, ConnId, Refusal, unless_refused, same_name, Reply, What, replay, Continues, Machine, continues_legal, same_name-eq, CacheItem, Content, IsOrderly, altered_caches, Deed, after_deed, Calls, Leaves, cause, done, Uncast, Uncasts, uncast_cast, uncast_unlocked, uncast_written, uncast_done, uncast_unless, uncast_after, AllKept, deed-kept, accepted_as, Move, Change, Done, Quiet, stands_in, Same, Left, Returned, Forgotten, Cleared, CacheEntry, CacheHistory, Accepted, acceptance_of, is_accepted, is_allocated, IsLegalCache, StaysAllocated, content_after, Page, page_in, page_written, is_changed_write, deletes, casts_out, unlocks, HasNone, is_cast_out, IsUncast, HasPage, IsAnswered, cache_in, cache_told, Sees, DoneInside, AsCommand, AsNothing, shape_of, Forgets, ap, AlterCmd, AlterReply, AlterContent, AcceptedOf, cache_meaning}
 use Rattle.run_laws.proofs.Seen.{cache_seen}
 use Rattle.run_laws.proofs.CacheReplies.{answer-content, read-changed, castout-changed}
 use Rattle.run_laws.proofs.{Allocated.continues_both, Allocated.next-change, Allocated.next-stands, UniqueLaws.orderly_replay}

@@ -12,7 +12,7 @@ step_quiet : (caps : Caps) (n : ℕ) (content : AlterContent Content) (target : 
 step_quiet caps n content None = (refl, refl)
 step_quiet caps n content (Some target) = (refl, refl)
 
-cache_done : (form : StrForm) (caps : Caps) (content : AlterContent Content) (by : ConnId)
+pub cache_done : (form : StrForm) (caps : Caps) (content : AlterContent Content) (by : ConnId)
     (command : AlterCmd CacheCmd) → altered_caches.cause (shape_of form) caps content by command ≡ None
     → DoneInside altered_caches cache_meaning form cache_in cache_told caps content by command
 cache_done form caps content by (AlterCmd.Inner command) none =
@@ -35,7 +35,7 @@ cache_seen form = record {
 
 -- ---- lists
 
-list_done : (form : StrForm) (caps : Caps) (content : QueueState ListContent) (by : ConnId) (command : QueueCmd)
+pub list_done : (form : StrForm) (caps : Caps) (content : QueueState ListContent) (by : ConnId) (command : QueueCmd)
     → queued_lists.cause (shape_of form) caps content by command ≡ None
     → DoneInside queued_lists list_meaning form list_in list_told caps content by command
 list_done form caps content by (QueueCmd.List command) none = AsCommand caps command refl none refl

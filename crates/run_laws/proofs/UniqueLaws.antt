@@ -1,6 +1,6 @@
 -- After every history rows and registrations are in order, and where they are, names, indexes and registrations are
 -- unique.
-use Rattle.run_laws.proofs.Imports.{◌≡◌, ℕ, ◌≤◌, Bool, true, false, not, ◌&&◌, ◌||◌, ◌==◌, nat_lt, cond, List, [], ◌∷◌, Option, length, filter, refl, sym, ap, ◌∙◌, subst, arith, list_all, and_parts, false≢true, nat_tests, StrForm, Name16, ConnId, Refusal, same_name, unless_refused, pairwise, list_all_weaker, none_from_all, filter_none, Registration, is_for, names_apart as regs_apart, same_name-eq, Content, IsOrderly, no_content, cache_meaning, Calls, Leaves, Forgets, done, orderly-content, content-nothing, orderly-deed, IsKept, kept-replay, kept-seen, cache_in, CacheHistory, content_after, IsUnique, Caps, is_cache, Shape, IsContent, content-done, leave-content, content-moved, need-front, need-leave, ContentLaws, held-replay, IsWithin, altered_caches, AlterCmd, AlterContent, CacheCmd, IsTrue, shape_of, replay, IsAltered, altered-done, altered-empty, inner-altered, content-at, caps_or, capacity_after}
+use Rattle.run_laws.proofs.Imports.{◌≡◌, ℕ, ◌≤◌, Bool, true, false, not, ◌&&◌, ◌||◌, ◌==◌, nat_lt, cond, List, [], ◌∷◌, Option, length, filter, refl, sym, ap, ◌∙◌, subst, arith, list_all, and_parts, false≢true, nat_tests, StrForm, Name16, ConnId, Refusal, same_name, unless_refused, pairwise, list_all_weaker, none_from_all, filter_none, Registration, is_for, names_apart as regs_apart, same_name-eq, Content, IsOrderly, no_content, cache_meaning, Calls, Leaves, Forgets, done, orderly-content, content-nothing, orderly-deed, IsKept, kept-replay, kept-seen, cache_in, CacheHistory, content_after, IsUnique, Caps, is_cache, Shape, IsContent, content-done, leave-content, content-moved, need-front, need-leave, ContentLaws, held-replay, IsWithin, altered_caches, AlterCmd, AlterContent, CacheCmd, IsTrue, shape_of, replay, IsAltered, altered-done, altered-empty, inner-altered, content-at, caps_or, capacity_after, None}
 use Rattle.run_laws.proofs.Seen.{cache_seen}
 
 -- ---- one at most
