@@ -1,5 +1,5 @@
 -- START and STEP are refused as too small exactly where what there is needs more than they ask for.
-use Rattle.run_laws.proofs.Imports.{arith, ◌≡◌, ℕ, ◌≤◌, inl, inr, Bool, true, false, nat_lt, List, [], ◌∷◌, ◌++◌, Option, None, Some, option_map, refl, sym, ap, ◌∙◌, subst, IsTrue, false≢true, nat_tests, CacheCmd, AlterCmd, AlterReply, CacheReply, AlterContent, Caps, Kind, StrForm, ConnId, Refusal, is_cache, Ask, Reply, What, Machine, Shell, content_cause, content_done, content_reply, unless, unless_refused, with_entered, first_refusal, refusal_when, if_too_small, if_beyond, units_of, replay, shape_of, step, continues_legal, Content, altered_caches, caps_toward, AreWithin, step_cause, CacheHistory, CacheEntry, IsLegalCache, capacity_after, limits_after, asked_for, target_after, need_after, IsShort, IsTooSmall, IsAskedAt, IsLetThrough, Read, Write, Castout, Unlock, Name16, CfId, CacheItem, registered_at, nat_le, cond, if_failed}
+use Rattle.run_laws.proofs.Imports.{arith, ◌≡◌, ℕ, ◌≤◌, inl, inr, Bool, true, false, nat_lt, List, [], ◌∷◌, ◌++◌, Option, None, Some, option_map, refl, sym, ap, ◌∙◌, subst, IsTrue, false≢true, nat_tests, CacheCmd, AlterCmd, AlterReply, CacheReply, AlterContent, Caps, Kind, StrForm, ConnId, Refusal, is_cache, Ask, Reply, What, Machine, Shell, content_cause, content_done, content_reply, unless, unless_refused, with_entered, first_refusal, refusal_when, if_too_small, if_beyond, units_of, replay, shape_of, step, continues_legal, Content, altered_caches, caps_toward, AreWithin, step_cause, CacheHistory, CacheEntry, IsLegalCache, capacity_after, limits_after, asked_for, target_after, need_after, IsShort, IsTooSmall, IsAskedAt, IsLetThrough, Read, Write, Castout, Unlock, Name16, CfId, CacheItem, registered_at, nat_le, cond, if_failed, min, is_none}
 use Rattle.cache_model.specs.CacheDir.declared.row.Holder.{Holder}
 use Rattle.cache_model.specs.Refusals.{index_refusal, use_refusal, castout_refusal, entry_refusal, holder_refusal, held_refusal, held_by_other_refusal, not_held_refusal, unchanged_refusal}
 use Rattle.cache_model.specs.Room.{elements_refusal, free_elements, has_place, reclaim_order, room_refusal}
@@ -46,6 +46,10 @@ other_unless false cause other = other
 
 one_unless : (b : Bool) (refusal : Refusal) → is_small (Some refusal) ≡ false → IsOther (cond b None (Some refusal))
 one_unless b refusal other = other_unless b (Some refusal) (record { other = other })
+
+one_where : (b : Bool) (refusal : Refusal) → is_small (Some refusal) ≡ false → IsOther (cond b (Some refusal) None)
+one_where true refusal other = record { other = other }
+one_where false refusal other = no_other
 
 -- ---- nothing else is
 
@@ -105,7 +109,7 @@ cache_other vector caps content by (Read name index old stg) =
     (index_other vector content by name index old, (one_unless _ _ refl, (room_other caps _ content.rows, tt)))
 cache_other vector caps content by (Write name index body class adj old stg when_reg) = (
   index_other vector content by name index old,
-  (castout_other class, (one_unless _ _ refl, (other_when _ _ refl, (other_when _ _ refl,
+  (castout_other class, (one_unless _ _ refl, (one_where _ _ refl, (one_where _ _ refl,
   (room_other caps _ content.rows, tt))))),
 )
 cache_other vector caps content by (CacheCmd.CrossInval name) = (entry_other _, tt)
@@ -180,15 +184,20 @@ within_units : (asked units : ℕ) → asked ≤ units → if_beyond asked units
 within_units asked units less = grind (arith, nat_tests)
 
 -- behind the cause that it takes more
-behind_beyond : (b : Bool) (asked units needed there : ℕ) (others : List (Option Refusal))
-    → first_refusal (refusal_when b (Refusal.BeyondUnits asked units) ∷ others) ≡ Some (Refusal.TooSmall needed there)
+behind_beyond : (asked units needed there : ℕ) (others : List (Option Refusal))
+    → first_refusal (if_beyond asked units ∷ others) ≡ Some (Refusal.TooSmall needed there)
     → first_refusal others ≡ Some (Refusal.TooSmall needed there)
-behind_beyond true asked units needed there others is = absurd cc
-behind_beyond false asked units needed there others is = is
+behind_beyond asked units needed there others = go (nat_lt units asked)
+  where
+    go : (b : Bool) → first_refusal (refusal_when b (Refusal.BeyondUnits (min asked 4294967295) units) ∷ others)
+        ≡ Some (Refusal.TooSmall needed there) → first_refusal others ≡ Some (Refusal.TooSmall needed there)
+    go true is = absurd cc
+    go false is = is
 
-no_stop : (b : Bool) (needed there : ℕ) → refusal_when b Refusal.NoAlter ≡ Some (Refusal.TooSmall needed there) → ⊥
-no_stop true needed there is = cc
-no_stop false needed there is = cc
+no_stop : (target : Option Caps) (needed there : ℕ)
+    → cond (is_none target) (Some Refusal.NoAlter) None ≡ Some (Refusal.TooSmall needed there) → ⊥
+no_stop None needed there is = cc
+no_stop (Some target) needed there is = cc
 
 -- ---- what the content refuses
 
@@ -228,10 +237,11 @@ module _ (form : StrForm) (kind : form.kind ≡ Kind.Cache) (history : CacheHist
   own_short (AlterCmd.Start target) is = record {
     caps = target;
     asked = refl;
-    short = short_of need target needed there (sym (of_cache target) ∙ behind_beyond _ _ _ needed there _ is);
+    short = short_of need target needed there (sym (of_cache target) ∙ behind_beyond (units_of target)
+        (units_of machine.shell.caps) needed there (if_too_small form.kind need target) is);
   }
   own_short (AlterCmd.Step n) is = step_short n (target_after form history) refl is
-  own_short AlterCmd.Stop is = absurd (no_stop _ needed there is)
+  own_short AlterCmd.Stop is = absurd (no_stop machine.content.target needed there is)
 
   start_comes : (target : Caps) → units_of target ≤ units_of (capacity_after form history)
       → first_refusal (if_too_small Kind.Cache need target) ≡ small → refusal_of (AlterCmd.Start target) ≡ small

@@ -1,5 +1,5 @@
 -- What proofs here name of other crates, and of this one's definitions. Declares nothing.
-pub use Rattle.std.proofs.Common.{◌≡◌, true, None, is_some, List, ℕ, zero, suc, ◌+◌, ◌≤◌, ◌<◌, length, Option, Some, slice_get, refl, ap, subst, ◌∙◌, arith, [], ◌∷◌, ◌++◌, sym, false, take, drop, map, option_map, unwrap_or, Bool, ◌&&◌, ◌==◌, cond, ◌≢◌, ◌-◌, inl, inr, not, codes, replicate, get_or, ◌⊎◌, length-append, ◌^◌, append_assoc, append-nil, IsTrue, option_and_then, find, filter, Contains, if◌then◌else◌, All, ◌*◌, ◌/◌, ◌%◌, nat_lt, nat_le, fold, ◌||◌, sum_by}
+pub use Rattle.std.proofs.Common.{◌≡◌, true, None, is_some, List, ℕ, zero, suc, ◌+◌, ◌≤◌, ◌<◌, length, Option, Some, slice_get, refl, ap, subst, ◌∙◌, arith, [], ◌∷◌, ◌++◌, sym, false, take, drop, map, option_map, unwrap_or, Bool, ◌&&◌, ◌==◌, cond, ◌≢◌, ◌-◌, inl, inr, not, codes, replicate, get_or, ◌⊎◌, length-append, ◌^◌, append_assoc, append-nil, IsTrue, option_and_then, find, filter, Contains, if◌then◌else◌, All, ◌*◌, ◌/◌, ◌%◌, nat_lt, nat_le, fold, ◌||◌, sum_by, min}
 pub use Rattle.std.proofs.KnownBytes.{Appends-trans}
 pub use Rattle.std.proofs.Math.Nat.{pow-suc}
 pub use Rattle.std.proofs.Math.Seq.{take-append_seam}
@@ -20,6 +20,7 @@ pub use Rattle.std.specs.Fmt.{decimal}
 pub use Rattle.std.specs.Io.KnownBytes.{Appends}
 pub use Rattle.std.specs.List.{list_all, list_any, flat_map, AllByRecursion, enumerate_from, position_or_len, concat}
 pub use Rattle.std.specs.Option.{MatchOption}
+pub use Rattle.std.specs.Prelude.{is_none}
 pub use Rattle.cf_types.proofs.ResourceLaws.{same_name-eq}
 unfoldable pub use Rattle.cf_types.specs.ConnSets.{conns_from}
 pub use Rattle.cf_types.specs.Connections.{is_active}
