@@ -73,11 +73,12 @@ def cache_line(rng, it, who, others):
 
 
 def altered(rng, it):
-    """A step of an alteration, mostly within what the instance has, and mostly with room for some pages."""
-    units = it.entries + it.elements + (rng.random() < 0.1)
-    entries = rng.randint(1, max(1, min(units - 1, 4096)))
-    start = f'ALTER START {entries} {rng.choice((units - entries, units - entries, 1)) or 1}'
-    return rng.choice((start, start, *[f'ALTER STEP {rng.choice((1, 1, 2, 5, 4096))}'] * 5, 'ALTER STOP'))
+    """A step of an alteration, mostly to a capacity that isn't far and that the instance has room for."""
+    units = it.entries + it.elements
+    entries = rng.choice((it.entries - 1, it.entries + 1, it.entries + 2, rng.randint(1, units - 1)))
+    entries = max(1, min(units - 1, entries))
+    start = f'ALTER START {entries} {rng.choice((units - entries, units - entries, units - entries + (rng.random() < 0.3), 1))}'
+    return rng.choice((start, start, *[f'ALTER STEP {rng.choice((1, 1, 2, 4096))}'] * 4, chance(rng, 0.3, 'ALTER STOP') or start))
 
 
 def record(rng, it):
