@@ -6,7 +6,7 @@ pub use Rattle.std.proofs.lemmas.Option.{none-some}
 pub use Rattle.std.specs.Option.{option_to_list}
 pub use Rattle.lock_words.specs.declared.view.Hold.{Hold}
 pub use Rattle.plex_board.proofs.DeskLaws.{new_desk-of_board}
-pub use Rattle.plex_board.specs.CfTypes.declared.{cache_commands.CacheCmd.CacheCmd, forms.StrForm.StrForm}
+pub use Rattle.plex_board.specs.CfTypes.declared.{alter_commands.AlterCmd.AlterCmd, cache_commands.CacheCmd.CacheCmd, forms.StrForm.StrForm}
 pub use Rattle.plex_board.specs.EngineApi.declared.{asks.Ask.Ask, told.Told.Told}
 pub use Rattle.plex_board.specs.PlexScript.declared.{scripts.AnyAsk.AnyAsk, scripts.Script.Script}
 pub use Rattle.plex_board.specs.StructCell.declared.refused.CallRefused.{CallRefused}

@@ -1,5 +1,5 @@
 -- What is known at a board of one cache structure, and of the connector's desk there.
-use Rattle.bench_parts.proofs.Imports.{◌≡◌, ℕ, ◌+◌, ◌<◌, ◌≤◌, List, arith, [], ◌∷◌, ◌++◌, length, map, refl, sym, ap, subst, ◌∙◌, All, Option, Some, None, IfSome, Result, Ok, Err, IfOk, IfErr, slice_get, option_to_list, range_with_len, All-nil, All-cons, All-head, StrForm, CacheCmd, IsForm, IsConnector, Ask, Told, Script, AnyAsk, CallRefused, type_of_kind, CellShown, IsAskOf, DeskShown, IsAnsweredOn, IsLaterOn, BoardShown, IsPolicy, IsStarted, IsDeskOf, cell_on, new_desk, new_desk-of_board, IsCacheForm, IsCacheAlone, IsOneCache, IsPool, IsCacheBoard, IsOperated, IsSeated, pool}
+use Rattle.bench_parts.proofs.Imports.{AlterCmd, ◌≡◌, ℕ, ◌+◌, ◌<◌, ◌≤◌, List, arith, [], ◌∷◌, ◌++◌, length, map, refl, sym, ap, subst, ◌∙◌, All, Option, Some, None, IfSome, Result, Ok, Err, IfOk, IfErr, slice_get, option_to_list, range_with_len, All-nil, All-cons, All-head, StrForm, CacheCmd, IsForm, IsConnector, Ask, Told, Script, AnyAsk, CallRefused, type_of_kind, CellShown, IsAskOf, DeskShown, IsAnsweredOn, IsLaterOn, BoardShown, IsPolicy, IsStarted, IsDeskOf, cell_on, new_desk, new_desk-of_board, IsCacheForm, IsCacheAlone, IsOneCache, IsPool, IsCacheBoard, IsOperated, IsSeated, pool}
 use Rattle.bench_parts.proofs.LastLaws.{front-of_two, last-of_one, last-some}
 
 -- ---- the script
@@ -102,7 +102,7 @@ module _ {L : Type 0} (board : BoardShown L) where
   }
 
   -- what a cache is asked is for the structure
-  pub pool-asked : (asked : Ask CacheCmd) → IsCacheBoard board
+  pub pool-asked : (asked : Ask (AlterCmd CacheCmd)) → IsCacheBoard board
       → IfSome (cell_on board pool) (λ cell. IsAskOf cell (AnyAsk.Cache asked))
   pool-asked asked cache = go (cell_on board pool) cache.pool_is
     where

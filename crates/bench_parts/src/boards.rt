@@ -15,7 +15,7 @@ use plex_board::cells::CallRefused;
 use plex_board::links::Steady;
 use plex_board::scripts::{AnyAsk, Script};
 use plex_board::types::limits::LINKS;
-use plex_board::types::{CacheCmd, Listing, NoMemory, ShellCmd, StrNo};
+use plex_board::types::{AlterCmd, CacheCmd, Listing, NoMemory, ShellCmd, StrNo};
 use plex_engines::Board;
 use std::alloc::Global;
 use std::io;
@@ -83,7 +83,7 @@ fn call(
     alloc: Global,
     board: &Board<Steady>,
     desk: &mut Desk,
-    ask: Ask<CacheCmd>,
+    ask: Ask<AlterCmd<CacheCmd>>,
 ) -> Result<Told, CallRefused>
     requires seated { IsSeated board.now desk.old }
     requires may { MayAsk desk.old.owner ask }
@@ -120,7 +120,8 @@ fn fill(
         Ask::Shell(ShellCmd::Connect { keep: false }),
     )?;
     for k in 0..PAGES {
-        call(rt, alloc, board, desk, Ask::Content(write(alloc, k)?))?;
+        let write = AlterCmd::Inner(write(alloc, k)?);
+        call(rt, alloc, board, desk, Ask::Content(write))?;
     }
     Ok(())
 }
@@ -182,7 +183,8 @@ fn read_pages(
 {
     let mut last = 0;
     for k in 0..reads {
-        last = call(rt, alloc, board, desk, Ask::Content(read(k)))?.no;
+        let read = AlterCmd::Inner(read(k));
+        last = call(rt, alloc, board, desk, Ask::Content(read))?.no;
     }
     Ok(last)
 }

@@ -9,7 +9,7 @@ use plex_board::Desk;
 use plex_board::api::Ask;
 use plex_board::links::ListLink;
 use plex_board::scripts::AnyAsk;
-use plex_board::types::{CacheCmd, ConnId, Name16, ShellCmd, StrNo, parse_body};
+use plex_board::types::{AlterCmd, CacheCmd, ConnId, Name16, ShellCmd, StrNo, parse_body};
 use plex_board::vectors::Tested;
 use plex_engines::Board;
 use std::alloc::Global;
@@ -45,7 +45,7 @@ pub fn work(
 {
     begin(rt, alloc, board, desks)?;
     share(rt, alloc, board, desks)?;
-    let castout = Ask::Content(CacheCmd::Castout { name: P1 });
+    let castout = Ask::Content(AlterCmd::Inner(CacheCmd::Castout { name: P1 }));
     call(rt, alloc, board, desks, A, castout)?;
     Ok(test_copy(board, desks))
 }
@@ -85,8 +85,8 @@ fn share(
 {
     for data in [b"balance-17", b"balance-25"] {
         let write = write(alloc, data)?;
-        call(rt, alloc, board, desks, A, Ask::Content(write))?;
-        call(rt, alloc, board, desks, B, Ask::Content(READ))?;
+        call(rt, alloc, board, desks, A, Ask::Content(AlterCmd::Inner(write)))?;
+        call(rt, alloc, board, desks, B, Ask::Content(AlterCmd::Inner(READ)))?;
     }
     Ok(())
 }
@@ -130,7 +130,7 @@ fn call(
     board: &Board<ListLink>,
     desks: &mut Vec<Desk>,
     who: ConnId,
-    ask: Ask<CacheCmd>,
+    ask: Ask<AlterCmd<CacheCmd>>,
 ) -> Result<(), Fault>
     requires seated { AreSeated board.now desks.old.items }
     requires who { who.0 ≤ 2 }

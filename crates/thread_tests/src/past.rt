@@ -1,7 +1,10 @@
 //! What the history of the cache says of a caller's tests.
 use plex_board::api::{Ask, Entry, Reply, What};
-use plex_board::types::{CacheCmd, CacheReply, ConnId};
+use plex_board::types::{AlterCmd, AlterReply, CacheCmd, CacheReply, ConnId};
 use std::alloc::{AllocError, Global};
+
+/// An entry of the history of the cache.
+pub type Done = Entry<AlterCmd<CacheCmd>, AlterReply<CacheReply>>;
 
 /// What a test of the page's bit answered: the bit, the number of a call, and the number of a call
 /// that its caller had seen complete.
@@ -13,10 +16,10 @@ pub struct Answer {
 }
 
 // The bit of the caller's copy after a call: its own READ sets it, and another's WRITE clears it.
-fn bit_after(entry: &Entry<CacheCmd, CacheReply>, caller: ConnId, before: bool) -> bool {
+fn bit_after(entry: &Done, caller: ConnId, before: bool) -> bool {
     match &entry.what {
-        What::Call(Ask::Content(CacheCmd::Read { .. })) if entry.by == caller => true,
-        What::Call(Ask::Content(CacheCmd::Write { .. })) if entry.by != caller => false,
+        What::Call(Ask::Content(AlterCmd::Inner(CacheCmd::Read { .. }))) if entry.by == caller => true,
+        What::Call(Ask::Content(AlterCmd::Inner(CacheCmd::Write { .. }))) if entry.by != caller => false,
         _ => before,
     }
 }
@@ -24,7 +27,7 @@ fn bit_after(entry: &Entry<CacheCmd, CacheReply>, caller: ConnId, before: bool) 
 /// The bit of the caller's copy before any call, and after each call.
 pub fn bits_after(
     alloc: Global,
-    entries: &[Entry<CacheCmd, CacheReply>],
+    entries: &[Done],
     caller: ConnId,
 ) -> Result<Vec<bool>, AllocError> {
     let mut bits = Vec::new(alloc);
@@ -51,14 +54,14 @@ pub fn never_falls(answers: &[Answer]) -> bool {
 }
 
 /// Whether the call of this number is the caller's.
-pub fn is_of(entries: &[Entry<CacheCmd, CacheReply>], number: u32, caller: ConnId) -> bool {
+pub fn is_of(entries: &[Done], number: u32, caller: ConnId) -> bool {
     entries
         .iter()
         .any(|entry| entry.no == number && entry.by == caller)
 }
 
 /// How many calls of the caller were done.
-pub fn counted(entries: &[Entry<CacheCmd, CacheReply>], caller: ConnId) -> usize {
+pub fn counted(entries: &[Done], caller: ConnId) -> usize {
     entries
         .iter()
         .filter(|entry| entry.by == caller && !matches!(entry.reply, Reply::Refused(_)))

@@ -7,7 +7,7 @@ use plex_board::Desk;
 use plex_board::api::Ask;
 use plex_board::links::Steady;
 use plex_board::scripts::AnyAsk;
-use plex_board::types::{CacheCmd, Name16, ShellCmd, StrNo, parse_body};
+use plex_board::types::{AlterCmd, CacheCmd, Name16, ShellCmd, StrNo, parse_body};
 use plex_board::vectors::Tested;
 use plex_engines::Board;
 use std::alloc::Global;
@@ -28,7 +28,7 @@ fn call(
     alloc: Global,
     board: &Board<Steady>,
     desk: &mut Desk,
-    ask: Ask<CacheCmd>,
+    ask: Ask<AlterCmd<CacheCmd>>,
 ) -> Result<u32, Halt>
     requires seat { IsSeat board.now desk.old }
     requires may { MayAsk desk.old.owner ask }
@@ -62,12 +62,13 @@ pub fn read(
     requires { IsSeat board.now desk.old }
     ensures { IsSeat board.now desk.new }
 {
-    let ask = Ask::Content(CacheCmd::Read {
+    let read = CacheCmd::Read {
         name: PAGE,
         index: INDEX,
         old: None,
         stg: 1,
-    });
+    };
+    let ask = Ask::Content(AlterCmd::Inner(read));
     call(rt, alloc, board, desk, ask)
 }
 
@@ -84,7 +85,7 @@ pub fn write(
     let Ok(body) = parse_body(alloc, b"x") else {
         return Err(Halt::NoMemory);
     };
-    let ask = Ask::Content(CacheCmd::Write {
+    let write = CacheCmd::Write {
         name: PAGE,
         index: INDEX,
         body,
@@ -93,7 +94,8 @@ pub fn write(
         old: None,
         stg: 1,
         when_reg: false,
-    });
+    };
+    let ask = Ask::Content(AlterCmd::Inner(write));
     call(rt, alloc, board, desk, ask)
 }
 

@@ -10,7 +10,7 @@ use plex_board::Desk;
 use plex_board::api::History;
 use plex_board::links::Steady;
 use plex_board::scripts::{AnyHistory, Script, read, well_formed};
-use plex_board::types::{CacheCmd, CacheReply, ConnId, Kind};
+use plex_board::types::{AlterCmd, AlterReply, CacheCmd, CacheReply, ConnId, Kind};
 use plex_engines::Board;
 use std::alloc::Global;
 use std::mem::replace;
@@ -120,7 +120,7 @@ pub fn close(
     rt: &impl Wait,
     alloc: Global,
     trial: Trial,
-) -> Result<History<CacheCmd, CacheReply>, Halt>
+) -> Result<History<AlterCmd<CacheCmd>, AlterReply<CacheReply>>, Halt>
     requires { IsTrial trial }
 {
     let Trial {

@@ -10,7 +10,7 @@ use plex_board::Desk;
 use plex_board::api::Ask;
 use plex_board::links::Steady;
 use plex_board::scripts::AnyAsk;
-use plex_board::types::{CacheCmd, Name16, ShellCmd, StrNo, parse_body};
+use plex_board::types::{AlterCmd, CacheCmd, Name16, ShellCmd, StrNo, parse_body};
 use plex_board::vectors::Tested;
 use plex_engines::Board;
 use std::alloc::Global;
@@ -54,7 +54,7 @@ pub fn writer(
         stg: 1,
         when_reg: false,
     };
-    call(rt, alloc, board, desk, Ask::Content(write))?;
+    call(rt, alloc, board, desk, Ask::Content(AlterCmd::Inner(write)))?;
     Ok(())
 }
 
@@ -81,7 +81,7 @@ pub fn reader(
         old: None,
         stg: 1,
     };
-    let no = call(rt, alloc, board, desk, Ask::Content(read))?;
+    let no = call(rt, alloc, board, desk, Ask::Content(AlterCmd::Inner(read)))?;
     let reply = board.reply(rt, alloc, desk, GBP, no)?;
     board.post(rt, desk, GBP);
     let tested = test_copy(board, desk)?;
@@ -127,7 +127,7 @@ fn call(
     alloc: Global,
     board: &Board<Steady>,
     desk: &mut Desk,
-    ask: Ask<CacheCmd>,
+    ask: Ask<AlterCmd<CacheCmd>>,
 ) -> Result<u32, Fault>
     requires member { IsMember board.now desk.old }
     requires ask { MayAskAny desk.old.owner (any.Cache ask) }

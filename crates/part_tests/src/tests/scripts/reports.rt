@@ -1,5 +1,6 @@
 use engine_api::types::{
-    CacheCmd, CacheReply, ConnId, Listing, Name16, NoMemory, StrNo, parse_name,
+    AlterCmd, AlterReply, CacheCmd, CacheReply, ConnId, Listing, Name16, NoMemory, StrNo,
+    parse_name,
 };
 use engine_api::{Ask, Entry, History, Reply, What};
 use plex_load::scripts::{AgentEnd, AnyHistory, Script, Shown, Transcript, read};
@@ -14,7 +15,7 @@ CONNECTOR A
 ";
 
 // What is read of a page that nobody has written.
-fn entry(name: Name16) -> Entry<CacheCmd, CacheReply> {
+fn entry(name: Name16) -> Entry<AlterCmd<CacheCmd>, AlterReply<CacheReply>> {
     let cmd = CacheCmd::Read {
         name,
         index: 0,
@@ -24,8 +25,8 @@ fn entry(name: Name16) -> Entry<CacheCmd, CacheReply> {
     Entry {
         no: 1,
         by: ConnId(1),
-        what: What::Call(Ask::Content(cmd)),
-        reply: Reply::Content(CacheReply::NoData),
+        what: What::Call(Ask::Content(AlterCmd::Inner(cmd))),
+        reply: Reply::Content(AlterReply::Inner(CacheReply::NoData)),
     }
 }
 
