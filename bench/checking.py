@@ -18,9 +18,9 @@ LOSSES = ('SIMPLEX cf', 'STOPPED n', 'FAILED')
 SHELL = ('OK', 'OK NEW cf', 'OK RECONNECTED cf', 'EVENT event', 'RESPONDED event', 'OK n', 'OK cf', 'COPIED n n', 'OK NONE', 'REFUSED refusal')
 CONTENT = {
     'CACHE': ('DATA data [ADJ adj] [change]', 'NODATA', 'OK', 'OK n', 'REGS of n:term', 'OK change', 'NAMES of term', 'STATS of n:n',
-              'DIR CHANGED n STG n LOCK holder REGS n', 'DIR UNCHANGED NONE STG n LOCK holder REGS n', 'STG n n'),
+              'DIR CHANGED n STG n LOCK holder REGS n', 'DIR UNCHANGED NONE STG n LOCK holder REGS n', 'STG n n', 'ALTERED n n MORE', 'ALTERED n n DONE'),
     'LIST': ('ID id', 'ENTRY id n VERSION n [NAME term] [KEY term] [DATA data] [ADJ adj]', 'OK', 'IDS of id', 'HOLDER holder', 'CONTROLS n n', 'EMPTY',
-             'NOTEMPTY', 'OK n'),
+             'NOTEMPTY', 'OK n', 'SUBLIST n term'),
     'LOCK': ('GRANTED', 'PENDING n', 'OK', 'RECORDS of resource:state:adj')}
 EVENTS = ('NEWCONN c', 'DISCFAIL c', 'QUIESCE n', 'REBUILDCONNECT n', 'CONNECTSDONE n', 'CLEANUP n', 'COMPLETE n', 'STOP n', 'STOPDONE n', 'LOSTCONN cf',
           'STRFAIL', 'CONTENTION resource c', 'NOTIFY resource c', 'GRANTED resource state', 'DENIED resource')

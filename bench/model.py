@@ -67,6 +67,11 @@ class Content:
         return False
 
 
+def nearer(has, due, most):
+    """A number that goes towards another one, by so much at most."""
+    return has + max(-most, min(most, due - has))
+
+
 class Row:
     def __init__(self, storage):
         self.data = self.adjunct = self.castout = self.holder = None
@@ -77,6 +82,7 @@ class Cache(Content):
     def __init__(self, form):
         super().__init__(form)
         self.rows, self.used, self.copies = {}, [], {}
+        self.limits = self.target = None
 
     def items(self):
         return len(self.rows)
@@ -85,7 +91,15 @@ class Cache(Content):
         return len(self.rows), sum(elements(row.data) for row in self.rows.values())
 
     def forget(self):
-        self.copies = {}
+        self.copies, self.limits, self.target = {}, None, None
+
+    def base(self):
+        """The entries and elements of the instance, as it was made."""
+        return self.form.entries, self.form.elements
+
+    def capacity(self):
+        """How many entries and elements there may be: those of the instance, or what an alteration made of them."""
+        return self.limits or self.base()
 
     def bit(self, who, index):
         return index in self.copies.get(who, {})
@@ -122,15 +136,16 @@ class Cache(Content):
         entry = page not in self.rows
         own = 0 if entry else elements(self.rows[page].data)
         wanted = elements(data)
-        free_entries = self.form.entries - len(self.rows)
-        free = self.form.elements - self.need()[1] + (own if data else 0)
+        entries, all_elements = self.capacity()
+        free_entries = entries - len(self.rows)
+        free = all_elements - self.need()[1] + (own if data else 0)
         others = [other for other in self.used if other != page]
         order = sorted(others, key=lambda other: self.rows[other].storage != storage)
         victims = []
         while (entry and free_entries < 1) or (data and wanted > free):
             if not order:
                 if entry and free_entries < 1:
-                    refuse(9, 'DIRECTORYFULL', self.form.entries)
+                    refuse(9, 'DIRECTORYFULL', entries)
                 refuse(10, 'NOELEMENTS', wanted, free)
             victims.append(order.pop(0))
             free_entries += 1
@@ -265,6 +280,41 @@ class Cache(Content):
         rows = [row for row in self.rows.values() if row.storage == storage]
         return f'STG {len(rows)} {sum(row.castout is not None for row in rows)}'
 
+    def do_alter(self, by, words):
+        return getattr(self, 'alter_' + words.take().lower())(words)
+
+    def alter_start(self, words):
+        asked = words.number(), words.number()
+        if sum(asked) > sum(self.base()):
+            refuse(12, 'BEYONDUNITS', sum(asked), sum(self.base()))
+        self.holds(asked)
+        self.target = asked
+        return 'OK'
+
+    def alter_step(self, words):
+        most = words.number()
+        self.altered()
+        limits = tuple(nearer(has, due, most) for has, due in zip(self.capacity(), self.target))
+        self.holds(limits)
+        done = limits == self.target
+        self.limits, self.target = limits, None if done else self.target
+        return f'ALTERED {limits[0]} {limits[1]} {"DONE" if done else "MORE"}'
+
+    def alter_stop(self, words):
+        self.altered()
+        self.target = None
+        return 'OK'
+
+    def altered(self):
+        if self.target is None:
+            refuse(13, 'NOALTER')
+
+    def holds(self, limits):
+        """What there is has to fit new limits: its entries, and then its elements."""
+        for need, has in zip(self.need(), limits):
+            if need > has:
+                refuse(71, 'TOOSMALL', need, has)
+
     def leave(self, who, keep):
         self.copies.pop(who, None)
         for row in self.rows.values():
@@ -284,13 +334,34 @@ class Lists(Content):
         self.limits = [form.policy_entries] * form.headers
         self.holders = [None] * form.locks
         self.monitors, self.next = {}, 1
+        # who waits for events of which sublists, in the order of the MONSUBs, and the events that weren't taken
+        self.watched, self.queues = [], collections.defaultdict(list)
+
+    def call(self, by, words):
+        before = {sublist: self.is_filled(sublist) for _, sublist in self.watched}
+        reply = super().call(by, words)
+        for who, sublist in self.watched:
+            if sublist in before and before[sublist] != self.is_filled(sublist):
+                if self.is_filled(sublist):
+                    self.queues[who].append(sublist)
+                else:
+                    self.drop_event(who, sublist)
+        return reply
+
+    def is_filled(self, sublist):
+        header, key = sublist
+        return any(record.key == key for record in self.lists[header])
+
+    def drop_event(self, who, sublist):
+        if sublist in self.queues[who]:
+            self.queues[who].remove(sublist)
 
     def records(self):
         return [record for records in self.lists for record in records]
 
     def items(self):
         plain = self.next == 1 and not self.monitors and not any(self.holders) and self.limits == [self.form.policy_entries] * self.form.headers
-        return len(self.records()) + (not plain)
+        return bool(self.watched) + len(self.records()) + (not plain)
 
     def need(self):
         return len(self.records()), sum(elements(record.data) for record in self.records())
@@ -481,7 +552,37 @@ class Lists(Content):
         self.header(header)
         return f'OK {self.unmonitor(by, header)}'
 
+    def sublist(self, words):
+        header, key = words.number(), words.value('KEY')
+        self.header(header)
+        self.known_by('KEYS')
+        return header, key
+
+    def do_monsub(self, by, words):
+        sublist = self.sublist(words)
+        if (by, sublist) not in self.watched:
+            self.watched.append((by, sublist))
+            if self.is_filled(sublist):
+                self.queues[by].append(sublist)
+        return 'NOTEMPTY' if self.is_filled(sublist) else 'EMPTY'
+
+    def do_unmonsub(self, by, words):
+        sublist = self.sublist(words)
+        if (by, sublist) not in self.watched:
+            return 'OK 0'
+        self.watched.remove((by, sublist))
+        self.drop_event(by, sublist)
+        return 'OK 1'
+
+    def do_deq(self, by, words):
+        if not self.queues[by]:
+            refuse(32, 'NOQUEUED')
+        header, key = self.queues[by].pop(0)
+        return f'SUBLIST {header} {key}'
+
     def leave(self, who, keep):
+        self.watched = [(by, sublist) for by, sublist in self.watched if by != who]
+        self.queues.pop(who, None)
         self.monitors = {at: header for at, header in self.monitors.items() if at[0] != who}
         if not keep:
             self.holders = [None if holder == who else holder for holder in self.holders]

@@ -66,8 +66,19 @@ def cache_line(rng, it, who, others):
         return f'WRITE {page} {index} {data(rng)} {state}{adjunct}{old}{storage}{registered}'
     if pick < 0.72:
         return f'{rng.choice(("CASTOUT", "UNLOCK", "UNLOCK"))} {page}'
+    if pick < 0.82:
+        return altered(rng, it)
     return rng.choice((f'CROSSINVAL {page}', 'REGLIST', f'COCLASS {rng.choice((1, 2, 17))}', 'COSTATS', f'DIRINFO {page}', f'DELETE {page}',
                        f'DELETE {page}', f'STGSTATS {rng.choice((1, 2, 9))}'))
+
+
+def altered(rng, it):
+    """A step of an alteration, mostly to a capacity that isn't far and that the instance has room for."""
+    units = it.entries + it.elements
+    entries = rng.choice((it.entries - 1, it.entries + 1, it.entries + 2, rng.randint(1, units - 1)))
+    entries = max(1, min(units - 1, entries))
+    start = f'ALTER START {entries} {rng.choice((units - entries, units - entries, units - entries + (rng.random() < 0.3), 1))}'
+    return rng.choice((start, start, *[f'ALTER STEP {rng.choice((1, 1, 2, 4096))}'] * 4, chance(rng, 0.3, 'ALTER STOP') or start))
 
 
 def record(rng, it):
@@ -96,9 +107,12 @@ def list_line(rng, it, who, others):
         return f'MOVE {record(rng, it)} {header} {end}{key}{version}{under}'
     if pick < 0.78:
         return f'DELETE {record(rng, it)}{version}{under}'
-    if pick < 0.88:
+    if pick < 0.83:
         return rng.choice((f'MONITOR {header} {header}', f'MONITOR {header} {header}', f'MONITOR {header} {rng.randrange(it.vector + 1)}',
                            f'UNMONITOR {header}'))
+    if pick < (0.92 if it.refs == 'KEYS' else 0.84):
+        key = rng.choice(KEYS)
+        return rng.choice((*[f'MONSUB {header} KEY {key}'] * 3, f'UNMONSUB {header} KEY {key}', *['DEQ'] * 4))
     return rng.choice((f'READLIST {header}', f'LOCK {lock} SET', f'LOCK {lock} RESET', f'LOCK {lock} TEST', f'LCONTROLS {header}',
                        f'SETLIMIT {header} {rng.choice((0, 2, 8, 64))}'))
 

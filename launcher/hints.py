@@ -164,7 +164,12 @@ class Hints:
         forms = [form for form in PAGE.commands(kind, by) if form.verb == rest[0]]
         if not forms:
             return self.no_command(rest[0], kind, by)
-        return self.missed(self.same_second(forms, rest), rest, who, on)
+        return self.of_other_kind(kind, by, rest) + self.missed(self.same_second(forms, rest), rest, who, on)
+
+    def of_other_kind(self, kind, by, rest):
+        """What is said of words that have a form at structures of another kind, whose commands of that name are others."""
+        read = [form for form in PAGE.commands(by=by) if form.verb == rest[0] and kind not in form.kinds and form.read(rest)]
+        return [f'{form.text} is a command of {kind_says(form.kinds)}, and {self.words[1]} is a {kind} structure' for form in read[:1]]
 
     def same_second(self, forms, rest):
         """Of forms that begin alike, as REBUILD START and REBUILD STOP, the one that is meant."""
@@ -187,7 +192,8 @@ class Hints:
         told = f'{verb} is no command of a {kind} structure, which {self.words[1]} is'
         if not elsewhere[0].is_call:
             return [f'{told}: it has no vectors, so there is nothing to test']
-        return [f'{told}, but of {kind_says(elsewhere[0].kinds)}', f'commands here: {listed(verbs)} (docs/FORMS.md)']
+        kinds = [it for it in KINDS if any(it in form.kinds for form in elsewhere)]
+        return [f'{told}, but of {kind_says(kinds)}', f'commands here: {listed(verbs)} (docs/FORMS.md)']
 
     def strange_command(self, verb, kind, by, verbs):
         """What is said of a word that is no command."""

@@ -1,5 +1,5 @@
 -- What each kind of item does to a pass: calls, tests, posts and takes.
-use Rattle.plex_agent.proofs.Imports.{◌≡◌, ℕ, ◌+◌, ◌*◌, ◌^◌, ◌≤◌, ◌<◌, ◌==◌, ◌&&◌, nat_lt, Bool, true, false, List, [], ◌∷◌, ◌++◌, map, Some, None, refl, sym, ◌∙◌, arith, append-nil, slice_get, cond, All, bit_at, ltb-false, map-append, All-head, StrForm, ConnId, StrNo, Entry, Told, Meaning, Tells, cache_meaning, list_meaning, lock_meaning, AnyAsk, AnyHistory, Shown, AnyCall, surest_on, seen_on, TellsBit, TellsWord, place_of, Sight, bit_in, sight, indices_of, IsTold, AnyReply, PassShown, IsLater, with_call, IsAnyTold, told_past, each_sight, bit_in_word, AnyTells, all_bits}
+use Rattle.plex_agent.proofs.Imports.{◌≡◌, ℕ, ◌+◌, ◌*◌, ◌^◌, ◌≤◌, ◌<◌, ◌==◌, ◌&&◌, nat_lt, Bool, true, false, List, [], ◌∷◌, ◌++◌, map, Some, None, refl, sym, ◌∙◌, arith, append-nil, slice_get, cond, All, bit_at, ltb-false, map-append, All-head, StrForm, ConnId, StrNo, Entry, Told, Meaning, Tells, altered_caches, queued_lists, lock_meaning, AnyAsk, AnyHistory, Shown, AnyCall, surest_on, seen_on, TellsBit, TellsWord, place_of, Sight, bit_in, sight, indices_of, IsTold, AnyReply, PassShown, IsLater, with_call, IsAnyTold, told_past, each_sight, bit_in_word, AnyTells, all_bits}
 use Rattle.plex_agent.proofs.Passes.{Caller, IsOf, IsShown, IsWithin, Adds}
 use Rattle.plex_agent.proofs.{Fronts.front_same, Fronts.front_more, Spots.is_same, Lookups.all_behind}
 
@@ -34,8 +34,8 @@ module _ {C R I S : Type 0} (meaning : Meaning C R I S) (form : StrForm) (entrie
 told_tells : (form : StrForm) (entries : AnyHistory) (conn : ConnId) (test : Sight) (sure : ℕ)
     → IsAnyTold form entries conn test
     → test.index < form.vector → sure ≤ test.sure → AnyTells form entries test.at sure conn test.index test.bit
-told_tells form (AnyHistory.Cache entries) conn test sure = tells_less cache_meaning form entries conn test sure
-told_tells form (AnyHistory.List entries) conn test sure = tells_less list_meaning form entries conn test sure
+told_tells form (AnyHistory.Cache entries) conn test sure = tells_less altered_caches form entries conn test sure
+told_tells form (AnyHistory.List entries) conn test sure = tells_less queued_lists form entries conn test sure
 told_tells form (AnyHistory.Lock entries) conn test sure = tells_less lock_meaning form entries conn test sure
 
 -- ---- words

@@ -1,5 +1,5 @@
 -- Tests, posts and takes: what each keeps, and what the run by the machine alone shows for it.
-use Rattle.plex_agent.proofs.Imports.{◌+◌, ◌≡◌, ◌≢◌, ℕ, ◌*◌, ◌^◌, ◌≤◌, ◌<◌, max, nat_lt, Bool, List, [], ◌∷◌, ◌++◌, map, slice_get, Option, None, Some, refl, sym, ap, subst, ◌∙◌, arith, All, get_or_from_slice_get, AnyHistory, Shown, any_length, IsAnyPoint, any_take, any_stands, any_word, end_of, shown_on, seen_on, with_shown, post_made, take_made, Sight, sight, indices_of, PassShown, NoteShown, note_of, IsAnyTold, with_any_note, with_item, set_same, each_sight, Run, ◌==◌, ◌&&◌, take, bit_at, ltb-true, ltb-false, StrForm, ConnId, Entry, Meaning, stands_after, cache_meaning, list_meaning, lock_meaning, IsTold, told_past, bit_in_word, all_bits, AgentEnd}
+use Rattle.plex_agent.proofs.Imports.{◌+◌, ◌≡◌, ◌≢◌, ℕ, ◌*◌, ◌^◌, ◌≤◌, ◌<◌, max, nat_lt, Bool, List, [], ◌∷◌, ◌++◌, map, slice_get, Option, None, Some, refl, sym, ap, subst, ◌∙◌, arith, All, get_or_from_slice_get, AnyHistory, Shown, any_length, IsAnyPoint, any_take, any_stands, any_word, end_of, shown_on, seen_on, with_shown, post_made, take_made, Sight, sight, indices_of, PassShown, NoteShown, note_of, IsAnyTold, with_any_note, with_item, set_same, each_sight, Run, ◌==◌, ◌&&◌, take, bit_at, ltb-true, ltb-false, StrForm, ConnId, Entry, Meaning, stands_after, altered_caches, queued_lists, lock_meaning, IsTold, told_past, bit_in_word, all_bits, AgentEnd}
 use Rattle.plex_agent.proofs.Agreements.{IsSeen, sure_in, known_in, seen_push, seen_none, ShowsNumber, number_shown, lasts_put}
 use Rattle.plex_agent.proofs.ExactMoves.{SaysLess, run_shows, transcript_is, knows_front, still_front, says_same, goes_changed}
 use Rattle.plex_agent.proofs.Spots.{conn, str, put_all, put_same, Spot, IsKnownNote, at_front, moved, noticed, known_moved, known_noticed, IsKnown}
@@ -17,8 +17,8 @@ module _ {C R I S : Type 0} (meaning : Meaning C R I S) (form : StrForm) (entrie
 -- a test whose number isn't above what its caller had seen complete shows what stood at that number
 pub told_bit : (form : StrForm) (h : AnyHistory) (conn : ConnId) (test : Sight) → IsAnyTold form h conn test
     → test.at ≤ test.sure → test.index < form.vector → test.bit ≡ any_stands form (any_take test.at h) conn test.index
-told_bit form (AnyHistory.Cache entries) conn test = bit_told cache_meaning form entries conn test
-told_bit form (AnyHistory.List entries) conn test = bit_told list_meaning form entries conn test
+told_bit form (AnyHistory.Cache entries) conn test = bit_told altered_caches form entries conn test
+told_bit form (AnyHistory.List entries) conn test = bit_told queued_lists form entries conn test
 told_bit form (AnyHistory.Lock entries) conn test = bit_told lock_meaning form entries conn test
 
 -- ---- a word

@@ -1,5 +1,5 @@
 -- What proofs here name of other crates, and of this one's definitions. Declares nothing.
-pub use Rattle.plex_board.proofs.Imports.{drop-cons, set-append_seam, map-set_same, get_or-append_seam, take-append_seam, nat_tests, All-head, All-tail, filter_map-append, All-get_or, All-map, All-same, All-weaker, All-nil, All-cons, All-take, All-push, filter-append, length-range_with_len, get_or-range_with_len, length-map-range_with_len, get_or-map-range_with_len, map-map, bit_at, filter_map, range_with_len, enumerate_from, flat_map, option_copied, vec_len, vec_capacity, into_iter_items, set_same, get_within, get-set_same, get-set_other, marks_counted, asks_some, fewer_asks, ready_after, rests, some_goes, BoardShown, IsDeskOf, cell_on, AreClosed, new_desk, IsStarted, IsClosed, note_in, IsAccount, IsTrayOf, no_notes, AreEachAsked, AreLinksAsked, four_of, links_of, cache_meaning, IsAnyTold, CellShown, IsAskOf, TellsEnough, IsFacility, pass_at, DeskShown, with_pass, IsLaterOn, no_pass, fixed_of, trues, MayCommand, Meaning, TellsBit, TellsWord, place_of, ShowsHistories, TellsOf, TestsTell, EndsRight, IsHistoryOf, Rising, AnyTells, any_take, end_of, MayAskAny, IsAnyPoint, any_stands, any_word, IsOfKind, AreAnyAsTold, no_calls, numbers_from, any_numbers, any_told, any_next, last_number, IsAnyLegal, any_answers, any_marks_at, list_meaning, lock_meaning, with_any_note, with_note, PassShown, IsLater, with_call, NoteShown, note_of, unused_pass, calls_on, AnyCall, is_linked, length_on, any_length, any_calls, own_calls, call_numbered, calls_of, length_of, link_place, AreTelling, IsLinkOf, AreRunLinks, IsRunnable, IsRunnableLine, IsRunnableAct, with_shown, test_shown, word_shown, post_made, take_made, start, connectors, Run, stopped_at, steps_made, is_done, after_departure, after_closing, all_steps_made, after_line, serial_run, shown_to, transcript_of, transcript_at, act_made, AreMadeBelow, IsTold, type_of_kind, type_of_history, type_of_ask, bit_in, sight, indices_of}
+pub use Rattle.plex_board.proofs.Imports.{drop-cons, set-append_seam, map-set_same, get_or-append_seam, take-append_seam, nat_tests, All-head, All-tail, filter_map-append, All-get_or, All-map, All-same, All-weaker, All-nil, All-cons, All-take, All-push, filter-append, length-range_with_len, get_or-range_with_len, length-map-range_with_len, get_or-map-range_with_len, map-map, bit_at, filter_map, range_with_len, enumerate_from, flat_map, option_copied, vec_len, vec_capacity, into_iter_items, set_same, get_within, get-set_same, get-set_other, marks_counted, asks_some, fewer_asks, ready_after, rests, some_goes, BoardShown, IsDeskOf, cell_on, AreClosed, new_desk, IsStarted, IsClosed, note_in, IsAccount, IsTrayOf, no_notes, AreEachAsked, AreLinksAsked, four_of, links_of, altered_caches, IsAnyTold, CellShown, IsAskOf, TellsEnough, IsFacility, pass_at, DeskShown, with_pass, IsLaterOn, no_pass, fixed_of, trues, MayCommand, Meaning, TellsBit, TellsWord, place_of, ShowsHistories, TellsOf, TestsTell, EndsRight, IsHistoryOf, Rising, AnyTells, any_take, end_of, MayAskAny, IsAnyPoint, any_stands, any_word, IsOfKind, AreAnyAsTold, no_calls, numbers_from, any_numbers, any_told, any_next, last_number, IsAnyLegal, any_answers, any_marks_at, queued_lists, lock_meaning, with_any_note, with_note, PassShown, IsLater, with_call, NoteShown, note_of, unused_pass, calls_on, AnyCall, is_linked, length_on, any_length, any_calls, own_calls, call_numbered, calls_of, length_of, link_place, AreTelling, IsLinkOf, AreRunLinks, IsRunnable, IsRunnableLine, IsRunnableAct, with_shown, test_shown, word_shown, post_made, take_made, start, connectors, Run, stopped_at, steps_made, is_done, after_departure, after_closing, all_steps_made, after_line, serial_run, shown_to, transcript_of, transcript_at, act_made, AreMadeBelow, IsTold, type_of_kind, type_of_history, type_of_ask, bit_in, sight, indices_of}
 pub use Rattle.std.proofs.Common.{◌≡◌, ℕ, ◌*◌, ◌<◌, inl, inr, nat_lt, Bool, true, false, List, [], ◌∷◌, length, Some, None, refl, sym, ap, subst, ◌∙◌, append-nil, slice_get, MatchBool, ◌+◌, ◌^◌, ◌≤◌, ◌==◌, ◌&&◌, ◌++◌, map, arith, cond, All, ◌≢◌, max, fold, Option, suc, append_assoc, IfSome, drop, get_or, take, if◌then◌else◌, zero, replicate, option_map, length-set, length-append, slice_index_or, set, ◌⊎◌, ◌-◌, Result, Ok, Err, OnOk, slice_set, Vec, Global, IfOk, IsOkAnd, rules}
 pub use Rattle.std.proofs.Math.Numerals.{add-one}
 pub use Rattle.std.proofs.lemmas.Bool.{ltb-true, ltb-false, cases_eq, eqb-true, eqb-false, cases_lt}

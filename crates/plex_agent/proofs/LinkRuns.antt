@@ -1,5 +1,5 @@
 -- What the links of a closed board have to do with its histories: structure by structure, link by link.
-use Rattle.plex_agent.proofs.Imports.{◌≡◌, ℕ, zero, suc, ◌+◌, ◌*◌, ◌-◌, ◌≤◌, ◌<◌, List, [], ◌∷◌, ◌++◌, length, map, slice_get, Option, Some, refl, sym, ap, subst, ◌∙◌, arith, append_assoc, flat_map, length-map, slice_get_within, IsFacility, StrForm, CfId, Links, Telling, AreAsked, IsAskedAll, link_at, TellsEnough, asked_faults, asked_calls, asked_told, trues, marks_counted, cache_meaning, list_meaning, lock_meaning, AnyHistory, IsAnyLegal, AreAnyAsTold, any_answers, any_marks_at, links_told, link_place, AreTelling, IsLinkOf, AreRunLinks, CellShown, BoardShown, AreEachAsked, AreLinksAsked, four_of, links_of}
+use Rattle.plex_agent.proofs.Imports.{◌≡◌, ℕ, zero, suc, ◌+◌, ◌*◌, ◌-◌, ◌≤◌, ◌<◌, List, [], ◌∷◌, ◌++◌, length, map, slice_get, Option, Some, refl, sym, ap, subst, ◌∙◌, arith, append_assoc, flat_map, length-map, slice_get_within, IsFacility, StrForm, CfId, Links, Telling, AreAsked, IsAskedAll, link_at, TellsEnough, asked_faults, asked_calls, asked_told, trues, marks_counted, altered_caches, queued_lists, lock_meaning, AnyHistory, IsAnyLegal, AreAnyAsTold, any_answers, any_marks_at, links_told, link_place, AreTelling, IsLinkOf, AreRunLinks, CellShown, BoardShown, AreEachAsked, AreLinksAsked, four_of, links_of}
 use Rattle.plex_board.specs.CfLink.Links.{Tells}
 use Rattle.plex_agent.proofs.Lookups.{some_same, get_mapped}
 
@@ -94,8 +94,8 @@ module _ {L : Type 0} where
 -- a history of whatever kind has as many marks of a facility as its link answered Down
 any_marks_counted : (form : StrForm) (entries : AnyHistory) → IsAnyLegal form entries → (cf : CfId)
     → any_marks_at entries cf ≡ trues (any_answers form entries cf)
-any_marks_counted form (AnyHistory.Cache entries) legal cf = marks_counted cache_meaning form entries legal cf
-any_marks_counted form (AnyHistory.List entries) legal cf = marks_counted list_meaning form entries legal cf
+any_marks_counted form (AnyHistory.Cache entries) legal cf = marks_counted altered_caches form entries legal cf
+any_marks_counted form (AnyHistory.List entries) legal cf = marks_counted queued_lists form entries legal cf
 any_marks_counted form (AnyHistory.Lock entries) legal cf = marks_counted lock_meaning form entries legal cf
 
 module _ {L : Type 0} (calls : L → Option ℕ) (downs : L → Option (List ℕ)) (faults : L → ℕ)
@@ -109,9 +109,9 @@ module _ {L : Type 0} (calls : L → Option ℕ) (downs : L → Option (List ℕ
       → ((cf : CfId) → IsFacility cf → Tells calls downs faults (told cf) (link_at old cf))
       → AreAsked calls downs faults (any_answers form entries) old new → AreAnyAsTold form told entries
   any_links_told form told (AnyHistory.Cache entries) old new tells asked =
-      links_told cache_meaning form told calls downs faults entries old new enough tells asked
+      links_told altered_caches form told calls downs faults entries old new enough tells asked
   any_links_told form told (AnyHistory.List entries) old new tells asked =
-      links_told list_meaning form told calls downs faults entries old new enough tells asked
+      links_told queued_lists form told calls downs faults entries old new enough tells asked
   any_links_told form told (AnyHistory.Lock entries) old new tells asked =
       links_told lock_meaning form told calls downs faults entries old new enough tells asked
 

@@ -37,6 +37,8 @@ pub use Rattle.plex_board.specs.Boards.{BoardShown, IsDeskOf, AreClosed, AreEach
 pub use Rattle.plex_board.specs.Cells.{CellShown, IsPassOf, IsAnyTold, own_replies, keyed_as, replied, IsNoteOf, cell_shown, IsAskOf}
 pub use Rattle.plex_board.specs.Desks.{DeskShown, no_pass, Fixed, fixed_of, pass_at, with_pass, IsAnsweredOn, IsLaterOn}
 pub use Rattle.run_shown.specs.Kinds.{IsAnyPoint, IsOfKind, IsAnyLegal, Rising, any_take, no_calls, any_numbers, end_of, last_number, numbers_from, MayAskAny, AnyTells, any_stands, any_word}
+pub use Rattle.run_shown.specs.Meanings.{altered_caches}
+pub use Rattle.run_shown.specs.QueueModel.ListQueues.{queued_lists}
 pub use Rattle.plex_board.specs.AnyCalls.{any_answers, AreAnyAsTold, any_next, any_told, any_marks_at}
 pub use Rattle.plex_board.specs.Notes.{with_any_note, with_note}
 pub use Rattle.plex_board.specs.Openings.{bare_desk, desk_with, desk_at, IsOpening, IsUnused, IsBegun}

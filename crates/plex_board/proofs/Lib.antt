@@ -1,3 +1,4 @@
+pub use Rattle.alter_model.proofs as AlterModel
 pub use Rattle.cache_model.proofs as CacheModel
 pub use Rattle.struct_cell.proofs.CfLink as CfLink
 pub use Rattle.cf_lists.proofs as CfLists
@@ -5,6 +6,7 @@ pub use Rattle.plex_script.proofs.EngineApi as EngineApi
 pub use Rattle.list_model.proofs as ListModel
 pub use Rattle.lock_model.proofs as LockModel
 pub use Rattle.plex_script.proofs as PlexScript
+pub use Rattle.queue_model.proofs as QueueModel
 pub use Rattle.run_shown.proofs as RunShown
 pub use Rattle.struct_cell.proofs.ShellLaws as ShellLaws
 pub use Rattle.struct_cell.proofs.VecWords as VecWords

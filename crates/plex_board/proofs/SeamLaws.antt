@@ -1,6 +1,6 @@
 -- Where a call of a history stands: the entries up to its number are the next ones of those up to the number of the
 -- call before it.
-use Rattle.plex_board.proofs.Imports.{◌≡◌, ℕ, zero, suc, ◌<◌, ◌≤◌, ◌⊎◌, inl, inr, List, [], ◌∷◌, ◌++◌, length, take, drop, map, fold, refl, sym, ap, subst, ◌∙◌, arith, append_assoc, Contains, append_cancel_left, fold_push, map-append, map-map, take-append-drop, take-append_seam, take-map, drop-map, drop-append_seam, StrForm, CfId, Telling, Ask, Entry, Meaning, told_of, Call, Turn, calls, IsLegal, after_turn, by_turns, calls-turn, call_added, IsMade, call_made, legal_none, legal_turn, length-turn, cache_meaning, list_meaning, lock_meaning, AnyAsk, AnyHistory, AnyCall, any_call, any_calls, any_length, next_by, told_by, down_of, IsAnyLegal, AreAnyAsTold, IsAnyPoint, Rising, any_take, any_next, any_told, any_numbers, end_of, last_number}
+use Rattle.plex_board.proofs.Imports.{◌≡◌, ℕ, zero, suc, ◌<◌, ◌≤◌, ◌⊎◌, inl, inr, List, [], ◌∷◌, ◌++◌, length, take, drop, map, fold, refl, sym, ap, subst, ◌∙◌, arith, append_assoc, Contains, append_cancel_left, fold_push, map-append, map-map, take-append-drop, take-append_seam, take-map, drop-map, drop-append_seam, StrForm, CfId, Telling, Ask, Entry, Meaning, told_of, Call, Turn, calls, IsLegal, after_turn, by_turns, calls-turn, call_added, IsMade, call_made, legal_none, legal_turn, length-turn, altered_caches, queued_lists, lock_meaning, AnyAsk, AnyHistory, AnyCall, any_call, any_calls, any_length, next_by, told_by, down_of, IsAnyLegal, AreAnyAsTold, IsAnyPoint, Rising, any_take, any_next, any_told, any_numbers, end_of, last_number}
 use Rattle.plex_board.proofs.ToldLaws.{AreAsTold, front_exact, run_of}
 
 -- ---- lists
@@ -145,9 +145,9 @@ pub next_call : (form : StrForm) (told : CfId → Telling) (h : AnyHistory) → 
     → (front : List AnyCall) (call : AnyCall) (more : List AnyCall) → any_calls h ≡ front ++ call ∷ more
     → IsNextOf form told h (any_take (end_of front) h) call
 next_call form told (AnyHistory.Cache entries) legal all front call more e =
-    next_on cache_meaning AnyAsk.Cache form told entries legal all front call more e (IsNextOf form told
+    next_on altered_caches AnyAsk.Cache form told entries legal all front call more e (IsNextOf form told
     (AnyHistory.Cache entries) _) (λ here is. grind arith)
-next_call form told (AnyHistory.List entries) legal all front call more e = next_on list_meaning AnyAsk.List form
+next_call form told (AnyHistory.List entries) legal all front call more e = next_on queued_lists AnyAsk.List form
     told entries legal all front call more e (IsNextOf form told (AnyHistory.List entries) _) (λ here is. grind arith)
 next_call form told (AnyHistory.Lock entries) legal all front call more e = next_on lock_meaning AnyAsk.Lock form
     told entries legal all front call more e (IsNextOf form told (AnyHistory.Lock entries) _) (λ here is. grind arith)
@@ -161,18 +161,18 @@ pub front_of : (form : StrForm) (h : AnyHistory) → IsAnyLegal form h → (fron
     → any_calls h ≡ front ++ more → IsFrontOf h front
 front_of form (AnyHistory.Cache entries) legal front more e =
     let is =
-    front_on cache_meaning AnyAsk.Cache form entries legal front more e in record { size = is.0; calls_are = is.1 }
+    front_on altered_caches AnyAsk.Cache form entries legal front more e in record { size = is.0; calls_are = is.1 }
 front_of form (AnyHistory.List entries) legal front more e =
     let is =
-    front_on list_meaning AnyAsk.List form entries legal front more e in record { size = is.0; calls_are = is.1 }
+    front_on queued_lists AnyAsk.List form entries legal front more e in record { size = is.0; calls_are = is.1 }
 front_of form (AnyHistory.Lock entries) legal front more e =
     let is =
     front_on lock_meaning AnyAsk.Lock form entries legal front more e in record { size = is.0; calls_are = is.1 }
 
 -- a legal history ends with its last call
 pub end_length : (form : StrForm) (h : AnyHistory) → IsAnyLegal form h → end_of (any_calls h) ≡ any_length h
-end_length form (AnyHistory.Cache entries) legal = ends_with cache_meaning AnyAsk.Cache form entries legal
-end_length form (AnyHistory.List entries) legal = ends_with list_meaning AnyAsk.List form entries legal
+end_length form (AnyHistory.Cache entries) legal = ends_with altered_caches AnyAsk.Cache form entries legal
+end_length form (AnyHistory.List entries) legal = ends_with queued_lists AnyAsk.List form entries legal
 end_length form (AnyHistory.Lock entries) legal = ends_with lock_meaning AnyAsk.Lock form entries legal
 
 -- ---- points

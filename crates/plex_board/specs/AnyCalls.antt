@@ -7,9 +7,9 @@ use Rattle.struct_cell.specs.CfLink.Links.{Telling, IsAsTold}
 use Rattle.plex_script.specs.EngineApi.declared.told.Told.{Told}
 use Rattle.plex_script.specs.EngineApi.Answers.{answers, marks_at}
 use Rattle.plex_script.specs.EngineApi.Told.{told_plainly}
-use Rattle.run_shown.specs.CacheModel.Meaning.{cache_meaning}
-use Rattle.run_shown.specs.ListModel.Meaning.{list_meaning}
 use Rattle.run_shown.specs.LockModel.Meaning.{lock_meaning}
+use Rattle.run_shown.specs.QueueModel.ListQueues.{queued_lists}
+use Rattle.run_shown.specs.Meanings.{altered_caches}
 use Rattle.plex_script.specs.declared.scripts.AnyAsk.{AnyAsk}
 use Rattle.plex_script.specs.declared.scripts.AnyAsk.TheVariants as ask
 use Rattle.plex_script.specs.declared.asks.AnyHistory.{AnyHistory}
@@ -21,12 +21,12 @@ use Rattle.plex_board.specs.Told.{next_by, told_by}
 -- a caller's next call over links that tell this, and what is told of it. An ask of another kind is none
 abbrev pub any_next : StrForm → (CfId → Telling) → AnyHistory → ConnId → AnyAsk → AnyHistory
 any_next form told (history.Cache entries) by (ask.Cache asked) =
-    history.Cache (next_by cache_meaning form told entries by asked)
+    history.Cache (next_by altered_caches form told entries by asked)
 any_next form told (history.Cache entries) by (ask.List asked) = history.Cache entries
 any_next form told (history.Cache entries) by (ask.Lock asked) = history.Cache entries
 any_next form told (history.List entries) by (ask.Cache asked) = history.List entries
 any_next form told (history.List entries) by (ask.List asked) =
-    history.List (next_by list_meaning form told entries by asked)
+    history.List (next_by queued_lists form told entries by asked)
 any_next form told (history.List entries) by (ask.Lock asked) = history.List entries
 any_next form told (history.Lock entries) by (ask.Cache asked) = history.Lock entries
 any_next form told (history.Lock entries) by (ask.List asked) = history.Lock entries
@@ -34,11 +34,11 @@ any_next form told (history.Lock entries) by (ask.Lock asked) =
     history.Lock (next_by lock_meaning form told entries by asked)
 
 abbrev pub any_told : StrForm → (CfId → Telling) → AnyHistory → ConnId → AnyAsk → Told
-any_told form told (history.Cache entries) by (ask.Cache asked) = told_by cache_meaning form told entries by asked
+any_told form told (history.Cache entries) by (ask.Cache asked) = told_by altered_caches form told entries by asked
 any_told form told (history.Cache entries) by (ask.List asked) = told_plainly 0 false
 any_told form told (history.Cache entries) by (ask.Lock asked) = told_plainly 0 false
 any_told form told (history.List entries) by (ask.Cache asked) = told_plainly 0 false
-any_told form told (history.List entries) by (ask.List asked) = told_by list_meaning form told entries by asked
+any_told form told (history.List entries) by (ask.List asked) = told_by queued_lists form told entries by asked
 any_told form told (history.List entries) by (ask.Lock asked) = told_plainly 0 false
 any_told form told (history.Lock entries) by (ask.Cache asked) = told_plainly 0 false
 any_told form told (history.Lock entries) by (ask.List asked) = told_plainly 0 false
@@ -48,8 +48,8 @@ any_told form told (history.Lock entries) by (ask.Lock asked) = told_by lock_mea
 
 -- what the link to a facility answered, one answer for each call of which the history has that it asked the link
 abbrev pub any_answers : StrForm → AnyHistory → CfId → List Bool
-any_answers form (history.Cache entries) cf = answers cache_meaning form entries cf
-any_answers form (history.List entries) cf = answers list_meaning form entries cf
+any_answers form (history.Cache entries) cf = answers altered_caches form entries cf
+any_answers form (history.List entries) cf = answers queued_lists form entries cf
 any_answers form (history.Lock entries) cf = answers lock_meaning form entries cf
 
 -- how many marks a history has of a facility

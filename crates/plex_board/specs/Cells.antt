@@ -5,8 +5,6 @@ use Rattle.plex_script.specs.CfTypes.declared.numbers.ConnId.{ConnId}
 use Rattle.struct_cell.specs.CfLink.declared.links.Links.{Links}
 use Rattle.plex_script.specs.EngineApi.declared.asks.Reply.{Reply}
 use Rattle.plex_script.specs.EngineApi.History.{Call, own}
-use Rattle.cache_model.specs.Meaning.{cache_meaning}
-use Rattle.list_model.specs.Meaning.{list_meaning}
 use Rattle.lock_model.specs.Meaning.{lock_meaning}
 use Rattle.plex_script.specs.declared.scripts.AnyAsk.{AnyAsk}
 use Rattle.plex_script.specs.declared.asks.AnyHistory.{AnyHistory}
@@ -15,6 +13,8 @@ use Rattle.struct_cell.specs.VecWords.declared.logged.Sight.{Sight}
 use Rattle.struct_cell.specs.VecWords.Tokens.{WordTable}
 use Rattle.struct_cell.specs.declared.inside.CellKey.{CellKey}
 use Rattle.struct_cell.specs.Telling.{IsTold}
+use Rattle.run_shown.specs.QueueModel.ListQueues.{queued_lists}
+use Rattle.run_shown.specs.Meanings.{altered_caches}
 use Rattle.plex_board.specs.declared.any_cell.AnyCell.{AnyCell}
 use Rattle.plex_board.specs.declared.any_cell.AnyCell.TheVariants as cell
 use Rattle.plex_board.specs.declared.any_reply.AnyReply.{AnyReply}
@@ -64,8 +64,8 @@ IsAskOf cell asked = type_of_ask asked ≡ cell.str_type
 
 -- a caller's test tells what stood at a numbered point that isn't before anything its caller had seen complete
 abbrev pub IsAnyTold : StrForm → AnyHistory → ConnId → Sight → Type 0
-IsAnyTold form (history.Cache entries) owner test = IsTold cache_meaning form entries owner.0 test
-IsAnyTold form (history.List entries) owner test = IsTold list_meaning form entries owner.0 test
+IsAnyTold form (history.Cache entries) owner test = IsTold altered_caches form entries owner.0 test
+IsAnyTold form (history.List entries) owner test = IsTold queued_lists form entries owner.0 test
 IsAnyTold form (history.Lock entries) owner test = IsTold lock_meaning form entries owner.0 test
 
 -- the replies to a caller's own calls, with their numbers, in order

@@ -1,3 +1,4 @@
+pub use Rattle.run_shown.specs.AlterModel as AlterModel
 pub use Rattle.cache_model.specs as CacheModel
 pub use Rattle.cache_model.specs.CacheRegs as CacheRegs
 pub use Rattle.struct_cell.specs.CfIo as CfIo
@@ -9,6 +10,7 @@ pub use Rattle.list_model.specs.ListStore as ListStore
 pub use Rattle.lock_model.specs as LockModel
 pub use Rattle.lock_model.specs.LockQueue as LockQueue
 pub use Rattle.plex_script.specs as PlexScript
+pub use Rattle.run_shown.specs.QueueModel as QueueModel
 pub use Rattle.run_shown.specs as RunShown
 pub use Rattle.struct_cell.specs.ShellLaws as ShellLaws
 pub use Rattle.struct_cell.specs as StructCell

@@ -3,14 +3,16 @@ ghost use Rattle.std.specs.Prelude.{◌≡◌, ◌<◌, ◌≤◌, ◌++◌, ◌
 ghost use Rattle.plex_board.specs.Passes.{pass_shown, passes_shown, type_of_passes, room_of};
 
 use plex_script::api::{Ask, Reply};
-use plex_script::types::{CacheCmd, CacheReply, ListCmd, ListReply, LockCmd, LockReply};
+use plex_script::types::{
+    AlterCmd, AlterReply, CacheCmd, CacheReply, LockCmd, LockReply, QueueCmd, QueueReply,
+};
 use struct_cell::vectors::Pass;
 
 /// A caller's pass to a structure. It may go to another thread.
 #[derive(Drop)]
 pub enum AnyPass {
-    Cache(Pass<(Ask<CacheCmd>, Reply<CacheReply>)>),
-    List(Pass<(Ask<ListCmd>, Reply<ListReply>)>),
+    Cache(Pass<(Ask<AlterCmd<CacheCmd>>, Reply<AlterReply<CacheReply>>)>),
+    List(Pass<(Ask<QueueCmd>, Reply<QueueReply>)>),
     Lock(Pass<(Ask<LockCmd>, Reply<LockReply>)>),
 }
 
@@ -32,8 +34,8 @@ impl AnyPass {
 /// Passes of one structure.
 #[derive(Drop)]
 pub enum AnyPasses {
-    Cache(Vec<Pass<(Ask<CacheCmd>, Reply<CacheReply>)>>),
-    List(Vec<Pass<(Ask<ListCmd>, Reply<ListReply>)>>),
+    Cache(Vec<Pass<(Ask<AlterCmd<CacheCmd>>, Reply<AlterReply<CacheReply>>)>>),
+    List(Vec<Pass<(Ask<QueueCmd>, Reply<QueueReply>)>>),
     Lock(Vec<Pass<(Ask<LockCmd>, Reply<LockReply>)>>),
 }
 

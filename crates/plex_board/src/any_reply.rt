@@ -3,12 +3,12 @@ ghost use Rattle.std.specs.Prelude.{◌≡◌, option_map};
 ghost use Rattle.plex_board.specs.declared.any_reply.AnyReply.TheVariants as any;
 
 use plex_script::api::Reply;
-use plex_script::types::{CacheReply, ListReply, LockReply};
+use plex_script::types::{AlterReply, CacheReply, LockReply, QueueReply};
 
 /// What was answered to a call of a structure, of whatever type.
 pub enum AnyReply {
-    Cache(Reply<CacheReply>),
-    List(Reply<ListReply>),
+    Cache(Reply<AlterReply<CacheReply>>),
+    List(Reply<QueueReply>),
     Lock(Reply<LockReply>),
 }
 
@@ -21,7 +21,7 @@ impl Drop for AnyReply {
 }
 
 // A reply of a cache structure, if there is one.
-pub(crate) fn of_cache(reply: Option<Reply<CacheReply>>) -> Option<AnyReply>
+pub(crate) fn of_cache(reply: Option<Reply<AlterReply<CacheReply>>>) -> Option<AnyReply>
     ensures { result ≡ option_map any.Cache reply }
 {
     match reply {
@@ -31,7 +31,7 @@ pub(crate) fn of_cache(reply: Option<Reply<CacheReply>>) -> Option<AnyReply>
 }
 
 // A reply of a list structure, if there is one.
-pub(crate) fn of_list(reply: Option<Reply<ListReply>>) -> Option<AnyReply>
+pub(crate) fn of_list(reply: Option<Reply<QueueReply>>) -> Option<AnyReply>
     ensures { result ≡ option_map any.List reply }
 {
     match reply {

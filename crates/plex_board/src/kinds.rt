@@ -2,21 +2,23 @@
 ghost use Rattle.std.specs.Prelude.{IsTrue};
 ghost use Rattle.plex_script.specs.CfTypes.declared.forms.Kind.{Kind};
 ghost use Rattle.plex_script.specs.CfTypes.Forms.{is_cache, is_list, is_lock};
-ghost use Rattle.cache_model.specs.Meaning.{cache_meaning};
-ghost use Rattle.list_model.specs.Meaning.{list_meaning};
+ghost use Rattle.run_shown.specs.Meanings.{altered_caches};
+ghost use Rattle.run_shown.specs.QueueModel.ListQueues.{queued_lists};
 ghost use Rattle.lock_model.specs.Meaning.{lock_meaning};
 ghost use Rattle.plex_board.specs.Means.{Means};
 
 use plex_script::api::Engine;
-use plex_script::types::{CacheCmd, CacheReply, ListCmd, ListReply, LockCmd, LockReply};
+use plex_script::types::{
+    AlterCmd, AlterReply, CacheCmd, CacheReply, LockCmd, LockReply, QueueCmd, QueueReply,
+};
 
 /// An engine for each type of structure. Each means what the model of its type says.
 pub trait Kinds {
-    /// The engine of cache structures.
-    type Cache: Engine<Cmd = CacheCmd, Reply = CacheReply>;
+    /// The engine of cache structures, whose capacity can be altered.
+    type Cache: Engine<Cmd = AlterCmd<CacheCmd>, Reply = AlterReply<CacheReply>>;
 
-    /// The engine of list structures.
-    type List: Engine<Cmd = ListCmd, Reply = ListReply>;
+    /// The engine of list structures, with event queues for sublists.
+    type List: Engine<Cmd = QueueCmd, Reply = QueueReply>;
 
     /// The engine of lock structures.
     type Lock: Engine<Cmd = LockCmd, Reply = LockReply>;
@@ -29,9 +31,9 @@ pub trait Kinds {
     ghost lock_kind: { (kind : Kind) → IsTrue (is_lock kind) → IsTrue (Self.Lock.is_kind kind) };
 
     /// What a history of each says is what the model says of it.
-    ghost cache_means: { Means Self.Cache.meaning cache_meaning };
+    ghost cache_means: { Means Self.Cache.meaning altered_caches };
 
-    ghost list_means: { Means Self.List.meaning list_meaning };
+    ghost list_means: { Means Self.List.meaning queued_lists };
 
     ghost lock_means: { Means Self.Lock.meaning lock_meaning };
 }

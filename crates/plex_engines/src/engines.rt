@@ -1,21 +1,23 @@
 //! The engines that a board of the program runs.
 use cache_core::CacheEngine;
-use list_core::ListEngine;
+use cf_alter::Altered;
+use list_queues::QueueEngine;
 use lock_core::LockEngine;
 use plex_board::Kinds;
 
-/// The engines of the program, one for each type of structure.
+/// The engines of the program, one for each type of structure: a cache whose capacity can be
+/// altered, a list with event queues for sublists, and a lock structure.
 pub struct Engines;
 
 impl Kinds for Engines {
-    ghost use Rattle.plex_board.specs.CacheModel.Meaning.{cache_meaning};
-    ghost use Rattle.plex_board.specs.ListModel.Meaning.{list_meaning};
     ghost use Rattle.plex_board.specs.LockModel.Meaning.{lock_meaning};
+    ghost use Rattle.plex_board.specs.QueueModel.ListQueues.{queued_lists};
+    ghost use Rattle.plex_board.specs.RunShown.Meanings.{altered_caches};
     ghost use Rattle.plex_board.specs.Means.{means_itself};
 
-    type Cache = CacheEngine;
+    type Cache = Altered<CacheEngine>;
 
-    type List = ListEngine;
+    type List = QueueEngine;
 
     type Lock = LockEngine;
 
@@ -25,9 +27,9 @@ impl Kinds for Engines {
 
     ghost lock_kind = { λ kind is. is };
 
-    ghost cache_means = { means_itself cache_meaning };
+    ghost cache_means = { means_itself altered_caches };
 
-    ghost list_means = { means_itself list_meaning };
+    ghost list_means = { means_itself queued_lists };
 
     ghost lock_means = { means_itself lock_meaning };
 }

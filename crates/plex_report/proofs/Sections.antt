@@ -1,5 +1,5 @@
 -- Which line stands where in the sections of a report.
-use Rattle.plex_report.proofs.Imports.{◌≡◌, ℕ, ◌+◌, ◌<◌, ◌≤◌, zero, suc, List, [], ◌∷◌, ◌++◌, length, get_or, take, None, codes, arith, refl, slice_get, sum_by, option_map_or, StrForm, AnyHistory, Script, Transcript, caller_name, structure_name, cache_words, list_words, lock_words, cache_reply_words, list_reply_words, lock_reply_words, form_line, pref_line, structure_lines, heading, entry_line, history_lines, any_length, shown_line, transcript_lines, structures_lines, histories_lines, transcripts_lines}
+use Rattle.plex_report.proofs.Imports.{◌≡◌, ℕ, ◌+◌, ◌<◌, ◌≤◌, zero, suc, List, [], ◌∷◌, ◌++◌, length, get_or, take, None, codes, arith, refl, slice_get, sum_by, option_map_or, StrForm, AnyHistory, Script, Transcript, caller_name, structure_name, alter_words, queue_words, lock_words, alter_reply_words, queue_reply_words, lock_reply_words, form_line, pref_line, structure_lines, heading, entry_line, history_lines, any_length, shown_line, transcript_lines, structures_lines, histories_lines, transcripts_lines}
 use Rattle.plex_report.proofs.LinesAt.{get_spot, get_after, length-under}
 
 pub past_end : (line : List ℕ) (n : ℕ) → 0 < n → slice_get (line ∷ []) n ≡ None
@@ -11,9 +11,9 @@ structure-sized i form = length-under (pref_line form) (form_line form) form.pre
 
 module _ (script : Script) where
   history-sized : (i : ℕ) (history : AnyHistory) → length (history_lines script i history) ≡ any_length history + 1
-  history-sized i (AnyHistory.Cache entries) = length-under (entry_line cache_words cache_reply_words script)
+  history-sized i (AnyHistory.Cache entries) = length-under (entry_line alter_words alter_reply_words script)
       (heading (codes "HISTORY") (structure_name script i) (length entries)) entries
-  history-sized i (AnyHistory.List entries) = length-under (entry_line list_words list_reply_words script)
+  history-sized i (AnyHistory.List entries) = length-under (entry_line queue_words queue_reply_words script)
       (heading (codes "HISTORY") (structure_name script i) (length entries)) entries
   history-sized i (AnyHistory.Lock entries) = length-under (entry_line lock_words lock_reply_words script)
       (heading (codes "HISTORY") (structure_name script i) (length entries)) entries

@@ -1,8 +1,9 @@
 -- The words of commands, under the names of a script.
 use Rattle.std.specs.Prelude.{ℕ, List}
 use Rattle.plex_script.specs.CfTypes.declared.shell_commands.ShellCmd.{ShellCmd}
+use Rattle.plex_script.specs.CfTypes.declared.alter_commands.AlterCmd.{AlterCmd}
 use Rattle.plex_script.specs.CfTypes.declared.cache_commands.CacheCmd.{CacheCmd}
-use Rattle.plex_script.specs.CfTypes.declared.list_commands.ListCmd.{ListCmd}
+use Rattle.plex_script.specs.CfTypes.declared.list_commands.QueueCmd.{QueueCmd}
 use Rattle.plex_script.specs.CfTypes.declared.lock_commands.LockCmd.{LockCmd}
 use Rattle.plex_script.specs.EngineApi.declared.asks.Ask.{Ask}
 use Rattle.plex_script.specs.EngineApi.declared.asks.Ask.TheVariants as ask
@@ -12,11 +13,11 @@ use Rattle.plex_script.specs.declared.scripts.Script.{Script}
 abbrev pub shell_words : Script → ShellCmd → List (List ℕ)
 shell_words script cmd = plain.shell_words script.connectors cmd
 
-abbrev pub cache_words : Script → CacheCmd → List (List ℕ)
-cache_words script cmd = plain.cache_words cmd
+abbrev pub alter_words : Script → AlterCmd CacheCmd → List (List ℕ)
+alter_words script cmd = plain.alter_words cmd
 
-abbrev pub list_words : Script → ListCmd → List (List ℕ)
-list_words script cmd = plain.list_words cmd
+abbrev pub queue_words : Script → QueueCmd → List (List ℕ)
+queue_words script cmd = plain.queue_words cmd
 
 abbrev pub lock_words : Script → LockCmd → List (List ℕ)
 lock_words script cmd = plain.lock_words script.connectors cmd

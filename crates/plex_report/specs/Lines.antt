@@ -24,9 +24,9 @@ use Rattle.plex_script.specs.declared.transcripts.Transcript.{Transcript}
 use Rattle.plex_script.specs.Causes.{kind_of}
 use Rattle.plex_script.specs.PlexPlain.Naming.{facility_word}
 use Rattle.plex_report.specs.Naming.{caller_name, caller_word, structure_name, structure_word}
-use Rattle.plex_report.specs.CommandWords.{ask_words, cache_words, list_words, lock_words}
+use Rattle.plex_report.specs.CommandWords.{ask_words, alter_words, queue_words, lock_words}
 use Rattle.plex_report.specs.RefusalWords.{refusal_words}
-use Rattle.plex_report.specs.ReplyWords.{shell_reply_words, cache_reply_words, list_reply_words, lock_reply_words}
+use Rattle.plex_report.specs.ReplyWords.{shell_reply_words, alter_reply_words, queue_reply_words, lock_reply_words}
 
 -- ---- histories
 
@@ -79,8 +79,8 @@ module _ {C R : Type 0} where
 
 -- the history of the structure with this number
 abbrev pub history_lines : Script → ℕ → AnyHistory → List (List ℕ)
-history_lines script n (any.Cache entries) = entry_lines cache_words cache_reply_words script n entries
-history_lines script n (any.List entries) = entry_lines list_words list_reply_words script n entries
+history_lines script n (any.Cache entries) = entry_lines alter_words alter_reply_words script n entries
+history_lines script n (any.List entries) = entry_lines queue_words queue_reply_words script n entries
 history_lines script n (any.Lock entries) = entry_lines lock_words lock_reply_words script n entries
 
 -- how many entries there are

@@ -7,10 +7,14 @@ use Rattle.plex_script.specs.CfTypes.declared.events.Event.{Event}
 use Rattle.plex_script.specs.CfTypes.declared.events.Event.TheVariants as event
 use Rattle.plex_script.specs.CfTypes.declared.shell_commands.ShellReply.{ShellReply}
 use Rattle.plex_script.specs.CfTypes.declared.shell_commands.ShellReply.TheVariants as shell
+use Rattle.plex_script.specs.CfTypes.declared.alter_commands.AlterReply.{AlterReply}
+use Rattle.plex_script.specs.CfTypes.declared.alter_commands.AlterReply.TheVariants as alter
 use Rattle.plex_script.specs.CfTypes.declared.cache_commands.CacheReply.{CacheReply}
 use Rattle.plex_script.specs.CfTypes.declared.cache_commands.CacheReply.TheVariants as cache
 use Rattle.plex_script.specs.CfTypes.declared.list_commands.ListReply.{ListReply}
 use Rattle.plex_script.specs.CfTypes.declared.list_commands.ListReply.TheVariants as list
+use Rattle.plex_script.specs.CfTypes.declared.list_commands.QueueReply.{QueueReply}
+use Rattle.plex_script.specs.CfTypes.declared.list_commands.QueueReply.TheVariants as queue
 use Rattle.plex_script.specs.CfTypes.declared.lock_commands.LockReply.{LockReply}
 use Rattle.plex_script.specs.CfTypes.declared.lock_commands.LockReply.TheVariants as lock
 use Rattle.plex_script.specs.PlexSpell.Tokens.{name_word}
@@ -94,6 +98,18 @@ cache_reply_words script (cache.Dir class stg holder regs) =
     ++ codes "STG" ∷ decimal stg ∷ codes "LOCK" ∷ holder_word script holder ∷ codes "REGS" ∷ decimal regs ∷ []
 cache_reply_words script (cache.Stg rows changed) = codes "STG" ∷ decimal rows ∷ decimal changed ∷ []
 
+-- whether a capacity that is altered has reached its target
+abbrev pub done_word : Bool → List ℕ
+done_word true = codes "DONE"
+done_word false = codes "MORE"
+
+-- of the cache, or of an alteration of its capacity
+abbrev pub alter_reply_words : Script → AlterReply CacheReply → List (List ℕ)
+alter_reply_words script (alter.Inner answer) = cache_reply_words script answer
+alter_reply_words script alter.Ok = codes "OK" ∷ []
+alter_reply_words script (alter.Altered caps done) =
+    codes "ALTERED" ∷ decimal caps.entries ∷ decimal caps.elements ∷ done_word done ∷ []
+
 -- ---- replies of a list structure
 
 abbrev pub list_reply_words : Script → ListReply → List (List ℕ)
@@ -109,6 +125,14 @@ list_reply_words script (list.Controls count limit) = codes "CONTROLS" ∷ decim
 list_reply_words script list.Empty = codes "EMPTY" ∷ []
 list_reply_words script list.NotEmpty = codes "NOTEMPTY" ∷ []
 list_reply_words script (list.OkCount n) = codes "OK" ∷ decimal n ∷ []
+
+-- of the lists, or of event queues
+abbrev pub queue_reply_words : Script → QueueReply → List (List ℕ)
+queue_reply_words script (queue.List answer) = list_reply_words script answer
+queue_reply_words script queue.Empty = codes "EMPTY" ∷ []
+queue_reply_words script queue.NotEmpty = codes "NOTEMPTY" ∷ []
+queue_reply_words script (queue.Ok n) = codes "OK" ∷ decimal n ∷ []
+queue_reply_words script (queue.Sublist header key) = codes "SUBLIST" ∷ decimal header ∷ key_words key
 
 -- ---- replies of a lock structure
 

@@ -4,22 +4,24 @@ ghost use Rattle.std.specs.Prelude.{◌≡◌, ◌∷◌, ◌++◌, [], codes, O
 ghost use Rattle.std.specs.Fmt.{decimal};
 ghost use Rattle.plex_script.specs.PlexSpell.Words.{tail_of};
 ghost use Rattle.plex_script.specs.PlexPlain.PlainWords.{told_words, text_words};
-ghost use Rattle.plex_report.specs.CommandWords.{cache_words};
-ghost use Rattle.plex_report.specs.ReplyWords.{cache_reply_words, changed_word, class_words};
+ghost use Rattle.plex_report.specs.CommandWords.{alter_words};
+ghost use Rattle.plex_report.specs.ReplyWords.{cache_reply_words, changed_word, class_words, alter_reply_words, done_word};
 ghost use Rattle.plex_report.specs.RefusalWords.{holder_word};
 
 use crate::items::put_counted;
 use crate::line_text::put_holder;
 use crate::spelled::Spelled;
 use plex_script::Script;
-use plex_script::plain::{put_cache, put_numbers, put_of, put_option, put_word};
-use plex_script::types::{Adjunct, Body, CacheCmd, CacheReply, ConnId, NoMemory};
+use plex_script::plain::{put_alter, put_numbers, put_of, put_option, put_word};
+use plex_script::types::{
+    Adjunct, AlterCmd, AlterReply, Body, CacheCmd, CacheReply, Caps, ConnId, NoMemory,
+};
 
-impl Spelled for CacheCmd {
-    ghost words = { cache_words };
+impl Spelled for AlterCmd<CacheCmd> {
+    ghost words = { alter_words };
 
     fn put(&self, line: &mut Vec<u8>, _: &Script) -> Result<(), NoMemory> {
-        put_cache(line, self)
+        put_alter(line, self)
     }
 }
 
@@ -102,6 +104,36 @@ impl Spelled for CacheReply {
                 put_word(line, b"STG")?;
                 put_numbers(line, *rows, *changed)
             }
+        }
+    }
+}
+
+// Whether a capacity that is altered has reached its target.
+fn done_text(done: bool) -> &'static [u8]
+    ensures { result.now ≡ done_word done }
+{
+    if done { b"DONE" } else { b"MORE" }
+}
+
+// The capacity to which a step went.
+fn put_altered(line: &mut Vec<u8>, caps: Caps, done: bool) -> Result<(), NoMemory>
+    ensures { OnOk result (line.new.items ≡ line.old.items
+        ++ tail_of (codes "ALTERED" ∷ decimal caps.entries ∷ decimal caps.elements
+        ∷ done_word done ∷ [])) }
+{
+    put_word(line, b"ALTERED")?;
+    put_numbers(line, caps.entries, caps.elements)?;
+    put_word(line, done_text(done))
+}
+
+impl Spelled for AlterReply<CacheReply> {
+    ghost words = { alter_reply_words };
+
+    fn put(&self, line: &mut Vec<u8>, script: &Script) -> Result<(), NoMemory> {
+        match self {
+            AlterReply::Inner(answer) => answer.put(line, script),
+            AlterReply::Ok => put_word(line, b"OK"),
+            AlterReply::Altered { caps, done } => put_altered(line, *caps, *done),
         }
     }
 }

@@ -4,11 +4,11 @@ ghost use Rattle.plex_report.specs.PlexSpell.declared.rigour.Rigour.TheVariants.
 ghost use Rattle.plex_report.specs.PlexSpell.Places.{Reads, names_of};
 ghost use Rattle.plex_board.specs.PlexScript.Causes.{declared_in};
 ghost use Rattle.plex_board.specs.Boards.{IsPolicy};
-ghost use Rattle.plex_seat.specs.Commands.{cache_said, list_said, lock_said};
+ghost use Rattle.plex_seat.specs.Commands.{alter_said, cache_said, list_said, lock_said, queue_said};
 
 use plex_board::scripts::Script;
-use plex_board::types::{CacheCmd, ListCmd, LockCmd};
-use plex_report::spell::{Judge, Miss, Rigour, Words, cache, list, lock};
+use plex_board::types::{AlterCmd, CacheCmd, ListCmd, LockCmd, QueueCmd};
+use plex_report::spell::{Judge, Miss, Rigour, Words, alter, cache, list, lock, queue};
 use std::alloc::Global;
 
 // What words are judged by: the limits, and what the policy declares.
@@ -39,7 +39,7 @@ pub fn lock_command(script: &Script, text: &[u8]) -> Result<LockCmd, Miss>
     }
 }
 
-/// The command of a cache structure that the words are.
+/// The command on the content of a cache structure that the words are.
 pub fn cache_command(alloc: Global, script: &Script, text: &[u8]) -> Result<CacheCmd, Miss>
     requires { IsPolicy script.now }
     ensures { Reads result (cache_said script.now text.now) }
@@ -53,13 +53,45 @@ pub fn cache_command(alloc: Global, script: &Script, text: &[u8]) -> Result<Cach
     }
 }
 
-/// The command of a list structure that the words are.
+/// The command of a cache structure that the words are, of whatever sort.
+pub fn alter_command(
+    alloc: Global,
+    script: &Script,
+    text: &[u8],
+) -> Result<AlterCmd<CacheCmd>, Miss>
+    requires { IsPolicy script.now }
+    ensures { Reads result (alter_said script.now text.now) }
+{
+    let mut words = Words::of(text);
+    let cmd = alter(alloc, &judge(script), &mut words)?;
+    if words.is_done() {
+        Ok(cmd)
+    } else {
+        Err(Miss::NoForm)
+    }
+}
+
+/// The command on the records of a list structure that the words are.
 pub fn list_command(alloc: Global, script: &Script, text: &[u8]) -> Result<ListCmd, Miss>
     requires { IsPolicy script.now }
     ensures { Reads result (list_said script.now text.now) }
 {
     let mut words = Words::of(text);
     let cmd = list(alloc, &judge(script), &mut words)?;
+    if words.is_done() {
+        Ok(cmd)
+    } else {
+        Err(Miss::NoForm)
+    }
+}
+
+/// The command of a list structure that the words are, of whatever sort.
+pub fn queue_command(alloc: Global, script: &Script, text: &[u8]) -> Result<QueueCmd, Miss>
+    requires { IsPolicy script.now }
+    ensures { Reads result (queue_said script.now text.now) }
+{
+    let mut words = Words::of(text);
+    let cmd = queue(alloc, &judge(script), &mut words)?;
     if words.is_done() {
         Ok(cmd)
     } else {

@@ -11,7 +11,7 @@ mod seat;
 mod words;
 
 pub use answers::{Answer, Unanswered};
-pub use commands::{cache_command, list_command, lock_command};
+pub use commands::{alter_command, cache_command, list_command, lock_command, queue_command};
 pub use faults::Fault;
 pub use plex::{Plex, policy};
 pub use plex_board::api::{Ask, Reply, Told};
@@ -19,9 +19,9 @@ pub use plex_board::cells::CallRefused;
 pub use plex_board::links::Steady;
 pub use plex_board::scripts::{AnyAsk, AnyHistory, ReadFault, Script};
 pub use plex_board::types::{
-    Adjunct, CacheCmd, CacheReply, Caps, CfId, ConnId, Event, ListCmd, ListReply, LockCmd,
-    LockReply, Name16, NoMemory, Refusal, Resource, ShellCmd, ShellReply, StrNo, parse_adjunct,
-    parse_body, parse_name,
+    Adjunct, AlterCmd, AlterReply, CacheCmd, CacheReply, Caps, CfId, ConnId, Event, Key16, ListCmd,
+    ListReply, LockCmd, LockReply, Name16, NoMemory, QueueCmd, QueueReply, Refusal, Resource,
+    ShellCmd, ShellReply, StrNo, parse_adjunct, parse_body, parse_key, parse_name,
 };
 pub use plex_board::vectors::Tested;
 pub use plex_board::{AnyReply, Board, Desk, Kinds};

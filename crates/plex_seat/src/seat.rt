@@ -7,6 +7,8 @@ ghost use Rattle.plex_board.specs.PlexScript.declared.scripts.AnyAsk.TheVariants
 ghost use Rattle.plex_board.specs.EngineApi.declared.asks.Ask.TheVariants as ask;
 ghost use Rattle.plex_board.specs.EngineApi.Asking.{MayCommand};
 ghost use Rattle.plex_board.specs.CfTypes.Forms.{IsConnector};
+ghost use Rattle.plex_board.specs.CfTypes.declared.alter_commands.AlterCmd.TheVariants as alter;
+ghost use Rattle.plex_board.specs.CfTypes.declared.list_commands.QueueCmd.TheVariants as queue;
 ghost use Rattle.plex_board.specs.CfTypes.declared.shell_commands.ShellCmd.TheVariants as cmd;
 ghost use Rattle.plex_board.specs.PlexScript.Heard.{call_numbered};
 ghost use Rattle.plex_board.specs.Passes.{reply_numbered};
@@ -28,7 +30,9 @@ use plex_board::api::Ask;
 use plex_board::links::Steady;
 use plex_board::scripts::AnyAsk;
 use plex_board::types::limits::CONNECTORS;
-use plex_board::types::{CacheCmd, ConnId, Event, ListCmd, LockCmd, NoMemory, ShellCmd, StrNo};
+use plex_board::types::{
+    AlterCmd, CacheCmd, ConnId, Event, ListCmd, LockCmd, NoMemory, QueueCmd, ShellCmd, StrNo,
+};
 use plex_board::vectors::Tested;
 use plex_board::{AnyReply, Board, Desk, Kinds};
 use std::alloc::Global;
@@ -132,12 +136,30 @@ impl<'p, K: Kinds> Seat<'p, K> {
         self.ask_of(rt, alloc, AnyAsk::Lock(Ask::Content(cmd)))
     }
 
-    /// A command of a cache structure, and the reply (IXLCACHE).
+    /// A command on the content of a cache structure, and the reply (IXLCACHE).
     pub fn cache(
         &mut self,
         rt: &impl Wait,
         alloc: Global,
         cmd: CacheCmd,
+    ) -> Result<Answer, Unanswered>
+        ensures same { IsSame self.old self.new }
+        ensures answer { IfOk result (λ answer. HasAnswer
+            (any.Cache (ask.Content (alter.Inner cmd))) answer self.old self.new) }
+        ensures fault { IfErr result (λ fault. HasFault
+            (any.Cache (ask.Content (alter.Inner cmd))) fault self.old self.new) }
+        ensures kind { IfErr result (λ fault. fault ≢ OtherKind → HasType OfCache self.old) }
+    {
+        self.alter(rt, alloc, AlterCmd::Inner(cmd))
+    }
+
+    /// Any command of a cache structure, and the reply: one on its content, as `cache` asks it, or
+    /// one that alters its capacity while it is in use (IXLALTER).
+    pub fn alter(
+        &mut self,
+        rt: &impl Wait,
+        alloc: Global,
+        cmd: AlterCmd<CacheCmd>,
     ) -> Result<Answer, Unanswered>
         ensures same { IsSame self.old self.new }
         ensures answer { IfOk result
@@ -149,12 +171,31 @@ impl<'p, K: Kinds> Seat<'p, K> {
         self.ask_of(rt, alloc, AnyAsk::Cache(Ask::Content(cmd)))
     }
 
-    /// A command of a list structure, and the reply (IXLLIST).
+    /// A command on the records of a list structure, and the reply (IXLLIST).
     pub fn list(
         &mut self,
         rt: &impl Wait,
         alloc: Global,
         cmd: ListCmd,
+    ) -> Result<Answer, Unanswered>
+        ensures same { IsSame self.old self.new }
+        ensures answer { IfOk result (λ answer. HasAnswer
+            (any.List (ask.Content (queue.List cmd))) answer self.old self.new) }
+        ensures fault { IfErr result (λ fault. HasFault
+            (any.List (ask.Content (queue.List cmd))) fault self.old self.new) }
+        ensures kind { IfErr result (λ fault. fault ≢ OtherKind → HasType OfList self.old) }
+    {
+        self.queue(rt, alloc, QueueCmd::List(cmd))
+    }
+
+    /// Any command of a list structure, and the reply: one on its records, as `list` asks it, or
+    /// one on the sublists that the member monitors and on its queue of events (IXLLIST
+    /// MONITOR_SUBLIST and DEQ_EVENTQ).
+    pub fn queue(
+        &mut self,
+        rt: &impl Wait,
+        alloc: Global,
+        cmd: QueueCmd,
     ) -> Result<Answer, Unanswered>
         ensures same { IsSame self.old self.new }
         ensures answer { IfOk result

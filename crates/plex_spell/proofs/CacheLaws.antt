@@ -14,13 +14,13 @@ pub record CacheTold (rigour : Rigour) (declared : Declared) (ws rest : Words) (
   pub is_given : IsGiven given cmd
   pub spelled : Spells rigour declared (cache_tokens given cmd) ws rest
 
-are_cache : AreForms cache_forms
+pub are_cache : AreForms cache_forms
 are_cache = grind (arith, lit<)
 
 say_cache : AllSay cache_forms IsWritten
 say_cache = grind arith
 
-cache-said : (given : Option ℕ) (cmd : CacheCmd) → IsGiven given cmd
+pub cache-said : (given : Option ℕ) (cmd : CacheCmd) → IsGiven given cmd
     → IsSaid cache_forms cmd (cache_tokens given cmd)
 cache-said given (Read name index old stg) is =
     rw is (says cache_forms (codes "READ") (name, (index, (old, (given, tt)))))

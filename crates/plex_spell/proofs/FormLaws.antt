@@ -1,5 +1,6 @@
 -- What is read by a table of forms is said by it, and what is said by it is read.
-use Rattle.plex_spell.proofs.Imports.{◌≡◌, ℕ, Bool, true, false, not, ◌&&◌, List, ◌∷◌, Some, refl, ap, inl, inr, sym, subst, ◌∙◌, not-true, and_parts, Rigour, same_word, begins_with, words_behind, Declared, Token, Spells, Literal, Values, tokens_of, Forms, NoForms, Row, Under, command_at, IsSaid}
+use Rattle.plex_spell.proofs.Imports.{◌≡◌, ℕ, Bool, true, false, not, ◌&&◌, List, [], ◌∷◌, Some, refl, ap, inl, inr, sym, subst, ◌∙◌, not-true, and_parts, Rigour, same_word, begins_with, words_behind, Declared, Token, Spells, Literal, Values, tokens_of, Forms, NoForms, Row, Under, command_at, IsSaid, option_map, Option, None, Place, Value, value_at, values_at, ◌>>=◌, cond}
+use Rattle.plex_spell.specs.Forms.{each_made}
 use Rattle.plex_spell.proofs.PatternLaws.{ArePlaces, are_rows, values-sound, values-complete}
 use Rattle.plex_spell.proofs.VerbLaws.{is_tail, all_lack_retry, AreFree-tail}
 use Rattle.plex_spell.proofs.{PlaceLaws.Words, PlaceLaws.FindsAll, PlaceLaws.led, PlaceLaws.led-by, Choices.pick}
@@ -124,3 +125,80 @@ says-in (Under verb behind_ more) word P all = chosen-of (same_word verb word) _
 
 pub says : {C : Type 0} (forms : Forms C) (word : List ℕ) → Says forms word (IsSaid forms)
 says forms word = says-in forms word (IsSaid forms) (λ cmd tokens k. k)
+
+-- ---- the same forms, of which something else is made
+
+module _ {C D : Type 0} (f : C → D) where
+  lacks-made : (word : List ℕ) (forms : Forms C) → lacks_verb word (each_made f forms) ≡ lacks_verb word forms
+  unfolding each_made
+  lacks-made word NoForms = refl
+  lacks-made word (Row verb places made more) = ap (λ b. not (same_word verb word) && b) (lacks-made word more)
+  lacks-made word (Under verb behind_ more) = ap (λ b. not (same_word verb word) && b) (lacks-made word more)
+
+  -- no form begins with the verb, where none of the forms did
+  pub still-lacks : (word : List ℕ) (forms : Forms C) → lacks_verb word forms ≡ true
+      → lacks_verb word (each_made f forms) ≡ true
+  still-lacks word forms h = lacks-made word forms ∙ h
+
+  pub are-made : (forms : Forms C) → AreForms forms → AreForms (each_made f forms)
+  unfolding each_made
+  are-made NoForms are = tt
+  are-made (Row verb places made more) are =
+      (are.0, are.1, are.2, still-lacks verb more are.3, are-made more are.4)
+  are-made (Under verb behind_ more) are =
+      (are-made behind_ are.0, still-lacks verb more are.1, are-made more are.2)
+
+  pub said-made : (forms : Forms C) (cmd : C) (tokens : List Token) → IsSaid forms cmd tokens
+      → IsSaid (each_made f forms) (f cmd) tokens
+  unfolding each_made
+  said-made NoForms cmd tokens said = absurd said
+  said-made (Row verb places made more) cmd tokens (inl one) =
+      inl (record { values = one.values; same = ap f one.same; said = one.said })
+  said-made (Row verb places made more) cmd tokens (inr k) = inr (said-made more cmd tokens k)
+  said-made (Under verb behind_ more) cmd tokens (inl one) =
+      inl (record { later = one.later; says = said-made behind_ cmd one.later one.says; said = one.said })
+  said-made (Under verb behind_ more) cmd tokens (inr k) = inr (said-made more cmd tokens k)
+
+  pub all-say-made : (forms : Forms C) (P : D → List Token → Type 0) → AllSay forms (λ cmd tokens. P (f cmd) tokens)
+      → AllSay (each_made f forms) P
+  unfolding each_made
+  all-say-made NoForms P all = tt
+  all-say-made (Row verb places made more) P all = (all.0, all-say-made more P all.1)
+  all-say-made (Under verb behind_ more) P all =
+      (all-say-made behind_ (λ cmd tokens. P cmd (Literal verb ∷ tokens)) all.0, all-say-made more P all.1)
+
+-- something else of what was read
+abbrev pub made_read : {C D : Type 0} → (C → D) → C × Words → D × Words
+made_read f read = (f read.0, read.1)
+
+map-cond : {X Y : Type 0} (g : X → Y) (b : Bool) (x y : Option X) (v w : Option Y) → v ≡ option_map g x
+    → w ≡ option_map g y → cond b v w ≡ option_map g (cond b x y)
+map-cond g true x y v w h k = h
+map-cond g false x y v w h k = k
+
+map-bound : {X Y Z : Type 0} (g : Y → Z) (o : Option X) (first : X → Option Y) (then_ : X → Option Z)
+    → ((x : X) → then_ x ≡ option_map g (first x)) → (o >>= then_) ≡ option_map g (o >>= first)
+map-bound g None first then_ h = refl
+map-bound g (Some x) first then_ h = h x
+
+values-made : {C D : Type 0} (f : C → D) (rigour : Rigour) (declared : Declared) (places : List Place)
+    (made : Values places → C) (ws : Words) → values_at rigour declared places (λ values. f (made values)) ws
+    ≡ option_map (made_read f) (values_at rigour declared places made ws)
+values-made f rigour declared [] made ws = refl
+values-made {C} {D} f rigour declared (place ∷ places) made ws =
+    map-bound (made_read f) (value_at rigour declared place ws)
+    (λ (read : Value place × Words). values_at rigour declared places (λ values. made (read.0, values)) read.1)
+    (λ (read : Value place × Words). values_at rigour declared places (λ values. f (made (read.0, values))) read.1)
+    (λ read. values-made f rigour declared places (λ values. made (read.0, values)) read.1)
+
+pub command_made : {C D : Type 0} (f : C → D) (rigour : Rigour) (declared : Declared) (forms : Forms C) (ws : Words)
+    → command_at rigour declared (each_made f forms) ws
+    ≡ option_map (made_read f) (command_at rigour declared forms ws)
+unfolding each_made
+command_made f rigour declared NoForms ws = refl
+command_made {C} {D} f rigour declared (Row verb places made more) ws =
+    map-cond (made_read f) (begins_with verb ws) _ _ _ _
+    (values-made f rigour declared places made (words_behind ws)) (command_made f rigour declared more ws)
+command_made {C} {D} f rigour declared (Under verb behind_ more) ws =
+    map-cond (made_read f) (begins_with verb ws) _ _ _ _
+    (command_made f rigour declared behind_ (words_behind ws)) (command_made f rigour declared more ws)

@@ -24,6 +24,11 @@ pub use Rattle.cf_types.specs.declared.{limits.TheConstants.ADJUNCT_BYTES, list_
 pub use Rattle.cf_types.specs.declared.{list_commands.ListCmd.ListCmd, lock_commands.Decision.Decision}
 pub use Rattle.cf_types.specs.declared.{lock_commands.LockCmd.LockCmd, names.Name16.Name16, numbers.CfId.CfId}
 pub use Rattle.cf_types.specs.declared.{numbers.EntryId.EntryId, resources.Resource.Resource}
+pub use Rattle.cf_types.specs.declared.alter_commands.AlterCmd.{AlterCmd}
+pub use Rattle.cf_types.specs.declared.alter_commands.AlterCmd.TheVariants.{Inner, Start, Step, Stop}
+pub use Rattle.cf_types.specs.declared.list_commands.QueueCmd.{QueueCmd}
+pub use Rattle.plex_spell.specs.AlterReading.{alter_at, alter_forms, alterations}
+pub use Rattle.plex_spell.specs.AlterWords.{alter_tokens, IsAlterGiven}
 pub use Rattle.plex_spell.specs.CacheReading.{cache_at, cache_forms}
 pub use Rattle.plex_spell.specs.CacheWords.{cache_tokens, IsGiven, class_tokens}
 pub use Rattle.plex_spell.specs.Fields.{one_of_two, references, option_tokens, flag_tokens, all_tokens, number, end, state, name_tokens, key_tokens, short_tokens, number_tokens}
@@ -33,9 +38,11 @@ pub use Rattle.plex_spell.specs.ListReading.{list_at, list_forms}
 pub use Rattle.plex_spell.specs.ListWords.{list_tokens, IsListLine, at_tokens, cond_tokens, lock_use}
 pub use Rattle.plex_spell.specs.LockReading.{lock_at, lock_forms}
 pub use Rattle.plex_spell.specs.LockWords.{lock_tokens, decision}
-pub use Rattle.plex_spell.specs.Patterns.{tokens_of, number_at, Place, Value, Values, tokens_at, value_at, values_at, option_at, flag_at, either_of, decision_of, lock_use_of, refs_of, label_tokens, class_at, cond_at, label_at, key_at, record_at}
-pub use Rattle.plex_spell.specs.Patterns.Place.{AResource, AConnector, Amount, AName, AKey, AShort, AData, AFacility, ANewFacility, AStructure, ANewName, Either, ADecision, ALockUse, SomeRefs, AClass, ARecord, ACond, ALabel, AFlag, AnOption}
+pub use Rattle.plex_spell.specs.Patterns.{tokens_of, number_at, Place, Value, Values, tokens_at, value_at, values_at, option_at, flag_at, behind_at, either_of, decision_of, lock_use_of, refs_of, label_tokens, class_at, cond_at, label_at, key_at, record_at}
+pub use Rattle.plex_spell.specs.Patterns.Place.{AResource, AConnector, Amount, AName, AKey, AShort, AData, AFacility, ANewFacility, AStructure, ANewName, Either, ADecision, ALockUse, SomeRefs, AClass, ARecord, ACond, ALabel, AFlag, AnOption, Behind}
 pub use Rattle.plex_spell.specs.Places.{◌>>=◌, within_limits, number_of, text_of, name_of, stands_in, repeated_of, data_of, resource_in, resource_of, is_names, new_name_of, facility_in, connector_in, structure_in, on_first, key_of, record_of, named_value}
+pub use Rattle.plex_spell.specs.QueueReading.{queue_at, queue_forms}
+pub use Rattle.plex_spell.specs.QueueWords.{queue_tokens, IsQueueLine}
 pub use Rattle.plex_spell.specs.ShellReading.{shell_at, shell_forms, rebuild_forms, duplex_forms}
 pub use Rattle.plex_spell.specs.ShellWords.{shell_tokens, is_operator, may_give}
 pub use Rattle.plex_spell.specs.Tokens.{Declared, Spells, IsCut, AtLimits, IsNumber, IsRepeated, IsData, IsResource, is_term, is_numeral, Token, facility_of, connector_of, structure_of, IsWord, IsRecord, AtNames, IsText, IsName, is_name, is_declared, name_word}

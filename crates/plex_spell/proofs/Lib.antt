@@ -11,7 +11,9 @@ pub mod PatternLaws
 pub mod VerbLaws
 pub mod FormLaws
 pub mod CacheLaws
+pub mod AlterLaws
 pub mod LockLaws
 pub mod ListLaws
+pub mod QueueLaws
 pub mod ShellLaws
 pub mod RigourLaws

@@ -13,13 +13,13 @@ pub record ListTold (rigour : Rigour) (declared : Declared) (ws rest : Words) (c
   pub is_line : IsListLine cmd
   pub spelled : Spells rigour declared (list_tokens cmd) ws rest
 
-are_list : AreForms list_forms
+pub are_list : AreForms list_forms
 are_list = grind (arith, lit<)
 
 say_list : AllSay list_forms IsLine
 say_list = grind arith
 
-list-said : (cmd : ListCmd) → IsListLine cmd → IsSaid list_forms cmd (list_tokens cmd)
+pub list-said : (cmd : ListCmd) → IsListLine cmd → IsSaid list_forms cmd (list_tokens cmd)
 list-said (Write header head None None body adj cond) is =
     says list_forms (codes "WRITE") (header, (head, (None, (body, (adj, (cond, tt))))))
 list-said (Write header head (Some name) None body adj cond) is =

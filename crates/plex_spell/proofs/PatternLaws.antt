@@ -1,6 +1,6 @@
 -- Rows of places: what a reader makes of them is what the words stand for.
-use Rattle.plex_spell.proofs.Imports.{arith, ◌≡◌, ℕ, ◌<◌, ◌^◌, ◌&&◌, Bool, true, false, not, List, [], ◌∷◌, ◌++◌, Option, Some, None, refl, list_any, and_parts, ADJUNCT_BYTES, NotHeld, HeldBy, is_names, Rigour, same_word, Declared, Token, Spells, facility_of, connector_of, structure_of, Literal, Number, Short, Data, OnResource, OfConnector, OfStructure, NewFacility, NewName, references, option_tokens, flag_tokens, one_of_two, decision, lock_use, number_of, text_of, data_of, resource_of, new_name_of, connector_in, structure_in, facility_in, either_of, OfFacility, Place, Value, Values, tokens_at, tokens_of, value_at, values_at, option_at, flag_at, decision_of, lock_use_of, refs_of, Amount, AName, AKey, AShort, AData, AResource, AFacility, ANewFacility, AConnector, AStructure, ANewName, Either, ADecision, ALockUse, SomeRefs, AClass, ARecord, ACond, ALabel, AFlag, AnOption, Label}
-use Rattle.plex_spell.proofs.Choices.{chosen, bound}
+use Rattle.plex_spell.proofs.Imports.{arith, ◌≡◌, ℕ, ◌<◌, ◌^◌, ◌&&◌, Bool, true, false, not, List, [], ◌∷◌, ◌++◌, Option, Some, None, refl, list_any, and_parts, ADJUNCT_BYTES, NotHeld, HeldBy, is_names, Rigour, same_word, Declared, Token, Spells, facility_of, connector_of, structure_of, Literal, Number, Short, Data, OnResource, OfConnector, OfStructure, NewFacility, NewName, references, option_tokens, flag_tokens, one_of_two, decision, lock_use, number_of, text_of, data_of, resource_of, new_name_of, connector_in, structure_in, facility_in, either_of, OfFacility, Place, Value, Values, tokens_at, tokens_of, value_at, values_at, option_at, flag_at, decision_of, lock_use_of, refs_of, Amount, AName, AKey, AShort, AData, AResource, AFacility, ANewFacility, AConnector, AStructure, ANewName, Either, ADecision, ALockUse, SomeRefs, AClass, ARecord, ACond, ALabel, AFlag, AnOption, Behind, behind_at, Label}
+use Rattle.plex_spell.proofs.Choices.{chosen, not_some, bound}
 use Rattle.plex_spell.proofs.WordLaws.{number-sound, number-complete, text-sound, text-complete, new_name-sound, new_name-complete, declared-sound, declared-complete, facility-sound, facility-complete}
 use Rattle.plex_spell.proofs.CutLaws.{resource-sound, resource-complete, data-sound, data-complete}
 use Rattle.plex_spell.proofs.PlaceLaws.{Words, FindsAll, Spells-append, Spells-split, Reads, one_word, either-sound, either-complete, decision-sound, decision-complete, lock_use-sound, lock_use-complete, refs-sound, refs-complete, led, led-by, behind-sound, behind-complete}
@@ -21,11 +21,13 @@ abbrev pub IsPlace : Place → Type 0
 IsPlace (Amount low high) = high < 2 ^ 64
 IsPlace (Either first second) = same_word second first ≡ false
 IsPlace (AnOption word place) = IsPlace place
+IsPlace (Behind word place) = IsPlace place
 IsPlace place = Unit {0}
 
--- behind an option's word stands no option
+-- behind a word of a place stands no option
 abbrev pub AreFixed : Place → Type 0
 AreFixed (AnOption word place) = (keys place ≡ []) × AreFixed place
+AreFixed (Behind word place) = (keys place ≡ []) × AreFixed place
 AreFixed place = Unit {0}
 
 free_none : (ws : Words) → free_of [] ws ≡ true
@@ -57,6 +59,18 @@ module _ (rigour : Rigour) (declared : Declared) where
       declared (option_tokens word tokens value) ws rest → FindsAll rigour (option_at word reading ws) value rest
   option-complete {V} word reading tokens complete ws rest None free h = grind (arith, free-parts, Words)
   option-complete {V} word reading tokens complete ws rest (Some v) free h = grind (arith, led-by, behind-complete)
+
+  behind-at-sound : {V : Type 0} (word : List ℕ) (reading : Words → Option (V × Words)) (tokens : V → List Token)
+      → ((ws rest : Words) (v : V) → reading ws ≡ Some (v, rest) → Spells rigour declared (tokens v) ws rest)
+      → (ws rest : Words) (v : V) → behind_at word reading ws ≡ Some (v, rest)
+      → Spells rigour declared (Literal word ∷ tokens v) ws rest
+  behind-at-sound {V} word reading tokens sound ws rest v h = grind (arith, chosen, Words, led, not_some)
+
+  behind-at-complete : {V : Type 0} (word : List ℕ) (reading : Words → Option (V × Words)) (tokens : V → List Token)
+      → ((ws rest : Words) (v : V) → Spells rigour declared (tokens v) ws rest → FindsAll rigour (reading ws) v rest)
+      → (ws rest : Words) (v : V) → Spells rigour declared (Literal word ∷ tokens v) ws rest
+      → FindsAll rigour (behind_at word reading ws) v rest
+  behind-at-complete {V} word reading tokens complete ws rest v h = grind (arith, led-by, Words)
 
   -- a reading at a place makes of words what they stand for, and misses nothing where no option follows
   record ReadsPlace (place : Place) : Type 0 where
@@ -118,6 +132,11 @@ module _ (rigour : Rigour) (declared : Declared) where
   values_read (AnOption word place) is = let r = values_read place is in record {
     sound = option-sound word (value_at rigour declared place) (tokens_at place) r.sound;
     complete = λ ws rest v fixed. option-complete word (value_at rigour declared place) (tokens_at place)
+        (λ us more x. r.complete us more x fixed.1 (rw fixed.0 (free_none more))) ws rest v;
+  }
+  values_read (Behind word place) is = let r = values_read place is in record {
+    sound = behind-at-sound word (value_at rigour declared place) (tokens_at place) r.sound;
+    complete = λ ws rest v fixed free. behind-at-complete word (value_at rigour declared place) (tokens_at place)
         (λ us more x. r.complete us more x fixed.1 (rw fixed.0 (free_none more))) ws rest v;
   }
 

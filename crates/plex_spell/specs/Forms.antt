@@ -18,6 +18,12 @@ infixr 5 ◌or◌
 abbrev pub ◌or◌ : {C : Type 0} → (Forms C → Forms C) → Forms C → Forms C
 form or more = form more
 
+-- the same forms, of which something else is made
+unfoldable pub each_made : {C D : Type 0} → (C → D) → Forms C → Forms D
+each_made f NoForms = NoForms
+each_made f (Row verb places made more) = Row verb places (λ values. f (made values)) (each_made f more)
+each_made f (Under verb behind_ more) = Under verb (each_made f behind_) (each_made f more)
+
 -- reading: what the form with the first word makes of the words behind it
 abbrev pub command_at : {C : Type 0} → Rigour → Declared → Forms C → List (List ℕ) → Option (C × List (List ℕ))
 command_at rigour declared NoForms words = None

@@ -13,3 +13,7 @@ pub mod CacheReading
 pub mod ListReading
 pub mod LockReading
 pub mod ShellReading
+pub mod AlterWords
+pub mod AlterReading
+pub mod QueueWords
+pub mod QueueReading

@@ -52,6 +52,7 @@ pub data Place : Type 0 where
   ALabel : Place
   AFlag : (word : List ℕ) → Place
   AnOption : (word : List ℕ) (place : Place) → Place
+  Behind : (word : List ℕ) (place : Place) → Place
 
 abbrev pub Value : Place → Type 0
 Value (Amount low high) = ℕ
@@ -75,6 +76,7 @@ Value ACond = Option Cond
 Value ALabel = Option Label
 Value (AFlag word) = Bool
 Value (AnOption word place) = Option (Value place)
+Value (Behind word place) = Value place
 
 -- the name or the key of a new record, where there is one
 abbrev pub label_tokens : Option Label → List Token
@@ -105,6 +107,7 @@ tokens_at ACond cond = cond_tokens cond
 tokens_at ALabel known = label_tokens known
 tokens_at (AFlag word) given = flag_tokens word given
 tokens_at (AnOption word place) value = option_tokens word (tokens_at place) value
+tokens_at (Behind word place) value = Literal word ∷ tokens_at place value
 
 -- ---- what a reader makes of the words at a place, and the words behind it
 
@@ -117,6 +120,11 @@ option_at word reading words =
 
 abbrev pub flag_at : List ℕ → List (List ℕ) → Option (Bool × List (List ℕ))
 flag_at word words = if begins_with word words then Some (true, words_behind words) else Some (false, words)
+
+-- what stands behind a word that has to be there
+abbrev pub behind_at : {V : Type 0} → List ℕ → (List (List ℕ) → Option (V × List (List ℕ))) → List (List ℕ)
+    → Option (V × List (List ℕ))
+behind_at word reading words = if begins_with word words then reading (words_behind words) else None
 
 abbrev pub either_of : List ℕ → List ℕ → List ℕ → Option Bool
 either_of first second word = if same_word word first then Some true else if same_word word second then Some false
@@ -207,6 +215,7 @@ value_at rigour declared ACond words = cond_at rigour words
 value_at rigour declared ALabel words = label_at rigour words
 value_at rigour declared (AFlag word) words = flag_at word words
 value_at rigour declared (AnOption word place) words = option_at word (value_at rigour declared place) words
+value_at rigour declared (Behind word place) words = behind_at word (value_at rigour declared place) words
 
 -- ---- rows of places
 

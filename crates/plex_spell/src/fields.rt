@@ -3,7 +3,7 @@ ghost use Rattle.cf_types.specs.declared.limits.TheConstants.{ADJUNCT_BYTES, RET
 ghost use Rattle.cf_types.specs.declared.list_commands.At.TheVariants as at;
 ghost use Rattle.plex_spell.specs.Tokens.{facility_of};
 ghost use Rattle.plex_spell.specs.Places.{Gives, names_of, on_first, number_of, name_of, key_of, text_of, data_of, resource_of, record_of, new_name_of, facility_in, connector_in, structure_in};
-ghost use Rattle.plex_spell.specs.Patterns.{either_of, decision_of, lock_use_of, refs_of, class_at, cond_at, label_at, key_at, record_at, flag_at, option_at, number_at};
+ghost use Rattle.plex_spell.specs.Patterns.{either_of, decision_of, lock_use_of, refs_of, class_at, cond_at, label_at, key_at, record_at, flag_at, option_at, behind_at, number_at};
 
 use crate::judge::Judge;
 use crate::labels::{Label, LockUse};
@@ -381,6 +381,17 @@ pub(crate) fn key_option(rigour: Rigour, words: &mut Words) -> Result<Option<Key
     } else {
         Ok(None)
     }
+}
+
+/// Takes KEY and a list key.
+pub(crate) fn behind_key(rigour: Rigour, words: &mut Words) -> Result<Key16, Miss>
+    ensures { Gives result words.new (behind_at (codes "KEY") (on_first
+        (key_of rigour)) words.old) }
+{
+    if words.skip(b"KEY") {
+        return key(rigour, words);
+    }
+    Err(Miss::NoForm)
 }
 
 /// Takes VERSION and a number from 1 on, where they are there.

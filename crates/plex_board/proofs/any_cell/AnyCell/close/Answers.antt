@@ -1,4 +1,4 @@
-use Rattle.plex_board.proofs.Imports.{cache_meaning, list_meaning, lock_meaning, OfCache, OfList, OfLock, AnyAsk, AnyReply}
+use Rattle.plex_board.proofs.Imports.{altered_caches, queued_lists, lock_meaning, OfCache, OfList, OfLock, AnyAsk, AnyReply}
 use Rattle.plex_board.proofs.ShownLaws.{shown_tables, are_shown}
 use Rattle.plex_board.proofs.MeansLaws.{told_means, asked_means}
 use Rattle.plex_board.proofs.any_cell.AnyCell.close.Goals as goal
@@ -18,7 +18,7 @@ returns-in-Cache-Cache g c =
     let links = asked_means _ _ means c.in-Cache-Cache.cell.form
     c.close-history.result.history g.L.Link.calls g.L.Link.downs g.L.Link.faults _ _ said.links in
     let are = are_shown OfCache AnyAsk.Cache AnyReply.Cache c.in-Cache-Cache.cell c.in-Cache-Cache.passes.items
-    cache_meaning c.close-history.result.history said.callers said.mine tests said.known in
+    altered_caches c.close-history.result.history said.callers said.mine tests said.known in
     rw (c.in-Cache-Cache.is-0, c.in-Cache-Cache.is-1) (assumption (are, legal, links, said))
 
 pub close-history-requires-in-List-List-clause-passes : goal.close-history-requires-in-List-List-clause-passes
@@ -36,7 +36,7 @@ returns-in-List-List g c =
     let links = asked_means _ _ means c.in-List-List.cell.form
     c.close-history-in-List-List.result.history g.L.Link.calls g.L.Link.downs g.L.Link.faults _ _ said.links in
     let are = are_shown OfList AnyAsk.List AnyReply.List c.in-List-List.cell c.in-List-List.passes.items
-    list_meaning c.close-history-in-List-List.result.history said.callers said.mine tests said.known in
+    queued_lists c.close-history-in-List-List.result.history said.callers said.mine tests said.known in
     rw (c.in-List-List.is-0, c.in-List-List.is-1) (assumption (are, legal, links, said))
 
 pub close-history-requires-in-Lock-Lock-clause-passes : goal.close-history-requires-in-Lock-Lock-clause-passes
