@@ -104,8 +104,22 @@ fn pass_on(
     ensures seen { IfOk result (HasSeen desks.new.items) }
 {
     let write = write(alloc, data)?;
-    call(rt, alloc, board, desks, A, Ask::Content(AlterCmd::Inner(write)))?;
-    call(rt, alloc, board, desks, B, Ask::Content(AlterCmd::Inner(READ)))
+    call(
+        rt,
+        alloc,
+        board,
+        desks,
+        A,
+        Ask::Content(AlterCmd::Inner(write)),
+    )?;
+    call(
+        rt,
+        alloc,
+        board,
+        desks,
+        B,
+        Ask::Content(AlterCmd::Inner(READ)),
+    )
 }
 
 // IXLCACHE READ_DATA: it registers the reader, and its bit says so.
