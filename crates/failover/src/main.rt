@@ -14,12 +14,11 @@ ghost use Rattle.failover.specs.Outcome.{IsOpened, IsOutcome};
 
 use fault::Fault;
 use links::links;
-use members::{COPY, GBP, work};
+use members::{COPY, GBP, Seen, work};
 use plex_board::Desk;
 use plex_board::links::ListLink;
 use plex_board::scripts::{AnyHistory, Script, read};
 use plex_board::types::Kind;
-use plex_board::vectors::Tested;
 use plex_engines::Board;
 use plex_report::render;
 use std::alloc::Global;
@@ -38,12 +37,12 @@ const POLICY: &str = "FACILITY CF1 100\n\
 /// How many calls a history can have.
 const CALLS: u32 = 100;
 
-/// What is left of the members' work: the histories, the links as they were asked, and B's test.
+/// What is left of the members' work: the histories, the links as they were asked, and what B saw.
 #[derive(Drop)]
 struct Left {
     histories: Vec<AnyHistory>,
     links: Vec<ListLink>,
-    tested: Tested,
+    seen: Seen,
 }
 
 fn main(rt: HostRuntime) -> Result<(), Fault> {
@@ -52,13 +51,14 @@ fn main(rt: HostRuntime) -> Result<(), Fault> {
     let left = fail_over(&rt, alloc, &script)?;
     let report = render(alloc, &script, left.histories.as_slice(), &[])?;
     rt.stdout().write_all(report.as_slice())?;
-    print_test(&rt, left.tested)?;
+    print_test(&rt, &left.seen)?;
     print_links(&rt, &left.links)
 }
 
 // Prints the test of B's copy: its bit, and the number of the call at which it stood so.
-fn print_test(rt: &impl Print, Tested { bit, at }: Tested) -> Result<(), Fault> {
-    let word = if bit { "VALID" } else { "INVALID" };
+fn print_test(rt: &impl Print, seen: &Seen) -> Result<(), Fault> {
+    let at = seen.tested.at;
+    let word = if seen.tested.bit { "VALID" } else { "INVALID" };
     println!(rt; "B GBP TEST {COPY} {word} {at}")?;
     Ok(())
 }
@@ -76,16 +76,16 @@ fn print_links(rt: &impl Print, links: &[ListLink]) -> Result<(), Fault> {
 fn fail_over(rt: &impl Wait, alloc: Global, script: &Script) -> Result<Left, Fault>
     requires { IsPolicy script.now }
     ensures { IfOk result
-        (λ left. IsOutcome script.now left.histories.items left.links.items left.tested) }
+        (λ left. IsOutcome script.now left.histories.items left.links.items left.seen) }
 {
     let (board, mut desks) = open(rt, alloc, script)?;
-    let tested = work(rt, alloc, &board, &mut desks);
+    let seen = work(rt, alloc, &board, &mut desks);
     let (histories, links) = board.close(rt, desks);
-    let tested = tested?;
+    let seen = seen?;
     Ok(Left {
         histories,
         links,
-        tested,
+        seen,
     })
 }
 

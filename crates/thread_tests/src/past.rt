@@ -18,8 +18,10 @@ pub struct Answer {
 // The bit of the caller's copy after a call: its own READ sets it, and another's WRITE clears it.
 fn bit_after(entry: &Done, caller: ConnId, before: bool) -> bool {
     match &entry.what {
-        What::Call(Ask::Content(AlterCmd::Inner(CacheCmd::Read { .. }))) if entry.by == caller => true,
-        What::Call(Ask::Content(AlterCmd::Inner(CacheCmd::Write { .. }))) if entry.by != caller => false,
+        What::Call(Ask::Content(AlterCmd::Inner(CacheCmd::Read { .. }))) if entry.by == caller =>
+            true,
+        What::Call(Ask::Content(AlterCmd::Inner(CacheCmd::Write { .. }))) if entry.by != caller =>
+            false,
         _ => before,
     }
 }

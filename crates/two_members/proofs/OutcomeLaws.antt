@@ -1,5 +1,5 @@
 -- What the closed board says of the reader's last test.
-use Rattle.std.proofs.Common.{◌≡◌, ◌<◌, ◌++◌, List, [], ◌∷◌, length, map, Some, slice_get, get_or, sym, ap, subst, ◌∙◌, arith}
+use Rattle.std.proofs.Common.{◌≡◌, ◌<◌, ◌≤◌, ◌++◌, List, [], ◌∷◌, length, map, Some, slice_get, get_or, sym, ap, subst, ◌∙◌, arith}
 use Rattle.std.specs.Prelude.{All}
 use Rattle.std.specs.Option.{option_map}
 use Rattle.std.proofs.Math.Seq.{get_or-append_seam}
@@ -25,8 +25,9 @@ module _ {L : Type 0} (board : BoardShown L) (script : Script) (histories : List
   -- the history of the structure is legal, and tells what the reply and the last test at the reader's desk told
   pub outcome : HasPool board → map (λ cell. cell.form) board.cells ≡ script.structures
       → AreClosed board desks histories → desks ≡ left ++ b ∷ [] → IsDeskOf board b → b.owner ≡ reader
-      → HasRead b seen.no seen.reply → HasTested b seen.tested → IsOutcome script histories seen
-  outcome pool forms closed last of_board owner read has =
+      → HasRead b seen.no seen.reply → seen.no ≤ seen.sure → HasTested b seen.tested seen.sure
+      → IsOutcome script histories seen
+  outcome pool forms closed last of_board owner read answered has =
       let entries : AnyHistory = get_or histories 0 (AnyHistory.Cache []) in
       let some : 0 < length board.cells = slice_get_within board.cells 0 pool.cell pool.there in
       let first : slice_get histories 0 ≡ Some entries =
@@ -38,14 +39,14 @@ module _ {L : Type 0} (board : BoardShown L) (script : Script) (histories : List
       record {
         form = pool.cell.form;
         entries = entries;
-        sure = has.sure;
         form_is = ap (λ (forms : List StrForm). slice_get forms 0) (sym forms)
             ∙ slice_get-map (λ (cell : CellShown L). cell.form) board.cells 0
             ∙ ap (option_map (λ (cell : CellShown L). cell.form)) pool.there;
         history_is = first;
         legal = says.0.legal;
         read = read ∙ ap (reply_numbered seen.no) (account.replies ∙ ap (own_replies entries) whose);
-        told = subst (λ owner. IsAnyTold pool.cell.form entries owner (sight_of seen.tested has.sure)) whose
+        answered = answered;
+        told = subst (λ owner. IsAnyTold pool.cell.form entries owner (sight_of seen.tested seen.sure)) whose
             (all_last (IsAnyTold pool.cell.form entries (pass_at b gbp).owner) has.before (pass_at b gbp).tests
-            (sight_of seen.tested has.sure) has.tests account.tests);
+            (sight_of seen.tested seen.sure) has.tests account.tests);
       }

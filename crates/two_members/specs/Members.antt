@@ -1,5 +1,5 @@
 -- The members at work: the structure that they share, a member's desk, and what is left of their work.
-use Rattle.std.specs.Prelude.{◌≡◌, ℕ, ◌<◌, List, [], ◌∷◌, ◌++◌, slice_get, Option, Some}
+use Rattle.std.specs.Prelude.{◌≡◌, ℕ, ◌<◌, ◌≤◌, List, [], ◌∷◌, ◌++◌, slice_get, Option, Some}
 use Rattle.plex_board.specs.CfTypes.declared.forms.StrForm.{StrForm}
 use Rattle.plex_board.specs.CfTypes.declared.numbers.ConnId.{ConnId}
 use Rattle.plex_board.specs.CfTypes.declared.numbers.StrNo.{StrNo}
@@ -43,6 +43,10 @@ pub record Stays {L : Type 0} (board : BoardShown L) (before after : DeskShown) 
 abbrev pub replies_at : DeskShown → List Replied
 replies_at desk = (pass_at desk gbp).replies
 
+-- the number of a call of the pool that the member has seen complete
+abbrev pub sure_at : DeskShown → ℕ
+sure_at desk = (pass_at desk gbp).sure
+
 abbrev pub HasRead : DeskShown → ℕ → Option AnyReply → Type 0
 HasRead desk number reply = reply ≡ reply_numbered number (replies_at desk)
 
@@ -50,9 +54,8 @@ HasRead desk number reply = reply ≡ reply_numbered number (replies_at desk)
 abbrev pub sight_of : Tested → ℕ → Sight
 sight_of tested sure = record { index = 0; bit = tested.bit; at = tested.at; sure = sure }
 
--- the last test at the desk was answered so
-pub record HasTested (desk : DeskShown) (tested : Tested) : Type 0 where
-  pub sure : ℕ
+-- the last test at the desk was answered so, when so much was seen complete
+pub record HasTested (desk : DeskShown) (tested : Tested) (sure : ℕ) : Type 0 where
   pub before : List Sight
   pub tests : (pass_at desk gbp).tests ≡ before ++ sight_of tested sure ∷ []
 
@@ -60,15 +63,16 @@ pub record HasTested (desk : DeskShown) (tested : Tested) : Type 0 where
 abbrev pub reader : ConnId
 reader = record { 0 = 2 }
 
--- The history of the first structure is one that a single thread could have made, the reader's reply is the one that it
--- has for the reader's call of that number, and the reader's test told the bit as it stood at that number of it, which
--- isn't before what the reader had seen complete.
+-- The history of the first structure is one that a single thread could have made, and the reader's reply is the one that
+-- it has for the reader's call of that number. The reader had seen that call complete when it tested, and the test told
+-- the bit as it stood at a number of the history that isn't before what the reader had seen complete: behind the call of
+-- that number or, where the reader hadn't seen that call complete, before it.
 pub record IsOutcome (script : Script) (histories : List AnyHistory) (seen : Seen) : Type 0 where
   pub form : StrForm
   pub entries : AnyHistory
-  pub sure : ℕ
   pub form_is : slice_get script.structures 0 ≡ Some form
   pub history_is : slice_get histories 0 ≡ Some entries
   pub legal : IsAnyLegal form entries
   pub read : seen.reply ≡ reply_numbered seen.no (own_replies entries reader)
-  pub told : IsAnyTold form entries reader (sight_of seen.tested sure)
+  pub answered : seen.no ≤ seen.sure
+  pub told : IsAnyTold form entries reader (sight_of seen.tested seen.sure)

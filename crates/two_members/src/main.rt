@@ -6,7 +6,7 @@ mod fault;
 mod roles;
 mod seen;
 
-ghost use Rattle.std.specs.Prelude.{◌≡◌, IsTrue, IfOk, false};
+ghost use Rattle.std.specs.Prelude.{◌≡◌, ◌≤◌, IsTrue, IfOk, false};
 ghost use Rattle.plex_board.specs.Boards.{IsPolicy};
 ghost use Rattle.two_members.specs.Members.{HasPool, IsMember, Stays, HasRead, HasTested, IsOutcome};
 
@@ -69,7 +69,7 @@ fn members<R: Threads + Wait + Sync>(
     ensures invalid { IfOk result (λ left. left.1.tested.bit ≡ false) }
 
     // The history is one that a single thread could have made, it has the reply, and the test told
-    // what stood at that number of it.
+    // what stood at its number of it, or just before, and not before the reader had the reply.
     ensures outcome { IfOk result (λ left. IsOutcome script.now left.0.items left.1) }
 {
     let Ok(links) = vec![in alloc; Steady; LINKS] else {
@@ -105,7 +105,8 @@ fn work<R: Threads + Wait + Sync>(
     ensures stay { Stays board.now a.old a.new × Stays board.now b.old b.new }
     ensures invalid { IfOk result.1 (λ seen. seen.tested.bit ≡ false) }
     ensures read { IfOk result.1 (λ seen. HasRead b.new seen.no seen.reply) }
-    ensures tested { IfOk result.1 (λ seen. HasTested b.new seen.tested) }
+    ensures answered { IfOk result.1 (λ seen. seen.no ≤ seen.sure) }
+    ensures tested { IfOk result.1 (λ seen. HasTested b.new seen.tested seen.sure) }
 {
     join_mut(
         rt,

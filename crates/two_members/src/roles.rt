@@ -1,8 +1,8 @@
 //! What each member does at its desk.
-ghost use Rattle.std.specs.Prelude.{◌≡◌, IfOk, false};
+ghost use Rattle.std.specs.Prelude.{◌≡◌, ◌≤◌, IfOk, false};
 ghost use Rattle.plex_board.specs.RunShown.Kinds.{MayAskAny};
 ghost use Rattle.plex_board.specs.PlexScript.declared.scripts.AnyAsk.TheVariants as any;
-ghost use Rattle.two_members.specs.Members.{IsMember, Stays, HasRead, HasTested, replies_at};
+ghost use Rattle.two_members.specs.Members.{IsMember, Stays, HasRead, HasTested, replies_at, sure_at};
 
 use crate::fault::Fault;
 use crate::seen::Seen;
@@ -70,7 +70,8 @@ pub fn reader(
     ensures stays { Stays board.now desk.old desk.new }
     ensures invalid { IfOk result (λ seen. seen.tested.bit ≡ false) }
     ensures read { IfOk result (λ seen. HasRead desk.new seen.no seen.reply) }
-    ensures tested { IfOk result (λ seen. HasTested desk.new seen.tested) }
+    ensures answered { IfOk result (λ seen. seen.no ≤ seen.sure) }
+    ensures tested { IfOk result (λ seen. HasTested desk.new seen.tested seen.sure) }
 {
     wait_past(rt, board, desk, 0)?;
     connect(rt, alloc, board, desk)?;
@@ -83,9 +84,14 @@ pub fn reader(
     };
     let no = call(rt, alloc, board, desk, Ask::Content(AlterCmd::Inner(read)))?;
     let reply = board.reply(rt, alloc, desk, GBP, no)?;
-    board.post(rt, desk, GBP);
+    let sure = board.post(rt, desk, GBP);
     let tested = test_copy(board, desk)?;
-    Ok(Seen { no, reply, tested })
+    Ok(Seen {
+        no,
+        reply,
+        sure,
+        tested,
+    })
 }
 
 // Tests the bit of the copy till the copy isn't valid.
@@ -94,7 +100,7 @@ fn test_copy(board: &Board<Steady>, desk: &mut Desk) -> Result<Tested, Fault>
     ensures stays { Stays board.now desk.old desk.new }
     ensures replies { replies_at desk.new ≡ replies_at desk.old }
     ensures invalid { IfOk result (λ tested. tested.bit ≡ false) }
-    ensures tested { IfOk result (λ tested. HasTested desk.new tested) }
+    ensures tested { IfOk result (λ tested. HasTested desk.new tested (sure_at desk.old)) }
 {
     for _ in 0..LOOKS {
         // IXLVECTR TESTLOCALCACHE: no lock, no call.
@@ -131,7 +137,8 @@ fn call(
 ) -> Result<u32, Fault>
     requires member { IsMember board.now desk.old }
     requires ask { MayAskAny desk.old.owner (any.Cache ask) }
-    ensures { Stays board.now desk.old desk.new }
+    ensures stays { Stays board.now desk.old desk.new }
+    ensures answered { IfOk result (λ no. no ≤ sure_at desk.new) }
 {
     let told = board.call(rt, alloc, desk, GBP, AnyAsk::Cache(ask))?;
     Ok(told.no)

@@ -4,11 +4,13 @@ use plex_board::api::Reply;
 use plex_board::types::{AlterReply, CacheReply};
 use plex_board::vectors::Tested;
 
-/// What the reader saw: the reply to its READ, by the call's number, and its last test.
+/// What the reader saw: the reply to its READ, by the call's number, the number of a call that it
+/// had seen complete before it tested, and its last test.
 #[derive(Drop)]
 pub struct Seen {
     pub no: u32,
     pub reply: Option<AnyReply>,
+    pub sure: u32,
     pub tested: Tested,
 }
 
