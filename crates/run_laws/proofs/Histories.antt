@@ -1,5 +1,5 @@
 -- The lines of legal histories, in which each caller asks what the script says, fix them.
-use Rattle.run_laws.proofs.Imports.{◌≡◌, ℕ, ◌≤◌, ◌<◌, ◌^◌, Bool, List, [], ◌∷◌, ◌++◌, length, map, codes, Option, Some, slice_get, refl, ◌∙◌, arith, append_assoc, All, AllByRecursion, eq-eqb, map-append, filter-append, recursion_from_All, Kind, StrForm, ConnId, StrNo, Ask, What, Entry, Meaning, Call, calls, IsLegal, told_of, calls-append, continues_legal, altered_caches, queued_lists, lock_meaning, AnyHistory, AnyAsk, Script, AnyCall, any_call, any_calls, any_length, own_calls, lines_of, IsHistoryOf, IsOfKind, IsAnyLegal, AnyTells, structure_name, alter_words, queue_words, lock_words, alter_reply_words, queue_reply_words, lock_reply_words, entry_line, entry_lines, history_lines, histories_lines, NamesFacilities, MarksFacilities}
+use Rattle.run_laws.proofs.Imports.{◌≡◌, ℕ, ◌≤◌, ◌<◌, ◌^◌, Bool, List, [], ◌∷◌, ◌++◌, length, map, codes, Option, Some, slice_get, refl, ◌∙◌, arith, append_assoc, All, AllByRecursion, eq-eqb, map-append, filter-append, recursion_from_All, Kind, StrForm, ConnId, StrNo, Ask, What, Entry, Meaning, calls, IsLegal, told_of, calls-append, continues_legal, altered_caches, queued_lists, lock_meaning, AnyHistory, AnyAsk, Script, AnyCall, any_call, any_calls, any_length, own_calls, lines_of, IsHistoryOf, IsOfKind, IsAnyLegal, AnyTells, structure_name, alter_words, queue_words, lock_words, alter_reply_words, queue_reply_words, lock_reply_words, entry_line, entry_lines, history_lines, histories_lines, NamesFacilities, MarksFacilities}
 use Rattle.run_laws.proofs.Entries.{Asked, AsksNext, same_entries}
 use Rattle.run_laws.proofs.Works.{works, next_ask, Plays, next_of}
 use Rattle.run_laws.proofs.{Cuts.text_of, Cuts.same_heading, Cuts.all_same, Callers.AreApart, Heard.any_within, Played.lines_at}
