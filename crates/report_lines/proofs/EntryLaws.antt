@@ -56,6 +56,7 @@ use Rattle.reply_rows.specs.Within.{IsShellReply}
 use Rattle.reply_rows.proofs.PartLaws.{small-is}
 use Rattle.reply_rows.proofs.Printed.{shell-same, refusal-same}
 use Rattle.report_lines.specs.Entries.{is_free, IsCutLine, any_words, StandsAs, is_loss, loss_alone, call_entry, mark_entry}
+use Rattle.report_lines.specs.Kinds.{has_words, IsKind}
 use Rattle.report_lines.specs.Parts.{reply_value}
 use Rattle.report_lines.specs.Readable.{IsEntry, IsLossReply, IsMarkReply}
 use Rattle.report_lines.proofs.ReplyLines.{reply-sound}
@@ -155,10 +156,6 @@ lost_told done word rest (Some cf) parts lost read =
 
 -- ---- lines of words
 
-abbrev pub has_words : List (List ℕ) → Bool
-has_words [] = false
-has_words (word ∷ words) = true
-
 pub behind-blank : (words : List (List ℕ)) (told : List ℕ) → has_words words ≡ true → line_of words ≡ told
     → tail_of words ≡ 32 ∷ told
 behind-blank [] told some e = absurd (cc)
@@ -205,18 +202,6 @@ loss-told {R} connectors In (reply.Refused refusal) told h in_r = absurd (cc)
 pub if_ok_more : {X E : Type 0} (r : Result X E) (P Q : X → Type 0) → ((x : X) → P x → Q x) → IfOk r P → IfOk r Q
 if_ok_more {X} {E} (Ok x) P Q f h = f x h
 if_ok_more {X} {E} (Err e) P Q f h = tt
-
--- for each kind of structure: its commands and replies, as they are printed and read
-pub record IsKind {C R : Type 0} (of : Ask C → AnyAsk) (cmd_words : Script → C → List (List ℕ))
-    (answer_words : Script → R → List (List ℕ)) (row : List Name16 → Row R) (In : List Name16 → R → Type 0) : Type 0
-  where
-    pub asks : (script : Script) (asked : Ask C)
-        → any_words script.connectors (of asked) ≡ ask_words cmd_words script asked
-    pub answers : (script : Script) (r : R) → (row script.connectors).words r ≡ answer_words script r
-    pub some : (script : Script) (r : R) → has_words (answer_words script r) ≡ true
-    pub reads : (connectors : List Name16) → AreNames connectors → (vary : Bool) (side : Side)
-        → IsRead connectors (row connectors) (In connectors) vary side
-    pub one : (a b : Ask C) → of a ≡ of b → a ≡ b
 
 module _ {C R : Type 0} (of : Ask C → AnyAsk) (cmd_words : Script → C → List (List ℕ))
     (answer_words : Script → R → List (List ℕ)) (row : List Name16 → Row R) (In : List Name16 → R → Type 0)

@@ -5,12 +5,15 @@ use Rattle.cf_types.specs.declared.names.Name16.{Name16}
 use Rattle.cf_types.specs.declared.numbers.CfId.{CfId}
 use Rattle.cf_types.specs.declared.numbers.ConnId.{ConnId}
 use Rattle.cf_types.specs.declared.numbers.StrNo.{StrNo}
+use Rattle.cf_types.specs.declared.alter_commands.AlterCmd.{AlterCmd}
+use Rattle.cf_types.specs.declared.alter_commands.AlterReply.{AlterReply}
 use Rattle.cf_types.specs.declared.cache_commands.CacheCmd.{CacheCmd}
 use Rattle.cf_types.specs.declared.cache_commands.CacheReply.{CacheReply}
 use Rattle.cf_types.specs.declared.cache_commands.CacheReply.TheVariants as cache
-use Rattle.cf_types.specs.declared.list_commands.ListCmd.{ListCmd}
 use Rattle.cf_types.specs.declared.list_commands.ListReply.{ListReply}
 use Rattle.cf_types.specs.declared.list_commands.ListReply.TheVariants as list
+use Rattle.cf_types.specs.declared.list_commands.QueueCmd.{QueueCmd}
+use Rattle.cf_types.specs.declared.list_commands.QueueReply.{QueueReply}
 use Rattle.cf_types.specs.declared.lock_commands.LockCmd.{LockCmd}
 use Rattle.cf_types.specs.declared.lock_commands.LockReply.{LockReply}
 use Rattle.cf_types.specs.declared.lock_commands.LockReply.TheVariants as lock
@@ -26,7 +29,7 @@ use Rattle.plex_script.specs.Causes.{caller_of}
 use Rattle.plex_script.specs.Commands.{MakesCommand}
 use Rattle.plex_script.specs.Limits.{KeepsLimits}
 use Rattle.plex_report.specs.CommandWords as words
-use Rattle.plex_report.specs.ReplyWords.{cache_reply_words, list_reply_words, lock_reply_words}
+use Rattle.plex_report.specs.ReplyWords.{alter_reply_words, queue_reply_words, lock_reply_words}
 use Rattle.line_rows.specs.Rows.{Row}
 use Rattle.reply_rows.specs.Contents.{cache_row, list_row, lock_row}
 use Rattle.reply_rows.specs.Within.{IsCacheReply, IsListReply, IsLockReply}
@@ -36,14 +39,15 @@ use Rattle.reply_rows.proofs.LockRows.{lock-is}
 use Rattle.reply_rows.proofs.Replies.{reply-is, cache-avoids, list-avoids, lock-avoids}
 use Rattle.reply_rows.proofs.Printed.{cache-same, list-same, lock-same}
 use Rattle.report_lines.specs.Entries.{IsCutLine, any_words, StandsAs, call_entry, mark_entry}
-use Rattle.report_lines.proofs.EntryLaws.{has_words, IsKind, Prints, call-found, mark-found, if_ok_more}
+use Rattle.report_lines.specs.Kinds.{has_words, IsKind}
+use Rattle.report_lines.proofs.EntryLaws.{Prints, call-found, mark-found, if_ok_more}
 
 -- ---- caches
 
-abbrev pub of_cache : Ask CacheCmd → AnyAsk
+abbrev pub of_cache : Ask (AlterCmd CacheCmd) → AnyAsk
 of_cache asked = AnyAsk.Cache asked
 
-pub is-cache : IsKind of_cache words.cache_words cache_reply_words cache_row IsCacheReply
+pub is-cache : IsKind of_cache words.alter_words alter_reply_words cache_row IsCacheReply
 is-cache = record {
   asks = asks;
   answers = cache-same;
@@ -54,21 +58,25 @@ is-cache = record {
   one = λ a b e. cc;
 }
   where
-    asks : (script : Script) (asked : Ask CacheCmd)
-        → any_words script.connectors (of_cache asked) ≡ words.ask_words words.cache_words script asked
+    asks : (script : Script) (asked : Ask (AlterCmd CacheCmd))
+        → any_words script.connectors (of_cache asked) ≡ words.ask_words words.alter_words script asked
     asks script (Shell cmd) = refl
     asks script (Content cmd) = refl
 
-    some : (script : Script) (r : CacheReply) → has_words (cache_reply_words script r) ≡ true
-    some script cache.Ok = refl
+    inner : (script : Script) (r : CacheReply) → has_words (alter_reply_words script (AlterReply.Inner r)) ≡ true
+    inner script cache.Ok = refl
+    inner script r = refl
+
+    some : (script : Script) (r : AlterReply CacheReply) → has_words (alter_reply_words script r) ≡ true
+    some script (AlterReply.Inner r) = inner script r
     some script r = refl
 
 -- ---- lists
 
-abbrev pub of_list : Ask ListCmd → AnyAsk
+abbrev pub of_list : Ask QueueCmd → AnyAsk
 of_list asked = AnyAsk.List asked
 
-pub is-list : IsKind of_list words.list_words list_reply_words list_row IsListReply
+pub is-list : IsKind of_list words.queue_words queue_reply_words list_row IsListReply
 is-list = record {
   asks = asks;
   answers = list-same;
@@ -79,13 +87,18 @@ is-list = record {
   one = λ a b e. cc;
 }
   where
-    asks : (script : Script) (asked : Ask ListCmd)
-        → any_words script.connectors (of_list asked) ≡ words.ask_words words.list_words script asked
+    asks : (script : Script) (asked : Ask QueueCmd)
+        → any_words script.connectors (of_list asked) ≡ words.ask_words words.queue_words script asked
     asks script (Shell cmd) = refl
     asks script (Content cmd) = refl
 
-    some : (script : Script) (r : ListReply) → has_words (list_reply_words script r) ≡ true
-    some script list.Ok = refl
+    inner : (script : Script) (r : ListReply) → has_words (queue_reply_words script (QueueReply.List r)) ≡ true
+    inner script list.Ok = refl
+    inner script r = refl
+
+    some : (script : Script) (r : QueueReply) → has_words (queue_reply_words script r) ≡ true
+    some script (QueueReply.List r) = inner script r
+    some script QueueReply.Empty = refl
     some script r = refl
 
 -- ---- locks

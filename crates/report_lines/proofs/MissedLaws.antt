@@ -9,8 +9,10 @@ use Rattle.cf_types.specs.declared.names.Name16.{Name16}
 use Rattle.cf_types.specs.declared.numbers.CfId.{CfId}
 use Rattle.cf_types.specs.declared.numbers.ConnId.{ConnId}
 use Rattle.cf_types.specs.declared.numbers.StrNo.{StrNo}
+use Rattle.cf_types.specs.declared.alter_commands.AlterCmd.{AlterCmd}
 use Rattle.cf_types.specs.declared.cache_commands.CacheCmd.{CacheCmd}
 use Rattle.cf_types.specs.declared.list_commands.ListCmd.{ListCmd}
+use Rattle.cf_types.specs.declared.list_commands.QueueCmd.{QueueCmd}
 use Rattle.cf_types.specs.declared.lock_commands.LockCmd.{LockCmd}
 use Rattle.cf_types.specs.declared.shell_commands.ShellCmd.{ShellCmd}
 use Rattle.cf_types.specs.declared.shell_commands.ShellReply.{ShellReply}
@@ -30,7 +32,7 @@ use Rattle.plex_spell.specs.declared.rigour.Rigour.TheVariants.{Names}
 use Rattle.plex_spell.proofs.Choices.{not_some, word-same, same_word-of}
 use Rattle.plex_spell.proofs.CutLaws.{Parts, parts-IsCut}
 use Rattle.plex_plain.specs.Naming.{caller_name, facility_word}
-use Rattle.plex_plain.specs.PlainWords.{shell_words, cache_words, list_words, lock_words}
+use Rattle.plex_plain.specs.PlainWords.{shell_words, cache_words, list_words, alter_words, queue_words, lock_words}
 use Rattle.plex_plain.specs.Ranges.{AreNames}
 use Rattle.plex_plain.proofs.Places.{caller-word}
 use Rattle.plex_plain.proofs.Tests.{all-append, all-weaker}
@@ -51,11 +53,12 @@ use Rattle.reply_rows.specs.Replies.{reply_at, IsReply, IsNamed}
 use Rattle.reply_rows.specs.Replies as rows
 use Rattle.reply_rows.specs.Sides.{asked_side}
 use Rattle.report_lines.specs.Entries.{is_free, IsCutLine, any_words, StandsAs, is_loss, loss_alone, call_entry, mark_entry}
+use Rattle.report_lines.specs.Kinds.{has_words, IsKind}
 use Rattle.report_lines.specs.Parts.{reply_value}
 use Rattle.report_lines.specs.Readable.{IsEntry, IsWhat, IsLossReply, IsMarkReply}
 use Rattle.report_lines.proofs.PartLaws.{split, same_arrow, word-free}
 use Rattle.report_lines.proofs.ReplyLines.{reply-good, reply-told}
-use Rattle.report_lines.proofs.EntryLaws.{has_words, behind-blank, entry-told, if_ok_more, IsKind, replies-same, replies-some}
+use Rattle.report_lines.proofs.EntryLaws.{behind-blank, entry-told, if_ok_more, replies-same, replies-some}
 use Rattle.report_lines.proofs.CallLaws.{mark-in}
 use Rattle.report_lines.proofs.MadeLaws.{made-plainly, one-made}
 use Rattle.report_lines.proofs.KindLaws.{some_of}
@@ -180,15 +183,25 @@ list-verb : (cmd : ListCmd) → has_words (list_words cmd) ≡ true
 list-verb (ListCmd.Read ref cond) = refl
 list-verb cmd = refl
 
+alter-verb : (cmd : AlterCmd CacheCmd) → has_words (alter_words cmd) ≡ true
+alter-verb (AlterCmd.Inner cmd) = cache-verb cmd
+alter-verb AlterCmd.Stop = refl
+alter-verb cmd = refl
+
+queue-verb : (cmd : QueueCmd) → has_words (queue_words cmd) ≡ true
+queue-verb (QueueCmd.List cmd) = list-verb cmd
+queue-verb QueueCmd.Deq = refl
+queue-verb cmd = refl
+
 lock-verb : (connectors : List Name16) (cmd : LockCmd) → has_words (lock_words connectors cmd) ≡ true
 lock-verb connectors (LockCmd.Release resource) = refl
 lock-verb connectors cmd = refl
 
 pub call-verb : (connectors : List Name16) (asked : AnyAsk) → has_words (any_words connectors asked) ≡ true
 call-verb connectors (AnyAsk.Cache (Shell cmd)) = shell-verb connectors cmd
-call-verb connectors (AnyAsk.Cache (Content cmd)) = cache-verb cmd
+call-verb connectors (AnyAsk.Cache (Content cmd)) = alter-verb cmd
 call-verb connectors (AnyAsk.List (Shell cmd)) = shell-verb connectors cmd
-call-verb connectors (AnyAsk.List (Content cmd)) = list-verb cmd
+call-verb connectors (AnyAsk.List (Content cmd)) = queue-verb cmd
 call-verb connectors (AnyAsk.Lock (Shell cmd)) = shell-verb connectors cmd
 call-verb connectors (AnyAsk.Lock (Content cmd)) = lock-verb connectors cmd
 

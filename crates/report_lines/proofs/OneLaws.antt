@@ -29,12 +29,13 @@ use Rattle.reply_rows.specs.declared.sides.Side.TheVariants.{Common}
 use Rattle.reply_rows.specs.Replies.{IsReply}
 use Rattle.reply_rows.specs.Sides.{asked_side}
 use Rattle.report_lines.specs.Entries.{is_free, IsCutLine, any_words}
+use Rattle.report_lines.specs.Kinds.{has_words, IsKind}
 use Rattle.report_lines.specs.Parts.{reply_value}
 use Rattle.report_lines.specs.Picked.{IsPicked, IsPickedReply, IsPickedWhat}
 use Rattle.report_lines.specs.Readable.{IsEntry, IsWhat}
 use Rattle.report_lines.proofs.PartLaws.{word-free}
 use Rattle.report_lines.proofs.ReplyLines.{reply-good}
-use Rattle.report_lines.proofs.EntryLaws.{has_words, behind-blank, entry-told, IsKind, replies-same, replies-some}
+use Rattle.report_lines.proofs.EntryLaws.{behind-blank, entry-told, replies-same, replies-some}
 use Rattle.report_lines.proofs.CallLaws.{mark-in}
 use Rattle.report_lines.proofs.MadeLaws.{one-made}
 use Rattle.report_lines.proofs.MissedLaws.{one_cut, caller-back, caller-no_system, same_facility, line-free, call-verb}

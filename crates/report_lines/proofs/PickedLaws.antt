@@ -25,10 +25,11 @@ use Rattle.reply_rows.specs.declared.sides.Side.{Side}
 use Rattle.reply_rows.specs.declared.sides.Side.TheVariants.{Common}
 use Rattle.reply_rows.specs.Sides.{asked_side}
 use Rattle.report_lines.specs.Entries.{IsCutLine, any_words, StandsAs, is_loss, loss_alone, call_entry, mark_entry}
+use Rattle.report_lines.specs.Kinds.{IsKind}
 use Rattle.report_lines.specs.Parts.{reply_value}
 use Rattle.report_lines.specs.Picked.{IsPicked, IsPickedReply}
 use Rattle.report_lines.proofs.ReplyLines.{reply-sound}
-use Rattle.report_lines.proofs.EntryLaws.{if_ok_more, IsKind, replies-same}
+use Rattle.report_lines.proofs.EntryLaws.{if_ok_more, replies-same}
 use Rattle.report_lines.proofs.KindLaws.{some_of}
 use Rattle.report_lines.proofs.MadeLaws.{stands-line}
 

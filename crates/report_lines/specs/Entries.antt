@@ -17,7 +17,7 @@ use Rattle.engine_api.specs.declared.histories.Entry.{Entry}
 use Rattle.engine_api.specs.LinkAsks.{operator}
 use Rattle.plex_spell.specs.Words.{tail_of}
 use Rattle.plex_spell.specs.Places.{◌>>=◌}
-use Rattle.plex_plain.specs.PlainWords.{shell_words, cache_words, list_words, lock_words}
+use Rattle.plex_plain.specs.PlainWords.{shell_words, alter_words, queue_words, lock_words}
 use Rattle.plex_script.specs.declared.scripts.AnyAsk.{AnyAsk}
 use Rattle.plex_script.specs.declared.scripts.AnyAsk.TheVariants as any
 use Rattle.plex_report.specs.Lines.{is_of_vary}
@@ -40,9 +40,9 @@ pub record IsCutLine (line : List ℕ) (no : ℕ) (who done told : List ℕ) : T
 -- the words of a call
 abbrev pub any_words : List Name16 → AnyAsk → List (List ℕ)
 any_words connectors (any.Cache (Shell cmd)) = shell_words connectors cmd
-any_words connectors (any.Cache (Content cmd)) = cache_words cmd
+any_words connectors (any.Cache (Content cmd)) = alter_words cmd
 any_words connectors (any.List (Shell cmd)) = shell_words connectors cmd
-any_words connectors (any.List (Content cmd)) = list_words cmd
+any_words connectors (any.List (Content cmd)) = queue_words cmd
 any_words connectors (any.Lock (Shell cmd)) = shell_words connectors cmd
 any_words connectors (any.Lock (Content cmd)) = lock_words connectors cmd
 
