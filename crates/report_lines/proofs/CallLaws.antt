@@ -48,8 +48,9 @@ use Rattle.plex_script.specs.LineWords.{act_tokens, retry_tokens}
 use Rattle.plex_script.specs.Printed.{class_in}
 use Rattle.plex_report.specs.Lines as lines
 use Rattle.plex_report.specs.Lines.{entry_line, is_of_vary}
-use Rattle.line_rows.specs.Rows.{is_word, Row}
+use Rattle.line_rows.specs.Rows.{is_word}
 use Rattle.line_rows.proofs.Words.{are-good, number-word, caller-said, facility-word}
+use Rattle.reply_rows.specs.Answers.{Answers}
 use Rattle.reply_rows.specs.declared.sides.Side.TheVariants.{Common}
 use Rattle.reply_rows.specs.Replies.{IsReply}
 use Rattle.report_lines.specs.Entries.{any_words}
@@ -185,14 +186,14 @@ mark-in {R} connectors In (reply.Shell shell.FailedNow) h = h
 mark-in {R} connectors In r h = absurd h
 
 module _ {C R : Type 0} (of : Ask C → AnyAsk) (cmd_words : Script → C → List (List ℕ))
-    (answer_words : Script → R → List (List ℕ)) (row : List Name16 → Row R) (In : List Name16 → R → Type 0)
-    (is : IsKind of cmd_words answer_words row In) (script : Script) (on : StrNo) (keeps : KeepsLimits script) where
+    (answer_words : Script → R → List (List ℕ)) (answers : List Name16 → Answers R) (In : List Name16 → R → Type 0)
+    (is : IsKind of cmd_words answer_words answers In) (script : Script) (on : StrNo) (keeps : KeepsLimits script) where
   replies-good : (vary : Bool) (r : Reply R) → IsReply script.connectors (In script.connectors) r
       → AreGood (lines.reply_words answer_words script vary r)
   replies-good vary r h =
-      let good = reply-good script.connectors (row script.connectors) (In script.connectors) vary Common
+      let good = reply-good script.connectors (answers script.connectors) (In script.connectors) vary Common
       (is.reads script.connectors keeps.connectors vary Common) r h in
-      subst AreGood (replies-same of cmd_words answer_words row In is script on keeps vary r) (are-good _ good)
+      subst AreGood (replies-same of cmd_words answer_words answers In is script on keeps vary r) (are-good _ good)
 
   line-good : (n : ℕ) (done : List (List ℕ)) (told : List (List ℕ)) → n < 2 ^ 32 → AreGood done → AreGood told
       → AreGood (decimal n ∷ done ++ codes "->" ∷ told)

@@ -30,8 +30,10 @@ use Rattle.plex_script.specs.Commands.{MakesCommand}
 use Rattle.plex_script.specs.Limits.{KeepsLimits}
 use Rattle.plex_report.specs.CommandWords as words
 use Rattle.plex_report.specs.ReplyWords.{alter_reply_words, queue_reply_words, lock_reply_words}
-use Rattle.line_rows.specs.Rows.{Row}
+use Rattle.reply_rows.specs.Answers.{Answers}
+use Rattle.reply_rows.specs.declared.sides.Side.{Side}
 use Rattle.reply_rows.specs.Contents.{cache_row, list_row, lock_row}
+use Rattle.reply_rows.specs.Sides.{asked_side}
 use Rattle.reply_rows.specs.Within.{IsCacheReply, IsListReply, IsLockReply}
 use Rattle.reply_rows.proofs.CacheRows.{cache-is}
 use Rattle.reply_rows.proofs.ListRows.{list-is}
@@ -40,7 +42,7 @@ use Rattle.reply_rows.proofs.Replies.{reply-is, cache-avoids, list-avoids, lock-
 use Rattle.reply_rows.proofs.Printed.{cache-same, list-same, lock-same}
 use Rattle.report_lines.specs.Entries.{IsCutLine, any_words, StandsAs, call_entry, mark_entry}
 use Rattle.report_lines.specs.Kinds.{has_words, IsKind}
-use Rattle.report_lines.proofs.EntryLaws.{Prints, call-found, mark-found, if_ok_more}
+use Rattle.report_lines.proofs.EntryLaws.{Prints, call-found, mark-found, if_ok_more, on_side}
 
 -- ---- caches
 
@@ -137,47 +139,49 @@ pub some_of : {X : Type 0} (P : X → Type 0) (o : Option X) (x : X) → IfSome 
 some_of {X} P o x h e = subst (λ (p : Option X). IfSome p P) e h
 
 module _ {C R : Type 0} (of : Ask C → AnyAsk) (cmd_words : Script → C → List (List ℕ))
-    (answer_words : Script → R → List (List ℕ)) (row : List Name16 → Row R) (In : List Name16 → R → Type 0)
-    (is : IsKind of cmd_words answer_words row In) (script : Script) (on : StrNo) (line : List ℕ)
+    (answer_words : Script → R → List (List ℕ)) (answers : List Name16 → Answers R) (In : List Name16 → R → Type 0)
+    (is : IsKind of cmd_words answer_words answers In) (script : Script) (on : StrNo) (line : List ℕ)
     (n : ℕ) (who done told : List ℕ) (connectors : List Name16) (keeps : KeepsLimits script)
     (cut : IsCutLine line n who done told) (named : connectors ≡ script.connectors) where
   abbrev Found : Entry C R → Type 0
-  Found = Prints of cmd_words answer_words row In is script on keeps line
+  Found = Prints of cmd_words answer_words answers In is script on keeps line
 
   abbrev Made : ConnId → AnyAsk → Type 0
   Made by asked = MakesCommand script on by done asked × StandsAs script.connectors asked done
 
   call-if : (by : ConnId) (asked : Ask C) (o : Option (Entry C R)) → Some by ≡ caller_of connectors who
-      → Made by (of asked) → o ≡ call_entry connectors (row connectors) n by asked told → IfSome o Found
+      → Made by (of asked) → o ≡ call_entry connectors (answers connectors) n by (asked_side (of asked)) asked told → IfSome o Found
   call-if by asked None called makes h = tt
   call-if by asked (Some entry) called makes h =
       let known : caller_of script.connectors who ≡ Some by =
       ap (λ (names : List Name16). caller_of names who) (sym named) ∙ sym called in
-      let read = subst (λ (names : List Name16). Some entry ≡ call_entry names (row names) n by asked told) named h in
-      call-found of cmd_words answer_words row In is script on keeps line n who done told by asked entry cut known makes
+      let read = subst (λ (names : List Name16). Some entry ≡ call_entry names (answers names) n by (asked_side (of asked)) asked told) named h in
+      call-found of cmd_words answer_words answers In is script on keeps line n who done told by asked entry cut known makes
       (sym read)
 
   mark-if : (cf : CfId) (o : Option (Entry C R)) → who ≡ codes "SYS"
       → (done ≡ codes "LOST " ++ facility_word cf) × IsFacility cf
-      → o ≡ mark_entry connectors (row connectors) n cf told → IfSome o Found
+      → o ≡ mark_entry connectors (answers connectors) n cf told → IfSome o Found
   mark-if cf None sys lost h = tt
   mark-if cf (Some entry) sys lost h =
-      let read = subst (λ (names : List Name16). Some entry ≡ mark_entry names (row names) n cf told) named h in
-      mark-found of cmd_words answer_words row In is script on keeps line n who done told cf entry cut sys lost
+      let read = subst (λ (names : List Name16). Some entry ≡ mark_entry names (answers names) n cf told) named h in
+      mark-found of cmd_words answer_words answers In is script on keeps line n who done told cf entry cut sys lost
       (sym read)
 
-  pub called : {E : Type 0} (by : ConnId) (o : Option AnyAsk) (call : AnyAsk) (asked : Ask C)
+  pub called : {E : Type 0} (by : ConnId) (o : Option AnyAsk) (call : AnyAsk) (side : Side) (asked : Ask C)
       (r : Result (Option (Entry C R)) E) → Some by ≡ caller_of connectors who → IfSome o (Made by) → o ≡ Some call
-      → call ≡ of asked → IfOk r (λ x. x ≡ call_entry connectors (row connectors) n by asked told)
+      → side ≡ asked_side call → call ≡ of asked
+      → IfOk r (λ x. x ≡ call_entry connectors (answers connectors) n by side asked told)
       → IfOk r (λ x. IfSome x Found)
-  called {E} by o call asked r known found e is_call h =
+  called {E} by o call side asked r known found e is_side is_call h =
       let made : Made by (of asked) = subst (Made by) is_call (some_of (Made by) o call found e) in
-      if_ok_more r (λ x. x ≡ call_entry connectors (row connectors) n by asked told) (λ x. IfSome x Found)
-      (λ x read. call-if by asked x known made read) h
+      if_ok_more r (λ x. x ≡ call_entry connectors (answers connectors) n by (asked_side (of asked)) asked told)
+      (λ x. IfSome x Found) (λ x read. call-if by asked x known made read)
+      (on_side connectors (answers connectors) n by side call (of asked) asked told r is_side is_call h)
 
   pub marked : {E : Type 0} (cf : CfId) (r : Result (Option (Entry C R)) E) → true ≡ same_word who (codes "SYS")
       → (done ≡ codes "LOST " ++ facility_word cf) × IsFacility cf
-      → IfOk r (λ x. x ≡ mark_entry connectors (row connectors) n cf told) → IfOk r (λ x. IfSome x Found)
+      → IfOk r (λ x. x ≡ mark_entry connectors (answers connectors) n cf told) → IfOk r (λ x. IfSome x Found)
   marked {E} cf r sys lost h =
-      if_ok_more r (λ x. x ≡ mark_entry connectors (row connectors) n cf told) (λ x. IfSome x Found)
+      if_ok_more r (λ x. x ≡ mark_entry connectors (answers connectors) n cf told) (λ x. IfSome x Found)
       (λ x read. mark-if cf x (word-same who (codes "SYS") (sym sys)) lost read) h

@@ -6,7 +6,7 @@ use Rattle.plex_plain.specs.Ranges.{AreNames}
 use Rattle.plex_script.specs.declared.scripts.AnyAsk.{AnyAsk}
 use Rattle.plex_script.specs.declared.scripts.Script.{Script}
 use Rattle.plex_report.specs.CommandWords.{ask_words}
-use Rattle.line_rows.specs.Rows.{Row}
+use Rattle.reply_rows.specs.Answers.{Answers}
 use Rattle.reply_rows.specs.declared.sides.Side.{Side}
 use Rattle.reply_rows.specs.Replies.{IsRead}
 use Rattle.report_lines.specs.Entries.{any_words}
@@ -17,12 +17,12 @@ has_words (word ∷ words) = true
 
 -- commands and replies of a kind of structure, as they are printed and read
 pub record IsKind {C R : Type 0} (of : Ask C → AnyAsk) (cmd_words : Script → C → List (List ℕ))
-    (answer_words : Script → R → List (List ℕ)) (row : List Name16 → Row R) (In : List Name16 → R → Type 0) : Type 0
+    (answer_words : Script → R → List (List ℕ)) (answers : List Name16 → Answers R) (In : List Name16 → R → Type 0) : Type 0
   where
     pub asks : (script : Script) (asked : Ask C)
         → any_words script.connectors (of asked) ≡ ask_words cmd_words script asked
-    pub answers : (script : Script) (r : R) → (row script.connectors).words r ≡ answer_words script r
+    pub printed : (script : Script) (r : R) → (answers script.connectors).words r ≡ answer_words script r
     pub some : (script : Script) (r : R) → has_words (answer_words script r) ≡ true
     pub reads : (connectors : List Name16) → AreNames connectors → (vary : Bool) (side : Side)
-        → IsRead connectors (row connectors) (In connectors) vary side
+        → IsRead connectors (answers connectors) (In connectors) vary side
     pub one : (a b : Ask C) → of a ≡ of b → a ≡ b

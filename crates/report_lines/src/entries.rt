@@ -235,21 +235,21 @@ fn is_vary<C>(asked: &Ask<C>) -> bool
     }
 }
 
-// The entry of a call, where the reply is one.
+// The entry of a call, where the reply is one; the side is that of its command.
 fn call_entry<C: Drop, R: Answer + Drop>(
     alloc: Global,
     connectors: &[Name16],
     no: u32,
     by: ConnId,
+    side: Side,
     asked: Ask<C>,
     told: &[u8],
 ) -> Result<Option<Entry<C, R>>, NoMemory>
     requires { length connectors.now ≤ CONNECTORS }
     ensures { IfOk result (λ entry. entry ≡ call_entry connectors.now
-        (R.answers connectors.now) no by asked told.now) }
+        (R.answers connectors.now) no by side asked told.now) }
 {
     let vary = is_vary(&asked);
-    let side = asked_side(&asked);
     match reply_in(alloc, connectors, told, vary, side)? {
         None => Ok(None),
         Some(reply) => Ok(Some(Entry {
@@ -344,10 +344,11 @@ fn read_entry<C: Command + Drop, R: Told + Drop>(
     let Some(call) = plain_command(alloc, script, on, by, parts.done)? else {
         return Ok(None);
     };
+    let side = asked_side(&call);
     let Some(asked) = C::of_call(call) else {
         return Ok(None);
     };
-    call_entry(alloc, connectors, parts.no, by, asked, parts.told)
+    call_entry(alloc, connectors, parts.no, by, side, asked, parts.told)
 }
 
 /// Reads an entry of the history of a cache structure from its line, without the line feed: what

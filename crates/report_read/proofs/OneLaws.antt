@@ -23,7 +23,7 @@ use Rattle.plex_report.specs.Naming.{structure_name, caller_name}
 use Rattle.plex_report.specs.ReplyWords.{alter_reply_words, queue_reply_words, lock_reply_words}
 use Rattle.plex_report.specs.Report.{lines_each, report_lines, by_number, structures_lines, histories_lines, transcripts_lines}
 use Rattle.plex_plain.specs.PolicyLines.{facility_line, connector_line}
-use Rattle.line_rows.specs.Rows.{Row}
+use Rattle.reply_rows.specs.Answers.{Answers}
 use Rattle.reply_rows.specs.Contents.{cache_row, list_row}
 use Rattle.reply_rows.specs.Within.{IsCacheReply, IsListReply}
 use Rattle.report_lines.specs.Kinds.{IsKind}
@@ -142,24 +142,24 @@ module _ {X : Type 0} (lines : ℕ → X → Lines) (P : ℕ → X → Type 0) (
 
 module _ (script : Script) (keeps : KeepsLimits script) where
   module _ {C R : Type 0} (of : Ask C → AnyAsk) (cmd_words : Script → C → Lines) (answer_words : Script → R → Lines)
-      (row : List Name16 → Row R) (In : List Name16 → R → Type 0) (is : IsKind of cmd_words answer_words row In)
+      (answers : List Name16 → Answers R) (In : List Name16 → R → Type 0) (is : IsKind of cmd_words answer_words answers In)
       (x : ℕ) where
     abbrev on : StrNo
     on = record { 0 = x }
 
     abbrev Fits : Entry C R → Type 0
-    Fits entry = IsEntry of In script on entry × IsPicked of answer_words row script on entry
+    Fits entry = IsEntry of In script on entry × IsPicked of answer_words answers script on entry
 
     both : (entries : List (Entry C R)) → All (IsEntry of In script on) entries
-        → All (IsPicked of answer_words row script on) entries → All Fits entries
+        → All (IsPicked of answer_words answers script on) entries → All Fits entries
     both entries h p = λ j d low. (h j d low, p j d low)
 
     entries_same : (one other : List (Entry C R)) (us vs : Lines) → length one < 2 ^ 64 → length other < 2 ^ 64
         → All (IsEntry of In script on) one → All (IsEntry of In script on) other → All (IsPicked of answer_words
-        row script on) one → All (IsPicked of answer_words row script on) other → entry_lines cmd_words answer_words
+        answers script on) one → All (IsPicked of answer_words answers script on) other → entry_lines cmd_words answer_words
         script x one ++ us ≡ entry_lines cmd_words answer_words script x other ++ vs → (one ≡ other) × (us ≡ vs)
     entries_same one other us vs small small' h k p q e = block_same (codes "HISTORY") (structure_name script x)
-        (entry_line cmd_words answer_words script) Fits (λ a b f g same. one_entry of cmd_words answer_words row
+        (entry_line cmd_words answer_words script) Fits (λ a b f g same. one_entry of cmd_words answer_words answers
         In is script on keeps a b f.0 g.0 f.1 g.1 same) one other us vs small small' (both one h p) (both other k q) e
 
   -- a history of this structure whose entries are meant so
