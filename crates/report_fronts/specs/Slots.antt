@@ -18,7 +18,7 @@ use Rattle.report_texts.specs.PlexReport.PlexPlain.PolicyLines.{facility_line, c
 use Rattle.report_texts.specs.PlexReport.ReplyWords.{alter_reply_words, queue_reply_words, lock_reply_words}
 use Rattle.report_texts.specs.PlexReport.Report.{by_number, structures_lines}
 use Rattle.report_lines.specs.Readable.{IsEntry, IsItem}
-use Rattle.report_texts.specs.ReplyRows.Within.{IsCacheReply, IsListReply, IsLockReply}
+use Rattle.report_texts.specs.ReplyRows.Within.{IsAlterReply, IsQueueReply, IsLockReply}
 use Rattle.report_fronts.specs.Grammars.{Steps, Goes}
 
 -- what the next line is to be: just this one; an entry of a structure; an item of a transcript; or a heading with a
@@ -37,9 +37,9 @@ module _ {C R : Type 0} (of : Ask C → AnyAsk) (In : List Name16 → R → Type
 
 -- some entry of a structure of this kind prints so
 abbrev pub IsEntryLine : Script → StrNo → Kind → List ℕ → Type 0
-IsEntryLine script on kind.Cache line = PrintsEntry ask.Cache IsCacheReply alter_words alter_reply_words script on line
+IsEntryLine script on kind.Cache line = PrintsEntry ask.Cache IsAlterReply alter_words alter_reply_words script on line
 IsEntryLine script on (kind.List headers locks refs) line =
-    PrintsEntry ask.List IsListReply queue_words queue_reply_words script on line
+    PrintsEntry ask.List IsQueueReply queue_words queue_reply_words script on line
 IsEntryLine script on kind.Lock line =
     PrintsEntry ask.Lock (λ connectors. IsLockReply) lock_words lock_reply_words script on line
 

@@ -24,13 +24,11 @@ use Rattle.engine_api.specs.declared.asks.Reply.TheVariants as reply
 use Rattle.engine_api.specs.declared.asks.What.{What}
 use Rattle.engine_api.specs.declared.asks.What.TheVariants as what
 use Rattle.engine_api.specs.declared.histories.Entry.{Entry}
-use Rattle.plex_spell.specs.AlterWords.{alter_tokens}
 use Rattle.plex_spell.specs.ListWords.{at_tokens, cond_tokens}
-use Rattle.plex_spell.specs.QueueWords.{queue_tokens}
 use Rattle.plex_plain.specs.Naming.{caller_name, facility_word}
-use Rattle.plex_plain.specs.PlainWords.{plain_words, cache_words, list_words, alter_storage_told, alter_words, queue_words}
+use Rattle.plex_plain.specs.PlainWords.{plain_words, cache_words, list_words, alter_words, queue_words}
 use Rattle.plex_plain.specs.Ranges.{AreWithin}
-use Rattle.plex_plain.proofs.CommandLaws.{cache_in, list_in, words_read, words_write, words_make, words_update, words_at, words_move, words_delete}
+use Rattle.plex_plain.proofs.CommandLaws.{cache_in, list_in, alter_in, queue_in, words_read, words_write, words_make, words_update, words_at, words_move, words_delete}
 use Rattle.plex_plain.proofs.Rooms.{IsRow, words-good}
 use Rattle.plex_plain.proofs.Rows.{shell-row, alter-row, queue-row, lock-row}
 use Rattle.plex_plain.proofs.Texts.{AreGood, clear, line-clear}
@@ -112,13 +110,11 @@ list-any connectors (ListCmd.Delete ref version cond) =
     cc
 list-any connectors cmd = refl
 
-alter-any : (connectors : List Name16) (cmd : AlterCmd CacheCmd)
-    → alter_words cmd ≡ plain_words [] connectors (alter_tokens (alter_storage_told cmd) cmd)
+alter-any : (connectors : List Name16) (cmd : AlterCmd CacheCmd) → alter_words cmd ≡ alter_in connectors cmd
 alter-any connectors (AlterCmd.Inner cmd) = cache-any connectors cmd
 alter-any connectors cmd = refl
 
-queue-any : (connectors : List Name16) (cmd : QueueCmd)
-    → queue_words cmd ≡ plain_words [] connectors (queue_tokens cmd)
+queue-any : (connectors : List Name16) (cmd : QueueCmd) → queue_words cmd ≡ queue_in connectors cmd
 queue-any connectors (QueueCmd.List cmd) = list-any connectors cmd
 queue-any connectors cmd = refl
 

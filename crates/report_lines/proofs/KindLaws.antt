@@ -32,14 +32,14 @@ use Rattle.plex_report.specs.CommandWords as words
 use Rattle.plex_report.specs.ReplyWords.{alter_reply_words, queue_reply_words, lock_reply_words}
 use Rattle.reply_rows.specs.Answers.{Answers}
 use Rattle.reply_rows.specs.declared.sides.Side.{Side}
-use Rattle.reply_rows.specs.Contents.{cache_row, list_row, lock_row}
+use Rattle.reply_rows.specs.Contents.{alter_answers, queue_answers, lock_answers, lock_row}
 use Rattle.reply_rows.specs.Sides.{asked_side}
-use Rattle.reply_rows.specs.Within.{IsCacheReply, IsListReply, IsLockReply}
-use Rattle.reply_rows.proofs.CacheRows.{cache-is}
-use Rattle.reply_rows.proofs.ListRows.{list-is}
+use Rattle.reply_rows.specs.Within.{IsAlterReply, IsQueueReply, IsLockReply}
+use Rattle.reply_rows.proofs.AlterRows.{alter-are}
+use Rattle.reply_rows.proofs.QueueRows.{queue-are}
 use Rattle.reply_rows.proofs.LockRows.{lock-is}
-use Rattle.reply_rows.proofs.Replies.{reply-is, cache-avoids, list-avoids, lock-avoids}
-use Rattle.reply_rows.proofs.Printed.{cache-same, list-same, lock-same}
+use Rattle.reply_rows.proofs.Replies.{reply-is, alone-are, alter-avoids, queue-avoids, lock-avoids}
+use Rattle.reply_rows.proofs.Printed.{alter-same, queue-same, lock-same}
 use Rattle.report_lines.specs.Entries.{IsCutLine, any_words, StandsAs, call_entry, mark_entry}
 use Rattle.report_lines.specs.Kinds.{has_words, IsKind}
 use Rattle.report_lines.proofs.EntryLaws.{Prints, call-found, mark-found, if_ok_more, on_side}
@@ -49,14 +49,14 @@ use Rattle.report_lines.proofs.EntryLaws.{Prints, call-found, mark-found, if_ok_
 abbrev pub of_cache : Ask (AlterCmd CacheCmd) → AnyAsk
 of_cache asked = AnyAsk.Cache asked
 
-pub is-cache : IsKind of_cache words.alter_words alter_reply_words cache_row IsCacheReply
+pub is-cache : IsKind of_cache words.alter_words alter_reply_words alter_answers IsAlterReply
 is-cache = record {
   asks = asks;
-  answers = cache-same;
+  printed = alter-same;
   some = some;
   reads = λ connectors names vary side.
-      reply-is connectors (cache_row connectors) (IsCacheReply connectors) names (cache-is connectors names)
-      (cache-avoids connectors) vary side;
+      reply-is connectors (alter_answers connectors) (IsAlterReply connectors) names (alter-are connectors names)
+      (alter-avoids connectors) vary side;
   one = λ a b e. cc;
 }
   where
@@ -78,14 +78,14 @@ is-cache = record {
 abbrev pub of_list : Ask QueueCmd → AnyAsk
 of_list asked = AnyAsk.List asked
 
-pub is-list : IsKind of_list words.queue_words queue_reply_words list_row IsListReply
+pub is-list : IsKind of_list words.queue_words queue_reply_words queue_answers IsQueueReply
 is-list = record {
   asks = asks;
-  answers = list-same;
+  printed = queue-same;
   some = some;
   reads = λ connectors names vary side.
-      reply-is connectors (list_row connectors) (IsListReply connectors) names (list-is connectors names)
-      (list-avoids connectors) vary side;
+      reply-is connectors (queue_answers connectors) (IsQueueReply connectors) names (queue-are connectors names)
+      (queue-avoids connectors) vary side;
   one = λ a b e. cc;
 }
   where
@@ -108,19 +108,17 @@ is-list = record {
 abbrev pub of_lock : Ask LockCmd → AnyAsk
 of_lock asked = AnyAsk.Lock asked
 
-abbrev pub lock_rows : List Name16 → Row LockReply
-lock_rows connectors = lock_row
-
 abbrev pub AreLockReplies : List Name16 → LockReply → Type 0
 AreLockReplies connectors r = IsLockReply r
 
-pub is-lock : IsKind of_lock words.lock_words lock_reply_words lock_rows AreLockReplies
+pub is-lock : IsKind of_lock words.lock_words lock_reply_words lock_answers AreLockReplies
 is-lock = record {
   asks = asks;
-  answers = lock-same;
+  printed = lock-same;
   some = some;
   reads = λ connectors names vary side.
-      reply-is connectors lock_row IsLockReply names lock-is lock-avoids vary side;
+      reply-is connectors (lock_answers connectors) IsLockReply names (alone-are IsLockReply lock_row lock-is)
+      lock-avoids vary side;
   one = λ a b e. cc;
 }
   where

@@ -25,8 +25,8 @@ ghost use Rattle.cf_types.specs.declared.list_commands.QueueCmd.{QueueCmd};
 ghost use Rattle.cf_types.specs.declared.list_commands.QueueReply.{QueueReply};
 ghost use Rattle.cf_types.specs.declared.lock_commands.LockCmd.{LockCmd};
 ghost use Rattle.cf_types.specs.declared.lock_commands.LockReply.{LockReply};
-ghost use Rattle.reply_rows.specs.Contents.{cache_row, list_row, lock_row};
-ghost use Rattle.reply_rows.specs.Within.{IsCacheReply, IsListReply, IsLockReply};
+ghost use Rattle.reply_rows.specs.Contents.{alter_answers, queue_answers, lock_answers};
+ghost use Rattle.reply_rows.specs.Within.{IsAlterReply, IsQueueReply, IsLockReply};
 ghost use Rattle.report_lines.specs.Entries.{is_free, IsCutLine, any_words, StandsAs, is_loss, loss_alone, call_entry, mark_entry};
 ghost use Rattle.report_lines.specs.Kinds.{IsKind};
 ghost use Rattle.report_lines.specs.Picked.{IsPicked};
@@ -369,12 +369,12 @@ pub fn read_cache_entry(
     requires known { on.0 < length script.now.structures }
     ensures found { IfOk result (λ read. IfSome read (λ entry.
         (entry_line alter_words alter_reply_words script.now entry ≡ line.now)
-        × IsEntry (λ asked. any.Cache asked) IsCacheReply script.now on entry)) }
+        × IsEntry (λ asked. any.Cache asked) IsAlterReply script.now on entry)) }
     ensures picked { IfOk result (λ read. IfSome read (IsPicked (λ asked. any.Cache asked)
-        alter_reply_words cache_row script.now on)) }
+        alter_reply_words alter_answers script.now on)) }
     ensures none { IfOk result (λ read. IfNone read
         ((entry : Entry (AlterCmd CacheCmd) (AlterReply CacheReply))
-        → IsEntry (λ asked. any.Cache asked) IsCacheReply script.now on entry
+        → IsEntry (λ asked. any.Cache asked) IsAlterReply script.now on entry
         → entry_line alter_words alter_reply_words script.now entry ≡ line.now → ⊥)) }
 {
     read_entry(alloc, script, on, line)
@@ -398,11 +398,11 @@ pub fn read_list_entry(
     requires known { on.0 < length script.now.structures }
     ensures found { IfOk result (λ read. IfSome read (λ entry.
         (entry_line queue_words queue_reply_words script.now entry ≡ line.now)
-        × IsEntry (λ asked. any.List asked) IsListReply script.now on entry)) }
+        × IsEntry (λ asked. any.List asked) IsQueueReply script.now on entry)) }
     ensures picked { IfOk result (λ read. IfSome read (IsPicked (λ asked. any.List asked)
-        queue_reply_words list_row script.now on)) }
+        queue_reply_words queue_answers script.now on)) }
     ensures none { IfOk result (λ read. IfNone read ((entry : Entry QueueCmd QueueReply)
-        → IsEntry (λ asked. any.List asked) IsListReply script.now on entry
+        → IsEntry (λ asked. any.List asked) IsQueueReply script.now on entry
         → entry_line queue_words queue_reply_words script.now entry ≡ line.now → ⊥)) }
 {
     read_entry(alloc, script, on, line)
@@ -428,7 +428,7 @@ pub fn read_lock_entry(
         (entry_line lock_words lock_reply_words script.now entry ≡ line.now)
         × IsEntry (λ asked. any.Lock asked) (λ _. IsLockReply) script.now on entry)) }
     ensures picked { IfOk result (λ read. IfSome read (IsPicked (λ asked. any.Lock asked)
-        lock_reply_words (λ _. lock_row) script.now on)) }
+        lock_reply_words lock_answers script.now on)) }
     ensures none { IfOk result (λ read. IfNone read ((entry : Entry LockCmd LockReply)
         → IsEntry (λ asked. any.Lock asked) (λ _. IsLockReply) script.now on entry
         → entry_line lock_words lock_reply_words script.now entry ≡ line.now → ⊥)) }

@@ -8,7 +8,7 @@ ghost use Rattle.plex_script.specs.declared.scripts.AnyAsk.TheVariants as any;
 ghost use Rattle.plex_script.specs.declared.scripts.Script.{Script};
 ghost use Rattle.plex_report.specs.CommandWords.{alter_words, queue_words, lock_words};
 ghost use Rattle.plex_report.specs.ReplyWords.{alter_reply_words, queue_reply_words, lock_reply_words};
-ghost use Rattle.reply_rows.specs.Within.{IsCacheReply, IsListReply, IsLockReply};
+ghost use Rattle.reply_rows.specs.Within.{IsAlterReply, IsQueueReply, IsLockReply};
 
 use cf_types::{
     AlterCmd, AlterReply, CacheCmd, CacheReply, LockCmd, LockReply, QueueCmd, QueueReply,
@@ -78,13 +78,13 @@ impl Command for LockCmd {
 impl Told for AlterReply<CacheReply> {
     ghost told = { alter_reply_words };
 
-    ghost within = { IsCacheReply };
+    ghost within = { IsAlterReply };
 }
 
 impl Told for QueueReply {
     ghost told = { queue_reply_words };
 
-    ghost within = { IsListReply };
+    ghost within = { IsQueueReply };
 }
 
 impl Told for LockReply {

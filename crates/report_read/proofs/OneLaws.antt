@@ -24,12 +24,12 @@ use Rattle.plex_report.specs.ReplyWords.{alter_reply_words, queue_reply_words, l
 use Rattle.plex_report.specs.Report.{lines_each, report_lines, by_number, structures_lines, histories_lines, transcripts_lines}
 use Rattle.plex_plain.specs.PolicyLines.{facility_line, connector_line}
 use Rattle.reply_rows.specs.Answers.{Answers}
-use Rattle.reply_rows.specs.Contents.{cache_row, list_row}
-use Rattle.reply_rows.specs.Within.{IsCacheReply, IsListReply}
+use Rattle.reply_rows.specs.Contents.{alter_answers, queue_answers, lock_answers}
+use Rattle.reply_rows.specs.Within.{IsAlterReply, IsQueueReply}
 use Rattle.report_lines.specs.Kinds.{IsKind}
 use Rattle.report_lines.specs.Picked.{IsPicked}
 use Rattle.report_lines.specs.Readable.{IsEntry, IsItem}
-use Rattle.report_lines.proofs.KindLaws.{of_cache, of_list, of_lock, is-cache, is-list, is-lock, lock_rows, AreLockReplies}
+use Rattle.report_lines.proofs.KindLaws.{of_cache, of_list, of_lock, is-cache, is-list, is-lock, AreLockReplies}
 use Rattle.report_lines.proofs.ItemLaws.{item_one}
 use Rattle.report_lines.proofs.OneLaws.{one_entry}
 use Rattle.check_model.specs.declared.printed.Printed.{Printed}
@@ -189,15 +189,15 @@ module _ (script : Script) (keeps : KeepsLimits script) where
   history_same : (x : ℕ) (one other : AnyHistory) (us vs : Lines) → IsRight x one → IsRight x other
       → history_lines script x one ++ us ≡ history_lines script x other ++ vs → (one ≡ other) × (us ≡ vs)
   history_same x (history.Cache one) (history.Cache other) us vs a b e =
-      let s = entries_same of_cache alter_words alter_reply_words cache_row IsCacheReply is-cache x one other us vs
+      let s = entries_same of_cache alter_words alter_reply_words alter_answers IsAlterReply is-cache x one other us vs
       a.count b.count a.each b.each a.picked b.picked e in
       (ap (λ (l : _). history.Cache l) s.0, s.1)
   history_same x (history.List one) (history.List other) us vs a b e =
-      let s = entries_same of_list queue_words queue_reply_words list_row IsListReply is-list x one other us vs
+      let s = entries_same of_list queue_words queue_reply_words queue_answers IsQueueReply is-list x one other us vs
       a.count b.count a.each b.each a.picked b.picked e in
       (ap (λ (l : _). history.List l) s.0, s.1)
   history_same x (history.Lock one) (history.Lock other) us vs a b e =
-      let s = entries_same of_lock lock_words lock_reply_words lock_rows AreLockReplies is-lock x one other us vs
+      let s = entries_same of_lock lock_words lock_reply_words lock_answers AreLockReplies is-lock x one other us vs
       a.count b.count a.each b.each a.picked b.picked e in
       (ap (λ (l : _). history.Lock l) s.0, s.1)
   history_same x one other us vs a b e = absurd (same_form x one other a b)

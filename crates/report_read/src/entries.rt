@@ -8,8 +8,8 @@ ghost use Rattle.plex_script.specs.Limits.{KeepsLimits};
 ghost use Rattle.plex_report.specs.CommandWords.{alter_words, queue_words, lock_words};
 ghost use Rattle.plex_report.specs.Lines.{entry_line};
 ghost use Rattle.plex_report.specs.ReplyWords.{alter_reply_words, queue_reply_words, lock_reply_words};
-ghost use Rattle.reply_rows.specs.Within.{IsCacheReply, IsListReply, IsLockReply};
-ghost use Rattle.reply_rows.specs.Contents.{cache_row, list_row, lock_row};
+ghost use Rattle.reply_rows.specs.Within.{IsAlterReply, IsQueueReply, IsLockReply};
+ghost use Rattle.reply_rows.specs.Contents.{alter_answers, queue_answers, lock_answers};
 ghost use Rattle.report_lines.specs.Picked.{IsPicked};
 ghost use Rattle.report_lines.specs.Readable.{IsEntry};
 ghost use Rattle.report_fronts.specs.Slots.Slot.{Entered};
@@ -56,9 +56,9 @@ pub(crate) trait EntryLine: Sized {
 impl EntryLine for Entry<AlterCmd<CacheCmd>, AlterReply<CacheReply>> {
     ghost prints = { entry_line alter_words alter_reply_words };
 
-    ghost may = { IsEntry (λ asked. any.Cache asked) IsCacheReply };
+    ghost may = { IsEntry (λ asked. any.Cache asked) IsAlterReply };
 
-    ghost meant = { IsPicked (λ asked. any.Cache asked) alter_reply_words cache_row };
+    ghost meant = { IsPicked (λ asked. any.Cache asked) alter_reply_words alter_answers };
 
     fn read(
         alloc: Global,
@@ -73,9 +73,9 @@ impl EntryLine for Entry<AlterCmd<CacheCmd>, AlterReply<CacheReply>> {
 impl EntryLine for Entry<QueueCmd, QueueReply> {
     ghost prints = { entry_line queue_words queue_reply_words };
 
-    ghost may = { IsEntry (λ asked. any.List asked) IsListReply };
+    ghost may = { IsEntry (λ asked. any.List asked) IsQueueReply };
 
-    ghost meant = { IsPicked (λ asked. any.List asked) queue_reply_words list_row };
+    ghost meant = { IsPicked (λ asked. any.List asked) queue_reply_words queue_answers };
 
     fn read(
         alloc: Global,
@@ -92,7 +92,7 @@ impl EntryLine for Entry<LockCmd, LockReply> {
 
     ghost may = { IsEntry (λ asked. any.Lock asked) (λ _. IsLockReply) };
 
-    ghost meant = { IsPicked (λ asked. any.Lock asked) lock_reply_words (λ _. lock_row) };
+    ghost meant = { IsPicked (λ asked. any.Lock asked) lock_reply_words lock_answers };
 
     fn read(
         alloc: Global,
