@@ -146,7 +146,8 @@ module _ (script : Script) (keeps : KeepsLimits script) where
       (is : (vary : Bool) → rows.IsRead script.connectors answers (In script.connectors) vary Common) where
     -- the words of a reply in range are words
     reply_said : (vary : Bool) (r : Reply R) (o : Option (Reply R))
-        → rows.reply_at script.connectors answers vary Common (rows.reply_words script.connectors answers vary r) ≡ o → IsSome o
+        → rows.reply_at script.connectors answers vary Common (rows.reply_words script.connectors answers vary r) ≡ o
+        → IsSome o
         → list_all is_word (rows.reply_words script.connectors answers vary r) ≡ true
     reply_said vary r None e some = absurd (cc)
     reply_said vary r (Some other) e some =

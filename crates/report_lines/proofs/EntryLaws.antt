@@ -249,14 +249,15 @@ module _ {C R : Type 0} (of : Ask C → AnyAsk) (cmd_words : Script → C → Li
   pub call-found : (line : List ℕ) (n : ℕ) (who done told : List ℕ) (by : ConnId) (asked : Ask C) (entry : Entry C R)
       → IsCutLine line n who done told → caller_of script.connectors who ≡ Some by
       → MakesCommand script on by done (of asked) × StandsAs script.connectors (of asked) done
-      → call_entry script.connectors (answers script.connectors) n by (asked_side (of asked)) asked told ≡ Some entry → Prints line entry
+      → call_entry script.connectors (answers script.connectors) n by (asked_side (of asked)) asked told ≡ Some entry
+      → Prints line entry
   call-found line n who done told by asked entry cut called makes h =
       let w : What C = what.Call asked in
       let vary = is_of_vary w in
       let make : Reply R → Entry C R = λ answer. (record { no = n; by = by; what = what.Call asked; reply = answer }) in
-      let m = mapped make (reply_value script.connectors (answers script.connectors) vary (asked_side (of asked)) told) entry h
-      in
-      let t = is-told vary (asked_side (of asked)) told m.value m.read in
+      let side = asked_side (of asked) in
+      let m = mapped make (reply_value script.connectors (answers script.connectors) vary side told) entry h in
+      let t = is-told vary side told m.value m.read in
       let who_is = caller-told script.connectors who by keeps.connectors called in
       let words : tail_of (ask_words cmd_words script asked) ≡ 32 ∷ done =
       sym (ap tail_of (is.asks script asked)) ∙ makes.1 in

@@ -148,14 +148,16 @@ module _ {C R : Type 0} (of : Ask C → AnyAsk) (cmd_words : Script → C → Li
   Made by asked = MakesCommand script on by done asked × StandsAs script.connectors asked done
 
   call-if : (by : ConnId) (asked : Ask C) (o : Option (Entry C R)) → Some by ≡ caller_of connectors who
-      → Made by (of asked) → o ≡ call_entry connectors (answers connectors) n by (asked_side (of asked)) asked told → IfSome o Found
+      → Made by (of asked) → o ≡ call_entry connectors (answers connectors) n by (asked_side (of asked)) asked told
+      → IfSome o Found
   call-if by asked None called makes h = tt
   call-if by asked (Some entry) called makes h =
       let known : caller_of script.connectors who ≡ Some by =
       ap (λ (names : List Name16). caller_of names who) (sym named) ∙ sym called in
-      let read = subst (λ (names : List Name16). Some entry ≡ call_entry names (answers names) n by (asked_side (of asked)) asked told) named h in
-      call-found of cmd_words answer_words answers In is script on keeps line n who done told by asked entry cut known makes
-      (sym read)
+      let read = subst (λ (names : List Name16).
+      Some entry ≡ call_entry names (answers names) n by (asked_side (of asked)) asked told) named h in
+      call-found of cmd_words answer_words answers In is script on keeps line n who done told by asked entry cut known
+      makes (sym read)
 
   mark-if : (cf : CfId) (o : Option (Entry C R)) → who ≡ codes "SYS"
       → (done ≡ codes "LOST " ++ facility_word cf) × IsFacility cf

@@ -338,7 +338,8 @@ module _ {C R : Type 0} (of : Ask C → AnyAsk) (cmd_words : Script → C → Li
       let read : reply_value script.connectors (answers script.connectors) false Common told ≡ Some r =
       told-read false Common r in_r ∙ (is.reads script.connectors keeps.connectors false Common).back r in_r
       (mark-named script.connectors (answers script.connectors) r h.2) in
-      let alone : (reply_value script.connectors (answers script.connectors) false Common told >>= loss_alone) ≡ Some r =
+      let alone : (reply_value script.connectors (answers script.connectors) false Common told >>= loss_alone)
+      ≡ Some r =
       ap (λ (o : Option (Reply R)). o >>= loss_alone) read ∙ loss-alone script.connectors r h.2 in
       record {
         number = n;
@@ -403,7 +404,8 @@ module _ {C R : Type 0} (of : Ask C → AnyAsk) (cmd_words : Script → C → Li
           none l.cf l.facility same.2)
 
       pub no_loss : {E : Type 0} (cf : CfId) (r : Result (Option (Entry C R)) E)
-          → IfOk r (λ x. x ≡ mark_entry connectors (answers connectors) n cf told) → IfOk r (λ x. IfNone x (Unread line))
+          → IfOk r (λ x. x ≡ mark_entry connectors (answers connectors) n cf told)
+          → IfOk r (λ x. IfNone x (Unread line))
       no_loss {E} cf r h =
           if_ok_more r (λ x. x ≡ mark_entry connectors (answers connectors) n cf told) (λ x. IfNone x (Unread line))
           (λ x made. when_none x (Unread line) (λ none. unread line no-call (λ l.
@@ -411,8 +413,8 @@ module _ {C R : Type 0} (of : Ask C → AnyAsk) (cmd_words : Script → C → Li
           let make : Reply R → Entry C R =
           λ answer. (record { no = n; by = operator; what = what.Lost cf; reply = answer }) in
           let value = reply_value script.connectors (answers script.connectors) false Common told >>= loss_alone in
-          let read : IsSome value = subst (λ (t : List ℕ). IsSome (reply_value script.connectors (answers script.connectors)
-          false Common t >>= loss_alone)) (sym same.3) l.read in
+          let read : IsSome value = subst (λ (t : List ℕ). IsSome (reply_value script.connectors
+          (answers script.connectors) false Common t >>= loss_alone)) (sym same.3) l.read in
           let here : None ≡ option_map make value = subst (λ (names : List Name16).
           None ≡ mark_entry {C = C} names (answers names) n cf told) named (none ∙ made) in
           none-mapped make value here read))) h
@@ -453,7 +455,8 @@ module _ {C R : Type 0} (of : Ask C → AnyAsk) (cmd_words : Script → C → Li
               few = subst (λ (b : ConnId). b.0 ≤ length script.connectors) by_is l.few;
               stands = subst (λ (d : List ℕ). StandsAs script.connectors (of l.asked) d) (sym same.2) l.stands;
               read = subst (λ (t : List ℕ). IsSome (reply_value script.connectors (answers script.connectors)
-                  (is_of_vary (let w : What C = what.Call l.asked in w)) (asked_side (of l.asked)) t)) (sym same.3) l.read;
+                  (is_of_vary (let w : What C = what.Call l.asked in w)) (asked_side (of l.asked)) t))
+                  (sym same.3) l.read;
             }
 
         abbrev Made : AnyAsk → Type 0
@@ -493,7 +496,8 @@ module _ {C R : Type 0} (of : Ask C → AnyAsk) (cmd_words : Script → C → Li
               let value = reply_value script.connectors (answers script.connectors)
               (is_of_vary (let w : What C = what.Call asked in w)) (asked_side (of asked)) told in
               let read : IsSome value = subst (λ (a : Ask C). IsSome (reply_value script.connectors
-              (answers script.connectors) (is_of_vary (let w : What C = what.Call a in w)) (asked_side (of a)) told)) same
+              (answers script.connectors) (is_of_vary (let w : What C = what.Call a in w)) (asked_side (of a)) told))
+              same
               (is-done l).read in
               let here : None ≡ option_map make value = subst (λ (names : List Name16).
               None ≡ call_entry names (answers names) n by (asked_side (of asked)) asked told) named (none ∙ given) in

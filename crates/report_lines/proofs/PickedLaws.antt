@@ -59,12 +59,12 @@ module _ {C R : Type 0} (of : Ask C → AnyAsk) (cmd_words : Script → C → Li
   picked-call n done told by asked entry makes h =
       let vary = is_of_vary (let w : What C = what.Call asked in w) in
       let make : Reply R → Entry C R = λ answer. (record { no = n; by = by; what = what.Call asked; reply = answer }) in
-      let m = mapped make (reply_value script.connectors (answers script.connectors) vary (asked_side (of asked)) told) entry h
-      in
+      let side = asked_side (of asked) in
+      let m = mapped make (reply_value script.connectors (answers script.connectors) vary side told) entry h in
       let words = stands-line (any_words script.connectors (of asked)) done makes.1 in
       let made = subst (λ (t : List ℕ). MakesCommand script on by t (of asked)) (sym words) makes.0 in
       subst (λ (e : Entry C R). IsPicked of answer_words answers script on e) m.made
-      (made, picked-reply vary (asked_side (of asked)) told m.value m.read)
+      (made, picked-reply vary side told m.value m.read)
 
   picked-mark : (n : ℕ) (told : List ℕ) (cf : CfId) (entry : Entry C R)
       → mark_entry script.connectors (answers script.connectors) n cf told ≡ Some entry
@@ -91,7 +91,8 @@ module _ {C R : Type 0} (of : Ask C → AnyAsk) (cmd_words : Script → C → Li
         → o ≡ call_entry connectors (answers connectors) n by (asked_side (of asked)) asked told → IfSome o Picked
     call-picked by asked None makes h = tt
     call-picked by asked (Some entry) makes h =
-        let read = subst (λ (names : List Name16). Some entry ≡ call_entry names (answers names) n by (asked_side (of asked)) asked told) named h in
+        let read = subst (λ (names : List Name16).
+        Some entry ≡ call_entry names (answers names) n by (asked_side (of asked)) asked told) named h in
         picked-call n done told by asked entry makes (sym read)
 
     mark-picked : (cf : CfId) (o : Option (Entry C R)) → o ≡ mark_entry connectors (answers connectors) n cf told

@@ -25,17 +25,21 @@ module _ {R : Type 0} (connectors : List Name16) (answers : Answers R) (In : R �
       (ap line_of f.0 ∙ spaced-line text spaced, f.1)) (λ _ none. not_some r none) h
 
   -- the words of a reply in range are words
-  some-words : (r : Reply R) (o : Option (Reply R)) → reply_at connectors answers vary side (reply_words connectors answers vary r) ≡ o
+  some-words : (r : Reply R) (o : Option (Reply R))
+      → reply_at connectors answers vary side (reply_words connectors answers vary r) ≡ o
       → IsSome o → list_all is_word (reply_words connectors answers vary r) ≡ true
   some-words r None e some = absurd (cc)
   some-words r (Some other) e some = (is.forth (reply_words connectors answers vary r) other e).2
 
-  pub reply-good : (r : Reply R) → IsReply connectors In r → list_all is_word (reply_words connectors answers vary r) ≡ true
-  reply-good r h = some-words r (reply_at connectors answers vary side (reply_words connectors answers vary r)) refl (is.some r h)
+  pub reply-good : (r : Reply R) → IsReply connectors In r
+      → list_all is_word (reply_words connectors answers vary r) ≡ true
+  reply-good r h = some-words r (reply_at connectors answers vary side (reply_words connectors answers vary r)) refl
+      (is.some r h)
 
   pub reply-told : (text : List ℕ) (r : Reply R) → IsReply connectors In r
       → line_of (reply_words connectors answers vary r) ≡ text
-      → reply_value connectors answers vary side text ≡ reply_at connectors answers vary side (reply_words connectors answers vary r)
+      → reply_value connectors answers vary side text
+      ≡ reply_at connectors answers vary side (reply_words connectors answers vary r)
   reply-told text r h e =
       let ws = reply_words connectors answers vary r in
       let words = reply-good r h in

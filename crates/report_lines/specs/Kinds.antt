@@ -17,8 +17,8 @@ has_words (word ∷ words) = true
 
 -- commands and replies of a kind of structure, as they are printed and read
 pub record IsKind {C R : Type 0} (of : Ask C → AnyAsk) (cmd_words : Script → C → List (List ℕ))
-    (answer_words : Script → R → List (List ℕ)) (answers : List Name16 → Answers R) (In : List Name16 → R → Type 0) : Type 0
-  where
+    (answer_words : Script → R → List (List ℕ)) (answers : List Name16 → Answers R) (In : List Name16 → R → Type 0)
+    : Type 0 where
     pub asks : (script : Script) (asked : Ask C)
         → any_words script.connectors (of asked) ≡ ask_words cmd_words script asked
     pub printed : (script : Script) (r : R) → (answers script.connectors).words r ≡ answer_words script r

@@ -20,8 +20,8 @@ use Rattle.reply_rows.specs.Sides.{asked_side}
 use Rattle.report_lines.specs.Entries.{any_words}
 use Rattle.report_lines.specs.Parts.{reply_value}
 
-module _ {C R : Type 0} (of : Ask C → AnyAsk) (answer_words : Script → R → List (List ℕ)) (answers : List Name16 → Answers R)
-    (script : Script) (on : StrNo) where
+module _ {C R : Type 0} (of : Ask C → AnyAsk) (answer_words : Script → R → List (List ℕ))
+    (answers : List Name16 → Answers R) (script : Script) (on : StrNo) where
   -- the reply is what is read of its words behind a command of this side
   abbrev pub IsPickedReply : Bool → Side → Reply R → Type 0
   IsPickedReply vary side answer =

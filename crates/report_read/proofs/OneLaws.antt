@@ -142,8 +142,8 @@ module _ {X : Type 0} (lines : ℕ → X → Lines) (P : ℕ → X → Type 0) (
 
 module _ (script : Script) (keeps : KeepsLimits script) where
   module _ {C R : Type 0} (of : Ask C → AnyAsk) (cmd_words : Script → C → Lines) (answer_words : Script → R → Lines)
-      (answers : List Name16 → Answers R) (In : List Name16 → R → Type 0) (is : IsKind of cmd_words answer_words answers In)
-      (x : ℕ) where
+      (answers : List Name16 → Answers R) (In : List Name16 → R → Type 0)
+      (is : IsKind of cmd_words answer_words answers In) (x : ℕ) where
     abbrev on : StrNo
     on = record { 0 = x }
 
@@ -155,9 +155,10 @@ module _ (script : Script) (keeps : KeepsLimits script) where
     both entries h p = λ j d low. (h j d low, p j d low)
 
     entries_same : (one other : List (Entry C R)) (us vs : Lines) → length one < 2 ^ 64 → length other < 2 ^ 64
-        → All (IsEntry of In script on) one → All (IsEntry of In script on) other → All (IsPicked of answer_words
-        answers script on) one → All (IsPicked of answer_words answers script on) other → entry_lines cmd_words answer_words
-        script x one ++ us ≡ entry_lines cmd_words answer_words script x other ++ vs → (one ≡ other) × (us ≡ vs)
+        → All (IsEntry of In script on) one → All (IsEntry of In script on) other
+        → All (IsPicked of answer_words answers script on) one → All (IsPicked of answer_words answers script on) other
+        → entry_lines cmd_words answer_words script x one ++ us
+        ≡ entry_lines cmd_words answer_words script x other ++ vs → (one ≡ other) × (us ≡ vs)
     entries_same one other us vs small small' h k p q e = block_same (codes "HISTORY") (structure_name script x)
         (entry_line cmd_words answer_words script) Fits (λ a b f g same. one_entry of cmd_words answer_words answers
         In is script on keeps a b f.0 g.0 f.1 g.1 same) one other us vs small small' (both one h p) (both other k q) e
