@@ -1,6 +1,6 @@
 -- What the next entry of a history does: whoever may use the content is connected to an instance that stands.
 use Rattle.run_laws.proofs.Imports.{arith, ◌≡◌, true, Option, None, Some, List, [], ◌∷◌, ◌++◌, refl, append_assoc, append-nil, StrForm, ConnId, is_active, actives, Entry, replay, after_what, Continues, IsNext, Meaning, Ask, What, Refusal, Machine, unless, content_done, with_entered, AcceptedOf, Shell, shape_of, if_failed, content_cause, third_none, not_so, manned-replay, active_of, active_member, first_none, somebody_member, accepted_as, replay-push, stands_in}
-use Rattle.plex_board.proofs.ShellLaws.{Moves.Change, Changes.changed, Answered.reply_for, Answered.continues-answered}
+use Rattle.shell_laws.proofs.{Moves.Change, Changes.changed, Answered.reply_for, Answered.continues-answered}
 
 module _ {C R I S : Type 0} (meaning : Meaning C R I S) (form : StrForm) where
   -- a command on the content that the shell doesn't refuse finds an instance

@@ -1,18 +1,23 @@
 -- What accepted commands are answered, read off the rows.
-use Rattle.run_laws.proofs.Imports.{arith, ◌≡◌, ℕ, true, List, Option, Some, option_map, unwrap_or, refl, ap, CacheCmd, CacheReply, StrForm, Name16, ConnId, next_reply, replay, Machine, Change, Done, Quiet, What, CacheItem, Content, cache_meaning, row_of, row_or_new, new_row, reply_copy, copy_in, reply as answer_to, copy-row_or_new, CacheHistory, content_after, Ask, Reply}
-use Rattle.plex_board.proofs.ShellLaws.Changes.{changed}
-use Rattle.plex_board.specs.CacheModel.Commands.Castout as castout
-use Rattle.plex_board.specs.CacheModel.Commands.Read as read
+use Rattle.run_laws.proofs.Imports.{arith, ◌≡◌, ℕ, true, List, Option, Some, option_map, unwrap_or, refl, ap, CacheCmd, CacheReply, StrForm, Name16, ConnId, next_reply, replay, Machine, Change, Done, Quiet, What, CacheItem, Content, altered_caches, row_of, row_or_new, new_row, reply_copy, copy_in, reply as answer_to, copy-row_or_new, CacheHistory, content_after, Ask, Reply, AlterCmd, AlterReply, AlterContent}
+use Rattle.shell_laws.proofs.Changes.{changed}
+use Rattle.cache_model.specs.Commands.Castout as castout
+use Rattle.cache_model.specs.Commands.Read as read
+
+-- the cache is asked this
+abbrev asked : CacheCmd → What (AlterCmd CacheCmd)
+asked cmd = What.Call (Ask.Content (AlterCmd.Inner cmd))
 
 -- an accepted command is answered as the content says
 pub answer-content : (form : StrForm) (history : CacheHistory) (by : ConnId) (cmd : CacheCmd) (answer : CacheReply)
-    → next_reply cache_meaning form history by (Ask.Content cmd) ≡ Reply.Content answer
+    → next_reply altered_caches form history by (Ask.Content (AlterCmd.Inner cmd)) ≡ Reply.Content (AlterReply.Inner answer)
     → answer ≡ answer_to (content_after form history) by cmd
 answer-content form history by cmd answer told = by_change
-    (rw told at (changed cache_meaning form refl (replay cache_meaning form history) by (What.Call (Ask.Content cmd))))
+    (rw told at (changed altered_caches form refl (replay altered_caches form history) by (asked cmd)))
   where
-    by_change : {after : Machine Content} → Change cache_meaning form (replay cache_meaning form history) after by
-        (What.Call (Ask.Content cmd)) (Reply.Content answer) → answer ≡ answer_to (content_after form history) by cmd
+    by_change : {after : Machine (AlterContent Content)} → Change altered_caches form
+        (replay altered_caches form history) after by (asked cmd) (Reply.Content (AlterReply.Inner answer))
+        → answer ≡ answer_to (content_after form history) by cmd
     by_change (Done command accepted fine e) = grind arith
     by_change (Quiet none move) = absurd cc
 

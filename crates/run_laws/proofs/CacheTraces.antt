@@ -1,5 +1,5 @@
 -- What connectors hold after a history of a cache: where they are registered, what the rows have.
-use Rattle.run_laws.proofs.Imports.{arith, ◌≡◌, ℕ, Bool, ◌&&◌, ◌==◌, cond, [], ◌∷◌, ◌++◌, Option, None, Some, unwrap_or, refl, ◌∙◌, subst, fold_push, CacheCmd, Caps, StrForm, ConnId, Refusal, Continues, unless_refused, Content, IsOrderly, cache_meaning, Copy, Copies, Deed, Deed, after_deed, copies_done, copies_unless, copies_after, Calls, Leaves, cause, done, reply as answer_to, Fresh, AllFresh, each_weaker, deed-fresh, IsSeen, traced-replay, traced-seen, legal-answered, copy_at, copy_of, copy_held, cache_in, CacheEntry, CacheHistory, Accepted, acceptance_of, content_after}
+use Rattle.run_laws.proofs.Imports.{arith, ◌≡◌, ℕ, Bool, ◌&&◌, ◌==◌, cond, [], ◌∷◌, ◌++◌, Option, None, Some, unwrap_or, refl, ◌∙◌, subst, fold_push, CacheCmd, Caps, StrForm, ConnId, Refusal, Continues, unless_refused, Content, IsOrderly, cache_meaning, Copy, Copies, Deed, Deed, after_deed, copies_done, copies_unless, copies_after, Calls, Leaves, cause, done, reply as answer_to, Fresh, AllFresh, each_weaker, deed-fresh, IsSeen, traced-replay, traced-seen, legal-answered, copy_at, copy_of, copy_held, cache_in, CacheEntry, CacheHistory, Accepted, acceptance_of, content_after, altered_caches}
 use Rattle.run_laws.proofs.Seen.{cache_seen}
 use Rattle.run_laws.proofs.UniqueLaws.{orderly-kept}
 
@@ -70,7 +70,7 @@ quiet_deed form history entry content deed quiet is same = quiet_fresh form hist
     (after_deed form.vector content deed)) same (deed-fresh form.vector content (copy_held history)
     deed is.orderly.directory is.fresh))
 
-traced : (form : StrForm) → IsSeen cache_meaning cache_meaning form (cache_seen form) IsTrace
+traced : (form : StrForm) → IsSeen altered_caches cache_meaning form (cache_seen form) IsTrace
 traced form = record {
   none = record { orderly = (orderly-kept form).empty; fresh = tt };
   done = λ history entry at content command told none is. record {
@@ -93,9 +93,9 @@ traced form = record {
 abbrev pub HasTrace : StrForm → CacheHistory → Type 0
 HasTrace form history = AllFresh (content_after form history) (copy_held history)
 
-pub trace-continues : (form : StrForm) (history : CacheHistory) → Continues cache_meaning form [] history
+pub trace-continues : (form : StrForm) (history : CacheHistory) → Continues altered_caches form [] history
     → HasTrace form history
-trace-continues form history goes = (traced-replay cache_meaning form refl
+trace-continues form history goes = (traced-replay altered_caches form refl
     (λ before content. IsTrace before (cache_in content))
-    (traced-seen cache_meaning cache_meaning form (cache_seen form) IsTrace (traced form)) history
-    (legal-answered cache_meaning form refl history goes)).fresh
+    (traced-seen altered_caches cache_meaning form (cache_seen form) IsTrace (traced form)) history
+    (legal-answered altered_caches form refl history goes)).fresh

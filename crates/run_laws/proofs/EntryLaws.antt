@@ -1,6 +1,6 @@
 -- A command asks for the records alone.
 use Rattle.run_laws.proofs.Imports.{arith, ◌≡◌, List, [], ◌∷◌, refl, ap, ◌∙◌, Caps, LockCmd, ConnId, Shape, step_at, replies_of}
-use Rattle.plex_board.specs.{LockModel.Contents.Content, LockModel.Step.cause}
+use Rattle.lock_model.specs.{Contents.Content, Step.cause}
 
 cause_agrees : (a b : Caps) → a.elements ≡ b.elements → (content : Content) (by : ConnId) (cmd : LockCmd)
     → cause a content by cmd ≡ cause b content by cmd

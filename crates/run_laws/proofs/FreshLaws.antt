@@ -1,5 +1,5 @@
 -- A bit that stands tells a fresh copy.
-use Rattle.run_laws.proofs.Imports.{arith, ◌≡◌, ℕ, true, [], ◌++◌, Option, None, Some, is_some, take, drop, append-nil, refl, sym, ap, ◌∙◌, subst, IsTrue, option_and_then, find, false≢true, take-append-drop, Read, StrForm, ConnId, Tells, stands_after, continues_legal, any_is_found, all_found, is_at, registered_at, CacheItem, Content, cache_meaning, is_row_of, row_of, has_row, reply_copy, row_copy, fresh-at, copy_held, IsAsRead, IsFresh, TellsFresh, CacheHistory, IsLegalCache, content_after, Bool, List, StrNo, AnyHistory, Script, Shown, Transcript, surest_on, ShowsHistories, TellsBit, TellsOf, place_of, BitTellsFresh, TellsFreshBy, ShowsFresh}
+use Rattle.run_laws.proofs.Imports.{arith, ◌≡◌, ℕ, true, [], ◌++◌, Option, None, Some, is_some, take, drop, append-nil, refl, sym, ap, ◌∙◌, subst, IsTrue, option_and_then, find, false≢true, take-append-drop, Read, StrForm, ConnId, Tells, stands_after, continues_legal, any_is_found, all_found, is_at, registered_at, CacheItem, Content, altered_caches, is_row_of, row_of, has_row, reply_copy, row_copy, fresh-at, copy_held, IsAsRead, IsFresh, TellsFresh, CacheHistory, IsLegalCache, content_after, Bool, List, StrNo, AnyHistory, Script, Shown, Transcript, surest_on, ShowsHistories, TellsBit, TellsOf, place_of, BitTellsFresh, TellsFreshBy, ShowsFresh, inl, inr, last_call_below}
 use Rattle.run_laws.proofs.{Allocated.continues_both, CacheTraces.HasTrace, CacheTraces.trace-continues}
 use Rattle.run_laws.proofs.{CacheReplies.answer-content, CacheReplies.copy-read, UniqueLaws.orderly_replay}
 
@@ -10,7 +10,7 @@ some_found None e = absurd (false≢true e)
 some_found (Some x) e = (x, refl)
 
 fresh-trace : (form : StrForm) (history : CacheHistory) (conn : ConnId) (index : ℕ) → HasTrace form history
-    → stands_after cache_meaning form history conn index ≡ true → IsFresh form history conn index
+    → stands_after altered_caches form history conn index ≡ true → IsFresh form history conn index
 fresh-trace form history conn index trace stands =
     let content : Content = content_after form history in
     let is = orderly_replay form history in
@@ -34,8 +34,8 @@ fresh-trace form history conn index trace stands =
 
 pub trace-legal : (form : StrForm) (front others : CacheHistory) → IsLegalCache form (front ++ others)
     → HasTrace form front
-trace-legal form front others legal = trace-continues form front (continues_both cache_meaning form [] front others
-    (continues_legal cache_meaning form (front ++ others) legal)).0
+trace-legal form front others legal = trace-continues form front (continues_both altered_caches form [] front others
+    (continues_legal altered_caches form (front ++ others) legal)).0
 
 trace-take : (form : StrForm) (history : CacheHistory) (n : ℕ) → IsLegalCache form history
     → HasTrace form (take n history)
@@ -44,18 +44,29 @@ trace-take form history n legal = trace-legal form (take n history)
 
 -- after a legal history each bit that stands tells a fresh copy
 pub fresh_copy : (form : StrForm) (history : CacheHistory) → IsLegalCache form history → (conn : ConnId) (index : ℕ)
-    → IsTrue (stands_after cache_meaning form history conn index) → IsFresh form history conn index
+    → IsTrue (stands_after altered_caches form history conn index) → IsFresh form history conn index
 fresh_copy form history legal conn index stands = fresh-trace form history
     conn index (trace-legal form history [] (subst (IsLegalCache form) (sym (append-nil history)) legal)) stands
 
 -- a test that tells that the bit stands tells a fresh copy
 pub fresh_test : (form : StrForm) (history : CacheHistory) → IsLegalCache form history → (n q : ℕ) (conn : ConnId)
-    (index : ℕ) → Tells cache_meaning form history n q conn index true → TellsFresh form history n q conn index
-fresh_test form history legal n q conn index tells = grind (arith, fresh-trace, trace-take)
+    (index : ℕ) → Tells altered_caches form history n q conn index true → TellsFresh form history n q conn index
+fresh_test form history legal n q conn index tells = record {
+  point = tells.point;
+  seen = tells.seen;
+  fresh = elim tells.stood [
+    | inl stood ↦ inl (stood_fresh n (sym stood))
+    | inr (late, stood) ↦ inr (late, stood_fresh (last_call_below history n) (sym stood))
+  ];
+}
+  where
+    stood_fresh : (m : ℕ) → stands_after altered_caches form (take m history) conn index ≡ true
+        → IsFresh form (take m history) conn index
+    stood_fresh m stood = fresh-trace form (take m history) conn index (trace-take form history m legal) stood
 
 -- and so an accepted READ of its name, by anyone, is answered with what is held
 pub copy_as_read : (form : StrForm) (history : CacheHistory) → IsLegalCache form history → (conn : ConnId) (index : ℕ)
-    → IsTrue (stands_after cache_meaning form history conn index) → IsAsRead form history conn index
+    → IsTrue (stands_after altered_caches form history conn index) → IsAsRead form history conn index
 copy_as_read form history legal conn index stands =
     let fresh = fresh_copy form history legal conn index stands in
     let rows = (content_after form history).rows in
@@ -75,7 +86,7 @@ bit_fresh : (form : StrForm) (entries : CacheHistory) (conn : ConnId)
 bit_fresh form entries conn on before at index bit legal tells stood =
     let sure : ℕ = surest_on on before in
     fresh_test form entries legal at sure conn index
-    (subst (λ (b : Bool). Tells cache_meaning form entries at sure conn index b) stood tells.tells)
+    (subst (λ (b : Bool). Tells altered_caches form entries at sure conn index b) stood tells.tells)
 
 item_fresh : (form : StrForm) (entries : CacheHistory)
     (conn : ConnId) (on : StrNo) (before : List Shown) (item : Shown) → IsLegalCache form entries

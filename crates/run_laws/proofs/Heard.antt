@@ -1,7 +1,8 @@
 -- The calls of a legal history are heard under their numbers.
+use Rattle.std.proofs.lemmas.List.{map-map}
 use Rattle.std.proofs.lemmas.List.Elements.{Contains-append_right}
-use Rattle.plex_board.proofs.ListModel.ListLaws.{in-found}
-use Rattle.run_laws.proofs.Imports.{◌≡◌, ℕ, ◌≤◌, ◌==◌, Bool, List, [], ◌∷◌, filter, Some, subst, arith, Contains, nat_tests, StrForm, numbered_legal, cache_meaning, list_meaning, lock_meaning, AnyHistory, AnyCall, any_calls, any_length, call_numbered, IsAnyLegal, IsAnyPoint, Rising, any_numbers, numbers_of, numbers_any, Every, found_passes, map-append, eqb-true}
+use Rattle.list_model.proofs.ListLaws.{in-found}
+use Rattle.run_laws.proofs.Imports.{◌≡◌, ℕ, ◌≤◌, ◌==◌, Bool, List, [], ◌∷◌, filter, Some, subst, arith, Contains, nat_tests, StrForm, numbered_legal, altered_caches, queued_lists, lock_meaning, AnyHistory, AnyCall, any_calls, any_length, call_numbered, IsAnyLegal, IsAnyPoint, Rising, any_numbers, Every, found_passes, map-append, eqb-true, map, AnyAsk, any_call, calls}
 
 -- each of these is the call with its number
 abbrev pub AreHeard : List AnyCall → List AnyCall → Type 0
@@ -30,6 +31,10 @@ pub heard_each : (low : ℕ) (calls : List AnyCall) → Rising low calls → Are
 heard_each low [] rise = tt
 heard_each low (call ∷ calls) rise = grind (arith, nat_tests, heard_longer, heard_each call.no calls rise.1)
 
+-- the numbers of calls
+abbrev pub numbers_of : List AnyCall → List ℕ
+numbers_of some = map (λ call. call.no) some
+
 -- a call that is found under a number has it
 found_in : (number : ℕ) (calls : List AnyCall) (call : AnyCall) → call_numbered number calls ≡ Some call
     → Contains (numbers_of calls) number
@@ -41,14 +46,23 @@ found_in number calls call e =
 
 -- the numbers of a legal history's calls are within its length
 pub any_within : (form : StrForm) (h : AnyHistory) → IsAnyLegal form h → (n : ℕ) → IsAnyPoint h n → n ≤ any_length h
-any_within form (AnyHistory.Cache entries) legal = (numbered_legal cache_meaning form entries legal).within
-any_within form (AnyHistory.List entries) legal = (numbered_legal list_meaning form entries legal).within
+any_within form (AnyHistory.Cache entries) legal = (numbered_legal altered_caches form entries legal).within
+any_within form (AnyHistory.List entries) legal = (numbered_legal queued_lists form entries legal).within
 any_within form (AnyHistory.Lock entries) legal = (numbered_legal lock_meaning form entries legal).within
 
 point_from : (h : AnyHistory) (n : ℕ) → Contains (any_numbers h) n → IsAnyPoint h n
 point_from h n there = grind arith
 
+-- as their callers hear of them
+heard_number : (h : AnyHistory) (n : ℕ) → Contains (numbers_of (any_calls h)) n → Contains (any_numbers h) n
+heard_number (AnyHistory.Cache entries) n there = subst (λ (ns : List ℕ). Contains ns n)
+    (map-map (λ (call : AnyCall). call.no) (any_call AnyAsk.Cache) (calls entries)) there
+heard_number (AnyHistory.List entries) n there = subst (λ (ns : List ℕ). Contains ns n)
+    (map-map (λ (call : AnyCall). call.no) (any_call AnyAsk.List) (calls entries)) there
+heard_number (AnyHistory.Lock entries) n there = subst (λ (ns : List ℕ). Contains ns n)
+    (map-map (λ (call : AnyCall). call.no) (any_call AnyAsk.Lock) (calls entries)) there
+
 pub heard_within : (form : StrForm) (h : AnyHistory) → IsAnyLegal form h → (number : ℕ) (call : AnyCall)
     → call_numbered number (any_calls h) ≡ Some call → number ≤ any_length h
-heard_within form h legal number call found = any_within form h legal number (point_from h
-    number (subst (λ (ns : List ℕ). Contains ns number) (numbers_any h) (found_in number (any_calls h) call found)))
+heard_within form h legal number call found = any_within form h legal number
+    (point_from h number (heard_number h number (found_in number (any_calls h) call found)))

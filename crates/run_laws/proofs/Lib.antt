@@ -21,6 +21,7 @@ pub mod FreshLaws
 pub mod Allocated
 pub mod Pages
 pub mod CacheApplyLaws
+pub mod AlterReplies
 mod CacheChecks
 pub mod VersionReplay
 pub mod OwnerReplay

@@ -1,5 +1,5 @@
 -- Where the links of what is no facility answered nothing, each mark names a facility.
-use Rattle.run_laws.proofs.Imports.{◌≡◌, ◌+◌, ◌⊎◌, Bool, true, List, [], ◌∷◌, refl, ap, ◌∙◌, arith, if◌then◌else◌, cases_lt, nat_tests, IsFacility, StrForm, CfId, What, Entry, is_mark_as, marks_at, trues, marks_counted, cache_meaning, list_meaning, lock_meaning, AnyHistory, IsAnyLegal, any_answers, NamesFacility, NamesFacilities, MarksFacilities}
+use Rattle.run_laws.proofs.Imports.{◌≡◌, ◌+◌, ◌⊎◌, Bool, true, List, [], ◌∷◌, refl, ap, ◌∙◌, arith, if◌then◌else◌, cases_lt, nat_tests, IsFacility, StrForm, CfId, What, Entry, is_mark_as, marks_at, trues, marks_counted, altered_caches, queued_lists, lock_meaning, AnyHistory, IsAnyLegal, NamesFacility, NamesFacilities, MarksFacilities, answers}
 
 facility_or : (cf : CfId) → IsFacility cf ⊎ (¬ IsFacility cf)
 facility_or cf = grind (arith, cases_lt)
@@ -27,11 +27,17 @@ module _ {C R : Type 0} where
   all_named (entry ∷ entries) none =
       (first_named entry entries entry.what refl none, all_named entries (rest_none entry entries none))
 
+-- what the link to a facility answered
+abbrev pub answers_of : StrForm → AnyHistory → CfId → List Bool
+answers_of form (AnyHistory.Cache entries) cf = answers altered_caches form entries cf
+answers_of form (AnyHistory.List entries) cf = answers queued_lists form entries cf
+answers_of form (AnyHistory.Lock entries) cf = answers lock_meaning form entries cf
+
 pub marks_facilities : (form : StrForm) (entries : AnyHistory) → IsAnyLegal form entries
-    → ((cf : CfId) → ¬ IsFacility cf → any_answers form entries cf ≡ []) → MarksFacilities entries
+    → ((cf : CfId) → ¬ IsFacility cf → answers_of form entries cf ≡ []) → MarksFacilities entries
 marks_facilities form (AnyHistory.Cache entries) legal none =
-    all_named entries (λ cf other. marks_counted cache_meaning form entries legal cf ∙ ap trues (none cf other))
+    all_named entries (λ cf other. marks_counted altered_caches form entries legal cf ∙ ap trues (none cf other))
 marks_facilities form (AnyHistory.List entries) legal none =
-    all_named entries (λ cf other. marks_counted list_meaning form entries legal cf ∙ ap trues (none cf other))
+    all_named entries (λ cf other. marks_counted queued_lists form entries legal cf ∙ ap trues (none cf other))
 marks_facilities form (AnyHistory.Lock entries) legal none =
     all_named entries (λ cf other. marks_counted lock_meaning form entries legal cf ∙ ap trues (none cf other))

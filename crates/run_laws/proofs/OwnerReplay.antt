@@ -1,8 +1,8 @@
 -- After every history, and after every command, any two owners of one resource are compatible.
 use Rattle.run_laws.proofs.Imports.{◌≡◌, ℕ, ◌+◌, ◌≤◌, Bool, List, [], ◌∷◌, Option, None, refl, sym, subst, arith, fold, nat_tests, Caps, StrForm, LockCmd, ConnId, Refusal, Held, Shape, first_refusal, OwnersAreCompatible, records_in, lock_meaning, departure_of, with_returned, records_refusal, none_hold, led_departed, content-returned, compatible-interests, IsKept, kept-replay, Returns, LockHistory, unless_false}
-use Rattle.plex_board.specs.LockModel.Contents.{Content, IsContent, no_content}
-use Rattle.plex_board.specs.LockModel.Step.{cause, done}
-use Rattle.plex_board.proofs.{LockModel.CommandLaws.content-done, LockModel.EngineLaws.content-nothing}
+use Rattle.lock_model.specs.Contents.{Content, IsContent, no_content}
+use Rattle.lock_model.specs.Step.{cause, done}
+use Rattle.lock_model.proofs.{CommandLaws.content-done, EngineLaws.content-nothing}
 use Rattle.run_laws.specs.LockApplied.{Deed, IsHeldAfter, after_deed, content_applied}
 use Rattle.run_laws.specs.{LockApplied.Deed.Calls, LockApplied.Deed.Leaves, LockHistories.content_after}
 

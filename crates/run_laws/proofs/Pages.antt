@@ -1,8 +1,12 @@
 -- A page that was written as changed and isn't cast out is kept.
-use Rattle.run_laws.proofs.Imports.{arith, ◌≡◌, Bool, true, false, ◌&&◌, ◌||◌, cond, List, [], ◌∷◌, ◌++◌, Option, None, Some, is_some, unwrap_or, option_map, append_assoc, append-nil, refl, sym, ◌∙◌, subst, option_and_then, list_any, false≢true, and_from, or_parts, CacheCmd, Read, Write, Castout, Unlock, CacheReply, Caps, StrForm, Name16, ConnId, Refusal, unless_refused, same_name, Reply, What, replay, Continues, Machine, continues_legal, same_name-eq, CacheItem, Content, IsOrderly, cache_meaning, Deed, after_deed, Calls, Leaves, cause, done, Uncast, Uncasts, uncast_cast, uncast_unlocked, uncast_written, uncast_done, uncast_unless, uncast_after, AllKept, deed-kept, accepted_as, Move, Change, Done, Quiet, stands_in, Same, Left, Returned, Forgotten, Cleared, CacheEntry, CacheHistory, Accepted, acceptance_of, is_accepted, is_allocated, IsLegalCache, StaysAllocated, content_after, Page, page_in, page_written, is_changed_write, deletes, casts_out, unlocks, HasNone, is_cast_out, IsUncast, HasPage, IsAnswered, cache_in, cache_told, Sees, DoneInside, AsCommand, AsNothing, shape_of, Forgets, ap}
+use Rattle.run_laws.proofs.Imports.{arith, ◌≡◌, Bool, true, false, ◌&&◌, ◌||◌, cond, List, [], ◌∷◌, ◌++◌, Option, None, Some, is_some, unwrap_or, option_map, append_assoc, append-nil, refl, sym, ◌∙◌, subst, option_and_then, list_any, false≢true, and_from, or_parts, CacheCmd, Read, Write, Castout, Unlock, CacheReply, Caps, StrForm, Name16, ConnId, Refusal, unless_refused, same_name, Reply, What, replay, Continues, Machine, continues_legal, same_name-eq, CacheItem, Content, IsOrderly, altered_caches, Deed, after_deed, Calls, Leaves, cause, done, Uncast, Uncasts, uncast_cast, uncast_unlocked, uncast_written, uncast_done, uncast_unless, uncast_after, AllKept, deed-kept, accepted_as, Move, Change, Done, Quiet, stands_in, Same, Left, Returned, Forgotten, Cleared, CacheEntry, CacheHistory, Accepted, acceptance_of, is_accepted, is_allocated, IsLegalCache, StaysAllocated, content_after, Page, page_in, page_written, is_changed_write, deletes, casts_out, unlocks, HasNone, is_cast_out, IsUncast, HasPage, IsAnswered, cache_in, cache_told, Sees, DoneInside, AsCommand, AsNothing, shape_of, Forgets, ap, AlterCmd, AlterReply, AlterContent, AcceptedOf, cache_meaning}
 use Rattle.run_laws.proofs.Seen.{cache_seen}
 use Rattle.run_laws.proofs.CacheReplies.{answer-content, read-changed, castout-changed}
 use Rattle.run_laws.proofs.{Allocated.continues_both, Allocated.next-change, Allocated.next-stands, UniqueLaws.orderly_replay}
+
+-- an accepted command of the structure
+abbrev AlterAccepted : Type 0
+AlterAccepted = AcceptedOf (AlterCmd CacheCmd) (AlterReply CacheReply)
 
 -- a page, and whether a CASTOUT of it was accepted since it was written
 abbrev uncast_page : Page → Bool → Uncast
@@ -83,37 +87,38 @@ module _ (form : StrForm) (name : Name16) (page : Page) where
   -- ---- one entry
 
   -- the cache's command that an entry tells
-  abbrev seen_as : What CacheCmd → Reply CacheReply → Option Accepted
+  abbrev seen_as : What (AlterCmd CacheCmd) → Reply (AlterReply CacheReply) → Option Accepted
   seen_as told answer = option_and_then cache_told (accepted_as told answer)
 
-  abbrev sees : Sees cache_meaning cache_meaning form
+  abbrev sees : Sees altered_caches cache_meaning form
   sees = cache_seen form
 
   -- what an entry tells and does
-  module _ (before after : Machine Content) (by : ConnId) (told : What CacheCmd) (answer : Reply CacheReply)
+  module _ (before after : Machine (AlterContent Content)) (by : ConnId) (told : What (AlterCmd CacheCmd))
+      (answer : Reply (AlterReply CacheReply))
       (is : IsOrderly (cache_in before.content)) where
     -- a command of the structure, by what it does to the cache
-    module _ (caps : Caps) (command : CacheCmd) (accepted : accepted_as told answer ≡ Some (record {
+    module _ (caps : Caps) (command : AlterCmd CacheCmd) (accepted : accepted_as told answer ≡ Some (record {
       command = command;
-      answer = (cache_meaning.done (shape_of form) caps before.content by command).reply;
-    })) (then : after.content ≡ (cache_meaning.done (shape_of form) caps before.content by command).state) where
+      answer = (altered_caches.done (shape_of form) caps before.content by command).reply;
+    })) (then : after.content ≡ (altered_caches.done (shape_of form) caps before.content by command).state) where
       abbrev Inside : Type 0
-      Inside = DoneInside cache_meaning cache_meaning form cache_in cache_told caps before.content by command
+      Inside = DoneInside altered_caches cache_meaning form cache_in cache_told caps before.content by command
 
       abbrev replied : Caps → CacheCmd → CacheReply
       replied at seen = (cache_meaning.done (shape_of form) at (cache_in before.content) by seen).reply
 
       seen_is : (at : Caps) (seen : CacheCmd) → cache_told (record {
         command = command;
-        answer = (cache_meaning.done (shape_of form) caps before.content by command).reply;
+        answer = (altered_caches.done (shape_of form) caps before.content by command).reply;
       }) ≡ told_as seen (replied at seen) → seen_as told answer ≡ told_as seen (replied at seen)
-      seen_is at seen tells = ap (λ (o : Option Accepted). option_and_then cache_told o) accepted ∙ tells
+      seen_is at seen tells = ap (λ (o : Option AlterAccepted). option_and_then cache_told o) accepted ∙ tells
 
       none_is : cache_told (record {
         command = command;
-        answer = (cache_meaning.done (shape_of form) caps before.content by command).reply;
+        answer = (altered_caches.done (shape_of form) caps before.content by command).reply;
       }) ≡ None → seen_as told answer ≡ None
-      none_is tells = ap (λ (o : Option Accepted). option_and_then cache_told o) accepted ∙ tells
+      none_is tells = ap (λ (o : Option AlterAccepted). option_and_then cache_told o) accepted ∙ tells
 
       wrote_inside : Inside → page_of (seen_as told answer) ≡ Some page → Keeps (cache_in after.content) false
       wrote_inside (AsCommand at seen tells fine e) wrote = keeps_done at (cache_in before.content)
@@ -136,7 +141,7 @@ module _ (form : StrForm) (name : Name16) (page : Page) where
           subst (λ (o : Option Accepted). Keeps (cache_in after.content) (cast_then o cast)) (sym (none_is tells))
           (subst (λ (c : Content). Keeps c cast) (sym (ap cache_in then ∙ e)) keeps)
 
-    wrote_by : Change cache_meaning form before after by told answer → page_of (seen_as told answer) ≡ Some page
+    wrote_by : Change altered_caches form before after by told answer → page_of (seen_as told answer) ≡ Some page
         → Keeps (cache_in after.content) false
     wrote_by (Done command accepted fine e) wrote = wrote_inside before.shell.caps command accepted e
         (sees.done before.shell.caps before.content by command fine) wrote
@@ -150,7 +155,7 @@ module _ (form : StrForm) (name : Name16) (page : Page) where
       kept_deed deed e own = keeps_deed (cache_in before.content) (cache_in after.content) cast keeps.uncast deed is
           keeps.all e (own ∙ keeps.own)
 
-      kept_move : Move cache_meaning form before after by told → Keeps (cache_in after.content) cast
+      kept_move : Move altered_caches form before after by told → Keeps (cache_in after.content) cast
       kept_move (Same e) = subst (λ (c : Content). Keeps c cast) (sym (ap cache_in e)) keeps
       kept_move (Left who command asked leaves e) =
           kept_deed (Leaves who.conn) (ap cache_in e ∙ sees.leave before.content who.conn who.keep) refl
@@ -159,7 +164,7 @@ module _ (form : StrForm) (name : Name16) (page : Page) where
       kept_move (Forgotten e) = kept_deed Forgets (ap cache_in e ∙ sees.forget before.content) refl
       kept_move (Cleared e gone) = absurd (false≢true (sym gone ∙ stand))
 
-      kept_by : Change cache_meaning form before after by told answer → Spares (seen_as told answer) cast
+      kept_by : Change altered_caches form before after by told answer → Spares (seen_as told answer) cast
           → Keeps (cache_in after.content) (cast_then (seen_as told answer) cast)
       kept_by (Done command accepted fine e) spares = kept_inside before.shell.caps command accepted e cast keeps
           (sees.done before.shell.caps before.content by command fine) spares
@@ -177,7 +182,7 @@ module _ (form : StrForm) (name : Name16) (page : Page) where
       → (cast ≡ true → unlock || any ≡ false) → cond casts true cast ≡ true → any ≡ false
   no_unlock casts cast unlock any none before e = grind (arith, or_parts)
 
-  kept_along : (history since : CacheHistory) (cast : Bool) → Continues cache_meaning form history since
+  kept_along : (history since : CacheHistory) (cast : Bool) → Continues altered_caches form history since
       → Keeps (content_after form history) cast → is_allocated form history ≡ true → HasNone (is_changed_write name)
       since → HasNone (is_accepted (deletes name)) since → StaysAllocated form history since → is_cast_out name since
       ≡ false → (cast ≡ true → HasNone (is_accepted (unlocks name)) since) → HasPage form (history ++ since) name page
@@ -189,17 +194,17 @@ module _ (form : StrForm) (name : Name16) (page : Page) where
       let casting = or_parts (is_accepted (casts_out name) entry && list_any (is_accepted (unlocks name)) since)
       (is_cast_out name since) out in
       let spares : Spares (acceptance_of entry) cast = grind (arith, or_parts) in
-      let next = kept_by (replay cache_meaning form history) (replay cache_meaning form (history ++ entry ∷ []))
+      let next = kept_by (replay altered_caches form history) (replay altered_caches form (history ++ entry ∷ []))
       entry.by entry.what entry.reply (orderly_replay form history)
-      cast keeps (and_from _ _ stood stays.0) (next-change cache_meaning form history entry goes.0 refl) spares in
+      cast keeps (and_from _ _ stood stays.0) (next-change altered_caches form history entry goes.0 refl) spares in
       subst (λ (h : CacheHistory). HasPage form h name page) (append_assoc history (entry ∷ []) since)
       (kept_along (history ++ entry ∷ []) since (cast_then (acceptance_of entry) cast) goes.1 next stays.0 write.1
       delete.1 stays.1 casting.1 (no_unlock _ cast _ _ casting.0 unlocks'))
 
   -- ---- the law
 
-  accepted_page : (told : Option Accepted) → page_of (option_and_then cache_told told) ≡ Some page
-      → (one : Accepted) × (told ≡ Some one)
+  accepted_page : (told : Option AlterAccepted) → page_of (option_and_then cache_told told) ≡ Some page
+      → (one : AlterAccepted) × (told ≡ Some one)
   accepted_page told wrote = grind arith
 
   kept_since : (before since : CacheHistory) (write : CacheEntry) → IsLegalCache form (before ++ write ∷ since)
@@ -207,14 +212,14 @@ module _ (form : StrForm) (name : Name16) (page : Page) where
       → HasNone (is_accepted (deletes name)) since → StaysAllocated form (before ++ write ∷ []) since
       → is_cast_out name since ≡ false → HasPage form (before ++ write ∷ since) name page
   kept_since before since write legal wrote last not_deleted allocated not_cast_out =
-      let goes = (continues_both cache_meaning form [] before (write ∷ since)
-      (continues_legal cache_meaning form (before ++ write ∷ since) legal)).1 in
-      let keeps = wrote_by (replay cache_meaning form before)
-      (replay cache_meaning form (before ++ write ∷ [])) write.by write.what
-      write.reply (orderly_replay form before) (next-change cache_meaning form before write goes.0 refl) wrote in
+      let goes = (continues_both altered_caches form [] before (write ∷ since)
+      (continues_legal altered_caches form (before ++ write ∷ since) legal)).1 in
+      let keeps = wrote_by (replay altered_caches form before)
+      (replay altered_caches form (before ++ write ∷ [])) write.by write.what
+      write.reply (orderly_replay form before) (next-change altered_caches form before write goes.0 refl) wrote in
       let told = accepted_page (accepted_as write.what write.reply) wrote in
       subst (λ (h : CacheHistory). HasPage form h name page) (append_assoc before (write ∷ []) since)
-      (kept_along (before ++ write ∷ []) since false goes.1 keeps (next-stands cache_meaning form before write goes.0
+      (kept_along (before ++ write ∷ []) since false goes.1 keeps (next-stands altered_caches form before write goes.0
       told.0 told.1) last not_deleted allocated not_cast_out (λ e. absurd (false≢true e)))
 
 -- a page that isn't cast out is kept

@@ -1,8 +1,8 @@
 -- A transcript that follows a script tells, for each structure, that the caller's calls there are its works.
-use Rattle.run_laws.proofs.Imports.{◌≡◌, ℕ, ◌+◌, ◌<◌, ◌==◌, Bool, true, false, List, [], ◌∷◌, ◌++◌, map, filter, cond, Option, Some, inl, inr, suc, take, drop, length, slice_get, refl, sym, ap, subst, ◌∙◌, arith, append_assoc, append-nil, append_cancel_left, map-append, take-append-drop, MatchBool, nat_tests, filter_map-append, Kind, StrForm, ConnId, StrNo, Told, Step, AnyHistory, AnyAsk, Act, Line, Script, Shown, first_step, step_after, asked_by, call_of, AnyCall, call_numbered, calls_on, IsHeard, Runs, ShowsAct, ShowsLines, ShowsClosing, ShowsClosings, Follows, lines_of, is_linked_by, number_on, numbers_on, numbers_of, nat_le, every_front, every_back}
+use Rattle.run_laws.proofs.Imports.{◌≡◌, ℕ, ◌+◌, ◌<◌, ◌==◌, Bool, true, false, List, [], ◌∷◌, ◌++◌, map, filter, cond, Option, Some, inl, inr, suc, take, drop, length, slice_get, refl, sym, ap, subst, ◌∙◌, arith, append_assoc, append-nil, append_cancel_left, map-append, take-append-drop, MatchBool, nat_tests, filter_map-append, Kind, StrForm, ConnId, StrNo, Told, Step, AnyHistory, AnyAsk, Act, Line, Script, Shown, first_step, step_after, asked_by, call_of, AnyCall, call_numbered, calls_on, IsHeard, Runs, ShowsAct, ShowsLines, ShowsClosing, ShowsClosings, Follows, lines_of, is_linked_by, number_on, numbers_on, nat_le, every_front, every_back}
 use Rattle.std.proofs.lemmas.List.{take_all, take-map, take-append-le}
 use Rattle.run_laws.proofs.CountLaws.{none_shown, act_runs, act_few, closing_few, closings_few}
-use Rattle.run_laws.proofs.{Heard.AreHeard, Works.Work, Works.work_of, Works.closing, Works.works, Works.Consumes, Works.Plays}
+use Rattle.run_laws.proofs.{Heard.AreHeard, Heard.numbers_of, Works.Work, Works.work_of, Works.closing, Works.works, Works.Consumes, Works.Plays}
 
 -- ---- one line
 

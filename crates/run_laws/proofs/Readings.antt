@@ -1,6 +1,6 @@
 -- A report can be read in one way.
-use Rattle.run_laws.proofs.Imports.{◌≡◌, ℕ, suc, ◌≤◌, ◌<◌, ◌==◌, ◌^◌, List, [], ◌∷◌, ◌++◌, length, map, Option, Some, None, slice_get, refl, sym, ap, subst, ◌∙◌, arith, codes, slice_get_within, get_within, StrForm, StrNo, AnyHistory, Script, Shown, Transcript, AnyCall, any_calls, call_numbered, own_calls, calls_of, calls_on, length_of, length_on, Follows, numbers_on, numbers_of, IsAnyLegal, Rising, calls_rise, caller_name, connector_line, transcript_lines, shown_line, structures_lines, histories_lines, transcripts_lines, Reading, IsReading, IsOnlyReading, report_of, AgentEnd}
-use Rattle.run_laws.proofs.Heard.{AreHeard, heard_each, heard_own, heard_within}
+use Rattle.run_laws.proofs.Imports.{◌≡◌, ℕ, suc, ◌≤◌, ◌<◌, ◌==◌, ◌^◌, List, [], ◌∷◌, ◌++◌, length, map, Option, Some, None, slice_get, refl, sym, ap, subst, ◌∙◌, arith, codes, slice_get_within, get_within, StrForm, StrNo, AnyHistory, Script, Shown, Transcript, AnyCall, any_calls, call_numbered, own_calls, calls_of, calls_on, length_of, length_on, Follows, numbers_on, IsAnyLegal, Rising, calls_rise, caller_name, connector_line, transcript_lines, shown_line, structures_lines, histories_lines, transcripts_lines, Reading, IsReading, IsOnlyReading, report_of, AgentEnd}
+use Rattle.run_laws.proofs.Heard.{AreHeard, heard_each, heard_own, heard_within, numbers_of}
 use Rattle.run_laws.proofs.Histories.{IsPlayedAt, IsRight, histories_same}
 use Rattle.run_laws.proofs.Items.{IsBounded, AreBounded, follows_same}
 use Rattle.run_laws.proofs.Cuts.{text_of, same_behind, same_heading, all_same}

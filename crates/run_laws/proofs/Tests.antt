@@ -1,6 +1,14 @@
 -- A report that shows histories, whose tests tell what stood, shows numbers of at most 64 bits.
-use Rattle.run_laws.proofs.Imports.{◌≡◌, ℕ, zero, suc, ◌+◌, ◌*◌, ◌≤◌, ◌<◌, ◌&&◌, ◌^◌, nat_lt, List, [], ◌∷◌, ◌++◌, length, Option, Some, slice_get, sym, subst, arith, nat_tests, slice_get_within, get_within, Kind, StrForm, ConnId, StrNo, Step, AnyHistory, AnyAsk, Act, Line, Script, Shown, Transcript, step_after, AnyCall, any_length, Runs, ShowsAct, ShowsLines, ShowsClosing, ShowsClosings, Follows, word_below, IsHistoryOf, ShowsHistories, Reading, ShowsNumbers, IsReading, report_of, MarksFacilities, AgentEnd}
+use Rattle.run_laws.proofs.Imports.{◌≡◌, ℕ, zero, suc, ◌+◌, ◌*◌, ◌≤◌, ◌<◌, ◌&&◌, ◌^◌, nat_lt, List, [], ◌∷◌, ◌++◌, length, Option, Some, slice_get, sym, subst, arith, nat_tests, slice_get_within, get_within, Kind, StrForm, ConnId, StrNo, Step, AnyHistory, AnyAsk, Act, Line, Script, Shown, Transcript, step_after, AnyCall, any_length, Runs, ShowsAct, ShowsLines, ShowsClosing, ShowsClosings, Follows, IsHistoryOf, ShowsHistories, Reading, ShowsNumbers, IsReading, report_of, MarksFacilities, AgentEnd, sum_by, Bool, if◌then◌else◌, pow-suc, numbers_from}
 use Rattle.run_laws.proofs.{Histories.legal_point, Sizes.short_at}
+
+-- ---- words
+
+-- the worths of bits from a place on
+bits_below : (bits : ℕ → Bool) (first n : ℕ)
+    → sum_by (λ k. if bits k then 2 ^ k else 0) (numbers_from first n) + 2 ^ first ≤ 2 ^ (first + n)
+bits_below bits first zero = omega arith
+bits_below bits first (suc n) = grind (arith, pow-suc, bits_below bits (first + 1) n)
 
 -- ---- where tests are
 
@@ -88,7 +96,7 @@ module _ (limit : ℕ) (script : Script) (reading : Reading) (shows : ShowsHisto
       let tells = shows.tests c transcript there k (Shown.Word on word bits at) form it.0 e known it.1 in
       let first = tells.each 0 (omega arith) (omega (arith, inside)) in
       let low : at ≤ any_length it.0 = grind (arith, legal_point) in (
-        omega (arith, tells.made, word_below (λ j. nat_lt (32 * word + j) form.vector && tells.bits j) 32),
+        omega (arith, tells.made, bits_below (λ j. nat_lt (32 * word + j) form.vector && tells.bits j) 0 32),
         omega (arith, low, short_at script reading short on.0 it.0 it.1),
       )
   numbers_at c k transcript _ there e placed = tt

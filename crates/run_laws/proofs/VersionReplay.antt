@@ -1,12 +1,12 @@
 -- After every legal history the version of each record is 1 plus the number of its updates.
-use Rattle.run_laws.proofs.Imports.{◌≡◌, ℕ, zero, suc, ◌+◌, ◌<◌, ◌≤◌, ◌==◌, ◌&&◌, Bool, true, false, cond, List, [], ◌∷◌, ◌++◌, Option, Some, None, option_map, length, length-append, append_assoc, append-nil, filter-append, nat_lt, replicate, refl, sym, ap, ◌∙◌, subst, arith, fold, list_all, and_parts, and_from, eqb-true, nat_tests, list_all-append, list_any-append, list_all-map, length-map, map-append, Caps, StrForm, ListCmd, Update, ConnId, EntryId, Shape, Held, shape_of, continues_legal, list_all-filter, list_all_weaker, all_found, found_passes, list_all-insertion, Record, Lists, all_records, lists_without, replaced_by, headers_of, the_record, with_record, list_meaning, causes, the_record-in, with-all, each-records, one-records, all-without, all-map, IsSeen, traced-replay, traced-seen, list_in, legal-answered, ListEntry, ListHistory, told_by, told_in, IsLegalList, told_from, told_then, makes, updates, AreVersioned, IsVersioned, none_hold}
+use Rattle.run_laws.proofs.Imports.{◌≡◌, ℕ, zero, suc, ◌+◌, ◌<◌, ◌≤◌, ◌==◌, ◌&&◌, Bool, true, false, cond, List, [], ◌∷◌, ◌++◌, Option, Some, None, option_map, length, length-append, append_assoc, append-nil, filter-append, nat_lt, replicate, refl, sym, ap, ◌∙◌, subst, arith, fold, list_all, and_parts, and_from, eqb-true, nat_tests, list_all-append, list_any-append, list_all-map, length-map, map-append, Caps, StrForm, ListCmd, Update, ConnId, EntryId, Shape, Held, shape_of, continues_legal, list_all-filter, list_all_weaker, all_found, found_passes, list_all-insertion, Record, Lists, all_records, lists_without, replaced_by, headers_of, the_record, with_record, list_meaning, causes, the_record-in, with-all, each-records, one-records, all-without, all-map, IsSeen, traced-replay, traced-seen, list_in, legal-answered, ListEntry, ListHistory, told_by, told_in, IsLegalList, told_from, told_then, makes, updates, AreVersioned, IsVersioned, none_hold, queued_lists}
 use Rattle.run_laws.proofs.Seen.{list_seen}
 use Rattle.std.proofs.lemmas.List.Sums.{length-filter, count_by-le-length}
-use Rattle.plex_board.specs.CfTypes.declared.list_commands.ListCmd.TheVariants.{Write, Move, Delete}
-use Rattle.plex_board.specs.ListModel.Contents.{Content, no_content}
-use Rattle.plex_board.specs.ListModel.Commands.Update as update
-use Rattle.plex_board.specs.ListModel.Commands.Move as move
-use Rattle.plex_board.specs.ListModel.Step.{cause, done}
+use Rattle.cf_types.specs.declared.list_commands.ListCmd.TheVariants.{Write, Move, Delete}
+use Rattle.list_model.specs.Contents.{Content, no_content}
+use Rattle.list_model.specs.Commands.Update as update
+use Rattle.list_model.specs.Commands.Move as move
+use Rattle.list_model.specs.Step.{cause, done}
 use Rattle.run_laws.specs.ListHistories.{Told, content_after}
 use Rattle.run_laws.specs.ListApplied.{Deed, IsHeldAfter, after_deed, told_of, content_applied}
 use Rattle.run_laws.specs.ListApplied.Deed.{Calls}
@@ -179,7 +179,7 @@ quiet_longer : (history : ListHistory) (entry : ListEntry) (content : Content) �
     → IsGoodTrace history content → IsGoodTrace (history ++ entry ∷ []) content
 quiet_longer history entry content none are = longer history entry None content none (quiet_told _ _ _ are)
 
-traced : (form : StrForm) → IsSeen list_meaning list_meaning form (list_seen form) IsGoodTrace
+traced : (form : StrForm) → IsSeen queued_lists list_meaning form (list_seen form) IsGoodTrace
 traced form = record {
   none = none_good [] (shape_of form);
   done = grind (arith, longer, done_told);
@@ -193,9 +193,9 @@ traced form = record {
 pub versions_replay : (form : StrForm) (history : ListHistory) → IsLegalList form history
     → length history < 4294967295 → AreVersioned (told_in history) (content_after form history).lists
 versions_replay form history legal few = versioned (told_in history) (content_after form history)
-    (traced-replay list_meaning form refl (λ before content. IsGoodTrace before (list_in content))
-    (traced-seen list_meaning list_meaning form (list_seen form) IsGoodTrace (traced form)) history
-    (legal-answered list_meaning form refl history (continues_legal list_meaning form history legal)))
+    (traced-replay queued_lists form refl (λ before content. IsGoodTrace before (list_in content))
+    (traced-seen queued_lists list_meaning form (list_seen form) IsGoodTrace (traced form)) history
+    (legal-answered queued_lists form refl history (continues_legal queued_lists form history legal)))
     (omega (arith, few, length-map history told_by))
 
 -- ---- after every command

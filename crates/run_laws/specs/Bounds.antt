@@ -1,11 +1,11 @@
 -- How many calls a script can bring to a structure, and how many entries they make.
 use Rattle.std.specs.Prelude.{ℕ, ◌+◌, ◌*◌, ◌≤◌, ◌==◌, if◌then◌else◌, List, length, sum_by}
-use Rattle.plex_board.specs.CfTypes.declared.numbers.StrNo.{StrNo}
-use Rattle.plex_board.specs.PlexScript.declared.asks.AnyHistory.{AnyHistory}
-use Rattle.plex_board.specs.PlexScript.declared.scripts.Line.{Line}
-use Rattle.plex_board.specs.PlexScript.declared.scripts.Script.{Script}
-use Rattle.plex_board.specs.PlexScript.Agent.{first_step, most_asks}
-use Rattle.plex_board.specs.PlexScript.Heard.{length_on}
+use Rattle.cf_types.specs.declared.numbers.StrNo.{StrNo}
+use Rattle.plex_script.specs.declared.asks.AnyHistory.{AnyHistory}
+use Rattle.plex_script.specs.declared.scripts.Line.{Line}
+use Rattle.plex_script.specs.declared.scripts.Script.{Script}
+use Rattle.plex_script.specs.Agent.{first_step, most_asks}
+use Rattle.plex_script.specs.Heard.{length_on}
 
 -- how many calls a line makes at most: its call, and as often as it is asked again, an event round and the call; or an
 -- event round alone

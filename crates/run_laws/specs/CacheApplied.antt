@@ -1,17 +1,17 @@
 -- What a command leaves of a cache to which things were done before: commands, each at a capacity of its own,
 -- departures, and ends of registrations.
 use Rattle.std.specs.Prelude.{◌≡◌, ℕ, List, [], ◌∷◌, ◌++◌, Some, None}
-use Rattle.plex_board.specs.CfTypes.declared.cache_commands.CacheCmd.{CacheCmd}
-use Rattle.plex_board.specs.CfTypes.declared.names.Name16.{Name16}
-use Rattle.plex_board.specs.CfTypes.declared.numbers.ConnId.{ConnId}
-use Rattle.plex_board.specs.EngineApi.Meaning.{Held, answer}
-use Rattle.plex_board.specs.CacheRegs.Registrations.{registered_at}
-use Rattle.plex_board.specs.CacheModel.Contents.{Content, no_content}
-use Rattle.plex_board.specs.CacheModel.Meaning.{cache_meaning}
-use Rattle.plex_board.specs.CacheModel.Rows.{row_of}
-use Rattle.plex_board.specs.CacheModel.Runs.{Deed, Copies, after_run, copies_run, copy_in}
-use Rattle.plex_board.specs.CacheModel.Runs.Deed.{Calls}
-use Rattle.plex_board.specs.CacheModel.Uncast.{Uncasts, Kept, uncast_run}
+use Rattle.cf_types.specs.declared.cache_commands.CacheCmd.{CacheCmd}
+use Rattle.cf_types.specs.declared.names.Name16.{Name16}
+use Rattle.cf_types.specs.declared.numbers.ConnId.{ConnId}
+use Rattle.engine_api.specs.Meaning.{Held, answer}
+use Rattle.cache_model.specs.CacheRegs.Registrations.{registered_at}
+use Rattle.cache_model.specs.Contents.{Content, no_content}
+use Rattle.cache_model.specs.Meaning.{cache_meaning}
+use Rattle.cache_model.specs.Rows.{row_of}
+use Rattle.cache_model.specs.Runs.{Deed, Copies, after_run, copies_run, copy_in}
+use Rattle.cache_model.specs.Runs.Deed.{Calls}
+use Rattle.cache_model.specs.Uncast.{Uncasts, Kept, uncast_run}
 
 -- an engine that was empty at first holds this after these deeds
 abbrev pub IsHeldAfter : List Deed → Held Content → Type 0

@@ -1,54 +1,67 @@
 -- The history of a cache structure: what it leads to, and which of its entries are accepted commands on the content.
-use Rattle.std.specs.Prelude.{Bool, IsTrue, false, List, [], ◌∷◌, ◌++◌, Option, Some, is_some, option_and_then, option_map, unwrap_or}
-use Rattle.plex_board.specs.CfTypes.declared.cache_commands.CacheCmd.{CacheCmd}
-use Rattle.plex_board.specs.CfTypes.declared.cache_commands.CacheReply.{CacheReply}
-use Rattle.plex_board.specs.CfTypes.declared.forms.Caps.{Caps}
-use Rattle.plex_board.specs.CfTypes.declared.forms.StrForm.{StrForm}
-use Rattle.plex_board.specs.CfTypes.Forms.{is_cache}
-use Rattle.plex_board.specs.EngineApi.declared.histories.Entry.{Entry}
-use Rattle.plex_board.specs.EngineApi.History.{IsLegal, replay}
-use Rattle.plex_board.specs.CacheModel.Contents.{Content, IsContent}
-use Rattle.plex_board.specs.CacheModel.Meaning.{cache_meaning}
-use Rattle.plex_board.specs.ShellLaws.Accepted.{Accepted as AcceptedOf, accepted_as}
+use Rattle.std.specs.Prelude.{Bool, IsTrue, false, List, [], ◌∷◌, ◌++◌, Option, None, Some, is_some, option_and_then, option_map, unwrap_or}
+use Rattle.cf_types.specs.declared.alter_commands.AlterCmd.{AlterCmd}
+use Rattle.cf_types.specs.declared.alter_commands.AlterCmd.TheVariants as alter
+use Rattle.cf_types.specs.declared.alter_commands.AlterReply.{AlterReply}
+use Rattle.cf_types.specs.declared.alter_commands.AlterReply.TheVariants as answers
+use Rattle.cf_types.specs.declared.cache_commands.CacheCmd.{CacheCmd}
+use Rattle.cf_types.specs.declared.cache_commands.CacheReply.{CacheReply}
+use Rattle.cf_types.specs.declared.forms.Caps.{Caps}
+use Rattle.cf_types.specs.declared.forms.StrForm.{StrForm}
+use Rattle.cf_types.specs.Forms.{is_cache}
+use Rattle.engine_api.specs.declared.histories.Entry.{Entry}
+use Rattle.engine_api.specs.History.{IsLegal, replay}
+use Rattle.cache_model.specs.Contents.{Content, IsContent}
+use Rattle.alter_model.specs.declared.contents.AlterContent.{AlterContent}
+use Rattle.alter_model.specs.Meaning.{caps_or}
+use Rattle.shell_laws.specs.Accepted.{Accepted as AcceptedOf, accepted_as}
+use Rattle.run_shown.specs.Meanings.{altered_caches}
 
 abbrev pub CacheEntry : Type 0
-CacheEntry = Entry CacheCmd CacheReply
+CacheEntry = Entry (AlterCmd CacheCmd) (AlterReply CacheReply)
 
 abbrev pub CacheHistory : Type 0
 CacheHistory = List CacheEntry
 
--- ---- the cache in a structure. What stands round a cache may have commands and a content of its own, in which the
--- cache has its part; a cache alone is the whole of both
+-- ---- the cache in a structure, whose capacity is altered round it
 
 -- the cache in a structure's content
-abbrev pub cache_in : Content → Content
-cache_in content = content
+abbrev pub cache_in : AlterContent Content → Content
+cache_in content = content.inner
 
--- the cache's command in an accepted one of the structure
-abbrev pub cache_told : AcceptedOf CacheCmd CacheReply → Option (AcceptedOf CacheCmd CacheReply)
-cache_told told = Some told
+abbrev pub told_inside : AlterCmd CacheCmd → AlterReply CacheReply → Option (AcceptedOf CacheCmd CacheReply)
+told_inside (alter.Inner command) (answers.Inner answer) = Some (record { command = command; answer = answer })
+told_inside command answer = None
+
+-- the cache's command in an accepted one of the structure, unless that alters it
+abbrev pub cache_told : AcceptedOf (AlterCmd CacheCmd) (AlterReply CacheReply) → Option (AcceptedOf CacheCmd CacheReply)
+cache_told told = told_inside told.command told.answer
 
 -- ---- what a history leads to
 
 abbrev pub IsLegalCache : StrForm → CacheHistory → Type 0
-IsLegalCache form history = IsLegal cache_meaning form history
+IsLegalCache form history = IsLegal altered_caches form history
 
 -- the directory and the registrations after a history
 abbrev pub content_after : StrForm → CacheHistory → Content
-content_after form history = cache_in (replay cache_meaning form history).content
+content_after form history = cache_in (replay altered_caches form history).content
 
 -- the capacity of its instances
 abbrev pub capacity_after : StrForm → CacheHistory → Caps
-capacity_after form history = (replay cache_meaning form history).shell.caps
+capacity_after form history = (replay altered_caches form history).shell.caps
 
--- the form being a cache's, entries and data are within that capacity
+-- the limits, where an alteration has set some, or else that capacity
+abbrev pub limits_after : StrForm → CacheHistory → Caps
+limits_after form history = caps_or (replay altered_caches form history).content.limits (capacity_after form history)
+
+-- the form being a cache's, entries and data are within them
 abbrev pub IsWithin : StrForm → CacheHistory → Type 0
 IsWithin form history =
-    IsTrue (is_cache form.kind) → IsContent (capacity_after form history) (content_after form history)
+    IsTrue (is_cache form.kind) → IsContent (limits_after form history) (content_after form history)
 
 -- an instance of the structure stands
 abbrev pub is_allocated : StrForm → CacheHistory → Bool
-is_allocated form history = is_some (replay cache_meaning form history).shell.instances.primary
+is_allocated form history = is_some (replay altered_caches form history).shell.instances.primary
 
 -- the structure isn't deallocated by these further entries: an instance stands after each of them
 abbrev pub StaysAllocated : StrForm → CacheHistory → CacheHistory → Type 0

@@ -1,19 +1,21 @@
 -- Which data a connector holds at an index of its vector, and when they are fresh.
 use Rattle.std.specs.Prelude.{◌≡◌, ℕ, ◌<◌, ◌≤◌, ◌⊎◌, ◌==◌, IsTrue, if◌then◌else◌, take, fold, Option, None, Some, option_and_then, unwrap_or}
-use Rattle.plex_board.specs.CfTypes.declared.cache_commands.CacheCmd.{CacheCmd}
-use Rattle.plex_board.specs.CfTypes.declared.cache_commands.CacheCmd.TheVariants.{Read, Write}
-use Rattle.plex_board.specs.CfTypes.declared.cache_commands.CacheReply.{CacheReply}
-use Rattle.plex_board.specs.CfTypes.declared.forms.StrForm.{StrForm}
-use Rattle.plex_board.specs.CfTypes.declared.names.Name16.{Name16}
-use Rattle.plex_board.specs.CfTypes.declared.numbers.ConnId.{ConnId}
-use Rattle.plex_board.specs.EngineApi.declared.asks.Ask.TheVariants as ask
-use Rattle.plex_board.specs.EngineApi.declared.asks.Reply.TheVariants as reply
-use Rattle.plex_board.specs.EngineApi.History.{IsPoint, last_call_below, next_reply, stands_after}
-use Rattle.plex_board.specs.CacheRegs.Registrations.{registered_at}
-use Rattle.plex_board.specs.CacheModel.declared.items.CacheItem.{CacheItem}
-use Rattle.plex_board.specs.CacheModel.Meaning.{cache_meaning}
-use Rattle.plex_board.specs.CacheModel.Rows.{row_of}
-use Rattle.plex_board.specs.CacheModel.Runs.{Copy, row_copy, reply_copy}
+use Rattle.cf_types.specs.declared.alter_commands.AlterCmd.TheVariants as alter
+use Rattle.cf_types.specs.declared.alter_commands.AlterReply.TheVariants as answers
+use Rattle.cf_types.specs.declared.cache_commands.CacheCmd.{CacheCmd}
+use Rattle.cf_types.specs.declared.cache_commands.CacheCmd.TheVariants.{Read, Write}
+use Rattle.cf_types.specs.declared.cache_commands.CacheReply.{CacheReply}
+use Rattle.cf_types.specs.declared.forms.StrForm.{StrForm}
+use Rattle.cf_types.specs.declared.names.Name16.{Name16}
+use Rattle.cf_types.specs.declared.numbers.ConnId.{ConnId}
+use Rattle.engine_api.specs.declared.asks.Ask.TheVariants as ask
+use Rattle.engine_api.specs.declared.asks.Reply.TheVariants as reply
+use Rattle.engine_api.specs.History.{IsPoint, last_call_below, next_reply, stands_after}
+use Rattle.cache_model.specs.CacheRegs.Registrations.{registered_at}
+use Rattle.cache_model.specs.declared.items.CacheItem.{CacheItem}
+use Rattle.cache_model.specs.Rows.{row_of}
+use Rattle.cache_model.specs.Runs.{Copy, row_copy, reply_copy}
+use Rattle.run_shown.specs.Meanings.{altered_caches}
 use Rattle.run_laws.specs.CacheHistories.{CacheEntry, CacheHistory, Accepted, acceptance_of, content_after}
 
 -- what a READ at the index answered, or a WRITE there wrote: data with their adjunct, or no data
@@ -40,7 +42,7 @@ copy_held history conn index = fold (λ copy entry. unwrap_or (copy_brought conn
 pub record IsFresh (form : StrForm) (history : CacheHistory) (conn : ConnId) (index : ℕ) : Type 0 where
   pub name : Name16
   pub row : CacheItem
-  pub stands : IsTrue (stands_after cache_meaning form history conn index)
+  pub stands : IsTrue (stands_after altered_caches form history conn index)
   pub registered : registered_at (content_after form history).regs conn index ≡ Some name
   pub there : row_of name (content_after form history).rows ≡ Some row
   pub same : copy_held history conn index ≡ row_copy row
@@ -50,7 +52,8 @@ pub record IsAsRead (form : StrForm) (history : CacheHistory) (conn : ConnId) (i
   pub name : Name16
   pub registered : registered_at (content_after form history).regs conn index ≡ Some name
   pub same : (by : ConnId) (at : ℕ) (old : Option Name16) (stg : ℕ) (answer : CacheReply)
-      → next_reply cache_meaning form history by (ask.Content (Read name at old stg)) ≡ reply.Content answer
+      → next_reply altered_caches form history by (ask.Content (alter.Inner (Read name at old stg)))
+      ≡ reply.Content (answers.Inner answer)
       → reply_copy answer ≡ copy_held history conn index
 
 -- a test that tells with the number n, to a connector that has seen the calls up to q complete, that its copy is

@@ -1,14 +1,14 @@
 -- Commands on a lock structure at a capacity, one after another.
 use Rattle.std.specs.Prelude.{List, [], ◌∷◌, Result}
-use Rattle.plex_board.specs.CfTypes.declared.forms.Caps.{Caps}
-use Rattle.plex_board.specs.CfTypes.declared.lock_commands.LockCmd.{LockCmd}
-use Rattle.plex_board.specs.CfTypes.declared.lock_commands.LockReply.{LockReply}
-use Rattle.plex_board.specs.CfTypes.declared.numbers.ConnId.{ConnId}
-use Rattle.plex_board.specs.CfTypes.declared.refusals.Refusal.{Refusal}
-use Rattle.plex_board.specs.EngineApi.declared.shapes.Shape.{Shape}
-use Rattle.plex_board.specs.EngineApi.Meaning.{StepResult, step_result}
-use Rattle.plex_board.specs.LockModel.Contents.{Content}
-use Rattle.plex_board.specs.LockModel.Meaning.{lock_meaning}
+use Rattle.cf_types.specs.declared.forms.Caps.{Caps}
+use Rattle.cf_types.specs.declared.lock_commands.LockCmd.{LockCmd}
+use Rattle.cf_types.specs.declared.lock_commands.LockReply.{LockReply}
+use Rattle.cf_types.specs.declared.numbers.ConnId.{ConnId}
+use Rattle.cf_types.specs.declared.refusals.Refusal.{Refusal}
+use Rattle.engine_api.specs.declared.shapes.Shape.{Shape}
+use Rattle.engine_api.specs.Meaning.{StepResult, step_result}
+use Rattle.lock_model.specs.Contents.{Content}
+use Rattle.lock_model.specs.Meaning.{lock_meaning}
 
 -- what a command answers, leaves and sends
 abbrev pub step_at : Caps → Shape → Content → ConnId → LockCmd → StepResult LockReply Content

@@ -7,6 +7,7 @@ pub mod Unique
 pub mod Copies
 pub mod Uncast
 pub mod CacheApplied
+pub mod Alters
 pub mod ListHistories
 pub mod Versions
 pub mod ListApplied

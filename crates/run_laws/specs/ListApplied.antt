@@ -1,15 +1,15 @@
 -- What a command leaves of a list structure to which things were done before: commands, each at a capacity of its own,
 -- departures, and returns.
 use Rattle.std.specs.Prelude.{◌≡◌, Bool, List, [], ◌∷◌, ◌++◌, None, Some, Result, Ok, Err, fold}
-use Rattle.plex_board.specs.CfTypes.declared.forms.Caps.{Caps}
-use Rattle.plex_board.specs.CfTypes.declared.list_commands.ListCmd.{ListCmd}
-use Rattle.plex_board.specs.CfTypes.declared.list_commands.ListReply.{ListReply}
-use Rattle.plex_board.specs.CfTypes.declared.numbers.ConnId.{ConnId}
-use Rattle.plex_board.specs.CfTypes.declared.refusals.Refusal.{Refusal}
-use Rattle.plex_board.specs.EngineApi.declared.shapes.Shape.{Shape}
-use Rattle.plex_board.specs.EngineApi.Meaning.{Held, StepResult, answer, step_result}
-use Rattle.plex_board.specs.ListModel.Contents.{Content}
-use Rattle.plex_board.specs.ListModel.Meaning.{list_meaning}
+use Rattle.cf_types.specs.declared.forms.Caps.{Caps}
+use Rattle.cf_types.specs.declared.list_commands.ListCmd.{ListCmd}
+use Rattle.cf_types.specs.declared.list_commands.ListReply.{ListReply}
+use Rattle.cf_types.specs.declared.numbers.ConnId.{ConnId}
+use Rattle.cf_types.specs.declared.refusals.Refusal.{Refusal}
+use Rattle.engine_api.specs.declared.shapes.Shape.{Shape}
+use Rattle.engine_api.specs.Meaning.{Held, StepResult, answer, step_result}
+use Rattle.list_model.specs.Contents.{Content}
+use Rattle.list_model.specs.Meaning.{list_meaning}
 use Rattle.run_laws.specs.ListHistories.{Told}
 
 pub data Deed : Type 0 where

@@ -1,36 +1,47 @@
 -- The history of a list structure: what it leads to, and which of its entries are accepted commands on the content.
-use Rattle.std.specs.Prelude.{List, Option, Some, option_and_then, map}
-use Rattle.plex_board.specs.CfTypes.declared.forms.StrForm.{StrForm}
-use Rattle.plex_board.specs.CfTypes.declared.list_commands.ListCmd.{ListCmd}
-use Rattle.plex_board.specs.CfTypes.declared.list_commands.ListReply.{ListReply}
-use Rattle.plex_board.specs.EngineApi.declared.histories.Entry.{Entry}
-use Rattle.plex_board.specs.EngineApi.History.{IsLegal, replay}
-use Rattle.plex_board.specs.ListModel.Contents.{Content}
-use Rattle.plex_board.specs.ListModel.Meaning.{list_meaning}
-use Rattle.plex_board.specs.ShellLaws.Accepted.{Accepted as AcceptedOf, accepted_as}
+use Rattle.std.specs.Prelude.{List, Option, None, Some, option_and_then, map}
+use Rattle.cf_types.specs.declared.forms.StrForm.{StrForm}
+use Rattle.cf_types.specs.declared.list_commands.ListCmd.{ListCmd}
+use Rattle.cf_types.specs.declared.list_commands.ListReply.{ListReply}
+use Rattle.cf_types.specs.declared.list_commands.QueueCmd.{QueueCmd}
+use Rattle.cf_types.specs.declared.list_commands.QueueCmd.TheVariants as queue
+use Rattle.cf_types.specs.declared.list_commands.QueueReply.{QueueReply}
+use Rattle.cf_types.specs.declared.list_commands.QueueReply.TheVariants as says
+use Rattle.engine_api.specs.declared.histories.Entry.{Entry}
+use Rattle.engine_api.specs.History.{IsLegal, replay}
+use Rattle.list_model.specs.Contents.{Content}
+use Rattle.queue_model.specs.ListQueues.{queued_lists}
+use Rattle.queue_model.specs.Meaning.{QueueState}
+use Rattle.shell_laws.specs.Accepted.{Accepted as AcceptedOf, accepted_as}
 
 abbrev pub ListEntry : Type 0
-ListEntry = Entry ListCmd ListReply
+ListEntry = Entry QueueCmd QueueReply
 
 abbrev pub ListHistory : Type 0
 ListHistory = List ListEntry
 
--- ---- the list structure's part of a content, and of accepted commands: as long as nothing stands round it, all
+-- ---- the lists in a structure, beside which queues of events stand
 
-abbrev pub list_in : Content → Content
-list_in content = content
+-- the lists in a structure's content
+abbrev pub list_in : QueueState Content → Content
+list_in content = content.inner
 
-abbrev pub list_told : AcceptedOf ListCmd ListReply → Option (AcceptedOf ListCmd ListReply)
-list_told told = Some told
+abbrev pub told_inside : QueueCmd → QueueReply → Option (AcceptedOf ListCmd ListReply)
+told_inside (queue.List command) (says.List answer) = Some (record { command = command; answer = answer })
+told_inside command answer = None
+
+-- the command on records in an accepted one of the structure, unless that is one on queues
+abbrev pub list_told : AcceptedOf QueueCmd QueueReply → Option (AcceptedOf ListCmd ListReply)
+list_told told = told_inside told.command told.answer
 
 -- ---- what a history leads to
 
 abbrev pub IsLegalList : StrForm → ListHistory → Type 0
-IsLegalList form history = IsLegal list_meaning form history
+IsLegalList form history = IsLegal queued_lists form history
 
 -- the records, limits, locks and monitors after a history
 abbrev pub content_after : StrForm → ListHistory → Content
-content_after form history = list_in (replay list_meaning form history).content
+content_after form history = list_in (replay queued_lists form history).content
 
 abbrev pub Accepted : Type 0
 Accepted = AcceptedOf ListCmd ListReply

@@ -1,13 +1,13 @@
 -- What a command leaves of a lock structure to which things were done before: commands, each at a capacity of its own,
 -- departures, and returns.
 use Rattle.std.specs.Prelude.{◌≡◌, Bool, List, fold}
-use Rattle.plex_board.specs.CfTypes.declared.forms.Caps.{Caps}
-use Rattle.plex_board.specs.CfTypes.declared.lock_commands.LockCmd.{LockCmd}
-use Rattle.plex_board.specs.CfTypes.declared.numbers.ConnId.{ConnId}
-use Rattle.plex_board.specs.EngineApi.declared.shapes.Shape.{Shape}
-use Rattle.plex_board.specs.EngineApi.Meaning.{Held, answer}
-use Rattle.plex_board.specs.LockModel.Contents.{Content}
-use Rattle.plex_board.specs.LockModel.Meaning.{lock_meaning}
+use Rattle.cf_types.specs.declared.forms.Caps.{Caps}
+use Rattle.cf_types.specs.declared.lock_commands.LockCmd.{LockCmd}
+use Rattle.cf_types.specs.declared.numbers.ConnId.{ConnId}
+use Rattle.engine_api.specs.declared.shapes.Shape.{Shape}
+use Rattle.engine_api.specs.Meaning.{Held, answer}
+use Rattle.lock_model.specs.Contents.{Content}
+use Rattle.lock_model.specs.Meaning.{lock_meaning}
 use Rattle.run_laws.specs.Entries.{step_at}
 
 pub data Deed : Type 0 where

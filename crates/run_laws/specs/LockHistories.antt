@@ -1,12 +1,12 @@
 -- The history of a lock structure, and what it leads to.
 use Rattle.std.specs.Prelude.{List}
-use Rattle.plex_board.specs.CfTypes.declared.forms.StrForm.{StrForm}
-use Rattle.plex_board.specs.CfTypes.declared.lock_commands.LockCmd.{LockCmd}
-use Rattle.plex_board.specs.CfTypes.declared.lock_commands.LockReply.{LockReply}
-use Rattle.plex_board.specs.EngineApi.declared.histories.Entry.{Entry}
-use Rattle.plex_board.specs.EngineApi.History.{replay}
-use Rattle.plex_board.specs.LockModel.Contents.{Content}
-use Rattle.plex_board.specs.LockModel.Meaning.{lock_meaning}
+use Rattle.cf_types.specs.declared.forms.StrForm.{StrForm}
+use Rattle.cf_types.specs.declared.lock_commands.LockCmd.{LockCmd}
+use Rattle.cf_types.specs.declared.lock_commands.LockReply.{LockReply}
+use Rattle.engine_api.specs.declared.histories.Entry.{Entry}
+use Rattle.engine_api.specs.History.{replay}
+use Rattle.lock_model.specs.Contents.{Content}
+use Rattle.lock_model.specs.Meaning.{lock_meaning}
 
 abbrev pub LockHistory : Type 0
 LockHistory = List (Entry LockCmd LockReply)

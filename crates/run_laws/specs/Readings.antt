@@ -1,20 +1,20 @@
 -- Readings of a report: the histories and transcripts that it may be a report of.
 use Rattle.std.specs.Prelude.{◌≡◌, ℕ, ◌+◌, ◌<◌, ◌^◌, List, [], ◌∷◌, length, slice_get, Some}
-use Rattle.plex_board.specs.CfTypes.declared.forms.StrForm.{StrForm}
-use Rattle.plex_board.specs.CfTypes.Forms.{IsFacility}
-use Rattle.plex_board.specs.EngineApi.declared.asks.What.{What}
-use Rattle.plex_board.specs.EngineApi.declared.asks.What.TheVariants as what
-use Rattle.plex_board.specs.EngineApi.declared.histories.Entry.{Entry}
-use Rattle.plex_board.specs.PlexScript.declared.asks.AnyHistory.{AnyHistory}
-use Rattle.plex_board.specs.PlexScript.declared.asks.AnyHistory.TheVariants as history
-use Rattle.plex_board.specs.PlexScript.declared.scripts.Script.{Script}
-use Rattle.plex_board.specs.PlexScript.declared.transcripts.AgentEnd.TheVariants as ended
-use Rattle.plex_board.specs.PlexScript.declared.transcripts.Shown.{Shown}
-use Rattle.plex_board.specs.PlexScript.declared.transcripts.Shown.TheVariants as shown
-use Rattle.plex_board.specs.PlexScript.declared.transcripts.Transcript.{Transcript}
-use Rattle.plex_board.specs.PlexScript.Follows.{Follows}
-use Rattle.plex_board.specs.PlexScript.Scripts.{IsScript}
-use Rattle.plex_board.specs.RunShown.Headline.{IsHistoryOf}
+use Rattle.cf_types.specs.declared.forms.StrForm.{StrForm}
+use Rattle.cf_types.specs.Forms.{IsFacility}
+use Rattle.engine_api.specs.declared.asks.What.{What}
+use Rattle.engine_api.specs.declared.asks.What.TheVariants as what
+use Rattle.engine_api.specs.declared.histories.Entry.{Entry}
+use Rattle.plex_script.specs.declared.asks.AnyHistory.{AnyHistory}
+use Rattle.plex_script.specs.declared.asks.AnyHistory.TheVariants as history
+use Rattle.plex_script.specs.declared.scripts.Script.{Script}
+use Rattle.plex_script.specs.declared.transcripts.AgentEnd.TheVariants as ended
+use Rattle.plex_script.specs.declared.transcripts.Shown.{Shown}
+use Rattle.plex_script.specs.declared.transcripts.Shown.TheVariants as shown
+use Rattle.plex_script.specs.declared.transcripts.Transcript.{Transcript}
+use Rattle.plex_script.specs.Follows.{Follows}
+use Rattle.plex_script.specs.Scripts.{IsScript}
+use Rattle.run_shown.specs.Headline.{IsHistoryOf}
 use Rattle.plex_report.specs.Report.{report}
 
 pub record Reading : Type 0 where

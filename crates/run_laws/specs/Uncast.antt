@@ -2,22 +2,25 @@
 -- has to keep them.
 use Rattle.std.specs.Prelude.{◌≡◌, ℕ, Bool, true, false, ◌&&◌, ◌||◌, if◌then◌else◌, List, [], ◌∷◌, ◌++◌, Option, None, Some, is_some, option_and_then}
 use Rattle.std.specs.List.{list_any}
-use Rattle.plex_board.specs.CfTypes.declared.cache_commands.CacheCmd.{CacheCmd}
-use Rattle.plex_board.specs.CfTypes.declared.cache_commands.CacheCmd.TheVariants.{Read, Write, Castout, Unlock, Delete}
-use Rattle.plex_board.specs.CfTypes.declared.cache_commands.CacheReply.{CacheReply}
-use Rattle.plex_board.specs.CfTypes.declared.cache_commands.CacheReply.TheVariants as replies
-use Rattle.plex_board.specs.CfTypes.declared.forms.StrForm.{StrForm}
-use Rattle.plex_board.specs.CfTypes.declared.names.Name16.{Name16}
-use Rattle.plex_board.specs.CfTypes.declared.numbers.ConnId.{ConnId}
-use Rattle.plex_board.specs.CfTypes.declared.shell_commands.ShellReply.TheVariants as answer
-use Rattle.plex_board.specs.CfTypes.Name.{same_name}
-use Rattle.plex_board.specs.EngineApi.declared.asks.Ask.TheVariants as ask
-use Rattle.plex_board.specs.EngineApi.declared.asks.Reply.{Reply}
-use Rattle.plex_board.specs.EngineApi.declared.asks.Reply.TheVariants as reply
-use Rattle.plex_board.specs.CacheModel.declared.items.CacheItem.{CacheItem}
-use Rattle.plex_board.specs.EngineApi.History.{next_reply}
-use Rattle.plex_board.specs.CacheModel.Meaning.{cache_meaning}
-use Rattle.plex_board.specs.CacheModel.Rows.{row_of}
+use Rattle.cf_types.specs.declared.alter_commands.AlterCmd.TheVariants as alter
+use Rattle.cf_types.specs.declared.alter_commands.AlterReply.{AlterReply}
+use Rattle.cf_types.specs.declared.alter_commands.AlterReply.TheVariants as answers
+use Rattle.cf_types.specs.declared.cache_commands.CacheCmd.{CacheCmd}
+use Rattle.cf_types.specs.declared.cache_commands.CacheCmd.TheVariants.{Read, Write, Castout, Unlock, Delete}
+use Rattle.cf_types.specs.declared.cache_commands.CacheReply.{CacheReply}
+use Rattle.cf_types.specs.declared.cache_commands.CacheReply.TheVariants as replies
+use Rattle.cf_types.specs.declared.forms.StrForm.{StrForm}
+use Rattle.cf_types.specs.declared.names.Name16.{Name16}
+use Rattle.cf_types.specs.declared.numbers.ConnId.{ConnId}
+use Rattle.cf_types.specs.declared.shell_commands.ShellReply.TheVariants as answer
+use Rattle.cf_types.specs.Name.{same_name}
+use Rattle.engine_api.specs.declared.asks.Ask.TheVariants as ask
+use Rattle.engine_api.specs.declared.asks.Reply.{Reply}
+use Rattle.engine_api.specs.declared.asks.Reply.TheVariants as reply
+use Rattle.cache_model.specs.declared.items.CacheItem.{CacheItem}
+use Rattle.engine_api.specs.History.{next_reply}
+use Rattle.cache_model.specs.Rows.{row_of}
+use Rattle.run_shown.specs.Meanings.{altered_caches}
 use Rattle.run_laws.specs.CacheHistories.{CacheEntry, CacheHistory, acceptance_of, is_accepted, content_after, StaysAllocated}
 
 -- what a changed WRITE wrote: the data, the adjunct, and the castout class
@@ -54,7 +57,7 @@ unlocks name (Unlock other) = same_name other name
 unlocks name _ = false
 
 -- the structure's only instance is lost
-abbrev pub is_failure_reply : Reply CacheReply → Bool
+abbrev pub is_failure_reply : Reply (AlterReply CacheReply) → Bool
 is_failure_reply (reply.Shell answer.FailedNow) = true
 is_failure_reply _ = false
 
@@ -99,8 +102,10 @@ pub record HasPage (form : StrForm) (history : CacheHistory) (name : Name16) (pa
 -- accepted READs and CASTOUTs of the name, asked next by anyone, are answered with the page
 pub record IsAnswered (form : StrForm) (history : CacheHistory) (name : Name16) (page : Page) : Type 0 where
   pub read : (by : ConnId) (index : ℕ) (old : Option Name16) (stg : ℕ) (answer : CacheReply)
-      → next_reply cache_meaning form history by (ask.Content (Read name index old stg)) ≡ reply.Content answer
+      → next_reply altered_caches form history by (ask.Content (alter.Inner (Read name index old stg)))
+      ≡ reply.Content (answers.Inner answer)
       → answer ≡ replies.Data page.body page.adj true
   pub castout : (by : ConnId) (answer : CacheReply)
-      → next_reply cache_meaning form history by (ask.Content (Castout name)) ≡ reply.Content answer
+      → next_reply altered_caches form history by (ask.Content (alter.Inner (Castout name)))
+      ≡ reply.Content (answers.Inner answer)
       → answer ≡ replies.CastData page.body page.adj

@@ -1,13 +1,13 @@
 -- The version of a record, read off what was done one after another.
 use Rattle.std.specs.Prelude.{◌≡◌, ℕ, ◌+◌, ◌==◌, ◌&&◌, Bool, IsTrue, true, false, List, ◌∷◌, ◌++◌, None, Some, length, filter}
 use Rattle.std.specs.List.{list_any}
-use Rattle.plex_board.specs.CfTypes.declared.list_commands.ListCmd.{ListCmd}
-use Rattle.plex_board.specs.CfTypes.declared.list_commands.ListCmd.TheVariants.{Write, Update}
-use Rattle.plex_board.specs.CfTypes.declared.list_commands.ListReply.{ListReply}
-use Rattle.plex_board.specs.CfTypes.declared.list_commands.ListReply.TheVariants as replies
-use Rattle.plex_board.specs.CfTypes.declared.numbers.EntryId.{EntryId}
-use Rattle.plex_board.specs.ListStore.Record.{Record}
-use Rattle.plex_board.specs.ListStore.Lists.{Lists, record_of}
+use Rattle.cf_types.specs.declared.list_commands.ListCmd.{ListCmd}
+use Rattle.cf_types.specs.declared.list_commands.ListCmd.TheVariants.{Write, Update}
+use Rattle.cf_types.specs.declared.list_commands.ListReply.{ListReply}
+use Rattle.cf_types.specs.declared.list_commands.ListReply.TheVariants as replies
+use Rattle.cf_types.specs.declared.numbers.EntryId.{EntryId}
+use Rattle.list_model.specs.ListStore.Record.{Record}
+use Rattle.list_model.specs.ListStore.Lists.{Lists, record_of}
 use Rattle.run_laws.specs.ListHistories.{Told}
 
 abbrev pub is_write : ListCmd → Bool

@@ -1,20 +1,20 @@
 ghost use Rattle.std.specs.Prelude.{ℕ, IsTrue, true, List};
-ghost use Rattle.plex_board.specs.CfTypes.declared.cache_commands.CacheCmd.{CacheCmd};
-ghost use Rattle.plex_board.specs.CfTypes.declared.names.Name16.{Name16};
-ghost use Rattle.plex_board.specs.CfTypes.declared.numbers.ConnId.{ConnId};
-ghost use Rattle.plex_board.specs.EngineApi.History.{Tells, stands_after};
-ghost use Rattle.plex_board.specs.EngineApi.Meaning.{Held};
-ghost use Rattle.plex_board.specs.CacheModel.Contents.{Content, IsOrderly};
-ghost use Rattle.plex_board.specs.CacheModel.Meaning.{cache_meaning};
-ghost use Rattle.plex_board.specs.CacheModel.Runs.{Deed, Copies};
+ghost use Rattle.cf_types.specs.declared.cache_commands.CacheCmd.{CacheCmd};
+ghost use Rattle.cf_types.specs.declared.names.Name16.{Name16};
+ghost use Rattle.cf_types.specs.declared.numbers.ConnId.{ConnId};
+ghost use Rattle.engine_api.specs.History.{Tells, stands_after};
+ghost use Rattle.engine_api.specs.Meaning.{Held};
+ghost use Rattle.cache_model.specs.Contents.{Content, IsOrderly};
+ghost use Rattle.cache_model.specs.Runs.{Deed, Copies};
+ghost use Rattle.run_shown.specs.Meanings.{altered_caches};
 ghost use Rattle.run_laws.specs.CacheApplied.{IsHeldAfter, content_applied, copies_then, uncast_then, AreFresh, AreKept};
 ghost use Rattle.run_laws.specs.Copies.{IsAsRead, IsFresh, TellsFresh};
 ghost use Rattle.run_laws.specs.CacheHistories.{IsLegalCache, IsWithin, content_after};
 ghost use Rattle.run_laws.specs.Uncast.{HasPage, IsAnswered, IsUncast, Page};
 ghost use Rattle.run_laws.specs.Unique.{IsUnique};
 
-use plex_board::api::History;
-use plex_board::types::{CacheCmd, CacheReply, StrForm};
+use engine_api::History;
+use cf_types::{AlterCmd, AlterReply, CacheCmd, CacheReply, StrForm};
 
 /// After every history of a cache a name has one entry at most, and a connector has one
 /// registration at most for an index of its vector, and one at most for a name. Rows are in their
@@ -22,7 +22,10 @@ use plex_board::types::{CacheCmd, CacheReply, StrForm};
 /// entries and data are within the capacity of its instances: that of the policy, until a rebuild's
 /// new instance takes the old one's place, and that of the rebuild from then on, until the
 /// structure is deallocated.
-pub fn unique(form: &StrForm, history: &History<CacheCmd, CacheReply>)
+pub fn unique(
+    form: &StrForm,
+    history: &History<AlterCmd<CacheCmd>, AlterReply<CacheReply>>,
+)
     ensures unique { IsUnique (content_after form.now history.now) }
     ensures orderly { IsOrderly (content_after form.now history.now) }
     ensures content { IsWithin form.now history.now }
@@ -32,22 +35,28 @@ pub fn unique(form: &StrForm, history: &History<CacheCmd, CacheReply>)
 /// that its last accepted READ_DATA or WRITE_DATA at this index answered or wrote (none where the
 /// entry had no data) are those that the entry of the registered name has now. So they are what
 /// READ_DATA of this name would answer to anyone.
-pub fn fresh_copy(form: &StrForm, history: &History<CacheCmd, CacheReply>)
+pub fn fresh_copy(
+    form: &StrForm,
+    history: &History<AlterCmd<CacheCmd>, AlterReply<CacheReply>>,
+)
     requires { IsLegalCache form.now history.now }
     ensures fresh { (conn : ConnId) (index : ℕ)
-        → IsTrue (stands_after cache_meaning form.now history.now conn index)
+        → IsTrue (stands_after altered_caches form.now history.now conn index)
         → IsFresh form.now history.now conn index }
     ensures as_read { (conn : ConnId) (index : ℕ)
-        → IsTrue (stands_after cache_meaning form.now history.now conn index)
+        → IsTrue (stands_after altered_caches form.now history.now conn index)
         → IsAsRead form.now history.now conn index }
 {}
 
 /// A test of a vector bit that tells `true` tells a fresh copy: it was fresh at the call with the
 /// number that the test tells, or, where the connector hasn't seen that call complete, before it.
-pub fn fresh_test(form: &StrForm, history: &History<CacheCmd, CacheReply>)
+pub fn fresh_test(
+    form: &StrForm,
+    history: &History<AlterCmd<CacheCmd>, AlterReply<CacheReply>>,
+)
     requires { IsLegalCache form.now history.now }
     ensures { (n q : ℕ) (conn : ConnId) (index : ℕ)
-        → Tells cache_meaning form.now history.now n q conn index true
+        → Tells altered_caches form.now history.now n q conn index true
         → TellsFresh form.now history.now n q conn index }
 {}
 
@@ -56,7 +65,10 @@ pub fn fresh_test(form: &StrForm, history: &History<CacheCmd, CacheReply>)
 /// of the structure, and no CASTOUT_DATA with its UNLOCK_CASTOUT, the name has an entry, it is
 /// changed, and it has the data, adjunct and castout class of that WRITE_DATA. So accepted
 /// READ_DATA and CASTOUT_DATA of the name answer that page.
-pub fn uncast_kept(form: &StrForm, history: &History<CacheCmd, CacheReply>)
+pub fn uncast_kept(
+    form: &StrForm,
+    history: &History<AlterCmd<CacheCmd>, AlterReply<CacheReply>>,
+)
     requires { IsLegalCache form.now history.now }
     ensures kept { (name : Name16) (page : Page) → IsUncast form.now history.now name page
         → HasPage form.now history.now name page }

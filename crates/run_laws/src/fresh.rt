@@ -1,8 +1,8 @@
 ghost use Rattle.std.specs.Prelude.{ℕ, List};
-ghost use Rattle.plex_board.specs.PlexScript.declared.asks.AnyHistory.{AnyHistory};
-ghost use Rattle.plex_board.specs.PlexScript.declared.scripts.Script.{Script};
-ghost use Rattle.plex_board.specs.PlexScript.declared.transcripts.Transcript.{Transcript};
-ghost use Rattle.plex_board.specs.RunShown.Headline.{ShowsHistories};
+ghost use Rattle.plex_script.specs.declared.asks.AnyHistory.{AnyHistory};
+ghost use Rattle.plex_script.specs.declared.scripts.Script.{Script};
+ghost use Rattle.plex_script.specs.declared.transcripts.Transcript.{Transcript};
+ghost use Rattle.run_shown.specs.Headline.{ShowsHistories};
 ghost use Rattle.run_laws.specs.Valid.{ShowsFresh};
 
 /// Whatever histories and transcripts a run shows, each test of a cache that tells VALID tells a

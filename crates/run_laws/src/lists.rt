@@ -1,19 +1,19 @@
 ghost use Rattle.std.specs.Prelude.{◌<◌, List, length};
-ghost use Rattle.plex_board.specs.CfTypes.declared.list_commands.ListCmd.{ListCmd};
-ghost use Rattle.plex_board.specs.CfTypes.declared.numbers.ConnId.{ConnId};
-ghost use Rattle.plex_board.specs.EngineApi.Meaning.{Held};
-ghost use Rattle.plex_board.specs.ListModel.Contents.{Content};
+ghost use Rattle.cf_types.specs.declared.list_commands.ListCmd.{ListCmd};
+ghost use Rattle.cf_types.specs.declared.numbers.ConnId.{ConnId};
+ghost use Rattle.engine_api.specs.Meaning.{Held};
+ghost use Rattle.list_model.specs.Contents.{Content};
 ghost use Rattle.run_laws.specs.ListApplied.{Deed, IsHeldAfter, content_applied, told_then};
 ghost use Rattle.run_laws.specs.ListHistories.{IsLegalList, content_after, told_in};
 ghost use Rattle.run_laws.specs.Versions.{AreVersioned};
 
-use plex_board::api::History;
-use plex_board::types::{ListCmd, ListReply, StrForm};
+use engine_api::History;
+use cf_types::{QueueCmd, QueueReply, StrForm};
 
 /// After every legal history of a list structure that has fewer entries than there are versions: a
 /// record's version is 1 plus the number of accepted UPDATEs that answered its id after the
 /// accepted WRITE that made it, which is the last one that answered this id.
-pub fn versions(form: &StrForm, history: &History<ListCmd, ListReply>)
+pub fn versions(form: &StrForm, history: &History<QueueCmd, QueueReply>)
     requires legal { IsLegalList form.now history.now }
     requires few { length history.now < 4294967295 }
     ensures { AreVersioned (told_in history.now) (content_after form.now history.now).lists }

@@ -1,17 +1,17 @@
 ghost use Rattle.std.specs.Prelude.{◌≡◌, Bool, List};
-ghost use Rattle.plex_board.specs.CfTypes.declared.forms.Caps.{Caps};
-ghost use Rattle.plex_board.specs.CfTypes.declared.lock_commands.LockCmd.{LockCmd};
-ghost use Rattle.plex_board.specs.CfTypes.declared.numbers.ConnId.{ConnId};
-ghost use Rattle.plex_board.specs.EngineApi.Meaning.{Held};
-ghost use Rattle.plex_board.specs.EngineApi.declared.shapes.Shape.{Shape};
-ghost use Rattle.plex_board.specs.LockModel.Contents.{Content, OwnersAreCompatible};
-ghost use Rattle.plex_board.specs.LockModel.Meaning.{lock_meaning};
+ghost use Rattle.cf_types.specs.declared.forms.Caps.{Caps};
+ghost use Rattle.cf_types.specs.declared.lock_commands.LockCmd.{LockCmd};
+ghost use Rattle.cf_types.specs.declared.numbers.ConnId.{ConnId};
+ghost use Rattle.engine_api.specs.Meaning.{Held};
+ghost use Rattle.engine_api.specs.declared.shapes.Shape.{Shape};
+ghost use Rattle.lock_model.specs.Contents.{Content, OwnersAreCompatible};
+ghost use Rattle.lock_model.specs.Meaning.{lock_meaning};
 ghost use Rattle.run_laws.specs.LockApplied.{Deed, IsHeldAfter, content_applied};
 ghost use Rattle.run_laws.specs.Entries.{step_at, replies_of};
 ghost use Rattle.run_laws.specs.LockHistories.{content_after};
 
-use plex_board::api::History;
-use plex_board::types::{LockCmd, LockReply, StrForm};
+use engine_api::History;
+use cf_types::{LockCmd, LockReply, StrForm};
 
 /// After every history of a lock structure any two owners of one resource are compatible: both
 /// share it, or they are one connector.
