@@ -1,5 +1,5 @@
 -- The calls of a connector are entries that are counted one by one.
-use Rattle.plex_load.proofs.Imports.{◌≡◌, ℕ, ◌+◌, ◌==◌, ◌&&◌, Bool, true, false, cond, List, [], ◌∷◌, length, map, refl, ◌∙◌, arith, count_by, cons_option, sum_by-cons, CacheCmd, CacheReply, ListCmd, ListReply, LockCmd, LockReply, ConnId, Ask, What, Entry, Call, call_told, calls, AnyAsk, any_call, own_calls, is_call, is_call_by}
+use Rattle.plex_load.proofs.Imports.{◌≡◌, ℕ, ◌+◌, ◌==◌, ◌&&◌, Bool, true, false, cond, List, [], ◌∷◌, length, map, refl, ◌∙◌, arith, count_by, cons_option, sum_by-cons, CacheCmd, CacheReply, AlterCmd, AlterReply, QueueCmd, QueueReply, LockCmd, LockReply, ConnId, Ask, What, Entry, Call, call_told, calls, AnyAsk, any_call, own_calls, is_call, is_call_by}
 
 module _ {C R : Type 0} (of : Ask C → AnyAsk) (conn : ConnId) where
   abbrev own_of : List (Call C R) → ℕ
@@ -22,11 +22,11 @@ module _ {C R : Type 0} (of : Ask C → AnyAsk) (conn : ConnId) where
 
 -- of each kind
 
-pub counted_cache : (conn : ConnId) (entries : List (Entry CacheCmd CacheReply))
+pub counted_cache : (conn : ConnId) (entries : List (Entry (AlterCmd CacheCmd) (AlterReply CacheReply)))
     → count_by (is_call_by conn) entries ≡ length (own_calls (map (any_call AnyAsk.Cache) (calls entries)) conn)
 counted_cache conn entries = counted AnyAsk.Cache conn entries
 
-pub counted_list : (conn : ConnId) (entries : List (Entry ListCmd ListReply))
+pub counted_list : (conn : ConnId) (entries : List (Entry QueueCmd QueueReply))
     → count_by (is_call_by conn) entries ≡ length (own_calls (map (any_call AnyAsk.List) (calls entries)) conn)
 counted_list conn entries = counted AnyAsk.List conn entries
 

@@ -9,7 +9,8 @@ pub use Rattle.plex_script.proofs.PlexPlain.Tests.{all-append, all-weaker}
 pub use Rattle.plex_script.proofs.ReadBack.{script-reads}
 pub use Rattle.plex_script.specs.CfTypes.declared.{cache_commands.CacheCmd.CacheCmd, forms.Kind.Kind, forms.Pref.Pref}
 pub use Rattle.plex_script.specs.CfTypes.declared.{cache_commands.CacheReply.CacheReply, names.Name16.Name16}
-pub use Rattle.plex_script.specs.CfTypes.declared.{list_commands.ListCmd.ListCmd, list_commands.ListReply.ListReply}
+pub use Rattle.plex_script.specs.CfTypes.declared.{alter_commands.AlterCmd.AlterCmd, alter_commands.AlterReply.AlterReply}
+pub use Rattle.plex_script.specs.CfTypes.declared.{list_commands.QueueCmd.QueueCmd, list_commands.QueueReply.QueueReply}
 pub use Rattle.plex_script.specs.CfTypes.declared.{lock_commands.LockCmd.LockCmd, lock_commands.LockReply.LockReply}
 pub use Rattle.plex_script.specs.CfTypes.declared.{numbers.ConnId.ConnId, numbers.StrNo.StrNo}
 pub use Rattle.plex_script.specs.EngineApi.History.{Call, call_told, calls}

@@ -2,6 +2,7 @@
 use Rattle.std.specs.Prelude.{ℕ, ◌+◌, ◌*◌, ◌/◌, ◌%◌, ◌==◌, zero, suc, false, if◌then◌else◌, List, [], ◌∷◌, ◌++◌, map, None, Some, codes}
 use Rattle.std.specs.Fmt.{decimal}
 use Rattle.std.specs.List.{flat_map, range_with_len}
+use Rattle.plex_script.specs.CfTypes.declared.alter_commands.AlterCmd.TheVariants as alter
 use Rattle.plex_script.specs.CfTypes.declared.cache_commands.CacheCmd.{CacheCmd}
 use Rattle.plex_script.specs.CfTypes.declared.cache_commands.CacheCmd.TheVariants as cache
 use Rattle.plex_script.specs.CfTypes.declared.forms.Kind.TheVariants as kind
@@ -89,8 +90,9 @@ page j = named (codes "N" ++ decimal j)
 abbrev pub body : ℕ → ℕ → List ℕ
 body c i = letter c ++ decimal i
 
+-- a command on the content of the cache
 abbrev pub content_call : CacheCmd → Act
-content_call cmd = act.Call (any.Cache (ask.Content cmd))
+content_call cmd = act.Call (any.Cache (ask.Content (alter.Inner cmd)))
 
 abbrev pub read : ℕ → Act
 read j = content_call (cache.Read (page j) j None 1)

@@ -2,13 +2,13 @@
 
 ghost use Rattle.std.specs.Prelude.{◌≡◌, ◌<◌, ◌≤◌, ◌++◌, IfOk, OnOk, map};
 ghost use Rattle.std.specs.List.{range_with_len};
-ghost use Rattle.plex_load.specs.Generated.{index_of, number_after, lines_each, own_line, page, body, read, write, work, connect_line, work_line, connector_lines};
+ghost use Rattle.plex_load.specs.Generated.{index_of, number_after, lines_each, own_line, page, body, content_call, read, write, work, connect_line, work_line, connector_lines};
 
 use crate::numbers::{index_of, next_number};
 use crate::policy::letter;
 use crate::texts::{data, name, numbered};
 use plex_script::api::Ask;
-use plex_script::types::{Body, CacheCmd, ConnId, Name16, NoMemory, ShellCmd, StrNo};
+use plex_script::types::{AlterCmd, Body, CacheCmd, ConnId, Name16, NoMemory, ShellCmd, StrNo};
 use plex_script::{Act, AnyAsk, Line};
 use std::alloc::Global;
 
@@ -38,16 +38,23 @@ fn body(alloc: Global, caller: u8, i: u32) -> Result<Body, NoMemory>
     data(alloc, text.as_slice())
 }
 
+// A command on the content of the cache.
+fn content_call(cmd: CacheCmd) -> Act
+    ensures { result ≡ content_call cmd }
+{
+    Act::Call(AnyAsk::Cache(Ask::Content(AlterCmd::Inner(cmd))))
+}
+
 // IXLCACHE READ_DATA: reads a page at the bit with its number.
 fn read(alloc: Global, index: u32) -> Result<Act, NoMemory>
     ensures { IfOk result (λ act. act ≡ read index) }
 {
-    Ok(Act::Call(AnyAsk::Cache(Ask::Content(CacheCmd::Read {
+    Ok(content_call(CacheCmd::Read {
         name: page(alloc, index)?,
         index,
         old: None,
         stg: 1,
-    }))))
+    }))
 }
 
 // IXLCACHE WRITE_DATA: changes a page.
@@ -55,7 +62,7 @@ fn write(alloc: Global, caller: u8, i: u32, index: u32) -> Result<Act, NoMemory>
     requires { caller < 4 }
     ensures { IfOk result (λ act. act ≡ write caller i index) }
 {
-    Ok(Act::Call(AnyAsk::Cache(Ask::Content(CacheCmd::Write {
+    Ok(content_call(CacheCmd::Write {
         name: page(alloc, index)?,
         index,
         body: body(alloc, caller, i)?,
@@ -64,7 +71,7 @@ fn write(alloc: Global, caller: u8, i: u32, index: u32) -> Result<Act, NoMemory>
         old: None,
         stg: 1,
         when_reg: false,
-    }))))
+    }))
 }
 
 // What a connector does in line i, from 1 on.

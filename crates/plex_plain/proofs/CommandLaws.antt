@@ -1,5 +1,5 @@
 -- The words of commands with options.
-use Rattle.plex_plain.proofs.Imports.{arith, ◌≡◌, ℕ, Bool, List, [], ◌∷◌, ◌++◌, Option, codes, if◌then◌else◌, Name16, Key16, Resource, CacheCmd, At, Cond, ListCmd, name_word, Literal, OnResource, all_tokens, state, option_tokens, short_tokens, Refs, StrForm, form_tokens, cache_tokens, at_tokens, cond_tokens, list_tokens, resource_word, plain_words, storage_told, class_told, castout_words, keep_word, end_word, state_word, refs_word, told_words, number_words, text_words, name_words, key_words, Kind}
+use Rattle.plex_plain.proofs.Imports.{arith, ◌≡◌, ℕ, Bool, List, [], ◌∷◌, ◌++◌, Option, codes, if◌then◌else◌, Name16, Key16, Resource, CacheCmd, AlterCmd, At, Cond, ListCmd, QueueCmd, name_word, Literal, OnResource, all_tokens, state, option_tokens, short_tokens, Refs, StrForm, form_tokens, cache_tokens, alter_tokens, at_tokens, cond_tokens, list_tokens, queue_tokens, resource_word, plain_words, storage_told, alter_storage_told, class_told, castout_words, keep_word, end_word, state_word, refs_word, told_words, number_words, text_words, name_words, key_words, Kind}
 use Rattle.std.specs.Fmt.{decimal}
 use Rattle.plex_plain.proofs.TokenLaws.{words_option, words_joined}
 
@@ -9,6 +9,12 @@ cache_in connectors cmd = plain_words [] connectors (cache_tokens (storage_told 
 
 abbrev pub list_in : List Name16 → ListCmd → List (List ℕ)
 list_in connectors cmd = plain_words [] connectors (list_tokens cmd)
+
+abbrev pub alter_in : List Name16 → AlterCmd CacheCmd → List (List ℕ)
+alter_in connectors cmd = plain_words [] connectors (alter_tokens (alter_storage_told cmd) cmd)
+
+abbrev pub queue_in : List Name16 → QueueCmd → List (List ℕ)
+queue_in connectors cmd = plain_words [] connectors (queue_tokens cmd)
 
 pub words_read : (connectors : List Name16) (name : Name16) (index : ℕ) (old : Option Name16) (stg : ℕ) → cache_in
     connectors (CacheCmd.Read name index old stg) ≡ codes "READ" ∷ name_word name ∷ decimal index ∷ (told_words

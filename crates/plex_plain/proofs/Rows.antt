@@ -1,5 +1,5 @@
 -- The tokens of each command: which they are made of, and how much room their words take.
-use Rattle.plex_plain.proofs.Imports.{◌≡◌, ℕ, Bool, true, List, [], ◌∷◌, Option, refl, arith, Resource, ShellCmd, Connect, Vary, CacheCmd, At, Cond, ListCmd, LockCmd, Token, Literal, OnResource, number, end, state, shell_tokens, class_tokens, cache_tokens, at_tokens, cond_tokens, list_tokens, lock_tokens}
+use Rattle.plex_plain.proofs.Imports.{◌≡◌, ℕ, Bool, true, List, [], ◌∷◌, Option, refl, arith, Resource, ShellCmd, Connect, Vary, CacheCmd, AlterCmd, At, Cond, ListCmd, QueueCmd, LockCmd, Token, Literal, OnResource, number, end, state, shell_tokens, class_tokens, cache_tokens, alter_tokens, at_tokens, cond_tokens, list_tokens, queue_tokens, lock_tokens}
 use Rattle.plex_plain.proofs.Said.{is_short_word}
 use Rattle.plex_plain.proofs.Rooms.{IsRow, token-first, no_tokens, row-append, row-wider, row-option, row-flag}
 
@@ -23,6 +23,10 @@ cache-row given (CacheCmd.Write name index body class adj old stg when_reg) =
     grind (arith, row-wider, row-append, class-row, row-option, row-flag, no_tokens)
 cache-row given cmd = record { plain = refl; short = omega arith }
 
+pub alter-row : (given : Option ℕ) (cmd : AlterCmd CacheCmd) → IsCommandRow (alter_tokens given cmd)
+alter-row given (AlterCmd.Inner cmd) = cache-row given cmd
+alter-row given cmd = record { plain = refl; short = omega arith }
+
 -- ---- lists
 
 at-row : (ref : At) → IsRow 195 (at_tokens ref)
@@ -45,6 +49,10 @@ list-row (ListCmd.Move ref header head key version cond) =
 list-row (ListCmd.Delete ref version cond) =
     grind (arith, row-wider, row-append, at-row, row-option, cond-row, no_tokens)
 list-row cmd = record { plain = refl; short = omega arith }
+
+pub queue-row : (cmd : QueueCmd) → IsCommandRow (queue_tokens cmd)
+queue-row (QueueCmd.List cmd) = list-row cmd
+queue-row cmd = record { plain = refl; short = omega arith }
 
 -- ---- locks
 

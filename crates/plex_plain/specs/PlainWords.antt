@@ -10,13 +10,18 @@ use Rattle.cf_types.specs.Term.{text_in_block}
 use Rattle.cf_types.specs.declared.shell_commands.ShellCmd.{ShellCmd}
 use Rattle.cf_types.specs.declared.cache_commands.CacheCmd.{CacheCmd}
 use Rattle.cf_types.specs.declared.cache_commands.CacheCmd.TheVariants.{Read, Write, CrossInval, RegList, Castout, Unlock, CoClass, CoStats, DirInfo, Delete, StgStats}
+use Rattle.cf_types.specs.declared.alter_commands.AlterCmd.{AlterCmd}
+use Rattle.cf_types.specs.declared.alter_commands.AlterCmd.TheVariants.{Inner, Start, Step, Stop}
 use Rattle.cf_types.specs.declared.list_commands.ListCmd.{ListCmd}
+use Rattle.cf_types.specs.declared.list_commands.QueueCmd.{QueueCmd}
 use Rattle.cf_types.specs.declared.lock_commands.LockCmd.{LockCmd}
 use Rattle.plex_spell.specs.Tokens.{Token, name_word}
 use Rattle.plex_spell.specs.Tokens.Token.{Literal, Number, Term, Short, Data, OnResource, Record, OfFacility, OfConnector, OfStructure, NewFacility, NewName}
 use Rattle.plex_spell.specs.ShellWords.{shell_tokens}
 use Rattle.plex_spell.specs.CacheWords.{cache_tokens}
+use Rattle.plex_spell.specs.AlterWords.{alter_tokens}
 use Rattle.plex_spell.specs.ListWords.{list_tokens}
+use Rattle.plex_spell.specs.QueueWords.{queue_tokens}
 use Rattle.plex_spell.specs.LockWords.{lock_tokens}
 use Rattle.plex_plain.specs.Naming.{facility_word, record_word, resource_word, caller_name, structure_name}
 
@@ -58,14 +63,26 @@ storage_told (DirInfo name) = None
 storage_told (Delete name) = None
 storage_told (StgStats stg) = None
 
+abbrev pub alter_storage_told : AlterCmd CacheCmd → Option ℕ
+alter_storage_told (Inner cmd) = storage_told cmd
+alter_storage_told (Start caps) = None
+alter_storage_told (Step n) = None
+alter_storage_told Stop = None
+
 abbrev pub shell_words : List Name16 → ShellCmd → List (List ℕ)
 shell_words connectors cmd = plain_words [] connectors (shell_tokens cmd)
 
 abbrev pub cache_words : CacheCmd → List (List ℕ)
 cache_words cmd = plain_words [] [] (cache_tokens (storage_told cmd) cmd)
 
+abbrev pub alter_words : AlterCmd CacheCmd → List (List ℕ)
+alter_words cmd = plain_words [] [] (alter_tokens (alter_storage_told cmd) cmd)
+
 abbrev pub list_words : ListCmd → List (List ℕ)
 list_words cmd = plain_words [] [] (list_tokens cmd)
+
+abbrev pub queue_words : QueueCmd → List (List ℕ)
+queue_words cmd = plain_words [] [] (queue_tokens cmd)
 
 abbrev pub lock_words : List Name16 → LockCmd → List (List ℕ)
 lock_words connectors cmd = plain_words [] connectors (lock_tokens cmd)

@@ -1,7 +1,7 @@
 -- What is read of what a caller does is spelled so, and what is spelled so is read.
-use Rattle.plex_script.proofs.Imports.{not_from_false, not-true, arith, ◌≡◌, ℕ, true, false, not, Option, Some, None, option_map, refl, sym, ap, ◌∙◌, ConnId, Kind, ShellCmd, CacheCmd, ListCmd, LockCmd, Ask, Shell, Content, Rigour, Declared, Spells, shell_tokens, may_give, is_operator, shell_at, cache_at, list_at, pick, not_some, mapped, Words, FindsAll, is_tail, shell-sound, shell-complete, cache-sound, cache-complete, list-sound, list-complete, lock-sound, lock-complete, is_own, ask_at, any_ask_at, AnyAsk, ask_tokens, MayAsk, is_ask_of}
+use Rattle.plex_script.proofs.Imports.{not_from_false, not-true, arith, ◌≡◌, ℕ, true, false, not, Option, Some, None, option_map, refl, sym, ap, ◌∙◌, ConnId, Kind, ShellCmd, AlterCmd, CacheCmd, QueueCmd, LockCmd, Ask, Shell, Content, Rigour, Declared, Spells, shell_tokens, may_give, is_operator, shell_at, alter_at, queue_at, pick, not_some, mapped, Words, FindsAll, is_tail, shell-sound, shell-complete, alter-sound, alter-complete, queue-sound, queue-complete, lock-sound, lock-complete, is_own, ask_at, any_ask_at, AnyAsk, ask_tokens, MayAsk, is_ask_of}
 use Rattle.plex_plain.specs.PlexSpell.LockReading.{lock_at}
-use Rattle.plex_script.proofs.FirstWords.{gives, shell-not_own, cache-content, list-content, lock-content}
+use Rattle.plex_script.proofs.FirstWords.{gives, shell-not_own, alter-content, queue-content, lock-content}
 
 pub record AskTold (rigour : Rigour) (declared : Declared) (by : ConnId) (ws rest : Words) (ask : AnyAsk) : Type 0
   where
@@ -54,15 +54,15 @@ module _ (rigour : Rigour) (declared : Declared) where
       → any_ask_at rigour declared by kind ws ≡ Some (ask, rest) → AnyTold rigour declared by kind ws rest ask
   any_ask-sound by Kind.Cache ws rest ask h =
       let P = AnyTold rigour declared by Kind.Cache ws rest in
-      let wrap : Ask CacheCmd → AnyAsk = λ a. AnyAsk.Cache a in
-      wrapped-sound _ _ _ _ P (λ a k. ask-sound by rest (shell_at rigour declared ws) (cache_at rigour declared ws) a
-      (λ x. P (wrap x)) (grind (arith, shell-sound)) (λ cmd m other. let t = cache-sound rigour declared ws rest cmd m
+      let wrap : Ask (AlterCmd CacheCmd) → AnyAsk = λ a. AnyAsk.Cache a in
+      wrapped-sound _ _ _ _ P (λ a k. ask-sound by rest (shell_at rigour declared ws) (alter_at rigour declared ws) a
+      (λ x. P (wrap x)) (grind (arith, shell-sound)) (λ cmd m other. let t = alter-sound rigour declared ws rest cmd m
       in (grind (arith, not_from_false))) k) h
   any_ask-sound by (Kind.List headers locks refs) ws rest ask h =
       let P = AnyTold rigour declared by (Kind.List headers locks refs) ws rest in
-      let wrap : Ask ListCmd → AnyAsk = λ a. AnyAsk.List a in
-      wrapped-sound _ _ _ _ P (λ a k. ask-sound by rest (shell_at rigour declared ws) (list_at rigour declared ws) a
-      (λ x. P (wrap x)) (grind (arith, shell-sound)) (λ cmd m other. let t = list-sound rigour declared ws rest cmd m
+      let wrap : Ask QueueCmd → AnyAsk = λ a. AnyAsk.List a in
+      wrapped-sound _ _ _ _ P (λ a k. ask-sound by rest (shell_at rigour declared ws) (queue_at rigour declared ws) a
+      (λ x. P (wrap x)) (grind (arith, shell-sound)) (λ cmd m other. let t = queue-sound rigour declared ws rest cmd m
       in (grind (arith, not_from_false))) k) h
   any_ask-sound by Kind.Lock ws rest ask h =
       let P : AnyAsk → Type 0 = AnyTold rigour declared by Kind.Lock ws rest in
@@ -78,14 +78,14 @@ module _ (rigour : Rigour) (declared : Declared) where
       wrapped-complete _ _ _ _ _ (common-complete rigour declared by ws rest _ cmd tail may.0 h)
   any_ask-complete by Kind.Cache ws rest given (AnyAsk.Cache (Content cmd)) tail of may h =
       wrapped-complete _ _ _ _ _ (content-complete rigour by (shell_at rigour declared ws)
-      (cache_at rigour declared ws) cmd rest (cache-content rigour declared ws rest given cmd h).0 may.0
-      (cache-complete rigour declared ws rest given cmd tail may.1 h))
+      (alter_at rigour declared ws) cmd rest (alter-content rigour declared ws rest given cmd h).0 may.0
+      (alter-complete rigour declared ws rest given cmd tail may.1 h))
   any_ask-complete by (Kind.List headers locks refs) ws rest given (AnyAsk.List (Shell cmd)) tail of may h =
       wrapped-complete _ _ _ _ _ (common-complete rigour declared by ws rest _ cmd tail may.0 h)
   any_ask-complete by (Kind.List headers locks refs) ws rest given (AnyAsk.List (Content cmd)) tail of may h =
       wrapped-complete _ _ _ _ _ (content-complete rigour by (shell_at rigour declared ws)
-      (list_at rigour declared ws) cmd rest (list-content rigour declared ws rest cmd h).0 may.0
-      (list-complete rigour declared ws rest cmd tail may.1 h))
+      (queue_at rigour declared ws) cmd rest (queue-content rigour declared ws rest cmd h).0 may.0
+      (queue-complete rigour declared ws rest cmd tail may.1 h))
   any_ask-complete by Kind.Lock ws rest given (AnyAsk.Lock (Shell cmd)) tail of may h =
       wrapped-complete _ _ _ _ _ (common-complete rigour declared by ws rest _ cmd tail may.0 h)
   any_ask-complete by Kind.Lock ws rest given (AnyAsk.Lock (Content cmd)) tail of may h =
@@ -97,8 +97,8 @@ module _ (rigour : Rigour) (declared : Declared) where
   pub ask-not_own : (ws rest : Words) (given : Option ℕ) (ask : AnyAsk)
       → Spells rigour declared (ask_tokens given ask) ws rest → is_own ws ≡ false
   ask-not_own ws rest given (AnyAsk.Cache (Shell cmd)) h = shell-not_own rigour declared ws rest cmd h
-  ask-not_own ws rest given (AnyAsk.Cache (Content cmd)) h = (cache-content rigour declared ws rest given cmd h).1
+  ask-not_own ws rest given (AnyAsk.Cache (Content cmd)) h = (alter-content rigour declared ws rest given cmd h).1
   ask-not_own ws rest given (AnyAsk.List (Shell cmd)) h = shell-not_own rigour declared ws rest cmd h
-  ask-not_own ws rest given (AnyAsk.List (Content cmd)) h = (list-content rigour declared ws rest cmd h).1
+  ask-not_own ws rest given (AnyAsk.List (Content cmd)) h = (queue-content rigour declared ws rest cmd h).1
   ask-not_own ws rest given (AnyAsk.Lock (Shell cmd)) h = shell-not_own rigour declared ws rest cmd h
   ask-not_own ws rest given (AnyAsk.Lock (Content cmd)) h = (lock-content rigour declared ws rest cmd h).1

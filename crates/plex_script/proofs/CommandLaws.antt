@@ -1,5 +1,5 @@
 -- The call that a text makes is the one that is read of it.
-use Rattle.plex_script.proofs.Imports.{◌≡◌, ℕ, zero, suc, Bool, true, false, not, List, Option, Some, None, codes, refl, sym, ap, ◌∙◌, subst, inl, inr, word-same, same_word, same_word-of, not_some, nat_tests, words_of, ConnId, StrNo, Script, is_operator, is_long, declared_in, kind_of, shell_ask, called_line, command_at, MakesCommand, and_parts, not-true, Kind, Names, Declared, Words, AnyAsk, Act, Call, Test, TestWord, Post, Take, Events, act_at, SaysDone, call_in, call_alone}
+use Rattle.plex_script.proofs.Imports.{◌≡◌, ℕ, zero, suc, Bool, true, false, List, Option, Some, None, codes, refl, sym, ap, ◌∙◌, subst, inl, inr, word-same, same_word, same_word-of, not_some, nat_tests, words_of, ConnId, StrNo, Script, is_operator, is_long, declared_in, kind_of, shell_ask, called_line, command_at, MakesCommand, and_parts, not-true, Kind, Names, Declared, Words, AnyAsk, Act, Call, Test, TestWord, Post, Take, Events, act_at, SaysDone, call_in}
 use Rattle.plex_script.proofs.ActLaws.{act-sound, act-complete}
 use Rattle.std.proofs.Common.{◌&&◌, if◌then◌else◌, arith}
 use Rattle.std.proofs.lemmas.Bool.{eq-eqb, false≢true}

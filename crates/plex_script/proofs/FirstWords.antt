@@ -1,5 +1,5 @@
 -- Which commands their first words tell apart.
-use Rattle.plex_script.proofs.Imports.{arith, ◌≡◌, ℕ, ◌||◌, Bool, true, false, not, cond, List, [], ◌∷◌, Option, None, codes, ConnId, ShellCmd, CacheCmd, ListCmd, LockCmd, Rigour, begins_with, words_behind, Declared, Token, Spells, Literal, shell_tokens, may_give, is_operator, cache_tokens, list_tokens, lock_tokens, shell_at, Words, is_own}
+use Rattle.plex_script.proofs.Imports.{arith, ◌≡◌, ℕ, ◌||◌, Bool, true, false, not, cond, List, [], ◌∷◌, Option, None, codes, ConnId, ShellCmd, AlterCmd, CacheCmd, QueueCmd, ListCmd, LockCmd, Rigour, begins_with, words_behind, Declared, Token, Spells, Literal, shell_tokens, may_give, is_operator, alter_tokens, queue_tokens, lock_tokens, shell_at, Words, is_own}
 
 -- ---- first words
 
@@ -42,15 +42,17 @@ abbrev pub IsContent : Rigour → Declared → Words → Type 0
 IsContent rigour declared ws = (shell_at rigour declared ws ≡ None) × (is_own ws ≡ false)
 
 module _ (rigour : Rigour) (declared : Declared) where
-  pub cache-content : (ws rest : Words) (given : Option ℕ) (cmd : CacheCmd)
-      → Spells rigour declared (cache_tokens given cmd) ws rest → IsContent rigour declared ws
-  cache-content ws rest given (CacheCmd.Read name index old stg) h = grind (arith, at_one)
-  cache-content ws rest given cmd h = grind (arith, at_one)
+  pub alter-content : (ws rest : Words) (given : Option ℕ) (cmd : AlterCmd CacheCmd)
+      → Spells rigour declared (alter_tokens given cmd) ws rest → IsContent rigour declared ws
+  alter-content ws rest given (AlterCmd.Inner (CacheCmd.Read name index old stg)) h = grind (arith, at_one)
+  alter-content ws rest given (AlterCmd.Inner cmd) h = grind (arith, at_one)
+  alter-content ws rest given cmd h = grind (arith, at_one)
 
-  pub list-content : (ws rest : Words) (cmd : ListCmd) → Spells rigour declared
-      (list_tokens cmd) ws rest → IsContent rigour declared ws
-  list-content ws rest (ListCmd.Write header head name key body adj cond) h = grind (arith, at_one)
-  list-content ws rest cmd h = grind (arith, at_one)
+  pub queue-content : (ws rest : Words) (cmd : QueueCmd) → Spells rigour declared
+      (queue_tokens cmd) ws rest → IsContent rigour declared ws
+  queue-content ws rest (QueueCmd.List (ListCmd.Write header head name key body adj cond)) h = grind (arith, at_one)
+  queue-content ws rest (QueueCmd.List cmd) h = grind (arith, at_one)
+  queue-content ws rest cmd h = grind (arith, at_one)
 
   pub lock-content : (ws rest : Words) (cmd : LockCmd) → Spells rigour declared
       (lock_tokens cmd) ws rest → IsContent rigour declared ws

@@ -1,5 +1,5 @@
 -- The printed lines of callers do the same again.
-use Rattle.plex_script.proofs.Imports.{◌≡◌, ℕ, ◌+◌, ◌≤◌, ◌||◌, Bool, true, false, not, List, [], ◌∷◌, ◌++◌, length, map, Option, Some, slice_get, codes, refl, sym, ap, ◌∙◌, arith, zero, suc, length-append, subst, All, MatchBool, MatchOption, and_parts, nat_tests, get_or_from_slice_get, slice_get_within, Name16, ConnId, StrNo, StrForm, IsPadded, Shell, Content, same_word, line_of, name_word, is_name, structure_of, caller_name, structure_name, plain_words, AreNames, HaveNames, name-place, words-said, connector-said, AreGood, IsRow, row-append, words-good, name-good, caller-good, shell-row, cache-row, list-row, lock-row, Act, Call, Line, Script, act_tokens, retry_tokens, declared_in, caller_of, is_comment, is_policy_word, line_number, AddsWords, AddsLine, class_in, line_tokens, body_line, numbered_behind, IsLineIn, AnyAsk}
+use Rattle.plex_script.proofs.Imports.{◌≡◌, ℕ, ◌+◌, ◌≤◌, ◌||◌, Bool, true, false, not, List, [], ◌∷◌, ◌++◌, length, map, Option, Some, slice_get, codes, refl, sym, ap, ◌∙◌, arith, zero, suc, length-append, subst, All, MatchBool, MatchOption, and_parts, nat_tests, get_or_from_slice_get, slice_get_within, Name16, ConnId, StrNo, StrForm, IsPadded, Shell, Content, same_word, line_of, name_word, is_name, structure_of, caller_name, structure_name, plain_words, AreNames, HaveNames, name-place, words-said, connector-said, AreGood, IsRow, row-append, words-good, name-good, caller-good, shell-row, alter-row, queue-row, lock-row, Act, Call, Line, Script, act_tokens, retry_tokens, declared_in, caller_of, is_comment, is_policy_word, line_number, AddsWords, AddsLine, class_in, line_tokens, body_line, numbered_behind, IsLineIn, AnyAsk}
 use Rattle.plex_script.proofs.PolicyPrinted.{element, line-adds}
 use Rattle.plex_script.proofs.{Chains.Leads, Chains.LeadsOne, Chains.leads-each, FormedLines.kind-known}
 
@@ -45,9 +45,9 @@ structure-read structures on form names known =
 
 act-row : (act : Act) → IsRow 6000 (act_tokens (class_in act) act)
 act-row (Call (AnyAsk.Cache (Shell cmd))) = shell-row cmd
-act-row (Call (AnyAsk.Cache (Content cmd))) = cache-row (class_in (Call (AnyAsk.Cache (Content cmd)))) cmd
+act-row (Call (AnyAsk.Cache (Content cmd))) = alter-row (class_in (Call (AnyAsk.Cache (Content cmd)))) cmd
 act-row (Call (AnyAsk.List (Shell cmd))) = shell-row cmd
-act-row (Call (AnyAsk.List (Content cmd))) = list-row cmd
+act-row (Call (AnyAsk.List (Content cmd))) = queue-row cmd
 act-row (Call (AnyAsk.Lock (Shell cmd))) = shell-row cmd
 act-row (Call (AnyAsk.Lock (Content cmd))) = lock-row cmd
 act-row act = record { plain = refl; short = omega arith }

@@ -6,7 +6,8 @@ use Rattle.cf_types.specs.declared.forms.Kind.{Kind}
 use Rattle.cf_types.specs.declared.forms.Kind.TheVariants as kind
 use Rattle.cf_types.specs.declared.shell_commands.ShellCmd.{ShellCmd}
 use Rattle.cf_types.specs.declared.cache_commands.CacheCmd.{CacheCmd}
-use Rattle.cf_types.specs.declared.list_commands.ListCmd.{ListCmd}
+use Rattle.cf_types.specs.declared.alter_commands.AlterCmd.{AlterCmd}
+use Rattle.cf_types.specs.declared.list_commands.QueueCmd.{QueueCmd}
 use Rattle.cf_types.specs.declared.lock_commands.LockCmd.{LockCmd}
 use Rattle.engine_api.specs.declared.asks.Ask.{Ask}
 use Rattle.engine_api.specs.declared.asks.Ask.TheVariants.{Shell, Content}
@@ -17,8 +18,8 @@ use Rattle.plex_plain.specs.PlexSpell.Places.{◌>>=◌, on_first, number_of}
 use Rattle.plex_plain.specs.PlexSpell.Patterns.{option_at, number_at}
 use Rattle.plex_plain.specs.PlexSpell.ShellWords.{may_give, is_operator}
 use Rattle.plex_plain.specs.PlexSpell.ShellReading.{shell_at}
-use Rattle.plex_plain.specs.PlexSpell.CacheReading.{cache_at}
-use Rattle.plex_plain.specs.PlexSpell.ListReading.{list_at}
+use Rattle.plex_plain.specs.PlexSpell.AlterReading.{alter_at}
+use Rattle.plex_plain.specs.PlexSpell.QueueReading.{queue_at}
 use Rattle.plex_plain.specs.PlexSpell.LockReading.{lock_at}
 use Rattle.plex_script.specs.declared.scripts.AnyAsk.{AnyAsk}
 use Rattle.plex_script.specs.declared.scripts.AnyAsk.TheVariants as any
@@ -32,11 +33,11 @@ abbrev pub ask_at : {C : Type 0} → ConnId → Option (ShellCmd × List (List �
 ask_at by None content = if is_operator by then None else option_map (λ read. (Content read.0, read.1)) content
 ask_at by (Some read) content = if may_give by read.0 then Some (Shell read.0, read.1) else None
 
-abbrev pub cache_ask_at : Rigour → Declared → ConnId → List (List ℕ) → Option (Ask CacheCmd × List (List ℕ))
-cache_ask_at rigour declared by words = ask_at by (shell_at rigour declared words) (cache_at rigour declared words)
+abbrev pub cache_ask_at : Rigour → Declared → ConnId → List (List ℕ) → Option (Ask (AlterCmd CacheCmd) × List (List ℕ))
+cache_ask_at rigour declared by words = ask_at by (shell_at rigour declared words) (alter_at rigour declared words)
 
-abbrev pub list_ask_at : Rigour → Declared → ConnId → List (List ℕ) → Option (Ask ListCmd × List (List ℕ))
-list_ask_at rigour declared by words = ask_at by (shell_at rigour declared words) (list_at rigour declared words)
+abbrev pub list_ask_at : Rigour → Declared → ConnId → List (List ℕ) → Option (Ask QueueCmd × List (List ℕ))
+list_ask_at rigour declared by words = ask_at by (shell_at rigour declared words) (queue_at rigour declared words)
 
 abbrev pub lock_ask_at : Rigour → Declared → ConnId → List (List ℕ) → Option (Ask LockCmd × List (List ℕ))
 lock_ask_at rigour declared by words = ask_at by (shell_at rigour declared words) (lock_at rigour declared words)

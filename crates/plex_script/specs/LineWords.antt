@@ -10,8 +10,8 @@ use Rattle.plex_plain.specs.PlexSpell.Tokens.{Declared, Token, Spells}
 use Rattle.plex_plain.specs.PlexSpell.Tokens.Token.{Literal, Number}
 use Rattle.plex_plain.specs.PlexSpell.Fields.{number}
 use Rattle.plex_plain.specs.PlexSpell.ShellWords.{shell_tokens, may_give, is_operator}
-use Rattle.plex_plain.specs.PlexSpell.CacheWords.{cache_tokens, IsGiven}
-use Rattle.plex_plain.specs.PlexSpell.ListWords.{list_tokens, IsListLine}
+use Rattle.plex_plain.specs.PlexSpell.AlterWords.{alter_tokens, IsAlterGiven}
+use Rattle.plex_plain.specs.PlexSpell.QueueWords.{queue_tokens, IsQueueLine}
 use Rattle.plex_plain.specs.PlexSpell.LockWords.{lock_tokens}
 use Rattle.plex_script.specs.declared.scripts.AnyAsk.{AnyAsk}
 use Rattle.plex_script.specs.declared.scripts.AnyAsk.TheVariants as any
@@ -21,9 +21,9 @@ use Rattle.plex_script.specs.declared.scripts.Act.TheVariants.{Call, Test, TestW
 -- a call, with the storage class that is written out, if one is
 abbrev pub ask_tokens : Option ℕ → AnyAsk → List Token
 ask_tokens given (any.Cache (Shell cmd)) = shell_tokens cmd
-ask_tokens given (any.Cache (Content cmd)) = cache_tokens given cmd
+ask_tokens given (any.Cache (Content cmd)) = alter_tokens given cmd
 ask_tokens given (any.List (Shell cmd)) = shell_tokens cmd
-ask_tokens given (any.List (Content cmd)) = list_tokens cmd
+ask_tokens given (any.List (Content cmd)) = queue_tokens cmd
 ask_tokens given (any.Lock (Shell cmd)) = shell_tokens cmd
 ask_tokens given (any.Lock (Content cmd)) = lock_tokens cmd
 
@@ -42,9 +42,9 @@ retry_tokens retry = if retry == 0 then [] else Literal (codes "RETRY") ∷ Numb
 -- who may ask it; each content command comes from a connector
 abbrev pub MayAsk : ConnId → Option ℕ → AnyAsk → Type 0
 MayAsk by given (any.Cache (Shell cmd)) = IsTrue (may_give by cmd) × (given ≡ None)
-MayAsk by given (any.Cache (Content cmd)) = IsTrue (not (is_operator by)) × IsGiven given cmd
+MayAsk by given (any.Cache (Content cmd)) = IsTrue (not (is_operator by)) × IsAlterGiven given cmd
 MayAsk by given (any.List (Shell cmd)) = IsTrue (may_give by cmd) × (given ≡ None)
-MayAsk by given (any.List (Content cmd)) = IsTrue (not (is_operator by)) × IsListLine cmd × (given ≡ None)
+MayAsk by given (any.List (Content cmd)) = IsTrue (not (is_operator by)) × IsQueueLine cmd × (given ≡ None)
 MayAsk by given (any.Lock (Shell cmd)) = IsTrue (may_give by cmd) × (given ≡ None)
 MayAsk by given (any.Lock (Content cmd)) = IsTrue (not (is_operator by)) × (given ≡ None)
 

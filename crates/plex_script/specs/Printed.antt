@@ -5,7 +5,7 @@ use Rattle.engine_api.specs.declared.asks.Ask.TheVariants.{Shell, Content}
 use Rattle.plex_plain.specs.PlexSpell.Words.{line_of, line_text}
 use Rattle.plex_plain.specs.PlexSpell.Tokens.{Token}
 use Rattle.plex_plain.specs.Naming.{caller_name, structure_name}
-use Rattle.plex_plain.specs.PlainWords.{plain_words, storage_told}
+use Rattle.plex_plain.specs.PlainWords.{plain_words, alter_storage_told}
 use Rattle.plex_plain.specs.PolicyLines.{facility_line, structure_lines, connector_line}
 use Rattle.plex_script.specs.declared.scripts.AnyAsk.TheVariants as any
 use Rattle.plex_script.specs.declared.scripts.Act.{Act}
@@ -18,7 +18,7 @@ use Rattle.plex_script.specs.Scripts.{line_number}
 -- the storage class that is written out, if one is
 abbrev pub class_in : Act → Option ℕ
 class_in (Call (any.Cache (Shell cmd))) = None
-class_in (Call (any.Cache (Content cmd))) = storage_told cmd
+class_in (Call (any.Cache (Content cmd))) = alter_storage_told cmd
 class_in (Call (any.List ask)) = None
 class_in (Call (any.Lock ask)) = None
 class_in (Test index) = None

@@ -5,9 +5,9 @@ ghost use Rattle.plex_script.specs.LineWords.{has_vectors};
 ghost use Rattle.plex_script.specs.LineReading.{cache_ask_at, list_ask_at, lock_ask_at, any_ask_at, retry_at, call_at, own_at, is_own, done_at, act_at};
 
 use crate::scripts::{Act, AnyAsk};
-use cf_types::{CacheCmd, ConnId, Kind, ListCmd, LockCmd, ShellCmd};
+use cf_types::{AlterCmd, CacheCmd, ConnId, Kind, LockCmd, QueueCmd, ShellCmd};
 use engine_api::Ask;
-use plex_plain::spell::{Judge, Miss, Words, cache, fields, list, lock, shell};
+use plex_plain::spell::{Judge, Miss, Words, alter, fields, lock, queue, shell};
 use std::alloc::Global;
 
 /// Whether the caller is the operator.
@@ -58,7 +58,7 @@ fn cache_ask(
     judge: &Judge,
     by: ConnId,
     words: &mut Words,
-) -> Result<Ask<CacheCmd>, Miss>
+) -> Result<Ask<AlterCmd<CacheCmd>>, Miss>
     ensures { Gives result words.new
         (cache_ask_at judge.now.rigour (names_of judge.now) by words.old) }
 {
@@ -77,7 +77,7 @@ fn cache_ask(
             if is_operator(by) {
                 return Err(Miss::NoForm);
             }
-            Ok(Ask::Content(cache(alloc, judge, words)?))
+            Ok(Ask::Content(alter(alloc, judge, words)?))
         }
     }
 }
@@ -87,7 +87,7 @@ fn list_ask(
     judge: &Judge,
     by: ConnId,
     words: &mut Words,
-) -> Result<Ask<ListCmd>, Miss>
+) -> Result<Ask<QueueCmd>, Miss>
     ensures { Gives result words.new
         (list_ask_at judge.now.rigour (names_of judge.now) by words.old) }
 {
@@ -106,7 +106,7 @@ fn list_ask(
             if is_operator(by) {
                 return Err(Miss::NoForm);
             }
-            Ok(Ask::Content(list(alloc, judge, words)?))
+            Ok(Ask::Content(queue(alloc, judge, words)?))
         }
     }
 }

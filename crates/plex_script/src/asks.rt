@@ -1,10 +1,12 @@
-use cf_types::{CacheCmd, CacheReply, ListCmd, ListReply, LockCmd, LockReply};
+use cf_types::{
+    AlterCmd, AlterReply, CacheCmd, CacheReply, LockCmd, LockReply, QueueCmd, QueueReply,
+};
 use engine_api::History;
 
 /// The history of a structure, of whatever kind.
 pub enum AnyHistory {
-    Cache(History<CacheCmd, CacheReply>),
-    List(History<ListCmd, ListReply>),
+    Cache(History<AlterCmd<CacheCmd>, AlterReply<CacheReply>>),
+    List(History<QueueCmd, QueueReply>),
     Lock(History<LockCmd, LockReply>),
 }
 

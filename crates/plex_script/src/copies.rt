@@ -1,7 +1,7 @@
 ghost use Rattle.std.specs.Prelude.{◌≡◌, IfOk};
 
 use crate::scripts::AnyAsk;
-use cf_types::{CacheCmd, ListCmd, NoMemory, copy_body, copy_data};
+use cf_types::{AlterCmd, CacheCmd, ListCmd, NoMemory, QueueCmd, copy_body, copy_data};
 use engine_api::Ask;
 use std::alloc::Global;
 
@@ -126,6 +126,34 @@ fn copy_list(alloc: Global, cmd: &ListCmd) -> Result<ListCmd, NoMemory>
     }
 }
 
+fn copy_alter(alloc: Global, cmd: &AlterCmd<CacheCmd>) -> Result<AlterCmd<CacheCmd>, NoMemory>
+    ensures { IfOk result (λ copy. copy ≡ cmd.now) }
+{
+    match cmd {
+        AlterCmd::Inner(cmd) => Ok(AlterCmd::Inner(copy_cache(alloc, cmd)?)),
+        AlterCmd::Start { caps } => Ok(AlterCmd::Start { caps: *caps }),
+        AlterCmd::Step { n } => Ok(AlterCmd::Step { n: *n }),
+        AlterCmd::Stop => Ok(AlterCmd::Stop),
+    }
+}
+
+fn copy_queue(alloc: Global, cmd: &QueueCmd) -> Result<QueueCmd, NoMemory>
+    ensures { IfOk result (λ copy. copy ≡ cmd.now) }
+{
+    match cmd {
+        QueueCmd::List(cmd) => Ok(QueueCmd::List(copy_list(alloc, cmd)?)),
+        QueueCmd::MonSub { header, key } => Ok(QueueCmd::MonSub {
+            header: *header,
+            key: *key,
+        }),
+        QueueCmd::UnmonSub { header, key } => Ok(QueueCmd::UnmonSub {
+            header: *header,
+            key: *key,
+        }),
+        QueueCmd::Deq => Ok(QueueCmd::Deq),
+    }
+}
+
 /// A second call, equal to the first.
 pub fn copy_ask(alloc: Global, ask: &AnyAsk) -> Result<AnyAsk, NoMemory>
     ensures { IfOk result (λ copy. copy ≡ ask.now) }
@@ -133,10 +161,10 @@ pub fn copy_ask(alloc: Global, ask: &AnyAsk) -> Result<AnyAsk, NoMemory>
     match ask {
         AnyAsk::Cache(Ask::Shell(cmd)) => Ok(AnyAsk::Cache(Ask::Shell(*cmd))),
         AnyAsk::Cache(Ask::Content(cmd)) => {
-            Ok(AnyAsk::Cache(Ask::Content(copy_cache(alloc, cmd)?)))
+            Ok(AnyAsk::Cache(Ask::Content(copy_alter(alloc, cmd)?)))
         }
         AnyAsk::List(Ask::Shell(cmd)) => Ok(AnyAsk::List(Ask::Shell(*cmd))),
-        AnyAsk::List(Ask::Content(cmd)) => Ok(AnyAsk::List(Ask::Content(copy_list(alloc, cmd)?))),
+        AnyAsk::List(Ask::Content(cmd)) => Ok(AnyAsk::List(Ask::Content(copy_queue(alloc, cmd)?))),
         AnyAsk::Lock(Ask::Shell(cmd)) => Ok(AnyAsk::Lock(Ask::Shell(*cmd))),
         AnyAsk::Lock(Ask::Content(cmd)) => Ok(AnyAsk::Lock(Ask::Content(*cmd))),
     }

@@ -16,8 +16,8 @@ use crate::scripts::{Act, AnyAsk, Line, Script};
 use cf_types::{Name16, NoMemory, Pref, StrForm};
 use engine_api::Ask;
 use plex_plain::{
-    put_cache, put_caller_name, put_connector_line, put_facility_line, put_form_line, put_list,
-    put_lock, put_of, put_pref_line, put_shell, put_structure_name, put_word,
+    put_alter, put_caller_name, put_connector_line, put_facility_line, put_form_line, put_lock,
+    put_of, put_pref_line, put_queue, put_shell, put_structure_name, put_word,
 };
 use std::alloc::Global;
 
@@ -97,9 +97,9 @@ fn put_ask(line: &mut Vec<u8>, script: &Script, ask: &AnyAsk) -> Result<(), NoMe
     let connectors = script.connectors.items();
     match ask {
         AnyAsk::Cache(Ask::Shell(cmd)) => put_shell(line, connectors, cmd),
-        AnyAsk::Cache(Ask::Content(cmd)) => put_cache(line, cmd),
+        AnyAsk::Cache(Ask::Content(cmd)) => put_alter(line, cmd),
         AnyAsk::List(Ask::Shell(cmd)) => put_shell(line, connectors, cmd),
-        AnyAsk::List(Ask::Content(cmd)) => put_list(line, cmd),
+        AnyAsk::List(Ask::Content(cmd)) => put_queue(line, cmd),
         AnyAsk::Lock(Ask::Shell(cmd)) => put_shell(line, connectors, cmd),
         AnyAsk::Lock(Ask::Content(cmd)) => put_lock(line, connectors, cmd),
     }

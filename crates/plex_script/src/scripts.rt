@@ -1,11 +1,13 @@
-use cf_types::{CacheCmd, ConnId, ListCmd, Listing, LockCmd, Name16, Pref, StrForm, StrNo};
+use cf_types::{
+    AlterCmd, CacheCmd, ConnId, Listing, LockCmd, Name16, Pref, QueueCmd, StrForm, StrNo,
+};
 use engine_api::Ask;
 
 /// A call of a structure of any kind.
 #[derive(Drop)]
 pub enum AnyAsk {
-    Cache(Ask<CacheCmd>),
-    List(Ask<ListCmd>),
+    Cache(Ask<AlterCmd<CacheCmd>>),
+    List(Ask<QueueCmd>),
     Lock(Ask<LockCmd>),
 }
 

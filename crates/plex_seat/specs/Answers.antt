@@ -9,7 +9,7 @@ use Rattle.plex_board.specs.PlexScript.declared.scripts.AnyAsk.TheVariants as an
 use Rattle.plex_board.specs.PlexScript.declared.scripts.Script.{Script}
 use Rattle.plex_board.specs.PlexScript.Heard.{AnyCall}
 use Rattle.plex_report.specs.Lines.{reply_words}
-use Rattle.plex_report.specs.ReplyWords.{cache_reply_words, list_reply_words, lock_reply_words}
+use Rattle.plex_report.specs.ReplyWords.{alter_reply_words, queue_reply_words, lock_reply_words}
 use Rattle.plex_board.specs.CfTypes.NoMemory.Wants.{want}
 use Rattle.plex_board.specs.StructCell.declared.refused.CallRefused.{CallRefused}
 use Rattle.plex_board.specs.StructCell.declared.refused.CallRefused.TheVariants.{JournalFull, NoMemory}
@@ -38,8 +38,8 @@ is_same_type _ _ = false
 
 -- the words of a reply, as the report has them
 abbrev pub any_reply_words : Script → AnyReply → List (List ℕ)
-any_reply_words script (reply.Cache answer) = reply_words cache_reply_words script false answer
-any_reply_words script (reply.List answer) = reply_words list_reply_words script false answer
+any_reply_words script (reply.Cache answer) = reply_words alter_reply_words script false answer
+any_reply_words script (reply.List answer) = reply_words queue_reply_words script false answer
 any_reply_words script (reply.Lock answer) = reply_words lock_reply_words script false answer
 
 module _ {L : Type 0} where

@@ -1,5 +1,5 @@
 -- What is read as a command of a cache whose capacity can be altered is spelled so, and what is spelled so is read.
-use Rattle.plex_spell.proofs.Imports.{arith, lit<, codes, ◌≡◌, ◌∙◌, ℕ, true, List, ◌∷◌, Option, Some, None, refl, inr, AlterCmd, Inner, Start, Step, Stop, CacheCmd, alter_tokens, IsAlterGiven, alter_at, alter_forms, alterations, cache_forms, Rigour, Declared, Token, Literal, Spells, IsSaid}
+use Rattle.plex_spell.proofs.Imports.{arith, lit<, codes, ◌≡◌, ℕ, true, List, ◌∷◌, Option, Some, refl, inr, AlterCmd, Inner, Start, Step, Stop, CacheCmd, alter_tokens, IsAlterGiven, alter_at, alter_forms, alterations, cache_forms, Rigour, Declared, Token, Literal, Spells, IsSaid}
 use Rattle.plex_spell.proofs.FormLaws.{AreForms, AllSay, each-says, says, forms-sound, forms-complete, still-lacks, are-made, said-made, all-say-made}
 use Rattle.plex_spell.proofs.CacheLaws.{are_cache, cache-said}
 use Rattle.plex_spell.proofs.{VerbLaws.is_tail, PlaceLaws.Words, PlaceLaws.FindsAll}

@@ -1,5 +1,5 @@
 -- What is read as a command of a list with event queues is spelled so, and what is spelled so is read.
-use Rattle.plex_spell.proofs.Imports.{arith, lit<, codes, ◌≡◌, true, List, Some, refl, inr, ListCmd, QueueCmd, queue_tokens, IsQueueLine, queue_at, queue_forms, list_forms, Rigour, Declared, Token, Spells, IsSaid}
+use Rattle.plex_spell.proofs.Imports.{arith, lit<, codes, ◌≡◌, true, List, Some, inr, QueueCmd, queue_tokens, IsQueueLine, queue_at, queue_forms, list_forms, Rigour, Declared, Token, Spells, IsSaid}
 use Rattle.cf_types.specs.declared.list_commands.QueueCmd.TheVariants as queue
 use Rattle.plex_spell.proofs.FormLaws.{AreForms, AllSay, each-says, says, forms-sound, forms-complete, still-lacks, are-made, said-made, all-say-made}
 use Rattle.plex_spell.proofs.ListLaws.{are_list, list-said}

@@ -7,7 +7,7 @@ use Rattle.plex_spell.specs.Tokens.{Declared}
 use Rattle.plex_spell.specs.Patterns.{Place, Values}
 use Rattle.plex_spell.specs.Patterns.Place.{AKey, Behind}
 use Rattle.plex_spell.specs.Forms.{Forms, ◌or◌, each_made, command_at}
-use Rattle.plex_spell.specs.Forms.Forms.{NoForms, Row}
+use Rattle.plex_spell.specs.Forms.Forms.{Row}
 use Rattle.plex_spell.specs.CacheReading.{a_number}
 use Rattle.plex_spell.specs.ListReading.{list_forms}
 

@@ -2,11 +2,13 @@
 //! of `reply_rows` read.
 #![tactic(auto)]
 
+mod alter_reader;
 mod cache_reader;
 mod list_reader;
 mod lock_reader;
 mod numerals;
 mod one_word;
+mod queue_reader;
 mod refusal_reader;
 mod reply_reader;
 mod rows;

@@ -5,7 +5,7 @@ ghost use Rattle.cf_types.specs.declared.limits.TheConstants.{ADJUNCT_BYTES, CON
 ghost use Rattle.cf_types.specs.declared.names.Name16.{Name16};
 ghost use Rattle.line_rows.specs.Rows.{Single};
 ghost use Rattle.line_rows.specs.Singles.{a_name, a_key, a_facility, a_connector, text, joined};
-ghost use Rattle.reply_rows.specs.Parts.{small, a_resource, a_state, a_change, a_holder, an_id};
+ghost use Rattle.reply_rows.specs.Parts.{small, a_resource, a_state, a_change, a_progress, a_holder, an_id};
 ghost use Rattle.reply_rows.specs.Refusals.{byte, a_reference, connection, a_stage};
 ghost use Rattle.reply_rows.specs.Contents.{a_held, an_index, a_count};
 
@@ -173,6 +173,19 @@ pub fn change(word: &[u8]) -> Option<bool>
         return Some(true);
     }
     if is(word, b"UNCHANGED") {
+        return Some(false);
+    }
+    None
+}
+
+/// Whether a capacity that is altered has reached its target.
+pub fn progress(word: &[u8]) -> Option<bool>
+    ensures { result ≡ a_progress.value word.now }
+{
+    if is(word, b"DONE") {
+        return Some(true);
+    }
+    if is(word, b"MORE") {
         return Some(false);
     }
     None

@@ -2,7 +2,9 @@ pub mod Printed
 pub mod PartLaws
 pub mod LockRows
 pub mod CacheRows
+pub mod AlterRows
 pub mod RefusalRows
 pub mod ListRows
+pub mod QueueRows
 pub mod ShellRows
 pub mod Replies

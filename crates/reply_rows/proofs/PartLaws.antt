@@ -14,7 +14,7 @@ use Rattle.line_rows.specs.Rows.{is_word, Single, IsSingle, IsRow, done, and_the
 use Rattle.line_rows.specs.Singles.{number, IsAName, a_name, a_facility, a_connector, marked, joined}
 use Rattle.line_rows.proofs.RowLaws.{done-is, led-is, and_then-is}
 use Rattle.line_rows.proofs.SingleLaws.{IsFree, number-is, name-is, facility-is, connector-is, marked-is, either-is, or_word-is, joined-is, as_one-is, number-free, name-free, joined-free}
-use Rattle.reply_rows.specs.Parts.{small, an_id, a_resource, a_state, a_change, a_holder, plain, with_one, with_two}
+use Rattle.reply_rows.specs.Parts.{small, an_id, a_resource, a_state, a_change, a_progress, a_holder, plain, with_one, with_two}
 use Rattle.reply_rows.specs.Within.{IsSmall, IsAnId, IsAResource, IsAny}
 
 pub small-is : IsSingle IsSmall small
@@ -41,6 +41,9 @@ state-is = either-is (codes "EXCL") (codes "SHR") refl refl refl
 
 pub change-is : IsSingle IsAny a_change
 change-is = either-is (codes "CHANGED") (codes "UNCHANGED") refl refl refl
+
+pub progress-is : IsSingle IsAny a_progress
+progress-is = either-is (codes "DONE") (codes "MORE") refl refl refl
 
 -- ---- rows
 

@@ -8,10 +8,14 @@ use Rattle.cf_types.specs.declared.events.Event.{Event}
 use Rattle.cf_types.specs.declared.events.Event.TheVariants as event
 use Rattle.cf_types.specs.declared.shell_commands.ShellReply.{ShellReply}
 use Rattle.cf_types.specs.declared.shell_commands.ShellReply.TheVariants as shell
+use Rattle.cf_types.specs.declared.alter_commands.AlterReply.{AlterReply}
+use Rattle.cf_types.specs.declared.alter_commands.AlterReply.TheVariants as alter
 use Rattle.cf_types.specs.declared.cache_commands.CacheReply.{CacheReply}
 use Rattle.cf_types.specs.declared.cache_commands.CacheReply.TheVariants as cache
 use Rattle.cf_types.specs.declared.list_commands.ListReply.{ListReply}
 use Rattle.cf_types.specs.declared.list_commands.ListReply.TheVariants as list
+use Rattle.cf_types.specs.declared.list_commands.QueueReply.{QueueReply}
+use Rattle.cf_types.specs.declared.list_commands.QueueReply.TheVariants as queue
 use Rattle.cf_types.specs.declared.lock_commands.LockReply.{LockReply}
 use Rattle.cf_types.specs.declared.lock_commands.LockReply.TheVariants as lock
 use Rattle.plex_script.specs.declared.scripts.Script.{Script}
@@ -22,7 +26,7 @@ use Rattle.cf_types.specs.declared.refusals.Refusal.{Refusal}
 use Rattle.cf_types.specs.declared.refusals.Refusal.TheVariants.{NotRegistered, IndexInUse, BadIndex, IsChanged, NotChanged, CastoutHeld, NotHeld, NoEntry, DirectoryFull, NoElements, BadClass, BeyondUnits, NoAlter, NoRecordThere, NameTaken, BadHeader, ListFull, EntriesFull, NoListElements, LockHeld, LockNotHeldBy, WrongReference, HeaderInUse, BadLock, VersionDiffers, NoQueued, AlreadyInterested, NotInterested, RecordsFull, NotManager, NoWaiter, NoRecord, StillPending, NotConnected, NameActive, TooManyConns, NotFailed, HasConnections, NoSpace, NothingOwed, RebuildInProgress, NoRebuild, WrongStage, ItemsLeft, TooSmall, Quiesced, LostConn, LostFacility, StructureFailed, NoFacility, AlreadyDuplexed, NoEvent, NotAllocated}
 use Rattle.reply_rows.specs.Refusals.{refusal_row}
 use Rattle.reply_rows.specs.Parts.{a_resource}
-use Rattle.reply_rows.specs.Contents.{a_held, cache_words, list_words, lock_words}
+use Rattle.reply_rows.specs.Contents.{a_held, cache_words, alter_words, list_words, queue_words, lock_words}
 use Rattle.reply_rows.specs.Shells.{event_words, shell_words}
 
 map-same : {X Y : Type 0} (f g : X → Y) → ((x : X) → f x ≡ g x) → (xs : List X) → map f xs ≡ map g xs
@@ -67,6 +71,13 @@ cache-same script (cache.Dir None stg (Some holder) regs) = refl
 cache-same script (cache.Dir None stg None regs) = refl
 cache-same script (cache.Stg rows changed) = refl
 
+pub alter-same : (script : Script) (r : AlterReply CacheReply)
+    → alter_words script.connectors r ≡ report.alter_reply_words script r
+alter-same script (alter.Inner answer) = cache-same script answer
+alter-same script alter.Ok = refl
+alter-same script (alter.Altered caps true) = refl
+alter-same script (alter.Altered caps false) = refl
+
 pub list-same : (script : Script) (r : ListReply) → list_words script.connectors r ≡ report.list_reply_words script r
 list-same script (list.Id id) = refl
 list-same script (list.Entry id header version name key body adj) = entry_same name key body adj
@@ -98,6 +109,14 @@ list-same script (list.Controls count limit) = refl
 list-same script list.Empty = refl
 list-same script list.NotEmpty = refl
 list-same script (list.OkCount n) = refl
+
+pub queue-same : (script : Script) (r : QueueReply)
+    → queue_words script.connectors r ≡ report.queue_reply_words script r
+queue-same script (queue.List answer) = list-same script answer
+queue-same script queue.Empty = refl
+queue-same script queue.NotEmpty = refl
+queue-same script (queue.Ok n) = refl
+queue-same script (queue.Sublist header key) = refl
 
 pub event-same : (script : Script) (e : Event) → event_words script.connectors e ≡ report.event_words script e
 event-same script (event.NewConn conn) = refl

@@ -1,4 +1,5 @@
--- Replies of cache, list and lock structures: how each is taken apart, and what is made of a row.
+-- Replies of cache, list and lock structures, and of what stands around them: how each is taken apart, and what is
+-- made of a row.
 use Rattle.std.specs.Prelude.{ℕ, Bool, List, [], ◌∷◌, Option, None, Some, codes}
 use Rattle.cf_types.specs.declared.limits.TheConstants.{ADJUNCT_BYTES, BODY_BYTES}
 use Rattle.cf_types.specs.declared.names.Name16.{Name16}
@@ -6,15 +7,23 @@ use Rattle.cf_types.specs.declared.names.Key16.{Key16}
 use Rattle.cf_types.specs.declared.numbers.ConnId.{ConnId}
 use Rattle.cf_types.specs.declared.numbers.EntryId.{EntryId}
 use Rattle.cf_types.specs.declared.resources.Resource.{Resource}
+use Rattle.cf_types.specs.declared.forms.Caps.{Caps}
+use Rattle.cf_types.specs.declared.alter_commands.AlterReply.{AlterReply}
+use Rattle.cf_types.specs.declared.alter_commands.AlterReply.TheVariants as alter
 use Rattle.cf_types.specs.declared.cache_commands.CacheReply.{CacheReply}
 use Rattle.cf_types.specs.declared.cache_commands.CacheReply.TheVariants as cache
 use Rattle.cf_types.specs.declared.list_commands.ListReply.{ListReply}
 use Rattle.cf_types.specs.declared.list_commands.ListReply.TheVariants as list
+use Rattle.cf_types.specs.declared.list_commands.QueueReply.{QueueReply}
+use Rattle.cf_types.specs.declared.list_commands.QueueReply.TheVariants as queue
 use Rattle.cf_types.specs.declared.lock_commands.LockReply.{LockReply}
 use Rattle.cf_types.specs.declared.lock_commands.LockReply.TheVariants as lock
 use Rattle.line_rows.specs.Rows.{Single, Row, done, led, and_then, optional, counted, form, first_of}
 use Rattle.line_rows.specs.Singles.{text, a_name, a_key, joined, as_one}
-use Rattle.reply_rows.specs.Parts.{small, an_id, a_resource, a_state, a_change, a_holder, plain, with_one, with_two}
+use Rattle.reply_rows.specs.declared.sides.Side.{Side}
+use Rattle.reply_rows.specs.declared.sides.Side.TheVariants.{Content, Around}
+use Rattle.reply_rows.specs.Answers.{Answers, alone}
+use Rattle.reply_rows.specs.Parts.{small, an_id, a_resource, a_state, a_change, a_progress, a_holder, plain, with_one, with_two}
 
 -- ---- locks
 
@@ -42,6 +51,9 @@ lock_forms =
 
 abbrev pub lock_row : Row LockReply
 lock_row = record { words = lock_words; values = first_of lock_forms }
+
+abbrev pub lock_answers : List Name16 → Answers LockReply
+lock_answers connectors = alone lock_row
 
 -- ---- caches
 
@@ -110,6 +122,35 @@ cache_forms connectors =
 abbrev pub cache_row : List Name16 → Row CacheReply
 cache_row connectors = record { words = cache_words connectors; values = first_of (cache_forms connectors) }
 
+-- ---- caches, and their capacity
+
+abbrev pub altered_row : Row (ℕ × (ℕ × (Bool × Unit {0})))
+altered_row = led (codes "ALTERED") (and_then small (and_then small (and_then a_progress done)))
+
+abbrev pub altered : ℕ × (ℕ × (Bool × Unit {0})) → AlterReply CacheReply
+altered v = (let caps : Caps = record { entries = v.0; elements = v.1.0 } in alter.Altered caps v.1.1.0)
+
+abbrev pub alter_words : List Name16 → AlterReply CacheReply → List (List ℕ)
+alter_words connectors (alter.Inner answer) = (cache_row connectors).words answer
+alter_words connectors alter.Ok = (plain (codes "OK")).words tt
+alter_words connectors (alter.Altered caps reached) = altered_row.words (caps.entries, (caps.elements, (reached, tt)))
+
+abbrev pub alter_forms : List (List (List ℕ) → Option (AlterReply CacheReply))
+alter_forms = form (plain (codes "OK")) (λ v. alter.Ok) ∷ form altered_row altered ∷ []
+
+abbrev pub alter_side : AlterReply CacheReply → Side
+alter_side (alter.Inner answer) = Content
+alter_side alter.Ok = Around
+alter_side (alter.Altered caps reached) = Around
+
+abbrev pub alter_answers : List Name16 → Answers (AlterReply CacheReply)
+alter_answers connectors = record {
+  words = alter_words connectors;
+  content = form (cache_row connectors) (λ v. alter.Inner v);
+  around = first_of alter_forms;
+  side = alter_side;
+}
+
 -- ---- lists
 
 abbrev pub content_end : Row (Option (List ℕ) × (Option (List ℕ) × Unit {0}))
@@ -152,3 +193,35 @@ list_forms connectors =
 
 abbrev pub list_row : List Name16 → Row ListReply
 list_row connectors = record { words = list_words connectors; values = first_of (list_forms connectors) }
+
+-- ---- lists, and event queues
+
+abbrev pub queue_words : List Name16 → QueueReply → List (List ℕ)
+queue_words connectors (queue.List answer) = (list_row connectors).words answer
+queue_words connectors queue.Empty = (plain (codes "EMPTY")).words tt
+queue_words connectors queue.NotEmpty = (plain (codes "NOTEMPTY")).words tt
+queue_words connectors (queue.Ok n) = (with_one (codes "OK") small).words (n, tt)
+queue_words connectors (queue.Sublist header key) = (with_two (codes "SUBLIST") small a_key).words (header, (key, tt))
+
+abbrev pub queue_forms : List (List (List ℕ) → Option QueueReply)
+queue_forms =
+    form (plain (codes "EMPTY")) (λ v. queue.Empty)
+    ∷ form (plain (codes "NOTEMPTY")) (λ v. queue.NotEmpty)
+    ∷ form (with_one (codes "OK") small) (λ v. queue.Ok v.0)
+    ∷ form (with_two (codes "SUBLIST") small a_key) (λ v. queue.Sublist v.0 v.1.0)
+    ∷ []
+
+abbrev pub queue_side : QueueReply → Side
+queue_side (queue.List answer) = Content
+queue_side queue.Empty = Around
+queue_side queue.NotEmpty = Around
+queue_side (queue.Ok n) = Around
+queue_side (queue.Sublist header key) = Around
+
+abbrev pub queue_answers : List Name16 → Answers QueueReply
+queue_answers connectors = record {
+  words = queue_words connectors;
+  content = form (list_row connectors) (λ v. queue.List v);
+  around = first_of queue_forms;
+  side = queue_side;
+}

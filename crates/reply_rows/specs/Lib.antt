@@ -1,4 +1,5 @@
 pub mod Parts
+pub mod Answers
 pub mod Contents
 pub mod Shells
 pub mod Within

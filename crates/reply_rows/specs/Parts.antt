@@ -26,6 +26,10 @@ a_state = either (codes "EXCL") (codes "SHR")
 abbrev pub a_change : Single Bool
 a_change = either (codes "CHANGED") (codes "UNCHANGED")
 
+-- whether a capacity that is altered has reached its target
+abbrev pub a_progress : Single Bool
+a_progress = either (codes "DONE") (codes "MORE")
+
 abbrev pub a_holder : List Name16 → Single (Option ConnId)
 a_holder connectors = or_word (codes "NONE") (a_connector connectors)
 

@@ -9,10 +9,14 @@ use Rattle.cf_types.specs.declared.events.Event.{Event}
 use Rattle.cf_types.specs.declared.events.Event.TheVariants as event
 use Rattle.cf_types.specs.declared.shell_commands.ShellReply.{ShellReply}
 use Rattle.cf_types.specs.declared.shell_commands.ShellReply.TheVariants as shell
+use Rattle.cf_types.specs.declared.alter_commands.AlterReply.{AlterReply}
+use Rattle.cf_types.specs.declared.alter_commands.AlterReply.TheVariants as alter
 use Rattle.cf_types.specs.declared.cache_commands.CacheReply.{CacheReply}
 use Rattle.cf_types.specs.declared.cache_commands.CacheReply.TheVariants as cache
 use Rattle.cf_types.specs.declared.list_commands.ListReply.{ListReply}
 use Rattle.cf_types.specs.declared.list_commands.ListReply.TheVariants as list
+use Rattle.cf_types.specs.declared.list_commands.QueueReply.{QueueReply}
+use Rattle.cf_types.specs.declared.list_commands.QueueReply.TheVariants as queue
 use Rattle.cf_types.specs.declared.lock_commands.LockReply.{LockReply}
 use Rattle.cf_types.specs.declared.lock_commands.LockReply.TheVariants as lock
 use Rattle.cf_types.specs.Term.{IsTerm, IsPadded}
@@ -60,6 +64,12 @@ IsCacheReply connectors (cache.Dir None stg holder regs) =
     IsSmall stg × (IfGiven (IsOneOf (length connectors)) holder × (IsSmall regs × Unit {0}))
 IsCacheReply connectors (cache.Stg rows changed) = IsSmall rows × (IsSmall changed × Unit {0})
 
+abbrev pub IsAlterReply : List Name16 → AlterReply CacheReply → Type 0
+IsAlterReply connectors (alter.Inner answer) = IsCacheReply connectors answer
+IsAlterReply connectors alter.Ok = Unit {0}
+IsAlterReply connectors (alter.Altered caps done) =
+    IsSmall caps.entries × (IsSmall caps.elements × (Unit {0} × Unit {0}))
+
 abbrev pub IsListReply : List Name16 → ListReply → Type 0
 IsListReply connectors (list.Id id) = IsAnId id × Unit {0}
 IsListReply connectors (list.Entry id header version name key body adj) =
@@ -72,6 +82,13 @@ IsListReply connectors (list.Controls count limit) = IsSmall count × (IsSmall l
 IsListReply connectors list.Empty = Unit {0}
 IsListReply connectors list.NotEmpty = Unit {0}
 IsListReply connectors (list.OkCount n) = IsSmall n × Unit {0}
+
+abbrev pub IsQueueReply : List Name16 → QueueReply → Type 0
+IsQueueReply connectors (queue.List answer) = IsListReply connectors answer
+IsQueueReply connectors queue.Empty = Unit {0}
+IsQueueReply connectors queue.NotEmpty = Unit {0}
+IsQueueReply connectors (queue.Ok n) = IsSmall n × Unit {0}
+IsQueueReply connectors (queue.Sublist header key) = IsSmall header × (IsAKey key × Unit {0})
 
 abbrev pub IsEvent : List Name16 → Event → Type 0
 IsEvent connectors (event.NewConn conn) = IsOneOf (length connectors) conn × Unit {0}

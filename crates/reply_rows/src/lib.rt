@@ -6,4 +6,4 @@ mod laws;
 mod sides;
 
 pub use laws::{are_read_back, print_alike, print_reports};
-pub use sides::{Side, asked_side, told_side};
+pub use sides::{Side, asked_side};

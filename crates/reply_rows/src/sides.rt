@@ -1,7 +1,9 @@
 ghost use Rattle.std.specs.Prelude.{◌≡◌};
-ghost use Rattle.reply_rows.specs.Sides.{asked_side, told_side};
+ghost use Rattle.reply_rows.specs.Sides.{cache_side, list_side, asked_side};
 
-use engine_api::{Ask, What};
+use cf_types::{AlterCmd, CacheCmd, QueueCmd};
+use engine_api::Ask;
+use plex_script::AnyAsk;
 
 /// The replies that a command's row names. Where two replies print alike, the one on the command's
 /// side is meant.
@@ -11,24 +13,39 @@ pub enum Side {
     Common,
     /// Those to commands on the content.
     Content,
+    /// Those to commands on what stands around the content: a cache's capacity, a list's event
+    /// queues.
+    Around,
 }
 
-/// The side of a command.
-pub fn asked_side<C>(ask: &Ask<C>) -> Side
-    ensures { result ≡ asked_side ask.now }
+// The side of a command of a cache structure.
+fn cache_side(cmd: &AlterCmd<CacheCmd>) -> Side
+    ensures { result ≡ cache_side cmd.now }
 {
-    match ask {
-        Ask::Shell(_) => Side::Common,
-        Ask::Content(_) => Side::Content,
+    match cmd {
+        AlterCmd::Inner(_) => Side::Content,
+        _ => Side::Around,
     }
 }
 
-/// The side of what an entry says was done: that of its command, or of a mark.
-pub fn told_side<C>(what: &What<C>) -> Side
-    ensures { result ≡ told_side what.now }
+// The side of a command of a list structure.
+fn list_side(cmd: &QueueCmd) -> Side
+    ensures { result ≡ list_side cmd.now }
 {
-    match what {
-        What::Call(ask) => asked_side(ask),
-        What::Lost(_) => Side::Common,
+    match cmd {
+        QueueCmd::List(_) => Side::Content,
+        _ => Side::Around,
+    }
+}
+
+/// The side of a command.
+pub fn asked_side(asked: &AnyAsk) -> Side
+    ensures { result ≡ asked_side asked.now }
+{
+    match asked {
+        AnyAsk::Cache(Ask::Content(cmd)) => cache_side(cmd),
+        AnyAsk::List(Ask::Content(cmd)) => list_side(cmd),
+        AnyAsk::Lock(Ask::Content(_)) => Side::Content,
+        _ => Side::Common,
     }
 }

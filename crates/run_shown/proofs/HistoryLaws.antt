@@ -1,9 +1,8 @@
 -- What a history of whatever kind says of its calls: how many there are, and that their numbers rise.
 use Rattle.std.proofs.Common.{◌≡◌, ℕ, suc, ◌*◌, ◌<◌, ◌≤◌, ◌==◌, Bool, true, false, List, [], ◌∷◌, length, map, refl, sym, ap, ◌∙◌, arith, suc-le-suc, zero-lt-suc, All}
 use Rattle.std.proofs.lemmas.Bool.{eq-eqb, ne_eqb, false≢true}
-use Rattle.cache_model.specs.Meaning.{cache_meaning}
-use Rattle.list_model.specs.Meaning.{list_meaning}
 use Rattle.lock_model.specs.Meaning.{lock_meaning}
+use Rattle.queue_model.specs.ListQueues.{queued_lists}
 use Rattle.plex_script.specs.CfTypes.declared.{forms.StrForm.StrForm, forms.Kind.Kind, numbers.ConnId.ConnId}
 use Rattle.plex_script.specs.EngineApi.declared.{asks.Ask.Ask, histories.Entry.Entry}
 use Rattle.plex_script.specs.EngineApi.Meaning.{Meaning}
@@ -11,6 +10,7 @@ use Rattle.plex_script.specs.EngineApi.History.{Call, calls, IsLegal}
 use Rattle.plex_script.proofs.EngineApi.NumberLaws.{RisesTo, numbers_rise, three_each}
 use Rattle.plex_script.specs.declared.{asks.AnyHistory.AnyHistory, scripts.AnyAsk.AnyAsk}
 use Rattle.plex_script.specs.Heard.{AnyCall, any_call, any_calls, any_length, own_calls}
+use Rattle.run_shown.specs.Meanings.{altered_caches}
 use Rattle.run_shown.specs.Kinds.{IsOfKind, IsAnyLegal, Rising, any_take, no_calls}
 use Rattle.std.proofs.lemmas.List as lists
 
@@ -35,15 +35,15 @@ module _ {C R I S : Type 0} (meaning : Meaning C R I S) (of : Ask C → AnyAsk) 
 
 -- a call and the marks before it are three entries at most
 pub length_calls : (form : StrForm) (h : AnyHistory) → IsAnyLegal form h → any_length h ≤ 3 * length (any_calls h)
-length_calls form (AnyHistory.Cache entries) legal = few_heard cache_meaning AnyAsk.Cache form entries legal
-length_calls form (AnyHistory.List entries) legal = few_heard list_meaning AnyAsk.List form entries legal
+length_calls form (AnyHistory.Cache entries) legal = few_heard altered_caches AnyAsk.Cache form entries legal
+length_calls form (AnyHistory.List entries) legal = few_heard queued_lists AnyAsk.List form entries legal
 length_calls form (AnyHistory.Lock entries) legal = few_heard lock_meaning AnyAsk.Lock form entries legal
 
 pub calls_rise : (form : StrForm) (h : AnyHistory) → IsAnyLegal form h → Rising 0 (any_calls h)
-calls_rise form (AnyHistory.Cache entries) legal = rise_heard cache_meaning
-    AnyAsk.Cache form 0 (calls entries) (length entries) (numbers_rise cache_meaning form entries legal)
-calls_rise form (AnyHistory.List entries) legal = rise_heard list_meaning
-    AnyAsk.List form 0 (calls entries) (length entries) (numbers_rise list_meaning form entries legal)
+calls_rise form (AnyHistory.Cache entries) legal = rise_heard altered_caches
+    AnyAsk.Cache form 0 (calls entries) (length entries) (numbers_rise altered_caches form entries legal)
+calls_rise form (AnyHistory.List entries) legal = rise_heard queued_lists
+    AnyAsk.List form 0 (calls entries) (length entries) (numbers_rise queued_lists form entries legal)
 calls_rise form (AnyHistory.Lock entries) legal = rise_heard lock_meaning
     AnyAsk.Lock form 0 (calls entries) (length entries) (numbers_rise lock_meaning form entries legal)
 

@@ -6,14 +6,14 @@ use Rattle.plex_script.specs.CfTypes.declared.forms.Kind.TheVariants as kind
 use Rattle.plex_script.specs.CfTypes.declared.numbers.ConnId.{ConnId}
 use Rattle.plex_script.specs.EngineApi.Asking.{MayAsk}
 use Rattle.plex_script.specs.EngineApi.History.{numbers, stands_after, IsLegal, IsPoint, Tells}
-use Rattle.cache_model.specs.Meaning.{cache_meaning}
-use Rattle.list_model.specs.Meaning.{list_meaning}
 use Rattle.lock_model.specs.Meaning.{lock_meaning}
+use Rattle.queue_model.specs.ListQueues.{queued_lists}
 use Rattle.plex_script.specs.declared.scripts.AnyAsk.{AnyAsk}
 use Rattle.plex_script.specs.declared.scripts.AnyAsk.TheVariants as ask
 use Rattle.plex_script.specs.declared.asks.AnyHistory.{AnyHistory}
 use Rattle.plex_script.specs.declared.asks.AnyHistory.TheVariants as history
 use Rattle.plex_script.specs.Heard.{AnyCall}
+use Rattle.run_shown.specs.Meanings.{altered_caches}
 
 -- the history of a structure with no calls yet
 abbrev pub no_calls : Kind → AnyHistory
@@ -87,8 +87,8 @@ end_of calls = fold last_number 0 calls
 
 -- the bit of a connector's vector
 abbrev pub any_stands : StrForm → AnyHistory → ConnId → ℕ → Bool
-any_stands form (history.Cache entries) conn index = stands_after cache_meaning form entries conn index
-any_stands form (history.List entries) conn index = stands_after list_meaning form entries conn index
+any_stands form (history.Cache entries) conn index = stands_after altered_caches form entries conn index
+any_stands form (history.List entries) conn index = stands_after queued_lists form entries conn index
 any_stands form (history.Lock entries) conn index = stands_after lock_meaning form entries conn index
 
 -- numbers from one on, so many
@@ -105,13 +105,13 @@ any_word form entries conn word =
 
 -- the history is legal
 abbrev pub IsAnyLegal : StrForm → AnyHistory → Type 0
-IsAnyLegal form (history.Cache entries) = IsLegal cache_meaning form entries
-IsAnyLegal form (history.List entries) = IsLegal list_meaning form entries
+IsAnyLegal form (history.Cache entries) = IsLegal altered_caches form entries
+IsAnyLegal form (history.List entries) = IsLegal queued_lists form entries
 IsAnyLegal form (history.Lock entries) = IsLegal lock_meaning form entries
 
 -- a test that shows a bit with a number tells what stood at a numbered point, not before what the connector had seen
 -- complete
 abbrev pub AnyTells : StrForm → AnyHistory → ℕ → ℕ → ConnId → ℕ → Bool → Type 0
-AnyTells form (history.Cache entries) at sure conn index bit = Tells cache_meaning form entries at sure conn index bit
-AnyTells form (history.List entries) at sure conn index bit = Tells list_meaning form entries at sure conn index bit
+AnyTells form (history.Cache entries) at sure conn index bit = Tells altered_caches form entries at sure conn index bit
+AnyTells form (history.List entries) at sure conn index bit = Tells queued_lists form entries at sure conn index bit
 AnyTells form (history.Lock entries) at sure conn index bit = Tells lock_meaning form entries at sure conn index bit
