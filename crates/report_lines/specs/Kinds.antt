@@ -19,10 +19,10 @@ has_words (word ∷ words) = true
 pub record IsKind {C R : Type 0} (of : Ask C → AnyAsk) (cmd_words : Script → C → List (List ℕ))
     (answer_words : Script → R → List (List ℕ)) (answers : List Name16 → Answers R) (In : List Name16 → R → Type 0)
     : Type 0 where
-    pub asks : (script : Script) (asked : Ask C)
-        → any_words script.connectors (of asked) ≡ ask_words cmd_words script asked
-    pub printed : (script : Script) (r : R) → (answers script.connectors).words r ≡ answer_words script r
-    pub some : (script : Script) (r : R) → has_words (answer_words script r) ≡ true
-    pub reads : (connectors : List Name16) → AreNames connectors → (vary : Bool) (side : Side)
-        → IsRead connectors (answers connectors) (In connectors) vary side
-    pub one : (a b : Ask C) → of a ≡ of b → a ≡ b
+  pub asks : (script : Script) (asked : Ask C)
+      → any_words script.connectors (of asked) ≡ ask_words cmd_words script asked
+  pub printed : (script : Script) (r : R) → (answers script.connectors).words r ≡ answer_words script r
+  pub some : (script : Script) (r : R) → has_words (answer_words script r) ≡ true
+  pub reads : (connectors : List Name16) → AreNames connectors → (vary : Bool) (side : Side)
+      → IsRead connectors (answers connectors) (In connectors) vary side
+  pub one : (a b : Ask C) → of a ≡ of b → a ≡ b

@@ -68,8 +68,9 @@ impl Command for LockCmd {
     ghost words = { lock_words };
 
     fn of_call(call: AnyAsk) -> Option<Ask<LockCmd>> {
-        match call {
-            AnyAsk::Lock(made) => Some(made),
+        match &call {
+            AnyAsk::Lock(Ask::Shell(cmd)) => Some(Ask::Shell(*cmd)),
+            AnyAsk::Lock(Ask::Content(cmd)) => Some(Ask::Content(*cmd)),
             _ => None,
         }
     }
