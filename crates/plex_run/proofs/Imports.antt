@@ -1,5 +1,6 @@
 -- What proofs here name of other crates, and of this one's definitions. Declares nothing.
-pub use Rattle.run_laws.proofs.Imports.{Appends-trans, take-append_seam, nat_tests, take-append-drop, length-replicate, get_or-enumerate_from, length-enumerate_from, passes_at_first, Appends, enumerate_from, position_or_len, concat, flat_map, get_within, Telling, EndsRight, ShowsHistories, AreTelling, AreRunLinks, IsRunnable, IsRunnableLine, IsRunnableAct, serial_run, decimal-numeral, length_on, SaysOne, IsExclusive, is_ask_of, script_text, TellsFault, IsScript, line_text, IsWithinScript, most_entries, most_calls, Reading, IsOnlyReading, IsReading, IsTheReading, report_of, ShowsFresh}
+pub use Rattle.run_laws.proofs.Imports.{Appends-trans, take-append_seam, nat_tests, take-append-drop, length-replicate, get_or-enumerate_from, length-enumerate_from, passes_at_first, Appends, enumerate_from, position_or_len, concat, flat_map, get_within, EndsRight, ShowsHistories, decimal-numeral, length_on, SaysOne, IsExclusive, is_ask_of, script_text, TellsFault, IsScript, line_text, IsWithinScript, most_entries, most_calls, Reading, IsOnlyReading, IsReading, IsTheReading, report_of, ShowsFresh}
+pub use Rattle.plex_agent.proofs.Imports.{Telling, AreTelling, AreRunLinks, IsRunnable, IsRunnableLine, IsRunnableAct, serial_run}
 pub use Rattle.plex_load.proofs.Imports.{load_script, IsLoad}
 pub use Rattle.plex_load.proofs.PlexSpell.{CutLaws.same_cut, CutLaws.not_free-middle, CutLaws.IsCut-stands, TextLaws.any-some, TextLaws.any-none, TextLaws.any-place}
 pub use Rattle.plex_locks.proofs.Imports.{IsLocked, locks_text}

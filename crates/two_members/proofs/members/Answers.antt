@@ -49,4 +49,5 @@ returns-clause-outcome g c =
     outcome c.in-Ok-start.board c.args.script.now c.close-histories.result.0.items c.push_reserved.new.self.items
     c.push_reserved-2.new.self.items c.work-written.new.b c.in_ok-last.field-0 pool c.in-Ok-start.ensures.forms
     c.close-histories.ensures.histories c.push_reserved-2.ensures.items c.work-written.ensures.stay.1.of_board
-    (c.work-written.ensures.stay.1.owner ∙ ap (λ (d : DeskShown). d.owner) seated.second) (search rules) (search rules) (search rules)
+    (c.work-written.ensures.stay.1.owner ∙ ap (λ (d : DeskShown). d.owner) seated.second) (search rules) (search rules)
+    (search rules)
