@@ -290,8 +290,8 @@ module _ (form : StrForm) (kind : form.kind ≡ Kind.Cache) (history : CacheHist
   own_told cmd (Some refusal) e is = let same : refusal ≡ Refusal.TooSmall needed there = cc in ap Some same
 
   shell_told : (cmd : AlterCmd CacheCmd) (shell : Option Refusal) → content_cause machine.shell by ≡ shell
-      → (with_entered (unless altered_caches form shell machine (content_done altered_caches form machine by cmd))).reply
-      ≡ refused → refusal_of cmd ≡ small
+      → (with_entered (unless altered_caches form shell machine
+      (content_done altered_caches form machine by cmd))).reply ≡ refused → refusal_of cmd ≡ small
   shell_told cmd None e is = own_told cmd (refusal_of cmd) refl is
   shell_told cmd (Some refusal) e is =
       let same : refusal ≡ Refusal.TooSmall needed there = cc in
@@ -303,7 +303,8 @@ module _ (form : StrForm) (kind : form.kind ≡ Kind.Cache) (history : CacheHist
   reply_short cmd is = own_short cmd (shell_told cmd (content_cause machine.shell by) refl is)
 
   pub short_replied : (cmd : AlterCmd CacheCmd) → IsLetThrough form history by cmd
-      → IsTooSmall form history cmd needed there → (step altered_caches form machine by (Ask.Content cmd)).reply ≡ refused
+      → IsTooSmall form history cmd needed there
+      → (step altered_caches form machine by (Ask.Content cmd)).reply ≡ refused
   short_replied cmd through is = rw (through.shell, own_comes cmd through.units is) refl
 
 -- ---- entries of legal histories
@@ -313,8 +314,8 @@ cache_kind Kind.Cache is = refl
 cache_kind (Kind.List headers locks refs) is = absurd (false≢true is)
 cache_kind Kind.Lock is = absurd (false≢true is)
 
-module _ (form : StrForm) (history : CacheHistory) (kind : IsTrue (is_cache form.kind)) (legal : IsLegalCache form history)
-    (before : CacheHistory) (entry : CacheEntry) (cmd : AlterCmd CacheCmd) (needed there : ℕ)
+module _ (form : StrForm) (history : CacheHistory) (kind : IsTrue (is_cache form.kind))
+    (legal : IsLegalCache form history) (before : CacheHistory) (entry : CacheEntry) (cmd : AlterCmd CacheCmd) (needed there : ℕ)
     (at : IsAskedAt history before entry cmd) where
   abbrev replied : What (AlterCmd CacheCmd) → Reply (AlterReply CacheReply)
   replied what = reply_for altered_caches form (replay altered_caches form before) entry.by what
@@ -322,7 +323,8 @@ module _ (form : StrForm) (history : CacheHistory) (kind : IsTrue (is_cache form
   entry_replied : entry.reply ≡ replied (What.Call (Ask.Content cmd))
   entry_replied =
       let goes = (continues_both altered_caches form [] before (entry ∷ at.after)
-      (continues_legal altered_caches form (before ++ entry ∷ at.after) (subst (IsLegalCache form) at.split legal))).1 in
+      (continues_legal altered_caches form (before ++ entry ∷ at.after)
+      (subst (IsLegalCache form) at.split legal))).1 in
       (continues-answered altered_caches form before (entry ∷ at.after) goes).0 ∙ ap replied at.asks
 
   pub small_told : entry.reply ≡ Reply.Refused (Refusal.TooSmall needed there)

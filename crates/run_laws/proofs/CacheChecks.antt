@@ -21,7 +21,8 @@ history = entry 1 1 (Read page 0 None 1) (told CacheReply.NoData) ∷ entry 2 2 
     (told CacheReply.Ok) ∷ entry 4 1 (Write page 0 (9 ∷ []) (Some 3) None None 1 true) (Reply.Refused
     Refusal.NotRegistered) ∷ entry 5 1 (Castout page) (told (CacheReply.CastData (1 ∷ []) None)) ∷ entry
     6 2 (Write page 5 (2 ∷ []) (Some 3) None None 1 false) (told CacheReply.Ok) ∷ entry
-    7 1 (Unlock page) (told (CacheReply.Unlocked true)) ∷ entry 8 1 (Castout page) (told (CacheReply.CastData (2 ∷ []) None)) ∷ entry 9 1 (Unlock page) (told (CacheReply.Unlocked false)) ∷ []
+    7 1 (Unlock page) (told (CacheReply.Unlocked true)) ∷ entry 8 1 (Castout page)
+    (told (CacheReply.CastData (2 ∷ []) None)) ∷ entry 9 1 (Unlock page) (told (CacheReply.Unlocked false)) ∷ []
 
 -- 2 holds what it wrote last at 5, and nothing at another index; 1 was refused, and holds no data at 0
 held : copy_held history (conn 2) 5 ∷ copy_held (take 5 history) (conn 2) 5 ∷ copy_held history (conn 2) 0

@@ -10,7 +10,8 @@ asked cmd = What.Call (Ask.Content (AlterCmd.Inner cmd))
 
 -- an accepted command is answered as the content says
 pub answer-content : (form : StrForm) (history : CacheHistory) (by : ConnId) (cmd : CacheCmd) (answer : CacheReply)
-    → next_reply altered_caches form history by (Ask.Content (AlterCmd.Inner cmd)) ≡ Reply.Content (AlterReply.Inner answer)
+    → next_reply altered_caches form history by (Ask.Content (AlterCmd.Inner cmd))
+    ≡ Reply.Content (AlterReply.Inner answer)
     → answer ≡ answer_to (content_after form history) by cmd
 answer-content form history by cmd answer told = by_change
     (rw told at (changed altered_caches form refl (replay altered_caches form history) by (asked cmd)))

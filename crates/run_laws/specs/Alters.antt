@@ -1,4 +1,4 @@
--- When a cache isn't altered since it would be too small.
+-- When a cache isn't altered since it would be too small for what there is.
 use Rattle.std.specs.Prelude.{◌≡◌, ℕ, ◌≤◌, ◌<◌, ◌⊎◌, ◌∷◌, ◌++◌, Option, None, Some, option_map}
 use Rattle.cf_types.specs.declared.alter_commands.AlterCmd.{AlterCmd}
 use Rattle.cf_types.specs.declared.alter_commands.AlterCmd.TheVariants as alter
@@ -29,7 +29,8 @@ need_after form history = need_of cache_meaning (shape_of form) (replay altered_
 abbrev pub asked_for : StrForm → CacheHistory → AlterCmd CacheCmd → Option Caps
 asked_for form history (alter.Inner cmd) = None
 asked_for form history (alter.Start target) = Some target
-asked_for form history (alter.Step n) = option_map (caps_toward n (limits_after form history)) (target_after form history)
+asked_for form history (alter.Step n) =
+    option_map (caps_toward n (limits_after form history)) (target_after form history)
 asked_for form history alter.Stop = None
 
 -- so many are needed, and fewer there: in entries first, and then in elements
