@@ -17,7 +17,8 @@ use engine_api::Ask;
 use plex_script::AnyAsk;
 use reply_read::Answer;
 
-/// A command on the content of one kind of structure: what a caller asks by it, and its words.
+/// A command on the content of one kind of structure, or on what stands around it: what a caller
+/// asks by it, and its words.
 pub(crate) trait Command: Sized {
     ghost asked: { Ask Self → AnyAsk };
 
@@ -29,7 +30,8 @@ pub(crate) trait Command: Sized {
         ensures none { IfNone result ((made : Ask Self) → call ≡ asked made → ⊥) };
 }
 
-/// A reply on the content of one kind of structure: its words, and its range.
+/// A reply on the content of one kind of structure, or on what stands around it: its words, and its
+/// range.
 pub(crate) trait Told: Answer {
     ghost told: { Script → Self → List (List ℕ) };
 
