@@ -149,9 +149,16 @@ def rebuild_walk(rng):
             f'REBUILD COMPLETE RETRY {again}', 'EVENTS', 'EVENTS']
 
 
+def waits(rng, it):
+    """The sublists that a connector monitors as it comes."""
+    if it.kind != 'LIST' or it.refs != 'KEYS' or rng.random() < 0.4:
+        return []
+    return [f'MONSUB {rng.randrange(it.headers)} KEY {key}' for key in KEYS]
+
+
 def connector_lines(rng, it, who, others, count):
     """The lines of one connector at one structure."""
-    lines = [f'CONNECT {rng.choice(("KEEP", "DELETE"))}']
+    lines = [f'CONNECT {rng.choice(("KEEP", "DELETE"))}'] + waits(rng, it)
     while len(lines) < count:
         pick = rng.random()
         if it.vector and pick < 0.22:
@@ -163,7 +170,7 @@ def connector_lines(rng, it, who, others, count):
         elif pick < 0.34:
             lines.append(rng.choice(('NEXT', 'RESPOND')))
         elif pick < 0.35:
-            lines += [rng.choice(('DISCONNECT', 'FAIL', 'FAIL')), f'CONNECT {rng.choice(("KEEP", "DELETE"))}']
+            lines += [rng.choice(('DISCONNECT', 'FAIL', 'FAIL')), f'CONNECT {rng.choice(("KEEP", "DELETE"))}', *waits(rng, it)]
         elif pick < 0.38:
             lines.append('CONNECT KEEP')
         elif it.rebuilt and pick < 0.44:

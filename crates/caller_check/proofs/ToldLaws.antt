@@ -5,8 +5,8 @@ use Rattle.std.proofs.lemmas.List.{length-append}
 use Rattle.std.proofs.lemmas.Option.{get_or_from_slice_get, slice_get_within}
 use Rattle.caller_slots.specs.RunShown.CfTypes.declared.forms.StrForm.{StrForm}
 use Rattle.caller_slots.specs.RunShown.CfTypes.declared.numbers.ConnId.{ConnId}
-use Rattle.caller_slots.specs.RunShown.CacheModel.Meaning.{cache_meaning}
-use Rattle.caller_slots.specs.RunShown.ListModel.Meaning.{list_meaning}
+use Rattle.caller_slots.specs.RunShown.Meanings.{altered_caches}
+use Rattle.caller_slots.specs.RunShown.QueueModel.ListQueues.{queued_lists}
 use Rattle.caller_slots.specs.RunShown.LockModel.Meaning.{lock_meaning}
 use Rattle.caller_slots.specs.RunShown.PlexScript.declared.asks.AnyHistory.{AnyHistory}
 use Rattle.caller_slots.specs.RunShown.PlexScript.declared.transcripts.Shown.{Shown}
@@ -65,10 +65,10 @@ any_each : (form : StrForm) (entries : AnyHistory) (queue : QueueView) → AnySe
     (now : Wait) → slice_get queue.waits i ≡ Some now
     → (now.told ≡ true) ↔ AnyTells form entries now.at now.sure queue.conn now.index now.bit
 any_each form (AnyHistory.Cache h) queue settled i now at =
-    subst (IsSettled cache_meaning form h queue.conn) (get_or_from_slice_get queue.waits i now now at)
+    subst (IsSettled altered_caches form h queue.conn) (get_or_from_slice_get queue.waits i now now at)
     (settled i now (slice_get_within queue.waits i now at))
 any_each form (AnyHistory.List h) queue settled i now at =
-    subst (IsSettled list_meaning form h queue.conn) (get_or_from_slice_get queue.waits i now now at)
+    subst (IsSettled queued_lists form h queue.conn) (get_or_from_slice_get queue.waits i now now at)
     (settled i now (slice_get_within queue.waits i now at))
 any_each form (AnyHistory.Lock h) queue settled i now at =
     subst (IsSettled lock_meaning form h queue.conn) (get_or_from_slice_get queue.waits i now now at)

@@ -5,8 +5,8 @@ use Rattle.std.specs.declared.alloc.Global.{Global}
 use Rattle.cf_types.specs.declared.forms.StrForm.{StrForm}
 use Rattle.cf_types.specs.declared.numbers.ConnId.{ConnId}
 use Rattle.cf_types.specs.declared.numbers.StrNo.{StrNo}
-use Rattle.caller_slots.specs.RunShown.CacheModel.Meaning.{cache_meaning}
-use Rattle.caller_slots.specs.RunShown.ListModel.Meaning.{list_meaning}
+use Rattle.caller_slots.specs.RunShown.Meanings.{altered_caches}
+use Rattle.caller_slots.specs.RunShown.QueueModel.ListQueues.{queued_lists}
 use Rattle.caller_slots.specs.RunShown.LockModel.Meaning.{lock_meaning}
 use Rattle.caller_slots.specs.RunShown.PlexScript.declared.asks.AnyHistory.{AnyHistory}
 use Rattle.caller_slots.specs.RunShown.PlexScript.declared.asks.AnyHistory.TheVariants as history
@@ -24,8 +24,8 @@ rows_of tables = map (λ table. table.items) tables
 
 -- each test is told exactly where the history tells what it shows
 abbrev pub AnySettled : StrForm → AnyHistory → QueueView → Type 0
-AnySettled form (history.Cache entries) queue = AreSettled cache_meaning form entries queue
-AnySettled form (history.List entries) queue = AreSettled list_meaning form entries queue
+AnySettled form (history.Cache entries) queue = AreSettled altered_caches form entries queue
+AnySettled form (history.List entries) queue = AreSettled queued_lists form entries queue
 AnySettled form (history.Lock entries) queue = AreSettled lock_meaning form entries queue
 
 -- the tests that this caller's items show of a structure, as the history answers them: those of the items that are in

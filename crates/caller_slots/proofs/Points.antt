@@ -7,8 +7,8 @@ use Rattle.std.proofs.lemmas.List.Elements.{Contains-push}
 use Rattle.run_shown.specs.EngineApi.History.{Tells}
 use Rattle.run_shown.proofs.EngineApi.HistoryLaws.{by_turns, calls-turn, call_added}
 use Rattle.run_shown.proofs.EngineApi.NumberLaws.{number_added, length-turn, numbers_rise, RisesTo, numbered_legal}
-use Rattle.run_shown.specs.CacheModel.Meaning.{cache_meaning}
-use Rattle.run_shown.specs.ListModel.Meaning.{list_meaning}
+use Rattle.run_shown.specs.Meanings.{altered_caches}
+use Rattle.run_shown.specs.QueueModel.ListQueues.{queued_lists}
 use Rattle.run_shown.specs.LockModel.Meaning.{lock_meaning}
 use Rattle.run_shown.specs.PlexScript.declared.asks.AnyHistory.{AnyHistory}
 use Rattle.run_shown.specs.PlexScript.declared.scripts.AnyAsk.{AnyAsk}
@@ -55,17 +55,17 @@ module _ {C R I S : Type 0} (meaning : Meaning C R I S) (form : StrForm) where
 pub any_tells_end : (form : StrForm) (h : AnyHistory) (q : ℕ) (conn : ConnId) (index : ℕ) → IsAnyLegal form h
     → q ≤ any_length h → AnyTells form h (any_length h) q conn index (any_stands form h conn index)
 any_tells_end form (AnyHistory.Cache entries) q conn index legal few =
-    tells_end cache_meaning form entries q conn index legal few
+    tells_end altered_caches form entries q conn index legal few
 any_tells_end form (AnyHistory.List entries) q conn index legal few =
-    tells_end list_meaning form entries q conn index legal few
+    tells_end queued_lists form entries q conn index legal few
 any_tells_end form (AnyHistory.Lock entries) q conn index legal few =
     tells_end lock_meaning form entries q conn index legal few
 
 pub any_calls_up : (form : StrForm) (h : AnyHistory) → IsAnyLegal form h → AreCallsUpTo (any_length h) (any_calls h)
-any_calls_up form (AnyHistory.Cache entries) legal = calls_up cache_meaning form
-    AnyAsk.Cache 0 (calls entries) (length entries) (numbers_rise cache_meaning form entries legal)
-any_calls_up form (AnyHistory.List entries) legal = calls_up list_meaning form
-    AnyAsk.List 0 (calls entries) (length entries) (numbers_rise list_meaning form entries legal)
+any_calls_up form (AnyHistory.Cache entries) legal = calls_up altered_caches form
+    AnyAsk.Cache 0 (calls entries) (length entries) (numbers_rise altered_caches form entries legal)
+any_calls_up form (AnyHistory.List entries) legal = calls_up queued_lists form
+    AnyAsk.List 0 (calls entries) (length entries) (numbers_rise queued_lists form entries legal)
 any_calls_up form (AnyHistory.Lock entries) legal = calls_up lock_meaning form
     AnyAsk.Lock 0 (calls entries) (length entries) (numbers_rise lock_meaning form entries legal)
 
@@ -73,8 +73,8 @@ any_calls_up form (AnyHistory.Lock entries) legal = calls_up lock_meaning form
 pub legal_point : (form : StrForm) (h : AnyHistory) (at sure : ℕ) (conn : ConnId) (index : ℕ) (bit : Bool)
     → IsAnyLegal form h → AnyTells form h at sure conn index bit → at ≤ any_length h
 legal_point form (AnyHistory.Cache entries) at sure conn index bit legal tells =
-    (let numbered = numbered_legal cache_meaning form entries legal in numbered.within at tells.point)
+    (let numbered = numbered_legal altered_caches form entries legal in numbered.within at tells.point)
 legal_point form (AnyHistory.List entries) at sure conn index bit legal tells =
-    (let numbered = numbered_legal list_meaning form entries legal in numbered.within at tells.point)
+    (let numbered = numbered_legal queued_lists form entries legal in numbered.within at tells.point)
 legal_point form (AnyHistory.Lock entries) at sure conn index bit legal tells =
     (let numbered = numbered_legal lock_meaning form entries legal in numbered.within at tells.point)

@@ -1,8 +1,9 @@
 -- A caller's first call in a history of whatever kind, and whether it is what its step asks.
 use Rattle.std.proofs.Common.{◌≡◌, ◌↔◌, ℕ, ◌==◌, Bool, true, false, List, [], ◌∷◌, map, filter, drop, Option, Some, None, refl, sym, ap, ◌∙◌, cond}
 use Rattle.caller_slots.specs.RunShown.CfTypes.declared.{forms.Kind.Kind, numbers.ConnId.ConnId}
+use Rattle.caller_slots.specs.RunShown.CfTypes.declared.alter_commands.AlterCmd.{AlterCmd}
 use Rattle.caller_slots.specs.RunShown.CfTypes.declared.cache_commands.CacheCmd.{CacheCmd}
-use Rattle.caller_slots.specs.RunShown.CfTypes.declared.list_commands.ListCmd.{ListCmd}
+use Rattle.caller_slots.specs.RunShown.CfTypes.declared.list_commands.QueueCmd.{QueueCmd}
 use Rattle.caller_slots.specs.RunShown.CfTypes.declared.lock_commands.LockCmd.{LockCmd}
 use Rattle.caller_slots.specs.RunShown.EngineApi.declared.{asks.Ask.Ask, asks.Reply.Reply, histories.Entry.Entry, told.Told.Told}
 use Rattle.caller_slots.specs.RunShown.EngineApi.History.{Call, calls, own}
@@ -61,7 +62,7 @@ module _ {C R : Type 0} (of : Ask C → AnyAsk) (conn : ConnId) where
 
 -- ---- what a step asks, of one kind
 
-cache_asks : (line : Option AnyAsk) (now : Step) (ask : Ask CacheCmd)
+cache_asks : (line : Option AnyAsk) (now : Step) (ask : Ask (AlterCmd CacheCmd))
     → AsksThis now (cache_ask line) ask ↔ (asked_by Kind.Cache line now ≡ Some (AnyAsk.Cache ask))
 cache_asks (Some (AnyAsk.Cache mine)) (Step.Call retry) ask = (λ e. cc, λ e. cc)
 cache_asks (Some (AnyAsk.List other)) (Step.Call retry) ask = (λ e. absurd cc, λ e. absurd cc)
@@ -71,7 +72,7 @@ cache_asks line (Step.Next left behind) ask = (λ e. cc, λ e. cc)
 cache_asks line (Step.Respond left behind) ask = (λ e. cc, λ e. cc)
 cache_asks line Step.Rest ask = (λ e. absurd e, λ e. absurd cc)
 
-list_asks : (headers locks : ℕ) (refs : _) (line : Option AnyAsk) (now : Step) (ask : Ask ListCmd)
+list_asks : (headers locks : ℕ) (refs : _) (line : Option AnyAsk) (now : Step) (ask : Ask QueueCmd)
     → AsksThis now (list_ask line) ask ↔ (asked_by (Kind.List headers locks refs) line now ≡ Some (AnyAsk.List ask))
 list_asks headers locks refs (Some (AnyAsk.List mine)) (Step.Call retry) ask = (λ e. cc, λ e. cc)
 list_asks headers locks refs (Some (AnyAsk.Cache other)) (Step.Call retry) ask = (λ e. absurd cc, λ e. absurd cc)

@@ -1,7 +1,8 @@
 -- A caller's calls from an entry of a history on, and what its next one tells.
 use Rattle.std.specs.Prelude.{◌≡◌, ◌↔◌, ℕ, ◌+◌, ◌==◌, Bool, true, false, List, [], ◌∷◌, drop, slice_get, Option, None, Some}
+use Rattle.caller_slots.specs.RunShown.CfTypes.declared.alter_commands.AlterCmd.{AlterCmd}
 use Rattle.caller_slots.specs.RunShown.CfTypes.declared.cache_commands.CacheCmd.{CacheCmd}
-use Rattle.caller_slots.specs.RunShown.CfTypes.declared.list_commands.ListCmd.{ListCmd}
+use Rattle.caller_slots.specs.RunShown.CfTypes.declared.list_commands.QueueCmd.{QueueCmd}
 use Rattle.caller_slots.specs.RunShown.CfTypes.declared.lock_commands.LockCmd.{LockCmd}
 use Rattle.caller_slots.specs.RunShown.CfTypes.declared.forms.Kind.{Kind}
 use Rattle.caller_slots.specs.RunShown.CfTypes.declared.numbers.ConnId.{ConnId}
@@ -65,13 +66,13 @@ IsHeardFirst now line conn entries from (Some heard) = IsFirstHeard now line con
 -- ---- histories of whatever kind
 
 -- the line's call, if it is one of this kind
-abbrev pub cache_ask : Option AnyAsk → Option (Ask CacheCmd)
+abbrev pub cache_ask : Option AnyAsk → Option (Ask (AlterCmd CacheCmd))
 cache_ask (Some (any.Cache ask)) = Some ask
 cache_ask (Some (any.List ask)) = None
 cache_ask (Some (any.Lock ask)) = None
 cache_ask None = None
 
-abbrev pub list_ask : Option AnyAsk → Option (Ask ListCmd)
+abbrev pub list_ask : Option AnyAsk → Option (Ask QueueCmd)
 list_ask (Some (any.Cache ask)) = None
 list_ask (Some (any.List ask)) = Some ask
 list_ask (Some (any.Lock ask)) = None

@@ -7,7 +7,9 @@ ghost use Rattle.caller_walk.specs.Heard.{is_own, cache_ask, left_at, list_ask, 
 
 use call_same::Same;
 use caller_slots::shown::scripts::api::{Ask, Entry, Told, What};
-use caller_slots::shown::scripts::types::{CacheCmd, ConnId, Kind, ListCmd, LockCmd, ShellCmd};
+use caller_slots::shown::scripts::types::{
+    AlterCmd, CacheCmd, ConnId, Kind, LockCmd, QueueCmd, ShellCmd,
+};
 use caller_slots::shown::scripts::{AnyAsk, AnyHistory, Step};
 
 /// What a caller's next call tells.
@@ -102,7 +104,7 @@ fn first_heard<C: Same, R>(
 }
 
 // The line's call, if it is one of a cache.
-fn cache_ask(line: Option<&AnyAsk>) -> Option<&Ask<CacheCmd>>
+fn cache_ask(line: Option<&AnyAsk>) -> Option<&Ask<AlterCmd<CacheCmd>>>
     ensures { option_copied result ≡ cache_ask (option_copied line.entry) }
 {
     match line {
@@ -112,7 +114,7 @@ fn cache_ask(line: Option<&AnyAsk>) -> Option<&Ask<CacheCmd>>
 }
 
 // The same of a list.
-fn list_ask(line: Option<&AnyAsk>) -> Option<&Ask<ListCmd>>
+fn list_ask(line: Option<&AnyAsk>) -> Option<&Ask<QueueCmd>>
     ensures { option_copied result ≡ list_ask (option_copied line.entry) }
 {
     match line {

@@ -10,8 +10,8 @@ use Rattle.caller_slots.proofs.RunShown.EngineApi.AnswerLaws.{answers-append}
 use Rattle.std.proofs.lemmas.List.Sums.{fold_push}
 use Rattle.caller_slots.specs.RunShown.PlexScript.declared.asks.AnyHistory.{AnyHistory}
 use Rattle.caller_slots.specs.RunShown.Kinds.{IsAnyLegal}
-use Rattle.caller_slots.specs.RunShown.CacheModel.Meaning.{cache_meaning}
-use Rattle.caller_slots.specs.RunShown.ListModel.Meaning.{list_meaning}
+use Rattle.caller_slots.specs.RunShown.Meanings.{altered_caches}
+use Rattle.caller_slots.specs.RunShown.QueueModel.ListQueues.{queued_lists}
 use Rattle.caller_slots.specs.RunShown.LockModel.Meaning.{lock_meaning}
 use Rattle.block_laws.specs.Blocks.{EndsBlock, IsBlock, IsBadBlock}
 use Rattle.block_laws.proofs.Fits.{legal_front}
@@ -161,12 +161,12 @@ module _ {C R I S : Type 0} (meaning : Meaning C R I S) (form : StrForm) where
 -- ---- of any kind
 
 pub any_illegal : (form : StrForm) (h : AnyHistory) (place : ℕ) → IsAnyBadBlock form h place → IsAnyLegal form h → ⊥
-any_illegal form (AnyHistory.Cache entries) place bad legal = bad_illegal cache_meaning form entries place bad legal
-any_illegal form (AnyHistory.List entries) place bad legal = bad_illegal list_meaning form entries place bad legal
+any_illegal form (AnyHistory.Cache entries) place bad legal = bad_illegal altered_caches form entries place bad legal
+any_illegal form (AnyHistory.List entries) place bad legal = bad_illegal queued_lists form entries place bad legal
 any_illegal form (AnyHistory.Lock entries) place bad legal = bad_illegal lock_meaning form entries place bad legal
 
 pub any_one_block : (form : StrForm) (h : AnyHistory) (place place' : ℕ) → IsAnyBadBlock form h place → IsAnyBadBlock form h place'
     → place ≡ place'
-any_one_block form (AnyHistory.Cache entries) place place' one other = one_block cache_meaning form entries place place' one other
-any_one_block form (AnyHistory.List entries) place place' one other = one_block list_meaning form entries place place' one other
+any_one_block form (AnyHistory.Cache entries) place place' one other = one_block altered_caches form entries place place' one other
+any_one_block form (AnyHistory.List entries) place place' one other = one_block queued_lists form entries place place' one other
 any_one_block form (AnyHistory.Lock entries) place place' one other = one_block lock_meaning form entries place place' one other

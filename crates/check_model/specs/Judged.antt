@@ -3,8 +3,8 @@ use Rattle.std.specs.Prelude.{◌≡◌, ◌⊎◌, ℕ, ◌+◌, ◌-◌, ◌<�
 use Rattle.caller_slots.specs.RunShown.CfTypes.declared.forms.StrForm.{StrForm}
 use Rattle.caller_slots.specs.RunShown.CfTypes.declared.numbers.ConnId.{ConnId}
 use Rattle.caller_slots.specs.RunShown.CfTypes.declared.numbers.StrNo.{StrNo}
-use Rattle.caller_slots.specs.RunShown.CacheModel.Meaning.{cache_meaning}
-use Rattle.caller_slots.specs.RunShown.ListModel.Meaning.{list_meaning}
+use Rattle.caller_slots.specs.RunShown.Meanings.{altered_caches}
+use Rattle.caller_slots.specs.RunShown.QueueModel.ListQueues.{queued_lists}
 use Rattle.caller_slots.specs.RunShown.LockModel.Meaning.{lock_meaning}
 use Rattle.caller_slots.specs.RunShown.PlexScript.declared.asks.AnyHistory.{AnyHistory}
 use Rattle.caller_slots.specs.RunShown.PlexScript.declared.asks.AnyHistory.TheVariants as history
@@ -22,8 +22,8 @@ use Rattle.check_model.specs.declared.printed.Printed.{Printed}
 
 -- the first block with which a history of whatever kind isn't legal begins at this place, from 1
 abbrev pub IsAnyBadBlock : StrForm → AnyHistory → ℕ → Type 0
-IsAnyBadBlock form (history.Cache entries) place = IsBadBlock cache_meaning form entries place
-IsAnyBadBlock form (history.List entries) place = IsBadBlock list_meaning form entries place
+IsAnyBadBlock form (history.Cache entries) place = IsBadBlock altered_caches form entries place
+IsAnyBadBlock form (history.List entries) place = IsBadBlock queued_lists form entries place
 IsAnyBadBlock form (history.Lock entries) place = IsBadBlock lock_meaning form entries place
 
 -- a caller's transcript follows the script, and its tests tell what stood

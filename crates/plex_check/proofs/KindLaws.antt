@@ -2,10 +2,12 @@
 use Rattle.std.proofs.Common.{◌≡◌, List, Result, refl, sym, subst}
 use Rattle.std.specs.Prelude.{IsTrue, All, IfOk}
 use Rattle.cf_types.specs.NoMemory.declared.wants.NoMemory.{NoMemory}
+use Rattle.cf_types.specs.declared.alter_commands.AlterCmd.{AlterCmd}
+use Rattle.cf_types.specs.declared.alter_commands.AlterReply.{AlterReply}
 use Rattle.cf_types.specs.declared.cache_commands.CacheCmd.{CacheCmd}
 use Rattle.cf_types.specs.declared.cache_commands.CacheReply.{CacheReply}
-use Rattle.cf_types.specs.declared.list_commands.ListCmd.{ListCmd}
-use Rattle.cf_types.specs.declared.list_commands.ListReply.{ListReply}
+use Rattle.cf_types.specs.declared.list_commands.QueueCmd.{QueueCmd}
+use Rattle.cf_types.specs.declared.list_commands.QueueReply.{QueueReply}
 use Rattle.cf_types.specs.declared.lock_commands.LockCmd.{LockCmd}
 use Rattle.cf_types.specs.declared.lock_commands.LockReply.{LockReply}
 use Rattle.cf_types.specs.declared.forms.Kind.{Kind}
@@ -15,8 +17,8 @@ use Rattle.engine_api.specs.declared.histories.Entry.{Entry}
 use Rattle.vector_waits.specs.Waits.{QueueView, AreSettled}
 use Rattle.history_check.specs.declared.judged.Judged.{Judged}
 use Rattle.history_check.specs.Judging.{IsAskable}
-use Rattle.check_model.specs.RunShown.CacheModel.Meaning.{cache_meaning}
-use Rattle.check_model.specs.RunShown.ListModel.Meaning.{list_meaning}
+use Rattle.check_model.specs.RunShown.Meanings.{altered_caches}
+use Rattle.check_model.specs.RunShown.QueueModel.ListQueues.{queued_lists}
 use Rattle.check_model.specs.RunShown.LockModel.Meaning.{lock_meaning}
 use Rattle.check_model.specs.RunShown.PlexScript.declared.asks.AnyHistory.{AnyHistory}
 use Rattle.check_model.specs.RunShown.PlexScript.declared.scripts.AnyAsk.{AnyAsk}
@@ -25,8 +27,14 @@ use Rattle.check_model.specs.RunShown.Kinds.{IsOfKind}
 use Rattle.caller_check.specs.Tables.{AnySettled}
 use Rattle.plex_check.proofs.AskedLaws.{MayBeCalled, all_askable}
 
+abbrev CacheEntries : Type 0
+CacheEntries = List (Entry (AlterCmd CacheCmd) (AlterReply CacheReply))
+
+abbrev ListEntries : Type 0
+ListEntries = List (Entry QueueCmd QueueReply)
+
 module _ (kind : Kind) (any : AnyHistory) where
-  pub cache_kind : (entries : List (Entry CacheCmd CacheReply)) → any ≡ AnyHistory.Cache entries → IsOfKind kind any
+  pub cache_kind : (entries : CacheEntries) → any ≡ AnyHistory.Cache entries → IsOfKind kind any
       → IsTrue (is_cache kind)
   cache_kind entries is of = by_kind kind (subst (IsOfKind kind) is of)
     where
@@ -35,7 +43,7 @@ module _ (kind : Kind) (any : AnyHistory) where
       by_kind (Kind.List headers locks refs) of = absurd of
       by_kind Kind.Lock of = absurd of
 
-  pub list_kind : (entries : List (Entry ListCmd ListReply)) → any ≡ AnyHistory.List entries → IsOfKind kind any
+  pub list_kind : (entries : ListEntries) → any ≡ AnyHistory.List entries → IsOfKind kind any
       → IsTrue (is_list kind)
   list_kind entries is of = by_kind kind (subst (IsOfKind kind) is of)
     where
@@ -55,33 +63,33 @@ module _ (kind : Kind) (any : AnyHistory) where
 
 -- entries are those of this history
 module _ (any : AnyHistory) where
-  pub cache_asks : (history entries : List (Entry CacheCmd CacheReply)) → any ≡ AnyHistory.Cache history → entries ≡ history
+  pub cache_asks : (history entries : CacheEntries) → any ≡ AnyHistory.Cache history → entries ≡ history
       → All MayBeCalled (any_calls any) → All IsAskable entries
   cache_asks history entries is same all = subst (All IsAskable) (sym same) (all_askable AnyAsk.Cache
       (λ by ask may. may) history (subst (λ (h : AnyHistory). All MayBeCalled (any_calls h)) is all))
 
-  pub cache_told : (history entries : List (Entry CacheCmd CacheReply)) → any ≡ AnyHistory.Cache history → entries ≡ history
+  pub cache_told : (history entries : CacheEntries) → any ≡ AnyHistory.Cache history → entries ≡ history
       → (form : StrForm) (result : Result Judged NoMemory) (queues : List QueueView)
-      → IfOk result (λ found. found ≡ Judged.Legal → All (AreSettled cache_meaning form entries) queues)
+      → IfOk result (λ found. found ≡ Judged.Legal → All (AreSettled altered_caches form entries) queues)
       → IfOk result (λ found. found ≡ Judged.Legal → All (AnySettled form any) queues)
   cache_told history entries is same form result queues told =
       subst (λ (h : AnyHistory). IfOk result (λ found. found ≡ Judged.Legal → All (AnySettled form h) queues)) (sym is)
-      (subst (λ (l : List (Entry CacheCmd CacheReply)). IfOk result (λ found. found ≡ Judged.Legal
-      → All (AreSettled cache_meaning form l) queues)) same told)
+      (subst (λ (l : CacheEntries). IfOk result (λ found. found ≡ Judged.Legal
+      → All (AreSettled altered_caches form l) queues)) same told)
 
-  pub list_asks : (history entries : List (Entry ListCmd ListReply)) → any ≡ AnyHistory.List history → entries ≡ history
+  pub list_asks : (history entries : ListEntries) → any ≡ AnyHistory.List history → entries ≡ history
       → All MayBeCalled (any_calls any) → All IsAskable entries
   list_asks history entries is same all = subst (All IsAskable) (sym same) (all_askable AnyAsk.List
       (λ by ask may. may) history (subst (λ (h : AnyHistory). All MayBeCalled (any_calls h)) is all))
 
-  pub list_told : (history entries : List (Entry ListCmd ListReply)) → any ≡ AnyHistory.List history → entries ≡ history
+  pub list_told : (history entries : ListEntries) → any ≡ AnyHistory.List history → entries ≡ history
       → (form : StrForm) (result : Result Judged NoMemory) (queues : List QueueView)
-      → IfOk result (λ found. found ≡ Judged.Legal → All (AreSettled list_meaning form entries) queues)
+      → IfOk result (λ found. found ≡ Judged.Legal → All (AreSettled queued_lists form entries) queues)
       → IfOk result (λ found. found ≡ Judged.Legal → All (AnySettled form any) queues)
   list_told history entries is same form result queues told =
       subst (λ (h : AnyHistory). IfOk result (λ found. found ≡ Judged.Legal → All (AnySettled form h) queues)) (sym is)
-      (subst (λ (l : List (Entry ListCmd ListReply)). IfOk result (λ found. found ≡ Judged.Legal
-      → All (AreSettled list_meaning form l) queues)) same told)
+      (subst (λ (l : ListEntries). IfOk result (λ found. found ≡ Judged.Legal
+      → All (AreSettled queued_lists form l) queues)) same told)
 
   pub lock_asks : (history entries : List (Entry LockCmd LockReply)) → any ≡ AnyHistory.Lock history → entries ≡ history
       → All MayBeCalled (any_calls any) → All IsAskable entries

@@ -7,8 +7,8 @@ use Rattle.vector_waits.specs.Waits.{QueueView}
 use Rattle.history_check.specs.declared.judged.Judged.{Judged}
 use Rattle.history_check.specs.declared.judged.Judged.TheVariants as judged
 use Rattle.history_check.specs.Judging.{IsJudged}
-use Rattle.check_model.specs.RunShown.CacheModel.Meaning.{cache_meaning}
-use Rattle.check_model.specs.RunShown.ListModel.Meaning.{list_meaning}
+use Rattle.check_model.specs.RunShown.Meanings.{altered_caches}
+use Rattle.check_model.specs.RunShown.QueueModel.ListQueues.{queued_lists}
 use Rattle.check_model.specs.RunShown.LockModel.Meaning.{lock_meaning}
 use Rattle.check_model.specs.RunShown.PlexScript.declared.asks.AnyHistory.{AnyHistory}
 use Rattle.check_model.specs.RunShown.PlexScript.declared.asks.AnyHistory.TheVariants as history
@@ -27,8 +27,8 @@ use Rattle.plex_check.specs.declared.structures.AllJudged.TheVariants as all
 
 -- a history of whatever kind is legal, or its first bad block begins at this place, from 1
 abbrev pub IsAnyJudged : StrForm → AnyHistory → Judged → Type 0
-IsAnyJudged form (history.Cache entries) found = IsJudged cache_meaning form entries found
-IsAnyJudged form (history.List entries) found = IsJudged list_meaning form entries found
+IsAnyJudged form (history.Cache entries) found = IsJudged altered_caches form entries found
+IsAnyJudged form (history.List entries) found = IsJudged queued_lists form entries found
 IsAnyJudged form (history.Lock entries) found = IsJudged lock_meaning form entries found
 
 -- each item is one of a structure that has a history

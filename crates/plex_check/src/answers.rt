@@ -97,8 +97,9 @@ fn check_callers(
 
 /// Checks what a report of a script prints: whether each structure's history is legal, as it is
 /// replayed call by call, and whether each caller's transcript is right. Else the first that is
-/// wrong: the first structure whose history isn't legal, with the first entry of its first bad block;
-/// or, where all are, the first caller whose transcript isn't right, with its first bad item.
+/// wrong: the first structure whose history isn't legal, with the first entry of its first bad
+/// block; or, where all are, the first caller whose transcript isn't right, with its first bad
+/// item.
 ///
 /// # Errors
 ///

@@ -5,24 +5,28 @@ ghost use Rattle.vector_waits.specs.Waits.{AreSettled};
 ghost use Rattle.history_check.specs.Judging.{IsAskable, IsJudged};
 ghost use Rattle.history_check.specs.Queues.{HasTestsOf, IsRising, Pairs};
 ghost use Rattle.history_check.specs.declared.judged.Judged.TheVariants as judged;
-ghost use Rattle.check_model.specs.RunShown.CacheModel.Meaning.{cache_meaning};
-ghost use Rattle.check_model.specs.RunShown.ListModel.Meaning.{list_meaning};
+ghost use Rattle.check_model.specs.RunShown.Meanings.{altered_caches};
+ghost use Rattle.check_model.specs.RunShown.QueueModel.ListQueues.{queued_lists};
 ghost use Rattle.check_model.specs.RunShown.LockModel.Meaning.{lock_meaning};
 
 use cache_core::CacheEngine;
-use cf_types::{CacheCmd, CacheReply, ListCmd, ListReply, LockCmd, LockReply, NoMemory, StrForm};
+use cf_alter::Altered;
+use cf_types::{
+    AlterCmd, AlterReply, CacheCmd, CacheReply, LockCmd, LockReply, NoMemory, QueueCmd, QueueReply,
+    StrForm,
+};
 use engine_api::Entry;
 use history_check::{Judged, judge_history};
-use list_core::ListEngine;
+use list_queues::QueueEngine;
 use lock_core::LockEngine;
 use std::alloc::Global;
 use vector_waits::Queue;
 
-/// That of a cache structure.
+/// That of a cache structure, whose capacity may be altered.
 pub(crate) fn judge_cache(
     alloc: Global,
     form: &StrForm,
-    entries: &[Entry<CacheCmd, CacheReply>],
+    entries: &[Entry<AlterCmd<CacheCmd>, AlterReply<CacheReply>>],
     queues: &mut [Queue],
 ) -> Result<Judged, NoMemory>
     requires formed { IsForm form.now }
@@ -30,19 +34,19 @@ pub(crate) fn judge_cache(
     requires askable { All IsAskable entries.now }
     requires room { length entries.now < 18446744073709551613 }
     requires rising { All IsRising queues.old }
-    ensures judged { IfOk result (IsJudged cache_meaning form.now entries.now) }
+    ensures judged { IfOk result (IsJudged altered_caches form.now entries.now) }
     ensures told { IfOk result (λ found. found ≡ judged.Legal
-        → All (AreSettled cache_meaning form.now entries.now) queues.new) }
+        → All (AreSettled altered_caches form.now entries.now) queues.new) }
     ensures same { Pairs HasTestsOf queues.old queues.new }
 {
-    judge_history::<CacheEngine>(alloc, form, entries, queues)
+    judge_history::<Altered<CacheEngine>>(alloc, form, entries, queues)
 }
 
-/// That of a list structure.
+/// That of a list structure with event queues.
 pub(crate) fn judge_list(
     alloc: Global,
     form: &StrForm,
-    entries: &[Entry<ListCmd, ListReply>],
+    entries: &[Entry<QueueCmd, QueueReply>],
     queues: &mut [Queue],
 ) -> Result<Judged, NoMemory>
     requires formed { IsForm form.now }
@@ -50,12 +54,12 @@ pub(crate) fn judge_list(
     requires askable { All IsAskable entries.now }
     requires room { length entries.now < 18446744073709551613 }
     requires rising { All IsRising queues.old }
-    ensures judged { IfOk result (IsJudged list_meaning form.now entries.now) }
+    ensures judged { IfOk result (IsJudged queued_lists form.now entries.now) }
     ensures told { IfOk result (λ found. found ≡ judged.Legal
-        → All (AreSettled list_meaning form.now entries.now) queues.new) }
+        → All (AreSettled queued_lists form.now entries.now) queues.new) }
     ensures same { Pairs HasTestsOf queues.old queues.new }
 {
-    judge_history::<ListEngine>(alloc, form, entries, queues)
+    judge_history::<QueueEngine>(alloc, form, entries, queues)
 }
 
 /// That of a lock structure.

@@ -12,7 +12,7 @@ use plex_spell::Words;
 use std::alloc::Global;
 
 /// Reads a reply of a cache structure on its content.
-pub fn inner_reply(
+pub fn inner_cache_reply(
     alloc: Global,
     connectors: &[Name16],
     words: &Words,

@@ -11,7 +11,7 @@ use plex_spell::Words;
 use std::alloc::Global;
 
 /// Reads a reply of a list structure on records.
-pub fn inner_reply(
+pub fn inner_list_reply(
     alloc: Global,
     connectors: &[Name16],
     words: &Words,

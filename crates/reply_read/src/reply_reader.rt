@@ -7,9 +7,9 @@ ghost use Rattle.reply_rows.specs.Contents.{alter_answers, queue_answers, lock_a
 ghost use Rattle.reply_rows.specs.Replies.{reply_at, told_forms};
 ghost use Rattle.reply_rows.specs.declared.sides.Side.TheVariants.{Common, Content, Around};
 
-use crate::alter_reader::{self, alter_reply};
+use crate::alter_reader::{alter_reply, inner_cache_reply};
 use crate::lock_reader::lock_reply;
-use crate::queue_reader::{self, queue_reply};
+use crate::queue_reader::{inner_list_reply, queue_reply};
 use crate::refusal_reader::refused;
 use crate::shell_reader::shell_reply;
 use cf_types::{AlterReply, CacheReply, LockReply, Name16, NoMemory, QueueReply};
@@ -46,7 +46,7 @@ impl Answer for AlterReply<CacheReply> {
         connectors: &[Name16],
         words: &Words,
     ) -> Result<Option<AlterReply<CacheReply>>, NoMemory> {
-        alter_reader::inner_reply(alloc, connectors, words)
+        inner_cache_reply(alloc, connectors, words)
     }
 
     fn around(connectors: &[Name16], words: &Words) -> Option<AlterReply<CacheReply>> {
@@ -62,7 +62,7 @@ impl Answer for QueueReply {
         connectors: &[Name16],
         words: &Words,
     ) -> Result<Option<QueueReply>, NoMemory> {
-        queue_reader::inner_reply(alloc, connectors, words)
+        inner_list_reply(alloc, connectors, words)
     }
 
     fn around(connectors: &[Name16], words: &Words) -> Option<QueueReply> {

@@ -2,12 +2,14 @@
 use Rattle.std.proofs.Common.{◌≡◌, inl, inr, ℕ, ◌<◌, ◌^◌, Bool, true, false, List, [], ◌∷◌, ◌++◌, Option, Some, None, IsSome, codes, refl, sym, ap, subst, ◌∙◌, arith}
 use Rattle.std.specs.Fmt.{decimal}
 use Rattle.std.specs.List.{list_all}
+use Rattle.cf_types.specs.declared.alter_commands.AlterCmd.{AlterCmd}
 use Rattle.cf_types.specs.declared.cache_commands.CacheCmd.{CacheCmd}
 use Rattle.cf_types.specs.declared.forms.Kind.{Kind}
 use Rattle.cf_types.specs.declared.forms.Kind.TheVariants as kind
 use Rattle.cf_types.specs.declared.list_commands.At.{At}
 use Rattle.cf_types.specs.declared.list_commands.Cond.{Cond}
 use Rattle.cf_types.specs.declared.list_commands.ListCmd.{ListCmd}
+use Rattle.cf_types.specs.declared.list_commands.QueueCmd.{QueueCmd}
 use Rattle.cf_types.specs.declared.names.Name16.{Name16}
 use Rattle.cf_types.specs.declared.numbers.ConnId.{ConnId}
 use Rattle.cf_types.specs.declared.numbers.StrNo.{StrNo}
@@ -23,9 +25,9 @@ use Rattle.engine_api.specs.declared.histories.Entry.{Entry}
 use Rattle.plex_spell.specs.ListWords.{at_tokens, cond_tokens}
 use Rattle.plex_plain.specs.PlainWords.{plain_words}
 use Rattle.plex_plain.specs.Ranges.{AreWithin}
-use Rattle.plex_plain.proofs.CommandLaws.{cache_in, list_in, words_read, words_write, words_make, words_update, words_at, words_move, words_delete}
+use Rattle.plex_plain.proofs.CommandLaws.{cache_in, list_in, alter_in, queue_in, words_read, words_write, words_make, words_update, words_at, words_move, words_delete}
 use Rattle.plex_plain.proofs.Rooms.{words-good, number-good, caller-good, facility-good}
-use Rattle.plex_plain.proofs.Rows.{shell-row, cache-row, list-row, lock-row}
+use Rattle.plex_plain.proofs.Rows.{shell-row, alter-row, queue-row, lock-row}
 use Rattle.plex_plain.proofs.Texts.{AreGood, line-clear}
 use Rattle.plex_plain.proofs.Within.{words-within, within-front}
 use Rattle.plex_script.specs.declared.scripts.Act.TheVariants.{Call}
@@ -39,20 +41,21 @@ use Rattle.plex_script.specs.Limits.{KeepsLimits}
 use Rattle.plex_script.specs.LineWords.{act_tokens, retry_tokens}
 use Rattle.plex_script.specs.Printed.{class_in}
 use Rattle.plex_script.proofs.TokensTold.{act-told}
-use Rattle.plex_report.specs.CommandWords.{ask_words, cache_words, list_words, lock_words}
+use Rattle.plex_report.specs.CommandWords.{ask_words, alter_words, queue_words, lock_words}
 use Rattle.plex_report.specs.Lines.{entry_line, is_of_vary, reply_words, shown_line, what_words}
-use Rattle.plex_report.specs.ReplyWords.{cache_reply_words, list_reply_words, lock_reply_words}
-use Rattle.line_rows.specs.Rows.{is_word, Row}
+use Rattle.plex_report.specs.ReplyWords.{alter_reply_words, queue_reply_words, lock_reply_words}
+use Rattle.line_rows.specs.Rows.{is_word}
 use Rattle.line_rows.proofs.Words.{are-good}
+use Rattle.reply_rows.specs.Answers.{Answers}
 use Rattle.reply_rows.specs.declared.sides.Side.TheVariants.{Common}
-use Rattle.reply_rows.specs.Contents.{cache_row, list_row, lock_row}
+use Rattle.reply_rows.specs.Contents.{alter_answers, queue_answers, lock_answers, lock_row}
 use Rattle.reply_rows.specs.Replies as rows
-use Rattle.reply_rows.specs.Within.{IsCacheReply, IsListReply, IsLockReply}
-use Rattle.reply_rows.proofs.CacheRows.{cache-is}
-use Rattle.reply_rows.proofs.ListRows.{list-is}
+use Rattle.reply_rows.specs.Within.{IsAlterReply, IsQueueReply, IsLockReply}
+use Rattle.reply_rows.proofs.AlterRows.{alter-are}
+use Rattle.reply_rows.proofs.QueueRows.{queue-are}
 use Rattle.reply_rows.proofs.LockRows.{lock-is}
-use Rattle.reply_rows.proofs.Printed.{cache-same, list-same, lock-same, shell-same, refusal-same}
-use Rattle.reply_rows.proofs.Replies.{reply-is, cache-avoids, list-avoids, lock-avoids}
+use Rattle.reply_rows.proofs.Printed.{alter-same, queue-same, lock-same, shell-same, refusal-same}
+use Rattle.reply_rows.proofs.Replies.{reply-is, alone-are, alter-avoids, queue-avoids, lock-avoids}
 use Rattle.report_lines.specs.Readable.{IsMarkReply, IsWhat, IsEntry}
 use Rattle.report_lines.proofs.ItemLaws.{item-clear}
 use Rattle.report_fronts.specs.Fronts.{AreEntriesFree, AreItemsFree}
@@ -91,22 +94,30 @@ list_unnamed a b (ListCmd.Move at header head key version cond) = grind (arith, 
 list_unnamed a b (ListCmd.Delete at version cond) = grind (arith, words_delete, at_same, cond_same)
 list_unnamed a b cmd = refl
 
+alter_unnamed : (a b : List Name16) (cmd : AlterCmd CacheCmd) → alter_in a cmd ≡ alter_in b cmd
+alter_unnamed a b (AlterCmd.Inner cmd) = cache_unnamed a b cmd
+alter_unnamed a b cmd = refl
+
+queue_unnamed : (a b : List Name16) (cmd : QueueCmd) → queue_in a cmd ≡ queue_in b cmd
+queue_unnamed a b (QueueCmd.List cmd) = list_unnamed a b cmd
+queue_unnamed a b cmd = refl
+
 module _ (script : Script) (keeps : KeepsLimits script) where
   -- ---- commands
 
   abbrev words_asked : AnyAsk → List (List ℕ)
-  words_asked (ask.Cache asked) = ask_words cache_words script asked
-  words_asked (ask.List asked) = ask_words list_words script asked
+  words_asked (ask.Cache asked) = ask_words alter_words script asked
+  words_asked (ask.List asked) = ask_words queue_words script asked
   words_asked (ask.Lock asked) = ask_words lock_words script asked
 
   within_good : (asked : AnyAsk) → AreWithin (declared_in script) (act_tokens (class_in (Call asked)) (Call asked))
       → AreGood (words_asked asked)
   within_good (ask.Cache (Shell cmd)) h = (words-good (declared_in script) _ keeps.connectors (shell-row cmd).plain h).0
-  within_good (ask.Cache (Content cmd)) h = subst AreGood (cache_unnamed script.connectors [] cmd)
-      (words-good (declared_in script) _ keeps.connectors (cache-row _ cmd).plain h).0
+  within_good (ask.Cache (Content cmd)) h = subst AreGood (alter_unnamed script.connectors [] cmd)
+      (words-good (declared_in script) _ keeps.connectors (alter-row _ cmd).plain h).0
   within_good (ask.List (Shell cmd)) h = (words-good (declared_in script) _ keeps.connectors (shell-row cmd).plain h).0
-  within_good (ask.List (Content cmd)) h = subst AreGood (list_unnamed script.connectors [] cmd)
-      (words-good (declared_in script) _ keeps.connectors (list-row cmd).plain h).0
+  within_good (ask.List (Content cmd)) h = subst AreGood (queue_unnamed script.connectors [] cmd)
+      (words-good (declared_in script) _ keeps.connectors (queue-row cmd).plain h).0
   within_good (ask.Lock (Shell cmd)) h = (words-good (declared_in script) _ keeps.connectors (shell-row cmd).plain h).0
   within_good (ask.Lock (Content cmd)) h = (words-good (declared_in script) _ keeps.connectors (lock-row cmd).plain h).0
 
@@ -129,20 +140,21 @@ module _ (script : Script) (keeps : KeepsLimits script) where
   -- ---- entries
 
   module _ {C R : Type 0} (of : Ask C → AnyAsk) (In : List Name16 → R → Type 0)
-      (cmd_words : Script → C → List (List ℕ)) (answer_words : Script → R → List (List ℕ)) (row : Row R)
+      (cmd_words : Script → C → List (List ℕ)) (answer_words : Script → R → List (List ℕ)) (answers : Answers R)
       (asks : (asked : Ask C) → words_asked (of asked) ≡ ask_words cmd_words script asked)
-      (same : (r : R) → row.words r ≡ answer_words script r)
-      (is : (vary : Bool) → rows.IsRead script.connectors row (In script.connectors) vary Common) where
+      (same : (r : R) → answers.words r ≡ answer_words script r)
+      (is : (vary : Bool) → rows.IsRead script.connectors answers (In script.connectors) vary Common) where
     -- the words of a reply in range are words
     reply_said : (vary : Bool) (r : Reply R) (o : Option (Reply R))
-        → rows.reply_at script.connectors row vary Common (rows.reply_words script.connectors row vary r) ≡ o → IsSome o
-        → list_all is_word (rows.reply_words script.connectors row vary r) ≡ true
+        → rows.reply_at script.connectors answers vary Common (rows.reply_words script.connectors answers vary r) ≡ o
+        → IsSome o
+        → list_all is_word (rows.reply_words script.connectors answers vary r) ≡ true
     reply_said vary r None e some = absurd (cc)
     reply_said vary r (Some other) e some =
-        ((is vary).forth (rows.reply_words script.connectors row vary r) other e).2
+        ((is vary).forth (rows.reply_words script.connectors answers vary r) other e).2
 
     printed_so : (vary : Bool) (r : Reply R)
-        → rows.reply_words script.connectors row vary r ≡ reply_words answer_words script vary r
+        → rows.reply_words script.connectors answers vary r ≡ reply_words answer_words script vary r
     printed_so vary (reply.Shell answer) = shell-same script vary answer
     printed_so vary (reply.Content answer) = same answer
     printed_so vary (reply.Refused refusal) =
@@ -193,20 +205,20 @@ module _ (script : Script) (keeps : KeepsLimits script) where
   entries_free = λ on line h. go on (kind_of script.structures on) line h
     where
       go : (on : StrNo) (k : Kind) (line : List ℕ) → IsEntryLine script on k line → is_free line ≡ true
-      go on kind.Cache line h = entries_good ask.Cache IsCacheReply cache_words cache_reply_words
-          (cache_row script.connectors) (λ asked. refl) (cache-same script)
-          (λ vary. reply-is script.connectors (cache_row script.connectors) (IsCacheReply script.connectors)
-          keeps.connectors (cache-is script.connectors keeps.connectors) (cache-avoids script.connectors) vary Common)
+      go on kind.Cache line h = entries_good ask.Cache IsAlterReply alter_words alter_reply_words
+          (alter_answers script.connectors) (λ asked. refl) (alter-same script)
+          (λ vary. reply-is script.connectors (alter_answers script.connectors) (IsAlterReply script.connectors)
+          keeps.connectors (alter-are script.connectors keeps.connectors) (alter-avoids script.connectors) vary Common)
           on line h
-      go on (kind.List headers locks refs) line h = entries_good ask.List IsListReply list_words list_reply_words
-          (list_row script.connectors) (λ asked. refl) (list-same script)
-          (λ vary. reply-is script.connectors (list_row script.connectors) (IsListReply script.connectors)
-          keeps.connectors (list-is script.connectors keeps.connectors) (list-avoids script.connectors) vary Common)
+      go on (kind.List headers locks refs) line h = entries_good ask.List IsQueueReply queue_words queue_reply_words
+          (queue_answers script.connectors) (λ asked. refl) (queue-same script)
+          (λ vary. reply-is script.connectors (queue_answers script.connectors) (IsQueueReply script.connectors)
+          keeps.connectors (queue-are script.connectors keeps.connectors) (queue-avoids script.connectors) vary Common)
           on line h
       go on kind.Lock line h = entries_good ask.Lock (λ connectors. IsLockReply) lock_words lock_reply_words
-          lock_row (λ asked. refl) (lock-same script)
-          (λ vary. reply-is script.connectors lock_row IsLockReply
-          keeps.connectors lock-is lock-avoids vary Common)
+          (lock_answers script.connectors) (λ asked. refl) (lock-same script)
+          (λ vary. reply-is script.connectors (lock_answers script.connectors) IsLockReply
+          keeps.connectors (alone-are IsLockReply lock_row lock-is) lock-avoids vary Common)
           on line h
 
   -- ---- items

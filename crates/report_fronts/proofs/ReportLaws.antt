@@ -30,15 +30,15 @@ use Rattle.report_texts.specs.CheckModel.RunShown.PlexScript.Causes.{kind_of}
 use Rattle.report_texts.specs.CheckModel.RunShown.PlexScript.Heard.{any_length}
 use Rattle.report_texts.specs.CheckModel.RunShown.Kinds.{IsOfKind}
 use Rattle.report_texts.specs.CheckModel.declared.printed.Printed.{Printed}
-use Rattle.report_texts.specs.PlexReport.CommandWords.{cache_words, list_words, lock_words}
+use Rattle.report_texts.specs.PlexReport.CommandWords.{alter_words, queue_words, lock_words}
 use Rattle.report_texts.specs.PlexReport.Lines.{heading, entry_line, entry_lines, history_lines, shown_line, transcript_lines}
 use Rattle.report_texts.specs.PlexReport.Naming.{caller_name, structure_name}
 use Rattle.report_texts.specs.PlexReport.PlexPlain.PolicyLines.{facility_line, connector_line}
-use Rattle.report_texts.specs.PlexReport.ReplyWords.{cache_reply_words, list_reply_words, lock_reply_words}
+use Rattle.report_texts.specs.PlexReport.ReplyWords.{alter_reply_words, queue_reply_words, lock_reply_words}
 use Rattle.report_texts.specs.PlexReport.Report.{by_number, structures_lines, histories_lines, transcripts_lines, report_lines}
 use Rattle.report_lines.specs.Readable.{IsEntry, IsItem}
 use Rattle.report_texts.specs.Readable.{AreEntries, AreReadable}
-use Rattle.report_texts.specs.ReplyRows.Within.{IsCacheReply, IsListReply, IsLockReply}
+use Rattle.report_texts.specs.ReplyRows.Within.{IsAlterReply, IsQueueReply, IsLockReply}
 use Rattle.report_fronts.specs.Grammars.{Every, AreFilled}
 use Rattle.report_fronts.specs.Slots.{Slot, PrintsEntry, IsEntryLine, MayFill, Opens, Leads, policy_lines, slots_each, history_slot, transcript_slot, end_slots, caller_slots_from, slots_from, report_slots}
 use Rattle.report_fronts.specs.Slots.Slot.{Exactly, Entered, Listed, Headed}
@@ -89,13 +89,13 @@ module _ (script : Script) where
           → any_length entries < 2 ^ 64 → AreEntries script (place x) entries
           → Leads script (history_slot script x ∷ []) (history_lines script x entries) []
       go kind.Cache e (history.Cache entries) is small each =
-          entries_fill ask.Cache IsCacheReply cache_words cache_reply_words x
+          entries_fill ask.Cache IsAlterReply alter_words alter_reply_words x
           (λ line p. subst (λ (k : Kind). IsEntryLine script (place x) k line) (sym e) p) entries small each
       go kind.Cache e (history.List entries) is small each = absurd is
       go kind.Cache e (history.Lock entries) is small each = absurd is
       go (kind.List headers locks refs) e (history.Cache entries) is small each = absurd is
       go (kind.List headers locks refs) e (history.List entries) is small each =
-          entries_fill ask.List IsListReply list_words list_reply_words x
+          entries_fill ask.List IsQueueReply queue_words queue_reply_words x
           (λ line p. subst (λ (k : Kind). IsEntryLine script (place x) k line) (sym e) p) entries small each
       go (kind.List headers locks refs) e (history.Lock entries) is small each = absurd is
       go kind.Lock e (history.Cache entries) is small each = absurd is
@@ -115,11 +115,11 @@ module _ (script : Script) where
       go : (k : Kind) → kind_of script.structures (place x) ≡ k
           → (entries : AnyHistory) × IsHistoryAt x entries × (lines ≡ history_lines script x entries)
       go kind.Cache e =
-          let u = entries_told ask.Cache IsCacheReply cache_words cache_reply_words x
+          let u = entries_told ask.Cache IsAlterReply alter_words alter_reply_words x
           (λ line p. subst (λ (k : Kind). IsEntryLine script (place x) k line) e p) lines goes in
           (history.Cache u.xs, (is_of kind.Cache (history.Cache u.xs) e tt, u.small, u.each), u.is)
       go (kind.List headers locks refs) e =
-          let u = entries_told ask.List IsListReply list_words list_reply_words x
+          let u = entries_told ask.List IsQueueReply queue_words queue_reply_words x
           (λ line p. subst (λ (k : Kind). IsEntryLine script (place x) k line) e p) lines goes in
           (history.List u.xs, (is_of (kind.List headers locks refs) (history.List u.xs) e tt, u.small, u.each), u.is)
       go kind.Lock e =
@@ -338,7 +338,7 @@ module _ (script : Script) where
         _,
         (
           filler,
-          filler_is ask.Cache IsCacheReply on
+          filler_is ask.Cache IsAlterReply on
               (sym (ap (λ (k : Kind). shell_ask k cmd.Next) e)),
           refl,
         ),
@@ -347,7 +347,7 @@ module _ (script : Script) where
         _,
         (
           filler,
-          filler_is ask.List IsListReply on
+          filler_is ask.List IsQueueReply on
               (sym (ap (λ (k : Kind). shell_ask k cmd.Next) e)),
           refl,
         ),

@@ -11,14 +11,14 @@ use Rattle.report_texts.specs.CheckModel.RunShown.PlexScript.declared.scripts.An
 use Rattle.report_texts.specs.CheckModel.RunShown.PlexScript.declared.scripts.Script.{Script}
 use Rattle.report_texts.specs.CheckModel.RunShown.PlexScript.declared.transcripts.Shown.{Shown}
 use Rattle.report_texts.specs.CheckModel.RunShown.PlexScript.Causes.{kind_of}
-use Rattle.report_texts.specs.PlexReport.CommandWords.{cache_words, list_words, lock_words}
+use Rattle.report_texts.specs.PlexReport.CommandWords.{alter_words, queue_words, lock_words}
 use Rattle.report_texts.specs.PlexReport.Lines.{heading, entry_line, shown_line}
 use Rattle.report_texts.specs.PlexReport.Naming.{caller_name, structure_name}
 use Rattle.report_texts.specs.PlexReport.PlexPlain.PolicyLines.{facility_line, connector_line}
-use Rattle.report_texts.specs.PlexReport.ReplyWords.{cache_reply_words, list_reply_words, lock_reply_words}
+use Rattle.report_texts.specs.PlexReport.ReplyWords.{alter_reply_words, queue_reply_words, lock_reply_words}
 use Rattle.report_texts.specs.PlexReport.Report.{by_number, structures_lines}
 use Rattle.report_lines.specs.Readable.{IsEntry, IsItem}
-use Rattle.report_texts.specs.ReplyRows.Within.{IsCacheReply, IsListReply, IsLockReply}
+use Rattle.report_texts.specs.ReplyRows.Within.{IsAlterReply, IsQueueReply, IsLockReply}
 use Rattle.report_fronts.specs.Grammars.{Steps, Goes}
 
 -- what the next line is to be: just this one; an entry of a structure; an item of a transcript; or a heading with a
@@ -37,9 +37,9 @@ module _ {C R : Type 0} (of : Ask C → AnyAsk) (In : List Name16 → R → Type
 
 -- some entry of a structure of this kind prints so
 abbrev pub IsEntryLine : Script → StrNo → Kind → List ℕ → Type 0
-IsEntryLine script on kind.Cache line = PrintsEntry ask.Cache IsCacheReply cache_words cache_reply_words script on line
+IsEntryLine script on kind.Cache line = PrintsEntry ask.Cache IsAlterReply alter_words alter_reply_words script on line
 IsEntryLine script on (kind.List headers locks refs) line =
-    PrintsEntry ask.List IsListReply list_words list_reply_words script on line
+    PrintsEntry ask.List IsQueueReply queue_words queue_reply_words script on line
 IsEntryLine script on kind.Lock line =
     PrintsEntry ask.Lock (λ connectors. IsLockReply) lock_words lock_reply_words script on line
 

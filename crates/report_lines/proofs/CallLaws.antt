@@ -8,8 +8,10 @@ use Rattle.cf_types.specs.declared.names.Name16.{Name16}
 use Rattle.cf_types.specs.declared.forms.Kind.{Kind}
 use Rattle.cf_types.specs.declared.numbers.ConnId.{ConnId}
 use Rattle.cf_types.specs.declared.numbers.StrNo.{StrNo}
+use Rattle.cf_types.specs.declared.alter_commands.AlterCmd.{AlterCmd}
 use Rattle.cf_types.specs.declared.cache_commands.CacheCmd.{CacheCmd}
 use Rattle.cf_types.specs.declared.list_commands.ListCmd.{ListCmd}
+use Rattle.cf_types.specs.declared.list_commands.QueueCmd.{QueueCmd}
 use Rattle.cf_types.specs.declared.list_commands.At.{At}
 use Rattle.cf_types.specs.declared.list_commands.Cond.{Cond}
 use Rattle.cf_types.specs.declared.list_commands.Cond.TheVariants.{NotHeld, HeldBy}
@@ -24,11 +26,11 @@ use Rattle.engine_api.specs.declared.asks.What.TheVariants as what
 use Rattle.engine_api.specs.declared.histories.Entry.{Entry}
 use Rattle.plex_spell.specs.ListWords.{at_tokens, cond_tokens}
 use Rattle.plex_plain.specs.Naming.{caller_name, facility_word}
-use Rattle.plex_plain.specs.PlainWords.{plain_words, cache_words, list_words}
+use Rattle.plex_plain.specs.PlainWords.{plain_words, cache_words, list_words, alter_words, queue_words}
 use Rattle.plex_plain.specs.Ranges.{AreWithin}
-use Rattle.plex_plain.proofs.CommandLaws.{cache_in, list_in, words_read, words_write, words_make, words_update, words_at, words_move, words_delete}
+use Rattle.plex_plain.proofs.CommandLaws.{cache_in, list_in, alter_in, queue_in, words_read, words_write, words_make, words_update, words_at, words_move, words_delete}
 use Rattle.plex_plain.proofs.Rooms.{IsRow, words-good}
-use Rattle.plex_plain.proofs.Rows.{shell-row, cache-row, list-row, lock-row}
+use Rattle.plex_plain.proofs.Rows.{shell-row, alter-row, queue-row, lock-row}
 use Rattle.plex_plain.proofs.Texts.{AreGood, clear, line-clear}
 use Rattle.plex_plain.proofs.Within.{words-within}
 use Rattle.plex_script.proofs.Imports.{within-front}
@@ -44,13 +46,15 @@ use Rattle.plex_script.specs.LineWords.{act_tokens, retry_tokens}
 use Rattle.plex_script.specs.Printed.{class_in}
 use Rattle.plex_report.specs.Lines as lines
 use Rattle.plex_report.specs.Lines.{entry_line, is_of_vary}
-use Rattle.line_rows.specs.Rows.{is_word, Row}
+use Rattle.line_rows.specs.Rows.{is_word}
 use Rattle.line_rows.proofs.Words.{are-good, number-word, caller-said, facility-word}
+use Rattle.reply_rows.specs.Answers.{Answers}
 use Rattle.reply_rows.specs.declared.sides.Side.TheVariants.{Common}
 use Rattle.reply_rows.specs.Replies.{IsReply}
 use Rattle.report_lines.specs.Entries.{any_words}
+use Rattle.report_lines.specs.Kinds.{IsKind}
 use Rattle.report_lines.specs.Readable.{IsEntry, IsWhat, IsMarkReply}
-use Rattle.report_lines.proofs.EntryLaws.{IsKind, replies-same}
+use Rattle.report_lines.proofs.EntryLaws.{replies-same}
 use Rattle.report_lines.proofs.ReplyLines.{reply-good}
 
 -- ---- commands on the content name no connector
@@ -106,6 +110,14 @@ list-any connectors (ListCmd.Delete ref version cond) =
     cc
 list-any connectors cmd = refl
 
+alter-any : (connectors : List Name16) (cmd : AlterCmd CacheCmd) → alter_words cmd ≡ alter_in connectors cmd
+alter-any connectors (AlterCmd.Inner cmd) = cache-any connectors cmd
+alter-any connectors cmd = refl
+
+queue-any : (connectors : List Name16) (cmd : QueueCmd) → queue_words cmd ≡ queue_in connectors cmd
+queue-any connectors (QueueCmd.List cmd) = list-any connectors cmd
+queue-any connectors cmd = refl
+
 -- ---- the words of a call
 
 abbrev pub call_tokens : AnyAsk → List Token
@@ -113,18 +125,18 @@ call_tokens asked = act_tokens (class_in (Call asked)) (Call asked)
 
 pub call-row : (asked : AnyAsk) → IsRow 6000 (call_tokens asked)
 call-row (AnyAsk.Cache (Shell cmd)) = shell-row cmd
-call-row (AnyAsk.Cache (Content cmd)) = cache-row (class_in (Call (AnyAsk.Cache (Content cmd)))) cmd
+call-row (AnyAsk.Cache (Content cmd)) = alter-row (class_in (Call (AnyAsk.Cache (Content cmd)))) cmd
 call-row (AnyAsk.List (Shell cmd)) = shell-row cmd
-call-row (AnyAsk.List (Content cmd)) = list-row cmd
+call-row (AnyAsk.List (Content cmd)) = queue-row cmd
 call-row (AnyAsk.Lock (Shell cmd)) = shell-row cmd
 call-row (AnyAsk.Lock (Content cmd)) = lock-row cmd
 
 pub call-words : (connectors : List Name16) (asked : AnyAsk)
     → any_words connectors asked ≡ plain_words [] connectors (call_tokens asked)
 call-words connectors (AnyAsk.Cache (Shell cmd)) = refl
-call-words connectors (AnyAsk.Cache (Content cmd)) = cache-any connectors cmd
+call-words connectors (AnyAsk.Cache (Content cmd)) = alter-any connectors cmd
 call-words connectors (AnyAsk.List (Shell cmd)) = refl
-call-words connectors (AnyAsk.List (Content cmd)) = list-any connectors cmd
+call-words connectors (AnyAsk.List (Content cmd)) = queue-any connectors cmd
 call-words connectors (AnyAsk.Lock (Shell cmd)) = refl
 call-words connectors (AnyAsk.Lock (Content cmd)) = refl
 
@@ -170,14 +182,14 @@ mark-in {R} connectors In (reply.Shell shell.FailedNow) h = h
 mark-in {R} connectors In r h = absurd h
 
 module _ {C R : Type 0} (of : Ask C → AnyAsk) (cmd_words : Script → C → List (List ℕ))
-    (answer_words : Script → R → List (List ℕ)) (row : List Name16 → Row R) (In : List Name16 → R → Type 0)
-    (is : IsKind of cmd_words answer_words row In) (script : Script) (on : StrNo) (keeps : KeepsLimits script) where
+    (answer_words : Script → R → List (List ℕ)) (answers : List Name16 → Answers R) (In : List Name16 → R → Type 0)
+    (is : IsKind of cmd_words answer_words answers In) (script : Script) (on : StrNo) (keeps : KeepsLimits script) where
   replies-good : (vary : Bool) (r : Reply R) → IsReply script.connectors (In script.connectors) r
       → AreGood (lines.reply_words answer_words script vary r)
   replies-good vary r h =
-      let good = reply-good script.connectors (row script.connectors) (In script.connectors) vary Common
+      let good = reply-good script.connectors (answers script.connectors) (In script.connectors) vary Common
       (is.reads script.connectors keeps.connectors vary Common) r h in
-      subst AreGood (replies-same of cmd_words answer_words row In is script on keeps vary r) (are-good _ good)
+      subst AreGood (replies-same of cmd_words answer_words answers In is script on keeps vary r) (are-good _ good)
 
   line-good : (n : ℕ) (done : List (List ℕ)) (told : List (List ℕ)) → n < 2 ^ 32 → AreGood done → AreGood told
       → AreGood (decimal n ∷ done ++ codes "->" ∷ told)

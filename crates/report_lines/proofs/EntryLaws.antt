@@ -45,7 +45,7 @@ use Rattle.plex_report.specs.CommandWords.{ask_words}
 use Rattle.plex_report.specs.Lines as lines
 use Rattle.plex_report.specs.Lines.{entry_line, is_of_vary, ok_words}
 use Rattle.plex_report.specs.ReplyWords.{shell_reply_words}
-use Rattle.line_rows.specs.Rows.{Row}
+use Rattle.reply_rows.specs.Answers.{Answers}
 use Rattle.line_rows.proofs.SingleLaws.{facility-is, connector-is}
 use Rattle.reply_rows.specs.declared.sides.Side.{Side}
 use Rattle.reply_rows.specs.declared.sides.Side.TheVariants.{Common}
@@ -56,6 +56,7 @@ use Rattle.reply_rows.specs.Within.{IsShellReply}
 use Rattle.reply_rows.proofs.PartLaws.{small-is}
 use Rattle.reply_rows.proofs.Printed.{shell-same, refusal-same}
 use Rattle.report_lines.specs.Entries.{is_free, IsCutLine, any_words, StandsAs, is_loss, loss_alone, call_entry, mark_entry}
+use Rattle.report_lines.specs.Kinds.{has_words, IsKind}
 use Rattle.report_lines.specs.Parts.{reply_value}
 use Rattle.report_lines.specs.Readable.{IsEntry, IsLossReply, IsMarkReply}
 use Rattle.report_lines.proofs.ReplyLines.{reply-sound}
@@ -155,10 +156,6 @@ lost_told done word rest (Some cf) parts lost read =
 
 -- ---- lines of words
 
-abbrev pub has_words : List (List ℕ) → Bool
-has_words [] = false
-has_words (word ∷ words) = true
-
 pub behind-blank : (words : List (List ℕ)) (told : List ℕ) → has_words words ≡ true → line_of words ≡ told
     → tail_of words ≡ 32 ∷ told
 behind-blank [] told some e = absurd (cc)
@@ -206,25 +203,22 @@ pub if_ok_more : {X E : Type 0} (r : Result X E) (P Q : X → Type 0) → ((x : 
 if_ok_more {X} {E} (Ok x) P Q f h = f x h
 if_ok_more {X} {E} (Err e) P Q f h = tt
 
--- for each kind of structure: its commands and replies, as they are printed and read
-pub record IsKind {C R : Type 0} (of : Ask C → AnyAsk) (cmd_words : Script → C → List (List ℕ))
-    (answer_words : Script → R → List (List ℕ)) (row : List Name16 → Row R) (In : List Name16 → R → Type 0) : Type 0
-  where
-    pub asks : (script : Script) (asked : Ask C)
-        → any_words script.connectors (of asked) ≡ ask_words cmd_words script asked
-    pub answers : (script : Script) (r : R) → (row script.connectors).words r ≡ answer_words script r
-    pub some : (script : Script) (r : R) → has_words (answer_words script r) ≡ true
-    pub reads : (connectors : List Name16) → AreNames connectors → (vary : Bool) (side : Side)
-        → IsRead connectors (row connectors) (In connectors) vary side
-    pub one : (a b : Ask C) → of a ≡ of b → a ≡ b
+-- the reply to a call is read on the side of its command
+pub on_side : {C R E : Type 0} (connectors : List Name16) (answers : Answers R) (n : ℕ) (by : ConnId) (side : Side)
+    (call other : AnyAsk) (asked : Ask C) (told : List ℕ) (r : Result (Option (Entry C R)) E) → side ≡ asked_side call
+    → call ≡ other → IfOk r (λ x. x ≡ call_entry connectors answers n by side asked told)
+    → IfOk r (λ x. x ≡ call_entry connectors answers n by (asked_side other) asked told)
+on_side {C} {R} {E} connectors answers n by side call other asked told r is_side same h =
+    subst (λ (s : Side). IfOk r (λ x. x ≡ call_entry connectors answers n by s asked told))
+    (is_side ∙ ap asked_side same) h
 
 module _ {C R : Type 0} (of : Ask C → AnyAsk) (cmd_words : Script → C → List (List ℕ))
-    (answer_words : Script → R → List (List ℕ)) (row : List Name16 → Row R) (In : List Name16 → R → Type 0)
-    (is : IsKind of cmd_words answer_words row In) (script : Script) (on : StrNo) (keeps : KeepsLimits script) where
-  pub replies-same : (vary : Bool) (r : Reply R) → rows.reply_words script.connectors (row script.connectors) vary r
+    (answer_words : Script → R → List (List ℕ)) (answers : List Name16 → Answers R) (In : List Name16 → R → Type 0)
+    (is : IsKind of cmd_words answer_words answers In) (script : Script) (on : StrNo) (keeps : KeepsLimits script) where
+  pub replies-same : (vary : Bool) (r : Reply R) → rows.reply_words script.connectors (answers script.connectors) vary r
       ≡ lines.reply_words answer_words script vary r
   replies-same vary (reply.Shell answer) = shell-same script vary answer
-  replies-same vary (reply.Content answer) = is.answers script answer
+  replies-same vary (reply.Content answer) = is.printed script answer
   replies-same vary (reply.Refused refusal) =
       ap (λ (ws : List (List ℕ)). codes "REFUSED" ∷ ws) (refusal-same script refusal)
 
@@ -239,9 +233,9 @@ module _ {C R : Type 0} (of : Ask C → AnyAsk) (cmd_words : Script → C → Li
     pub within : IsReply script.connectors (In script.connectors) r
 
   is-told : (vary : Bool) (side : Side) (told : List ℕ) (r : Reply R)
-      → reply_value script.connectors (row script.connectors) vary side told ≡ Some r → IsTold vary told r
+      → reply_value script.connectors (answers script.connectors) vary side told ≡ Some r → IsTold vary told r
   is-told vary side told r h =
-      let s = reply-sound script.connectors (row script.connectors) (In script.connectors) vary side
+      let s = reply-sound script.connectors (answers script.connectors) (In script.connectors) vary side
       (is.reads script.connectors keeps.connectors vary side) told r h in
       record {
         stands = behind-blank (lines.reply_words answer_words script vary r) told (replies-some vary r)
@@ -255,14 +249,15 @@ module _ {C R : Type 0} (of : Ask C → AnyAsk) (cmd_words : Script → C → Li
   pub call-found : (line : List ℕ) (n : ℕ) (who done told : List ℕ) (by : ConnId) (asked : Ask C) (entry : Entry C R)
       → IsCutLine line n who done told → caller_of script.connectors who ≡ Some by
       → MakesCommand script on by done (of asked) × StandsAs script.connectors (of asked) done
-      → call_entry script.connectors (row script.connectors) n by asked told ≡ Some entry → Prints line entry
+      → call_entry script.connectors (answers script.connectors) n by (asked_side (of asked)) asked told ≡ Some entry
+      → Prints line entry
   call-found line n who done told by asked entry cut called makes h =
       let w : What C = what.Call asked in
       let vary = is_of_vary w in
       let make : Reply R → Entry C R = λ answer. (record { no = n; by = by; what = what.Call asked; reply = answer }) in
-      let m = mapped make (reply_value script.connectors (row script.connectors) vary (asked_side asked) told) entry h
-      in
-      let t = is-told vary (asked_side asked) told m.value m.read in
+      let side = asked_side (of asked) in
+      let m = mapped make (reply_value script.connectors (answers script.connectors) vary side told) entry h in
+      let t = is-told vary side told m.value m.read in
       let who_is = caller-told script.connectors who by keeps.connectors called in
       let words : tail_of (ask_words cmd_words script asked) ≡ 32 ∷ done =
       sym (ap tail_of (is.asks script asked)) ∙ makes.1 in
@@ -277,11 +272,11 @@ module _ {C R : Type 0} (of : Ask C → AnyAsk) (cmd_words : Script → C → Li
   pub mark-found : (line : List ℕ) (n : ℕ) (who done told : List ℕ) (cf : CfId) (entry : Entry C R)
       → IsCutLine line n who done told → who ≡ codes "SYS"
       → (done ≡ codes "LOST " ++ facility_word cf) × IsFacility cf
-      → mark_entry script.connectors (row script.connectors) n cf told ≡ Some entry → Prints line entry
+      → mark_entry script.connectors (answers script.connectors) n cf told ≡ Some entry → Prints line entry
   mark-found line n who done told cf entry cut sys lost h =
       let make : Reply R → Entry C R =
       λ answer. (record { no = n; by = operator; what = what.Lost cf; reply = answer }) in
-      let value = reply_value script.connectors (row script.connectors) false Common told in
+      let value = reply_value script.connectors (answers script.connectors) false Common told in
       let m = mapped make (value >>= loss_alone) entry h in
       let b = bound loss_alone value m.value m.read in
       let t = is-told false Common told b.value b.read in

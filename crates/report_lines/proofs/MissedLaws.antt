@@ -9,8 +9,10 @@ use Rattle.cf_types.specs.declared.names.Name16.{Name16}
 use Rattle.cf_types.specs.declared.numbers.CfId.{CfId}
 use Rattle.cf_types.specs.declared.numbers.ConnId.{ConnId}
 use Rattle.cf_types.specs.declared.numbers.StrNo.{StrNo}
+use Rattle.cf_types.specs.declared.alter_commands.AlterCmd.{AlterCmd}
 use Rattle.cf_types.specs.declared.cache_commands.CacheCmd.{CacheCmd}
 use Rattle.cf_types.specs.declared.list_commands.ListCmd.{ListCmd}
+use Rattle.cf_types.specs.declared.list_commands.QueueCmd.{QueueCmd}
 use Rattle.cf_types.specs.declared.lock_commands.LockCmd.{LockCmd}
 use Rattle.cf_types.specs.declared.shell_commands.ShellCmd.{ShellCmd}
 use Rattle.cf_types.specs.declared.shell_commands.ShellReply.{ShellReply}
@@ -30,7 +32,7 @@ use Rattle.plex_spell.specs.declared.rigour.Rigour.TheVariants.{Names}
 use Rattle.plex_spell.proofs.Choices.{not_some, word-same, same_word-of}
 use Rattle.plex_spell.proofs.CutLaws.{Parts, parts-IsCut}
 use Rattle.plex_plain.specs.Naming.{caller_name, facility_word}
-use Rattle.plex_plain.specs.PlainWords.{shell_words, cache_words, list_words, lock_words}
+use Rattle.plex_plain.specs.PlainWords.{shell_words, cache_words, list_words, alter_words, queue_words, lock_words}
 use Rattle.plex_plain.specs.Ranges.{AreNames}
 use Rattle.plex_plain.proofs.Places.{caller-word}
 use Rattle.plex_plain.proofs.Tests.{all-append, all-weaker}
@@ -42,20 +44,22 @@ use Rattle.plex_script.specs.Limits.{KeepsLimits}
 use Rattle.plex_report.specs.CommandWords.{ask_words}
 use Rattle.plex_report.specs.Lines as lines
 use Rattle.plex_report.specs.Lines.{entry_line, is_of_vary}
-use Rattle.line_rows.specs.Rows.{is_plain, is_word, Row}
+use Rattle.line_rows.specs.Rows.{is_plain, is_word}
 use Rattle.line_rows.proofs.SingleLaws.{facility-is, connector-is}
 use Rattle.line_rows.proofs.Words.{caller-said}
+use Rattle.reply_rows.specs.Answers.{Answers}
 use Rattle.reply_rows.specs.declared.sides.Side.{Side}
 use Rattle.reply_rows.specs.declared.sides.Side.TheVariants.{Common}
 use Rattle.reply_rows.specs.Replies.{reply_at, IsReply, IsNamed}
 use Rattle.reply_rows.specs.Replies as rows
 use Rattle.reply_rows.specs.Sides.{asked_side}
 use Rattle.report_lines.specs.Entries.{is_free, IsCutLine, any_words, StandsAs, is_loss, loss_alone, call_entry, mark_entry}
+use Rattle.report_lines.specs.Kinds.{has_words, IsKind}
 use Rattle.report_lines.specs.Parts.{reply_value}
 use Rattle.report_lines.specs.Readable.{IsEntry, IsWhat, IsLossReply, IsMarkReply}
 use Rattle.report_lines.proofs.PartLaws.{split, same_arrow, word-free}
 use Rattle.report_lines.proofs.ReplyLines.{reply-good, reply-told}
-use Rattle.report_lines.proofs.EntryLaws.{has_words, behind-blank, entry-told, if_ok_more, IsKind, replies-same, replies-some}
+use Rattle.report_lines.proofs.EntryLaws.{behind-blank, entry-told, if_ok_more, on_side, replies-same, replies-some}
 use Rattle.report_lines.proofs.CallLaws.{mark-in}
 use Rattle.report_lines.proofs.MadeLaws.{made-plainly, one-made}
 use Rattle.report_lines.proofs.KindLaws.{some_of}
@@ -180,15 +184,25 @@ list-verb : (cmd : ListCmd) → has_words (list_words cmd) ≡ true
 list-verb (ListCmd.Read ref cond) = refl
 list-verb cmd = refl
 
+alter-verb : (cmd : AlterCmd CacheCmd) → has_words (alter_words cmd) ≡ true
+alter-verb (AlterCmd.Inner cmd) = cache-verb cmd
+alter-verb AlterCmd.Stop = refl
+alter-verb cmd = refl
+
+queue-verb : (cmd : QueueCmd) → has_words (queue_words cmd) ≡ true
+queue-verb (QueueCmd.List cmd) = list-verb cmd
+queue-verb QueueCmd.Deq = refl
+queue-verb cmd = refl
+
 lock-verb : (connectors : List Name16) (cmd : LockCmd) → has_words (lock_words connectors cmd) ≡ true
 lock-verb connectors (LockCmd.Release resource) = refl
 lock-verb connectors cmd = refl
 
 pub call-verb : (connectors : List Name16) (asked : AnyAsk) → has_words (any_words connectors asked) ≡ true
 call-verb connectors (AnyAsk.Cache (Shell cmd)) = shell-verb connectors cmd
-call-verb connectors (AnyAsk.Cache (Content cmd)) = cache-verb cmd
+call-verb connectors (AnyAsk.Cache (Content cmd)) = alter-verb cmd
 call-verb connectors (AnyAsk.List (Shell cmd)) = shell-verb connectors cmd
-call-verb connectors (AnyAsk.List (Content cmd)) = list-verb cmd
+call-verb connectors (AnyAsk.List (Content cmd)) = queue-verb cmd
 call-verb connectors (AnyAsk.Lock (Shell cmd)) = shell-verb connectors cmd
 call-verb connectors (AnyAsk.Lock (Content cmd)) = lock-verb connectors cmd
 
@@ -205,11 +219,11 @@ loss-alone {R} connectors (reply.Shell answer) h = rw (loss-is connectors answer
 loss-alone {R} connectors (reply.Content answer) h = absurd h
 loss-alone {R} connectors (reply.Refused refusal) h = absurd h
 
-mark-named : {R : Type 0} (connectors : List Name16) (row : Row R) (r : Reply R) → IsMarkReply connectors r
-    → IsNamed connectors row false Common r
-mark-named {R} connectors row (reply.Shell answer) h = tt
-mark-named {R} connectors row (reply.Content answer) h = absurd h
-mark-named {R} connectors row (reply.Refused refusal) h = tt
+mark-named : {R : Type 0} (connectors : List Name16) (answers : Answers R) (r : Reply R) → IsMarkReply connectors r
+    → IsNamed connectors answers false Common r
+mark-named {R} connectors answers (reply.Shell answer) h = tt
+mark-named {R} connectors answers (reply.Content answer) h = absurd h
+mark-named {R} connectors answers (reply.Refused refusal) h = tt
 
 none-mapped : {X Y : Type 0} (f : X → Y) (o : Option X) → None ≡ option_map f o → IsSome o → ⊥
 none-mapped f None none some = absurd (cc)
@@ -222,8 +236,8 @@ when_none (Some x) P f = tt
 -- ---- the lines of entries in range
 
 module _ {C R : Type 0} (of : Ask C → AnyAsk) (cmd_words : Script → C → List (List ℕ))
-    (answer_words : Script → R → List (List ℕ)) (row : List Name16 → Row R) (In : List Name16 → R → Type 0)
-    (is : IsKind of cmd_words answer_words row In) (script : Script) (on : StrNo) (keeps : KeepsLimits script)
+    (answer_words : Script → R → List (List ℕ)) (answers : List Name16 → Answers R) (In : List Name16 → R → Type 0)
+    (is : IsKind of cmd_words answer_words answers In) (script : Script) (on : StrNo) (keeps : KeepsLimits script)
     (low : on.0 < length script.structures) where
   -- a line of a call, with what a reader makes of its parts
   pub record IsCallLine (line : List ℕ) : Type 0 where
@@ -237,8 +251,8 @@ module _ {C R : Type 0} (of : Ask C → AnyAsk) (cmd_words : Script → C → Li
     pub few : by.0 ≤ length script.connectors
     pub makes : MakesCommand script on by text (of asked)
     pub stands : StandsAs script.connectors (of asked) done
-    pub read : IsSome (reply_value script.connectors (row script.connectors)
-        (is_of_vary (let w : What C = what.Call asked in w)) (asked_side asked) told)
+    pub read : IsSome (reply_value script.connectors (answers script.connectors)
+        (is_of_vary (let w : What C = what.Call asked in w)) (asked_side (of asked)) told)
 
   -- a line of a mark
   pub record IsMarkLine (line : List ℕ) : Type 0 where
@@ -247,7 +261,7 @@ module _ {C R : Type 0} (of : Ask C → AnyAsk) (cmd_words : Script → C → Li
     pub told : List ℕ
     pub cut : IsCutLine line number (codes "SYS") (codes "LOST " ++ facility_word cf) told
     pub facility : IsFacility cf
-    pub read : IsSome (reply_value script.connectors (row script.connectors) false Common told >>= loss_alone)
+    pub read : IsSome (reply_value script.connectors (answers script.connectors) false Common told >>= loss_alone)
 
   abbrev words_told : Bool → Reply R → List (List ℕ)
   words_told vary r = lines.reply_words answer_words script vary r
@@ -256,22 +270,22 @@ module _ {C R : Type 0} (of : Ask C → AnyAsk) (cmd_words : Script → C → Li
   told-free : (vary : Bool) (r : Reply R) → IsReply script.connectors (In script.connectors) r
       → is_free 62 (line_of (words_told vary r)) ≡ true
   told-free vary r h =
-      let same = replies-same of cmd_words answer_words row In is script on keeps vary r in
-      let good = reply-good script.connectors (row script.connectors) (In script.connectors) vary Common
+      let same = replies-same of cmd_words answer_words answers In is script on keeps vary r in
+      let good = reply-good script.connectors (answers script.connectors) (In script.connectors) vary Common
       (is.reads script.connectors keeps.connectors vary Common) r h in
       line-free (words_told vary r) (sym (ap (list_all is_word) same) ∙ good)
 
   told-read : (vary : Bool) (side : Side) (r : Reply R) → IsReply script.connectors (In script.connectors) r
-      → reply_value script.connectors (row script.connectors) vary side (line_of (words_told vary r))
-      ≡ reply_at script.connectors (row script.connectors) vary side
-      (rows.reply_words script.connectors (row script.connectors) vary r)
-  told-read vary side r h = reply-told script.connectors (row script.connectors) (In script.connectors) vary side
+      → reply_value script.connectors (answers script.connectors) vary side (line_of (words_told vary r))
+      ≡ reply_at script.connectors (answers script.connectors) vary side
+      (rows.reply_words script.connectors (answers script.connectors) vary r)
+  told-read vary side r h = reply-told script.connectors (answers script.connectors) (In script.connectors) vary side
       (is.reads script.connectors keeps.connectors vary side) (line_of (words_told vary r)) r h
-      (ap line_of (replies-same of cmd_words answer_words row In is script on keeps vary r))
+      (ap line_of (replies-same of cmd_words answer_words answers In is script on keeps vary r))
 
   told-tail : (vary : Bool) (r : Reply R) → tail_of (words_told vary r) ≡ 32 ∷ line_of (words_told vary r)
   told-tail vary r = behind-blank (words_told vary r) (line_of (words_told vary r))
-      (replies-some of cmd_words answer_words row In is script on keeps vary r) refl
+      (replies-some of cmd_words answer_words answers In is script on keeps vary r) refl
 
   call-line : (line : List ℕ) (n : ℕ) (by : ConnId) (asked : Ask C) (r : Reply R) → n < 2 ^ 32
       → IsWhat of In script on by r (what.Call asked)
@@ -304,8 +318,8 @@ module _ {C R : Type 0} (of : Ask C → AnyAsk) (cmd_words : Script → C → Li
         few = h.0;
         makes = h.1.1;
         stands = ap tail_of (is.asks script asked) ∙ said;
-        read = subst (λ (o : Option (Reply R)). IsSome o) (sym (told-read vary (asked_side asked) r h.2))
-            ((is.reads script.connectors keeps.connectors vary (asked_side asked)).some r h.2);
+        read = subst (λ (o : Option (Reply R)). IsSome o) (sym (told-read vary (asked_side (of asked)) r h.2))
+            ((is.reads script.connectors keeps.connectors vary (asked_side (of asked))).some r h.2);
       }
 
   mark-line : (line : List ℕ) (n : ℕ) (by : ConnId) (cf : CfId) (r : Reply R) → n < 2 ^ 32
@@ -321,10 +335,11 @@ module _ {C R : Type 0} (of : Ask C → AnyAsk) (cmd_words : Script → C → Li
       ap (λ (w : List ℕ). 32 ∷ codes "LOST " ++ w) (append-nil (facility_word cf)) in
       let whole = entry-told n (codes "SYS") words (words_told false r) lost told said (told-tail false r) in
       let in_r = mark-in script.connectors (In script.connectors) r h.2 in
-      let read : reply_value script.connectors (row script.connectors) false Common told ≡ Some r =
+      let read : reply_value script.connectors (answers script.connectors) false Common told ≡ Some r =
       told-read false Common r in_r ∙ (is.reads script.connectors keeps.connectors false Common).back r in_r
-      (mark-named script.connectors (row script.connectors) r h.2) in
-      let alone : (reply_value script.connectors (row script.connectors) false Common told >>= loss_alone) ≡ Some r =
+      (mark-named script.connectors (answers script.connectors) r h.2) in
+      let alone : (reply_value script.connectors (answers script.connectors) false Common told >>= loss_alone)
+      ≡ Some r =
       ap (λ (o : Option (Reply R)). o >>= loss_alone) read ∙ loss-alone script.connectors r h.2 in
       record {
         number = n;
@@ -389,18 +404,19 @@ module _ {C R : Type 0} (of : Ask C → AnyAsk) (cmd_words : Script → C → Li
           none l.cf l.facility same.2)
 
       pub no_loss : {E : Type 0} (cf : CfId) (r : Result (Option (Entry C R)) E)
-          → IfOk r (λ x. x ≡ mark_entry connectors (row connectors) n cf told) → IfOk r (λ x. IfNone x (Unread line))
+          → IfOk r (λ x. x ≡ mark_entry connectors (answers connectors) n cf told)
+          → IfOk r (λ x. IfNone x (Unread line))
       no_loss {E} cf r h =
-          if_ok_more r (λ x. x ≡ mark_entry connectors (row connectors) n cf told) (λ x. IfNone x (Unread line))
+          if_ok_more r (λ x. x ≡ mark_entry connectors (answers connectors) n cf told) (λ x. IfNone x (Unread line))
           (λ x made. when_none x (Unread line) (λ none. unread line no-call (λ l.
           let same = mark-cut l in
           let make : Reply R → Entry C R =
           λ answer. (record { no = n; by = operator; what = what.Lost cf; reply = answer }) in
-          let value = reply_value script.connectors (row script.connectors) false Common told >>= loss_alone in
-          let read : IsSome value = subst (λ (t : List ℕ). IsSome (reply_value script.connectors (row script.connectors)
-          false Common t >>= loss_alone)) (sym same.3) l.read in
+          let value = reply_value script.connectors (answers script.connectors) false Common told >>= loss_alone in
+          let read : IsSome value = subst (λ (t : List ℕ). IsSome (reply_value script.connectors
+          (answers script.connectors) false Common t >>= loss_alone)) (sym same.3) l.read in
           let here : None ≡ option_map make value = subst (λ (names : List Name16).
-          None ≡ mark_entry {C = C} names (row names) n cf told) named (none ∙ made) in
+          None ≡ mark_entry {C = C} names (answers names) n cf told) named (none ∙ made) in
           none-mapped make value here read))) h
 
     -- ---- behind a caller's name
@@ -426,8 +442,8 @@ module _ {C R : Type 0} (of : Ask C → AnyAsk) (cmd_words : Script → C → Li
           makes : MakesCommand script on by l.text (of l.asked)
           few : by.0 ≤ length script.connectors
           stands : StandsAs script.connectors (of l.asked) done
-          read : IsSome (reply_value script.connectors (row script.connectors)
-              (is_of_vary (let w : What C = what.Call l.asked in w)) (asked_side l.asked) told)
+          read : IsSome (reply_value script.connectors (answers script.connectors)
+              (is_of_vary (let w : What C = what.Call l.asked in w)) (asked_side (of l.asked)) told)
 
         is-done : (l : IsCallLine line) → IsDone l
         is-done l =
@@ -438,8 +454,9 @@ module _ {C R : Type 0} (of : Ask C → AnyAsk) (cmd_words : Script → C → Li
               makes = subst (λ (b : ConnId). MakesCommand script on b l.text (of l.asked)) by_is l.makes;
               few = subst (λ (b : ConnId). b.0 ≤ length script.connectors) by_is l.few;
               stands = subst (λ (d : List ℕ). StandsAs script.connectors (of l.asked) d) (sym same.2) l.stands;
-              read = subst (λ (t : List ℕ). IsSome (reply_value script.connectors (row script.connectors)
-                  (is_of_vary (let w : What C = what.Call l.asked in w)) (asked_side l.asked) t)) (sym same.3) l.read;
+              read = subst (λ (t : List ℕ). IsSome (reply_value script.connectors (answers script.connectors)
+                  (is_of_vary (let w : What C = what.Call l.asked in w)) (asked_side (of l.asked)) t))
+                  (sym same.3) l.read;
             }
 
         abbrev Made : AnyAsk → Type 0
@@ -466,20 +483,23 @@ module _ {C R : Type 0} (of : Ask C → AnyAsk) (cmd_words : Script → C → Li
           pub no_kind : ((asked : Ask C) → call ≡ of asked → ⊥) → Unread line
           no_kind none = unread line (λ l. none l.asked (same-call call made l)) no-mark
 
-          pub no_reply : {E : Type 0} (asked : Ask C) (r : Result (Option (Entry C R)) E) → call ≡ of asked
-              → IfOk r (λ x. x ≡ call_entry connectors (row connectors) n by asked told)
+          pub no_reply : {E : Type 0} (side : Side) (asked : Ask C) (r : Result (Option (Entry C R)) E)
+              → side ≡ asked_side call → call ≡ of asked
+              → IfOk r (λ x. x ≡ call_entry connectors (answers connectors) n by side asked told)
               → IfOk r (λ x. IfNone x (Unread line))
-          no_reply {E} asked r is_asked h =
-              if_ok_more r (λ x. x ≡ call_entry connectors (row connectors) n by asked told)
+          no_reply {E} side asked r is_side is_asked h =
+              if_ok_more r (λ x. x ≡ call_entry connectors (answers connectors) n by (asked_side (of asked)) asked told)
               (λ x. IfNone x (Unread line)) (λ x given. when_none x (Unread line) (λ none. unread line (λ l.
               let same : l.asked ≡ asked = is.one l.asked asked (sym (same-call call made l) ∙ is_asked) in
               let make : Reply R → Entry C R =
               λ answer. (record { no = n; by = by; what = what.Call asked; reply = answer }) in
-              let value = reply_value script.connectors (row script.connectors)
-              (is_of_vary (let w : What C = what.Call asked in w)) (asked_side asked) told in
+              let value = reply_value script.connectors (answers script.connectors)
+              (is_of_vary (let w : What C = what.Call asked in w)) (asked_side (of asked)) told in
               let read : IsSome value = subst (λ (a : Ask C). IsSome (reply_value script.connectors
-              (row script.connectors) (is_of_vary (let w : What C = what.Call a in w)) (asked_side a) told)) same
+              (answers script.connectors) (is_of_vary (let w : What C = what.Call a in w)) (asked_side (of a)) told))
+              same
               (is-done l).read in
               let here : None ≡ option_map make value = subst (λ (names : List Name16).
-              None ≡ call_entry names (row names) n by asked told) named (none ∙ given) in
-              none-mapped make value here read) no-mark)) h
+              None ≡ call_entry names (answers names) n by (asked_side (of asked)) asked told) named (none ∙ given) in
+              none-mapped make value here read) no-mark))
+              (on_side connectors (answers connectors) n by side call (of asked) asked told r is_side is_asked h)

@@ -22,26 +22,28 @@ use Rattle.plex_script.specs.Limits.{KeepsLimits}
 use Rattle.plex_report.specs.CommandWords.{ask_words}
 use Rattle.plex_report.specs.Lines as lines
 use Rattle.plex_report.specs.Lines.{entry_line, is_of_vary}
-use Rattle.line_rows.specs.Rows.{is_word, Row}
+use Rattle.line_rows.specs.Rows.{is_word}
 use Rattle.line_rows.proofs.Words.{caller-said}
+use Rattle.reply_rows.specs.Answers.{Answers}
 use Rattle.reply_rows.specs.declared.sides.Side.{Side}
 use Rattle.reply_rows.specs.declared.sides.Side.TheVariants.{Common}
 use Rattle.reply_rows.specs.Replies.{IsReply}
 use Rattle.reply_rows.specs.Sides.{asked_side}
 use Rattle.report_lines.specs.Entries.{is_free, IsCutLine, any_words}
+use Rattle.report_lines.specs.Kinds.{has_words, IsKind}
 use Rattle.report_lines.specs.Parts.{reply_value}
 use Rattle.report_lines.specs.Picked.{IsPicked, IsPickedReply, IsPickedWhat}
 use Rattle.report_lines.specs.Readable.{IsEntry, IsWhat}
 use Rattle.report_lines.proofs.PartLaws.{word-free}
 use Rattle.report_lines.proofs.ReplyLines.{reply-good}
-use Rattle.report_lines.proofs.EntryLaws.{has_words, behind-blank, entry-told, IsKind, replies-same, replies-some}
+use Rattle.report_lines.proofs.EntryLaws.{behind-blank, entry-told, replies-same, replies-some}
 use Rattle.report_lines.proofs.CallLaws.{mark-in}
 use Rattle.report_lines.proofs.MadeLaws.{one-made}
 use Rattle.report_lines.proofs.MissedLaws.{one_cut, caller-back, caller-no_system, same_facility, line-free, call-verb}
 
 module _ {C R : Type 0} (of : Ask C → AnyAsk) (cmd_words : Script → C → List (List ℕ))
-    (answer_words : Script → R → List (List ℕ)) (row : List Name16 → Row R) (In : List Name16 → R → Type 0)
-    (is : IsKind of cmd_words answer_words row In) (script : Script) (on : StrNo) (keeps : KeepsLimits script) where
+    (answer_words : Script → R → List (List ℕ)) (answers : List Name16 → Answers R) (In : List Name16 → R → Type 0)
+    (is : IsKind of cmd_words answer_words answers In) (script : Script) (on : StrNo) (keeps : KeepsLimits script) where
   -- ---- how an entry's line is cut
 
   abbrev who_of : ConnId → What C → List ℕ
@@ -62,8 +64,8 @@ module _ {C R : Type 0} (of : Ask C → AnyAsk) (cmd_words : Script → C → Li
   told-free : (vary : Bool) (r : Reply R) → IsReply script.connectors (In script.connectors) r
       → is_free 62 (line_of (lines.reply_words answer_words script vary r)) ≡ true
   told-free vary r h =
-      let same = replies-same of cmd_words answer_words row In is script on keeps vary r in
-      let good = reply-good script.connectors (row script.connectors) (In script.connectors) vary Common
+      let same = replies-same of cmd_words answer_words answers In is script on keeps vary r in
+      let good = reply-good script.connectors (answers script.connectors) (In script.connectors) vary Common
       (is.reads script.connectors keeps.connectors vary Common) r h in
       line-free (lines.reply_words answer_words script vary r) (sym (ap (list_all is_word) same) ∙ good)
 
@@ -72,7 +74,7 @@ module _ {C R : Type 0} (of : Ask C → AnyAsk) (cmd_words : Script → C → Li
   told-tail vary r =
       behind-blank (lines.reply_words answer_words script vary r)
       (line_of (lines.reply_words answer_words script vary r))
-      (replies-some of cmd_words answer_words row In is script on keeps vary r) refl
+      (replies-some of cmd_words answer_words answers In is script on keeps vary r) refl
 
   is-cut : (n : ℕ) (by : ConnId) (w : What C) (r : Reply R) → n < 2 ^ 32 → IsWhat of In script on by r w
       → IsCutLine (line_for n by w r) n (who_of by w) (done_of w) (told_of w r)
@@ -107,11 +109,11 @@ module _ {C R : Type 0} (of : Ask C → AnyAsk) (cmd_words : Script → C → Li
 
   same-reply : (vary : Bool) (side : Side) (r r' : Reply R)
       → line_of (lines.reply_words answer_words script vary r) ≡ line_of (lines.reply_words answer_words script vary r')
-      → IsPickedReply of answer_words row script on vary side r
-      → IsPickedReply of answer_words row script on vary side r' → r ≡ r'
+      → IsPickedReply of answer_words answers script on vary side r
+      → IsPickedReply of answer_words answers script on vary side r' → r ≡ r'
   same-reply vary side r r' e p q =
       let both : Some r ≡ Some r' =
-      sym p ∙ ap (reply_value script.connectors (row script.connectors) vary side) e ∙ q in
+      sym p ∙ ap (reply_value script.connectors (answers script.connectors) vary side) e ∙ q in
       cc
 
   same-by : (by by' : ConnId) → by.0 ≤ length script.connectors → by'.0 ≤ length script.connectors
@@ -133,8 +135,8 @@ module _ {C R : Type 0} (of : Ask C → AnyAsk) (cmd_words : Script → C → Li
     pub told : r ≡ r'
 
   same-call : (by : ConnId) (asked asked' : Ask C) (r r' : Reply R)
-      → IsPickedWhat of answer_words row script on by r (what.Call asked)
-      → IsPickedWhat of answer_words row script on by r' (what.Call asked')
+      → IsPickedWhat of answer_words answers script on by r (what.Call asked)
+      → IsPickedWhat of answer_words answers script on by r' (what.Call asked')
       → line_of (ask_words cmd_words script asked) ≡ line_of (ask_words cmd_words script asked')
       → told_of (let w : What C = what.Call asked in w) r ≡ told_of (let w : What C = what.Call asked' in w) r'
       → (asked ≡ asked') × (r ≡ r')
@@ -148,25 +150,25 @@ module _ {C R : Type 0} (of : Ask C → AnyAsk) (cmd_words : Script → C → Li
       (same, by_ask asked' same q.1 told)
     where
       by_ask : (a : Ask C) → asked ≡ a
-          → IsPickedReply of answer_words row script on (is_of_vary (let w : What C = what.Call a in w))
-          (asked_side a) r'
+          → IsPickedReply of answer_words answers script on (is_of_vary (let w : What C = what.Call a in w))
+          (asked_side (of a)) r'
           → told_of (let w : What C = what.Call asked in w) r ≡ told_of (let w : What C = what.Call a in w) r'
           → r ≡ r'
       by_ask a same q' told' =
           let vary = is_of_vary (let w : What C = what.Call asked in w) in
-          let back = subst (λ (b : Ask C). IsPickedReply of answer_words row script on
-          (is_of_vary (let w : What C = what.Call b in w)) (asked_side b) r') (sym same) q' in
+          let back = subst (λ (b : Ask C). IsPickedReply of answer_words answers script on
+          (is_of_vary (let w : What C = what.Call b in w)) (asked_side (of b)) r') (sym same) q' in
           let words = subst (λ (b : Ask C). told_of (let w : What C = what.Call asked in w) r
           ≡ told_of (let w : What C = what.Call b in w) r') (sym same) told' in
-          same-reply vary (asked_side asked) r r' words p.1 back
+          same-reply vary (asked_side (of asked)) r r' words p.1 back
 
   same-act : (by by' : ConnId) (w w' : What C) (r r' : Reply R) → IsWhat of In script on by r w
-      → IsWhat of In script on by' r' w' → IsPickedWhat of answer_words row script on by r w
-      → IsPickedWhat of answer_words row script on by' r' w' → who_of by w ≡ who_of by' w' → done_of w ≡ done_of w'
+      → IsWhat of In script on by' r' w' → IsPickedWhat of answer_words answers script on by r w
+      → IsPickedWhat of answer_words answers script on by' r' w' → who_of by w ≡ who_of by' w' → done_of w ≡ done_of w'
       → told_of w r ≡ told_of w' r' → IsSame by by' w w' r r'
   same-act by by' (what.Call asked) (what.Call asked') r r' h k p q who done told =
       let caller : by ≡ by' = same-by by by' h.0 k.0 who in
-      let mine = subst (λ (b : ConnId). IsPickedWhat of answer_words row script on b r' (what.Call asked'))
+      let mine = subst (λ (b : ConnId). IsPickedWhat of answer_words answers script on b r' (what.Call asked'))
       (sym caller) q in
       let both = same-call by asked asked' r r' p mine done told in
       record { who = caller; done = ap (λ (a : Ask C). what.Call a) both.0; told = both.1 }
@@ -180,7 +182,7 @@ module _ {C R : Type 0} (of : Ask C → AnyAsk) (cmd_words : Script → C → Li
 
   -- two entries which are meant so and print alike are one
   pub one_entry : (one other : Entry C R) → IsEntry of In script on one → IsEntry of In script on other
-      → IsPicked of answer_words row script on one → IsPicked of answer_words row script on other
+      → IsPicked of answer_words answers script on one → IsPicked of answer_words answers script on other
       → entry_line cmd_words answer_words script one ≡ entry_line cmd_words answer_words script other → one ≡ other
   one_entry one other h k p q e =
       let cut = is-cut one.no one.by one.what one.reply h.0 h.1 in

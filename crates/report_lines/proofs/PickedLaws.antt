@@ -20,15 +20,16 @@ use Rattle.plex_script.specs.Commands.{MakesCommand}
 use Rattle.plex_script.specs.Limits.{KeepsLimits}
 use Rattle.plex_report.specs.Lines as lines
 use Rattle.plex_report.specs.Lines.{is_of_vary}
-use Rattle.line_rows.specs.Rows.{Row}
+use Rattle.reply_rows.specs.Answers.{Answers}
 use Rattle.reply_rows.specs.declared.sides.Side.{Side}
 use Rattle.reply_rows.specs.declared.sides.Side.TheVariants.{Common}
 use Rattle.reply_rows.specs.Sides.{asked_side}
 use Rattle.report_lines.specs.Entries.{IsCutLine, any_words, StandsAs, is_loss, loss_alone, call_entry, mark_entry}
+use Rattle.report_lines.specs.Kinds.{IsKind}
 use Rattle.report_lines.specs.Parts.{reply_value}
 use Rattle.report_lines.specs.Picked.{IsPicked, IsPickedReply}
 use Rattle.report_lines.proofs.ReplyLines.{reply-sound}
-use Rattle.report_lines.proofs.EntryLaws.{if_ok_more, IsKind, replies-same}
+use Rattle.report_lines.proofs.EntryLaws.{if_ok_more, on_side, replies-same}
 use Rattle.report_lines.proofs.KindLaws.{some_of}
 use Rattle.report_lines.proofs.MadeLaws.{stands-line}
 
@@ -39,77 +40,80 @@ loss-same (reply.Content answer) told h = absurd (cc)
 loss-same (reply.Refused refusal) told h = absurd (cc)
 
 module _ {C R : Type 0} (of : Ask C → AnyAsk) (cmd_words : Script → C → List (List ℕ))
-    (answer_words : Script → R → List (List ℕ)) (row : List Name16 → Row R) (In : List Name16 → R → Type 0)
-    (is : IsKind of cmd_words answer_words row In) (script : Script) (on : StrNo) (keeps : KeepsLimits script) where
+    (answer_words : Script → R → List (List ℕ)) (answers : List Name16 → Answers R) (In : List Name16 → R → Type 0)
+    (is : IsKind of cmd_words answer_words answers In) (script : Script) (on : StrNo) (keeps : KeepsLimits script) where
   picked-reply : (vary : Bool) (side : Side) (told : List ℕ) (r : Reply R)
-      → reply_value script.connectors (row script.connectors) vary side told ≡ Some r
-      → IsPickedReply of answer_words row script on vary side r
+      → reply_value script.connectors (answers script.connectors) vary side told ≡ Some r
+      → IsPickedReply of answer_words answers script on vary side r
   picked-reply vary side told r h =
-      let s = reply-sound script.connectors (row script.connectors) (In script.connectors) vary side
+      let s = reply-sound script.connectors (answers script.connectors) (In script.connectors) vary side
       (is.reads script.connectors keeps.connectors vary side) told r h in
       let words : line_of (lines.reply_words answer_words script vary r) ≡ told =
-      sym (ap line_of (replies-same of cmd_words answer_words row In is script on keeps vary r)) ∙ s.0 in
-      ap (reply_value script.connectors (row script.connectors) vary side) words ∙ h
+      sym (ap line_of (replies-same of cmd_words answer_words answers In is script on keeps vary r)) ∙ s.0 in
+      ap (reply_value script.connectors (answers script.connectors) vary side) words ∙ h
 
   picked-call : (n : ℕ) (done told : List ℕ) (by : ConnId) (asked : Ask C) (entry : Entry C R)
       → MakesCommand script on by done (of asked) × StandsAs script.connectors (of asked) done
-      → call_entry script.connectors (row script.connectors) n by asked told ≡ Some entry
-      → IsPicked of answer_words row script on entry
+      → call_entry script.connectors (answers script.connectors) n by (asked_side (of asked)) asked told ≡ Some entry
+      → IsPicked of answer_words answers script on entry
   picked-call n done told by asked entry makes h =
       let vary = is_of_vary (let w : What C = what.Call asked in w) in
       let make : Reply R → Entry C R = λ answer. (record { no = n; by = by; what = what.Call asked; reply = answer }) in
-      let m = mapped make (reply_value script.connectors (row script.connectors) vary (asked_side asked) told) entry h
-      in
+      let side = asked_side (of asked) in
+      let m = mapped make (reply_value script.connectors (answers script.connectors) vary side told) entry h in
       let words = stands-line (any_words script.connectors (of asked)) done makes.1 in
       let made = subst (λ (t : List ℕ). MakesCommand script on by t (of asked)) (sym words) makes.0 in
-      subst (λ (e : Entry C R). IsPicked of answer_words row script on e) m.made
-      (made, picked-reply vary (asked_side asked) told m.value m.read)
+      subst (λ (e : Entry C R). IsPicked of answer_words answers script on e) m.made
+      (made, picked-reply vary side told m.value m.read)
 
   picked-mark : (n : ℕ) (told : List ℕ) (cf : CfId) (entry : Entry C R)
-      → mark_entry script.connectors (row script.connectors) n cf told ≡ Some entry
-      → IsPicked of answer_words row script on entry
+      → mark_entry script.connectors (answers script.connectors) n cf told ≡ Some entry
+      → IsPicked of answer_words answers script on entry
   picked-mark n told cf entry h =
       let make : Reply R → Entry C R =
       λ answer. (record { no = n; by = operator; what = what.Lost cf; reply = answer }) in
-      let value = reply_value script.connectors (row script.connectors) false Common told in
+      let value = reply_value script.connectors (answers script.connectors) false Common told in
       let m = mapped make (value >>= loss_alone) entry h in
       let b = bound loss_alone value m.value m.read in
       let same = loss-same b.value m.value b.then_ in
-      subst (λ (e : Entry C R). IsPicked of answer_words row script on e) (ap make same ∙ m.made)
+      subst (λ (e : Entry C R). IsPicked of answer_words answers script on e) (ap make same ∙ m.made)
       (picked-reply false Common told b.value b.read)
 
   module _ (line : List ℕ) (n : ℕ) (who done told : List ℕ) (cut : IsCutLine line n who done told)
       (connectors : List Name16) (named : connectors ≡ script.connectors) where
     abbrev Picked : Entry C R → Type 0
-    Picked = IsPicked of answer_words row script on
+    Picked = IsPicked of answer_words answers script on
 
     abbrev Made : ConnId → AnyAsk → Type 0
     Made by asked = MakesCommand script on by done asked × StandsAs script.connectors asked done
 
     call-picked : (by : ConnId) (asked : Ask C) (o : Option (Entry C R)) → Made by (of asked)
-        → o ≡ call_entry connectors (row connectors) n by asked told → IfSome o Picked
+        → o ≡ call_entry connectors (answers connectors) n by (asked_side (of asked)) asked told → IfSome o Picked
     call-picked by asked None makes h = tt
     call-picked by asked (Some entry) makes h =
-        let read = subst (λ (names : List Name16). Some entry ≡ call_entry names (row names) n by asked told) named h in
+        let read = subst (λ (names : List Name16).
+        Some entry ≡ call_entry names (answers names) n by (asked_side (of asked)) asked told) named h in
         picked-call n done told by asked entry makes (sym read)
 
-    mark-picked : (cf : CfId) (o : Option (Entry C R)) → o ≡ mark_entry connectors (row connectors) n cf told
+    mark-picked : (cf : CfId) (o : Option (Entry C R)) → o ≡ mark_entry connectors (answers connectors) n cf told
         → IfSome o Picked
     mark-picked cf None h = tt
     mark-picked cf (Some entry) h =
-        let read = subst (λ (names : List Name16). Some entry ≡ mark_entry names (row names) n cf told) named h in
+        let read = subst (λ (names : List Name16). Some entry ≡ mark_entry names (answers names) n cf told) named h in
         picked-mark n told cf entry (sym read)
 
-    pub called_picked : {E : Type 0} (by : ConnId) (o : Option AnyAsk) (call : AnyAsk) (asked : Ask C)
-        (r : Result (Option (Entry C R)) E) → IfSome o (Made by) → o ≡ Some call → call ≡ of asked
-        → IfOk r (λ x. x ≡ call_entry connectors (row connectors) n by asked told) → IfOk r (λ x. IfSome x Picked)
-    called_picked {E} by o call asked r found e is_call h =
+    pub called_picked : {E : Type 0} (by : ConnId) (o : Option AnyAsk) (call : AnyAsk) (side : Side) (asked : Ask C)
+        (r : Result (Option (Entry C R)) E) → IfSome o (Made by) → o ≡ Some call → side ≡ asked_side call
+        → call ≡ of asked → IfOk r (λ x. x ≡ call_entry connectors (answers connectors) n by side asked told)
+        → IfOk r (λ x. IfSome x Picked)
+    called_picked {E} by o call side asked r found e is_side is_call h =
         let made : Made by (of asked) = subst (Made by) is_call (some_of (Made by) o call found e) in
-        if_ok_more r (λ x. x ≡ call_entry connectors (row connectors) n by asked told) (λ x. IfSome x Picked)
-        (λ x read. call-picked by asked x made read) h
+        if_ok_more r (λ x. x ≡ call_entry connectors (answers connectors) n by (asked_side (of asked)) asked told)
+        (λ x. IfSome x Picked) (λ x read. call-picked by asked x made read)
+        (on_side connectors (answers connectors) n by side call (of asked) asked told r is_side is_call h)
 
     pub marked_picked : {E : Type 0} (cf : CfId) (r : Result (Option (Entry C R)) E)
-        → IfOk r (λ x. x ≡ mark_entry connectors (row connectors) n cf told) → IfOk r (λ x. IfSome x Picked)
+        → IfOk r (λ x. x ≡ mark_entry connectors (answers connectors) n cf told) → IfOk r (λ x. IfSome x Picked)
     marked_picked {E} cf r h =
-        if_ok_more r (λ x. x ≡ mark_entry connectors (row connectors) n cf told) (λ x. IfSome x Picked)
+        if_ok_more r (λ x. x ≡ mark_entry connectors (answers connectors) n cf told) (λ x. IfSome x Picked)
         (λ x read. mark-picked cf x read) h

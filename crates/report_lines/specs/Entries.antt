@@ -17,13 +17,13 @@ use Rattle.engine_api.specs.declared.histories.Entry.{Entry}
 use Rattle.engine_api.specs.LinkAsks.{operator}
 use Rattle.plex_spell.specs.Words.{tail_of}
 use Rattle.plex_spell.specs.Places.{◌>>=◌}
-use Rattle.plex_plain.specs.PlainWords.{shell_words, cache_words, list_words, lock_words}
+use Rattle.plex_plain.specs.PlainWords.{shell_words, alter_words, queue_words, lock_words}
 use Rattle.plex_script.specs.declared.scripts.AnyAsk.{AnyAsk}
 use Rattle.plex_script.specs.declared.scripts.AnyAsk.TheVariants as any
 use Rattle.plex_report.specs.Lines.{is_of_vary}
-use Rattle.line_rows.specs.Rows.{Row}
+use Rattle.reply_rows.specs.Answers.{Answers}
+use Rattle.reply_rows.specs.declared.sides.Side.{Side}
 use Rattle.reply_rows.specs.declared.sides.Side.TheVariants.{Common}
-use Rattle.reply_rows.specs.Sides.{asked_side}
 use Rattle.report_lines.specs.Parts.{reply_value}
 
 -- no byte is this one
@@ -40,9 +40,9 @@ pub record IsCutLine (line : List ℕ) (no : ℕ) (who done told : List ℕ) : T
 -- the words of a call
 abbrev pub any_words : List Name16 → AnyAsk → List (List ℕ)
 any_words connectors (any.Cache (Shell cmd)) = shell_words connectors cmd
-any_words connectors (any.Cache (Content cmd)) = cache_words cmd
+any_words connectors (any.Cache (Content cmd)) = alter_words cmd
 any_words connectors (any.List (Shell cmd)) = shell_words connectors cmd
-any_words connectors (any.List (Content cmd)) = list_words cmd
+any_words connectors (any.List (Content cmd)) = queue_words cmd
 any_words connectors (any.Lock (Shell cmd)) = shell_words connectors cmd
 any_words connectors (any.Lock (Content cmd)) = lock_words connectors cmd
 
@@ -62,17 +62,17 @@ loss_alone (reply.Shell answer) = if is_loss answer then Some (reply.Shell answe
 loss_alone (reply.Content answer) = None
 loss_alone (reply.Refused refusal) = None
 
-module _ {C R : Type 0} (connectors : List Name16) (row : Row R) (no : ℕ) where
+module _ {C R : Type 0} (connectors : List Name16) (answers : Answers R) (no : ℕ) where
   -- the entry of a call
-  abbrev pub call_entry : ConnId → Ask C → List ℕ → Option (Entry C R)
-  call_entry by asked told =
+  abbrev pub call_entry : ConnId → Side → Ask C → List ℕ → Option (Entry C R)
+  call_entry by side asked told =
       option_map (λ answer.
       (let e : Entry C R = record { no = no; by = by; what = what.Call asked; reply = answer } in e))
-      (reply_value connectors row (is_of_vary (let w : What C = what.Call asked in w)) (asked_side asked) told)
+      (reply_value connectors answers (is_of_vary (let w : What C = what.Call asked in w)) side told)
 
   -- the entry of a mark
   abbrev pub mark_entry : CfId → List ℕ → Option (Entry C R)
   mark_entry cf told =
       option_map (λ answer.
       (let e : Entry C R = record { no = no; by = operator; what = what.Lost cf; reply = answer } in e))
-      (reply_value connectors row false Common told >>= loss_alone)
+      (reply_value connectors answers false Common told >>= loss_alone)

@@ -4,4 +4,5 @@ pub mod Items
 pub mod Parts
 pub mod Headings
 pub mod Entries
+pub mod Kinds
 pub mod Picked

@@ -10,32 +10,36 @@ ghost use Rattle.plex_script.specs.declared.scripts.AnyAsk.TheVariants as any;
 ghost use Rattle.plex_script.specs.Causes.{caller_of};
 ghost use Rattle.plex_script.specs.Commands.{MakesCommand};
 ghost use Rattle.plex_script.specs.Limits.{KeepsLimits};
-ghost use Rattle.plex_report.specs.CommandWords.{cache_words, list_words, lock_words};
+ghost use Rattle.plex_report.specs.CommandWords.{alter_words, queue_words, lock_words};
 ghost use Rattle.plex_report.specs.Lines.{is_of_vary, entry_line};
-ghost use Rattle.plex_report.specs.ReplyWords.{cache_reply_words, list_reply_words, lock_reply_words};
+ghost use Rattle.plex_report.specs.ReplyWords.{alter_reply_words, queue_reply_words, lock_reply_words};
 ghost use Rattle.engine_api.specs.declared.asks.Ask.{Ask};
 ghost use Rattle.engine_api.specs.declared.asks.What.TheVariants as what;
 ghost use Rattle.engine_api.specs.declared.histories.Entry.{Entry};
 ghost use Rattle.cf_types.specs.declared.numbers.CfId.{CfId};
+ghost use Rattle.cf_types.specs.declared.alter_commands.AlterCmd.{AlterCmd};
+ghost use Rattle.cf_types.specs.declared.alter_commands.AlterReply.{AlterReply};
 ghost use Rattle.cf_types.specs.declared.cache_commands.CacheCmd.{CacheCmd};
 ghost use Rattle.cf_types.specs.declared.cache_commands.CacheReply.{CacheReply};
-ghost use Rattle.cf_types.specs.declared.list_commands.ListCmd.{ListCmd};
-ghost use Rattle.cf_types.specs.declared.list_commands.ListReply.{ListReply};
+ghost use Rattle.cf_types.specs.declared.list_commands.QueueCmd.{QueueCmd};
+ghost use Rattle.cf_types.specs.declared.list_commands.QueueReply.{QueueReply};
 ghost use Rattle.cf_types.specs.declared.lock_commands.LockCmd.{LockCmd};
 ghost use Rattle.cf_types.specs.declared.lock_commands.LockReply.{LockReply};
-ghost use Rattle.reply_rows.specs.Contents.{cache_row, list_row, lock_row};
-ghost use Rattle.reply_rows.specs.Within.{IsCacheReply, IsListReply, IsLockReply};
+ghost use Rattle.reply_rows.specs.Contents.{alter_answers, queue_answers, lock_answers};
+ghost use Rattle.reply_rows.specs.Within.{IsAlterReply, IsQueueReply, IsLockReply};
 ghost use Rattle.report_lines.specs.Entries.{is_free, IsCutLine, any_words, StandsAs, is_loss, loss_alone, call_entry, mark_entry};
+ghost use Rattle.report_lines.specs.Kinds.{IsKind};
 ghost use Rattle.report_lines.specs.Picked.{IsPicked};
 ghost use Rattle.report_lines.specs.Readable.{IsEntry};
 
+use crate::kinds::{Command, Told};
 use crate::replies::reply_in;
 use cf_types::{
-    CacheCmd, CacheReply, CfId, ConnId, ListCmd, ListReply, LockCmd, LockReply, Name16, NoMemory,
-    ShellCmd, ShellReply, StrNo,
+    AlterCmd, AlterReply, CacheCmd, CacheReply, CfId, ConnId, LockCmd, LockReply, Name16, NoMemory,
+    QueueCmd, QueueReply, ShellCmd, ShellReply, StrNo,
 };
 use engine_api::{Ask, Entry, Reply, What};
-use plex_plain::{put_cache, put_list, put_lock, put_shell};
+use plex_plain::{put_alter, put_lock, put_queue, put_shell};
 use plex_script::{AnyAsk, CommandBad, Script, read_command};
 use plex_spell::singles::facility_number;
 use plex_spell::texts::cut;
@@ -157,9 +161,9 @@ fn put_asked(line: &mut Vec<u8>, connectors: &[Name16], asked: &AnyAsk) -> Resul
 {
     match asked {
         AnyAsk::Cache(Ask::Shell(cmd)) => put_shell(line, connectors, cmd),
-        AnyAsk::Cache(Ask::Content(cmd)) => put_cache(line, cmd),
+        AnyAsk::Cache(Ask::Content(cmd)) => put_alter(line, cmd),
         AnyAsk::List(Ask::Shell(cmd)) => put_shell(line, connectors, cmd),
-        AnyAsk::List(Ask::Content(cmd)) => put_list(line, cmd),
+        AnyAsk::List(Ask::Content(cmd)) => put_queue(line, cmd),
         AnyAsk::Lock(Ask::Shell(cmd)) => put_shell(line, connectors, cmd),
         AnyAsk::Lock(Ask::Content(cmd)) => put_lock(line, connectors, cmd),
     }
@@ -231,21 +235,21 @@ fn is_vary<C>(asked: &Ask<C>) -> bool
     }
 }
 
-// The entry of a call, where the reply is one.
+// The entry of a call, where the reply is one; the side is that of its command.
 fn call_entry<C: Drop, R: Answer + Drop>(
     alloc: Global,
     connectors: &[Name16],
     no: u32,
     by: ConnId,
+    side: Side,
     asked: Ask<C>,
     told: &[u8],
 ) -> Result<Option<Entry<C, R>>, NoMemory>
     requires { length connectors.now ≤ CONNECTORS }
     ensures { IfOk result (λ entry. entry ≡ call_entry connectors.now
-        (R.answers connectors.now) no by asked told.now) }
+        (R.answers connectors.now) no by side asked told.now) }
 {
     let vary = is_vary(&asked);
-    let side = asked_side(&asked);
     match reply_in(alloc, connectors, told, vary, side)? {
         None => Ok(None),
         Some(reply) => Ok(Some(Entry {
@@ -305,15 +309,46 @@ fn mark_entry<C: Drop, R: Answer + Drop>(
     }
 }
 
-// A call of a cache structure.
-fn cache_call(call: AnyAsk) -> Option<Ask<CacheCmd>>
-    ensures found { IfSome result (λ asked. call ≡ any.Cache asked) }
-    ensures none { IfNone result ((asked : Ask CacheCmd) → call ≡ any.Cache asked → ⊥) }
+// Reads an entry of a structure's history, whatever its kind.
+fn read_entry<C: Command + Drop, R: Told + Drop>(
+    alloc: Global,
+    script: &Script,
+    on: StrNo,
+    line: &[u8],
+) -> Result<Option<Entry<C, R>>, NoMemory>
+    requires keeps { KeepsLimits script.now }
+    requires known { on.0 < length script.now.structures }
+    requires kind { IsKind C.asked C.words R.told R.answers R.within }
+    ensures found { IfOk result (λ read. IfSome read (λ entry.
+        (entry_line C.words R.told script.now entry ≡ line.now)
+        × IsEntry C.asked R.within script.now on entry)) }
+    ensures picked { IfOk result (λ read. IfSome read (IsPicked C.asked R.told R.answers
+        script.now on)) }
+    ensures none { IfOk result (λ read. IfNone read ((entry : Entry C R)
+        → IsEntry C.asked R.within script.now on entry
+        → entry_line C.words R.told script.now entry ≡ line.now → ⊥)) }
 {
-    match call {
-        AnyAsk::Cache(asked) => Some(asked),
-        _ => None,
+    let Some(parts) = parts(line) else {
+        return Ok(None);
+    };
+    let connectors = script.connectors.items();
+    if is(parts.who, b"SYS") {
+        let Some(cf) = lost_facility(parts.done) else {
+            return Ok(None);
+        };
+        return mark_entry(alloc, connectors, parts.no, cf, parts.told);
     }
+    let Some(by) = caller(connectors, parts.who) else {
+        return Ok(None);
+    };
+    let Some(call) = plain_command(alloc, script, on, by, parts.done)? else {
+        return Ok(None);
+    };
+    let side = asked_side(&call);
+    let Some(asked) = C::of_call(call) else {
+        return Ok(None);
+    };
+    call_entry(alloc, connectors, parts.no, by, side, asked, parts.told)
 }
 
 /// Reads an entry of the history of a cache structure from its line, without the line feed: what
@@ -329,49 +364,20 @@ pub fn read_cache_entry(
     script: &Script,
     on: StrNo,
     line: &[u8],
-) -> Result<Option<Entry<CacheCmd, CacheReply>>, NoMemory>
+) -> Result<Option<Entry<AlterCmd<CacheCmd>, AlterReply<CacheReply>>>, NoMemory>
     requires keeps { KeepsLimits script.now }
     requires known { on.0 < length script.now.structures }
     ensures found { IfOk result (λ read. IfSome read (λ entry.
-        (entry_line cache_words cache_reply_words script.now entry ≡ line.now)
-        × IsEntry (λ asked. any.Cache asked) IsCacheReply script.now on entry)) }
+        (entry_line alter_words alter_reply_words script.now entry ≡ line.now)
+        × IsEntry (λ asked. any.Cache asked) IsAlterReply script.now on entry)) }
     ensures picked { IfOk result (λ read. IfSome read (IsPicked (λ asked. any.Cache asked)
-        cache_reply_words cache_row script.now on)) }
-    ensures none { IfOk result (λ read. IfNone read ((entry : Entry CacheCmd CacheReply)
-        → IsEntry (λ asked. any.Cache asked) IsCacheReply script.now on entry
-        → entry_line cache_words cache_reply_words script.now entry ≡ line.now → ⊥)) }
+        alter_reply_words alter_answers script.now on)) }
+    ensures none { IfOk result (λ read. IfNone read
+        ((entry : Entry (AlterCmd CacheCmd) (AlterReply CacheReply))
+        → IsEntry (λ asked. any.Cache asked) IsAlterReply script.now on entry
+        → entry_line alter_words alter_reply_words script.now entry ≡ line.now → ⊥)) }
 {
-    let Some(parts) = parts(line) else {
-        return Ok(None);
-    };
-    let connectors = script.connectors.items();
-    if is(parts.who, b"SYS") {
-        let Some(cf) = lost_facility(parts.done) else {
-            return Ok(None);
-        };
-        return mark_entry(alloc, connectors, parts.no, cf, parts.told);
-    }
-    let Some(by) = caller(connectors, parts.who) else {
-        return Ok(None);
-    };
-    let Some(call) = plain_command(alloc, script, on, by, parts.done)? else {
-        return Ok(None);
-    };
-    let Some(asked) = cache_call(call) else {
-        return Ok(None);
-    };
-    call_entry(alloc, connectors, parts.no, by, asked, parts.told)
-}
-
-// A call of a list structure.
-fn list_call(call: AnyAsk) -> Option<Ask<ListCmd>>
-    ensures found { IfSome result (λ asked. call ≡ any.List asked) }
-    ensures none { IfNone result ((asked : Ask ListCmd) → call ≡ any.List asked → ⊥) }
-{
-    match call {
-        AnyAsk::List(asked) => Some(asked),
-        _ => None,
-    }
+    read_entry(alloc, script, on, line)
 }
 
 /// Reads an entry of the history of a list structure from its line, without the line feed: what
@@ -387,50 +393,19 @@ pub fn read_list_entry(
     script: &Script,
     on: StrNo,
     line: &[u8],
-) -> Result<Option<Entry<ListCmd, ListReply>>, NoMemory>
+) -> Result<Option<Entry<QueueCmd, QueueReply>>, NoMemory>
     requires keeps { KeepsLimits script.now }
     requires known { on.0 < length script.now.structures }
     ensures found { IfOk result (λ read. IfSome read (λ entry.
-        (entry_line list_words list_reply_words script.now entry ≡ line.now)
-        × IsEntry (λ asked. any.List asked) IsListReply script.now on entry)) }
+        (entry_line queue_words queue_reply_words script.now entry ≡ line.now)
+        × IsEntry (λ asked. any.List asked) IsQueueReply script.now on entry)) }
     ensures picked { IfOk result (λ read. IfSome read (IsPicked (λ asked. any.List asked)
-        list_reply_words list_row script.now on)) }
-    ensures none { IfOk result (λ read. IfNone read ((entry : Entry ListCmd ListReply)
-        → IsEntry (λ asked. any.List asked) IsListReply script.now on entry
-        → entry_line list_words list_reply_words script.now entry ≡ line.now → ⊥)) }
+        queue_reply_words queue_answers script.now on)) }
+    ensures none { IfOk result (λ read. IfNone read ((entry : Entry QueueCmd QueueReply)
+        → IsEntry (λ asked. any.List asked) IsQueueReply script.now on entry
+        → entry_line queue_words queue_reply_words script.now entry ≡ line.now → ⊥)) }
 {
-    let Some(parts) = parts(line) else {
-        return Ok(None);
-    };
-    let connectors = script.connectors.items();
-    if is(parts.who, b"SYS") {
-        let Some(cf) = lost_facility(parts.done) else {
-            return Ok(None);
-        };
-        return mark_entry(alloc, connectors, parts.no, cf, parts.told);
-    }
-    let Some(by) = caller(connectors, parts.who) else {
-        return Ok(None);
-    };
-    let Some(call) = plain_command(alloc, script, on, by, parts.done)? else {
-        return Ok(None);
-    };
-    let Some(asked) = list_call(call) else {
-        return Ok(None);
-    };
-    call_entry(alloc, connectors, parts.no, by, asked, parts.told)
-}
-
-// A call of a lock structure.
-fn lock_call(call: &AnyAsk) -> Option<Ask<LockCmd>>
-    ensures found { IfSome result (λ asked. call.now ≡ any.Lock asked) }
-    ensures none { IfNone result ((asked : Ask LockCmd) → call.now ≡ any.Lock asked → ⊥) }
-{
-    match call {
-        AnyAsk::Lock(Ask::Shell(cmd)) => Some(Ask::Shell(*cmd)),
-        AnyAsk::Lock(Ask::Content(cmd)) => Some(Ask::Content(*cmd)),
-        _ => None,
-    }
+    read_entry(alloc, script, on, line)
 }
 
 /// Reads an entry of the history of a lock structure from its line, without the line feed: what
@@ -453,29 +428,10 @@ pub fn read_lock_entry(
         (entry_line lock_words lock_reply_words script.now entry ≡ line.now)
         × IsEntry (λ asked. any.Lock asked) (λ _. IsLockReply) script.now on entry)) }
     ensures picked { IfOk result (λ read. IfSome read (IsPicked (λ asked. any.Lock asked)
-        lock_reply_words (λ _. lock_row) script.now on)) }
+        lock_reply_words lock_answers script.now on)) }
     ensures none { IfOk result (λ read. IfNone read ((entry : Entry LockCmd LockReply)
         → IsEntry (λ asked. any.Lock asked) (λ _. IsLockReply) script.now on entry
         → entry_line lock_words lock_reply_words script.now entry ≡ line.now → ⊥)) }
 {
-    let Some(parts) = parts(line) else {
-        return Ok(None);
-    };
-    let connectors = script.connectors.items();
-    if is(parts.who, b"SYS") {
-        let Some(cf) = lost_facility(parts.done) else {
-            return Ok(None);
-        };
-        return mark_entry(alloc, connectors, parts.no, cf, parts.told);
-    }
-    let Some(by) = caller(connectors, parts.who) else {
-        return Ok(None);
-    };
-    let Some(call) = plain_command(alloc, script, on, by, parts.done)? else {
-        return Ok(None);
-    };
-    let Some(asked) = lock_call(&call) else {
-        return Ok(None);
-    };
-    call_entry(alloc, connectors, parts.no, by, asked, parts.told)
+    read_entry(alloc, script, on, line)
 }

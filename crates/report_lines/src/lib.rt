@@ -5,6 +5,7 @@
 mod entries;
 mod headings;
 mod items;
+mod kinds;
 mod names;
 mod replies;
 mod spaced;

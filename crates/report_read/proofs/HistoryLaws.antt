@@ -1,10 +1,12 @@
 -- Histories: a heading, and as many entries as it tells.
 use Rattle.std.proofs.Common.{◌≡◌, inr, ℕ, ◌+◌, ◌<◌, ◌^◌, List, [], ◌∷◌, replicate, codes, Option, refl, sym, ap, subst, ◌∙◌}
 use Rattle.std.specs.Option.{option_map_or}
+use Rattle.cf_types.specs.declared.alter_commands.AlterCmd.{AlterCmd}
+use Rattle.cf_types.specs.declared.alter_commands.AlterReply.{AlterReply}
 use Rattle.cf_types.specs.declared.cache_commands.CacheCmd.{CacheCmd}
 use Rattle.cf_types.specs.declared.cache_commands.CacheReply.{CacheReply}
-use Rattle.cf_types.specs.declared.list_commands.ListCmd.{ListCmd}
-use Rattle.cf_types.specs.declared.list_commands.ListReply.{ListReply}
+use Rattle.cf_types.specs.declared.list_commands.QueueCmd.{QueueCmd}
+use Rattle.cf_types.specs.declared.list_commands.QueueReply.{QueueReply}
 use Rattle.cf_types.specs.declared.lock_commands.LockCmd.{LockCmd}
 use Rattle.cf_types.specs.declared.lock_commands.LockReply.{LockReply}
 use Rattle.cf_types.specs.declared.forms.Kind.{Kind}
@@ -20,14 +22,14 @@ use Rattle.plex_script.specs.Causes.{kind_of}
 use Rattle.plex_script.specs.Limits.{KeepsLimits}
 use Rattle.report_texts.specs.CheckModel.RunShown.Kinds.{IsOfKind}
 use Rattle.report_texts.specs.CheckModel.RunShown.PlexScript.Heard.{any_length}
-use Rattle.plex_report.specs.CommandWords.{cache_words, list_words, lock_words}
+use Rattle.plex_report.specs.CommandWords.{alter_words, queue_words, lock_words}
 use Rattle.plex_report.specs.Lines.{heading, entry_line, history_lines}
 use Rattle.plex_report.specs.Naming.{structure_name}
-use Rattle.plex_report.specs.ReplyWords.{cache_reply_words, list_reply_words, lock_reply_words}
-use Rattle.reply_rows.specs.Contents.{cache_row, list_row, lock_row}
+use Rattle.plex_report.specs.ReplyWords.{alter_reply_words, queue_reply_words, lock_reply_words}
+use Rattle.reply_rows.specs.Contents.{alter_answers, queue_answers, lock_answers}
 use Rattle.report_lines.specs.Picked.{IsPicked}
 use Rattle.report_lines.specs.Readable.{IsEntry}
-use Rattle.reply_rows.specs.Within.{IsCacheReply, IsListReply, IsLockReply}
+use Rattle.reply_rows.specs.Within.{IsAlterReply, IsQueueReply, IsLockReply}
 use Rattle.report_fronts.specs.Slots.{IsEntryLine, history_slot}
 use Rattle.report_fronts.specs.Slots.Slot.{Entered}
 use Rattle.report_fronts.specs.Steps.{Reads}
@@ -63,30 +65,30 @@ module _ (script : Script) (number : ℕ) (text : List ℕ) (from : Cursor) wher
 -- ---- the entries of each kind
 
 module _ (script : Script) (on : StrNo) where
-  pub shows_cache : kind_of script.structures on ≡ kinds.Cache → Shows (entry_line cache_words cache_reply_words)
-      (λ s o e. IsEntry (λ asked. ask.Cache asked) IsCacheReply s o e) script on
+  pub shows_cache : kind_of script.structures on ≡ kinds.Cache → Shows (entry_line alter_words alter_reply_words)
+      (λ s o e. IsEntry (λ asked. ask.Cache asked) IsAlterReply s o e) script on
   shows_cache is = record {
     told = λ entry may. subst (λ (k : Kind). IsEntryLine script
-        on k (entry_line cache_words cache_reply_words script entry)) (sym is) (entry, may, refl);
+        on k (entry_line alter_words alter_reply_words script entry)) (sym is) (entry, may, refl);
     only = λ line h. subst (λ (k : Kind). IsEntryLine script on k line) is h;
   }
 
-  pub shows_list : IsList (kind_of script.structures on) → Shows (entry_line list_words list_reply_words)
-      (λ s o e. IsEntry (λ asked. ask.List asked) IsListReply s o e) script on
+  pub shows_list : IsList (kind_of script.structures on) → Shows (entry_line queue_words queue_reply_words)
+      (λ s o e. IsEntry (λ asked. ask.List asked) IsQueueReply s o e) script on
   shows_list is = record {
     told = λ entry may. go_told (kind_of script.structures on) is entry may;
     only = λ line h. go_only (kind_of script.structures on) is line h;
   }
     where
-      go_told : (k : Kind) → IsList k → (entry : Entry ListCmd ListReply) → IsEntry (λ asked. ask.List asked)
-          IsListReply script on entry → IsEntryLine script on k (entry_line list_words list_reply_words script entry)
+      go_told : (k : Kind) → IsList k → (entry : Entry QueueCmd QueueReply) → IsEntry (λ asked. ask.List asked)
+          IsQueueReply script on entry → IsEntryLine script on k (entry_line queue_words queue_reply_words script entry)
       go_told kinds.Cache none entry may = absurd none
       go_told (kinds.List headers locks refs) some entry may = (entry, may, refl)
       go_told kinds.Lock none entry may = absurd none
 
       go_only : (k : Kind) → IsList k → (line : List ℕ) → IsEntryLine script on k line
-          → (entry : Entry ListCmd ListReply) × IsEntry (λ asked. ask.List asked) IsListReply script on entry
-          × (line ≡ entry_line list_words list_reply_words script entry)
+          → (entry : Entry QueueCmd QueueReply) × IsEntry (λ asked. ask.List asked) IsQueueReply script on entry
+          × (line ≡ entry_line queue_words queue_reply_words script entry)
       go_only kinds.Cache none line h = absurd none
       go_only (kinds.List headers locks refs) some line h = h
       go_only kinds.Lock none line h = absurd none
@@ -102,10 +104,11 @@ module _ (script : Script) (on : StrNo) where
 -- ---- what stands behind the heading
 
 module _ (script : Script) (text : List ℕ) (from : Cursor) (on : StrNo) (n : ℕ) (to : Cursor) where
-  pub caches_behind : (entries : List (Entry CacheCmd CacheReply)) → kind_of script.structures on ≡ kinds.Cache
-      → AreRead script text from (Entered on) (entry_line cache_words cache_reply_words script) (λ e. IsEntry
-      (λ asked. ask.Cache asked) IsCacheReply script on e × IsPicked (λ asked. ask.Cache asked) cache_reply_words
-      cache_row script on e) n entries to → AreBehind script text from on.0 n (history.Cache entries) to
+  pub caches_behind : (entries : List (Entry (AlterCmd CacheCmd) (AlterReply CacheReply)))
+      → kind_of script.structures on ≡ kinds.Cache
+      → AreRead script text from (Entered on) (entry_line alter_words alter_reply_words script) (λ e. IsEntry
+      (λ asked. ask.Cache asked) IsAlterReply script on e × IsPicked (λ asked. ask.Cache asked) alter_reply_words
+      alter_answers script on e) n entries to → AreBehind script text from on.0 n (history.Cache entries) to
   caches_behind entries is read = record {
     kind = subst (λ (k : Kind). IsOfKind k (history.Cache entries)) (sym is) tt;
     count = read.long;
@@ -114,10 +117,10 @@ module _ (script : Script) (text : List ℕ) (from : Cursor) (on : StrNo) (n : �
     read = read.read;
   }
 
-  pub lists_behind : (entries : List (Entry ListCmd ListReply)) → IsList (kind_of script.structures on)
-      → AreRead script text from (Entered on) (entry_line list_words list_reply_words script) (λ e. IsEntry
-      (λ asked. ask.List asked) IsListReply script on e × IsPicked (λ asked. ask.List asked) list_reply_words
-      list_row script on e) n entries to → AreBehind script text from on.0 n (history.List entries) to
+  pub lists_behind : (entries : List (Entry QueueCmd QueueReply)) → IsList (kind_of script.structures on)
+      → AreRead script text from (Entered on) (entry_line queue_words queue_reply_words script) (λ e. IsEntry
+      (λ asked. ask.List asked) IsQueueReply script on e × IsPicked (λ asked. ask.List asked) queue_reply_words
+      queue_answers script on e) n entries to → AreBehind script text from on.0 n (history.List entries) to
   lists_behind entries is read = record {
     kind = go (kind_of script.structures on) is;
     count = read.long;
@@ -134,7 +137,7 @@ module _ (script : Script) (text : List ℕ) (from : Cursor) (on : StrNo) (n : �
   pub locks_behind : (entries : List (Entry LockCmd LockReply)) → kind_of script.structures on ≡ kinds.Lock → AreRead
       script text from (Entered on) (entry_line lock_words lock_reply_words script) (λ e. IsEntry (λ asked. ask.Lock
       asked) (λ connectors. IsLockReply) script on e × IsPicked (λ asked. ask.Lock asked) lock_reply_words
-      (λ connectors. lock_row) script on e) n entries to → AreBehind script text from on.0 n (history.Lock entries) to
+      lock_answers script on e) n entries to → AreBehind script text from on.0 n (history.Lock entries) to
   locks_behind entries is read = record {
     kind = subst (λ (k : Kind). IsOfKind k (history.Lock entries)) (sym is) tt;
     count = read.long;

@@ -17,19 +17,19 @@ use Rattle.plex_script.specs.declared.transcripts.AgentEnd.TheVariants as ended
 use Rattle.plex_script.specs.declared.transcripts.Shown.{Shown}
 use Rattle.plex_script.specs.declared.transcripts.Transcript.{Transcript}
 use Rattle.plex_script.specs.Limits.{KeepsLimits}
-use Rattle.plex_report.specs.CommandWords.{cache_words, list_words, lock_words}
+use Rattle.plex_report.specs.CommandWords.{alter_words, queue_words, lock_words}
 use Rattle.plex_report.specs.Lines.{heading, entry_line, shown_line, entry_lines, history_lines, transcript_lines}
 use Rattle.plex_report.specs.Naming.{structure_name, caller_name}
-use Rattle.plex_report.specs.ReplyWords.{cache_reply_words, list_reply_words, lock_reply_words}
+use Rattle.plex_report.specs.ReplyWords.{alter_reply_words, queue_reply_words, lock_reply_words}
 use Rattle.plex_report.specs.Report.{lines_each, report_lines, by_number, structures_lines, histories_lines, transcripts_lines}
 use Rattle.plex_plain.specs.PolicyLines.{facility_line, connector_line}
-use Rattle.line_rows.specs.Rows.{Row}
-use Rattle.reply_rows.specs.Contents.{cache_row, list_row}
-use Rattle.reply_rows.specs.Within.{IsCacheReply, IsListReply}
+use Rattle.reply_rows.specs.Answers.{Answers}
+use Rattle.reply_rows.specs.Contents.{alter_answers, queue_answers, lock_answers}
+use Rattle.reply_rows.specs.Within.{IsAlterReply, IsQueueReply}
+use Rattle.report_lines.specs.Kinds.{IsKind}
 use Rattle.report_lines.specs.Picked.{IsPicked}
 use Rattle.report_lines.specs.Readable.{IsEntry, IsItem}
-use Rattle.report_lines.proofs.EntryLaws.{IsKind}
-use Rattle.report_lines.proofs.KindLaws.{of_cache, of_list, of_lock, is-cache, is-list, is-lock, lock_rows, AreLockReplies}
+use Rattle.report_lines.proofs.KindLaws.{of_cache, of_list, of_lock, is-cache, is-list, is-lock, AreLockReplies}
 use Rattle.report_lines.proofs.ItemLaws.{item_one}
 use Rattle.report_lines.proofs.OneLaws.{one_entry}
 use Rattle.check_model.specs.declared.printed.Printed.{Printed}
@@ -142,24 +142,25 @@ module _ {X : Type 0} (lines : ℕ → X → Lines) (P : ℕ → X → Type 0) (
 
 module _ (script : Script) (keeps : KeepsLimits script) where
   module _ {C R : Type 0} (of : Ask C → AnyAsk) (cmd_words : Script → C → Lines) (answer_words : Script → R → Lines)
-      (row : List Name16 → Row R) (In : List Name16 → R → Type 0) (is : IsKind of cmd_words answer_words row In)
-      (x : ℕ) where
+      (answers : List Name16 → Answers R) (In : List Name16 → R → Type 0)
+      (is : IsKind of cmd_words answer_words answers In) (x : ℕ) where
     abbrev on : StrNo
     on = record { 0 = x }
 
     abbrev Fits : Entry C R → Type 0
-    Fits entry = IsEntry of In script on entry × IsPicked of answer_words row script on entry
+    Fits entry = IsEntry of In script on entry × IsPicked of answer_words answers script on entry
 
     both : (entries : List (Entry C R)) → All (IsEntry of In script on) entries
-        → All (IsPicked of answer_words row script on) entries → All Fits entries
+        → All (IsPicked of answer_words answers script on) entries → All Fits entries
     both entries h p = λ j d low. (h j d low, p j d low)
 
     entries_same : (one other : List (Entry C R)) (us vs : Lines) → length one < 2 ^ 64 → length other < 2 ^ 64
-        → All (IsEntry of In script on) one → All (IsEntry of In script on) other → All (IsPicked of answer_words
-        row script on) one → All (IsPicked of answer_words row script on) other → entry_lines cmd_words answer_words
-        script x one ++ us ≡ entry_lines cmd_words answer_words script x other ++ vs → (one ≡ other) × (us ≡ vs)
+        → All (IsEntry of In script on) one → All (IsEntry of In script on) other
+        → All (IsPicked of answer_words answers script on) one → All (IsPicked of answer_words answers script on) other
+        → entry_lines cmd_words answer_words script x one ++ us
+        ≡ entry_lines cmd_words answer_words script x other ++ vs → (one ≡ other) × (us ≡ vs)
     entries_same one other us vs small small' h k p q e = block_same (codes "HISTORY") (structure_name script x)
-        (entry_line cmd_words answer_words script) Fits (λ a b f g same. one_entry of cmd_words answer_words row
+        (entry_line cmd_words answer_words script) Fits (λ a b f g same. one_entry of cmd_words answer_words answers
         In is script on keeps a b f.0 g.0 f.1 g.1 same) one other us vs small small' (both one h p) (both other k q) e
 
   -- a history of this structure whose entries are meant so
@@ -189,15 +190,15 @@ module _ (script : Script) (keeps : KeepsLimits script) where
   history_same : (x : ℕ) (one other : AnyHistory) (us vs : Lines) → IsRight x one → IsRight x other
       → history_lines script x one ++ us ≡ history_lines script x other ++ vs → (one ≡ other) × (us ≡ vs)
   history_same x (history.Cache one) (history.Cache other) us vs a b e =
-      let s = entries_same of_cache cache_words cache_reply_words cache_row IsCacheReply is-cache x one other us vs
+      let s = entries_same of_cache alter_words alter_reply_words alter_answers IsAlterReply is-cache x one other us vs
       a.count b.count a.each b.each a.picked b.picked e in
       (ap (λ (l : _). history.Cache l) s.0, s.1)
   history_same x (history.List one) (history.List other) us vs a b e =
-      let s = entries_same of_list list_words list_reply_words list_row IsListReply is-list x one other us vs
+      let s = entries_same of_list queue_words queue_reply_words queue_answers IsQueueReply is-list x one other us vs
       a.count b.count a.each b.each a.picked b.picked e in
       (ap (λ (l : _). history.List l) s.0, s.1)
   history_same x (history.Lock one) (history.Lock other) us vs a b e =
-      let s = entries_same of_lock lock_words lock_reply_words lock_rows AreLockReplies is-lock x one other us vs
+      let s = entries_same of_lock lock_words lock_reply_words lock_answers AreLockReplies is-lock x one other us vs
       a.count b.count a.each b.each a.picked b.picked e in
       (ap (λ (l : _). history.Lock l) s.0, s.1)
   history_same x one other us vs a b e = absurd (same_form x one other a b)

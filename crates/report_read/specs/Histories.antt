@@ -10,9 +10,9 @@ use Rattle.report_texts.specs.CheckModel.RunShown.PlexScript.declared.scripts.Sc
 use Rattle.report_texts.specs.CheckModel.RunShown.PlexScript.Causes.{kind_of}
 use Rattle.report_texts.specs.CheckModel.RunShown.PlexScript.Heard.{any_length}
 use Rattle.report_texts.specs.CheckModel.RunShown.Kinds.{IsOfKind}
-use Rattle.report_texts.specs.PlexReport.CommandWords.{cache_words, list_words, lock_words}
+use Rattle.report_texts.specs.PlexReport.CommandWords.{alter_words, queue_words, lock_words}
 use Rattle.report_texts.specs.PlexReport.Lines.{entry_line}
-use Rattle.report_texts.specs.PlexReport.ReplyWords.{cache_reply_words, list_reply_words, lock_reply_words}
+use Rattle.report_texts.specs.PlexReport.ReplyWords.{alter_reply_words, queue_reply_words, lock_reply_words}
 use Rattle.report_texts.specs.Readable.{AreEntries}
 use Rattle.report_fronts.specs.Slots.{IsEntryLine}
 use Rattle.report_fronts.specs.Slots.Slot.{Entered}
@@ -30,8 +30,8 @@ pub record Shows {E : Type 0} (prints : Script → E → List ℕ) (may : Script
 
 -- the lines of its entries
 abbrev pub entries_behind : Script → AnyHistory → List (List ℕ)
-entries_behind script (history.Cache entries) = map (entry_line cache_words cache_reply_words script) entries
-entries_behind script (history.List entries) = map (entry_line list_words list_reply_words script) entries
+entries_behind script (history.Cache entries) = map (entry_line alter_words alter_reply_words script) entries
+entries_behind script (history.List entries) = map (entry_line queue_words queue_reply_words script) entries
 entries_behind script (history.Lock entries) = map (entry_line lock_words lock_reply_words script) entries
 
 -- a history that a report may show of the structure with this number, each entry the one that is meant

@@ -5,11 +5,11 @@ ghost use Rattle.cf_types.specs.declared.numbers.StrNo.{StrNo};
 ghost use Rattle.plex_script.specs.declared.scripts.AnyAsk.TheVariants as any;
 ghost use Rattle.plex_script.specs.declared.scripts.Script.{Script};
 ghost use Rattle.plex_script.specs.Limits.{KeepsLimits};
-ghost use Rattle.plex_report.specs.CommandWords.{cache_words, list_words, lock_words};
+ghost use Rattle.plex_report.specs.CommandWords.{alter_words, queue_words, lock_words};
 ghost use Rattle.plex_report.specs.Lines.{entry_line};
-ghost use Rattle.plex_report.specs.ReplyWords.{cache_reply_words, list_reply_words, lock_reply_words};
-ghost use Rattle.reply_rows.specs.Within.{IsCacheReply, IsListReply, IsLockReply};
-ghost use Rattle.reply_rows.specs.Contents.{cache_row, list_row, lock_row};
+ghost use Rattle.plex_report.specs.ReplyWords.{alter_reply_words, queue_reply_words, lock_reply_words};
+ghost use Rattle.reply_rows.specs.Within.{IsAlterReply, IsQueueReply, IsLockReply};
+ghost use Rattle.reply_rows.specs.Contents.{alter_answers, queue_answers, lock_answers};
 ghost use Rattle.report_lines.specs.Picked.{IsPicked};
 ghost use Rattle.report_lines.specs.Readable.{IsEntry};
 ghost use Rattle.report_fronts.specs.Slots.Slot.{Entered};
@@ -19,7 +19,8 @@ ghost use Rattle.report_read.specs.Histories.{Shows};
 
 use crate::cursor::{Cursor, TextBad, next_line};
 use cf_types::{
-    CacheCmd, CacheReply, ListCmd, ListReply, Listing, LockCmd, LockReply, NoMemory, StrNo,
+    AlterCmd, AlterReply, CacheCmd, CacheReply, Listing, LockCmd, LockReply, NoMemory, QueueCmd,
+    QueueReply, StrNo,
 };
 use engine_api::Entry;
 use plex_script::Script;
@@ -52,36 +53,36 @@ pub(crate) trait EntryLine: Sized {
             → prints script.now entry ≡ line.now → ⊥)) };
 }
 
-impl EntryLine for Entry<CacheCmd, CacheReply> {
-    ghost prints = { entry_line cache_words cache_reply_words };
+impl EntryLine for Entry<AlterCmd<CacheCmd>, AlterReply<CacheReply>> {
+    ghost prints = { entry_line alter_words alter_reply_words };
 
-    ghost may = { IsEntry (λ asked. any.Cache asked) IsCacheReply };
+    ghost may = { IsEntry (λ asked. any.Cache asked) IsAlterReply };
 
-    ghost meant = { IsPicked (λ asked. any.Cache asked) cache_reply_words cache_row };
+    ghost meant = { IsPicked (λ asked. any.Cache asked) alter_reply_words alter_answers };
 
     fn read(
         alloc: Global,
         script: &Script,
         on: StrNo,
         line: &[u8],
-    ) -> Result<Option<Entry<CacheCmd, CacheReply>>, NoMemory> {
+    ) -> Result<Option<Entry<AlterCmd<CacheCmd>, AlterReply<CacheReply>>>, NoMemory> {
         read_cache_entry(alloc, script, on, line)
     }
 }
 
-impl EntryLine for Entry<ListCmd, ListReply> {
-    ghost prints = { entry_line list_words list_reply_words };
+impl EntryLine for Entry<QueueCmd, QueueReply> {
+    ghost prints = { entry_line queue_words queue_reply_words };
 
-    ghost may = { IsEntry (λ asked. any.List asked) IsListReply };
+    ghost may = { IsEntry (λ asked. any.List asked) IsQueueReply };
 
-    ghost meant = { IsPicked (λ asked. any.List asked) list_reply_words list_row };
+    ghost meant = { IsPicked (λ asked. any.List asked) queue_reply_words queue_answers };
 
     fn read(
         alloc: Global,
         script: &Script,
         on: StrNo,
         line: &[u8],
-    ) -> Result<Option<Entry<ListCmd, ListReply>>, NoMemory> {
+    ) -> Result<Option<Entry<QueueCmd, QueueReply>>, NoMemory> {
         read_list_entry(alloc, script, on, line)
     }
 }
@@ -91,7 +92,7 @@ impl EntryLine for Entry<LockCmd, LockReply> {
 
     ghost may = { IsEntry (λ asked. any.Lock asked) (λ _. IsLockReply) };
 
-    ghost meant = { IsPicked (λ asked. any.Lock asked) lock_reply_words (λ _. lock_row) };
+    ghost meant = { IsPicked (λ asked. any.Lock asked) lock_reply_words lock_answers };
 
     fn read(
         alloc: Global,

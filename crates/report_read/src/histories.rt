@@ -15,7 +15,8 @@ ghost use Rattle.report_read.specs.Histories.{IsHistory, AreBehind, IsList};
 use crate::cursor::{Cursor, TextBad, next_line};
 use crate::entries::read_entries;
 use cf_types::{
-    CacheCmd, CacheReply, Kind, ListCmd, ListReply, Listing, LockCmd, LockReply, StrNo,
+    AlterCmd, AlterReply, CacheCmd, CacheReply, Kind, Listing, LockCmd, LockReply, QueueCmd,
+    QueueReply, StrNo,
 };
 use engine_api::{Entry, History};
 use plex_script::{AnyHistory, Script};
@@ -73,7 +74,7 @@ fn cache_history(
     ensures read { IfOk result (λ step. AreBehind script.now text.now from on.0 n step.0 step.1) }
     ensures stop { IfErr result (IsStop script.now text.now from (replicate n (Entered on))) }
 {
-    let (entries, to) = read_entries::<Entry<CacheCmd, CacheReply>>(
+    let (entries, to) = read_entries::<Entry<AlterCmd<CacheCmd>, AlterReply<CacheReply>>>(
         alloc, script, on, n, text, from,
     )?;
     Ok((AnyHistory::Cache(History::from_vec(entries.into_vec())), to))
@@ -97,7 +98,7 @@ fn list_history(
     ensures read { IfOk result (λ step. AreBehind script.now text.now from on.0 n step.0 step.1) }
     ensures stop { IfErr result (IsStop script.now text.now from (replicate n (Entered on))) }
 {
-    let (entries, to) = read_entries::<Entry<ListCmd, ListReply>>(
+    let (entries, to) = read_entries::<Entry<QueueCmd, QueueReply>>(
         alloc, script, on, n, text, from,
     )?;
     Ok((AnyHistory::List(History::from_vec(entries.into_vec())), to))

@@ -11,13 +11,13 @@ use Rattle.check_model.specs.RunShown.PlexScript.Heard.{any_length}
 use Rattle.check_model.specs.RunShown.Kinds.{IsOfKind}
 use Rattle.check_model.specs.declared.printed.Printed.{Printed}
 use Rattle.check_model.specs.Printings.{AreDone}
-use Rattle.reply_rows.specs.Within.{IsCacheReply, IsListReply, IsLockReply}
+use Rattle.reply_rows.specs.Within.{IsAlterReply, IsQueueReply, IsLockReply}
 use Rattle.report_lines.specs.Readable.{IsEntry, IsItem}
 
 -- each entry is one that a line may show
 abbrev pub AreEntries : Script → StrNo → AnyHistory → Type 0
-AreEntries script on (history.Cache entries) = All (IsEntry ask.Cache IsCacheReply script on) entries
-AreEntries script on (history.List entries) = All (IsEntry ask.List IsListReply script on) entries
+AreEntries script on (history.Cache entries) = All (IsEntry ask.Cache IsAlterReply script on) entries
+AreEntries script on (history.List entries) = All (IsEntry ask.List IsQueueReply script on) entries
 AreEntries script on (history.Lock entries) = All (IsEntry ask.Lock (λ connectors. IsLockReply) script on) entries
 
 -- ---- the whole

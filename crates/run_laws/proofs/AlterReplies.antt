@@ -1,7 +1,8 @@
 -- START and STEP are refused as too small exactly where what there is needs more than they ask for.
 use Rattle.run_laws.proofs.Imports.{arith, ◌≡◌, ℕ, ◌≤◌, inl, inr, Bool, true, false, nat_lt, List, [], ◌∷◌, ◌++◌, Option, None, Some, option_map, refl, sym, ap, ◌∙◌, subst, IsTrue, false≢true, nat_tests, CacheCmd, AlterCmd, AlterReply, CacheReply, AlterContent, Caps, Kind, StrForm, ConnId, Refusal, is_cache, Ask, Reply, What, Machine, Shell, content_cause, content_done, content_reply, unless, unless_refused, with_entered, first_refusal, refusal_when, if_too_small, if_beyond, units_of, replay, shape_of, step, continues_legal, Content, altered_caches, caps_toward, AreWithin, step_cause, CacheHistory, CacheEntry, IsLegalCache, capacity_after, limits_after, asked_for, target_after, need_after, IsShort, IsTooSmall, IsAskedAt, IsLetThrough, Read, Write, Castout, Unlock, Name16, CfId, CacheItem, registered_at, nat_le, cond, if_failed, min, is_none}
 use Rattle.cache_model.specs.CacheDir.declared.row.Holder.{Holder}
-use Rattle.cache_model.specs.Refusals.{index_refusal, use_refusal, castout_refusal, entry_refusal, holder_refusal, held_refusal, held_by_other_refusal, not_held_refusal, unchanged_refusal}
+use Rattle.cache_model.specs.Commands.Write as write
+use Rattle.cache_model.specs.Refusals.{index_refusal, use_refusal, castout_refusal, entry_refusal, holder_refusal, held_refusal, held_by_other_refusal, not_held_refusal, unchanged_refusal, registration_refusal, change_refusal}
 use Rattle.cache_model.specs.Room.{elements_refusal, free_elements, has_place, reclaim_order, room_refusal}
 use Rattle.cache_model.specs.Step.{causes}
 use Rattle.cache_model.specs.declared.requests.Request.{Request}
@@ -102,16 +103,20 @@ unchanged_other : (row : Option CacheItem) → IsOther (unchanged_refusal row)
 unchanged_other None = no_other
 unchanged_other (Some row) = one_unless _ _ refl
 
+write_other : (caps : Caps) (content : Content) (by : ConnId) (name : Name16) (class : Option ℕ) (when_reg : Bool)
+    (request : Request) → AreOther (registration_refusal content.regs by name when_reg
+    ∷ change_refusal content.rows name class ∷ room_refusal caps request content.rows ∷ [])
+write_other caps content by name class when_reg request =
+    (one_where _ _ refl, (one_where _ _ refl, (room_other caps request content.rows, tt)))
+
 -- no command of a cache
 cache_other : (vector : ℕ) (caps : Caps) (content : Content) (by : ConnId) (cmd : CacheCmd)
     → AreOther (causes vector caps content by cmd)
 cache_other vector caps content by (Read name index old stg) =
     (index_other vector content by name index old, (one_unless _ _ refl, (room_other caps _ content.rows, tt)))
-cache_other vector caps content by (Write name index body class adj old stg when_reg) = (
-  index_other vector content by name index old,
-  (castout_other class, (one_unless _ _ refl, (one_where _ _ refl, (one_where _ _ refl,
-  (room_other caps _ content.rows, tt))))),
-)
+cache_other vector caps content by (Write name index body class adj old stg when_reg) =
+    let others = write_other caps content by name class when_reg (write.request name body stg) in
+    (index_other vector content by name index old, (castout_other class, (one_unless _ _ refl, others)))
 cache_other vector caps content by (CacheCmd.CrossInval name) = (entry_other _, tt)
 cache_other vector caps content by CacheCmd.RegList = tt
 cache_other vector caps content by (Castout name) = (entry_other _, (held_other _, (unchanged_other _, tt)))
@@ -134,12 +139,15 @@ severed_other : (shell : Shell) (by : ConnId) (cf : Option CfId) → IsOther (if
 severed_other shell by None = no_other
 severed_other shell by (Some cf) = other_when _ _ refl
 
+links_other : (shell : Shell) (by : ConnId) → AreOther (if_quiesced by shell.rebuild
+    ∷ if_severed shell by shell.instances.primary ∷ if_severed shell by shell.instances.secondary ∷ [])
+links_other shell by = (quiesced_other by shell.rebuild, (severed_other shell by _, (severed_other shell by _, tt)))
+
 -- and nothing by the shell
 shell_other : (shell : Shell) (by : ConnId) → IsOther (content_cause shell by)
-shell_other shell by = first_other (unless_active shell by ∷ if_lost shell ∷ if_failed shell
-    ∷ if_quiesced by shell.rebuild ∷ if_severed shell by shell.instances.primary
-    ∷ if_severed shell by shell.instances.secondary ∷ []) (other_when _ _ refl, (lost_other shell.lost, (other_when
-    _ _ refl, (quiesced_other by shell.rebuild, (severed_other shell by _, (severed_other shell by _, tt))))))
+shell_other shell by = first_other (unless_active shell by ∷ if_lost shell ∷ if_failed shell ∷ if_quiesced by
+    shell.rebuild ∷ if_severed shell by shell.instances.primary ∷ if_severed shell by shell.instances.secondary ∷ [])
+    (other_when _ _ refl, (lost_other shell.lost, (other_when _ _ refl, links_other shell by)))
 
 -- ---- a capacity that is too small
 

@@ -1,6 +1,6 @@
 -- The calls of a legal history are heard under their numbers.
-use Rattle.std.proofs.lemmas.List.{map-map}
 use Rattle.std.proofs.lemmas.List.Elements.{Contains-append_right}
+use Rattle.std.proofs.lemmas.Simd.{map-map}
 use Rattle.list_model.proofs.ListLaws.{in-found}
 use Rattle.run_laws.proofs.Imports.{◌≡◌, ℕ, ◌≤◌, ◌==◌, Bool, List, [], ◌∷◌, filter, Some, subst, arith, Contains, nat_tests, StrForm, numbered_legal, altered_caches, queued_lists, lock_meaning, AnyHistory, AnyCall, any_calls, any_length, call_numbered, IsAnyLegal, IsAnyPoint, Rising, any_numbers, Every, found_passes, map-append, eqb-true, map, AnyAsk, any_call, calls}
 

@@ -1,5 +1,5 @@
 -- The lines of legal histories, in which each caller asks what the script says, fix them.
-use Rattle.run_laws.proofs.Imports.{◌≡◌, ℕ, ◌≤◌, ◌<◌, ◌^◌, Bool, List, [], ◌∷◌, ◌++◌, length, map, codes, Option, Some, slice_get, refl, ◌∙◌, arith, append_assoc, All, AllByRecursion, eq-eqb, map-append, filter-append, recursion_from_All, Kind, StrForm, ConnId, StrNo, Ask, What, Entry, Meaning, Call, calls, IsLegal, told_of, calls-append, continues_legal, altered_caches, queued_lists, lock_meaning, AnyHistory, AnyAsk, Script, AnyCall, any_call, any_calls, any_length, own_calls, lines_of, IsHistoryOf, IsOfKind, IsAnyLegal, AnyTells, structure_name, cache_words, list_words, lock_words, cache_reply_words, list_reply_words, lock_reply_words, entry_line, entry_lines, history_lines, histories_lines, NamesFacilities, MarksFacilities}
+use Rattle.run_laws.proofs.Imports.{◌≡◌, ℕ, ◌≤◌, ◌<◌, ◌^◌, Bool, List, [], ◌∷◌, ◌++◌, length, map, codes, Option, Some, slice_get, refl, ◌∙◌, arith, append_assoc, All, AllByRecursion, eq-eqb, map-append, filter-append, recursion_from_All, Kind, StrForm, ConnId, StrNo, Ask, What, Entry, Meaning, calls, IsLegal, told_of, calls-append, continues_legal, altered_caches, queued_lists, lock_meaning, AnyHistory, AnyAsk, Script, AnyCall, any_call, any_calls, any_length, own_calls, lines_of, IsHistoryOf, IsOfKind, IsAnyLegal, AnyTells, structure_name, alter_words, queue_words, lock_words, alter_reply_words, queue_reply_words, lock_reply_words, entry_line, entry_lines, history_lines, histories_lines, NamesFacilities, MarksFacilities}
 use Rattle.run_laws.proofs.Entries.{Asked, AsksNext, same_entries}
 use Rattle.run_laws.proofs.Works.{works, next_ask, Plays, next_of}
 use Rattle.run_laws.proofs.{Cuts.text_of, Cuts.same_heading, Cuts.all_same, Callers.AreApart, Heard.any_within, Played.lines_at}
@@ -106,12 +106,12 @@ any_same : (script : Script) (n : ℕ) (form : StrForm) (one other : AnyHistory)
     script n one ++ xs) ≡ text_of (history_lines script n other ++ ys) → (one ≡ other) × (text_of xs ≡ text_of ys)
 any_same script n form (AnyHistory.Cache one) (AnyHistory.Cache other) xs ys apart a b e = grind (
   arith,
-  same_history altered_caches form AnyAsk.Cache script (record { 0 = n }) (λ a b e. cc) cache_words cache_reply_words n
+  same_history altered_caches form AnyAsk.Cache script (record { 0 = n }) (λ a b e. cc) alter_words alter_reply_words n
       one other xs ys apart,
 )
 any_same script n form (AnyHistory.List one) (AnyHistory.List other) xs ys apart a b e = grind (
   arith,
-  same_history queued_lists form AnyAsk.List script (record { 0 = n }) (λ a b e. cc) list_words list_reply_words n
+  same_history queued_lists form AnyAsk.List script (record { 0 = n }) (λ a b e. cc) queue_words queue_reply_words n
       one other xs ys apart,
 )
 any_same script n form (AnyHistory.Lock one) (AnyHistory.Lock other) xs ys apart a b e = grind (

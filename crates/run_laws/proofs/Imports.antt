@@ -138,10 +138,10 @@ pub use Rattle.plex_script.specs.declared.{declarations.Declaration.Declaration,
 pub use Rattle.plex_script.specs.declared.{scripts.AnyAsk.AnyAsk, scripts.Line.Line, scripts.Script.Script}
 pub use Rattle.plex_script.specs.declared.{transcripts.AgentEnd.AgentEnd, transcripts.Shown.Shown}
 pub use Rattle.plex_report.proofs.Digits.{digits_end, digits_next}
-pub use Rattle.plex_report.specs.CommandWords.{ask_words, cache_words, list_words, lock_words}
+pub use Rattle.plex_report.specs.CommandWords.{ask_words, alter_words, queue_words, lock_words}
 pub use Rattle.plex_report.specs.Lines.{heading, entry_line, what_words, reply_words, is_of_vary, entry_lines, history_lines, shown_line, bit_word, binary_digits, transcript_lines}
 pub use Rattle.plex_report.specs.Naming.{caller_name, caller_word, structure_name, structure_word}
-pub use Rattle.plex_report.specs.ReplyWords.{cache_reply_words, list_reply_words, lock_reply_words}
+pub use Rattle.plex_report.specs.ReplyWords.{alter_reply_words, queue_reply_words, lock_reply_words}
 pub use Rattle.plex_report.specs.Report.{lines_each, structures_lines, histories_lines, transcripts_lines, report_lines}
 pub use Rattle.run_shown.proofs.HistoryLaws.{length_calls, calls_rise}
 pub use Rattle.run_shown.specs.Headline.{EndsRight, ShowsHistories, IsHistoryOf, TellsBit, TellsOf, place_of}

@@ -1,14 +1,27 @@
 -- A report that shows histories, whose tests tell what stood, shows numbers of at most 64 bits.
-use Rattle.run_laws.proofs.Imports.{◌≡◌, ℕ, zero, suc, ◌+◌, ◌*◌, ◌≤◌, ◌<◌, ◌&&◌, ◌^◌, nat_lt, List, [], ◌∷◌, ◌++◌, length, Option, Some, slice_get, sym, subst, arith, nat_tests, slice_get_within, get_within, Kind, StrForm, ConnId, StrNo, Step, AnyHistory, AnyAsk, Act, Line, Script, Shown, Transcript, step_after, AnyCall, any_length, Runs, ShowsAct, ShowsLines, ShowsClosing, ShowsClosings, Follows, IsHistoryOf, ShowsHistories, Reading, ShowsNumbers, IsReading, report_of, MarksFacilities, AgentEnd, sum_by, Bool, if◌then◌else◌, pow-suc, numbers_from}
+use Rattle.run_laws.proofs.Imports.{◌≡◌, ℕ, zero, suc, ◌+◌, ◌*◌, ◌≤◌, ◌<◌, ◌&&◌, ◌^◌, nat_lt, List, [], ◌∷◌, ◌++◌, length, Option, Some, slice_get, sym, subst, arith, nat_tests, slice_get_within, get_within, Kind, StrForm, ConnId, StrNo, Step, AnyHistory, AnyAsk, Act, Line, Script, Shown, Transcript, step_after, AnyCall, any_length, Runs, ShowsAct, ShowsLines, ShowsClosing, ShowsClosings, Follows, IsHistoryOf, ShowsHistories, Reading, ShowsNumbers, IsReading, report_of, MarksFacilities, AgentEnd, sum_by, Bool, if◌then◌else◌, pow-suc, numbers_from, true, false, sum_by-cons}
 use Rattle.run_laws.proofs.{Histories.legal_point, Sizes.short_at}
 
 -- ---- words
 
--- the worths of bits from a place on
-bits_below : (bits : ℕ → Bool) (first n : ℕ)
-    → sum_by (λ k. if bits k then 2 ^ k else 0) (numbers_from first n) + 2 ^ first ≤ 2 ^ (first + n)
-bits_below bits first zero = omega arith
-bits_below bits first (suc n) = grind (arith, pow-suc, bits_below bits (first + 1) n)
+-- what a bit adds at its place
+abbrev worth : (ℕ → Bool) → ℕ → ℕ
+worth bits k = if bits k then 2 ^ k else 0
+
+worth_most : (b : Bool) (n : ℕ) → (if b then n else 0) ≤ n
+worth_most true n = omega arith
+worth_most false n = omega arith
+
+-- the bits from a place on
+bits_below : (bits : ℕ → Bool) (first n : ℕ) → sum_by (worth bits) (numbers_from first n) + 2 ^ first ≤ 2 ^ (first + n)
+bits_below bits first zero = let same : first + 0 ≡ first = omega arith in rw same (omega arith)
+bits_below bits first (suc n) =
+    let later : first + suc n ≡ first + 1 + n = omega arith in
+    let next : first + 1 ≡ suc first = omega arith in
+    let double : 2 ^ (first + 1) ≡ 2 ^ first * 2 = rw next (pow-suc 2 first) in
+    let sum = sum_by-cons (worth bits) first (numbers_from (first + 1) n) in
+    let more = bits_below bits (first + 1) n in
+    rw later (omega (arith, sum, double, more, worth_most (bits first) (2 ^ first)))
 
 -- ---- where tests are
 

@@ -7,11 +7,9 @@ ghost use Rattle.engine_api.specs.declared.asks.Reply.TheVariants.{Refused};
 ghost use Rattle.run_laws.specs.Alters.{IsAskedAt, IsLetThrough, IsTooSmall};
 ghost use Rattle.run_laws.specs.CacheHistories.{CacheEntry, CacheHistory, IsLegalCache};
 
-use cf_types::{AlterCmd, AlterReply, CacheCmd, StrForm};
-use cf_types::CacheReply;
-use engine_api::History;
-
 pub use cf_alter::{alters_nothing_else, fits_its_limits};
+use cf_types::{AlterCmd, AlterReply, CacheCmd, CacheReply, StrForm};
+use engine_api::History;
 
 /// In a legal history a command on a cache is refused as too small exactly where it is a START or a
 /// STEP, and what there is needs more than the target, or than the limits that the step comes to.

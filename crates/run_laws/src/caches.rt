@@ -13,19 +13,16 @@ ghost use Rattle.run_laws.specs.CacheHistories.{IsLegalCache, IsWithin, content_
 ghost use Rattle.run_laws.specs.Uncast.{HasPage, IsAnswered, IsUncast, Page};
 ghost use Rattle.run_laws.specs.Unique.{IsUnique};
 
-use engine_api::History;
 use cf_types::{AlterCmd, AlterReply, CacheCmd, CacheReply, StrForm};
+use engine_api::History;
 
 /// After every history of a cache a name has one entry at most, and a connector has one
 /// registration at most for an index of its vector, and one at most for a name. Rows are in their
 /// order, and each registration is for a name that has an entry. Where the form is a cache's,
-/// entries and data are within the capacity of its instances: that of the policy, until a rebuild's
-/// new instance takes the old one's place, and that of the rebuild from then on, until the
-/// structure is deallocated.
-pub fn unique(
-    form: &StrForm,
-    history: &History<AlterCmd<CacheCmd>, AlterReply<CacheReply>>,
-)
+/// entries and data are within the limits that an alteration has set, and where none has, within
+/// the capacity of its instances: that of the policy, until a rebuild's new instance takes the old
+/// one's place, and that of the rebuild from then on, until the structure is deallocated.
+pub fn unique(form: &StrForm, history: &History<AlterCmd<CacheCmd>, AlterReply<CacheReply>>)
     ensures unique { IsUnique (content_after form.now history.now) }
     ensures orderly { IsOrderly (content_after form.now history.now) }
     ensures content { IsWithin form.now history.now }
@@ -35,10 +32,7 @@ pub fn unique(
 /// that its last accepted READ_DATA or WRITE_DATA at this index answered or wrote (none where the
 /// entry had no data) are those that the entry of the registered name has now. So they are what
 /// READ_DATA of this name would answer to anyone.
-pub fn fresh_copy(
-    form: &StrForm,
-    history: &History<AlterCmd<CacheCmd>, AlterReply<CacheReply>>,
-)
+pub fn fresh_copy(form: &StrForm, history: &History<AlterCmd<CacheCmd>, AlterReply<CacheReply>>)
     requires { IsLegalCache form.now history.now }
     ensures fresh { (conn : ConnId) (index : ℕ)
         → IsTrue (stands_after altered_caches form.now history.now conn index)
@@ -50,10 +44,7 @@ pub fn fresh_copy(
 
 /// A test of a vector bit that tells `true` tells a fresh copy: it was fresh at the call with the
 /// number that the test tells, or, where the connector hasn't seen that call complete, before it.
-pub fn fresh_test(
-    form: &StrForm,
-    history: &History<AlterCmd<CacheCmd>, AlterReply<CacheReply>>,
-)
+pub fn fresh_test(form: &StrForm, history: &History<AlterCmd<CacheCmd>, AlterReply<CacheReply>>)
     requires { IsLegalCache form.now history.now }
     ensures { (n q : ℕ) (conn : ConnId) (index : ℕ)
         → Tells altered_caches form.now history.now n q conn index true
@@ -65,10 +56,7 @@ pub fn fresh_test(
 /// of the structure, and no CASTOUT_DATA with its UNLOCK_CASTOUT, the name has an entry, it is
 /// changed, and it has the data, adjunct and castout class of that WRITE_DATA. So accepted
 /// READ_DATA and CASTOUT_DATA of the name answer that page.
-pub fn uncast_kept(
-    form: &StrForm,
-    history: &History<AlterCmd<CacheCmd>, AlterReply<CacheReply>>,
-)
+pub fn uncast_kept(form: &StrForm, history: &History<AlterCmd<CacheCmd>, AlterReply<CacheReply>>)
     requires { IsLegalCache form.now history.now }
     ensures kept { (name : Name16) (page : Page) → IsUncast form.now history.now name page
         → HasPage form.now history.now name page }

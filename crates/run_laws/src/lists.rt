@@ -7,8 +7,8 @@ ghost use Rattle.run_laws.specs.ListApplied.{Deed, IsHeldAfter, content_applied,
 ghost use Rattle.run_laws.specs.ListHistories.{IsLegalList, content_after, told_in};
 ghost use Rattle.run_laws.specs.Versions.{AreVersioned};
 
-use engine_api::History;
 use cf_types::{QueueCmd, QueueReply, StrForm};
+use engine_api::History;
 
 /// After every legal history of a list structure that has fewer entries than there are versions: a
 /// record's version is 1 plus the number of accepted UPDATEs that answered its id after the

@@ -10,8 +10,8 @@ ghost use Rattle.run_laws.specs.LockApplied.{Deed, IsHeldAfter, content_applied}
 ghost use Rattle.run_laws.specs.Entries.{step_at, replies_of};
 ghost use Rattle.run_laws.specs.LockHistories.{content_after};
 
-use engine_api::History;
 use cf_types::{LockCmd, LockReply, StrForm};
+use engine_api::History;
 
 /// After every history of a lock structure any two owners of one resource are compatible: both
 /// share it, or they are one connector.
