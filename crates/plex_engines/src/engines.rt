@@ -4,12 +4,15 @@ use cf_alter::Altered;
 use list_queues::QueueEngine;
 use lock_core::LockEngine;
 use plex_board::Kinds;
+use std::marker::PhantomData;
 
 /// The engines of the program, one for each type of structure: a cache whose capacity can be
-/// altered, a list with event queues for sublists, and a lock structure.
-pub struct Engines;
+/// altered, a list with event queues for sublists, and a lock structure. The parameter plays no
+/// part, and `Board` has `()` there: the kit takes an engine round another one in no impl without
+/// parameters.
+pub struct Engines<T>(PhantomData<T>);
 
-impl Kinds for Engines {
+impl<T> Kinds for Engines<T> {
     ghost use Rattle.plex_board.specs.LockModel.Meaning.{lock_meaning};
     ghost use Rattle.plex_board.specs.QueueModel.ListQueues.{queued_lists};
     ghost use Rattle.plex_board.specs.RunShown.Meanings.{altered_caches};
@@ -35,4 +38,4 @@ impl Kinds for Engines {
 }
 
 /// A board that runs them.
-pub type Board<L> = plex_board::Board<Engines, L>;
+pub type Board<L> = plex_board::Board<Engines<()>, L>;
