@@ -8,11 +8,13 @@ use std::marker::PhantomData;
 
 /// The engines of the program, one for each type of structure: a cache whose capacity can be
 /// altered, a list with event queues for sublists, and a lock structure. The parameter plays no
-/// part, and `Board` has `()` there: the kit takes an engine round another one in no impl without
-/// parameters.
-pub struct Engines<T>(PhantomData<T>);
+/// part: the kit takes an engine round another one in no impl without parameters.
+pub struct EnginesFor<T>(PhantomData<T>);
 
-impl<T> Kinds for Engines<T> {
+/// The engines of the program.
+pub type Engines = EnginesFor<()>;
+
+impl<T> Kinds for EnginesFor<T> {
     ghost use Rattle.plex_board.specs.LockModel.Meaning.{lock_meaning};
     ghost use Rattle.plex_board.specs.QueueModel.ListQueues.{queued_lists};
     ghost use Rattle.plex_board.specs.RunShown.Meanings.{altered_caches};
@@ -38,4 +40,4 @@ impl<T> Kinds for Engines<T> {
 }
 
 /// A board that runs them.
-pub type Board<L> = plex_board::Board<Engines<()>, L>;
+pub type Board<L> = plex_board::Board<Engines, L>;
