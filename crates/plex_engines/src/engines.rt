@@ -4,12 +4,17 @@ use cf_alter::Altered;
 use list_queues::QueueEngine;
 use lock_core::LockEngine;
 use plex_board::Kinds;
+use std::marker::PhantomData;
 
 /// The engines of the program, one for each type of structure: a cache whose capacity can be
-/// altered, a list with event queues for sublists, and a lock structure.
-pub struct Engines;
+/// altered, a list with event queues for sublists, and a lock structure. The parameter plays no
+/// part: the kit takes an engine round another one in no impl without parameters.
+pub struct EnginesFor<T>(PhantomData<T>);
 
-impl Kinds for Engines {
+/// The engines of the program.
+pub type Engines = EnginesFor<()>;
+
+impl<T> Kinds for EnginesFor<T> {
     ghost use Rattle.plex_board.specs.LockModel.Meaning.{lock_meaning};
     ghost use Rattle.plex_board.specs.QueueModel.ListQueues.{queued_lists};
     ghost use Rattle.plex_board.specs.RunShown.Meanings.{altered_caches};
