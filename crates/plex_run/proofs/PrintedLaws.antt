@@ -10,7 +10,7 @@ use Rattle.check_model.specs.RunShown.Kinds.{MayAskAny}
 use Rattle.check_model.specs.RunShown.Headline.{place_of}
 use Rattle.check_model.specs.declared.printed.Printed.{Printed}
 use Rattle.check_model.specs.Printings.{IsCallOf, IsPrintedOf}
-use Rattle.report_texts.specs.ReplyRows.Within.{IsCacheReply, IsListReply, IsLockReply}
+use Rattle.report_texts.specs.ReplyRows.Within.{IsAlterReply, IsQueueReply, IsLockReply}
 use Rattle.report_texts.specs.ReportLines.Readable.{IsEntry, IsItem, IsWhat}
 use Rattle.report_texts.specs.Readable.{AreReadable, AreEntries}
 
@@ -93,9 +93,9 @@ module _ {C R : Type 0} (of : Ask C → AnyAsk) (script : Script) (on : StrNo) (
 history_calls : (script : Script) (on : StrNo) (entries : AnyHistory) → IsWellFormed script
     → AreEntries script on entries → All (IsCallOf script) (any_calls entries)
 history_calls script on (AnyHistory.Cache entries) formed all =
-    calls_of_entries (λ a. AnyAsk.Cache a) script on formed IsCacheReply entries all
+    calls_of_entries (λ a. AnyAsk.Cache a) script on formed IsAlterReply entries all
 history_calls script on (AnyHistory.List entries) formed all =
-    calls_of_entries (λ a. AnyAsk.List a) script on formed IsListReply entries all
+    calls_of_entries (λ a. AnyAsk.List a) script on formed IsQueueReply entries all
 history_calls script on (AnyHistory.Lock entries) formed all =
     calls_of_entries (λ a. AnyAsk.Lock a) script on formed (λ connectors. IsLockReply) entries all
 
