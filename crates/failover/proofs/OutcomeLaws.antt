@@ -10,11 +10,11 @@ use Rattle.plex_board.specs.Boards.{BoardShown, IsAccount, AreClosed, AreEachAsk
 use Rattle.plex_board.proofs.{CfLink.LinkLaws.asked_calls, CfLink.LinkLaws.asked_told, DeskLaws.desk-pass_owner}
 use Rattle.plex_board.specs.CfTypes.declared.{forms.StrForm.StrForm, numbers.ConnId.ConnId}
 use Rattle.plex_board.specs.PlexScript.declared.{asks.AnyHistory.AnyHistory, scripts.Script.Script}
+use Rattle.plex_board.specs.VecWords.declared.logged.Tested.{Tested}
 use Rattle.plex_board.specs.CfLink.Links.{AreAsked, IsAskedAll, IsAsTold, calls_after}
 use Rattle.plex_board.specs.{AnyCalls.any_answers, Cells.CellShown, Cells.IsAnyTold, Desks.DeskShown, Desks.pass_at}
 use Rattle.failover.specs.Failing.{AreDownOnce, IsDownAt}
 use Rattle.failover.specs.Members.{HasPool, AreSeated, HasTested, gbp, sight_of}
-use Rattle.failover.specs.declared.members.Seen.{Seen}
 use Rattle.failover.specs.Outcome.{IsOpened, IsOutcome, WasAsked, reader, cf1, cf2, down_once}
 use Rattle.failover.proofs.SeatLaws.{seat_owner, seat_of_board, seated}
 
@@ -84,11 +84,10 @@ first_told (c ∷ cells) (e ∷ histories) spare links cell entries there first 
 -- ---- the whole
 
 module _ (board : BoardShown ListLink) (script : Script) (histories : List AnyHistory) (desks : List DeskShown)
-    (links : List ListLink) (seen : Seen) where
+    (links : List ListLink) (tested : Tested) where
   pub outcome : map (λ (cell : CellShown ListLink). cell.form) board.cells ≡ script.structures → AreDownOnce
       (links_of board) → AreSeated board desks → AreClosed board desks histories → AreLinksAsked calls_of
-      downs_of faults_of board histories links → HasTested desks seen.tested seen.no
-      → IsOutcome script histories links seen
+      downs_of faults_of board histories links → HasTested desks tested → IsOutcome script histories links tested
   outcome forms down are closed asked has =
       let pool = are.pool in
       let entries : AnyHistory = get_or histories 0 (AnyHistory.Cache []) in
@@ -107,6 +106,7 @@ module _ (board : BoardShown ListLink) (script : Script) (histories : List AnyHi
       record {
         form = pool.cell.form;
         entries = entries;
+        sure = has.sure;
         form_is = ap (λ (all : List StrForm). slice_get all 0) (sym forms)
             ∙ slice_get-map (λ (cell : CellShown ListLink). cell.form) board.cells 0
             ∙ ap (option_map (λ (cell : CellShown ListLink). cell.form)) pool.there;
@@ -116,9 +116,9 @@ module _ (board : BoardShown ListLink) (script : Script) (histories : List AnyHi
         second_down = told.second_down;
         first_asked = told.first_asked;
         second_asked = told.second_asked;
-        told = subst (λ owner. IsAnyTold pool.cell.form entries owner (sight_of seen.tested seen.no)) whose
+        told = subst (λ owner. IsAnyTold pool.cell.form entries owner (sight_of tested has.sure)) whose
             (All-pop (IsAnyTold pool.cell.form entries (pass_at desk gbp).owner) (pass_at desk gbp).tests has.before
-            (Some (sight_of seen.tested seen.no)) has.tests account.tests).1;
+            (Some (sight_of tested has.sure)) has.tests account.tests).1;
       }
 
 -- ---- as the board begins

@@ -1,24 +1,22 @@
 -- The desks of the operator and of the members: as the board begins, and once one of them was used.
-use Rattle.std.proofs.Common.{◌≡◌, ℕ, zero, suc, ◌+◌, ◌<◌, ◌≤◌, List, [], ◌∷◌, length, map, ◌++◌, set, get_or, get_or-set_same, Some, sym, ap, subst, ◌∙◌, arith, refl}
+use Rattle.std.proofs.Common.{◌≡◌, ℕ, ◌+◌, ◌<◌, ◌≤◌, List, [], ◌∷◌, length, map, ◌++◌, set, get_or, get_or-set_same, Some, sym, ap, subst, ◌∙◌, arith, refl}
 use Rattle.std.specs.Prelude.{IfSome, slice_get}
 use Rattle.std.specs.List.{range_with_len}
 use Rattle.std.proofs.Math.Seq.{map-set_same}
 use Rattle.std.proofs.lemmas.List.{length-map, length-set}
-use Rattle.std.proofs.lemmas.Option.{slice_get_within, slice_get_read, get_or_from_slice_get}
+use Rattle.std.proofs.lemmas.Option.{slice_get_within, slice_get_read}
 use Rattle.std.proofs.lemmas.List.FromFn.{length-range_with_len, length-map-range_with_len, get_or-range_with_len}
 use Rattle.std.proofs.lemmas.List.{get_or-map}
 use Rattle.std.proofs.lemmas.List.Elements.{All-nil, All-cons, All-same, All-set}
-use Rattle.plex_board.specs.EngineApi.declared.told.Told.{Told}
-use Rattle.plex_board.specs.PlexScript.declared.scripts.AnyAsk.{AnyAsk}
 use Rattle.plex_board.specs.CfTypes.declared.{forms.Kind.Kind, numbers.ConnId.ConnId}
 use Rattle.plex_board.specs.PlexScript.declared.scripts.Script.{Script}
 use Rattle.plex_board.specs.Boards.{BoardShown, IsPolicy, IsDeskOf, cell_on, new_desk}
 use Rattle.plex_board.proofs.PlexScript.FormedLines.{script-formed}
 use Rattle.plex_board.specs.VecWords.declared.logged.Tested.{Tested}
-use Rattle.plex_board.specs.Desks.{DeskShown, IsAnsweredOn, pass_at, with_pass}
-use Rattle.plex_board.specs.{PlexScript.Scripts.IsScript, Types.type_of_kind, Passes.PassShown, Passes.with_call, Cells.CellShown}
+use Rattle.plex_board.specs.Desks.{DeskShown, pass_at, with_pass}
+use Rattle.plex_board.specs.{PlexScript.Scripts.IsScript, Types.type_of_kind, Passes.PassShown, Cells.CellShown}
 use Rattle.plex_board.proofs.DeskLaws.{new_desk-of_board, desk-length, pass_at-with_pass_same}
-use Rattle.failover.specs.Members.{HasPool, AreSeated, HasSeen, HasTested, gbp, owner_of, sight_of}
+use Rattle.failover.specs.Members.{HasPool, AreSeated, HasTested, gbp, owner_of, sight_of}
 
 -- what a text says states a policy
 pub policy_of : (text : List ℕ) (script : Script) → IsScript text script → IsPolicy script
@@ -102,65 +100,30 @@ module _ {L : Type 0} (board : BoardShown L) where
         vector = omega (arith, lens, long);
       }
 
--- one of the first two desks was used: the third is as it was
-pub third_stays : (desks : List DeskShown) (who : ℕ) (new : DeskShown) → who < 2
-    → slice_get (set desks who new) 2 ≡ slice_get desks 2
-third_stays [] who new below = refl
-third_stays (one ∷ desks) zero new below = refl
-third_stays (one ∷ []) (suc who) new below = refl
-third_stays (one ∷ two ∷ desks) (suc zero) new below = refl
-third_stays (one ∷ two ∷ desks) (suc (suc who)) new below = absurd (omega (arith, below))
-
--- the second member's desk was used
-module _ {L : Type 0} (board : BoardShown L) (desks : List DeskShown) (are : AreSeated board desks) where
-  third_is : (at : ℕ) (new : DeskShown) → at ≡ 2 → slice_get (set desks at new) 2 ≡ Some new
-  third_is at new two =
-      let below : 2 < length desks = seat_within board desks are 2 (omega arith) in
-      let within : 2 < length (set desks 2 new) = omega (arith, below, length-set desks 2 new) in
-      subst (λ (k : ℕ). slice_get (set desks k new) 2 ≡ Some new) (sym two) (slice_get_read (set desks 2 new)
-      (length (set desks 2 new)) 2 new refl within (sym (get_or-set_same desks 2 new new below)))
-
-  -- what it has seen
-  pub sure_at : (at number : ℕ) (old : DeskShown) → at ≡ 2 → old ≡ get_or desks at old → HasSeen desks number
-      → (pass_at old gbp).sure ≡ number
-  sure_at at number old two is seen =
-      let same : old ≡ seen.desk = is ∙ ap (λ (k : ℕ). get_or desks k old) two
-      ∙ get_or_from_slice_get desks 2 seen.desk old seen.there in
-      ap (λ (d : DeskShown). (pass_at d gbp).sure) same ∙ seen.sure
-
-  -- its call was answered
-  pub has_seen : (asked : AnyAsk) (at : ℕ) (old new : DeskShown) (told : Told) → at ≡ 2 → old ≡ get_or desks at old
-      → IsAnsweredOn gbp asked told old new → HasSeen (set desks at new) told.no
-  has_seen asked at old new told two is answered =
-      let of : IsDeskOf board old = seat_of_board board desks are at old (omega (arith, two)) is in
-      let some : 0 < length board.cells = slice_get_within board.cells 0 are.pool.cell are.pool.there in
-      let many : gbp.0 < length old.passes = omega (arith, some, desk-length board old of) in
-      record {
-        desk = new;
-        there = third_is at new two;
-        sure = ap (λ (d : DeskShown). (pass_at d gbp).sure) answered.desk ∙ ap (λ (p : PassShown). p.sure)
-            (pass_at-with_pass_same old gbp (with_call asked told answered.reply (pass_at old gbp)) many);
-      }
-
 -- a test at the second member's desk
 module _ {L : Type 0} (board : BoardShown L) (desks : List DeskShown) (are : AreSeated board desks) where
   pub has_tested : (at : ℕ) (old new : DeskShown) (tested : Tested) → at ≡ 2 → old ≡ get_or desks at old
       → new ≡ (let pass = pass_at old gbp in with_pass gbp (record pass {
         known = tested.at;
         tests = pass.tests ++ sight_of tested pass.sure ∷ [];
-      }) old) → HasTested (set desks at new) tested (pass_at old gbp).sure
+      }) old) → HasTested (set desks at new) tested
   has_tested at old new tested two is made =
       let of : IsDeskOf board old = seat_of_board board desks are at old (omega (arith, two)) is in
+      let below : 2 < length desks = seat_within board desks are 2 (omega arith) in
       let some : 0 < length board.cells = slice_get_within board.cells 0 are.pool.cell are.pool.there in
       let many : gbp.0 < length old.passes = omega (arith, some, desk-length board old of) in
       let pass : PassShown = record (pass_at old gbp) {
         known = tested.at;
         tests = (pass_at old gbp).tests ++ sight_of tested (pass_at old gbp).sure ∷ [];
       } in
+      let within : 2 < length (set desks 2 new) = omega (arith, below, length-set desks 2 new) in
       record {
         desk = new;
+        sure = (pass_at old gbp).sure;
         before = (pass_at old gbp).tests;
-        there = third_is board desks are at new two;
+        there = subst (λ (k : ℕ). slice_get (set desks k new) 2 ≡ Some new) (sym two)
+            (slice_get_read (set desks 2 new) (length (set desks 2 new)) 2 new refl within
+            (sym (get_or-set_same desks 2 new new below)));
         tests = ap (λ (d : DeskShown). (pass_at d gbp).tests) made
             ∙ ap (λ (p : PassShown). p.tests) (pass_at-with_pass_same old gbp pass many);
       }

@@ -34,15 +34,10 @@ pub record AreSeated {L : Type 0} (board : BoardShown L) (desks : List DeskShown
 abbrev pub sight_of : Tested → ℕ → Sight
 sight_of tested sure = record { index = 0; bit = tested.bit; at = tested.at; sure = sure }
 
--- the second member has seen its call of this number complete, and no later one
-pub record HasSeen (desks : List DeskShown) (number : ℕ) : Type 0 where
+-- the last test at the second member's desk was answered so
+pub record HasTested (desks : List DeskShown) (tested : Tested) : Type 0 where
   pub desk : DeskShown
-  pub there : slice_get desks 2 ≡ Some desk
-  pub sure : (pass_at desk gbp).sure ≡ number
-
--- the last test at the second member's desk was answered so, when so much was seen complete
-pub record HasTested (desks : List DeskShown) (tested : Tested) (sure : ℕ) : Type 0 where
-  pub desk : DeskShown
+  pub sure : ℕ
   pub before : List Sight
   pub there : slice_get desks 2 ≡ Some desk
   pub tests : (pass_at desk gbp).tests ≡ before ++ sight_of tested sure ∷ []

@@ -7,6 +7,7 @@ use Rattle.plex_board.specs.CfTypes.declared.numbers.CfId.{CfId}
 use Rattle.plex_board.specs.CfTypes.declared.numbers.ConnId.{ConnId}
 use Rattle.plex_board.specs.PlexScript.declared.asks.AnyHistory.{AnyHistory}
 use Rattle.plex_board.specs.PlexScript.declared.scripts.Script.{Script}
+use Rattle.plex_board.specs.VecWords.declared.logged.Tested.{Tested}
 use Rattle.plex_board.specs.RunShown.Kinds.{IsAnyLegal}
 use Rattle.plex_board.specs.AnyCalls.{any_answers}
 use Rattle.plex_board.specs.Cells.{CellShown, IsAnyTold}
@@ -14,7 +15,6 @@ use Rattle.plex_board.specs.Desks.{DeskShown}
 use Rattle.plex_board.specs.Boards.{BoardShown, links_of}
 use Rattle.failover.specs.Failing.{AreDownOnce}
 use Rattle.failover.specs.Members.{AreSeated, sight_of}
-use Rattle.failover.specs.declared.members.Seen.{Seen}
 
 -- the second member
 abbrev pub reader : ConnId
@@ -43,13 +43,13 @@ WasAsked links place times = IfSome (slice_get links place) (λ link. link.calls
 
 -- The history of the first structure is one that a single thread could have made. Where it has that a facility's link
 -- was asked, the link to CF1 was down the third time alone, and the one to CF2 the fifth time alone; so often each was
--- asked. And the reader, who had seen its READ complete and no later call, was told by its test the bit as it stood at a
--- number of the history that isn't before that READ's: behind the call of that number or, where it is a later one,
--- before it.
-pub record IsOutcome (script : Script) (histories : List AnyHistory) (links : List ListLink) (seen : Seen) : Type 0
+-- asked. And the reader's test told the bit as it stood at that number of the history, which isn't before what the
+-- reader had seen complete.
+pub record IsOutcome (script : Script) (histories : List AnyHistory) (links : List ListLink) (tested : Tested) : Type 0
   where
     pub form : StrForm
     pub entries : AnyHistory
+    pub sure : ℕ
     pub form_is : slice_get script.structures 0 ≡ Some form
     pub history_is : slice_get histories 0 ≡ Some entries
     pub legal : IsAnyLegal form entries
@@ -57,4 +57,4 @@ pub record IsOutcome (script : Script) (histories : List AnyHistory) (links : Li
     pub second_down : IsAsTold (down_once 5) (any_answers form entries cf2)
     pub first_asked : WasAsked links 0 (calls_after (any_answers form entries cf1) 0)
     pub second_asked : WasAsked links 1 (calls_after (any_answers form entries cf2) 0)
-    pub told : IsAnyTold form entries reader (sight_of seen.tested seen.no)
+    pub told : IsAnyTold form entries reader (sight_of tested sure)

@@ -14,11 +14,12 @@ ghost use Rattle.failover.specs.Outcome.{IsOpened, IsOutcome};
 
 use fault::Fault;
 use links::links;
-use members::{COPY, GBP, Seen, work};
+use members::{COPY, GBP, work};
 use plex_board::Desk;
 use plex_board::links::ListLink;
 use plex_board::scripts::{AnyHistory, Script, read};
 use plex_board::types::Kind;
+use plex_board::vectors::Tested;
 use plex_engines::Board;
 use plex_report::render;
 use std::alloc::Global;
@@ -37,12 +38,12 @@ const POLICY: &str = "FACILITY CF1 100\n\
 /// How many calls a history can have.
 const CALLS: u32 = 100;
 
-/// What is left of the members' work: the histories, the links as they were asked, and what B saw.
+/// What is left of the members' work: the histories, the links as they were asked, and B's test.
 #[derive(Drop)]
 struct Left {
     histories: Vec<AnyHistory>,
     links: Vec<ListLink>,
-    seen: Seen,
+    tested: Tested,
 }
 
 fn main(rt: HostRuntime) -> Result<(), Fault> {
@@ -51,14 +52,13 @@ fn main(rt: HostRuntime) -> Result<(), Fault> {
     let left = fail_over(&rt, alloc, &script)?;
     let report = render(alloc, &script, left.histories.as_slice(), &[])?;
     rt.stdout().write_all(report.as_slice())?;
-    print_test(&rt, &left.seen)?;
+    print_test(&rt, left.tested)?;
     print_links(&rt, &left.links)
 }
 
 // Prints the test of B's copy: its bit, and the number of the call at which it stood so.
-fn print_test(rt: &impl Print, seen: &Seen) -> Result<(), Fault> {
-    let at = seen.tested.at;
-    let word = if seen.tested.bit { "VALID" } else { "INVALID" };
+fn print_test(rt: &impl Print, Tested { bit, at }: Tested) -> Result<(), Fault> {
+    let word = if bit { "VALID" } else { "INVALID" };
     println!(rt; "B GBP TEST {COPY} {word} {at}")?;
     Ok(())
 }
@@ -76,16 +76,16 @@ fn print_links(rt: &impl Print, links: &[ListLink]) -> Result<(), Fault> {
 fn fail_over(rt: &impl Wait, alloc: Global, script: &Script) -> Result<Left, Fault>
     requires { IsPolicy script.now }
     ensures { IfOk result
-        (λ left. IsOutcome script.now left.histories.items left.links.items left.seen) }
+        (λ left. IsOutcome script.now left.histories.items left.links.items left.tested) }
 {
     let (board, mut desks) = open(rt, alloc, script)?;
-    let seen = work(rt, alloc, &board, &mut desks);
+    let tested = work(rt, alloc, &board, &mut desks);
     let (histories, links) = board.close(rt, desks);
-    let seen = seen?;
+    let tested = tested?;
     Ok(Left {
         histories,
         links,
-        seen,
+        tested,
     })
 }
 

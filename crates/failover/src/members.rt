@@ -1,8 +1,8 @@
 //! What the two members do, one call after another.
-ghost use Rattle.std.specs.Prelude.{◌≡◌, ◌<◌, ◌≤◌, IfOk, slice_get};
+ghost use Rattle.std.specs.Prelude.{◌≡◌, ◌≤◌, IfOk};
 ghost use Rattle.plex_board.specs.RunShown.Kinds.{MayAskAny};
 ghost use Rattle.plex_board.specs.PlexScript.declared.scripts.AnyAsk.TheVariants as any;
-ghost use Rattle.failover.specs.Members.{AreSeated, HasSeen, HasTested};
+ghost use Rattle.failover.specs.Members.{AreSeated, HasTested};
 
 use crate::fault::Fault;
 use plex_board::Desk;
@@ -31,13 +31,6 @@ const B: ConnId = ConnId(2);
 // The page, by its name with blanks behind it.
 const P1: Name16 = Name16(*b"P1              ");
 
-/// What B saw: the number of its last READ, and its test.
-#[derive(Drop)]
-pub struct Seen {
-    pub no: u32,
-    pub tested: Tested,
-}
-
 /// The members share a page. The facility of the first instance is lost at A's second write, which
 /// the second instance then does; that is lost too when A casts out. Then B tests its copy.
 pub fn work(
@@ -45,17 +38,16 @@ pub fn work(
     alloc: Global,
     board: &Board<ListLink>,
     desks: &mut Vec<Desk>,
-) -> Result<Seen, Fault>
+) -> Result<Tested, Fault>
     requires { AreSeated board.now desks.old.items }
     ensures seated { AreSeated board.now desks.new.items }
-    ensures tested { IfOk result (λ seen. HasTested desks.new.items seen.tested seen.no) }
+    ensures tested { IfOk result (HasTested desks.new.items) }
 {
     begin(rt, alloc, board, desks)?;
-    let no = share(rt, alloc, board, desks)?;
+    share(rt, alloc, board, desks)?;
     let castout = Ask::Content(AlterCmd::Inner(CacheCmd::Castout { name: P1 }));
     call(rt, alloc, board, desks, A, castout)?;
-    let tested = test_copy(board, desks, no);
-    Ok(Seen { no, tested })
+    Ok(test_copy(board, desks))
 }
 
 // Both connect, and the operator has a second instance made (IXLCONN, IXLREBLD STARTDUPLEX).
@@ -71,55 +63,46 @@ fn begin(
     let connect = ShellCmd::Connect { keep: false };
     call(rt, alloc, board, desks, A, Ask::Shell(connect))?;
     call(rt, alloc, board, desks, B, Ask::Shell(connect))?;
-    let duplex = Ask::Shell(ShellCmd::DuplexStart);
-    call(rt, alloc, board, desks, OPERATOR, duplex)?;
-    Ok(())
+    call(
+        rt,
+        alloc,
+        board,
+        desks,
+        OPERATOR,
+        Ask::Shell(ShellCmd::DuplexStart),
+    )
 }
 
-// A writes the page twice, and B reads it behind each write. It answers the number of B's last READ.
+// A writes the page twice, and B reads it behind each write.
 fn share(
     rt: &impl Wait,
     alloc: Global,
     board: &Board<ListLink>,
     desks: &mut Vec<Desk>,
-) -> Result<u32, Fault>
+) -> Result<(), Fault>
     requires { AreSeated board.now desks.old.items }
-    ensures seated { AreSeated board.now desks.new.items }
-    ensures seen { IfOk result (HasSeen desks.new.items) }
+    ensures { AreSeated board.now desks.new.items }
 {
-    pass_on(rt, alloc, board, desks, b"balance-17")?;
-    pass_on(rt, alloc, board, desks, b"balance-25")
-}
-
-// A writes the page, and B reads it. It answers the number of the READ.
-fn pass_on(
-    rt: &impl Wait,
-    alloc: Global,
-    board: &Board<ListLink>,
-    desks: &mut Vec<Desk>,
-    data: &[u8],
-) -> Result<u32, Fault>
-    requires { AreSeated board.now desks.old.items }
-    ensures seated { AreSeated board.now desks.new.items }
-    ensures seen { IfOk result (HasSeen desks.new.items) }
-{
-    let write = write(alloc, data)?;
-    call(
-        rt,
-        alloc,
-        board,
-        desks,
-        A,
-        Ask::Content(AlterCmd::Inner(write)),
-    )?;
-    call(
-        rt,
-        alloc,
-        board,
-        desks,
-        B,
-        Ask::Content(AlterCmd::Inner(READ)),
-    )
+    for data in [b"balance-17", b"balance-25"] {
+        let write = write(alloc, data)?;
+        call(
+            rt,
+            alloc,
+            board,
+            desks,
+            A,
+            Ask::Content(AlterCmd::Inner(write)),
+        )?;
+        call(
+            rt,
+            alloc,
+            board,
+            desks,
+            B,
+            Ask::Content(AlterCmd::Inner(READ)),
+        )?;
+    }
+    Ok(())
 }
 
 // IXLCACHE READ_DATA: it registers the reader, and its bit says so.
@@ -146,16 +129,15 @@ fn write(alloc: Global, data: &[u8]) -> Result<CacheCmd, Fault> {
 }
 
 // B tests the bit of its copy (IXLVECTR TESTLOCALCACHE): no lock, no call.
-fn test_copy(board: &Board<ListLink>, desks: &mut Vec<Desk>, no: u32) -> Tested
-    requires seated { AreSeated board.now desks.old.items }
-    requires seen { HasSeen desks.old.items no }
+fn test_copy(board: &Board<ListLink>, desks: &mut Vec<Desk>) -> Tested
+    requires { AreSeated board.now desks.old.items }
     ensures seated { AreSeated board.now desks.new.items }
-    ensures tested { HasTested desks.new.items result no }
+    ensures tested { HasTested desks.new.items result }
 {
     board.test(&mut desks[usize::from(B.0)], GBP, COPY)
 }
 
-// A caller's call of the structure. It answers the call's number.
+// A caller's call of the structure.
 fn call(
     rt: &impl Wait,
     alloc: Global,
@@ -163,15 +145,13 @@ fn call(
     desks: &mut Vec<Desk>,
     who: ConnId,
     ask: Ask<AlterCmd<CacheCmd>>,
-) -> Result<u32, Fault>
+) -> Result<(), Fault>
     requires seated { AreSeated board.now desks.old.items }
     requires who { who.0 ≤ 2 }
     requires ask { MayAskAny who (any.Cache ask) }
-    ensures seated { AreSeated board.now desks.new.items }
-    ensures own { IfOk result (λ no. who.0 ≡ 2 → HasSeen desks.new.items no) }
-    ensures others { who.0 < 2 → slice_get desks.new.items 2 ≡ slice_get desks.old.items 2 }
+    ensures { AreSeated board.now desks.new.items }
 {
     let desk = &mut desks[usize::from(who.0)];
-    let told = board.call(rt, alloc, desk, GBP, AnyAsk::Cache(ask))?;
-    Ok(told.no)
+    board.call(rt, alloc, desk, GBP, AnyAsk::Cache(ask))?;
+    Ok(())
 }

@@ -4,6 +4,6 @@ use Rattle.failover.proofs.fail_over.Goals as goal
 
 pub returns : goal.returns
 returns g c = outcome c.in_ok-board.board c.args.script.now
-    c.close-histories.result.0.items c.work-seen.new.desks.items c.close-histories.result.1.items
-    c.in_ok-seen.seen c.in_ok-board.ensures.forms c.in_ok-board.ensures.down c.work-seen.ensures.seated
-    c.close-histories.ensures.histories c.close-histories.ensures.links c.in_ok-seen.ensures.tested
+    c.close-histories.result.0.items c.work-tested.new.desks.items c.close-histories.result.1.items
+    c.in_ok-tested.tested c.in_ok-board.ensures.forms c.in_ok-board.ensures.down c.work-tested.ensures.seated
+    c.close-histories.ensures.histories c.close-histories.ensures.links c.in_ok-tested.ensures.tested
