@@ -1,3 +1,7 @@
+ghost use Rattle.std.specs.Prelude.{◌≡◌, option_map};
+ghost use Rattle.lock_model.specs.Interests.{interest_of};
+ghost use Rattle.lock_queue.specs.Waiters.{waiter_of};
+
 use crate::departures::resources_of;
 use crate::grants::grant_each;
 use crate::letters::most_letters;
@@ -8,6 +12,8 @@ use cf_types::{
 };
 use engine_api::{Engine, Shape};
 use lock_model::LockItem;
+use lock_model::tables::Held;
+use lock_queue::Waiter;
 use std::alloc::Global;
 use std::marker::Model;
 
@@ -53,6 +59,25 @@ impl Drop for LockEngine {
             plan: _,
             leaving: _,
         } = self;
+    }
+}
+
+impl LockEngine {
+    /// A connector's interest in a resource, without its record data. None where the connector has
+    /// no interest in it.
+    pub fn held_of(&self, r: &Resource, conn: ConnId) -> Option<&Held>
+        ensures { option_map (λ held. held.now) result ≡ option_map (λ interest. interest.held)
+            (interest_of r.now conn self.now.held.state.interests) }
+    {
+        self.locks.interests.held_of(r, conn)
+    }
+
+    /// What a connector waits for at a resource.
+    pub fn waiter_of(&self, r: &Resource, conn: ConnId) -> Option<&Waiter>
+        ensures { option_map (λ waiter. waiter.now) result
+            ≡ waiter_of r.now conn self.now.held.state.waiters }
+    {
+        self.locks.queue.find(r, conn)
     }
 }
 

@@ -17,4 +17,4 @@ mod spots;
 
 pub use plex_script::spell as spell;
 pub use replies::{put_cache_reply, put_list_reply, put_lock_reply};
-pub use report::{Report, line, render};
+pub use report::{Report, history_line, line, render, transcript_line};

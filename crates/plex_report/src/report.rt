@@ -80,8 +80,13 @@ fn told_line<C: Spelled, R: Spelled>(
     Ok(Some(entry_line(alloc, script, &entries[k - 1])?))
 }
 
-// The k-th line of the history of the structure with this number.
-fn history_line(
+/// The k-th line of the history of the structure with this number, without its line feed: its
+/// heading, and then its entries. `None` exactly past the last.
+///
+/// # Errors
+///
+/// `NoMemory` where there is no memory for the line.
+pub fn history_line(
     alloc: Global,
     script: &Script,
     number: usize,
@@ -98,9 +103,14 @@ fn history_line(
     }
 }
 
-// The k-th line of the transcript of the caller with this number.
+/// The k-th line of the transcript of the caller with this number, without its line feed: its
+/// heading, and then its items. `None` exactly past the last.
+///
+/// # Errors
+///
+/// `NoMemory` where there is no memory for the line.
 #[tactic(auto, using(crate::proofs::LinesAt::get_item))]
-fn transcript_line(
+pub fn transcript_line(
     alloc: Global,
     script: &Script,
     number: usize,

@@ -188,6 +188,27 @@ impl Shell {
         (self.primary, self.secondary, self.fresh())
     }
 
+    /// A connector's state; none where it isn't connected.
+    pub fn state(&self, conn: ConnId) -> Option<ConnState>
+        ensures { result ≡ state_of self.now.shell.conns conn }
+    {
+        self.conns.state(conn)
+    }
+
+    /// Whether the structure has lost its last instance.
+    pub fn has_failed(&self) -> bool
+        ensures { result ≡ self.now.shell.failed }
+    {
+        self.failed
+    }
+
+    /// The rebuild under way.
+    pub fn rebuild(&self) -> Option<Rebuild>
+        ensures { result ≡ self.now.shell.rebuild }
+    {
+        self.rebuild
+    }
+
     /// Whether a rebuild is under way.
     pub fn is_rebuilding(&self) -> bool
         ensures { result ≡ is_some self.now.shell.rebuild }
