@@ -15,8 +15,13 @@ use history_check::Judged;
 use std::alloc::Global;
 use vector_waits::Queue;
 
-/// Judges the history of a structure, and asks the tests of all its callers on the way.
-pub(crate) fn judge_any(
+/// Judges the history of a structure, and asks the tests of all its callers on the way: whether it
+/// is legal, or where its first bad block begins. A test is told where a legal history shows it.
+///
+/// # Errors
+///
+/// Want of memory. The tests are those of before, and nothing is said of which are told.
+pub fn judge_any(
     alloc: Global,
     form: &StrForm,
     entries: &AnyHistory,

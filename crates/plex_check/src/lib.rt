@@ -10,3 +10,4 @@ mod structures;
 
 pub use answers::check;
 pub use check_model as model;
+pub use judging::judge_any;
