@@ -5,7 +5,7 @@ pub use Rattle.cache_model.proofs.Imports.{is_among, rows_spared, without_hold, 
 pub use Rattle.cache_reclaim.proofs.Imports.{order_without}
 pub use Rattle.cf_lists.proofs.Imports.{insertion, pairwise}
 pub use Rattle.cache_regs.proofs.Imports.{stands, regs_with, ends_with_name, regs_without_name}
-pub use Rattle.std.proofs.Common.{◌≡◌, ℕ, ◌+◌, ◌≤◌, Bool, true, false, not, ◌&&◌, ◌||◌, List, [], ◌∷◌, Option, Some, None, unwrap_or, length, drop, get_or, refl, sym, ap, ◌∙◌, subst, arith, cond, ◌++◌, append-nil, is_some, filter, map, zero, suc, ◌-◌, ◌<◌, option_map, option_to_list, slice_get, length-append, take, set, get_or-set_other, ◌*◌, is_none, sum_by, ◌^◌}
+pub use Rattle.std.proofs.Common.{◌≡◌, ℕ, ◌+◌, ◌≤◌, Bool, true, false, not, ◌&&◌, ◌||◌, List, [], ◌∷◌, Option, Some, None, unwrap_or, length, drop, get_or, refl, sym, ap, ◌∙◌, subst, arith, cond, ◌++◌, append-nil, is_some, filter, map, zero, suc, ◌-◌, ◌<◌, option_map, option_to_list, slice_get, length-append, take, set, get_or-set_other, ◌*◌, is_none, sum_by, ◌^◌, slice_index_or}
 pub use Rattle.std.proofs.lemmas.Bool.{or_left, false≢true, and_parts, or_right, and_from, leb-true, le-leb}
 pub use Rattle.std.proofs.lemmas.List.{drop_more, drop_all, map-append, length-map}
 pub use Rattle.std.proofs.lemmas.Option.{slice_get-map, get_or_from_slice_get}
@@ -35,7 +35,9 @@ pub use Rattle.cache_rows.specs.Listed.{relabeled, rows_but, row_or, changed_in,
 pub use Rattle.cache_rows.specs.RowBatch.{RowBatch}
 pub use Rattle.cache_rows.specs.Stored.{label_of, label_written, item_with, body_of, row_of_label, body_in, item_in, entries_in, item_at, chains_without, HasBytes, HasData, chain_of, head_of, AreStored}
 pub use Rattle.cache_rows.specs.Tallies.{one_unchanged, elements_unchanged, is_small, tally_of, tally_with, IsTally, CanGrow, CanShrink}
-pub use Rattle.cache_rows.specs.declared.{label.Label.Label, tally.Tally.Tally}
+pub use Rattle.cache_rows.specs.Counted.{is_key, ones, storage_key, changed_key, IsCount, AreCounts, IsMore, IsMoreOf, AreBelow, AreAbove, CanAdd, CanLower, AreZero}
+pub use Rattle.cache_rows.specs.Totals.{IsTotals}
+pub use Rattle.cache_rows.specs.declared.{label.Label.Label, tally.Tally.Tally, tally.Totals.Totals, counts.Counts.Counts}
 pub use Rattle.cf_types.proofs.ResourceLaws.{same_name-eq, same_name-refl, same_name-sym}
 pub use Rattle.cf_lists.proofs.EntryPlaceLaws.{insertion_behind}
 pub use Rattle.cache_model.proofs.UncastLaws.{row_of-released}

@@ -5,4 +5,5 @@ pub mod StoreLaws
 pub mod LookupLaws
 pub mod IndexedLaws
 pub mod TallyLaws
+pub mod CountLaws
 pub mod ChangeLaws

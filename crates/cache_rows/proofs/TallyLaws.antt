@@ -6,7 +6,7 @@ use Rattle.cache_rows.proofs.Imports.{◌≡◌, ℕ, ◌+◌, ◌*◌, ◌≤�
 
 module _ (name : Name16) (rows : List CacheItem) (row : CacheItem) (apart : pairwise names_apart rows ≡ true)
     (h : row_of name rows ≡ Some row) where
-  sum_less : (f : CacheItem → ℕ) → sum_by f (rows_without name rows) + f row ≡ sum_by f rows
+  pub sum_less : (f : CacheItem → ℕ) → sum_by f (rows_without name rows) + f row ≡ sum_by f rows
   sum_less f = sum_by_without name_of same_name same_name-eq same_name-refl f name rows row apart h
 
   long_less : length (rows_without name rows) + 1 ≡ length rows
@@ -19,7 +19,7 @@ pub there : (name : Name16) (rows : List CacheItem) (row : CacheItem) → row_of
     → has_row name rows ≡ true
 there name rows row h = any_is_found (is_row_of name) rows ∙ ap is_some h
 
-none_less : (name : Name16) (rows : List CacheItem) → row_of name rows ≡ None → rows_without name rows ≡ rows
+pub none_less : (name : Name16) (rows : List CacheItem) → row_of name rows ≡ None → rows_without name rows ≡ rows
 none_less name rows h = without-absent name rows (absent name rows h)
 
 -- ---- the tally of what is left

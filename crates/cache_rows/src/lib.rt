@@ -7,6 +7,7 @@
 #![tactic(auto)]
 
 mod changes;
+mod counts;
 mod data;
 mod directory;
 mod label;

@@ -8,32 +8,32 @@ ghost use Rattle.cache_model.specs.declared.items.CacheItem.{CacheItem};
 ghost use Rattle.cache_rows.specs.Indexes.{reclaimed_for};
 ghost use Rattle.cache_rows.specs.Listed.{relabeled};
 ghost use Rattle.cache_rows.specs.Stored.{item_with, elements_of_row};
-ghost use Rattle.cache_rows.specs.Tallies.{IsTally};
+ghost use Rattle.cache_rows.specs.Totals.{IsTotals};
 ghost use Rattle.cache_model.specs.Contents.{without_hold};
 
 use crate::directory::Directory;
 use crate::label::Label;
 use crate::row::Row;
-use crate::tally::{Tally, unless_changed};
+use crate::tally::{Totals, unless_changed};
 use cache_model::CacheItem;
 use cf_types::{Body, ConnId, Name16, NoMemory};
 use std::alloc::Global;
 use std::marker::Model;
 
-// Takes the row of a name, if there is one, out of the tally; answers how many elements its data
+// Takes the row of a name, if there is one, out of what is counted; answers how many elements its data
 // take.
-fn count_out(directory: &Directory, tally: &mut Tally, name: &Name16) -> u32
-    requires { IsTally tally.old directory.now.rows }
-    ensures counted { IsTally tally.new (rows_without name.now directory.now.rows) }
+fn count_out(directory: &Directory, totals: &mut Totals, name: &Name16) -> u32
+    requires { IsTotals totals.old directory.now.rows }
+    ensures counted { IsTotals totals.new (rows_without name.now directory.now.rows) }
     ensures taken { result ≡ elements_of_row (row_of name.now directory.now.rows) }
     ensures few { result ≤ 16 }
-    ensures elements { tally.new.elements + result ≡ tally.old.elements }
-    ensures fewer { tally.new.rows ≤ tally.old.rows }
+    ensures elements { totals.new.tally.elements + result ≡ totals.old.tally.elements }
+    ensures fewer { totals.new.tally.rows ≤ totals.old.tally.rows }
 {
     match directory.row(name) {
         Some(row) => {
             let elements = row.elements();
-            tally.subtract(row.class(), elements);
+            totals.subtract(row.class(), row.stg(), elements);
             elements
         }
         None => 0,
@@ -41,80 +41,90 @@ fn count_out(directory: &Directory, tally: &mut Tally, name: &Name16) -> u32
 }
 
 // Ends the row of a name, if there is one.
-fn end_row(directory: &mut Directory, tally: &mut Tally, name: &Name16)
-    requires { IsTally tally.old directory.old.rows }
-    ensures counted { IsTally tally.new directory.new.rows }
+fn end_row(directory: &mut Directory, totals: &mut Totals, name: &Name16)
+    requires { IsTotals totals.old directory.old.rows }
+    ensures counted { IsTotals totals.new directory.new.rows }
     ensures rest { directory.new.rows ≡ rows_without name.now directory.old.rows }
     ensures room { directory.old.room ≤ directory.new.room }
-    ensures fewer { tally.new.rows ≤ tally.old.rows }
+    ensures fewer { totals.new.tally.rows ≤ totals.old.tally.rows }
     ensures entries { directory.new.entries ≡ directory.old.entries }
-    ensures all { directory.new.free + tally.new.elements
-        ≡ directory.old.free + tally.old.elements }
+    ensures all { directory.new.free + totals.new.tally.elements
+        ≡ directory.old.free + totals.old.tally.elements }
 {
-    let _ = count_out(directory, tally, name);
+    let _ = count_out(directory, totals, name);
     directory.end(name);
 }
 
 // Puts in the row of a name, in its place, with the data that the name has.
-fn set_row(directory: &mut Directory, tally: &mut Tally, label: &Label)
-    requires counted { IsTally tally.old directory.old.rows }
+fn set_row(directory: &mut Directory, totals: &mut Totals, label: &Label)
+    requires counted { IsTotals totals.old directory.old.rows }
     requires room { 1 ≤ directory.old.room }
-    requires few { tally.old.rows < directory.old.entries }
-    requires less { tally.old.rows < 4294967295 }
-    ensures counted { IsTally tally.new directory.new.rows }
+    requires few { totals.old.tally.rows < directory.old.entries }
+    requires less { totals.old.tally.rows < 4294967295 }
+    ensures counted { IsTotals totals.new directory.new.rows }
     ensures rows { directory.new.rows
         ≡ rows_replaced (relabeled label.now directory.old.rows) directory.old.rows }
     ensures entries { directory.new.entries ≡ directory.old.entries }
-    ensures all { directory.new.free + tally.new.elements
-        ≡ directory.old.free + tally.old.elements }
+    ensures all { directory.new.free + totals.new.tally.elements
+        ≡ directory.old.free + totals.old.tally.elements }
 {
-    let elements = count_out(directory, tally, &label.name);
+    let elements = count_out(directory, totals, &label.name);
     directory.set(label);
-    tally.add(label.class, elements);
+    totals.add(label.class, label.stg, elements);
 }
 
 // Puts in the row of a name, in its place, with these data; there are elements for them once the
 // name's own are given back.
-fn write_row(directory: &mut Directory, tally: &mut Tally, label: &Label, body: &Body)
-    requires counted { IsTally tally.old directory.old.rows }
+fn write_row(directory: &mut Directory, totals: &mut Totals, label: &Label, body: &Body)
+    requires counted { IsTotals totals.old directory.old.rows }
     requires room { 1 ≤ directory.old.room }
-    requires few { tally.old.rows < directory.old.entries }
-    requires less { tally.old.rows < 4294967295 }
+    requires few { totals.old.tally.rows < directory.old.entries }
+    requires less { totals.old.tally.rows < 4294967295 }
     requires fits { elements_of (Some body.now)
         + elements_in (rows_without label.now.name directory.old.rows)
-        ≤ directory.old.free + tally.old.elements }
-    ensures counted { IsTally tally.new directory.new.rows }
+        ≤ directory.old.free + totals.old.tally.elements }
+    ensures counted { IsTotals totals.new directory.new.rows }
     ensures rows { directory.new.rows
         ≡ rows_replaced (item_with label.now (Some body.now)) directory.old.rows }
     ensures entries { directory.new.entries ≡ directory.old.entries }
-    ensures all { directory.new.free + tally.new.elements
-        ≡ directory.old.free + tally.old.elements }
+    ensures all { directory.new.free + totals.new.tally.elements
+        ≡ directory.old.free + totals.old.tally.elements }
 {
-    let _ = count_out(directory, tally, &label.name);
+    let _ = count_out(directory, totals, &label.name);
     directory.write(label, body);
-    tally.add(label.class, body.elements());
+    totals.add(label.class, label.stg, body.elements());
 }
 
 // Puts in a row whose name has none, where as many elements as its data take are free.
 #[tactic(auto, using(crate::proofs::ChangeLaws::put_told))]
-fn put_in(directory: &mut Directory, tally: &mut Tally, row: &CacheItem)
-    requires counted { IsTally tally.old directory.old.rows }
+fn put_in(directory: &mut Directory, totals: &mut Totals, row: &CacheItem)
+    requires counted { IsTotals totals.old directory.old.rows }
     requires room { 1 ≤ directory.old.room }
-    requires few { tally.old.rows < directory.old.entries }
-    requires less { tally.old.rows < 4294967295 }
+    requires few { totals.old.tally.rows < directory.old.entries }
+    requires less { totals.old.tally.rows < 4294967295 }
     requires alone { has_row row.now.name directory.old.rows ≡ false }
     requires fits { elements_of row.now.body ≤ directory.old.free }
-    ensures counted { IsTally tally.new directory.new.rows }
+    ensures counted { IsTotals totals.new directory.new.rows }
     ensures rows { directory.new.rows ≡ rows_with row.now directory.old.rows }
     ensures entries { directory.new.entries ≡ directory.old.entries }
-    ensures all { directory.new.free + tally.new.elements
-        ≡ directory.old.free + tally.old.elements }
+    ensures all { directory.new.free + totals.new.tally.elements
+        ≡ directory.old.free + totals.old.tally.elements }
 {
     let label = Label::of(row);
     match &row.body {
-        Some(body) => write_row(directory, tally, &label, body),
-        None => set_row(directory, tally, &label),
+        Some(body) => write_row(directory, totals, &label, body),
+        None => set_row(directory, totals, &label),
     }
+}
+
+// How many rows are of a storage class, of which no count is kept.
+#[tactic(auto, using(crate::proofs::IndexedLaws::fewer))]
+fn count_storage(directory: &Directory, stg: u32) -> u32
+    requires { length directory.now.rows < 2 ^ 32 }
+    ensures { result ≡ length (filter (has_storage stg) directory.now.rows) }
+{
+    let unchanged = directory.unchanged_of_storage(stg);
+    unchanged as u32 + directory.changed_of_storage(stg)
 }
 
 /// The rows of a directory, one at most for a name, the changed ones first, with room for more.
@@ -123,11 +133,11 @@ fn put_in(directory: &mut Directory, tally: &mut Tally, row: &CacheItem)
 ///
 /// A row is found by its name in a map, and its data lie in a pool. Beside these stand two indexes,
 /// the castout classes of the changed rows and the order in which the unchanged ones were last
-/// used, and a tally of all.
+/// used, and what is counted of them: a tally of all, and how many each class has.
 #[derive(Drop)]
 pub struct Rows {
     directory: Directory,
-    tally: Tally,
+    totals: Totals,
     entries: u32,
     elements: u32,
 }
@@ -154,7 +164,7 @@ impl Rows {
         let directory = Directory::new(alloc, entries, elements)?;
         Ok(Rows {
             directory,
-            tally: Tally::new(),
+            totals: Totals::new(),
             entries,
             elements,
         })
@@ -169,7 +179,7 @@ impl Rows {
         let directory = self.directory.copy(alloc)?;
         Ok(Rows {
             directory,
-            tally: self.tally,
+            totals: self.totals,
             entries: self.entries,
             elements: self.elements,
         })
@@ -179,7 +189,7 @@ impl Rows {
     pub fn len(&self) -> usize
         ensures { result ≡ length self.now.rows }
     {
-        self.tally.rows as usize
+        self.totals.tally.rows as usize
     }
 
     /// Whether a name has a row.
@@ -233,7 +243,7 @@ impl Rows {
         requires { elements_in self.now.rows < 2 ^ 32 }
         ensures { result ≡ elements_in self.now.rows }
     {
-        self.tally.elements as u32
+        self.totals.tally.elements as u32
     }
 
     /// How many elements the data of others than a name take.
@@ -242,8 +252,8 @@ impl Rows {
         ensures { result ≡ elements_in (rows_without name.now self.now.rows) }
     {
         match self.directory.row(name) {
-            Some(row) => self.tally.elements as u32 - row.elements(),
-            None => self.tally.elements as u32,
+            Some(row) => self.totals.tally.elements as u32 - row.elements(),
+            None => self.totals.tally.elements as u32,
         }
     }
 
@@ -252,8 +262,8 @@ impl Rows {
         ensures { result ≡ length (filter (is_reclaimable name.now) self.now.rows) }
     {
         match self.directory.row(name) {
-            Some(row) => (self.tally.unchanged - unless_changed(row.class(), 1)) as usize,
-            None => self.tally.unchanged as usize,
+            Some(row) => (self.totals.tally.unchanged - unless_changed(row.class(), 1)) as usize,
+            None => self.totals.tally.unchanged as usize,
         }
     }
 
@@ -264,20 +274,21 @@ impl Rows {
     {
         match self.directory.row(name) {
             Some(row) => {
-                self.tally.reclaimable as u32 - unless_changed(row.class(), row.elements())
+                self.totals.tally.reclaimable as u32 - unless_changed(row.class(), row.elements())
             }
-            None => self.tally.reclaimable as u32,
+            None => self.totals.tally.reclaimable as u32,
         }
     }
 
     /// How many rows a storage class (1 to 8) has.
-    #[tactic(auto, using(crate::proofs::IndexedLaws::fewer))]
     pub fn count_of_storage(&self, stg: u32) -> u32
         requires { length self.now.rows < 2 ^ 32 }
         ensures { result ≡ length (filter (has_storage stg) self.now.rows) }
     {
-        let unchanged = self.directory.unchanged_of_storage(stg);
-        unchanged as u32 + self.directory.changed_of_storage(stg)
+        match self.totals.counts.of_storage(stg) {
+            Some(count) => count,
+            None => count_storage(&self.directory, stg),
+        }
     }
 
     /// How many changed rows a storage class (1 to 8) has.
@@ -286,7 +297,10 @@ impl Rows {
         ensures { result
             ≡ length (filter (λ row. has_storage stg row && is_changed row) self.now.rows) }
     {
-        self.directory.changed_of_storage(stg)
+        match self.totals.counts.changed_of(stg) {
+            Some(count) => count,
+            None => self.directory.changed_of_storage(stg),
+        }
     }
 
     /// The names of the rows of a castout class (1 to 16), in the order of names. Only want of
@@ -302,7 +316,10 @@ impl Rows {
     pub fn count_of_class(&self, class: u32) -> u32
         ensures { result ≡ rows_of_class self.now.rows class }
     {
-        self.directory.count_of_class(class)
+        match self.totals.counts.of_class(class) {
+            Some(count) => count,
+            None => self.directory.count_of_class(class),
+        }
     }
 
     /// The row that is reclaimed as the `k`-th (from 0) for a storage class (1 to 8): first the
@@ -334,7 +351,7 @@ impl Rows {
         ensures entries { self.new.entries ≡ self.old.entries }
         ensures elements { self.new.elements ≡ self.old.elements }
     {
-        end_row(&mut self.directory, &mut self.tally, name);
+        end_row(&mut self.directory, &mut self.totals, name);
     }
 
     /// Puts in the row of a name, in its place, with the data that the name has: a changed one
@@ -346,7 +363,7 @@ impl Rows {
         ensures entries { self.new.entries ≡ self.old.entries }
         ensures elements { self.new.elements ≡ self.old.elements }
     {
-        set_row(&mut self.directory, &mut self.tally, label);
+        set_row(&mut self.directory, &mut self.totals, label);
     }
 
     /// The same with these data in place of the name's own.
@@ -359,7 +376,7 @@ impl Rows {
         ensures entries { self.new.entries ≡ self.old.entries }
         ensures elements { self.new.elements ≡ self.old.elements }
     {
-        write_row(&mut self.directory, &mut self.tally, label, body);
+        write_row(&mut self.directory, &mut self.totals, label, body);
     }
 
     /// Releases all castout locks of a connector; the rows stay otherwise the same.
@@ -380,7 +397,7 @@ impl Rows {
         ensures entries { self.new.entries ≡ self.old.entries }
         ensures elements { self.new.elements ≡ self.old.elements }
     {
-        put_in(&mut self.directory, &mut self.tally, row);
+        put_in(&mut self.directory, &mut self.totals, row);
     }
 
     /// Puts a row behind the others, where it has its place; no row has its name, there are fewer
@@ -413,7 +430,7 @@ impl Rows {
             (slice_get self.now.rows (length self.now.rows - 1)) }
         ensures apart { IsTrue (pairwise names_apart self.now.rows) }
     {
-        self.directory.last_name(self.tally.rows as usize)
+        self.directory.last_name(self.totals.tally.rows as usize)
     }
 
     /// Takes the last row away; there is one at least.
