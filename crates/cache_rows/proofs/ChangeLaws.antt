@@ -1,5 +1,6 @@
 -- What commands do to the row of a name, and the rows that they end for it.
-use Rattle.cache_rows.proofs.Imports.{◌≡◌, ℕ, ◌+◌, ◌≤◌, Bool, true, false, not, ◌&&◌, ◌||◌, List, [], ◌∷◌, Option, Some, None, length, drop, get_or, refl, sym, subst, arith, or_left, false≢true, drop_more, drop_all, filter_agree, Name16, same_name, filter-filter, filter_all, find-filter, find_none, list_all_always, same_name-eq, CacheItem, is_row_of, row_of, has_row, rows_with, rows_replaced, row_or_new, is_among, rows_spared, row_with, without-absent, Label, label_of, label_written, item_with, relabeled, rows_but}
+use Rattle.cache_model.proofs.RowLaws.{found_named}
+use Rattle.cache_rows.proofs.Imports.{unwrap_or, is_some, ap, ◌∙◌, retaken, new_row, ◌≡◌, ℕ, ◌+◌, ◌≤◌, Bool, true, false, not, ◌&&◌, ◌||◌, List, [], ◌∷◌, Option, Some, None, length, drop, get_or, refl, sym, subst, arith, or_left, false≢true, drop_more, drop_all, filter_agree, Name16, same_name, filter-filter, filter_all, find-filter, find_none, list_all_always, same_name-eq, CacheItem, is_row_of, row_of, has_row, rows_with, rows_replaced, row_or_new, is_among, rows_spared, row_with, without-absent, Label, label_of, label_written, item_with, relabeled, rows_but}
 
 -- ---- rows that go, but for one
 
@@ -56,6 +57,42 @@ pub relabeled_spared : (label : Label) (name : Name16) (stg : ℕ) (names : List
     → label.name ≡ name → left ≡ rows_but name names rows → rows_replaced (relabeled label left)
     left ≡ rows_replaced (item_with label (row_or_new name stg rows).body) (rows_spared names rows)
 relabeled_spared label name stg names rows left e f = grind (arith, relabeled_is, replaced_but, find-filter, or_left)
+
+-- a row that is read, and one that comes for it
+pub read_there : (name : Name16) (stg : ℕ) (names : List Name16) (rows left after : List CacheItem)
+    → left ≡ rows_but name names rows → true ≡ is_some (row_of name left) → after ≡ retaken (row_of name left) left
+    → after ≡ rows_replaced (row_or_new name stg rows) (rows_spared names rows)
+read_there name stg names rows left after e some f = go (row_of name left) refl
+  where
+    same : row_of name left ≡ row_of name rows
+    same = grind (arith, find-filter, or_left)
+
+    go : (o : Option CacheItem) → row_of name left ≡ o
+        → after ≡ rows_replaced (row_or_new name stg rows) (rows_spared names rows)
+    go None h = absurd (false≢true (sym (some ∙ ap is_some h)))
+    go (Some row) h =
+        let own : row_of name rows ≡ Some row = sym same ∙ h in
+        f ∙ ap (λ o. retaken o left) h ∙ replaced_but row name names rows left (found_named name rows row own) e
+        ∙ ap (λ o. rows_replaced (unwrap_or o (new_row name stg)) (rows_spared names rows)) (sym own)
+
+pub read_new : (name : Name16) (stg : ℕ) (names : List Name16) (rows left same after : List CacheItem) (label : Label)
+    → left ≡ rows_but name names rows → false ≡ is_some (row_of name left) → same ≡ retaken (row_of name left) left
+    → label ≡ label_of (new_row name stg) → after ≡ rows_replaced (relabeled label same) same
+    → after ≡ rows_replaced (row_or_new name stg rows) (rows_spared names rows)
+read_new name stg names rows left same after label e none f g h = go (row_of name left) refl
+  where
+    kept : row_of name left ≡ row_of name rows
+    kept = grind (arith, find-filter, or_left)
+
+    go : (o : Option CacheItem) → row_of name left ≡ o
+        → after ≡ rows_replaced (row_or_new name stg rows) (rows_spared names rows)
+    go None w =
+        let still : same ≡ left = f ∙ ap (λ o. retaken o left) w in
+        let own : row_of name rows ≡ None = sym kept ∙ w in
+        h ∙ ap (λ l. rows_replaced (relabeled label l) l) still
+        ∙ relabeled_spared label name stg names rows left (ap (λ (l : Label). l.name) g) e
+        ∙ (grind arith)
+    go (Some row) w = absurd (false≢true (none ∙ ap is_some w))
 
 -- a row with new data
 pub written_same : (old label : Label) (row : CacheItem) (name : Name16) (names : List Name16)

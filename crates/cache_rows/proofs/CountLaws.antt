@@ -1,7 +1,8 @@
 -- How many rows have which number, as rows come and go.
 use Rattle.std.proofs.lemmas.List.Sums.{length-filter, count_by-le-length}
-use Rattle.cache_rows.proofs.Imports.{◌≡◌, ℕ, ◌+◌, ◌≤◌, ◌<◌, ◌&&◌, Bool, true, List, [], Option, Some, None, is_some, length, filter, map, sum_by, slice_index_or, refl, sym, ap, ◌∙◌, subst, arith, fold-map, sum_by_push, filter_agree, Name16, ConnId, pairwise, sum_by-insertion, CacheItem, is_changed, row_of, rows_without, rows_with, names_apart, has_class, has_storage, without_hold, rows_of_class, Counts, is_key, ones, storage_key, changed_key, IsCount, AreCounts, IsMore, IsMoreOf, AreBelow, AreAbove, CanAdd, CanLower, AreZero}
-use Rattle.cache_rows.proofs.TallyLaws.{sum_less, none_less}
+use Rattle.cache_model.proofs.RowLaws.{found_named}
+use Rattle.cache_rows.proofs.Imports.{◌≡◌, ℕ, ◌+◌, ◌≤◌, ◌<◌, ◌&&◌, Bool, true, List, [], Option, Some, None, is_some, length, filter, map, sum_by, slice_index_or, refl, sym, ap, ◌∙◌, subst, arith, fold-map, sum_by_push, filter_agree, Name16, ConnId, pairwise, sum_by-insertion, CacheItem, Totals, IsTotals, is_changed, row_of, rows_without, rows_with, rows_replaced, retaken, names_apart, has_class, has_storage, without_hold, rows_of_class, Counts, is_key, ones, storage_key, changed_key, IsCount, AreCounts, IsMore, IsMoreOf, AreBelow, AreAbove, CanAdd, CanLower, AreZero}
+use Rattle.cache_rows.proofs.TallyLaws.{sum_less, none_less, tally_retaken}
 
 -- ---- one number
 
@@ -99,6 +100,36 @@ counts_released counts conn rows is = record {
   changed = same_released (λ r. changed_key r.class r.stg) conn (λ row. refl) _ rows is.changed;
   castout = same_released (λ r. r.class) conn (λ row. refl) _ rows is.castout;
 }
+
+one_retaken : (key : CacheItem → Option ℕ) (counts : List ℕ) (rows : List CacheItem) (row : CacheItem)
+    → pairwise names_apart rows ≡ true → row_of row.name rows ≡ Some row → IsCount key counts rows
+    → IsCount key counts (rows_replaced row rows)
+one_retaken key counts rows row apart own is k lt =
+    let f = λ (r : CacheItem). ones k (key r) in
+    is k lt ∙ sym (sum_less row.name rows row apart own f) ∙ sym (sum_with f row (rows_without row.name rows))
+
+counts_retaken : (counts : Counts) (rows : List CacheItem) (row : CacheItem) → pairwise names_apart rows ≡ true
+    → row_of row.name rows ≡ Some row → AreCounts counts rows → AreCounts counts (rows_replaced row rows)
+counts_retaken counts rows row apart own is = record {
+  storage = one_retaken storage_key _ rows row apart own is.storage;
+  changed = one_retaken (λ r. changed_key r.class r.stg) _ rows row apart own is.changed;
+  castout = one_retaken (λ r. r.class) _ rows row apart own is.castout;
+}
+
+pub totals_retaken : (totals : Totals) (name : Name16) (rows after : List CacheItem)
+    → pairwise names_apart rows ≡ true → after ≡ retaken (row_of name rows) rows → IsTotals totals rows
+    → IsTotals totals after
+totals_retaken totals name rows after apart e is =
+    subst (λ l. IsTotals totals l) (sym e) (go (row_of name rows) refl)
+  where
+    go : (o : Option CacheItem) → row_of name rows ≡ o → IsTotals totals (retaken o rows)
+    go None h = is
+    go (Some row) h =
+        let named : row.name ≡ name = found_named name rows row h in
+        record {
+          tally = tally_retaken totals.tally name rows row apart h named is.tally;
+          counts = counts_retaken totals.counts rows row apart (ap (λ n. row_of n rows) named ∙ h) is.counts;
+        }
 
 -- ---- what is told of them
 

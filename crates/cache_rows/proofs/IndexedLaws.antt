@@ -1,8 +1,10 @@
 -- A map from names and two indexes hold one list of rows, as rows come and go.
 use Rattle.std.proofs.lemmas.List.Filters.{length-filter_both}
+use Rattle.cf_lists.proofs.KeyLaws.{none_later, later_apart}
+use Rattle.cache_model.proofs.RowLaws.{found_named}
 use Rattle.cache_model.proofs.CopyLaws.{other_found as found_without, row_of-replaced}
 use Rattle.cache_rows.proofs.IndexLaws.{filter-map, map_same, unchanged_behind, classes-without, order-without, classes-put, order-put, front-put, classes-released, order-released}
-use Rattle.cache_rows.proofs.Imports.{without-absent, ◌≡◌, ℕ, zero, suc, ◌+◌, ◌-◌, ◌≤◌, ◌<◌, Bool, true, false, not, ◌&&◌, cond, List, [], ◌∷◌, ◌++◌, Option, Some, None, option_map, option_to_list, slice_get, is_some, unwrap_or, length, length-append, filter, map, drop, refl, sym, ap, ◌∙◌, subst, arith, list_all, and_parts, map-append, length-map, drop_all, filter-append, slice_get-map, Name16, ConnId, same_name, pairwise, filter-filter, filter_swap, find_none, any_is_found, length-filter-le, found_filter, pairwise-filter, pairwise-map, Changed, names_without, names_set, Writes, Used, order_without, slice_get-front, slice_get-behind, same_name-eq, same_name-refl, CacheItem, is_row_of, is_changed, row_of, has_row, rows_without, rows_with, rows_replaced, new_row, has_storage, without_hold, name_of, apart-with, alone-without, is_unchanged, order_with, changed_first, Label, item_with, body_of, row_or, changed_in, unchanged_in, rows_in, IsIndexed, counts_at, relabeled, row_of-released}
+use Rattle.cache_rows.proofs.Imports.{without-absent, ◌≡◌, ℕ, zero, suc, ◌+◌, ◌-◌, ◌≤◌, ◌<◌, Bool, true, false, not, ◌&&◌, cond, List, [], ◌∷◌, ◌++◌, Option, Some, None, option_map, option_to_list, slice_get, is_some, unwrap_or, length, length-append, filter, map, drop, refl, sym, ap, ◌∙◌, subst, arith, list_all, and_parts, map-append, length-map, drop_all, filter-append, slice_get-map, Name16, ConnId, same_name, pairwise, names_apart, filter_agree, filter-filter, filter_swap, find_none, any_is_found, length-filter-le, found_filter, pairwise-filter, pairwise-map, Changed, names_without, names_set, Writes, Used, order_without, slice_get-front, slice_get-behind, same_name-eq, same_name-refl, CacheItem, is_row_of, is_changed, row_of, has_row, rows_without, rows_with, rows_replaced, new_row, has_storage, without_hold, name_of, apart-with, alone-without, is_unchanged, classes_of, order_of, names_retaken, order_retaken, names_reset, order_reset, order_with, changed_first, Label, item_with, body_of, row_or, changed_in, unchanged_in, rows_in, IsIndexed, counts_at, retaken, relabeled, row_of-released}
 use Rattle.cache_classes.specs.Castout as castout
 use Rattle.cache_reclaim.specs.LastUse as last_use
 use Rattle.cache_rows.proofs.{LookupLaws.AreFound}
@@ -182,6 +184,85 @@ pub relabeled_in : (rows : List CacheItem) (at next : Name16 → Option CacheIte
     (item_with label None) rest → IsIndexed (rows_replaced (relabeled label rows) rows) next names' used'
 relabeled_in rows at next names left names' used rest used' label is writes e f g h =
     replaced rows at next names left names' used rest used' (relabeled label rows) is (grind arith) e f g h
+
+-- ---- a row takes its place anew
+
+-- what is left out for a name's row alone
+left_apart : (p : CacheItem → Bool) (name : Name16) (rows : List CacheItem) (row : CacheItem)
+    → pairwise names_apart rows ≡ true → row_of name rows ≡ Some row → p row ≡ false
+    → filter p (rows_without name rows) ≡ filter p rows
+left_apart p name [] row u h e = absurd (cc)
+left_apart p name (y ∷ ys) row u h e = go (is_row_of name y) refl
+    (λ f. left_apart p name ys row (later_apart name_of same_name same_name-eq same_name-refl y ys u) f e)
+  where
+    go : (b : Bool) → is_row_of name y ≡ b
+        → (row_of name ys ≡ Some row → filter p (rows_without name ys) ≡ filter p ys)
+        → filter p (rows_without name (y ∷ ys)) ≡ filter p (y ∷ ys)
+    go true t ih =
+        let alone : has_row name ys ≡ false = subst (λ (n : Name16). has_row n ys ≡ false)
+        (same_name-eq y.name name t) (none_later name_of same_name same_name-eq same_name-refl y ys u) in
+        grind (arith, without-absent)
+    go false t ih = grind arith
+
+without_twice : (name : Name16) (names : List Changed)
+    → names_without name (names_without name names) ≡ names_without name names
+without_twice name names = grind (arith, filter-filter, filter_agree)
+
+order_twice : (name : Name16) (order : List Used)
+    → order_without name (order_without name order) ≡ order_without name order
+order_twice name order = grind (arith, filter-filter, filter_agree)
+
+set_retaken : (class : Option ℕ) (row : CacheItem) (rows : List CacheItem) (names : List Changed)
+    → names ≡ classes_of rows → pairwise names_apart rows ≡ true → row_of row.name rows ≡ Some row
+    → row.class ≡ class
+    → names_retaken row.name class names ≡ names_set row.name class (names_without row.name names)
+set_retaken None row rows names e u h f =
+    let same = left_apart is_changed row.name rows row u h (ap is_some f) in
+    grind (arith, without_twice, classes-without)
+set_retaken (Some class) row rows names e u h f = grind (arith, without_twice)
+
+order_kept : (class : Option ℕ) (row : CacheItem) (rows : List CacheItem) (used : List Used)
+    → used ≡ order_of rows → pairwise names_apart rows ≡ true → row_of row.name rows ≡ Some row → row.class ≡ class
+    → order_retaken row.name class row.stg used ≡ order_with row (order_without row.name used)
+order_kept None row rows used e u h f = grind (arith, order_twice)
+order_kept (Some class) row rows used e u h f =
+    let same = left_apart is_unchanged row.name rows row u h (ap (λ o. not (is_some o)) f) in
+    grind (arith, order-without)
+
+pub retaken_in : (rows : List CacheItem) (at : Name16 → Option CacheItem) (names names' : List Changed)
+    (used used' : List Used) (name : Name16) (row : CacheItem) → IsIndexed rows at names used
+    → row_of name rows ≡ Some row → names' ≡ names_retaken name row.class names
+    → used' ≡ order_retaken name row.class row.stg used → IsIndexed (rows_replaced row rows) at names' used'
+retaken_in rows at names names' used used' name row is h e f =
+    let named : row.name ≡ name = found_named name rows row h in
+    let own : row_of row.name rows ≡ Some row = ap (λ n. row_of n rows) named ∙ h in
+    replaced rows at at names (names_without row.name names) names' used (order_without row.name used) used' row is
+    (λ q. here (same_name row.name q) q refl own) refl refl
+    (e ∙ ap (λ n. names_retaken n row.class names) (sym named)
+    ∙ set_retaken row.class row rows names is.classed is.one_for_name own refl)
+    (f ∙ ap (λ n. order_retaken n row.class row.stg used) (sym named)
+    ∙ order_kept row.class row rows used is.ordered is.one_for_name own refl)
+  where
+    here : (b : Bool) (q : Name16) → same_name row.name q ≡ b → row_of row.name rows ≡ Some row
+        → at q ≡ cond b (Some row) (at q)
+    here true q t own = is.found q ∙ ap (λ n. row_of n rows) (sym (same_name-eq row.name q t)) ∙ own
+    here false q t own = refl
+
+pub touched_in : (rows : List CacheItem) (at : Name16 → Option CacheItem) (names names' : List Changed)
+    (used used' : List Used) (name : Name16) → IsIndexed rows at names used → names' ≡ names_reset name (at name) names
+    → used' ≡ order_reset name (at name) used → IsIndexed (retaken (row_of name rows) rows) at names' used'
+touched_in rows at names names' used used' name is e f = go (row_of name rows) refl
+  where
+    go : (o : Option CacheItem) → row_of name rows ≡ o → IsIndexed (retaken o rows) at names' used'
+    go None h =
+        let none : at name ≡ None = is.found name ∙ h in
+        let same : names' ≡ names = e ∙ ap (λ o. names_reset name o names) none in
+        let still : used' ≡ used = f ∙ ap (λ o. order_reset name o used) none in
+        rw (same, still) is
+    go (Some row) h =
+        let own : at name ≡ Some row = is.found name ∙ h in
+        retaken_in rows at names names' used used' name row is h (e ∙ ap (λ o. names_reset name o names) own)
+        (f ∙ ap (λ o. order_reset name o used) own)
 
 -- ---- castout locks are released
 

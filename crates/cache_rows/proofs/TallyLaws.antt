@@ -1,6 +1,7 @@
 -- What is counted of rows, as rows come and go.
 use Rattle.std.proofs.lemmas.List.Sums.{length-filter, count_by-le-length, sum_by-le-sum_by}
-use Rattle.cache_rows.proofs.Imports.{◌≡◌, ℕ, ◌+◌, ◌*◌, ◌≤◌, ◌<◌, Bool, true, false, cond, List, [], ◌∷◌, Option, Some, None, is_some, is_none, length, length-append, filter, map, sum_by, refl, sym, ap, ◌∙◌, subst, arith, list_all, and_parts, and_from, leb-true, length-map, list_all-append, list_all-map, fold-map, sum_by-cons, sum_by_push, Name16, ConnId, same_name, pairwise, any_is_found, list_all-filter, filter-filter, filter_swap, length-insertion, sum_by-insertion, list_all-insertion, sum_by_without, length_without, same_name-eq, same_name-refl, CacheItem, is_row_of, elements_of, elements_in, row_of, has_row, rows_without, rows_with, names_apart, is_reclaimable, without_hold, name_of, size, without-absent, Tally, is_unchanged, one_unchanged, elements_unchanged, is_small, tally_of, tally_with, IsTally, CanGrow, CanShrink}
+use Rattle.cf_lists.proofs.FilterLaws.{all_found}
+use Rattle.cache_rows.proofs.Imports.{rows_replaced, ◌≡◌, ℕ, ◌+◌, ◌*◌, ◌≤◌, ◌<◌, Bool, true, false, cond, List, [], ◌∷◌, Option, Some, None, is_some, is_none, length, length-append, filter, map, sum_by, refl, sym, ap, ◌∙◌, subst, arith, list_all, and_parts, and_from, leb-true, length-map, list_all-append, list_all-map, fold-map, sum_by-cons, sum_by_push, Name16, ConnId, same_name, pairwise, any_is_found, list_all-filter, filter-filter, filter_swap, length-insertion, sum_by-insertion, list_all-insertion, sum_by_without, length_without, same_name-eq, same_name-refl, CacheItem, is_row_of, elements_of, elements_in, row_of, has_row, rows_without, rows_with, names_apart, is_reclaimable, without_hold, name_of, size, without-absent, Tally, is_unchanged, one_unchanged, elements_unchanged, is_small, tally_of, tally_with, IsTally, CanGrow, CanShrink}
 
 -- ---- sums of a row more, and of a row less
 
@@ -41,6 +42,26 @@ tally_come tally after row rows left is e small f = grind (
 pub tally_released : (tally : Tally) (conn : ConnId) (rows : List CacheItem) → IsTally tally rows
     → IsTally tally (map (without_hold conn) rows)
 tally_released tally conn rows is = grind (arith, length-map, fold-map, size, list_all-map)
+
+-- ---- the tally of rows of which one takes its place anew
+
+pub tally_retaken : (tally : Tally) (name : Name16) (rows : List CacheItem) (row : CacheItem)
+    → pairwise names_apart rows ≡ true → row_of name rows ≡ Some row → row.name ≡ name → IsTally tally rows
+    → IsTally tally (rows_replaced row rows)
+tally_retaken tally name rows row apart h named is =
+    let left = rows_without row.name rows in
+    let own : row_of row.name rows ≡ Some row = ap (λ n. row_of n rows) named ∙ h in
+    let small : is_small row ≡ true = all_found (is_row_of name) is_small rows row is.small h in
+    let long = long_less row.name rows row apart own in
+    let all = sum_less row.name rows row apart own in
+    let rest : list_all is_small left ≡ true = list_all-filter is_small _ rows is.small in
+    record {
+      rows = is.rows ∙ grind (arith, length-insertion, length-append);
+      elements = is.elements ∙ sym (all size) ∙ grind (arith, sum_by-insertion, sum_by_push);
+      unchanged = is.unchanged ∙ sym (all one_unchanged) ∙ grind (arith, sum_by-insertion, sum_by_push);
+      reclaimable = is.reclaimable ∙ sym (all elements_unchanged) ∙ grind (arith, sum_by-insertion, sum_by_push);
+      small = grind (arith, list_all-insertion, list_all-append, and_from);
+    }
 
 -- ---- the numbers fit
 

@@ -1,12 +1,12 @@
 -- Rows that are found by name, in the order that their indexes give.
-use Rattle.std.specs.Prelude.{◌≡◌, ℕ, ◌++◌, ◌||◌, not, IsTrue, List, Option, filter, length, map, min, option_to_list, slice_get, unwrap_or}
+use Rattle.std.specs.Prelude.{◌≡◌, ℕ, ◌++◌, ◌||◌, not, IsTrue, List, Option, Some, None, filter, length, map, min, option_to_list, slice_get, unwrap_or}
 use Rattle.cf_lists.specs.Pairwise.{pairwise}
 use Rattle.cf_types.specs.declared.names.Name16.{Name16}
 use Rattle.cache_classes.specs.declared.changed.Changed.{Changed}
 use Rattle.cache_reclaim.specs.declared.used.Used.{Used}
 use Rattle.cache_model.specs.CacheDir.RowMap.{row_at}
 use Rattle.cache_model.specs.declared.items.CacheItem.{CacheItem}
-use Rattle.cache_model.specs.Rows.{is_row_of, row_of, new_row, names_apart, has_storage}
+use Rattle.cache_model.specs.Rows.{is_row_of, rows_replaced, row_of, new_row, names_apart, has_storage}
 use Rattle.cache_model.specs.Contents.{is_among}
 use Rattle.cache_rows.specs.declared.directory.Directory.TheInside.{Inside}
 use Rattle.cache_rows.specs.declared.label.Label.{Label}
@@ -61,6 +61,11 @@ AreListed d =
 abbrev pub counts_at : ℕ → (Name16 → Option CacheItem) → List Changed → ℕ → ℕ
 counts_at stg at names k =
     length (filter (λ changed. has_storage stg (row_or at changed.name)) (option_to_list (slice_get names k)))
+
+-- a row takes its place anew, where there is one
+abbrev pub retaken : Option CacheItem → List CacheItem → List CacheItem
+retaken None rows = rows
+retaken (Some row) rows = rows_replaced row rows
 
 -- the row of a name with the data that the name has
 abbrev pub relabeled : Label → List CacheItem → CacheItem

@@ -92,9 +92,10 @@ impl Rows {
         ensures entries { self.new.entries ≡ self.old.entries }
         ensures elements { self.new.elements ≡ self.old.elements }
     {
-        let label = self.label_or_new(name, stg);
         self.end_others(gone, name);
-        self.set(&label);
+        if !self.touch(name) {
+            self.set(&Label::new(name, stg));
+        }
     }
 
     /// Ends the rows of the names that are gone. The row of a name, or a new one of this storage

@@ -1,6 +1,6 @@
 //! Rows by name, with the castout classes of the changed ones and the order of last use of the
 //! others.
-ghost use Rattle.std.specs.Prelude.{◌≡◌, ◌+◌, ◌-◌, ◌^◌, ◌<◌, ◌≤◌, ◌&&◌, [], IsTrue, IfOk, OnOk, Some, None, true, false, filter, length, map, option_map, option_to_list, slice_get};
+ghost use Rattle.std.specs.Prelude.{◌≡◌, ◌+◌, ◌-◌, ◌^◌, ◌<◌, ◌≤◌, ◌&&◌, [], IsTrue, IfOk, OnOk, Some, None, true, false, filter, length, map, option_map, option_to_list, slice_get, is_some};
 ghost use Rattle.cf_lists.specs.Pairwise.{pairwise};
 ghost use Rattle.cf_types.specs.Stored.{elements_of};
 ghost use Rattle.cache_classes.specs.declared.changed.Changed.{Changed};
@@ -11,8 +11,8 @@ ghost use Rattle.cache_model.specs.declared.items.CacheItem.{CacheItem};
 ghost use Rattle.cache_model.specs.Rows.{is_changed, row_of, has_row, rows_without, rows_replaced, names_apart, has_class, has_storage};
 ghost use Rattle.cache_model.specs.Contents.{without_hold};
 ghost use Rattle.cache_model.specs.Commands.CoStats.{rows_of_class};
-ghost use Rattle.cache_rows.specs.Indexes.{order_with, reclaimed_for};
-ghost use Rattle.cache_rows.specs.Listed.{row_or, counts_at, relabeled};
+ghost use Rattle.cache_rows.specs.Indexes.{names_retaken, order_retaken, names_reset, order_reset, order_with, reclaimed_for};
+ghost use Rattle.cache_rows.specs.Listed.{row_or, counts_at, relabeled, retaken};
 ghost use Rattle.cache_rows.specs.Stored.{item_with, elements_of_row};
 
 use crate::label::Label;
@@ -53,6 +53,44 @@ fn unindex(classes: &mut Classes, order: &mut Order, name: &Name16)
 {
     classes.set(*name, None);
     order.remove(name);
+}
+
+// The row of a name, of these classes, takes its place anew.
+fn retake(classes: &mut Classes, order: &mut Order, name: &Name16, class: Option<u32>, stg: u32)
+    requires class_room { 1 ≤ classes.old.room }
+    requires order_room { 1 ≤ order.old.room }
+    requires place { length order.old.order < order.old.entries }
+    ensures classes { classes.new.names ≡ names_retaken name.now class classes.old.names }
+    ensures order { order.new.order ≡ order_retaken name.now class stg order.old.order }
+    ensures entries { order.new.entries ≡ order.old.entries }
+{
+    match class {
+        Some(_) => classes.set(*name, class),
+        None => order.touch(*name, stg),
+    }
+}
+
+// The row of a name takes its place in the indexes anew, if there is one; answers whether there is.
+fn reset(store: &Store, classes: &mut Classes, order: &mut Order, name: &Name16) -> bool
+    requires class_room { 1 ≤ classes.old.room }
+    requires order_room { 1 ≤ order.old.room }
+    requires place { length order.old.order < order.old.entries }
+    ensures found { result ≡ is_some (row_at store.now.entries name.now) }
+    ensures classes { classes.new.names
+        ≡ names_reset name.now (row_at store.now.entries name.now) classes.old.names }
+    ensures order { order.new.order
+        ≡ order_reset name.now (row_at store.now.entries name.now) order.old.order }
+    ensures entries { order.new.entries ≡ order.old.entries }
+    ensures class_room { result ≡ false → classes.old.room ≤ classes.new.room }
+    ensures order_room { result ≡ false → order.old.room ≤ order.new.room }
+{
+    match store.find(name) {
+        Some(row) => {
+            retake(classes, order, name, row.class(), row.stg());
+            true
+        }
+        None => false,
+    }
 }
 
 // The storage class of the row of a name.
@@ -281,6 +319,21 @@ impl Directory {
     {
         unindex(&mut self.classes, &mut self.order, name);
         self.store.end(name);
+    }
+
+    /// The row of a name takes its place anew, if there is one: an unchanged one as the most
+    /// recently used. Answers whether there is one.
+    pub(crate) fn touch(&mut self, name: &Name16) -> bool
+        requires room { 1 ≤ self.old.room }
+        requires few { length self.old.rows < self.old.entries }
+        ensures found { result ≡ is_some (row_of name.now self.old.rows) }
+        ensures rows { self.new.rows ≡ retaken (row_of name.now self.old.rows) self.old.rows }
+        ensures apart { IsTrue (pairwise names_apart self.old.rows) }
+        ensures room { result ≡ false → self.old.room ≤ self.new.room }
+        ensures entries { self.new.entries ≡ self.old.entries }
+        ensures free { self.new.free ≡ self.old.free }
+    {
+        reset(&self.store, &mut self.classes, &mut self.order, name)
     }
 
     /// Puts in the row of a name, in its place, with the data that the name has.

@@ -1,4 +1,4 @@
-ghost use Rattle.std.specs.Prelude.{◌≡◌, ◌+◌, ◌-◌, ◌^◌, ◌<◌, ◌≤◌, ◌&&◌, ◌++◌, ◌∷◌, [], IsTrue, IfOk, IfErr, OnOk, OnErr, Some, false, true, map, filter, length, option_map, slice_get, take};
+ghost use Rattle.std.specs.Prelude.{◌≡◌, ◌+◌, ◌-◌, ◌^◌, ◌<◌, ◌≤◌, ◌&&◌, ◌++◌, ◌∷◌, [], IsTrue, IfOk, IfErr, OnOk, OnErr, Some, false, true, map, filter, length, option_map, slice_get, is_some, take};
 ghost use Rattle.std.specs.List.{list_all};
 ghost use Rattle.cache_model.specs.Rows.{is_changed, elements_of, elements_in, row_of, has_row, rows_without, rows_with, rows_replaced, may_precede, names_apart, has_class, has_storage};
 ghost use Rattle.cf_lists.specs.Pairwise.{pairwise};
@@ -6,7 +6,7 @@ ghost use Rattle.cache_model.specs.Room.{is_reclaimable};
 ghost use Rattle.cache_model.specs.Commands.CoStats.{rows_of_class};
 ghost use Rattle.cache_model.specs.declared.items.CacheItem.{CacheItem};
 ghost use Rattle.cache_rows.specs.Indexes.{reclaimed_for};
-ghost use Rattle.cache_rows.specs.Listed.{relabeled};
+ghost use Rattle.cache_rows.specs.Listed.{relabeled, retaken};
 ghost use Rattle.cache_rows.specs.Stored.{item_with, elements_of_row};
 ghost use Rattle.cache_rows.specs.Totals.{IsTotals};
 ghost use Rattle.cache_model.specs.Contents.{without_hold};
@@ -20,8 +20,8 @@ use cf_types::{Body, ConnId, Name16, NoMemory};
 use std::alloc::Global;
 use std::marker::Model;
 
-// Takes the row of a name, if there is one, out of what is counted; answers how many elements its data
-// take.
+// Takes the row of a name, if there is one, out of what is counted; answers how many elements its
+// data take.
 fn count_out(directory: &Directory, totals: &mut Totals, name: &Name16) -> u32
     requires { IsTotals totals.old directory.now.rows }
     ensures counted { IsTotals totals.new (rows_without name.now directory.now.rows) }
@@ -352,6 +352,19 @@ impl Rows {
         ensures elements { self.new.elements ≡ self.old.elements }
     {
         end_row(&mut self.directory, &mut self.totals, name);
+    }
+
+    /// The row of a name takes its place anew, if there is one: an unchanged one as the most
+    /// recently used. Answers whether there is one.
+    pub(crate) fn touch(&mut self, name: &Name16) -> bool
+        requires { 1 ≤ self.old.room }
+        ensures found { result ≡ is_some (row_of name.now self.old.rows) }
+        ensures rows { self.new.rows ≡ retaken (row_of name.now self.old.rows) self.old.rows }
+        ensures room { result ≡ false → self.old.room ≤ self.new.room }
+        ensures entries { self.new.entries ≡ self.old.entries }
+        ensures elements { self.new.elements ≡ self.old.elements }
+    {
+        self.directory.touch(name)
     }
 
     /// Puts in the row of a name, in its place, with the data that the name has: a changed one
