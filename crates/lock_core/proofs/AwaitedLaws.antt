@@ -55,7 +55,7 @@ each_few before (r ∷ rs) content h = omega (
   grant_few r content,
   h r,
   each_few before rs (grant r content).content
-  (λ q. omega (arith, h q, fewer_granted (waiters_of r content.waiters) content q)),
+      (λ q. omega (arith, h q, fewer_granted (waiters_of r content.waiters) content q)),
 )
 
 -- ---- a departure
@@ -85,7 +85,7 @@ departure_few conn keep content = omega (
   arith,
   ap (λ (s : Settlement). length s.letters) (departed_alike conn keep content),
   each_few content.waiters (awaited_of conn content) (content_left conn keep content)
-  (fewer_filtered (λ w. not (is_by_waiter conn w)) content.waiters),
+      (fewer_filtered (λ w. not (is_by_waiter conn w)) content.waiters),
 )
 
 -- ---- its resources

@@ -119,6 +119,7 @@ ordered_once (r ∷ x ∷ rs) h =
         and_from (resource_before r x) (list_all (resource_before r) rs) next
         (list_all_weaker (in_turn (λ k. k) resource_before x) (resource_before r) (λ z t. before_later r x z next
         (not-true (resource_before z x) t)) rs g)
+
     go : (b : Bool) → same_resource r x ≡ b → list_all (in_turn (λ k. k) resource_before r) (x ∷ rs) ≡ true
         → pairwise (in_turn (λ k. k) resource_before) (x ∷ rs) ≡ true
         → AreOrdered (each_once (x ∷ rs)) → AreOrdered (cond b (each_once (x ∷ rs)) (r ∷ each_once (x ∷ rs)))
