@@ -3,6 +3,9 @@ pub use Rattle.cf_types.proofs.Imports.{nat_tests, find-append, list_all-append,
 pub use Rattle.cf_lists.proofs.Imports.{front, IsLastFull, lists_popped, pairwise, goes_first}
 pub use Rattle.list_model.proofs.Imports.{Content, has_records, holder_without, first_records, with_record}
 pub use Rattle.list_store.proofs.Imports.{Record, record_in, StoreView}
+pub use Rattle.cf_types.proofs.GainsLaws.{gains_none}
+pub use Rattle.list_watch.specs.Ends.{is_turned}
+pub use Rattle.list_watch.specs.Rows.{row_turned}
 pub use Rattle.list_watch.proofs.Imports.{differs, monitors_of, bit_of, rows_turned, rows_with}
 pub use Rattle.std.proofs.Common.{◌≡◌, ℕ, zero, suc, ◌+◌, ◌≤◌, ◌<◌, true, List, [], ◌∷◌, length, replicate, sum_by, Option, None, Some, refl, sym, ap, subst, arith, IfSome, is_none, Bool, false, not, cond, Ordering, Less, Equal, Greater, is_lt, is_gt, nat_cmp, find, slice_get, ◌∙◌, ◌-◌, ◌==◌, ◌++◌, length-append, take, drop, ◌||◌, option_map, unwrap_or, is_some, filter, Bor, nat_lt, position, map}
 pub use Rattle.std.proofs.lemmas.Bool.{and_parts, false≢true, eqb-true, and_from}

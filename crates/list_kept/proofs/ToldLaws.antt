@@ -1,5 +1,5 @@
 -- The bits that connectors were told stay those that stand.
-use Rattle.list_kept.proofs.Imports.{list_all_weaker, ◌≡◌, ℕ, Bool, true, false, not, ◌||◌, ◌==◌, Option, Some, List, [], ◌∷◌, filter, refl, arith, list_all, and_parts, and_from, false≢true, eqb-true, nat_tests, list_all-append, ConnId, BitChange, Gains, list_all-filter, Lists, all_records, ids_apart, record_of, spot_of, lists_without, Monitor, Watched, monitors_of, bit_of, rows_turned, rows_with, differs, Content, has_records, Key16, EntryId, pairwise, Spot, full-elsewhere, full-others, put_back, is_told, monitors_of-others, monitors_of-with, monitors-turned, monitors_of-without}
+use Rattle.list_kept.proofs.Imports.{list_all_weaker, ◌≡◌, ℕ, Bool, true, false, not, ◌||◌, ◌==◌, Option, Some, List, [], ◌∷◌, filter, refl, arith, list_all, and_parts, and_from, false≢true, eqb-true, nat_tests, list_all-append, ConnId, BitChange, Gains, list_all-filter, Lists, all_records, ids_apart, record_of, spot_of, lists_without, Monitor, Watched, monitors_of, bit_of, row_turned, rows_turned, rows_with, differs, is_turned, gains_none, Content, has_records, Key16, EntryId, pairwise, Spot, full-elsewhere, full-others, put_back, is_told, monitors_of-others, monitors_of-with, monitors-turned, monitors_of-without}
 use Rattle.list_watch.specs.Monitors as watch
 
 -- ---- the bits that stand
@@ -24,6 +24,37 @@ pub gains-told : (lists later : Lists) (rows next : List Watched) (bits more : L
     → Gains (bit_of rows) (bit_of next) bits more → Gains (watch.stands (monitors_of rows) (has_records lists))
     (watch.stands (monitors_of next) (has_records later)) bits more
 gains-told lists later rows next bits more h k gains = grind (arith, told-stands)
+
+-- ---- one header
+
+-- where those that monitor it were told already, nothing is turned
+same_row : (header : ℕ) (full : Bool) (row : Watched) → not (is_turned header full row) ≡ true
+    → row_turned header full row ≡ row
+same_row header full row h = grind (arith, equal)
+
+pub none-turned : (header : ℕ) (full : Bool) (rows : List Watched)
+    → list_all (λ row. not (is_turned header full row)) rows ≡ true → rows_turned header full rows ≡ rows
+none-turned header full [] h = refl
+none-turned header full (row ∷ rows) h = grind (arith, and_parts, same_row, none-turned header full rows)
+
+pub none-gained : (rows : List Watched) (bits : List BitChange) → Gains (bit_of rows) (bit_of rows) bits bits
+none-gained rows bits = gains_none (bit_of rows) (bit_of rows) bits (λ conn index. refl)
+
+pub ruleset none_turned = (none-turned, none-gained)
+
+-- they were told whether it has records
+pub told_here : (lists : Lists) (header : ℕ) (full : Bool) (rows : List Watched) → has_records lists header ≡ full
+    → list_all (is_told lists) rows ≡ true → list_all (λ row. not (is_turned header full row)) rows ≡ true
+told_here lists header full rows has h = list_all_weaker (is_told lists) (λ row. not (is_turned header full row))
+    (λ row told. grind (arith, eqb-true)) rows h
+
+-- and where another one is turned before
+pub told_there : (lists : Lists) (from to : ℕ) (left full : Bool) (rows : List Watched)
+    → has_records lists to ≡ full → ((from == to) ≡ true → full ≡ left) → list_all (is_told lists) rows ≡ true
+    → list_all (λ row. not (is_turned to full row)) (rows_turned from left rows) ≡ true
+told_there lists from to left full [] has same_one h = refl
+told_there lists from to left full (row ∷ rows) has same_one h =
+    grind (arith, and_parts, and_from, eqb-true, same, told_there lists from to left full rows has same_one)
 
 -- ---- told of all headers but some
 

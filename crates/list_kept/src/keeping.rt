@@ -18,6 +18,7 @@ use crate::data::{give, need, read_data};
 use crate::placing::{
     add_name, drop_name, has_records, place_of, push, put, put_again, renew, take,
 };
+use crate::telling::{settle, tell};
 use cf_types::{Body, ConnId, Effects, EntryId, Key16, Kind, Name16, NoMemory};
 use engine_api::Shape;
 use list_keys::Keys;
@@ -399,7 +400,7 @@ impl Kept {
     /// that its key leaves it among. The header is there, no record has its id, the records stay in
     /// order, there is room, and there are elements for the data, so that they take no memory. The
     /// next id goes up by 1, and `out` is told the bits that change.
-    #[tactic(auto, using(crate::proofs::ToldLaws::content_at, crate::proofs::ToldLaws::monitors_told))]
+    #[tactic(auto, using(crate::proofs::ToldLaws::content_at, crate::proofs::ToldLaws::monitors_told, crate::proofs::ToldLaws::told_here))]
     pub fn write(
         &mut self,
         header: u32,
@@ -424,11 +425,12 @@ impl Kept {
         ensures mail { out.new.mail ≡ out.old.mail }
     {
         let Bare { id, name, .. } = bare;
+        let had = has_records(&self.store, header);
         put(&mut self.store, header, head, bare, body);
         add_name(&mut self.names, name, id);
         self.next += 1;
         let full = has_records(&self.store, header);
-        self.watch.turned(header, full, out);
+        tell(&mut self.watch, header, had, full, out);
     }
 
     /// Puts a record in place of the one with the same id, which is there and has the same name:
@@ -452,7 +454,7 @@ impl Kept {
     }
 
     /// Takes away the record with an id, which is there. `out` is told the bits that change.
-    #[tactic(auto, using(crate::proofs::ToldLaws::content_at, crate::proofs::ToldLaws::monitors_told))]
+    #[tactic(auto, using(crate::proofs::ToldLaws::content_at, crate::proofs::ToldLaws::monitors_told, crate::proofs::ToldLaws::told_here))]
     pub fn remove(&mut self, id: EntryId, out: &mut Effects)
         requires room { IsRoomy self.old out.old.bits.room }
         requires there { list_any (is_id id) (all_records self.old.content.lists) ≡ true }
@@ -466,12 +468,13 @@ impl Kept {
     {
         match self.store.header_of(id) {
             Some(from) => {
+                let had = has_records(&self.store, from);
                 let rec = take(&mut self.store, id);
                 let Rec { name, body, .. } = rec;
                 give(&mut self.store, body);
                 drop_name(&mut self.names, name);
                 let full = has_records(&self.store, from);
-                self.watch.turned(from, full, out);
+                tell(&mut self.watch, from, had, full, out);
             }
             None => unreachable!(),
         }
@@ -506,11 +509,13 @@ impl Kept {
     {
         match self.store.header_of(id) {
             Some(from) => {
+                let had = has_records(&self.store, from);
+                let had_there = has_records(&self.store, header);
                 put_again(&mut self.store, id, header, head, key);
                 let full = has_records(&self.store, from);
-                self.watch.turned(from, full, out);
-                let full = has_records(&self.store, header);
-                self.watch.turned(header, full, out);
+                tell(&mut self.watch, from, had, full, out);
+                let full_there = has_records(&self.store, header);
+                tell(&mut self.watch, header, had_there, full_there, out);
             }
             None => unreachable!(),
         }
@@ -612,11 +617,12 @@ impl Kept {
         ensures vector { self.new.vector ≡ self.old.vector }
     {
         let Bare { id, name, .. } = bare;
+        let had = has_records(&self.store, header);
         match push(&mut self.store, header, bare, body) {
             Ok(()) => {
                 add_name(&mut self.names, name, id);
                 let full = has_records(&self.store, header);
-                self.watch.settle(header, full);
+                settle(&mut self.watch, header, had, full);
                 Ok(())
             }
             Err(refused) => Err(refused),

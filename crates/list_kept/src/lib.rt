@@ -8,6 +8,7 @@ mod data;
 mod keeping;
 mod placing;
 mod reading;
+mod telling;
 
 pub use bare::Bare;
 pub use keeping::{Kept, headers_of, locks_of};

@@ -1,5 +1,5 @@
 -- How many letters a command sends at most.
-use Rattle.lock_core.proofs.Imports.{◌+◌, ◌≤◌, Bool, true, false, if◌then◌else◌, ◌∷◌, [], List, length, arith, ConnId, Resource, Deny, filter_swap, length-filter-le, Waiter, is_on, waiters_of, waiters_without, interests_without, Content, settlement_of, grants, grant, content_granted}
+use Rattle.lock_core.proofs.Imports.{◌+◌, ◌≤◌, Bool, true, false, if◌then◌else◌, ◌∷◌, [], List, length, arith, ConnId, Resource, Deny, filter_swap, length-filter-le, Waiter, waiters_of, waiters_without, interests_without, Content, settlement_of, grants, grant, content_granted}
 use Rattle.lock_model.specs.Requests as requests
 use Rattle.lock_model.specs.Commands.Alter as alter
 use Rattle.lock_model.specs.Commands.Release as release
@@ -15,10 +15,6 @@ grants_few (w ∷ ws) content = grind (arith, grants_few ws (content_granted w c
 pub grant_few : (r : Resource) (content : Content)
     → length (grant r content).letters ≤ length (waiters_of r content.waiters)
 grant_few r content = grants_few (waiters_of r content.waiters) content
-
--- no more than all that wait
-pub grant_within : (r : Resource) (content : Content) → length (grant r content).letters ≤ length content.waiters
-grant_within r content = omega (arith, grant_few r content, length-filter-le (is_on r) content.waiters)
 
 fewer_without : (r : Resource) (conn : ConnId) (waiters : List Waiter)
     → length (waiters_of r (waiters_without r conn waiters)) ≤ length (waiters_of r waiters)

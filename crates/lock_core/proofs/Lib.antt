@@ -3,4 +3,6 @@ pub mod Imports
 pub mod ReadLaws
 pub mod GrantLaws
 pub mod LetterLaws
+pub mod OnceLaws
+pub mod AwaitedLaws
 pub mod EngineLaws

@@ -1,5 +1,5 @@
 -- What is read of waiters and of interests, and what is found among them.
-use Rattle.lock_core.proofs.Imports.{◌≡◌, ◌+◌, ◌≤◌, Bool, if◌then◌else◌, List, [], ◌∷◌, Option, Some, None, filter, refl, arith, list_any, sum_by-cons, Waiter, waiter_of, waiters_with, recorded_by, recorded_of, recorded_in, IsQueue, recorded_less, recorded_more, Interest, records_of, records_waiting, record_refusal, Refusal, NoRecord, first_refusal, prefix_len-le-length, insert-prefix_len, length-filter-le, sum_by-filter-le}
+use Rattle.lock_core.proofs.Imports.{◌≡◌, ◌+◌, ◌≤◌, Bool, if◌then◌else◌, List, [], ◌∷◌, Option, Some, None, filter, refl, arith, list_any, sum_by-cons, Waiter, waiter_of, waiters_with, recorded_by, recorded_of, recorded_in, IsQueue, recorded_less, recorded_more, Interest, records_of, records_waiting, record_refusal, Refusal, NoRecord, first_refusal, length-filter-le, sum_by-filter-le}
 
 -- ---- one that is found
 
@@ -41,4 +41,4 @@ pub ruleset refusal_told = (first_of_one, record_refusal-any)
 
 pub ruleset waiting_told = (waiting-counted_with, waiting-without)
 
-pub ruleset fewer = (length-filter-le, sum_by-filter-le, insert-prefix_len, prefix_len-le-length)
+pub ruleset fewer = (length-filter-le, sum_by-filter-le)

@@ -1,17 +1,19 @@
 -- The engine as contracts see it.
-use Rattle.std.specs.Prelude.{◌≡◌, ◌+◌, ◌≤◌, ◌<◌, IsTrue, List, length, Option, Some}
+use Rattle.std.specs.Prelude.{◌≡◌, ◌+◌, ◌≤◌, ◌<◌, Bool, IsTrue, List, length, Option, Some}
 use Rattle.cf_types.specs.declared.effects.Effects.{Effects}
 use Rattle.cf_types.specs.declared.events.Letter.{Letter}
 use Rattle.cf_types.specs.declared.resources.Resource.{Resource}
 use Rattle.cf_types.specs.declared.lock_commands.LockCmd.{LockCmd}
+use Rattle.cf_types.specs.declared.numbers.ConnId.{ConnId}
 use Rattle.cf_types.specs.Forms.{IsCapacity, is_lock}
 use Rattle.engine_api.specs.Meaning.{Held, Wish}
 use Rattle.engine_api.specs.Meaning.Wish.{ForCmd, ForLeave, ForForget}
 use Rattle.lock_model.specs.Contents.{Content, IsContent}
-use Rattle.lock_model.specs.Departures.{resources_of}
+use Rattle.lock_model.specs.Departures.{departure_of}
 use Rattle.lock_model.specs.Step.{after}
 use Rattle.lock_core.specs.declared.plans.Plan.{Plan}
 use Rattle.lock_core.specs.declared.engine.LockEngine.TheInside.{Inside}
+use Rattle.lock_core.specs.Awaited.{awaited_of}
 use Rattle.lock_core.specs.Plans.{plan_for}
 use Rattle.lock_core.specs.Stock.{Stock, HasRoom}
 
@@ -52,16 +54,16 @@ pub record IsReadyFor (e : EngineView) (plan : Plan) (sent : List Letter) (out :
   pub letters : length sent ≤ out.mail.room
   pub counted : length e.stock.content.interests + length e.stock.content.waiters < 4294967295
 
--- the resources of the connector are there, and there is room for all that wait to be granted and
--- told
-pub record IsReadyToLeave (e : EngineView) (resources : List Resource) (out : Effects) : Type 0 where
-  pub planned : e.leaving ≡ Some resources
+-- the connector's resources that anybody waits for are there, and there is room for all that wait to be granted, and
+-- for the letters of its departure
+pub record IsReadyToLeave (e : EngineView) (conn : ConnId) (out : Effects) : Type 0 where
+  pub planned : e.leaving ≡ Some (awaited_of conn e.stock.content)
   pub room : HasRoom 0 e.stock
-  pub letters : length e.stock.content.waiters ≤ out.mail.room
+  pub letters : (keep : Bool) → length (departure_of conn keep e.stock.content).letters ≤ out.mail.room
 
 abbrev pub IsReady : EngineView → Wish LockCmd → Effects → Type 0
 IsReady e (ForCmd by cmd) out =
     IsReadyFor e (plan_for e.held.caps e.stock.content by cmd) (after e.stock.content by cmd).letters
     out
-IsReady e (ForLeave conn) out = IsReadyToLeave e (resources_of conn e.stock.content) out
+IsReady e (ForLeave conn) out = IsReadyToLeave e conn out
 IsReady e ForForget out = Unit {0}

@@ -3,4 +3,5 @@ pub use Rattle.lock_queue.specs as LockQueue
 pub mod Orders
 pub mod Stock
 pub mod Plans
+pub mod Awaited
 pub mod EngineView

@@ -2,9 +2,8 @@ ghost use Rattle.std.specs.Prelude.{◌≡◌, option_map};
 ghost use Rattle.lock_model.specs.Interests.{interest_of};
 ghost use Rattle.lock_queue.specs.Waiters.{waiter_of};
 
-use crate::departures::resources_of;
-use crate::grants::grant_each;
-use crate::letters::most_letters;
+use crate::departures::{awaited_of, depart};
+use crate::letters::{most_left, most_letters};
 use crate::locks::{ItemOrder, Locks};
 use crate::plans::{Plan, act, make_plan};
 use cf_types::{
@@ -167,8 +166,8 @@ impl Engine for LockEngine {
     }
 
     fn leave_ready(&mut self, conn: ConnId, out: &mut Effects) -> Result<(), NoMemory> {
-        let resources = resources_of(self.alloc, &self.locks, conn)?;
-        let letters = self.locks.count_waiters();
+        let resources = awaited_of(self.alloc, &self.locks, conn)?;
+        let letters = most_left(&self.locks, &resources);
         self.locks.reserve(letters, out)?;
         self.leaving = Some(Listing::from_vec(resources));
         Ok(())
@@ -176,10 +175,7 @@ impl Engine for LockEngine {
 
     fn leave(&mut self, conn: ConnId, keep: bool, out: &mut Effects) {
         match self.leaving.take() {
-            Some(resources) => {
-                self.locks.leave(conn, keep);
-                grant_each(&mut self.locks, resources.items(), out);
-            }
+            Some(resources) => depart(&mut self.locks, resources.items(), conn, keep, out),
             None => unreachable!(),
         }
     }
@@ -247,7 +243,7 @@ impl Engine for LockEngine {
         (λ conn out other is bits mail. record {
           planned = is.planned;
           room = is.room;
-          letters = le-trans is.letters mail;
+          letters = λ keep. le-trans (is.letters keep) mail;
         })
         (λ out other is bits mail. is) };
 

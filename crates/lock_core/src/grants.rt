@@ -29,10 +29,10 @@ pub(crate) fn grant(locks: &mut Locks, r: &Resource, out: &mut Effects)
 }
 
 /// The grant rule for several resources, one after another.
-#[tactic(auto, using(crate::proofs::LetterLaws::grant_within))]
 pub(crate) fn grant_each(locks: &mut Locks, resources: &[Resource], out: &mut Effects)
     requires room { HasRoom 0 locks.old }
-    requires letters { length locks.old.content.waiters ≤ out.old.mail.room }
+    requires letters { length (grant_each resources.now locks.old.content).letters ≤
+        out.old.mail.room }
     ensures content { locks.new.content ≡ (grant_each resources.now locks.old.content).content }
     ensures mail { out.new.mail.items ≡ out.old.mail.items
         ++ (grant_each resources.now locks.old.content).letters }

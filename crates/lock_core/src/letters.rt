@@ -1,8 +1,11 @@
-//! For how many letters a command wants room.
-ghost use Rattle.std.specs.Prelude.{◌≤◌, length};
+//! For how many letters a command wants room, and a departure.
+ghost use Rattle.std.specs.Prelude.{◌≡◌, ◌≤◌, IsTrue, length};
+ghost use Rattle.cf_lists.specs.Pairwise.{pairwise};
+ghost use Rattle.cf_types.specs.Resources.{resource_before};
 ghost use Rattle.cf_types.specs.declared.numbers.ConnId.{ConnId};
 ghost use Rattle.lock_model.specs.Commands.Decide as decide;
 ghost use Rattle.lock_model.specs.Step.{after};
+ghost use Rattle.lock_core.specs.Awaited.{waiting_for};
 
 use crate::locks::Locks;
 use cf_types::{ConnId, Decision, LockCmd, Resource};
@@ -34,4 +37,21 @@ pub(crate) fn most_letters(locks: &Locks, cmd: &LockCmd) -> usize
         LockCmd::RtRead { .. } => 0,
         LockCmd::RtDelete { conn: _, r } => locks.queue.count_of(r),
     }
+}
+
+/// How many wait for resources, of which none stands twice: so they are no more than all that wait.
+/// For so many letters a departure wants room, whose resources these are: each that waits for one
+/// of them may be granted it.
+#[tactic(auto, using(crate::proofs::AwaitedLaws::counted_told))]
+pub(crate) fn most_left(locks: &Locks, resources: &[Resource]) -> usize
+    requires { IsTrue (pairwise resource_before resources.now) }
+    ensures sum { result ≡ waiting_for locks.now.content.waiters resources.now }
+    ensures within { result ≤ length locks.now.content.waiters }
+{
+    let _ = locks.queue.len();
+    let mut letters = 0;
+    for r in resources {
+        letters += locks.queue.count_of(r);
+    }
+    letters
 }

@@ -294,13 +294,6 @@ impl Locks {
         }
     }
 
-    /// How many wait.
-    pub(crate) fn count_waiters(&self) -> usize
-        ensures { result ≡ length self.now.content.waiters }
-    {
-        self.queue.len() as usize
-    }
-
     /// How many own and wait.
     pub(crate) fn count(&self) -> u32
         requires { length self.now.content.interests + length self.now.content.waiters <

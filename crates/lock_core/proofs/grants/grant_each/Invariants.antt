@@ -7,5 +7,4 @@ invariant-loop-r l = ((grant_each (drop l.r-index l.resources) l.locks.content).
     l.locks.content).letters ≡ l.initial.out.mail.items ++ (grant_each l.resources l.initial.locks.content).letters)
     × (l.initial.out.mail.room + length (grant_each (drop l.r-index l.resources)
     l.locks.content).letters ≡ l.out.mail.room + length (grant_each l.resources l.initial.locks.content).letters)
-    × (l.out.bits ≡ l.initial.out.bits) × HasRoom 0 l.locks
-    × (length l.locks.content.waiters ≤ l.out.mail.room) × (l.locks.limit ≡ l.initial.locks.limit)
+    × (l.out.bits ≡ l.initial.out.bits) × HasRoom 0 l.locks × (l.locks.limit ≡ l.initial.locks.limit)

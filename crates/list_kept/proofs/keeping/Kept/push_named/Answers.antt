@@ -1,11 +1,17 @@
-use Rattle.list_kept.proofs.Imports.{arith, ◌≡◌, ◌++◌, ◌∷◌, [], ◌∙◌, records_of, with_records, with_data, monitors-turned, records-elsewhere}
+use Rattle.list_kept.proofs.Imports.{arith, sym, ◌≡◌, ◌++◌, ◌∷◌, [], ◌∙◌, records_of, with_records, with_data, monitors-turned, records-elsewhere}
 use Rattle.list_kept.proofs.NamedLaws.{named_new, named_more, came_last}
-use Rattle.list_kept.proofs.ToldLaws.{told-one, sym_test, content_at}
+use Rattle.list_kept.proofs.ToldLaws.{told-one, told_here, sym_test, content_at}
 use Rattle.list_kept.proofs.keeping.Kept.push_named.Goals as goal
 
 pushed : (c : goal.After-settle) → c.push.new.store.lists ≡ with_records c.self.inside.store.lists
     c.args.header (records_of c.self.inside.store.lists c.args.header ++ (with_data c.args.bare c.args.body.now) ∷ [])
 pushed c = rw c.in-Ok.is at c.push.ensures.ok
+
+pub settle-requires : goal.settle-requires
+settle-requires c = record {
+  known = λ e. told_here c.self.inside.store.lists c.args.header c.has_records-full.result c.self.inside.watch.rows
+      (sym c.has_records-had.ensures ∙ e) c.self.invariant.told;
+}
 
 pub add_name-requires-clause-new : goal.add_name-requires-clause-new
 add_name-requires-clause-new c =

@@ -3,10 +3,10 @@ use Rattle.list_kept.proofs.ToldLaws.{told-one, gains-told, sym_test}
 use Rattle.list_kept.proofs.{NamedLaws.named_less, NamedLaws.taken, PlaceLaws.orderly-without}
 use Rattle.list_kept.proofs.keeping.Kept.remove.Goals as goal
 
-gone : (c : goal.After-turned) → c.give.new.store.lists ≡ lists_without c.args.id c.self.inside.store.lists
+gone : (c : goal.After-tell) → c.give.new.store.lists ≡ lists_without c.args.id c.self.inside.store.lists
 gone c = c.give.ensures.lists ∙ c.take-rec.ensures.lists
 
-still_told : (c : goal.After-turned) → list_all (is_told c.give.new.store.lists) c.turned.new.self.rows ≡ true
+still_told : (c : goal.After-tell) → list_all (is_told c.give.new.store.lists) c.tell.new.watch.rows ≡ true
 still_told c = grind (arith, spot_with, told-one, gone, full-others, sym_test)
 
 pub invariant_of-self : goal.invariant_of-self
@@ -30,4 +30,4 @@ unreachable-requires c =
 
 pub returns-clause-bits : goal.returns-clause-bits
 returns-clause-bits c = rw (← c.self.view_is)
-    (gains-told _ _ _ _ _ _ c.self.invariant.told (still_told c) c.turned.ensures.bits)
+    (gains-told _ _ _ _ _ _ c.self.invariant.told (still_told c) c.tell.ensures.bits)

@@ -3,7 +3,7 @@ use Rattle.list_kept.proofs.NamedLaws.{named_new, named_more, came, elements_wit
 use Rattle.list_kept.proofs.ToldLaws.{told-one, gains-told, sym_test}
 use Rattle.list_kept.proofs.keeping.Kept.write.Goals as goal
 
-still_told : (c : goal.After-turned) → list_all (is_told c.put.new.store.lists) c.turned.new.self.rows ≡ true
+still_told : (c : goal.After-tell) → list_all (is_told c.put.new.store.lists) c.tell.new.watch.rows ≡ true
 still_told c = grind (arith, told-one, full-elsewhere, sym_test)
 
 pub add_name-requires-clause-new : goal.add_name-requires-clause-new
@@ -39,4 +39,4 @@ invariant_of-self c =
 
 pub returns-clause-bits : goal.returns-clause-bits
 returns-clause-bits c = rw (← c.self.view_is)
-    (gains-told _ _ _ _ _ _ c.self.invariant.told (still_told c) c.turned.ensures.bits)
+    (gains-told _ _ _ _ _ _ c.self.invariant.told (still_told c) c.tell.ensures.bits)
