@@ -1,0 +1,9 @@
+mod Numbers
+mod BarLaws
+mod ItemLaws
+mod RowLaws
+mod PlaceLaws
+mod MomentLaws
+mod MarkLaws
+mod LaneLaws
+mod KindLaws

@@ -1,6 +1,8 @@
 pub use Rattle.check_model.specs as CheckModel
 pub mod Callers
 pub mod Rows
+pub mod Buckets
 pub mod Bars
+pub mod Replays
 pub mod Moments
 pub mod Lanes

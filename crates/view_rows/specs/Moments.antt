@@ -1,5 +1,5 @@
 -- What stands after so many entries of a history.
-use Rattle.std.specs.Prelude.{ℕ, ◌+◌, if◌then◌else◌, List, [], ◌∷◌, ◌++◌, map, take, slice_get, Option, None, Some, is_some, option_map}
+use Rattle.std.specs.Prelude.{ℕ, ◌+◌, Bool, true, false, if◌then◌else◌, List, [], ◌∷◌, ◌++◌, map, slice_get, Option, None, Some, is_some, option_map}
 use Rattle.std.specs.List.{flat_map}
 use Rattle.cf_types.specs.declared.forms.StrForm.{StrForm}
 use Rattle.cf_types.specs.declared.lock_commands.LockCmd.{LockCmd}
@@ -11,26 +11,25 @@ use Rattle.engine_api.specs.declared.asks.Ask.TheVariants as ask
 use Rattle.engine_api.specs.declared.asks.What.{What}
 use Rattle.engine_api.specs.declared.asks.What.TheVariants as what
 use Rattle.engine_api.specs.declared.histories.Entry.{Entry}
-use Rattle.engine_api.specs.History.{replay}
 use Rattle.engine_api.specs.Machine.{Machine}
-use Rattle.engine_api.specs.Meaning.{Meaning}
-use Rattle.struct_machine.specs.StructureView.{stands_at}
-use Rattle.lock_core.specs.EngineView.{Held}
 use Rattle.check_model.specs.RunShown.Kinds.{numbers_from}
 use Rattle.check_model.specs.RunShown.Meanings.{altered_caches}
 use Rattle.check_model.specs.RunShown.QueueModel.ListQueues.{queued_lists}
 use Rattle.check_model.specs.RunShown.LockModel.Contents.{Content}
-use Rattle.check_model.specs.RunShown.LockModel.Interests.{Interest, interest_of}
+use Rattle.check_model.specs.RunShown.LockModel.Interests.{interest_of}
 use Rattle.check_model.specs.RunShown.LockModel.Meaning.{lock_meaning}
 use Rattle.check_model.specs.RunShown.PlexScript.declared.asks.AnyHistory.{AnyHistory}
 use Rattle.check_model.specs.RunShown.PlexScript.declared.asks.AnyHistory.TheVariants as history
 use Rattle.check_model.specs.RunShown.PlexScript.Heard.{any_length}
+use Rattle.lock_model.specs.LockTable.declared.holdings.Held.{Held}
 use Rattle.lock_queue.specs.declared.waiters.Waiter.{Waiter}
 use Rattle.lock_queue.specs.Waiters.{waiter_of}
 use Rattle.view_rows.specs.declared.lanes.Bar.{Bar}
+use Rattle.view_rows.specs.declared.lanes.Hold.{Hold}
 use Rattle.view_rows.specs.declared.lanes.Hold.TheVariants as hold
 use Rattle.view_rows.specs.declared.lanes.Holder.{Holder}
 use Rattle.view_rows.specs.declared.lanes.Moment.{Moment}
+use Rattle.view_rows.specs.Replays.{nobody, shown_behind}
 
 -- ---- holders of a resource
 
@@ -58,13 +57,16 @@ last_named entries ℕ.zero = None
 last_named entries (ℕ.suc k) = named_at (slice_get entries k)
 
 -- a caller's interest, and what it waits for
-abbrev pub owners : ConnId → Option Interest → List Holder
+abbrev pub hold_of : Bool → Hold
+hold_of true = hold.Retained
+hold_of false = hold.Owns
+
+abbrev pub held_in : Resource → ConnId → Content → Option Held
+held_in r conn content = option_map (λ interest. interest.held) (interest_of r conn content.interests)
+
+abbrev pub owners : ConnId → Option Held → List Holder
 owners conn None = []
-owners conn (Some interest) = record {
-  conn = conn;
-  excl = interest.held.excl;
-  hold = if interest.held.retained then hold.Retained else hold.Owns;
-} ∷ []
+owners conn (Some held) = record { conn = conn; excl = held.excl; hold = hold_of held.retained } ∷ []
 
 abbrev pub waiters : ConnId → Option Waiter → List Holder
 waiters conn None = []
@@ -72,34 +74,30 @@ waiters conn (Some waiter) = record { conn = conn; excl = waiter.excl; hold = ho
 
 abbrev pub holders_by : Content → Resource → ConnId → List Holder
 holders_by content r conn =
-    owners conn (interest_of r conn content.interests) ++ waiters conn (waiter_of r conn content.waiters)
+    owners conn (held_in r conn content) ++ waiters conn (waiter_of r conn content.waiters)
 
 -- those of a resource among some callers, if one is named
 abbrev pub holders_of : List ConnId → Content → Option Resource → List Holder
 holders_of callers content None = []
 holders_of callers content (Some r) = flat_map (holders_by content r) callers
 
--- ---- moments
+-- there are some only where an instance stands
+abbrev pub holders_in : List ConnId → Machine Content → Option Resource → List Holder
+holders_in callers machine named =
+    if is_some machine.shell.instances.primary then holders_of callers machine.content named else []
 
--- what a machine shows, beside the holders
-abbrev pub moment_of : {C R I S : Type 0} → Meaning C R I S → Machine S → List Bar → List Holder → Moment
-moment_of meaning machine bars holders =
-    record {
-      stage = option_map (λ rebuild. rebuild.stage) machine.shell.rebuild;
-      stands = is_some machine.shell.instances.primary;
-      bits = map (λ bar. stands_at meaning machine bar.conn bar.index) bars;
-      holders = holders;
-    }
+-- those of the resource that the last of so many entries names
+abbrev pub locks_held : List ConnId → List (Entry LockCmd LockReply) → Machine Content → ℕ → List Holder
+locks_held callers entries machine n = holders_in callers machine (last_named entries n)
+
+-- ---- moments
 
 -- what the machine shows behind the first entries, so many
 abbrev pub moment_at : StrForm → AnyHistory → List ConnId → List Bar → ℕ → Moment
-moment_at form (history.Cache entries) callers bars n =
-    moment_of altered_caches (replay altered_caches form (take n entries)) bars []
-moment_at form (history.List entries) callers bars n =
-    moment_of queued_lists (replay queued_lists form (take n entries)) bars []
+moment_at form (history.Cache entries) callers bars n = shown_behind altered_caches form entries bars nobody n
+moment_at form (history.List entries) callers bars n = shown_behind queued_lists form entries bars nobody n
 moment_at form (history.Lock entries) callers bars n =
-    let machine = replay lock_meaning form (take n entries) in
-    moment_of lock_meaning machine bars (holders_of callers machine.content (last_named entries n))
+    shown_behind lock_meaning form entries bars (locks_held callers entries) n
 
 abbrev pub moments_of : StrForm → AnyHistory → List ConnId → List Bar → List Moment
 moments_of form entries callers bars =

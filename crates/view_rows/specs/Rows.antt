@@ -1,5 +1,5 @@
 -- The rows of a lane: entries, and behind each the items whose callers had seen no more than it.
-use Rattle.std.specs.Prelude.{ℕ, ◌+◌, ◌==◌, ◌&&◌, nat_le, Bool, false, if◌then◌else◌, List, [], ◌∷◌, ◌++◌, filter, length, map, min, position, Option}
+use Rattle.std.specs.Prelude.{ℕ, ◌+◌, ◌==◌, ◌&&◌, nat_le, Bool, false, if◌then◌else◌, List, [], ◌∷◌, ◌++◌, filter, length, map, min, max, position, Option, None, Some}
 use Rattle.std.specs.List.{flat_map}
 use Rattle.cf_types.specs.declared.numbers.ConnId.{ConnId}
 use Rattle.cf_types.specs.declared.numbers.StrNo.{StrNo}
@@ -13,6 +13,11 @@ use Rattle.view_rows.specs.declared.lanes.Row.TheVariants as row
 use Rattle.view_rows.specs.Callers.{by_callers, is_drawn}
 
 -- ---- items
+
+-- what a caller has seen behind an item that shows a number, or none
+abbrev pub seen_with : ℕ → Option ℕ → ℕ
+seen_with seen None = seen
+seen_with seen (Some number) = max seen number
 
 -- the item at this place, where it is drawn: it stands behind as many entries as its caller has seen with it
 abbrev pub item_row : StrNo → (count : ℕ) → ConnId → (place seen : ℕ) → Shown → List Row
@@ -38,10 +43,14 @@ abbrev pub is_behind : ℕ → Row → Bool
 is_behind n (row.Entry place) = false
 is_behind n (row.Item by place behind) = behind == n
 
--- the entry with this number, if there is one, and the items behind it
+-- the entry with a number, if there is one, and behind it these items
+abbrev pub with_entry : ℕ → (behind : List Row) → List Row
+with_entry ℕ.zero behind = behind
+with_entry (ℕ.suc place) behind = row.Entry place ∷ behind
+
+-- the entry with this number, and the items behind it
 abbrev pub rows_at : (items : List Row) → ℕ → List Row
-rows_at items ℕ.zero = filter (is_behind 0) items
-rows_at items (ℕ.suc place) = row.Entry place ∷ filter (is_behind (ℕ.suc place)) items
+rows_at items n = with_entry n (filter (is_behind n) items)
 
 abbrev pub is_in : Part → ℕ → Bool
 is_in part n = nat_le part.from n && nat_le n part.to
@@ -62,3 +71,12 @@ is_entry k (row.Item by place behind) = false
 -- the row of each entry, where it has one
 abbrev pub places_of : (count : ℕ) → List Row → List (Option ℕ)
 places_of count rows = map (λ k. position (is_entry k) rows) (numbers_from 0 count)
+
+-- one row more, of which the number is told: it is its entry's where that has none yet
+abbrev pub placed : (k : ℕ) → Option ℕ → (r : ℕ) → Row → Option ℕ
+placed k None r row = if is_entry k row then Some r else None
+placed k (Some place) r row = Some place
+
+abbrev pub placed_from : (first : ℕ) → List (Option ℕ) → (r : ℕ) → Row → List (Option ℕ)
+placed_from first [] r row = []
+placed_from first (place ∷ places) r row = placed first place r row ∷ placed_from (first + 1) places r row

@@ -2,8 +2,16 @@
 //! tests look, and what stands after each entry.
 #![tactic(auto)]
 
+mod bars;
+mod columns;
 mod drawing;
+mod holders;
+mod items;
 mod lanes;
+mod moments;
+mod places;
+mod replaying;
+mod rows;
 
 pub use check_model as model;
 pub use drawing::lane_of;
