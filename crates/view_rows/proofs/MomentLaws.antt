@@ -15,6 +15,7 @@ use Rattle.engine_api.proofs.HistoryLaws.{replay-push}
 use Rattle.view_rows.specs.declared.lanes.Bar.{Bar}
 use Rattle.view_rows.specs.declared.lanes.Holder.{Holder}
 use Rattle.view_rows.specs.declared.lanes.Moment.{Moment}
+use Rattle.view_rows.specs.Moments.{last_named, named_at, named_in}
 use Rattle.view_rows.specs.Replays.{EachMayFollow, MayFollow, moment_of, nobody, shown_behind, shown_to}
 use Rattle.view_rows.proofs.Numbers.{map_numbers_more}
 
@@ -23,6 +24,11 @@ pub slice_at : {X : Type 0} (xs : List X) (i : ℕ) (x : X) → i < length xs �
 slice_at [] i x within is = absurd (omega arith)
 slice_at (y ∷ xs) ℕ.zero x within is = ap Some (sym is)
 slice_at (y ∷ xs) (ℕ.suc i) x within is = slice_at xs i x (omega arith) is
+
+-- the resource that the next entry names
+pub named_next : (entries : List (Entry LockCmd LockReply)) (n : ℕ) (entry : Entry LockCmd LockReply)
+    → n < length entries → entry ≡ get_or entries n entry → named_in entry.what ≡ last_named entries (n + 1)
+named_next entries n entry within here = rw add-one (sym (ap named_at (slice_at entries n entry within here)))
 
 module _ {C R I S : Type 0} (meaning : Meaning C R I S) (form : StrForm) (entries : List (Entry C R)) (bars : List Bar)
     (held : Machine S → ℕ → List Holder) where
