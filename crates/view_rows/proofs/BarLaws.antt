@@ -95,4 +95,4 @@ pub bars_of_callers : (on : StrNo) (vector : ℕ) (transcripts : List Transcript
     → length transcripts ≤ CONNECTORS + 1 → bars ≡ bars_of on vector transcripts → AreOfCallers bars
 bars_of_callers on vector transcripts bars few is = subst AreOfCallers (sym is)
     (all_folded [] (by_callers (looks_by on vector) 0 transcripts) (All-nil IsOfCaller)
-    (all_looks on vector 0 transcripts few))
+    (all_looks on vector 0 transcripts (omega arith)))

@@ -53,7 +53,8 @@ module _ (any : AnyHistory) (form : StrForm) where
       → IfOk result (λ m. m ≡ moments_of form any callers bars)
   cache_shown history entries is same callers bars result made =
       subst (λ (h : AnyHistory). IfOk result (λ m. m ≡ moments_of form h callers bars)) (sym is)
-      (subst (λ (l : CacheEntries). IfOk result (λ m. m ≡ shown_to altered_caches form l bars nobody (length l + 1))) same made)
+      (subst (λ (l : CacheEntries). IfOk result (λ m. m ≡ shown_to altered_caches form l bars nobody
+      (length l + 1))) same made)
 
   pub list_follows : (history entries : ListEntries) → any ≡ AnyHistory.List history → entries ≡ history
       → IsAnyLegal form any → All MayBeCalled (any_calls any) → EachMayFollow queued_lists form entries
@@ -68,7 +69,8 @@ module _ (any : AnyHistory) (form : StrForm) where
       → IfOk result (λ m. m ≡ moments_of form any callers bars)
   list_shown history entries is same callers bars result made =
       subst (λ (h : AnyHistory). IfOk result (λ m. m ≡ moments_of form h callers bars)) (sym is)
-      (subst (λ (l : ListEntries). IfOk result (λ m. m ≡ shown_to queued_lists form l bars nobody (length l + 1))) same made)
+      (subst (λ (l : ListEntries). IfOk result (λ m. m ≡ shown_to queued_lists form l bars nobody
+      (length l + 1))) same made)
 
   pub lock_follows : (history entries : LockEntries) → any ≡ AnyHistory.Lock history → entries ≡ history
       → IsAnyLegal form any → All MayBeCalled (any_calls any) → EachMayFollow lock_meaning form entries
@@ -83,4 +85,5 @@ module _ (any : AnyHistory) (form : StrForm) where
       → IfOk result (λ m. m ≡ moments_of form any callers bars)
   lock_shown history entries is same callers bars result made =
       subst (λ (h : AnyHistory). IfOk result (λ m. m ≡ moments_of form h callers bars)) (sym is)
-      (subst (λ (l : LockEntries). IfOk result (λ m. m ≡ shown_to lock_meaning form l bars (locks_held callers l) (length l + 1))) same made)
+      (subst (λ (l : LockEntries). IfOk result (λ m. m ≡ shown_to lock_meaning form l bars
+      (locks_held callers l) (length l + 1))) same made)

@@ -29,5 +29,8 @@ returns c =
     let found = found_both c.args.script.now c.args.printed.now c.args.on c.requires.printed c.items.result.now
     c.items-2.result.now c.from-place.result c.items.ensures c.items-2.ensures c.from-place.ensures c.requires.within
     c.index-items-place.result c.index-items-place.is c.index-items-place-2.result c.index-items-place-2.is in
-    lane_found c.args.script.now c.args.printed.now c.args.on c.requires.printed c.args.part c.index-items-place.result
-    c.index-items-place-2.result c.items-3.result.now c.lane_with.result found c.items-3.ensures c.lane_with.ensures
+    record {
+      lane = lane_found c.args.script.now c.args.printed.now c.args.on c.requires.printed c.args.part
+          c.index-items-place.result c.index-items-place-2.result c.items-3.result.now c.lane_with.result found
+          c.items-3.ensures c.lane_with.ensures;
+    }
