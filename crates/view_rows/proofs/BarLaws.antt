@@ -38,7 +38,8 @@ all_with bars bar all one = go (list_any (same_bar bar) bars) refl
   where
     go : (b : Bool) → list_any (same_bar bar) bars ≡ b → AreOfCallers (with_bar bars bar)
     go true is = rw is all
-    go false is = rw is (All-append IsOfCaller bars (bar ∷ []) all (All-cons IsOfCaller bar [] one (All-nil IsOfCaller)))
+    go false is = rw is (All-append IsOfCaller bars (bar ∷ []) all
+        (All-cons IsOfCaller bar [] one (All-nil IsOfCaller)))
 
 all_folded : (bars looks : List Bar) → AreOfCallers bars → AreOfCallers looks → AreOfCallers (fold with_bar bars looks)
 all_folded bars [] all more = all

@@ -1,5 +1,5 @@
 -- What is known of a history of each kind.
-use Rattle.std.proofs.Common.{◌≡◌, ◌+◌, List, Result, length, refl, sym, subst}
+use Rattle.std.proofs.Common.{◌≡◌, ◌+◌, List, Result, length, sym, subst}
 use Rattle.std.specs.Prelude.{All, IfOk}
 use Rattle.cf_types.specs.NoMemory.declared.wants.NoMemory.{NoMemory}
 use Rattle.cf_types.specs.declared.alter_commands.AlterCmd.{AlterCmd}

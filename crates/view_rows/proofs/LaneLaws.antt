@@ -1,8 +1,7 @@
 -- A structure of the script, with its history.
 use Rattle.std.proofs.Common.{◌≡◌, ℕ, ◌<◌, List, length, get_or, sym, ap, subst, ◌∙◌}
 use Rattle.std.specs.Prelude.{slice_get, Option, Some, All, Result, IfOk}
-use Rattle.std.proofs.lemmas.List.Elements.{All-weaker, All-get_or}
-use Rattle.std.proofs.lemmas.Result.{IfOk-weaker}
+use Rattle.std.proofs.lemmas.List.Elements.{All-weaker}
 use Rattle.cf_types.specs.declared.forms.StrForm.{StrForm}
 use Rattle.cf_types.specs.declared.numbers.ConnId.{ConnId}
 use Rattle.cf_types.specs.declared.numbers.StrNo.{StrNo}

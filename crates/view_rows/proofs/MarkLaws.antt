@@ -1,5 +1,5 @@
 -- In a legal history each mark is of an instance that stands, and each call one that its caller may ask.
-use Rattle.engine_api.proofs.Imports.{◌≡◌, ℕ, ◌+◌, ◌≤◌, inl, inr, Bool, true, false, List, [], ◌∷◌, ◌++◌, length, filter, take, slice_get, Some, refl, sym, ap, subst, arith, CfId, StrForm, Meaning, Machine, IsLegal, replay, next_mark, next_entry, with_mark, with_marks, marks_by, after_turn, Turn, links_asked, marks_of, reached, Asks, AreSome, AreMarksOf, calls}
+use Rattle.engine_api.proofs.Imports.{◌≡◌, ℕ, ◌≤◌, inl, Bool, true, List, [], ◌∷◌, length, filter, take, slice_get, Some, refl, sym, subst, arith, CfId, StrForm, Meaning, Machine, IsLegal, replay, next_mark, next_entry, with_mark, with_marks, marks_by, links_asked, marks_of, reached, Asks, AreSome, AreMarksOf, calls}
 use Rattle.std.specs.Prelude.{All, map}
 use Rattle.std.proofs.lemmas.List.Elements.{All-head, All-tail}
 use Rattle.cf_types.specs.declared.numbers.ConnId.{ConnId}
@@ -84,7 +84,8 @@ module _ {C R I S : Type 0} (meaning : Meaning C R I S) (form : StrForm) where
 
   module _ (of : Ask C → AnyAsk) (may : (by : ConnId) (ask : Ask C) → MayAskAny by (of ask) → MayAsk by ask) where
     first_may : (number : ℕ) (by : ConnId) (reply : Reply R) (what : What C) (entries : List (Entry C R))
-        → All MayBeCalled (map (any_call of) (calls (record { no = number; by = by; what = what; reply = reply } ∷ entries)))
+        → All MayBeCalled (map (any_call of)
+            (calls (record { no = number; by = by; what = what; reply = reply } ∷ entries)))
         → MayTell by what × All MayBeCalled (map (any_call of) (calls entries))
     first_may number by reply (What.Call ask) entries all = (
       may by ask (All-head MayBeCalled (any_call of (record { no = number; by = by; ask = ask; reply = reply }))

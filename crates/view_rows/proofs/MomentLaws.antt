@@ -1,12 +1,10 @@
 -- What a machine shows behind one entry more.
-use Rattle.std.proofs.Common.{◌≡◌, ℕ, ◌+◌, ◌<◌, List, [], ◌∷◌, ◌++◌, length, take, get_or, map, refl, sym, ap, subst, ◌∙◌, arith, add-one}
-use Rattle.std.specs.Prelude.{slice_get, Option, None, Some}
+use Rattle.std.proofs.Common.{◌≡◌, ℕ, ◌+◌, ◌<◌, List, [], ◌∷◌, ◌++◌, length, take, get_or, sym, ap, subst, ◌∙◌, arith, add-one}
+use Rattle.std.specs.Prelude.{slice_get, Some}
 use Rattle.std.proofs.lemmas.List.{take_more}
 use Rattle.cf_types.specs.declared.forms.StrForm.{StrForm}
 use Rattle.cf_types.specs.declared.lock_commands.LockCmd.{LockCmd}
 use Rattle.cf_types.specs.declared.lock_commands.LockReply.{LockReply}
-use Rattle.cf_types.specs.declared.numbers.ConnId.{ConnId}
-use Rattle.cf_types.specs.declared.resources.Resource.{Resource}
 use Rattle.engine_api.specs.declared.histories.Entry.{Entry}
 use Rattle.engine_api.specs.History.{machine_after, replay}
 use Rattle.engine_api.specs.Machine.{Machine}
@@ -16,7 +14,7 @@ use Rattle.view_rows.specs.declared.lanes.Bar.{Bar}
 use Rattle.view_rows.specs.declared.lanes.Holder.{Holder}
 use Rattle.view_rows.specs.declared.lanes.Moment.{Moment}
 use Rattle.view_rows.specs.Moments.{last_named, named_at, named_in}
-use Rattle.view_rows.specs.Replays.{EachMayFollow, MayFollow, moment_of, nobody, shown_behind, shown_to}
+use Rattle.view_rows.specs.Replays.{EachMayFollow, MayFollow, moment_of, shown_behind, shown_to}
 use Rattle.view_rows.proofs.Numbers.{map_numbers_more}
 
 -- what is found at a place
