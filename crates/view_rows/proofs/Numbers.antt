@@ -1,6 +1,5 @@
 -- Numbers in a row.
 use Rattle.std.proofs.Common.{◌≡◌, ℕ, zero, suc, ◌+◌, List, [], ◌∷◌, ◌++◌, map, sym, ap, refl, arith, add-zero, add-one}
-use Rattle.std.specs.Prelude.{replicate}
 use Rattle.std.proofs.lemmas.List.{map-append}
 use Rattle.check_model.specs.RunShown.Kinds.{numbers_from}
 
@@ -17,7 +16,3 @@ pub map_numbers_more : {A : Type 0} (f : ℕ → A) (n : ℕ)
 map_numbers_more f n = grind (arith, numbers_more n, map-append)
 
 -- the same for each number
-pub map_numbers_same : {A : Type 0} (f : ℕ → A) (x : A) (first n : ℕ) → ((k : ℕ) → f k ≡ x)
-    → map f (numbers_from first n) ≡ replicate n x
-map_numbers_same f x first zero same = refl
-map_numbers_same f x first (suc n) same = grind (arith, same first, map_numbers_same f x (first + 1) n same)

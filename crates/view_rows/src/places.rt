@@ -1,5 +1,5 @@
 //! The row of each entry.
-ghost use Rattle.std.specs.Prelude.{◌≡◌, ◌≤◌, ◌<◌, ◌+◌, IfOk, OnOk, length, replicate, None};
+ghost use Rattle.std.specs.Prelude.{◌≡◌, ◌≤◌, ◌<◌, ◌+◌, [], IfOk, OnOk, length, None};
 ghost use Rattle.view_rows.specs.Rows.{places_of, placed_from};
 
 use crate::lanes::Row;
@@ -25,6 +25,18 @@ fn place(places: &mut Vec<Option<u32>>, r: u32, row: Row)
     }
 }
 
+// So many entries, of which none has a row.
+#[tactic(auto, using(crate::proofs::PlaceLaws::place_next))]
+fn no_places(alloc: Global, count: usize) -> Result<Vec<Option<u32>>, NoMemory>
+    ensures { IfOk result (λ places. places.items ≡ places_of count []) }
+{
+    let mut places = Vec::with_capacity(alloc, count)?;
+    for _ in 0..count {
+        places.push(None)?;
+    }
+    Ok(places)
+}
+
 /// The rows of so many entries.
 pub(crate) fn places(
     alloc: Global,
@@ -36,7 +48,7 @@ pub(crate) fn places(
     if rows.len() > u32::MAX as usize {
         return Err(NoMemory::beyond_counts());
     }
-    let mut places = vec![in alloc; None; count]?;
+    let mut places = no_places(alloc, count)?;
     let mut r = 0;
     for row in rows {
         place(&mut places, r, *row);

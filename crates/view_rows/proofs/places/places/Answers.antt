@@ -1,9 +1,9 @@
 use Rattle.std.proofs.Common.{rules, refl, arith}
-use Rattle.view_rows.proofs.PlaceLaws.{no_places, place_more}
+use Rattle.view_rows.proofs.PlaceLaws.{place_more}
 use Rattle.view_rows.proofs.places.places.Goals as goal
 
 pub loop-row-init : goal.loop-row-init
-loop-row-init c = (refl, no_places c.args.count c.in_ok-places.places.items c.in_ok-places.ensures.items)
+loop-row-init c = (refl, c.in_ok-places.ensures)
 
 pub loop-row-preserved : goal.loop-row-preserved
 loop-row-preserved c = (
