@@ -1,3 +1,4 @@
 pub mod Imports
 pub mod FirstPlaces
 pub mod SafeText
+pub mod Joined

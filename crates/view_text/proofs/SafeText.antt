@@ -1,5 +1,7 @@
 -- Escaped text is a row of entities and of bytes that mean nothing.
-use Rattle.view_text.proofs.Imports.{◌≡◌, ◌≢◌, ℕ, ◌-◌, ◌≤◌, ◌==◌, nat_le, Bool, true, false, if◌then◌else◌, [], ◌∷◌, ◌++◌, List, refl, sym, ap, ◌∙◌, arith, common_steps, length, take, map, codes, inl, inr, All, All-nil, All-cons, All-append, append-nil, append_assoc, concat, flat_map, printable, entity, character, escaped, cut_text, IsEntity, IsBare, IsPlain, IsSafe}
+use Rattle.view_text.proofs.Imports.{◌≡◌, ℕ, ◌-◌, ◌≤◌, ◌==◌, Bool, true, false, if◌then◌else◌, [], ◌∷◌, ◌++◌, List, refl, sym, ap, ◌∙◌, arith, common_steps, length, take, map, codes, inl, inr, append-nil, append_assoc, concat, flat_map, printable, entity, character, escaped, cut_text, IsEntity, IsBare, IsPlain, IsSafe}
+use Rattle.std.specs.Prelude.{nat_le, All}
+use Rattle.std.proofs.lemmas.List.Elements.{All-nil, All-cons, All-append}
 
 -- a byte that prints, by its four tests
 plain_by : (b : ℕ) (amp less more quote : Bool) → (b == 38) ≡ amp → (b == 60) ≡ less → (b == 62) ≡ more → (b == 34) ≡ quote
@@ -45,11 +47,12 @@ concat_last (ys ∷ xss) xs = append_assoc ys (concat xss) xs ∙ ap (λ rest. y
 
 safe_more : (text : List ℕ) → IsSafe (escaped text ++ codes "&#8230;")
 safe_more text =
-    let last = codes "&#8230;" in
-    (map character text ++ last ∷ [],
-    ap (λ t. t ++ last) (rows text) ∙ concat_last (map character text) last,
-    All-append IsPlain (map character text) (last ∷ []) (all_plain text)
-    (All-cons IsPlain last [] (inl (inr (inr (inr (inr refl))))) (All-nil IsPlain)))
+    let last = codes "&#8230;" in (
+      map character text ++ last ∷ [],
+      ap (λ t. t ++ last) (rows text) ∙ concat_last (map character text) last,
+      All-append IsPlain (map character text) (last ∷ []) (all_plain text)
+          (All-cons IsPlain last [] (inl (inr (inr (inr (inr refl))))) (All-nil IsPlain)),
+    )
 
 pub safe_cut : (limit : ℕ) (text : List ℕ) → IsSafe (cut_text limit text)
 safe_cut limit text = go (nat_le (length text) limit)

@@ -1,7 +1,8 @@
 //! The title of a lane, and the headers between its rows.
 
-ghost use Rattle.std.specs.Prelude.{◌≡◌, ◌++◌, OnOk, IfOk};
-ghost use Rattle.view_text.specs.Pieces.{drawn_each};
+ghost use Rattle.std.specs.Prelude.{◌≡◌, ◌++◌, codes, OnOk, IfOk};
+ghost use Rattle.view_text.specs.Escaped.{cut_text};
+ghost use Rattle.view_text.specs.Pieces.{drawn_each, text_at, text_end};
 ghost use Rattle.view_text.specs.Rows.{column_head, bar_index, bar_name, bar_head, side_words, side_head, header_svg, header_at, kind_words, title_words, rail_svg, lane_title, bars_side, svg_heading};
 
 use crate::escaping::put_cut;
@@ -187,6 +188,15 @@ pub(crate) fn title_words(alloc: Global, script: &Script, on: StrNo) -> Result<V
     Ok(words)
 }
 
+fn put_title_words(text: &mut Vec<u8>, words: &[u8]) -> Result<(), NoMemory>
+    ensures { OnOk result (text.new.items ≡ text.old.items
+        ++ (text_at (codes "24") 4 ++ cut_text 60 words.now ++ text_end)) }
+{
+    put_text_at(text, b"24", 4)?;
+    put_cut(text, 60, words)?;
+    put_text(text, b"</text>")
+}
+
 fn put_title_text(
     alloc: Global,
     text: &mut Vec<u8>,
@@ -196,9 +206,7 @@ fn put_title_text(
     ensures { OnOk result (text.new.items ≡ text.old.items ++ lane_title script.now on) }
 {
     let words = title_words(alloc, script, on)?;
-    put_text_at(text, b"24", 4)?;
-    put_cut(text, 60, words.as_slice())?;
-    put_text(text, b"</text>")
+    put_title_words(text, words.as_slice())
 }
 
 // A line down a column.
@@ -217,7 +225,7 @@ fn put_rails(text: &mut Vec<u8>, height: u64, columns: &[ConnId]) -> Result<(), 
     ensures { OnOk result (text.new.items ≡ text.old.items
         ++ drawn_each (λ k conn. rail_svg height k) 0 columns.now) }
 {
-    for (k, _) in columns.iter().enumerate() {
+    for (k, _conn) in columns.iter().enumerate() {
         put_rail(text, height, k)?;
     }
     Ok(())

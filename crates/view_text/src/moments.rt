@@ -1,8 +1,9 @@
 //! What stands after so many entries: the rebuild's stage, bits, and holders of a lock's resource.
 
-ghost use Rattle.std.specs.Prelude.{◌≡◌, ◌∷◌, ◌++◌, [], OnOk, IfOk};
+ghost use Rattle.std.specs.Prelude.{◌≡◌, ◌∷◌, ◌++◌, [], codes, Some, OnOk, IfOk};
+ghost use Rattle.view_text.specs.Escaped.{cut_text};
 ghost use Rattle.plex_script.specs.PlexSpell.Words.{tail_of};
-ghost use Rattle.view_text.specs.Pieces.{text_at, stage_word, stage_svg, cell_word, bit_svg, bits_svg, hold_word, holder_word, holder_words, holders_svg, moment_svg, moment_at_svg};
+ghost use Rattle.view_text.specs.Pieces.{text_at, text_end, stage_word, stage_svg, cell_word, bit_svg, bits_svg, hold_word, holder_word, holder_words, holders_svg, moment_svg, moment_at_svg};
 ghost use Rattle.view_text.specs.Places.{bar_x};
 
 use crate::escaping::put_cut;
@@ -38,15 +39,21 @@ pub(crate) fn stage_text(stage: Stage) -> &'static [u8]
 }
 
 // The band of a rebuild's stage.
-fn put_stage(text: &mut Vec<u8>, stage: Option<Stage>) -> Result<(), NoMemory>
-    ensures { OnOk result (text.new.items ≡ text.old.items ++ stage_svg stage) }
+fn put_stage_word(text: &mut Vec<u8>, stage: Stage) -> Result<(), NoMemory>
+    ensures { OnOk result (text.new.items ≡ text.old.items ++ stage_svg (Some stage)) }
 {
-    let Some(stage) = stage else {
-        return Ok(());
-    };
     put_text(text, b"<use href='#s'/><text x='4' y='-13'>")?;
     put_text(text, stage_text(stage))?;
     put_text(text, b"</text>")
+}
+
+fn put_stage(text: &mut Vec<u8>, stage: Option<Stage>) -> Result<(), NoMemory>
+    ensures { OnOk result (text.new.items ≡ text.old.items ++ stage_svg stage) }
+{
+    match stage {
+        Some(stage) => put_stage_word(text, stage),
+        None => Ok(()),
+    }
 }
 
 fn cell_text(bit: bool) -> &'static [u8]
@@ -114,6 +121,16 @@ pub(crate) fn holder_words(
     Ok(words)
 }
 
+// The words for holders, cut, there.
+fn put_holder_words(text: &mut Vec<u8>, x: u64, words: &[u8]) -> Result<(), NoMemory>
+    ensures { OnOk result (text.new.items ≡ text.old.items
+        ++ (text_at (codes "-13") x ++ cut_text 56 words.now ++ text_end)) }
+{
+    put_text_at(text, b"-13", x)?;
+    put_cut(text, 56, words)?;
+    put_text(text, b"</text>")
+}
+
 fn put_holders(
     alloc: Global,
     text: &mut Vec<u8>,
@@ -124,13 +141,13 @@ fn put_holders(
     ensures { OnOk result (text.new.items ≡ text.old.items
         ++ holders_svg script.now x holders.now) }
 {
-    if holders.is_empty() {
-        return Ok(());
+    match holders {
+        [] => Ok(()),
+        [_, ..] => {
+            let words = holder_words(alloc, script, holders)?;
+            put_holder_words(text, x, words.as_slice())
+        }
     }
-    let words = holder_words(alloc, script, holders)?;
-    put_text_at(text, b"-13", x)?;
-    put_cut(text, 56, words.as_slice())?;
-    put_text(text, b"</text>")
 }
 
 fn put_moment(

@@ -3,6 +3,7 @@
 ghost use Rattle.std.specs.Prelude.{◌≡◌, ◌≤◌, ◌++◌, map, replicate, OnOk, IfOk};
 ghost use Rattle.std.specs.List.{flat_map};
 ghost use Rattle.view_text.specs.Escaped.{printable};
+ghost use Rattle.view_text.specs.Rows.{item_text};
 ghost use Rattle.view_text.specs.Terminal.{fitted, stage_column, bit_cell, words_line, moment_line, line_at, line_fill, item_words, entry_line, row_line, text_row, bar_words, text_heading};
 
 use crate::escaping::printable;
@@ -177,6 +178,23 @@ fn entry_line(
     )
 }
 
+fn item_line(
+    alloc: Global,
+    script: &Script,
+    printed: &Printed,
+    lane: &Lane,
+    by: ConnId,
+    place: u32,
+    behind: u32,
+) -> Result<Vec<u8>, NoMemory>
+    ensures { IfOk result (λ text. text.items ≡ line_at script.now lane.now behind 32
+        (item_words script.now by (item_text script.now printed.now by place))) }
+{
+    let line = item_text(alloc, script, printed, by, place)?;
+    let words = item_words(alloc, script, by, line.as_slice())?;
+    line_at(alloc, script, lane, behind as usize, b' ', words.as_slice())
+}
+
 fn row_line(
     alloc: Global,
     script: &Script,
@@ -194,9 +212,7 @@ fn row_line(
             None => Ok(Vec::new(alloc)),
         },
         Row::Item { by, place, behind } => {
-            let line = item_text(alloc, script, printed, by, place)?;
-            let words = item_words(alloc, script, by, line.as_slice())?;
-            line_at(alloc, script, lane, behind as usize, b' ', words.as_slice())
+            item_line(alloc, script, printed, lane, by, place, behind)
         }
     }
 }

@@ -1,0 +1,8 @@
+use Rattle.std.proofs.lemmas.Result.{on_ok_weaker}
+use Rattle.view_text.proofs.Joined.{joined}
+use Rattle.view_text.proofs.heads.put_rail.Goals as goal
+
+pub returns : goal.returns
+returns c =
+    on_ok_weaker c.put_text-3.result
+    (λ e. joined (joined (joined (joined c.in_ok-put_text.ensures (rw c.in_ok-x.ensures at c.in_ok-put_digits.ensures)) c.in_ok-put_text-2.ensures) c.in_ok-put_digits-2.ensures) e) c.put_text-3.ensures

@@ -1,0 +1,10 @@
+use Rattle.view_text.specs.Opening.{box_shapes}
+use Rattle.std.proofs.lemmas.Result.{on_ok_weaker}
+use Rattle.view_text.proofs.Joined.{joined}
+use Rattle.view_text.proofs.opening.put_box_shapes.Goals as goal
+
+pub returns : goal.returns
+unfolding box_shapes
+returns c =
+    on_ok_weaker c.put_text-2.result
+    (λ e. joined c.in_ok-put_text.ensures e) c.put_text-2.ensures

@@ -1,0 +1,10 @@
+use Rattle.view_text.specs.Opening.{text_style}
+use Rattle.std.proofs.lemmas.Result.{on_ok_weaker}
+use Rattle.view_text.proofs.Joined.{joined}
+use Rattle.view_text.proofs.opening.put_text_style.Goals as goal
+
+pub returns : goal.returns
+unfolding text_style
+returns c =
+    on_ok_weaker c.put_text-3.result
+    (λ e. joined (joined c.in_ok-put_text.ensures c.in_ok-put_text-2.ensures) e) c.put_text-3.ensures
