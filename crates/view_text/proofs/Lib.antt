@@ -2,3 +2,4 @@ pub mod Imports
 pub mod FirstPlaces
 pub mod SafeText
 pub mod Joined
+pub mod EachNext
