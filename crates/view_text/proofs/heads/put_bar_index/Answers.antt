@@ -15,6 +15,6 @@ returns c =
         text_end
         c.in_ok-put_text_at.ensures
         c.in_ok-put_text.ensures
-        c.in_ok-put_digits.ensures
+        (rw c.from.ensures at c.in_ok-put_digits.ensures)
         e)
     c.put_text-2.ensures

@@ -15,7 +15,7 @@ returns c =
         (moment_at_svg c.args.sheet.now.script.now c.args.sheet.now.lane.now (c.args.place + 1))
         group_end
         (rw c.edge_text.ensures at c.in_ok-put_frame_start.ensures)
-        c.in_ok-put_entry_number.ensures
+        (rw c.from.ensures at c.in_ok-put_entry_number.ensures)
         c.in_ok-put_moment_at.ensures
         e)
     c.put_text.ensures
