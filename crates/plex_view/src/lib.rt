@@ -1,0 +1,6 @@
+//! The program's one call.
+#![tactic(auto)]
+
+mod choosing;
+mod cutting;
+mod status_lines;
