@@ -1,4 +1,6 @@
 pub mod Words
-pub mod Cutting
-pub mod StatusLines
 pub mod Written
+pub mod StatusLines
+pub mod Cutting
+pub mod Drawing
+pub mod Viewing
