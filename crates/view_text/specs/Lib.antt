@@ -1,0 +1,10 @@
+pub mod Escaped
+pub mod Said
+pub mod Shapes
+pub mod Places
+pub mod Pieces
+pub mod Rows
+pub mod Opening
+pub mod Pictures
+pub mod Terminal
+pub mod TextPictures
