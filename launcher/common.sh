@@ -1,4 +1,4 @@
-# What ./plexrun and ./build share. `top` is the repository's folder.
+# What ./plexrun, ./plexview and ./build share. `top` is the repository's folder.
 
 # Sets which program is meant, by its crate, and where it, its sources and what is kept of it stand.
 program_is() {

@@ -20,6 +20,9 @@ import zlib
 sys.dont_write_bytecode = True
 from schedule import PROGRAM, Schedule, read_crates
 
+# What the program is run with once it is built.
+WORD = {"plex_main": "serial", "view_main": "text"}[PROGRAM]
+
 SHOWN = 40
 # What the rt of the dearest crate takes of memory, and what one beside it takes at most, in kilobytes.
 DEAREST, BESIDE = 10_000_000, 3_000_000
@@ -145,7 +148,7 @@ class Run:
         crate, jobs = self.crate, str(self.jobs)
         crate.is_begun = True
         lane.begin(crate)
-        verb = ["run", "--jobs", jobs, "--", "serial"] if crate.name == PROGRAM else ["lib", "--jobs", jobs]
+        verb = ["run", "--jobs", jobs, "--", WORD] if crate.name == PROGRAM else ["lib", "--jobs", jobs]
         with open(log, "wb") as it:
             self.process = subprocess.Popen(
                 ["nice", "-n", str(self.nice), "rt", *verb],

@@ -13,7 +13,8 @@ import subprocess
 import sys
 
 TOP = os.path.dirname(os.path.dirname(os.path.realpath(__file__)))
-PROGRAM = "plex_main"
+# The program that is built: ./build names it.
+PROGRAM = os.environ.get("PROGRAM", "plex_main")
 # Seconds of a processor for a line of a source, where no time was recorded, and for any crate.
 A_LINE, FLOOR = 0.04, 10
 # A chain as dear as this part of the dearest is one of those that the build waits for.

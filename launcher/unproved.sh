@@ -1,6 +1,9 @@
-# How ./plexrun runs the sources, where no proved program is there; and what it keeps of that.
+# How ./plexrun and ./plexview run the sources, where no proved program is there; and what it keeps of that.
 
 KEPT=50
+# How it is built, and what there is without the kit.
+build=./build
+kitless='without the kit there are scripts with their reports: ./plexrun joined examples/first-cache.plex examples/first-cache.report'
 
 # Says so, once, where a child of this script has to wait for another rt: where that stands in what rt says.
 watch() {
@@ -60,12 +63,12 @@ find_out() {
     shift
     if ! command -v rt >/dev/null 2>&1; then
         say 'no proved program is here, and no command rt of the Rattle kit to run the sources'
-        say 'without the kit there are scripts with their reports: ./plexrun joined examples/first-cache.plex examples/first-cache.report'
+        say "$kitless"
         exit 69
     fi
     say 'this run is not proved. It compiles the sources first: the answer takes 75 seconds, or more where other work is done'
     say 'it ends without an answer after 120 seconds of the run itself (50,000 calls are too many)'
-    say './build, in another window, proves and builds the program'
+    say "$build, in another window, proves and builds the program"
     [ -z "$judged" ] || say "the run goes on for the program's own verdict; Ctrl-C ends it"
     # (rt itself would fail there; the program answers so)
     [ "$input" = nothing ] || is_readable || { echo 'FAULT READ'; exit 4; }
