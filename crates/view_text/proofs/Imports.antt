@@ -1,6 +1,7 @@
 -- What proofs here name of other crates, and of this one's definitions. Declares nothing.
 pub use Rattle.std.proofs.Common.{◌≡◌, ℕ, ◌+◌, ◌-◌, ◌<◌, ◌≤◌, Bool, true, false, [], ◌∷◌, ◌++◌, List, refl, sym, ap, ◌∙◌, arith, length, get_or, take, drop, map, Option, Some, None, unwrap_or, append_assoc, append-nil, codes, inl, inr}
-pub use Rattle.std.specs.Prelude.{◌==◌, not, position, replicate, if◌then◌else◌}
+pub use Rattle.std.proofs.lemmas.List.Elements.{All-nil, All-cons, All-append}
+pub use Rattle.std.specs.Prelude.{◌≢◌, ◌==◌, nat_le, not, All, position, replicate, if◌then◌else◌}
 pub use Rattle.std.specs.List.{flat_map, concat, position_or_len}
 pub use Rattle.std.proofs.lemmas.Grind.{common_steps}
 pub use Rattle.std.proofs.lemmas.List.Sums.{prefix_len-le-length}
