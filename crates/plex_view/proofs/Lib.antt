@@ -1,3 +1,10 @@
+pub mod Written
 pub mod WordLaws
 pub mod CuttingLaws
 pub mod StatusLaws
+pub mod UnreadLaws
+pub mod PrintedLaws
+pub mod ChosenLaws
+pub mod LaidLaws
+pub mod DrawingLaws
+pub mod ViewingLaws

@@ -10,8 +10,6 @@ use Rattle.plex_script.specs.declared.faults.Why.{Why}
 use Rattle.plex_script.specs.declared.scripts.Script.{Script}
 use Rattle.plex_script.specs.Scripts.{IsScript, IsFault}
 use Rattle.check_model.specs.declared.printed.Printed.{Printed}
-use Rattle.history_check.specs.declared.judged.Judged.{Judged}
-use Rattle.history_check.specs.declared.judged.Judged.TheVariants as judged
 use Rattle.check_model.specs.Judged.{IsBadEntryOf}
 use Rattle.check_model.specs.RunShown.Kinds.{numbers_from}
 use Rattle.report_texts.specs.Texts.{IsReport, IsFirstUnread}
@@ -90,10 +88,10 @@ pub record IsFirstBad (script : Script) (printed : Printed) (structures : List S
   pub legal : AreLegal script printed before
   pub bad : IsBadEntryOf script printed.histories on place
 
--- the history of a structure is legal, or where its first bad block begins
-abbrev pub IsJudgedOn : Script → Printed → StrNo → Judged → Type 0
-IsJudgedOn script printed on judged.Legal = IsLegalOn script printed on
-IsJudgedOn script printed on (judged.Bad place) = IsBadEntryOf script printed.histories on place
+-- where the first bad block of a structure's history begins; a history without one is legal
+abbrev pub IsJudgedOn : Script → Printed → StrNo → Option ℕ → Type 0
+IsJudgedOn script printed on None = IsLegalOn script printed on
+IsJudgedOn script printed on (Some place) = IsBadEntryOf script printed.histories on place
 
 -- the structures that are drawn, or the name that none has
 abbrev pub IsChosen : Script → Option Name16 → Chosen → Type 0

@@ -71,13 +71,13 @@ pub(crate) fn chosen(
     }
 }
 
-// The history of one structure.
-fn judged(
+// Where the first bad block of a history begins, from 1, if it has one.
+fn first_bad(
     alloc: Global,
     script: &Script,
     printed: &Printed,
     on: StrNo,
-) -> Result<Judged, NoMemory>
+) -> Result<Option<usize>, NoMemory>
     requires formed { IsWellFormed script.now }
     requires printed { IsPrintedOf script.now printed.now }
     requires within { on.0 < length script.now.structures }
@@ -86,7 +86,10 @@ fn judged(
     let place = usize::from(on.0);
     let form = &script.structures.items()[place];
     let entries = &printed.histories.items()[place];
-    judge_any(alloc, form, entries, &mut [])
+    match judge_any(alloc, form, entries, &mut [])? {
+        Judged::Legal => Ok(None),
+        Judged::Bad { place } => Ok(Some(place)),
+    }
 }
 
 /// Judges the histories of some structures, one after another, and finds what is shown of each.
@@ -105,10 +108,10 @@ pub(crate) fn laid(
     let mut lanes = Vec::new(alloc);
     for k in 0..structures.len() {
         let on = structures[k];
-        match judged(alloc, script, printed, on)? {
-            Judged::Legal => lanes.push((on, lane_of(alloc, script, printed, on, part)?))?,
-            Judged::Bad { place } => return Ok(Laid::Bad { on, place }),
+        if let Some(place) = first_bad(alloc, script, printed, on)? {
+            return Ok(Laid::Bad { on, place });
         }
+        lanes.push((on, lane_of(alloc, script, printed, on, part)?))?;
     }
     Ok(Laid::Lanes(lanes))
 }

@@ -45,10 +45,12 @@ pub(crate) fn one_reading(script: &Script)
 }
 
 /// The script that a text's policy says, and what the text prints as its report.
+#[tactic(auto, using(crate::proofs::PrintedLaws::printed_of))]
 pub(crate) fn read_text(alloc: Global, text: &[u8]) -> Result<(Script, Printed), Unread>
     requires small { length text.now ≤ view_limit }
     ensures tells { IfOk result (λ it. Tells text.now it.0 it.1) }
     ensures formed { IfOk result (λ it. IsWellFormed it.0) }
+    ensures keeps { IfOk result (λ it. KeepsLimits it.0) }
     ensures printed { IfOk result (λ it. IsPrintedOf it.0 it.1) }
     ensures unread { IfErr result (TellsUnread text.now) }
 {

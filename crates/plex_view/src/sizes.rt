@@ -1,6 +1,7 @@
 //! How broad and how high a picture is.
-ghost use Rattle.std.specs.Prelude.{◌≡◌, IfOk};
+ghost use Rattle.std.specs.Prelude.{◌≡◌, ◌+◌, IfOk};
 ghost use Rattle.view_text.specs.Pictures.{picture_width, picture_height};
+ghost use Rattle.view_text.specs.Places.{lane_height};
 
 use cf_types::{NoMemory, StrNo};
 use plex_script::Script;
