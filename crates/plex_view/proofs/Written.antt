@@ -8,6 +8,7 @@ use Rattle.std.proofs.lemmas.List.{take-append-drop}
 use Rattle.std.proofs.KnownBytes.{Appends-trans}
 use Rattle.cf_io.specs.Count.{Rises}
 use Rattle.plex_view.specs.Written.{Output, GainsPrefix, Gains, BreaksOff}
+
 -- a part that a text begins with is a prefix of it
 pub GainsPrefix-part : (old new : Option (List ℕ)) (part rest text : List ℕ) → text ≡ part ++ rest
     → Appends old new part → GainsPrefix old new text

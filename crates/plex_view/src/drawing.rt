@@ -13,9 +13,7 @@ use check_model::Printed;
 use plex_script::Script;
 use std::alloc::Global;
 use view_rows::Lane;
-use view_text::{
-    first_top, svg_end, svg_heading, svg_opening, svg_row, text_heading, text_row,
-};
+use view_text::{first_top, svg_end, svg_heading, svg_opening, svg_row, text_heading, text_row};
 
 // ---- the texts of a picture's parts
 

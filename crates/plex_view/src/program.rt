@@ -72,13 +72,7 @@ fn say_structure<K: Sink>(alloc: Global, name: Name16, sink: &mut K) -> u8
 }
 
 // Tells a structure whose history isn't legal, and where it breaks off.
-fn say_entry<K: Sink>(
-    alloc: Global,
-    script: &Script,
-    on: StrNo,
-    place: usize,
-    sink: &mut K,
-) -> u8
+fn say_entry<K: Sink>(alloc: Global, script: &Script, on: StrNo, place: usize, sink: &mut K) -> u8
     ensures told { result ≡ 9 → Gains (output K.held K.faults sink.old sink.new)
         (entry_line (structure_name script.now.structures on.0) place) }
     ensures no_memory { result ≡ 6 → Gains (output K.held K.faults sink.old sink.new)
@@ -225,12 +219,7 @@ fn viewed<K: Sink>(alloc: Global, choice: Choice, text: &[u8], sink: &mut K) -> 
 /// text begins as no report of that policy does. With 9 the structure is the first such, and the entry, by
 /// its place in the history, begins the first call that no facility answers so. The causes are tried in
 /// the order 2, 4, 7, 3, 9, 5; want of memory may stand in place of any but 2.
-pub fn view<S: Source, K: Sink>(
-    alloc: Global,
-    words: &[String],
-    source: &mut S,
-    sink: &mut K,
-) -> u8
+pub fn view<S: Source, K: Sink>(alloc: Global, words: &[String], source: &mut S, sink: &mut K) -> u8
     // The words ask for a picture, and there is a text, the bytes that the source had left where it
     // tells them. With 0 exactly the picture was written of the script that the text's policy says and of
     // what the text prints as its report: of each structure that is drawn, whose histories are legal,
