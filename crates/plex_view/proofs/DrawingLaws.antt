@@ -34,28 +34,30 @@ none_written {old} text = part_written [] text refl (Appends-nil old)
 
 -- ---- three pieces
 
-module _ {old m1 m2 : Option (List ℕ)} (first second third : List ℕ) {a c text : List ℕ} (a_is : a ≡ first)
-    (c_is : c ≡ third) (is : text ≡ first ++ (second ++ third)) where
-  pub three_first : {new : Option (List ℕ)} → GainsPrefix old new a → GainsPrefix old new text
-  three_first {new} front = subst (GainsPrefix old new) (sym is) (GainsPrefix-before old new first (second ++ third)
-      (subst (GainsPrefix old new) a_is front))
+pub three_first : (old new : Option (List ℕ)) (first second third : List ℕ) {a text : List ℕ} → a ≡ first
+    → text ≡ first ++ (second ++ third) → GainsPrefix old new a → GainsPrefix old new text
+three_first old new first second third a_is is front = subst (GainsPrefix old new) (sym is)
+    (GainsPrefix-before old new first (second ++ third) (subst (GainsPrefix old new) a_is front))
 
-  pub three_second : {new : Option (List ℕ)} → Appends old m1 a → GainsPrefix m1 new second → GainsPrefix old new text
-  three_second {new} one front = subst (GainsPrefix old new) (sym is)
-      (GainsPrefix-after old m1 new first (second ++ third) (subst (Appends old m1) a_is one)
-      (GainsPrefix-before m1 new second third front))
+pub three_second : (old mid new : Option (List ℕ)) (first second third : List ℕ) {a text : List ℕ} → a ≡ first
+    → text ≡ first ++ (second ++ third) → Appends old mid a → GainsPrefix mid new second → GainsPrefix old new text
+three_second old mid new first second third a_is is one front = subst (GainsPrefix old new) (sym is)
+    (GainsPrefix-after old mid new first (second ++ third) (subst (Appends old mid) a_is one)
+    (GainsPrefix-before mid new second third front))
 
-  pub three_third : {new : Option (List ℕ)} → Appends old m1 a → Appends m1 m2 second → GainsPrefix m2 new c
-      → GainsPrefix old new text
-  three_third {new} one two front = subst (GainsPrefix old new) (sym is)
-      (GainsPrefix-after old m1 new first (second ++ third) (subst (Appends old m1) a_is one)
-      (GainsPrefix-after m1 m2 new second third two (subst (GainsPrefix m2 new) c_is front)))
+pub three_third : (old mid behind new : Option (List ℕ)) (first second third : List ℕ) {a c text : List ℕ}
+    → a ≡ first → c ≡ third → text ≡ first ++ (second ++ third) → Appends old mid a → Appends mid behind second
+    → GainsPrefix behind new c → GainsPrefix old new text
+three_third old mid behind new first second third a_is c_is is one two front = subst (GainsPrefix old new) (sym is)
+    (GainsPrefix-after old mid new first (second ++ third) (subst (Appends old mid) a_is one)
+    (GainsPrefix-after mid behind new second third two (subst (GainsPrefix behind new) c_is front)))
 
-  pub three_whole : {new : Option (List ℕ)} → Appends old m1 a → Appends m1 m2 second → Appends m2 new c
-      → Appends old new text
-  three_whole {new} one two three = subst (Appends old new) (sym is)
-      (Appends-trans old m1 new first (second ++ third) (subst (Appends old m1) a_is one)
-      (Appends-trans m1 m2 new second third two (subst (Appends m2 new) c_is three)))
+pub three_whole : (old mid behind new : Option (List ℕ)) (first second third : List ℕ) {a c text : List ℕ}
+    → a ≡ first → c ≡ third → text ≡ first ++ (second ++ third) → Appends old mid a → Appends mid behind second
+    → Appends behind new c → Appends old new text
+three_whole old mid behind new first second third a_is c_is is one two three = subst (Appends old new) (sym is)
+    (Appends-trans old mid new first (second ++ third) (subst (Appends old mid) a_is one)
+    (Appends-trans mid behind new second third two (subst (Appends behind new) c_is three)))
 
 -- ---- rows
 
@@ -97,25 +99,27 @@ module _ (draw : ℕ → List ℕ) where
   rows_front rows r wrote = part_written (each 0 (take r rows)) (each (0 + length (take r rows)) (drop r rows))
       (each_cut 0 r rows) wrote
 
-  module _ {old mid : Option (List ℕ)} {rows items : List Row} (r : ℕ) {piece : List ℕ} (same : items ≡ rows)
-      (within : r < length items) (is : piece ≡ draw r) (wrote : Appends old mid (each 0 (take r rows))) where
-    there : r < length rows
-    there = subst (λ (l : List Row). r < length l) same within
+  -- and this one
+  pub rows_more : (old mid new : Option (List ℕ)) {rows items : List Row} (r : ℕ) {piece : List ℕ} → items ≡ rows
+      → r < length items → piece ≡ draw r → Appends old mid (each 0 (take r rows)) → Appends mid new piece
+      → Appends old new (each 0 (take (r + 1) rows))
+  rows_more old mid new {rows} r same within is wrote more =
+      let there : r < length rows = subst (λ (l : List Row). r < length l) same within in
+      subst (Appends old new) (sym (next_row r rows there))
+      (Appends-trans old mid new (each 0 (take r rows)) (draw r) wrote (subst (Appends mid new) is more))
 
-    -- and this one
-    pub rows_more : {new : Option (List ℕ)} → Appends mid new piece → Appends old new (each 0 (take (r + 1) rows))
-    rows_more {new} more = subst (Appends old new) (sym (next_row r rows there))
-        (Appends-trans old mid new (each 0 (take r rows)) (draw r) wrote (subst (Appends mid new) is more))
-
-    -- or a front of it
-    pub rows_front_more : {new : Option (List ℕ)} → GainsPrefix mid new piece → GainsPrefix old new (each 0 rows)
-    rows_front_more {new} front =
-        let part : GainsPrefix old new (each 0 (take (r + 1) rows)) =
-        subst (GainsPrefix old new) (sym (next_row r rows there))
-        (GainsPrefix-after old mid new (each 0 (take r rows)) (draw r) wrote (subst (GainsPrefix mid new) is front)) in
-        subst (GainsPrefix old new) (sym (each_cut 0 (r + 1) rows))
-        (GainsPrefix-before old new (each 0 (take (r + 1) rows))
-        (each (0 + length (take (r + 1) rows)) (drop (r + 1) rows)) part)
+  -- or a front of it
+  pub rows_front_more : (old mid new : Option (List ℕ)) {rows items : List Row} (r : ℕ) {piece : List ℕ}
+      → items ≡ rows → r < length items → piece ≡ draw r → Appends old mid (each 0 (take r rows))
+      → GainsPrefix mid new piece → GainsPrefix old new (each 0 rows)
+  rows_front_more old mid new {rows} r same within is wrote front =
+      let there : r < length rows = subst (λ (l : List Row). r < length l) same within in
+      let part : GainsPrefix old new (each 0 (take (r + 1) rows)) =
+      subst (GainsPrefix old new) (sym (next_row r rows there))
+      (GainsPrefix-after old mid new (each 0 (take r rows)) (draw r) wrote (subst (GainsPrefix mid new) is front)) in
+      subst (GainsPrefix old new) (sym (each_cut 0 (r + 1) rows))
+      (GainsPrefix-before old new (each 0 (take (r + 1) rows))
+      (each (0 + length (take (r + 1) rows)) (drop (r + 1) rows)) part)
 
 -- ---- lanes
 
@@ -161,9 +165,8 @@ module _ (text : Bool) (script : Script) (printed : Printed) where
   lanes_front lanes k wrote = part_written (all first_top (take k lanes))
       (all (first_top + heights (take k lanes)) (drop k lanes)) (lanes_cut first_top k lanes) wrote
 
-  module _ {old mid : Option (List ℕ)} (lanes : List (StrNo × Lane)) (k top : ℕ) (drawn : StrNo × Lane)
-      (within : k < length lanes) (is : drawn ≡ get_or lanes k drawn) (top_is : top ≡ top_of (take k lanes))
-      (wrote : Appends old mid (all first_top (take k lanes))) where
+  module _ (lanes : List (StrNo × Lane)) (k top : ℕ) (drawn : StrNo × Lane) (within : k < length lanes)
+      (is : drawn ≡ get_or lanes k drawn) (top_is : top ≡ top_of (take k lanes)) where
     taken : take (k + 1) lanes ≡ take k lanes ++ drawn ∷ []
     taken = take_more lanes k drawn within ∙ ap (λ (d : StrNo × Lane). take k lanes ++ d ∷ []) (sym is)
 
@@ -173,15 +176,17 @@ module _ (text : Bool) (script : Script) (printed : Printed) where
         ∙ ap (λ n. all first_top (take k lanes) ++ lane_text_of text script printed n drawn) (sym top_is))
 
     -- and this one
-    pub lanes_more : {new : Option (List ℕ)} → Appends mid new (lane_text_of text script printed top drawn)
+    pub lanes_more : (old mid new : Option (List ℕ)) → Appends old mid (all first_top (take k lanes))
+        → Appends mid new (lane_text_of text script printed top drawn)
         → Appends old new (all first_top (take (k + 1) lanes))
-    lanes_more {new} more = subst (Appends old new) (sym next_lane) (Appends-trans old mid new
+    lanes_more old mid new wrote more = subst (Appends old new) (sym next_lane) (Appends-trans old mid new
         (all first_top (take k lanes)) (lane_text_of text script printed top drawn) wrote more)
 
     -- or a front of it
-    pub lanes_front_more : {new : Option (List ℕ)} → GainsPrefix mid new (lane_text_of text script printed top drawn)
+    pub lanes_front_more : (old mid new : Option (List ℕ)) → Appends old mid (all first_top (take k lanes))
+        → GainsPrefix mid new (lane_text_of text script printed top drawn)
         → GainsPrefix old new (all first_top lanes)
-    lanes_front_more {new} front =
+    lanes_front_more old mid new wrote front =
         let part : GainsPrefix old new (all first_top (take (k + 1) lanes)) =
         subst (GainsPrefix old new) (sym next_lane) (GainsPrefix-after old mid new (all first_top (take k lanes))
         (lane_text_of text script printed top drawn) wrote front) in

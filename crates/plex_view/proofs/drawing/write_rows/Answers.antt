@@ -12,14 +12,16 @@ returns-in_err-drawn-clause-front g c = OnErr-always _ _ (rows_front
 pub returns-in_err-write_text-clause-front : goal.returns-in_err-write_text-clause-front
 returns-in_err-write_text-clause-front g c = OnErr-always _ _ (rows_front_more
     (λ n. row_of c.args.text c.args.script.now c.args.printed.now c.args.on c.args.lane.now c.args.top n)
-    c.loop-r.r c.items-r-end.ensures c.loop-r-test.true (c.deref.ensures.value ∙ c.in_ok-drawn.ensures)
-    c.loop-r.invariant.wrote c.in_err-write_text.ensures.front)
+    (g.K.Sink.held c.args.sink.now) (g.K.Sink.held c.loop-r.sink)
+    (g.K.Sink.held c.write_text.new.sink) c.loop-r.r c.items-r-end.ensures c.loop-r-test.true
+    (c.deref.ensures.value ∙ c.in_ok-drawn.ensures) c.loop-r.invariant.wrote c.in_err-write_text.ensures.front)
 
 pub loop-r-preserved : goal.loop-r-preserved
 loop-r-preserved g c = record {
   wrote = rows_more
       (λ n. row_of c.args.text c.args.script.now c.args.printed.now c.args.on c.args.lane.now c.args.top n)
-      c.loop-r.r c.items-r-end.ensures c.loop-r-test.true (c.deref.ensures.value ∙ c.in_ok-drawn.ensures)
-      c.loop-r.invariant.wrote c.in_ok-write_text.ensures.whole;
+      (g.K.Sink.held c.args.sink.now) (g.K.Sink.held c.loop-r.sink)
+      (g.K.Sink.held c.write_text.new.sink) c.loop-r.r c.items-r-end.ensures c.loop-r-test.true
+      (c.deref.ensures.value ∙ c.in_ok-drawn.ensures) c.loop-r.invariant.wrote c.in_ok-write_text.ensures.whole;
   faults = omega (arith, c.loop-r.invariant.faults, c.write_text.ensures.faults);
 }
