@@ -53,7 +53,7 @@ fn one(alloc: Global, on: StrNo) -> Result<Vec<StrNo>, NoMemory>
 }
 
 /// The structures that are drawn: the one with the name that is chosen, if there is one, or all.
-pub(crate) fn chosen(
+pub(crate) fn choose(
     alloc: Global,
     script: &Script,
     only: Option<Name16>,
@@ -93,7 +93,7 @@ fn first_bad(
 }
 
 /// Judges the histories of some structures, one after another, and finds what is shown of each.
-pub(crate) fn laid(
+pub(crate) fn lay_out(
     alloc: Global,
     script: &Script,
     printed: &Printed,

@@ -15,7 +15,7 @@ ghost use Rattle.plex_view.specs.Written.{output, HasFailed, Writes, WritesFront
 
 use crate::choosing::{Choice, choice_of};
 use crate::drawing::write_picture;
-use crate::judging::{Chosen, Laid, chosen, laid};
+use crate::judging::{Chosen, Laid, choose, lay_out};
 use crate::reading::{Unread, one_reading, read_text};
 use crate::status_lines::{entry_line, structure_line, text_line};
 use crate::writing::{Unwritten, say, say_no_memory, say_unread};
@@ -152,7 +152,7 @@ fn shown<K: Sink>(
         ⊎ (result ≡ 9)))) }
     ensures faults { K.faults sink.old ≤ K.faults sink.new }
 {
-    let structures = match chosen(alloc, script, choice.only) {
+    let structures = match choose(alloc, script, choice.only) {
         Ok(Chosen::Those(structures)) => structures,
         Ok(Chosen::Nowhere { name }) => return say_structure(alloc, name, sink),
         Err(cause) => {
@@ -160,7 +160,7 @@ fn shown<K: Sink>(
             return 6;
         }
     };
-    let lanes = match laid(alloc, script, printed, &structures, part_of(choice)) {
+    let lanes = match lay_out(alloc, script, printed, &structures, part_of(choice)) {
         Ok(Laid::Lanes(lanes)) => lanes,
         Ok(Laid::Bad { on, place }) => return say_entry(alloc, script, on, place, sink),
         Err(cause) => {

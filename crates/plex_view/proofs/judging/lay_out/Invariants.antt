@@ -1,6 +1,6 @@
 use Rattle.std.proofs.Common.{◌≡◌, take}
 use Rattle.plex_view.specs.Viewing.{AreLegal, lanes_of}
-use Rattle.plex_view.proofs.judging.laid.Given as goal
+use Rattle.plex_view.proofs.judging.lay_out.Given as goal
 
 -- the structures before this one are legal, and have their lanes
 abbrev pub invariant-loop-k : goal.invariant-loop-k
