@@ -1,2 +1,1 @@
-pub mod SeatLaws
 pub mod OutcomeLaws

@@ -1,22 +1,23 @@
--- What the closed board says of the structure, of its links, and of the reader's last test.
-use Rattle.std.proofs.Common.{◌≡◌, ℕ, ◌+◌, ◌<◌, ◌++◌, List, [], ◌∷◌, length, map, Some, slice_get, get_or, sym, ap, subst, ◌∙◌, arith}
+-- What the closed structures say: of the history, of the links, and of what the reader saw.
+use Rattle.std.proofs.Common.{◌≡◌, ℕ, ◌<◌, ◌++◌, List, [], ◌∷◌, length, map, Some, slice_get, get_or, sym, ap, subst, ◌∙◌, arith}
 use Rattle.std.specs.Prelude.{Bool, Option}
 use Rattle.std.specs.Option.{option_map, unwrap_or}
-use Rattle.std.specs.List.{flat_map, range_with_len}
+use Rattle.std.specs.List.{flat_map}
 use Rattle.std.proofs.lemmas.List.Elements.{All-pop}
-use Rattle.std.proofs.lemmas.Option.{slice_get_within, slice_get-get_or, slice_get-map, get_or_from_slice_get}
+use Rattle.std.proofs.lemmas.Option.{slice_get_within, slice_get-get_or, slice_get-map}
 use Rattle.plex_board.specs.CfLink.declared.{links.Links.Links, list_link.ListLink.ListLink}
-use Rattle.plex_board.specs.Boards.{BoardShown, IsAccount, AreClosed, AreEachAsked, AreLinksAsked, links_of, four_of, new_desk}
+use Rattle.plex_board.specs.Boards.{BoardShown, IsDeskOf, IsAccount, AreClosed, AreEachAsked, AreLinksAsked, links_of, four_of}
 use Rattle.plex_board.proofs.{CfLink.LinkLaws.asked_calls, CfLink.LinkLaws.asked_told, DeskLaws.desk-pass_owner}
-use Rattle.plex_board.specs.CfTypes.declared.{forms.StrForm.StrForm, numbers.ConnId.ConnId}
-use Rattle.plex_board.specs.PlexScript.declared.{asks.AnyHistory.AnyHistory, scripts.Script.Script}
-use Rattle.plex_board.specs.VecWords.declared.logged.Tested.{Tested}
+use Rattle.plex_board.specs.CfTypes.declared.forms.StrForm.{StrForm}
 use Rattle.plex_board.specs.CfLink.Links.{AreAsked, IsAskedAll, IsAsTold, calls_after}
-use Rattle.plex_board.specs.{AnyCalls.any_answers, Cells.CellShown, Cells.IsAnyTold, Desks.DeskShown, Desks.pass_at}
-use Rattle.failover.specs.Failing.{AreDownOnce, IsDownAt}
-use Rattle.failover.specs.Members.{HasPool, AreSeated, HasTested, gbp, sight_of}
-use Rattle.failover.specs.Outcome.{IsOpened, IsOutcome, WasAsked, reader, cf1, cf2, down_once}
-use Rattle.failover.proofs.SeatLaws.{seat_owner, seat_of_board, seated}
+use Rattle.plex_board.specs.{AnyCalls.any_answers, Cells.CellShown, Cells.IsAnyTold, Cells.own_replies, Passes.reply_numbered}
+use Rattle.plex_board.specs.Desks.{DeskShown, pass_at}
+use Rattle.plex_board.specs.VecWords.declared.logged.Sight.{Sight}
+use Rattle.plex_seat.proofs.OutcomeLaws.{there_is}
+use Rattle.plex_seat.specs.Names.{AnyHistory, Script, SeatShown, StrNo, pass_of, sight_of}
+use Rattle.failover.specs.Failing.{AreDownOnce, IsDownAt, WasAsked, down_once}
+use Rattle.failover.specs.Members.{HasSeen, IsOutcome, gbp, reader, cf1, cf2}
+use Rattle.failover.specs.declared.Seen.{Seen}
 
 -- what a listed link tells
 abbrev calls_of : ListLink → Option ℕ
@@ -83,53 +84,56 @@ first_told (c ∷ cells) (e ∷ histories) spare links cell entries there first 
 
 -- ---- the whole
 
-module _ (board : BoardShown ListLink) (script : Script) (histories : List AnyHistory) (desks : List DeskShown)
-    (links : List ListLink) (tested : Tested) where
-  pub outcome : map (λ (cell : CellShown ListLink). cell.form) board.cells ≡ script.structures → AreDownOnce
-      (links_of board) → AreSeated board desks → AreClosed board desks histories → AreLinksAsked calls_of
-      downs_of faults_of board histories links → HasTested desks tested → IsOutcome script histories links tested
-  outcome forms down are closed asked has =
-      let pool = are.pool in
+module _ (board : BoardShown ListLink) (script : Script) (histories : List AnyHistory) (links : List ListLink)
+    (left desks : List DeskShown) (desk : DeskShown) (seen : Seen) (before : List Sight) where
+  of_cell : (cell : CellShown ListLink) → slice_get board.cells 0 ≡ Some cell
+      → map (λ (cell : CellShown ListLink). cell.form) board.cells ≡ script.structures → AreDownOnce (links_of board)
+      → AreClosed board desks histories → AreLinksAsked calls_of downs_of faults_of board histories links
+      → desks ≡ left ++ desk ∷ [] → IsDeskOf board desk → desk.owner ≡ reader
+      → Some seen.read.reply ≡ reply_numbered seen.read.no (pass_at desk gbp).replies → seen.read.no ≤ seen.sure
+      → (pass_at desk gbp).tests ≡ before ++ sight_of 0 seen.tested seen.sure ∷ []
+      → IsOutcome script histories links seen
+  of_cell cell there forms down closed asked are of_board owner heard answered tests =
       let entries : AnyHistory = get_or histories 0 (AnyHistory.Cache []) in
-      let some : 0 < length board.cells = slice_get_within board.cells 0 pool.cell pool.there in
+      let some : 0 < length board.cells = slice_get_within board.cells 0 cell there in
       let first : slice_get histories 0 ≡ Some entries =
       slice_get-get_or histories 0 (AnyHistory.Cache []) (omega (arith, some, closed.structures)) in
-      let says = closed.closed gbp pool.cell entries pool.there first in
-      let desk : DeskShown = has.desk in
-      let here : desk ≡ get_or desks 2 desk = sym (get_or_from_slice_get desks 2 desk desk has.there) in
-      let account : IsAccount pool.cell entries (pass_at desk gbp) = subst (λ (d : DeskShown). IsAccount pool.cell
-      entries (pass_at d gbp)) (sym here) (says.1 2 desk (slice_get_within desks 2 desk has.there)) in
-      let whose : (pass_at desk gbp).owner ≡ reader =
-      desk-pass_owner board desk gbp pool.cell (seat_of_board board desks are 2 desk (omega arith) here) pool.there
-      ∙ ap (λ (n : ℕ). let c : ConnId = record { 0 = n } in c) (seat_owner board desks are 2 desk (omega arith) here) in
-      let told = first_told board.cells histories board.spare links pool.cell entries pool.there first down asked in
+      let says = closed.closed gbp cell entries there first in
+      let account : IsAccount cell entries (pass_at desk gbp) =
+      (All-pop (λ (d : DeskShown). IsAccount cell entries (pass_at d gbp)) desks left (Some desk) are says.1).1 in
+      let whose : (pass_at desk gbp).owner ≡ reader = desk-pass_owner board desk gbp cell of_board there ∙ owner in
+      let told = first_told board.cells histories board.spare links cell entries there first down asked in
       record {
-        form = pool.cell.form;
+        form = cell.form;
         entries = entries;
-        sure = has.sure;
         form_is = ap (λ (all : List StrForm). slice_get all 0) (sym forms)
             ∙ slice_get-map (λ (cell : CellShown ListLink). cell.form) board.cells 0
-            ∙ ap (option_map (λ (cell : CellShown ListLink). cell.form)) pool.there;
+            ∙ ap (option_map (λ (cell : CellShown ListLink). cell.form)) there;
         history_is = first;
         legal = says.0.legal;
+        read = heard ∙ ap (reply_numbered seen.read.no) (account.replies ∙ ap (own_replies entries) whose);
+        answered = answered;
+        told = subst (λ owner. IsAnyTold cell.form entries owner (sight_of 0 seen.tested seen.sure)) whose
+            (All-pop (IsAnyTold cell.form entries (pass_at desk gbp).owner) (pass_at desk gbp).tests before
+            (Some (sight_of 0 seen.tested seen.sure)) tests account.tests).1;
         first_down = told.first_down;
         second_down = told.second_down;
         first_asked = told.first_asked;
         second_asked = told.second_asked;
-        told = subst (λ owner. IsAnyTold pool.cell.form entries owner (sight_of tested has.sure)) whose
-            (All-pop (IsAnyTold pool.cell.form entries (pass_at desk gbp).owner) (pass_at desk gbp).tests has.before
-            (Some (sight_of tested has.sure)) has.tests account.tests).1;
       }
 
--- ---- as the board begins
-
--- a board of a policy whose first structure is there, with three desks
-pub opened : (board : BoardShown ListLink) (script : Script) (desks : List DeskShown) (links : List ListLink)
-    (callers : ℕ) → map (λ (cell : CellShown ListLink). cell.form) board.cells ≡ script.structures
-    → board.callers ≡ callers → links_of board ≡ links → AreDownOnce links → desks ≡ map (new_desk board)
-    (range_with_len 0 (callers + 1)) → length desks ≡ 3 → HasPool board → IsOpened script board desks
-opened board script desks links callers forms counted are down new three pool = record {
-  forms = forms;
-  down = subst AreDownOnce (sym are) down;
-  seated = seated board desks callers pool counted new three;
-}
+-- the same of the seat from which the reader has left last
+pub outcome : (board : BoardShown ListLink) (script : Script) (histories : List AnyHistory) (links : List ListLink)
+    (left desks : List DeskShown) (seat : SeatShown ListLink) (seen : Seen)
+    → map (λ (cell : CellShown ListLink). cell.form) board.cells ≡ script.structures → AreDownOnce (links_of board)
+    → AreClosed board desks histories → AreLinksAsked calls_of downs_of faults_of board histories links
+    → 0 < length board.cells → seat.board ≡ board → seat.on ≡ gbp → seat.desk.owner ≡ reader
+    → desks ≡ left ++ seat.desk ∷ [] → IsDeskOf seat.board seat.desk → HasSeen seat seen
+    → IsOutcome script histories links seen
+outcome board script histories links left desks seat seen forms down closed asked some at_board at_on owner are own has =
+    let found = there_is board.cells 0 some in
+    of_cell board script histories links left desks seat.desk seen has.before found.0 found.1 forms down closed asked are
+    (subst (λ (b : BoardShown ListLink). IsDeskOf b seat.desk) at_board own) owner
+    (subst (λ (o : StrNo). Some seen.read.reply ≡ reply_numbered seen.read.no (pass_at seat.desk o).replies) at_on
+    has.heard) has.answered (subst (λ (o : StrNo). (pass_at seat.desk o).tests
+    ≡ has.before ++ sight_of 0 seen.tested seen.sure ∷ []) at_on has.tests)

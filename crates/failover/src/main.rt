@@ -3,28 +3,25 @@
 //! lost, and who did what was left to do.
 #![tactic(auto)]
 
-mod fault;
-mod links;
-mod members;
+ghost use Rattle.std.specs.Prelude.{◌≡◌, IfOk, length};
+ghost use Rattle.plex_seat.specs.Names.{IsPolicy, IsSame, LINKS};
+ghost use Rattle.failover.specs.Members.{AreDownOnce, HasSeen, IsOutcome};
 
-ghost use Rattle.std.specs.Prelude.{IsTrue, IfOk};
-ghost use Rattle.plex_board.specs.Boards.{IsPolicy};
-ghost use Rattle.failover.specs.Members.{HasPool};
-ghost use Rattle.failover.specs.Outcome.{IsOpened, IsOutcome};
-
-use fault::Fault;
-use links::links;
-use members::{COPY, GBP, work};
-use plex_board::Desk;
-use plex_board::links::ListLink;
-use plex_board::scripts::{AnyHistory, Script, read};
-use plex_board::types::Kind;
-use plex_board::vectors::Tested;
-use plex_engines::Board;
-use plex_report::render;
+use plex_engines::Engines;
+use plex_seat::{
+    Answer, AnyHistory, ConnId, Fault, LINKS, ListLink, Script, ShellCmd, StrNo, Tested, list_link,
+    policy, render,
+};
 use std::alloc::Global;
 use std::io::Write;
 use std::sync::Wait;
+
+/// The structures of a policy, and who has a seat there, over links that are listed.
+type Plex = plex_seat::Plex<Engines, ListLink>;
+
+type Operator<'p> = plex_seat::Operator<'p, Engines, ListLink>;
+
+type Seat<'p> = plex_seat::Seat<'p, Engines, ListLink>;
 
 /// The policy: two facilities, a cache structure that may stand in both, and its two connectors.
 const POLICY: &str = "FACILITY CF1 100\n\
@@ -35,92 +32,116 @@ const POLICY: &str = "FACILITY CF1 100\n\
     CONNECTOR A\n\
     CONNECTOR B\n";
 
-/// How many calls a history can have.
+/// The structure, the second connector, and how many calls a history can have.
+const GBP: StrNo = StrNo(0);
+
+const B: ConnId = ConnId(2);
+
 const CALLS: u32 = 100;
 
-/// What is left of the members' work: the histories, the links as they were asked, and B's test.
+/// The index, in B's vector, of the bit that says whether its copy of the page is valid.
+const COPY: u32 = 0;
+
+/// What B saw: the answer to its second READ, the number of a call that it had seen complete before
+/// it tested its copy, and the test.
 #[derive(Drop)]
-struct Left {
-    histories: Vec<AnyHistory>,
-    links: Vec<ListLink>,
+struct Seen {
+    read: Answer,
+    sure: u32,
     tested: Tested,
 }
 
 fn main(rt: HostRuntime) -> Result<(), Fault> {
     let alloc = rt.alloc();
-    let script = read(alloc, POLICY.as_bytes())?;
-    let left = fail_over(&rt, alloc, &script)?;
-    let report = render(alloc, &script, left.histories.as_slice(), &[])?;
+    let script = policy(alloc, POLICY.as_bytes())?;
+    let (histories, links, seen) = fail_over(&rt, alloc, &script)?;
+    let report = render(alloc, &script, histories.as_slice(), &[])?;
     rt.stdout().write_all(report.as_slice())?;
-    print_test(&rt, left.tested)?;
-    print_links(&rt, &left.links)
-}
-
-// Prints the test of B's copy: its bit, and the number of the call at which it stood so.
-fn print_test(rt: &impl Print, Tested { bit, at }: Tested) -> Result<(), Fault> {
+    let Tested { bit, at } = seen.tested;
     let word = if bit { "VALID" } else { "INVALID" };
     println!(rt; "B GBP TEST {COPY} {word} {at}")?;
-    Ok(())
-}
-
-// Prints how often the link to each facility was asked, and how often it was down.
-fn print_links(rt: &impl Print, links: &[ListLink]) -> Result<(), Fault> {
-    for (cf, link) in ["CF1", "CF2"].iter().zip(links) {
+    for (cf, link) in ["CF1", "CF2"].iter().zip(&links) {
         let (calls, faults) = (link.calls, link.faults);
         println!(rt; "LINK {cf} ASKED {calls} DOWN {faults}")?;
     }
     Ok(())
 }
 
-// The members work at the first structure of the policy, till nothing of it is left.
-fn fail_over(rt: &impl Wait, alloc: Global, script: &Script) -> Result<Left, Fault>
-    requires { IsPolicy script.now }
-    ensures { IfOk result
-        (λ left. IsOutcome script.now left.histories.items left.links.items left.tested) }
-{
-    let (board, mut desks) = open(rt, alloc, script)?;
-    let tested = work(rt, alloc, &board, &mut desks);
-    let (histories, links) = board.close(rt, desks);
-    let tested = tested?;
-    Ok(Left {
-        histories,
-        links,
-        tested,
-    })
-}
-
-// The structures of the policy over the links, and the desks of the operator and of the members.
-fn open(
+// The operator and the members work at the structure, till nothing of it is left. What remains is
+// the histories, the links as they were asked, and what B saw.
+fn fail_over(
     rt: &impl Wait,
     alloc: Global,
     script: &Script,
-) -> Result<(Board<ListLink>, Vec<Desk>), Fault>
+) -> Result<(Vec<AnyHistory>, Vec<ListLink>, Seen), Fault>
     requires { IsPolicy script.now }
-    ensures { IfOk result (λ r. IsOpened script.now r.0 r.1.items) }
+    ensures { IfOk result (λ left. IsOutcome script.now left.0.items left.1.items left.2) }
 {
-    let Ok(links) = links(alloc) else {
-        return Err(Fault::NoMemory);
+    let made = links(alloc)?;
+    let (plex, mut desks) = Plex::start(rt, alloc, script, CALLS, made)?;
+    let Some(mut b) = Seat::take(&plex, &mut desks, GBP) else {
+        return Err(Fault::Policy);
     };
-    let Ok((board, desks)) = Board::start(rt, alloc, script, CALLS, links) else {
-        return Err(Fault::NoMemory);
+    let Some(mut a) = Seat::take(&plex, &mut desks, GBP) else {
+        return Err(Fault::Policy);
     };
-    if desks.len() == 3 && has_pool(&board) {
-        Ok((board, desks))
-    } else {
-        Err(Fault::Policy)
+    let Some(mut op) = Operator::take(&plex, &mut desks, GBP) else {
+        return Err(Fault::Policy);
+    };
+    if b.owner() != B {
+        return Err(Fault::Policy);
     }
+    let seen = work(rt, script, &mut op, &mut a, &mut b);
+    op.leave(&mut desks);
+    a.leave(&mut desks);
+    b.leave(&mut desks);
+    let Some((histories, links)) = plex.close(rt, desks) else {
+        return Err(Fault::Policy);
+    };
+    Ok((histories, links, seen?))
 }
 
-// Whether the first structure is a cache, where each vector has the bit that is tested.
-#[tactic(auto, using(crate::proofs::SeatLaws::pool_there))]
-fn has_pool(board: &Board<ListLink>) -> bool
-    ensures { IsTrue result → HasPool board.now }
+// Of the structure's links the one to CF1 is down at its third call, and the one to CF2 at its
+// fifth. The others are never down.
+fn links(alloc: Global) -> Result<Vec<ListLink>, Fault>
+    ensures count { IfOk result (λ links. length links.items ≡ LINKS) }
+    ensures down { IfOk result (λ links. AreDownOnce links.items) }
 {
-    if board.structures() == 0 {
-        return false;
+    let mut links = Vec::new(alloc);
+    links.push(list_link(alloc, &[3])?)?;
+    links.push(list_link(alloc, &[5])?)?;
+    for _ in 2..LINKS {
+        links.push(list_link(alloc, &[])?)?;
     }
-    match board.kind(GBP) {
-        Kind::Cache => board.vector(GBP) > COPY,
-        _ => false,
+    Ok(links)
+}
+
+// Both connect, and the operator has a second instance made. A writes the page twice, and B reads it
+// after each write. The facility of the first instance is lost at A's second write, which the second
+// instance then does; that is lost too when A casts out. Then B tests its copy.
+fn work(
+    rt: &impl Wait,
+    script: &Script,
+    op: &mut Operator<'_>,
+    a: &mut Seat<'_>,
+    b: &mut Seat<'_>,
+) -> Result<Seen, Fault>
+    requires { IsPolicy script.now }
+    ensures same { IsSame op.old op.new × IsSame a.old a.new × IsSame b.old b.new }
+    ensures seen { IfOk result (HasSeen b.new) }
+{
+    a.connect(rt, false)?;
+    b.connect(rt, false)?;
+    op.command(rt, ShellCmd::DuplexStart)?;
+    a.say(rt, script, b"WRITE P1 0 balance-17 CHANGED 1")?;
+    b.say(rt, script, b"READ P1 0")?;
+    a.say(rt, script, b"WRITE P1 0 balance-25 CHANGED 1")?;
+    let read = b.say(rt, script, b"READ P1 0")?;
+    a.say(rt, script, b"CASTOUT P1")?;
+    if b.vector() <= COPY {
+        return Err(Fault::Policy);
     }
+    let sure = b.post(rt);
+    let tested = b.test(COPY);
+    Ok(Seen { read, sure, tested })
 }

@@ -1,6 +1,6 @@
 -- What a text says, of what a reader made of its words; the reader may be any.
 use Rattle.std.specs.Prelude.{Err}
-use Rattle.plex_seat.proofs.Imports.{◌≡◌, ℕ, List, [], ◌∷◌, Option, None, Some, refl, sym, subst, ◌∙◌, arith, IsTrue, false, Script}
+use Rattle.plex_seat.proofs.Imports.{◌≡◌, ℕ, List, [], ◌∷◌, Option, None, Some, refl, sym, subst, ◌∙◌, arith, IsTrue, false, option_map, AnyAsk, Script}
 use Rattle.plex_report.specs.PlexSpell.declared.rigour.Rigour.{Rigour}
 use Rattle.plex_report.specs.PlexSpell.declared.rigour.Rigour.TheVariants.{Names}
 use Rattle.plex_report.specs.PlexSpell.declared.misses.Miss.{Miss}
@@ -27,6 +27,12 @@ missed : {C : Type 0} (reading : Option (C × List (List ℕ))) (miss : Miss) (r
     → Gives {V = C} (Err miss) rest reading → Reads {V = C} (Err miss) (reading >>= whole_read)
 missed {C} reading NoForm rest none = rw none refl
 missed {C} reading (NoMemory cause) rest u = u
+
+-- what isn't read is no ask either
+pub asked-missed : {C : Type 0} (asked : C → AnyAsk) (reading : Option C) (miss : Miss)
+    → Reads {V = C} (Err miss) reading → Reads {V = AnyAsk} (Err miss) (option_map asked reading)
+asked-missed asked reading NoForm none = rw none refl
+asked-missed asked reading (NoMemory cause) u = u
 
 -- ---- of what a judge that knows a policy's names makes of a text
 

@@ -1,5 +1,5 @@
 -- A member's own call is among those of its pass.
-use Rattle.plex_seat.proofs.Imports.{◌≡◌, ◌++◌, ◌==◌, List, [], ◌∷◌, Bool, true, false, Option, None, Some, refl, sym, ap, ◌∙◌, arith, is_some, find, if◌then◌else◌, false≢true, eq-eqb, StrNo, Told, AnyAsk, AnyCall, call_numbered, AnyReply, PassShown, with_call, DeskShown, pass_at, IsAnsweredOn, BoardShown, pass_at-with_pass_same, desk-length, IsSeat}
+use Rattle.plex_seat.proofs.Imports.{◌≡◌, ◌<◌, ◌++◌, ◌==◌, length, List, [], ◌∷◌, Bool, true, false, Option, None, Some, refl, sym, ap, ◌∙◌, arith, is_some, find, if◌then◌else◌, false≢true, eq-eqb, StrNo, Told, AnyAsk, AnyCall, call_numbered, AnyReply, PassShown, with_call, DeskShown, pass_at, IsAnsweredOn, BoardShown, IsDeskOf, pass_at-with_pass_same, desk-length}
 
 -- the last that is looked for is found
 found_last : {A : Type 0} (p : A → Bool) (xs : List A) (y : A) → p y ≡ true → is_some (find p (xs ++ y ∷ [])) ≡ true
@@ -12,10 +12,11 @@ found_last p (x ∷ xs) y here =
     elim (p x) as (λ b. is_some (if b then Some x else find p (xs ++ y ∷ [])) ≡ true) [ true ↦ refl | false ↦ rest ]
 
 module _ {L : Type 0} (board : BoardShown L) (on : StrNo) (asked : AnyAsk) (told : Told) (before between : DeskShown)
-    (seated : IsSeat board before on) (answered : IsAnsweredOn on asked told before between) where
+    (of_board : IsDeskOf board before) (there : on.0 < length board.cells)
+    (answered : IsAnsweredOn on asked told before between) where
   pass_is : pass_at between on ≡ with_call asked told answered.reply (pass_at before on)
   pass_is = ap (λ d. pass_at d on) answered.desk ∙ pass_at-with_pass_same before on (with_call asked
-      told answered.reply (pass_at before on)) (omega (arith, desk-length board before seated.of_board, seated.there))
+      told answered.reply (pass_at before on)) (omega (arith, desk-length board before of_board, there))
 
   own_call : is_some (call_numbered told.no (pass_at between on).calls) ≡ true
   own_call = ap (λ (p : PassShown). is_some (call_numbered told.no p.calls)) pass_is

@@ -49,7 +49,8 @@ module _ {L : Type 0} where
       with_pass seat.on (with_call asked told kept (pass_of seat)) seat.desk
 
   -- The member's call was made: its pass has one call more, with a number above all that it knew, and the reply to it.
-  -- Since then it may have seen more of the structure complete; nothing else of the desk is different.
+  -- It has seen that call complete, and since then it may have seen more of the structure complete; nothing else of the
+  -- desk is different.
   pub record HasCalled (asked : AnyAsk) (number : ℕ) (before after : SeatShown L) : Type 0 where
     pub told : Told
     pub kept : AnyReply
@@ -59,6 +60,7 @@ module _ {L : Type 0} where
     pub calls : (pass_of after).calls
         ≡ (pass_of before).calls ++ record { no = told.no; by = (pass_of before).owner; ask = asked; told = told } ∷ []
     pub tests : (pass_of after).tests ≡ (pass_of before).tests
+    pub seen : number ≤ (pass_of after).sure
 
   -- the reply is the one that the member's pass has under that number
   abbrev pub HasHeard : SeatShown L → Answer → Type 0

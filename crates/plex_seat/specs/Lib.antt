@@ -1,7 +1,9 @@
 pub mod Seats
 pub mod Events
 pub mod Answers
+pub mod Taken
 pub mod Commands
+pub mod Said
 pub mod Faults
 pub mod Outcomes
 pub mod Names

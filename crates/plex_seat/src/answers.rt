@@ -45,6 +45,22 @@ fn event_in<R>(reply: &Reply<R>) -> Option<Event>
     }
 }
 
+/// What a member heard that waited for an event: the answer that tells it, and the answers before
+/// that one which tell other events, in their order.
+pub struct Heard {
+    pub earlier: Vec<Answer>,
+    pub answer: Answer,
+}
+
+impl Drop for Heard {
+    fn drop(self) {
+        let Heard {
+            earlier: _,
+            answer: _,
+        } = self;
+    }
+}
+
 /// Why a member has no answer.
 #[derive(Debug, Drop, Error)]
 pub enum Unanswered {

@@ -1,8 +1,10 @@
 //! Why a member's work ends before it is done.
 use crate::answers::Unanswered;
+use plex_board::links::Link;
 use plex_board::scripts::ReadFault;
 use plex_board::types::NoMemory;
 use plex_report::spell::Miss;
+use std::alloc::{AllocError, AllocFailed};
 use std::io;
 use thiserror::Error;
 
@@ -46,6 +48,31 @@ impl From<NoMemory> for Fault {
 
     fn from(cause: NoMemory) -> Self {
         Fault::NoMemory(cause)
+    }
+}
+
+// The links that `Plex::start` hands back are given up.
+impl<L: Link> From<(Vec<L>, NoMemory)> for Fault {
+    ghost use Rattle.std.specs.Prelude.{◌≡◌};
+    ghost use Rattle.plex_seat.specs.declared.faults.Fault.TheVariants as ended;
+
+    ghost from_gives = { λ back fault. fault ≡ ended.NoMemory back.1 };
+
+    fn from(back: (Vec<L>, NoMemory)) -> Self {
+        let (_, cause) = back;
+        Fault::NoMemory(cause)
+    }
+}
+
+impl From<AllocError> for Fault {
+    fn from(refused: AllocError) -> Self {
+        Fault::NoMemory(NoMemory::from(refused))
+    }
+}
+
+impl<T: Drop> From<AllocFailed<T>> for Fault {
+    fn from(refused: AllocFailed<T>) -> Self {
+        Fault::NoMemory(NoMemory::from(refused))
     }
 }
 

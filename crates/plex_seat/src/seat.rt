@@ -1,5 +1,5 @@
 //! A member's seat at a structure.
-ghost use Rattle.std.specs.Prelude.{◌≡◌, ◌≢◌, ◌↔◌, ◌⊎◌, ◌+◌, ◌<◌, ◌≤◌, ◌++◌, ◌∷◌, [], IfOk, IfErr, IfSome, IfNone, IsSome, IsTrue, All, Some, is_some, length};
+ghost use Rattle.std.specs.Prelude.{◌≡◌, ◌≢◌, ◌↔◌, ◌⊎◌, ◌+◌, ◌<◌, ◌≤◌, ◌++◌, ◌∷◌, [], IfOk, IfErr, IfSome, IfNone, IsSome, IsTrue, All, Some, false, filter, is_some, length};
 ghost use Rattle.std.specs.Vec.{vec_len, vec_capacity};
 ghost use Rattle.plex_board.specs.RunShown.Kinds.{MayAskAny};
 ghost use Rattle.plex_board.specs.Types.{OfCache, OfList, OfLock, type_of_ask};
@@ -13,22 +13,23 @@ ghost use Rattle.plex_board.specs.CfTypes.declared.shell_commands.ShellCmd.TheVa
 ghost use Rattle.plex_board.specs.PlexScript.Heard.{call_numbered};
 ghost use Rattle.plex_board.specs.Passes.{reply_numbered};
 ghost use Rattle.plex_board.specs.Desks.{IsLaterOn};
-ghost use Rattle.plex_board.specs.Boards.{IsDeskOf, cell_on};
+ghost use Rattle.plex_board.specs.Boards.{IsPolicy, IsDeskOf, cell_on};
 ghost use Rattle.plex_seat.specs.Seats.{IsSame, HasType, HasBit, MaySit, pass_of, type_at, HasTested};
-ghost use Rattle.plex_seat.specs.Answers.{HasAnswer, HasFault, HasHeard, HasAskedForEvents, HasAskedInVain, common_ask};
-ghost use Rattle.plex_seat.specs.declared.answers.Unanswered.{Unanswered};
+ghost use Rattle.plex_seat.specs.Answers.{HasAnswer, HasFault, HasHeard, HasAskedForEvents, common_ask};
 ghost use Rattle.plex_seat.specs.declared.answers.Unanswered.TheVariants.{OtherKind};
-ghost use Rattle.plex_seat.specs.declared.faults.Fault.TheVariants as ended;
 ghost use Rattle.plex_seat.specs.declared.faults.Fault.TheVariants.{Alone};
-ghost use Rattle.plex_seat.specs.Events.{event_of};
+ghost use Rattle.plex_seat.specs.Events.{event_of, tells_event};
+ghost use Rattle.plex_seat.specs.Said.{HasSaid, IsSayFault};
+ghost use Rattle.plex_seat.specs.Taken.{HasTaken, IsWaitFault};
 
-use crate::answers::{Answer, Unanswered};
-use crate::asks::{common_ask, is_of_kind};
+use crate::answers::{Answer, Heard, Unanswered};
+use crate::asks::{ask_at, common_ask, is_of_kind};
+use crate::commands::said;
 use crate::faults::Fault;
 use crate::plex::Plex;
 use plex_board::api::Ask;
-use plex_board::links::Steady;
-use plex_board::scripts::AnyAsk;
+use plex_board::links::Link;
+use plex_board::scripts::{AnyAsk, Script};
 use plex_board::types::limits::CONNECTORS;
 use plex_board::types::{
     AlterCmd, CacheCmd, ConnId, Event, ListCmd, LockCmd, NoMemory, QueueCmd, ShellCmd, StrNo,
@@ -40,39 +41,40 @@ use std::marker::Model;
 use std::sync::Wait;
 use std::thread::yield_now;
 
-/// A connector's desk at one structure. It may go to another thread. Contracts see the board, the
-/// desk, and which structure it is.
-pub struct Seat<'p, K: Kinds> {
-    board: &'p Board<K, Steady>,
+/// A connector's desk, at one structure of the board. It may go to another thread. Contracts see the
+/// board, the desk, and which structure it is.
+pub struct Seat<'p, K: Kinds, L: Link> {
+    board: &'p Board<K, L>,
     desk: Desk,
     on: StrNo,
+    alloc: Global,
 }
 
-impl<'p, K: Kinds> Model for Seat<'p, K> {
-    ghost use Rattle.plex_board.specs.CfLink.declared.steady.Steady.{Steady};
+impl<'p, K: Kinds, L: Link> Model for Seat<'p, K, L> {
     ghost use Rattle.plex_seat.specs.Seats.{SeatShown, IsSeat};
 
-    ghost Value = { SeatShown Steady };
+    ghost Value = { SeatShown L };
 
     ghost view = { λ seat. record { board = seat.board.now; desk = seat.desk; on = seat.on } };
 
     ghost invariant = { λ seat. IsSeat seat.board.now seat.desk seat.on };
 }
 
-impl<'p, K: Kinds> Drop for Seat<'p, K> {
+impl<'p, K: Kinds, L: Link> Drop for Seat<'p, K, L> {
     fn drop(self) {
         let Seat {
             board: _,
             desk: _,
             on: _,
+            alloc: _,
         } = self;
     }
 }
 
-impl<'p, K: Kinds> Seat<'p, K> {
+impl<'p, K: Kinds, L: Link> Seat<'p, K, L> {
     /// The last of these desks, at a structure. There is no seat exactly where that is no
     /// connector's desk, where there is no desk, and where the structure isn't there.
-    pub fn take(plex: &'p Plex<K>, desks: &mut Vec<Desk>, on: StrNo) -> Option<Seat<'p, K>>
+    pub fn take(plex: &'p Plex<K, L>, desks: &mut Vec<Desk>, on: StrNo) -> Option<Seat<'p, K, L>>
         requires { All (IsDeskOf plex.now) desks.old.items }
         ensures desks { All (IsDeskOf plex.now) desks.new.items }
         ensures seat { IfSome result (λ seat. (seat.board ≡ plex.now) × (seat.on ≡ on)) }
@@ -92,6 +94,7 @@ impl<'p, K: Kinds> Seat<'p, K> {
             board: &plex.board,
             desk,
             on,
+            alloc: plex.alloc,
         })
     }
 
@@ -108,6 +111,7 @@ impl<'p, K: Kinds> Seat<'p, K> {
             board: _,
             desk,
             on: _,
+            alloc: _,
         } = self;
         desks.push_reserved(desk);
     }
@@ -119,13 +123,30 @@ impl<'p, K: Kinds> Seat<'p, K> {
         self.desk.owner()
     }
 
+    /// Which structure of the board the member is at.
+    pub fn on(&self) -> StrNo
+        ensures { result ≡ self.now.on }
+    {
+        self.on
+    }
+
+    /// The member goes on at another structure of the board, where there is such a one, and says
+    /// whether there is; else it stays. What it asked, was answered and has seen at each structure
+    /// stays with it.
+    pub fn go_to(&mut self, on: StrNo) -> bool
+        ensures exactly { IsTrue result ↔ (on.0 < length self.old.board.cells) }
+        ensures seat { IsTrue result → self.new ≡ record self.old { on = on } }
+        ensures stays { result ≡ false → self.new ≡ self.old }
+    {
+        if on.0 >= self.board.structures() {
+            return false;
+        }
+        self.on = on;
+        true
+    }
+
     /// A command of a lock structure, and the reply (IXLLOCK, IXLRT).
-    pub fn lock(
-        &mut self,
-        rt: &impl Wait,
-        alloc: Global,
-        cmd: LockCmd,
-    ) -> Result<Answer, Unanswered>
+    pub fn lock(&mut self, rt: &impl Wait, cmd: LockCmd) -> Result<Answer, Unanswered>
         ensures same { IsSame self.old self.new }
         ensures answer { IfOk result
             (λ answer. HasAnswer (any.Lock (ask.Content cmd)) answer self.old self.new) }
@@ -133,16 +154,11 @@ impl<'p, K: Kinds> Seat<'p, K> {
             (λ fault. HasFault (any.Lock (ask.Content cmd)) fault self.old self.new) }
         ensures kind { IfErr result (λ fault. fault ≢ OtherKind → HasType OfLock self.old) }
     {
-        self.ask_of(rt, alloc, AnyAsk::Lock(Ask::Content(cmd)))
+        self.ask_of(rt, AnyAsk::Lock(Ask::Content(cmd)))
     }
 
     /// A command on the content of a cache structure, and the reply (IXLCACHE).
-    pub fn cache(
-        &mut self,
-        rt: &impl Wait,
-        alloc: Global,
-        cmd: CacheCmd,
-    ) -> Result<Answer, Unanswered>
+    pub fn cache(&mut self, rt: &impl Wait, cmd: CacheCmd) -> Result<Answer, Unanswered>
         ensures same { IsSame self.old self.new }
         ensures answer { IfOk result (λ answer. HasAnswer
             (any.Cache (ask.Content (alter.Inner cmd))) answer self.old self.new) }
@@ -150,17 +166,12 @@ impl<'p, K: Kinds> Seat<'p, K> {
             (any.Cache (ask.Content (alter.Inner cmd))) fault self.old self.new) }
         ensures kind { IfErr result (λ fault. fault ≢ OtherKind → HasType OfCache self.old) }
     {
-        self.alter(rt, alloc, AlterCmd::Inner(cmd))
+        self.alter(rt, AlterCmd::Inner(cmd))
     }
 
     /// Any command of a cache structure, and the reply: one on its content, as `cache` asks it, or
     /// one that alters its capacity while it is in use (IXLALTER).
-    pub fn alter(
-        &mut self,
-        rt: &impl Wait,
-        alloc: Global,
-        cmd: AlterCmd<CacheCmd>,
-    ) -> Result<Answer, Unanswered>
+    pub fn alter(&mut self, rt: &impl Wait, cmd: AlterCmd<CacheCmd>) -> Result<Answer, Unanswered>
         ensures same { IsSame self.old self.new }
         ensures answer { IfOk result
             (λ answer. HasAnswer (any.Cache (ask.Content cmd)) answer self.old self.new) }
@@ -168,16 +179,11 @@ impl<'p, K: Kinds> Seat<'p, K> {
             (λ fault. HasFault (any.Cache (ask.Content cmd)) fault self.old self.new) }
         ensures kind { IfErr result (λ fault. fault ≢ OtherKind → HasType OfCache self.old) }
     {
-        self.ask_of(rt, alloc, AnyAsk::Cache(Ask::Content(cmd)))
+        self.ask_of(rt, AnyAsk::Cache(Ask::Content(cmd)))
     }
 
     /// A command on the records of a list structure, and the reply (IXLLIST).
-    pub fn list(
-        &mut self,
-        rt: &impl Wait,
-        alloc: Global,
-        cmd: ListCmd,
-    ) -> Result<Answer, Unanswered>
+    pub fn list(&mut self, rt: &impl Wait, cmd: ListCmd) -> Result<Answer, Unanswered>
         ensures same { IsSame self.old self.new }
         ensures answer { IfOk result (λ answer. HasAnswer
             (any.List (ask.Content (queue.List cmd))) answer self.old self.new) }
@@ -185,18 +191,13 @@ impl<'p, K: Kinds> Seat<'p, K> {
             (any.List (ask.Content (queue.List cmd))) fault self.old self.new) }
         ensures kind { IfErr result (λ fault. fault ≢ OtherKind → HasType OfList self.old) }
     {
-        self.queue(rt, alloc, QueueCmd::List(cmd))
+        self.queue(rt, QueueCmd::List(cmd))
     }
 
     /// Any command of a list structure, and the reply: one on its records, as `list` asks it, or
     /// one on the sublists that the member monitors and on its queue of events (IXLLIST
     /// MONITOR_SUBLIST and DEQ_EVENTQ).
-    pub fn queue(
-        &mut self,
-        rt: &impl Wait,
-        alloc: Global,
-        cmd: QueueCmd,
-    ) -> Result<Answer, Unanswered>
+    pub fn queue(&mut self, rt: &impl Wait, cmd: QueueCmd) -> Result<Answer, Unanswered>
         ensures same { IsSame self.old self.new }
         ensures answer { IfOk result
             (λ answer. HasAnswer (any.List (ask.Content cmd)) answer self.old self.new) }
@@ -204,76 +205,85 @@ impl<'p, K: Kinds> Seat<'p, K> {
             (λ fault. HasFault (any.List (ask.Content cmd)) fault self.old self.new) }
         ensures kind { IfErr result (λ fault. fault ≢ OtherKind → HasType OfList self.old) }
     {
-        self.ask_of(rt, alloc, AnyAsk::List(Ask::Content(cmd)))
+        self.ask_of(rt, AnyAsk::List(Ask::Content(cmd)))
     }
 
     /// CONNECT (IXLCONN), with disposition KEEP or DELETE.
-    pub fn connect(
-        &mut self,
-        rt: &impl Wait,
-        alloc: Global,
-        keep: bool,
-    ) -> Result<Answer, Unanswered>
+    pub fn connect(&mut self, rt: &impl Wait, keep: bool) -> Result<Answer, Unanswered>
         ensures same { IsSame self.old self.new }
         ensures answer { IfOk result (λ answer. HasAnswer
             (common_ask (type_at self.old) (cmd.Connect keep)) answer self.old self.new) }
         ensures fault { IfErr result (λ fault. HasFault
             (common_ask (type_at self.old) (cmd.Connect keep)) fault self.old self.new) }
     {
-        self.common(rt, alloc, ShellCmd::Connect { keep })
+        self.common(rt, ShellCmd::Connect { keep })
     }
 
     /// DISCONNECT (IXLDISC).
-    pub fn disconnect(&mut self, rt: &impl Wait, alloc: Global) -> Result<Answer, Unanswered>
+    pub fn disconnect(&mut self, rt: &impl Wait) -> Result<Answer, Unanswered>
         ensures same { IsSame self.old self.new }
         ensures answer { IfOk result (λ answer. HasAnswer
             (common_ask (type_at self.old) cmd.Disconnect) answer self.old self.new) }
         ensures fault { IfErr result (λ fault. HasFault
             (common_ask (type_at self.old) cmd.Disconnect) fault self.old self.new) }
     {
-        self.common(rt, alloc, ShellCmd::Disconnect)
+        self.common(rt, ShellCmd::Disconnect)
     }
 
     /// FAIL: the member's task or system fails.
-    pub fn fail(&mut self, rt: &impl Wait, alloc: Global) -> Result<Answer, Unanswered>
+    pub fn fail(&mut self, rt: &impl Wait) -> Result<Answer, Unanswered>
         ensures same { IsSame self.old self.new }
         ensures answer { IfOk result (λ answer. HasAnswer
             (common_ask (type_at self.old) cmd.Fail) answer self.old self.new) }
         ensures fault { IfErr result (λ fault. HasFault
             (common_ask (type_at self.old) cmd.Fail) fault self.old self.new) }
     {
-        self.common(rt, alloc, ShellCmd::Fail)
+        self.common(rt, ShellCmd::Fail)
     }
 
     /// NEXT: the event exit is given the next event.
-    pub fn next_event(&mut self, rt: &impl Wait, alloc: Global) -> Result<Answer, Unanswered>
+    pub fn next_event(&mut self, rt: &impl Wait) -> Result<Answer, Unanswered>
         ensures same { IsSame self.old self.new }
         ensures answer { IfOk result (λ answer. HasAnswer
             (common_ask (type_at self.old) cmd.Next) answer self.old self.new) }
         ensures fault { IfErr result (λ fault. HasFault
             (common_ask (type_at self.old) cmd.Next) fault self.old self.new) }
     {
-        self.common(rt, alloc, ShellCmd::Next)
+        self.common(rt, ShellCmd::Next)
     }
 
     /// RESPOND (IXLEERSP): the oldest event taken that is to be answered is answered.
-    pub fn respond(&mut self, rt: &impl Wait, alloc: Global) -> Result<Answer, Unanswered>
+    pub fn respond(&mut self, rt: &impl Wait) -> Result<Answer, Unanswered>
         ensures same { IsSame self.old self.new }
         ensures answer { IfOk result (λ answer. HasAnswer
             (common_ask (type_at self.old) cmd.Respond) answer self.old self.new) }
         ensures fault { IfErr result (λ fault. HasFault
             (common_ask (type_at self.old) cmd.Respond) fault self.old self.new) }
     {
-        self.common(rt, alloc, ShellCmd::Respond)
+        self.common(rt, ShellCmd::Respond)
+    }
+
+    /// A command in words, as a script's line has it after who and structure, and the reply: any
+    /// that a structure of this kind has beside the common ones.
+    pub fn say(&mut self, rt: &impl Wait, script: &Script, text: &[u8]) -> Result<Answer, Fault>
+        requires { IsPolicy script.now }
+        ensures same { IsSame self.old self.new }
+        ensures answer { IfOk result
+            (λ answer. HasSaid script.now text.now answer self.old self.new) }
+        ensures fault { IfErr result (IsSayFault script.now text.now self.old self.new) }
+    {
+        let ask = match said(self.alloc, self.board.kind(self.on), script, text) {
+            Ok(ask) => ask,
+            Err(miss) => return Err(Fault::from(miss)),
+        };
+        match self.ask(rt, ask) {
+            Ok(answer) => Ok(answer),
+            Err(fault) => Err(Fault::Unanswered(fault)),
+        }
     }
 
     /// Any common command that a connector may give, as those of a rebuild, and the reply.
-    pub fn common(
-        &mut self,
-        rt: &impl Wait,
-        alloc: Global,
-        cmd: ShellCmd,
-    ) -> Result<Answer, Unanswered>
+    pub fn common(&mut self, rt: &impl Wait, cmd: ShellCmd) -> Result<Answer, Unanswered>
         requires { IsConnector self.old.desk.owner → MayCommand self.old.desk.owner cmd }
         ensures same { IsSame self.old self.new }
         ensures answer { IfOk result (λ answer. HasAnswer
@@ -282,11 +292,11 @@ impl<'p, K: Kinds> Seat<'p, K> {
             (common_ask (type_at self.old) cmd) fault self.old self.new) }
     {
         let asked = common_ask(self.board.kind(self.on), cmd);
-        self.ask(rt, alloc, asked)
+        self.ask(rt, asked)
     }
 
     // A call of a structure that may be of another kind, and the reply to it.
-    fn ask_of(&mut self, rt: &impl Wait, alloc: Global, ask: AnyAsk) -> Result<Answer, Unanswered>
+    fn ask_of(&mut self, rt: &impl Wait, ask: AnyAsk) -> Result<Answer, Unanswered>
         requires { IsConnector self.old.desk.owner → MayAskAny self.old.desk.owner ask }
         ensures same { IsSame self.old self.new }
         ensures answer { IfOk result (λ answer. HasAnswer ask answer self.old self.new) }
@@ -295,39 +305,26 @@ impl<'p, K: Kinds> Seat<'p, K> {
             (λ fault. fault ≢ OtherKind → HasType (type_of_ask ask) self.old) }
     {
         if is_of_kind(&ask, self.board.kind(self.on)) {
-            self.ask(rt, alloc, ask)
+            self.ask(rt, ask)
         } else {
             Err(Unanswered::OtherKind)
         }
     }
 
     // A call, and the reply to it.
-    fn ask(&mut self, rt: &impl Wait, alloc: Global, ask: AnyAsk) -> Result<Answer, Unanswered>
+    fn ask(&mut self, rt: &impl Wait, ask: AnyAsk) -> Result<Answer, Unanswered>
         requires kind { HasType (type_of_ask ask) self.old }
         requires may { IsConnector self.old.desk.owner → MayAskAny self.old.desk.owner ask }
         ensures same { IsSame self.old self.new }
         ensures answer { IfOk result (λ answer. HasAnswer ask answer self.old self.new) }
         ensures fault { IfErr result (λ fault. HasFault ask fault self.old self.new) }
     {
-        let no = match self.board.call(rt, alloc, &mut self.desk, self.on, ask) {
-            Ok(told) => told.no,
-            Err(refusal) => return Err(Unanswered::NotMade(refusal)),
-        };
-        match self.reply(rt, alloc, no) {
-            Ok(Some(reply)) => Ok(Answer { no, reply }),
-            Ok(None) => unreachable!(),
-            Err(_) => Err(Unanswered::Unread { no }),
-        }
+        ask_at(rt, self.alloc, self.board, &mut self.desk, self.on, ask)
     }
 
     /// The reply to a call of the member's, by its number: `None` where no call of the member's has
     /// that number.
-    pub fn reply(
-        &mut self,
-        rt: &impl Wait,
-        alloc: Global,
-        no: u32,
-    ) -> Result<Option<AnyReply>, NoMemory>
+    pub fn reply(&mut self, rt: &impl Wait, no: u32) -> Result<Option<AnyReply>, NoMemory>
         ensures same { IsSame self.old self.new }
         ensures later { IsLaterOn self.old.on self.old.desk self.new.desk }
         ensures reply { IfOk result
@@ -336,7 +333,8 @@ impl<'p, K: Kinds> Seat<'p, K> {
             ≡ is_some (call_numbered no (pass_of self.old).calls)) }
         ensures no_memory { IfErr result (λ _. self.new ≡ self.old) }
     {
-        self.board.reply(rt, alloc, &mut self.desk, self.on, no)
+        self.board
+            .reply(rt, self.alloc, &mut self.desk, self.on, no)
     }
 
     /// How many bits the member's vector has.
@@ -412,33 +410,31 @@ impl<'p, K: Kinds> Seat<'p, K> {
         }
     }
 
-    /// Takes events, at most so many, till this one comes.
-    pub fn await_event(
-        &mut self,
-        rt: &impl Wait,
-        alloc: Global,
-        event: Event,
-        most: u32,
-    ) -> Result<Answer, Fault>
+    /// Takes events, at most so many, till this one comes, and hands out those that came before it:
+    /// some of them may be the member's to act on, or to respond to. Room for that many answers is
+    /// taken first.
+    pub fn await_event(&mut self, rt: &impl Wait, event: Event, most: u32) -> Result<Heard, Fault>
         ensures same { IsSame self.old self.new }
-        ensures event { IfOk result (λ answer. event_of answer.reply ≡ Some event) }
-        ensures heard { IfOk result (HasHeard self.new) }
-        ensures newer { IfOk result (λ answer. (pass_of self.old).known < answer.no) }
+        ensures event { IfOk result (λ heard. event_of heard.answer.reply ≡ Some event) }
+        ensures heard { IfOk result (λ heard. HasHeard self.new heard.answer) }
+        ensures newer { IfOk result (λ heard. (pass_of self.old).known < heard.answer.no) }
+        ensures earlier { IfOk result
+            (λ heard. HasTaken heard.earlier.items heard.answer self.old self.new) }
         ensures asked { HasAskedForEvents most self.old self.new }
-        ensures fault { IfErr result (λ fault. (fault ≡ Alone) ⊎ ((why : Unanswered)
-            × (fault ≡ ended.Unanswered why) × HasAskedInVain why self.old self.new)) }
+        ensures fault { IfErr result (IsWaitFault self.old self.new) }
         ensures alone { IfErr result (λ fault. fault ≡ Alone → length (pass_of self.new).calls
             ≡ length (pass_of self.old).calls + most) }
     {
+        let mut earlier = room_for(self.alloc, most)?;
         for _ in 0..most {
-            let answer = match self.next_event(rt, alloc) {
+            let answer = match self.next_event(rt) {
                 Ok(answer) => answer,
                 Err(fault) => return Err(Fault::Unanswered(fault)),
             };
-            match answer.event() {
-                Some(told) if is_same(told, event) => return Ok(answer),
-                _ => {}
+            if tells(&answer, event) {
+                return Ok(Heard { earlier, answer });
             }
+            hand_out(&mut earlier, answer);
         }
         Err(Fault::Alone)
     }
@@ -451,9 +447,33 @@ fn is_connector(owner: ConnId) -> bool
     1 <= owner.0 && owner.0 <= CONNECTORS
 }
 
-// Whether an event is the other.
-fn is_same(told: Event, event: Event) -> bool
-    ensures { IsTrue result ↔ (told ≡ event) }
+// Whether an answer tells this event.
+fn tells(answer: &Answer, event: Event) -> bool
+    ensures { IsTrue result ↔ (event_of answer.now.reply ≡ Some event) }
 {
-    told == event
+    match answer.event() {
+        Some(told) => told == event,
+        None => false,
+    }
+}
+
+// Room for so many answers.
+fn room_for(alloc: Global, most: u32) -> Result<Vec<Answer>, NoMemory>
+    ensures none { IfOk result (λ answers. answers.items ≡ []) }
+    ensures room { IfOk result (λ answers. most ≤ vec_capacity answers) }
+{
+    Ok(Vec::with_capacity(alloc, most as usize)?)
+}
+
+// Puts an answer behind these, where it tells an event.
+fn hand_out(earlier: &mut Vec<Answer>, answer: Answer)
+    requires { vec_len earlier.old + 1 ≤ vec_capacity earlier.old }
+    ensures handed { earlier.new.items
+        ≡ earlier.old.items ++ filter tells_event (answer ∷ []) }
+    ensures one { vec_len earlier.new ≤ vec_len earlier.old + 1 }
+    ensures room { vec_capacity earlier.new ≡ vec_capacity earlier.old }
+{
+    if answer.event().is_some() {
+        earlier.push_reserved(answer);
+    }
 }

@@ -1,7 +1,7 @@
 -- The desks are those of a board that begins.
 use Rattle.plex_seat.proofs.Imports.{◌+◌, length, arith}
 use Rattle.plex_seat.proofs.PlexLaws.{new-of_board, new-length}
-use Rattle.plex_seat.proofs.plex.Plex.open.Goals as goal
+use Rattle.plex_seat.proofs.plex.Plex.start.Goals as goal
 
 pub invariant_of-result : goal.invariant_of-result
 invariant_of-result g c = omega (
