@@ -138,10 +138,10 @@ fn work(
     a.say(rt, script, b"WRITE P1 0 balance-25 CHANGED 1")?;
     let read = b.say(rt, script, b"READ P1 0")?;
     a.say(rt, script, b"CASTOUT P1")?;
+    let sure = b.post(rt);
     if b.vector() <= COPY {
         return Err(Fault::Policy);
     }
-    let sure = b.post(rt);
     let tested = b.test(COPY);
     Ok(Seen { read, sure, tested })
 }
