@@ -1,5 +1,5 @@
 -- The names of the rows that are reclaimed, counted a row at a time.
-use Rattle.cache_core.proofs.Imports.{le-leb, lt-leb, IfOk-weaker, ◌≡◌, ℕ, suc, zero, Option, None, option_map, slice_get, append-nil, ◌+◌, ◌≤◌, true, false, not, cond, List, [], ◌∷◌, ◌++◌, append_assoc, length, length-append, drop, filter, map, sum_by, refl, sym, ap, ◌∙◌, arith, Some, option_to_list, drop_all, length-map, filter-append, sum_by-cons, sum_by-append, length-filter_both, sum_by-filter_both, fold-map, shortest_prefix, filter-filter, filter_swap, sum_by-filter-le, length-filter-le, shortest_prefix-nil, shortest_prefix_agree, shortest_prefix-map, Caps, Name16, CacheItem, Request, Room, Reclaimable, is_row_of, elements_in, is_reclaimable, reclaim_order, victims, DirectoryFull, reclaimed_for, room_for, is_enough, reclaimable_of, reclaimable_from, size}
+use Rattle.cache_core.proofs.Imports.{le-leb, lt-leb, IfOk-weaker, ◌≡◌, ℕ, suc, zero, Option, None, option_map, slice_get, append-nil, ◌+◌, ◌≤◌, true, false, not, cond, List, [], ◌∷◌, ◌++◌, append_assoc, length, length-append, drop, filter, map, sum_by, refl, sym, ap, ◌∙◌, arith, Some, option_to_list, drop_all, length-map, filter-append, sum_by-cons, sum_by-append, length-filter_both, sum_by-filter_both, fold-map, shortest_prefix, filter-filter, filter_swap, sum_by-filter-le, length-filter-le, shortest_prefix-nil, shortest_prefix_agree, shortest_prefix-map, Caps, Name16, CacheItem, Request, Room, Reclaimable, is_row_of, elements_in, is_reclaimable, reclaim_order, victims, DirectoryFull, reclaimed_for, reclaimed_names, take, take_all, subst, ◌<◌, room_for, is_enough, reclaimable_of, reclaimable_from, size}
 use Rattle.cache_model.specs.Room as room
 use Rattle.cache_core.specs.Measure as measure
 
@@ -107,6 +107,11 @@ module _ (request : Request) (rows : List CacheItem) (room : Room) (names : List
   pub fronting_end : length rows ≤ k → names ≡ measure.front_names room (reclaimable_from request rows 0)
   fronting_end le = grind (arith, append-nil, drop_all, length-reclaimed)
 
+  -- where the order of reclaiming has no more
+  pub fronting_whole : length (reclaimed_for request.stg rows) ≤ k
+      → names ≡ measure.front_names room (reclaimable_from request rows 0)
+  fronting_whole le = grind (arith, append-nil, drop_all)
+
   module _ (o : Option Reclaimable) (row : Reclaimable) (is : o ≡ measure.victim_at request rows k)
       (some : o ≡ Some row) where
     next_row : reclaimable_from request rows k ≡ row ∷ reclaimable_from request rows (k + 1)
@@ -135,7 +140,45 @@ module _ (request : Request) (rows : List CacheItem) (room : Room) (names : List
               omega (arith, so_far.weighs, whole, sum_by-cons weight row rest);
         })
 
+-- ---- the names of those that are reclaimed first
+
+taken_few : {X : Type 0} (n : ℕ) (xs : List X) → length (take n xs) < n → length xs ≤ length (take n xs)
+taken_few zero xs lt = omega (arith, lt)
+taken_few (suc n) [] lt = omega arith
+taken_few (suc n) (x ∷ xs) lt = omega (arith, taken_few n xs (omega (arith, lt)))
+
+taken_own : {X : Type 0} (n : ℕ) (xs : List X) → take n xs ≡ take (length (take n xs)) xs
+taken_own zero xs = refl
+taken_own (suc n) [] = refl
+taken_own (suc n) (x ∷ xs) = ap (λ l. x ∷ l) (taken_own n xs)
+
+-- they are so many from the front of all
+pub listed_first : (most : ℕ) (order all : List Name16) → order ≡ take most all → order ≡ take (length order) all
+listed_first most order all e = rw e (taken_own most all)
+
+-- and all of them where they are fewer than asked for
+pub listed_whole : (stg most : ℕ) (rows : List CacheItem) (order : List Name16)
+    → order ≡ take most (reclaimed_names stg rows) → length order < most
+    → length (reclaimed_for stg rows) ≤ length order
+listed_whole stg most rows order e lt =
+    let long = length-map (reclaimed_for stg rows) (λ (row : CacheItem). row.name) in
+    let few : length (take most (reclaimed_names stg rows)) < most = subst (λ l. length l < most) e lt in
+    let le = taken_few most (reclaimed_names stg rows) few in
+    rw e (omega (arith, long, le))
+
+pub listed_all : (stg most : ℕ) (rows : List CacheItem) (order : List Name16)
+    → order ≡ take most (reclaimed_names stg rows) → most ≡ length rows
+    → length (reclaimed_for stg rows) ≤ length order
+listed_all stg most rows order e all =
+    let long = length-map (reclaimed_for stg rows) (λ (row : CacheItem). row.name) in
+    let le = length-reclaimed stg rows in
+    rw (e, take_all most (reclaimed_names stg rows) (omega (arith, long, le, all))) (omega (arith, long))
+
 -- ---- what functions are proved by
+
+pub ruleset few_told = (IfOk-weaker, listed_first, listed_whole)
+
+pub ruleset all_told = (IfOk-weaker, listed_first, listed_all)
 
 pub ruleset refusal_told = (le-leb, lt-leb, room_refusal-measured)
 

@@ -1,9 +1,10 @@
 //! Room for a request: which unchanged rows are reclaimed for it.
-ghost use Rattle.std.specs.Prelude.{◌≡◌, ◌^◌, ◌<◌, Some, IfOk, length, option_map};
+ghost use Rattle.std.specs.Prelude.{◌≡◌, ◌^◌, ◌<◌, ◌≤◌, true, Some, IfOk, length, option_map, take};
 ghost use Rattle.std.specs.Result.{result_err};
 ghost use Rattle.cache_model.specs.Rows.{elements_in};
 ghost use Rattle.cache_model.specs.Room.{victims, room_refusal};
 ghost use Rattle.cache_core.specs.Measure.{room_for, has_place, free_elements, is_enough, reclaimable_of, other_than, victim_at, reclaimable_from, front_names};
+ghost use Rattle.cache_rows.specs.Indexes.{reclaimed_for, reclaimed_names};
 
 use crate::refusals::Judged;
 use cache_model::Request;
@@ -94,12 +95,18 @@ pub(crate) fn room_refusal(caps: Caps, rows: &Rows, request: &Request) -> Judged
     }
 }
 
-// The row that is reclaimed at a place (from 0) for a command; none where that is the command's
-// own, or past the end.
-fn victim_at(rows: &Rows, request: &Request, k: u32) -> Option<Reclaimable>
+// How many rows are looked at first. More are only where so many don't leave room.
+const FIRST: usize = 16;
+
+// The row that is reclaimed at a place (from 0) for a command, by the names of those that are
+// reclaimed first; none where that is the command's own.
+fn victim_at(rows: &Rows, request: &Request, order: &[Name16], k: usize) -> Option<Reclaimable>
+    requires listed { order.now
+        ≡ take (length order.now) (reclaimed_names request.now.stg rows.now.rows) }
+    requires within { k < length order.now }
     ensures { result ≡ victim_at request.now rows.now.rows k }
 {
-    match rows.reclaimed(request.stg, k) {
+    match rows.reclaimed(request.stg, order, k) {
         None => None,
         Some(row) => reclaimable_for(&row, &request.name),
     }
@@ -119,25 +126,41 @@ fn reclaimable_for(row: &Row<'_>, name: &Name16) -> Option<Reclaimable>
     }
 }
 
-// The names of as few rows from the front of the order of reclaiming as leave room.
+// Names of rows that are reclaimed, and whether they leave room.
+#[derive(Drop)]
+struct Front {
+    names: Vec<Name16>,
+    leaves_room: bool,
+}
+
+// The names of as few rows from the front of the order of reclaiming as leave room, of those whose
+// names are given.
 fn front(
     alloc: Global,
     rows: &Rows,
     request: &Request,
     room: &Room,
-) -> Result<Vec<Name16>, NoMemory>
-    requires few { length rows.now.rows < 2 ^ 32 }
+    order: &[Name16],
+) -> Result<Front, NoMemory>
     requires elements { elements_in rows.now.rows < 2 ^ 32 }
-    ensures { IfOk result (λ names. names.items
+    requires listed { order.now
+        ≡ take (length order.now) (reclaimed_names request.now.stg rows.now.rows) }
+    ensures enough { IfOk result (λ front. front.leaves_room ≡ true → front.names.items
+        ≡ front_names room.now (reclaimable_from request.now rows.now.rows 0)) }
+    ensures whole { IfOk result (λ front. length (reclaimed_for request.now.stg rows.now.rows)
+        ≤ length order.now → front.names.items
         ≡ front_names room.now (reclaimable_from request.now rows.now.rows 0)) }
 {
     let mut names = Vec::new(alloc);
     let mut given = 0;
-    for k in 0..rows.len() as u32 {
+    for k in 0..order.len() {
         if room.is_enough(names.len(), given) {
-            return Ok(names);
+            return Ok(Front {
+                names,
+                leaves_room: true,
+            });
         }
-        match victim_at(rows, request, k) {
+        match victim_at(rows, request, order, k) {
             Some(row) => {
                 names.push(row.name)?;
                 given += row.elements;
@@ -145,7 +168,51 @@ fn front(
             None => {}
         }
     }
+    let leaves_room = room.is_enough(names.len(), given);
+    Ok(Front { names, leaves_room })
+}
+
+// The same of all rows that may be reclaimed.
+#[tactic(auto, using(crate::proofs::FrontLaws::all_told))]
+fn front_of_all(
+    alloc: Global,
+    rows: &Rows,
+    request: &Request,
+    room: &Room,
+) -> Result<Vec<Name16>, NoMemory>
+    requires elements { elements_in rows.now.rows < 2 ^ 32 }
+    ensures { IfOk result (λ names. names.items
+        ≡ front_names room.now (reclaimable_from request.now rows.now.rows 0)) }
+{
+    let order = rows.reclaimed_names(alloc, request.stg, rows.len())?;
+    let Front {
+        names,
+        leaves_room: _,
+    } = front(alloc, rows, request, room, &order)?;
     Ok(names)
+}
+
+// The same, by a look at the first few of them where these leave room.
+#[tactic(auto, using(crate::proofs::FrontLaws::few_told))]
+fn front_by_few(
+    alloc: Global,
+    rows: &Rows,
+    request: &Request,
+    room: &Room,
+) -> Result<Vec<Name16>, NoMemory>
+    requires elements { elements_in rows.now.rows < 2 ^ 32 }
+    ensures { IfOk result (λ names. names.items
+        ≡ front_names room.now (reclaimable_from request.now rows.now.rows 0)) }
+{
+    if room.is_enough(0, 0) {
+        return Ok(Vec::new(alloc));
+    }
+    let order = rows.reclaimed_names(alloc, request.stg, FIRST)?;
+    let Front { names, leaves_room } = front(alloc, rows, request, room, &order)?;
+    if leaves_room || order.len() < FIRST {
+        return Ok(names);
+    }
+    front_of_all(alloc, rows, request, room)
 }
 
 /// The names of the rows that are reclaimed for a request.
@@ -161,5 +228,5 @@ pub(crate) fn victims(
     ensures { IfOk result (λ names. names.items ≡ victims caps request.now rows.now.rows) }
 {
     let room = Room::measure(caps, rows, request);
-    front(alloc, rows, request, &room)
+    front_by_few(alloc, rows, request, &room)
 }

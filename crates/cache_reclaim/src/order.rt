@@ -1,9 +1,9 @@
-ghost use Rattle.std.specs.Prelude.{◌≡◌, ◌+◌, ◌≤◌, ◌<◌, ◌++◌, [], true, false, IfOk, OnOk, length, filter, option_map, slice_get};
-ghost use Rattle.cache_reclaim.specs.LastUse.{has_name, is_in_part, order_without, order_touched, victim, names_in};
+ghost use Rattle.std.specs.Prelude.{◌≡◌, ◌+◌, ◌≤◌, ◌<◌, ◌++◌, [], true, false, IfOk, OnOk, length, filter, option_map, slice_get, take};
+ghost use Rattle.cache_reclaim.specs.LastUse.{has_name, is_in_part, order_without, order_touched, reclaimed_for, victim, names_in};
 ghost use Rattle.cache_reclaim.specs.declared.used.Used.{Used};
 
 use crate::slots::{
-    NameKey, all_free, copied, copied_names, count_of, nth_used, push_names, remove, touch, victim,
+    NameKey, all_free, copied, copied_names, count_of, nth_used, push_names, push_part, remove, touch, victim,
 };
 use crate::used::Used;
 use cf_types::{Name16, NoMemory};
@@ -100,6 +100,20 @@ impl Order {
     {
         victim(&self.slots, stg, k as usize)
     }
+
+    /// The names that are reclaimed first for a request of this storage class, in that order, by one
+    /// walk over the names: as many as there are, or so many. Only want of memory is refused.
+    #[tactic(auto, using(crate::proofs::PlaceLaws::first_told))]
+    pub fn victims(&self, alloc: Global, stg: u32, most: usize) -> Result<Vec<Name16>, NoMemory>
+        ensures { IfOk result (λ list. list.items
+            ≡ take most (names_in (reclaimed_for stg self.now.order))) }
+    {
+        let mut list = Vec::new(alloc);
+        push_part(&self.slots, &mut list, stg, true, most)?;
+        push_part(&self.slots, &mut list, stg, false, most)?;
+        Ok(list)
+    }
+
     /// How many names are of rows of a storage class (1 to 8).
     pub fn count(&self, stg: u32) -> usize
         ensures { result ≡ length (filter (is_in_part stg true) self.now.order) }

@@ -1,6 +1,6 @@
 //! Slots for names, in the order of last use. All of them are there from the start, and those that
 //! hold no name stand at the end of the least recently used.
-ghost use Rattle.std.specs.Prelude.{◌≡◌, ◌+◌, ◌≤◌, ◌<◌, ◌∷◌, ◌++◌, [], None, Some, true, IfOk, OnOk, IsSome, nat_eq, length, filter, slice_get, reverse};
+ghost use Rattle.std.specs.Prelude.{◌≡◌, ◌+◌, ◌≤◌, ◌<◌, ◌∷◌, ◌++◌, [], None, Some, true, IfOk, OnOk, IsSome, nat_eq, length, filter, slice_get, reverse, take};
 ghost use Rattle.std.specs.Map.{lookup, remove_entry, keys_of};
 ghost use Rattle.std.specs.List.{IsDistinct};
 ghost use Rattle.std.specs.Cmp.Lexicographic.{pointwise};
@@ -277,6 +277,41 @@ fn push_name(list: &mut Vec<Name16>, used: &Option<Used>) -> Result<(), AllocErr
         Some(used) => Ok(list.push(used.name)?),
         None => Ok(()),
     }
+}
+
+// Puts the name that a slot holds, where that is of a storage class, or of another one, behind
+// others.
+fn push_in_part(
+    list: &mut Vec<Name16>,
+    used: &Option<Used>,
+    stg: u32,
+    own: bool,
+) -> Result<(), AllocError>
+    ensures { OnOk result (list.new.items ≡ list.old.items ++ name_in (part_of stg own used.now)) }
+{
+    push_name(list, &in_part(used, stg, own))
+}
+
+/// Puts the names of a storage class, or those of the others, from least recently used, behind
+/// others, until there are so many.
+pub(crate) fn push_part(
+    slots: &LruCache<u32, Option<Used>>,
+    list: &mut Vec<Name16>,
+    stg: u32,
+    own: bool,
+    most: usize,
+) -> Result<(), AllocError>
+    requires { length list.old.items ≤ most }
+    ensures { OnOk result (list.new.items ≡ take most (list.old.items
+        ++ names_in (filter (is_in_part stg own) (used_in (reverse slots.now.entries))))) }
+{
+    for (_, used) in slots.iter().rev() {
+        if list.len() >= most {
+            return Ok(());
+        }
+        push_in_part(list, used, stg, own)?;
+    }
+    Ok(())
 }
 
 /// Puts the names that slots hold, from least recently used, behind others.

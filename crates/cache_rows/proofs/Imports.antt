@@ -30,7 +30,7 @@ pub use Rattle.cf_lists.proofs.PairwiseLaws.{pairwise-insertion, pairwise_push, 
 pub use Rattle.cf_lists.proofs.TableLaws.{get-set_other}
 pub use Rattle.cf_lists.proofs.TakeLaws.{split_next}
 pub use Rattle.cf_types.specs.declared.{names.Name16.Name16, numbers.ConnId.ConnId}
-pub use Rattle.cache_rows.specs.Indexes.{is_unchanged, changed_of, classes_of, used_of, order_of, names_retaken, order_retaken, names_reset, order_reset, order_with, changed_first, reclaimed_for}
+pub use Rattle.cache_rows.specs.Indexes.{is_unchanged, changed_of, classes_of, used_of, order_of, names_retaken, order_retaken, names_reset, order_reset, order_with, changed_first, reclaimed_for, reclaimed_names}
 pub use Rattle.cache_rows.specs.Listed.{retaken, relabeled, rows_but, row_or, changed_in, unchanged_in, rows_in, IsIndexed, counts_at, Listed, listed_of}
 pub use Rattle.cache_rows.specs.RowBatch.{RowBatch}
 pub use Rattle.cache_rows.specs.Stored.{label_of, label_written, item_with, body_of, row_of_label, body_in, item_in, entries_in, item_at, chains_without, HasBytes, HasData, chain_of, head_of, AreStored}

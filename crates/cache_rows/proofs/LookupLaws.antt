@@ -1,5 +1,5 @@
 -- What the indexes tell of the rows.
-use Rattle.cache_rows.proofs.Imports.{IfOk-weaker, ◌≡◌, ℕ, Bool, true, not, List, [], ◌∷◌, ◌++◌, Option, Some, None, option_map, slice_get, length, filter, map, suc, zero, ◌-◌, ◌+◌, ◌<◌, take, refl, sym, ap, ◌∙◌, subst, arith, map-append, length-map, drop_all, filter_agree, slice_get-map, Name16, same_name, pairwise, filter-filter, filter_all, list_all_always, any_is_found, split_next, AllFound, found_filter, found_append, Used, same_name-eq, same_name-refl, CacheItem, is_changed, row_of, has_row, rows_without, has_class, has_storage, names_apart, rows_of_class, name_of, is_unchanged, changed_of, classes_of, used_of, order_of, reclaimed_for}
+use Rattle.cache_rows.proofs.Imports.{IfOk-weaker, ◌≡◌, ℕ, Bool, true, not, List, [], ◌∷◌, ◌++◌, Option, Some, None, option_map, slice_get, length, filter, map, suc, zero, ◌-◌, ◌+◌, ◌<◌, take, refl, sym, ap, ◌∙◌, subst, arith, map-append, length-map, drop_all, filter_agree, slice_get-map, Name16, same_name, pairwise, filter-filter, filter_all, list_all_always, any_is_found, split_next, AllFound, found_filter, found_append, Used, same_name-eq, same_name-refl, CacheItem, is_changed, row_of, has_row, rows_without, has_class, has_storage, names_apart, rows_of_class, name_of, is_unchanged, changed_of, classes_of, used_of, order_of, reclaimed_for, reclaimed_names}
 use Rattle.cache_classes.specs.Castout as castout
 use Rattle.cache_reclaim.specs.LastUse as last_use
 use Rattle.cache_rows.proofs.IndexLaws.{filter-map, map_same, without-last}
@@ -19,17 +19,6 @@ pub count-classes_of : (class : ℕ) (rows : List CacheItem)
 count-classes_of class rows = grind (arith, filter-map, length-map, classed)
 
 -- ---- the rows in the order of reclaiming
-
-victim-row : (stg k : ℕ) (rows : List CacheItem) → last_use.victim
-    stg k (order_of rows) ≡ option_map (λ (row : CacheItem). row.name) (slice_get (reclaimed_for stg rows) k)
-victim-row stg k rows = ap (λ (l : List Used). option_map (λ (used : Used). used.name) (slice_get l k))
-    (grind (arith, filter-map, map-append)) ∙ ap (λ (o : Option Used). option_map (λ (used : Used). used.name) o)
-    (slice_get-map used_of (reclaimed_for stg rows) k) ∙ twice (slice_get (reclaimed_for stg rows) k)
-  where
-    twice : (o : Option CacheItem) → option_map (λ (used : Used). used.name) (option_map used_of o)
-        ≡ option_map (λ (row : CacheItem). row.name) o
-    twice None = refl
-    twice (Some row) = refl
 
 abbrev pub AreFound : List CacheItem → List CacheItem → Type 0
 AreFound some rows = AllFound name_of same_name same_name-eq same_name-refl some rows
@@ -53,25 +42,42 @@ found_at (x ∷ some) rows zero row h e =
     let same : x ≡ row = cc in subst (λ (r : CacheItem). row_of r.name rows ≡ Some r) same h.0
 found_at (x ∷ some) rows (suc k) row h e = found_at some rows k row h.1 e
 
--- the row of the victim's name is the one that is reclaimed
-pub reclaimed-row : (stg k : ℕ) (rows : List CacheItem) (name : Name16) → pairwise names_apart rows ≡ true
-    → Some name ≡ last_use.victim stg k (order_of rows) → row_of name rows ≡ slice_get (reclaimed_for stg rows) k
-reclaimed-row stg k rows name h e = go (slice_get (reclaimed_for stg rows) k) refl (e ∙ victim-row stg k rows)
+-- the names in the order of reclaiming
+pub names-reclaimed : (stg most : ℕ) (rows : List CacheItem) (names : List Name16)
+    → names ≡ take most (last_use.names_in (last_use.reclaimed_for stg (order_of rows)))
+    → names ≡ take most (reclaimed_names stg rows)
+names-reclaimed stg most rows names e = e ∙ ap (λ l. take most l) (same_names (last_use.reclaimed_for stg
+    (order_of rows)) (grind (arith, filter-map, map-append)))
+  where
+    same_names : (used : List Used) → used ≡ map used_of (reclaimed_for stg rows)
+        → last_use.names_in used ≡ reclaimed_names stg rows
+    same_names used f = rw f (map_same _ _ _ (λ row. refl) (reclaimed_for stg rows))
+
+taken_at : {X : Type 0} (n k : ℕ) (xs : List X) (x : X) → slice_get (take n xs) k ≡ Some x → slice_get xs k ≡ Some x
+taken_at zero k xs x h = absurd (cc)
+taken_at (suc n) k [] x h = absurd (cc)
+taken_at (suc n) zero (y ∷ xs) x h = h
+taken_at (suc n) (suc k) (y ∷ xs) x h = taken_at n k xs x h
+
+-- the row of the name at a place there is the one that is reclaimed
+pub reclaimed-row : (stg n k : ℕ) (rows : List CacheItem) (names : List Name16) (name : Name16) → pairwise names_apart
+    rows ≡ true → names ≡ take n (reclaimed_names stg rows) → Some name ≡ slice_get names k
+    → row_of name rows ≡ slice_get (reclaimed_for stg rows) k
+reclaimed-row stg n k rows names name h e f = go (slice_get (reclaimed_for stg rows) k) refl (sym
+    (taken_at n k (reclaimed_names stg rows) name (ap (λ l. slice_get l k) (sym e) ∙ sym f))
+    ∙ slice_get-map name_of (reclaimed_for stg rows) k)
   where
     go : (o : Option CacheItem) → slice_get (reclaimed_for stg rows) k ≡ o
-        → Some name ≡ option_map (λ (row : CacheItem). row.name) o → row_of name rows ≡ o
-    go None is f = absurd (cc)
-    go (Some row) is f =
+        → Some name ≡ option_map name_of o → row_of name rows ≡ o
+    go None is g = absurd (cc)
+    go (Some row) is g =
         let same : name ≡ row.name = cc in
         subst (λ (n : Name16). row_of n rows ≡ Some row) (sym same) (found_at _ _ k _ (found_reclaimed stg rows h) is)
 
-pub reclaimed-none : (stg k : ℕ) (rows : List CacheItem) → None ≡ last_use.victim stg k (order_of rows)
-    → None ≡ slice_get (reclaimed_for stg rows) k
-reclaimed-none stg k rows e = go (slice_get (reclaimed_for stg rows) k) (e ∙ victim-row stg k rows)
-  where
-    go : (o : Option CacheItem) → None ≡ option_map (λ (row : CacheItem). row.name) o → None ≡ o
-    go None f = refl
-    go (Some row) f = absurd (cc)
+pub reclaimed-none : (names : List Name16) (k : ℕ) → k < length names → None ≡ slice_get names k → ⊥
+reclaimed-none [] k lt e = omega (arith, lt)
+reclaimed-none (x ∷ xs) zero lt e = absurd (cc)
+reclaimed-none (x ∷ xs) (suc k) lt e = reclaimed-none xs k (omega (arith, lt)) e
 
 -- ---- the row at a place, by its name
 
@@ -122,5 +128,7 @@ popped rows name h e = go (slice_get rows (length rows - 1)) refl e
 pub ruleset classes_told = (IfOk-weaker, names-classes_of, count-classes_of)
 
 pub ruleset reclaimed_told = (reclaimed-none, reclaimed-row)
+
+pub ruleset reclaimed_listed = (IfOk-weaker, names-reclaimed)
 
 pub ruleset place_told = (IfOk-weaker, named-has, named-row, past-named, listed-name)

@@ -56,3 +56,6 @@ abbrev pub reclaimed_for : ℕ → List CacheItem → List CacheItem
 reclaimed_for stg rows =
     let unchanged = filter is_unchanged rows in
     filter (has_storage stg) unchanged ++ filter (λ row. not (has_storage stg row)) unchanged
+
+abbrev pub reclaimed_names : ℕ → List CacheItem → List Name16
+reclaimed_names stg rows = map (λ row. row.name) (reclaimed_for stg rows)

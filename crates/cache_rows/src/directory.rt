@@ -1,6 +1,6 @@
 //! Rows by name, with the castout classes of the changed ones and the order of last use of the
 //! others.
-ghost use Rattle.std.specs.Prelude.{◌≡◌, ◌+◌, ◌-◌, ◌^◌, ◌<◌, ◌≤◌, ◌&&◌, [], IsTrue, IfOk, OnOk, Some, None, true, false, filter, length, map, option_map, option_to_list, slice_get, is_some};
+ghost use Rattle.std.specs.Prelude.{◌≡◌, ◌+◌, ◌-◌, ◌^◌, ◌<◌, ◌≤◌, ◌&&◌, [], IsTrue, IfOk, OnOk, Some, None, true, false, filter, length, map, option_map, option_to_list, slice_get, is_some, take};
 ghost use Rattle.cf_lists.specs.Pairwise.{pairwise};
 ghost use Rattle.cf_types.specs.Stored.{elements_of};
 ghost use Rattle.cache_classes.specs.declared.changed.Changed.{Changed};
@@ -11,7 +11,7 @@ ghost use Rattle.cache_model.specs.declared.items.CacheItem.{CacheItem};
 ghost use Rattle.cache_model.specs.Rows.{is_changed, row_of, has_row, rows_without, rows_replaced, names_apart, has_class, has_storage};
 ghost use Rattle.cache_model.specs.Contents.{without_hold};
 ghost use Rattle.cache_model.specs.Commands.CoStats.{rows_of_class};
-ghost use Rattle.cache_rows.specs.Indexes.{names_retaken, order_retaken, names_reset, order_reset, order_with, reclaimed_for};
+ghost use Rattle.cache_rows.specs.Indexes.{names_retaken, order_retaken, names_reset, order_reset, order_with, reclaimed_for, reclaimed_names};
 ghost use Rattle.cache_rows.specs.Listed.{row_or, counts_at, relabeled, retaken};
 ghost use Rattle.cache_rows.specs.Stored.{item_with, elements_of_row};
 
@@ -285,12 +285,29 @@ impl Directory {
         self.order.count(stg)
     }
 
-    /// The row that is reclaimed as the `k`-th (from 0) for a storage class (1 to 8).
+    /// The names of the rows that are reclaimed first for a storage class (1 to 8), in that order:
+    /// of all that may be, or of so many.
+    #[tactic(auto, using(crate::proofs::LookupLaws::reclaimed_listed))]
+    pub(crate) fn reclaimed_names(
+        &self,
+        alloc: Global,
+        stg: u32,
+        most: usize,
+    ) -> Result<Vec<Name16>, NoMemory>
+        ensures { IfOk result (λ names. names.items ≡ take most (reclaimed_names stg self.now.rows)) }
+    {
+        self.order.victims(alloc, stg, most)
+    }
+
+    /// The row that is reclaimed as the `k`-th (from 0) for a storage class (1 to 8), by the names
+    /// of those that are reclaimed first.
     #[tactic(auto, using(crate::proofs::LookupLaws::reclaimed_told))]
-    pub(crate) fn reclaimed(&self, stg: u32, k: u32) -> Option<Row<'_>>
+    pub(crate) fn reclaimed(&self, stg: u32, names: &[Name16], k: usize) -> Option<Row<'_>>
+        requires listed { names.now ≡ take (length names.now) (reclaimed_names stg self.now.rows) }
+        requires within { k < length names.now }
         ensures { result ≡ slice_get (reclaimed_for stg self.now.rows) k }
     {
-        match self.order.victim(stg, k) {
+        match nth(names, k) {
             Some(name) => self.store.find(&name),
             None => None,
         }

@@ -5,7 +5,7 @@ ghost use Rattle.cf_lists.specs.Pairwise.{pairwise};
 ghost use Rattle.cache_model.specs.Room.{is_reclaimable};
 ghost use Rattle.cache_model.specs.Commands.CoStats.{rows_of_class};
 ghost use Rattle.cache_model.specs.declared.items.CacheItem.{CacheItem};
-ghost use Rattle.cache_rows.specs.Indexes.{reclaimed_for};
+ghost use Rattle.cache_rows.specs.Indexes.{reclaimed_for, reclaimed_names};
 ghost use Rattle.cache_rows.specs.Listed.{relabeled, retaken};
 ghost use Rattle.cache_rows.specs.Stored.{item_with, elements_of_row};
 ghost use Rattle.cache_rows.specs.Totals.{IsTotals};
@@ -322,13 +322,28 @@ impl Rows {
         }
     }
 
-    /// The row that is reclaimed as the `k`-th (from 0) for a storage class (1 to 8): first the
-    /// unchanged rows of that class, then the other unchanged ones, each from least recently used.
-    /// None exactly where there are no more than `k` unchanged rows.
-    pub fn reclaimed(&self, stg: u32, k: u32) -> Option<Row<'_>>
+    /// The names of the rows that are reclaimed first for a storage class (1 to 8): the unchanged
+    /// rows of that class, then the other unchanged ones, each from least recently used; of all of
+    /// them, or of so many. One walk finds them. Only want of memory is refused.
+    pub fn reclaimed_names(
+        &self,
+        alloc: Global,
+        stg: u32,
+        most: usize,
+    ) -> Result<Vec<Name16>, NoMemory>
+        ensures { IfOk result (λ names. names.items ≡ take most (reclaimed_names stg self.now.rows)) }
+    {
+        self.directory.reclaimed_names(alloc, stg, most)
+    }
+
+    /// The row that is reclaimed as the `k`-th (from 0) for a storage class (1 to 8), by the names
+    /// of those that are reclaimed first.
+    pub fn reclaimed(&self, stg: u32, names: &[Name16], k: usize) -> Option<Row<'_>>
+        requires listed { names.now ≡ take (length names.now) (reclaimed_names stg self.now.rows) }
+        requires within { k < length names.now }
         ensures { result ≡ slice_get (reclaimed_for stg self.now.rows) k }
     {
-        self.directory.reclaimed(stg, k)
+        self.directory.reclaimed(stg, names, k)
     }
 
     /// Takes room for one row more, in the map and in both indexes, where there are fewer than
