@@ -1,5 +1,5 @@
 -- For which resources a departure runs the grant rule, and how many letters it sends.
-use Rattle.lock_core.proofs.Imports.{◌≡◌, ◌+◌, ◌≤◌, ◌<◌, Bool, true, false, not, cond, ◌∷◌, [], ◌++◌, List, length, filter, map, refl, sym, ap, ◌∙◌, subst, arith, length-append, sum_by, sum_by-cons, sum_by_more, sum_by_more_le, IsPermutation, pairwise, in_turn, ConnId, Resource, resource_before, pairwise-filter, filter_swap, filter_none, any_is_found, length-filter-le, neighbours, Waiter, is_on, waiters_of, is_by_waiter, is_by_owner, Interest, Content, Settlement, settlement_of, with_letters_before, grants, grant, grant_each, content_granted, departure_of, content_left, interests_left, waiters_without_conn, resources_of, is_awaited, awaited_of, waiting_for, each_once}
+use Rattle.lock_core.proofs.Imports.{◌≡◌, ◌+◌, ◌≤◌, Bool, true, false, not, cond, ◌∷◌, [], ◌++◌, List, length, filter, map, refl, sym, ap, ◌∙◌, subst, arith, length-append, sum_by-cons, sum_by_more, sum_by_more_le, IsPermutation, pairwise, in_turn, ConnId, Resource, resource_before, pairwise-filter, filter_swap, filter_none, any_is_found, length-filter-le, Waiter, is_on, waiters_of, is_by_waiter, is_by_owner, Interest, Content, Settlement, settlement_of, with_letters_before, grants, grant, grant_each, content_granted, departure_of, content_left, interests_left, waiters_without_conn, resources_of, is_awaited, awaited_of, waiting_for, each_once}
 use Rattle.lock_core.proofs.LetterLaws.{grant_few}
 use Rattle.lock_core.proofs.OnceLaws.{AreOrdered, ordered_all, sorted_once, counted_within}
 
@@ -55,7 +55,7 @@ each_few before (r ∷ rs) content h = omega (
   grant_few r content,
   h r,
   each_few before rs (grant r content).content
-  (λ q. omega (arith, h q, fewer_granted (waiters_of r content.waiters) content q)),
+      (λ q. omega (arith, h q, fewer_granted (waiters_of r content.waiters) content q)),
 )
 
 -- ---- a departure
@@ -85,7 +85,7 @@ departure_few conn keep content = omega (
   arith,
   ap (λ (s : Settlement). length s.letters) (departed_alike conn keep content),
   each_few content.waiters (awaited_of conn content) (content_left conn keep content)
-  (fewer_filtered (λ w. not (is_by_waiter conn w)) content.waiters),
+      (fewer_filtered (λ w. not (is_by_waiter conn w)) content.waiters),
 )
 
 -- ---- its resources
@@ -102,11 +102,12 @@ waiting_within rs waiters h = counted_within (λ w. w.r) rs waiters h
 
 -- they are found by a sort
 pub awaited_once : (conn : ConnId) (content : Content) (parts sorted : List Resource)
-    → parts ≡ filter (is_awaited content.waiters) (map (λ (x : Interest). x.held.r) (filter (is_by_owner conn) content.interests)
-    ++ map (λ w. w.r) (filter (is_by_waiter conn) content.waiters)) → IsPermutation parts sorted
+    → parts ≡ filter (is_awaited content.waiters) (map (λ (x : Interest). x.held.r) (filter (is_by_owner conn)
+    content.interests) ++ map (λ w. w.r) (filter (is_by_waiter conn) content.waiters)) → IsPermutation parts sorted
     → pairwise (in_turn (λ k. k) resource_before) sorted ≡ true → each_once sorted ≡ awaited_of conn content
 awaited_once conn content parts sorted is same turn =
     sorted_once (is_awaited content.waiters) (map (λ (x : Interest). x.held.r) (filter (is_by_owner conn)
-    content.interests) ++ map (λ (w : Waiter). w.r) (filter (is_by_waiter conn) content.waiters)) sorted (subst (λ l. IsPermutation l sorted) is same) turn
+    content.interests) ++ map (λ (w : Waiter). w.r) (filter (is_by_waiter conn) content.waiters)) sorted
+    (subst (λ l. IsPermutation l sorted) is same) turn
 
 pub ruleset counted_told = (waiting_within, sum_by_more_le, sum_by_more)

@@ -1,5 +1,5 @@
 -- Resources in their order, each once.
-use Rattle.lock_core.proofs.Imports.{◌≡◌, ◌+◌, ◌≤◌, ◌<◌, ℕ, Bool, true, false, not, ◌&&◌, ◌||◌, cond, ◌∷◌, [], List, Some, None, length, filter, find, fold, drop, get_or, refl, sym, ap, ◌∙◌, subst, arith, list_any, list_all, sum_by, sum_by-cons, append-nil, drop_more, drop_of_length-le, and_parts, and_from, not-true, false≢true, IsPermutation, list_any-IsPermutation, Resource, same_resource, resource_before, same_resource-eq, same_resource-refl, resource_order, insertion, pairwise, in_turn, list_any-insertion, pairwise-insertion, FindsPlace, pairwise-filter, list_all_weaker, all_from_none, filter_swap, filter_absorbed, ordered_same, resources_with, begins_with}
+use Rattle.lock_core.proofs.Imports.{◌≡◌, ◌+◌, ◌≤◌, ◌<◌, ℕ, Bool, true, false, not, ◌&&◌, ◌||◌, cond, ◌∷◌, [], List, Some, None, length, filter, find, fold, drop, get_or, refl, sym, ap, ◌∙◌, subst, arith, list_any, list_all, sum_by, sum_by-cons, append-nil, drop_more, drop_of_length-le, and_parts, and_from, not-true, false≢true, IsPermutation, list_any-IsPermutation, Resource, same_resource, resource_before, same_resource-eq, same_resource-refl, resource_order, insertion, pairwise, in_turn, list_any-insertion, pairwise-insertion, FindsPlace, pairwise-filter, list_all_weaker, all_from_none, filter_swap, filter_absorbed, ordered_same, resources_with}
 unfoldable use Rattle.lock_core.specs.Awaited.{each_once}
 
 abbrev pub AreOrdered : List Resource → Type 0
@@ -119,6 +119,7 @@ ordered_once (r ∷ x ∷ rs) h =
         and_from (resource_before r x) (list_all (resource_before r) rs) next
         (list_all_weaker (in_turn (λ k. k) resource_before x) (resource_before r) (λ z t. before_later r x z next
         (not-true (resource_before z x) t)) rs g)
+
     go : (b : Bool) → same_resource r x ≡ b → list_all (in_turn (λ k. k) resource_before r) (x ∷ rs) ≡ true
         → pairwise (in_turn (λ k. k) resource_before) (x ∷ rs) ≡ true
         → AreOrdered (each_once (x ∷ rs)) → AreOrdered (cond b (each_once (x ∷ rs)) (r ∷ each_once (x ∷ rs)))

@@ -1,4 +1,4 @@
-use Rattle.lock_core.proofs.Imports.{◌≡◌, arith, Resource, same_resource, resource_before, resource_order, neighbours, each_once, awaited_of}
+use Rattle.lock_core.proofs.Imports.{◌≡◌, arith, same_resource, resource_before, resource_order, neighbours, each_once, awaited_of}
 use Rattle.lock_core.proofs.AwaitedLaws.{awaited_once}
 use Rattle.lock_core.proofs.departures.awaited_of.Goals as goal
 

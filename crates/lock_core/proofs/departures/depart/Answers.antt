@@ -1,4 +1,4 @@
-use Rattle.lock_core.proofs.Imports.{◌≡◌, ◌+◌, ◌++◌, length, sym, ap, ◌∙◌, arith, Settlement}
+use Rattle.lock_core.proofs.Imports.{◌+◌, ◌++◌, length, sym, ap, ◌∙◌, arith, Settlement}
 use Rattle.lock_core.proofs.AwaitedLaws.{departed_told}
 use Rattle.lock_core.proofs.departures.depart.Goals as goal
 

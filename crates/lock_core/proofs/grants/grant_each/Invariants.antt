@@ -1,4 +1,4 @@
-use Rattle.lock_core.proofs.Imports.{◌≡◌, ◌+◌, ◌≤◌, ◌++◌, drop, length, grant_each, HasRoom}
+use Rattle.lock_core.proofs.Imports.{◌≡◌, ◌+◌, ◌++◌, drop, length, grant_each, HasRoom}
 use Rattle.lock_core.proofs.grants.grant_each.Given as goal
 
 abbrev pub invariant-loop-r : goal.invariant-loop-r
