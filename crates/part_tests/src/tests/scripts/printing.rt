@@ -181,6 +181,6 @@ fn ends_at(lines: &[Line], count: usize, at: u32) -> bool {
 fn plain_form_is_read_again(rt: HostRuntime) -> Result<(), Fail> {
     let script = read(rt.alloc(), PLAIN)?;
     let plain = is_plain(rt.alloc(), &script)?;
-    assert!(rt; plain && ends_at(script.lines.items(), 59, 69));
+    assert!(rt; plain && ends_at(script.lines.items(), 65, 75));
     Ok(())
 }
